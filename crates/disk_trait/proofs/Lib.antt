@@ -1,0 +1,6 @@
+mod Walks
+mod Torn
+mod ImageLemmas
+mod Past
+mod PlanLemmas
+mod PublishLemmas

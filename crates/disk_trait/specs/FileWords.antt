@@ -1,0 +1,16 @@
+-- A disk on a file, as contracts see it: its length and its failures.
+use Rattle.std.specs.Prelude.{length, replicate, false, IsTrue}
+use Rattle.disk_trait.specs.declared.file.FileDisk.{FileDisk}
+use Rattle.disk_trait.specs.Disk.{DiskView, MayLeave}
+
+abbrev pub file_view : FileDisk → DiskView
+file_view disk = record {
+  content = replicate disk.len 0;
+  clock = 0;
+  left_since = λ t image. Unit {0};
+  failures = length disk.failures.items;
+  keeps_model = false;
+}
+
+pub file_present : (disk : FileDisk) → IsTrue (file_view disk).keeps_model → MayLeave (file_view disk) (file_view disk).content
+file_present disk model = tt

@@ -1,0 +1,210 @@
+-- A list of trees that was sorted by node is the one that the definition gives.
+use Rattle.std.proofs.Common.{◌≡◌, ℕ, suc, ◌<◌, ◌≤◌, Bool, true, false, List, [], ◌∷◌, length, get_or, refl, sym, ap, ap₂, ◌∙◌, ◌⊎◌, inl, inr, arith, map, IsPermutation}
+use Rattle.std.specs.Prelude.{nat_eq, nat_lt}
+use Rattle.std.specs.List.{AllByRecursion}
+use Rattle.std.specs.List.Sorted.{IsNonDecreasingBy}
+use Rattle.std.proofs.lemmas.List.Elements.{recursion_from_All, All-from_recursion}
+use Rattle.std.proofs.lemmas.List.Sorted.{All-permutation, IsPermutation-map, IsPermutation-sym}
+use Rattle.std.proofs.lemmas.Map.Keys.{IsDistinct-IsPermutation, IsDistinct-head, IsDistinct-tail}
+use Rattle.std.proofs.lemmas.Bool.Decides.{nat_tests}
+use Rattle.std.proofs.lemmas.Bool.{lt-ltb, le-ltb}
+use Rattle.route_tree.specs.Rose.{Tree}
+use Rattle.route_tree.specs.Order.{insert, ascending, HaveEachNodeOnce}
+
+-- t is one of the trees
+abbrev pub Has : Tree → List Tree → Type 0
+Has t [] = ⊥
+Has t (u ∷ us) = (t ≡ u) ⊎ Has t us
+
+-- all nodes are greater than n
+abbrev pub Above : ℕ → List Tree → Type 0
+Above n [] = Unit {0}
+Above n (t ∷ ts) = (n < t.node) × Above n ts
+
+abbrev pub Rising : List Tree → Type 0
+Rising [] = Unit {0}
+Rising (t ∷ ts) = Above t.node ts × Rising ts
+
+-- none has the node n
+abbrev pub Fresh : ℕ → List Tree → Type 0
+Fresh n [] = Unit {0}
+Fresh n (t ∷ ts) = (n ≡ t.node → ⊥) × Fresh n ts
+
+abbrev pub Differ : List Tree → Type 0
+Differ [] = Unit {0}
+Differ (t ∷ ts) = Fresh t.node ts × Differ ts
+
+fresh_of : (n : ℕ) (ts : List Tree) → AllByRecursion (λ y. nat_eq n y ≡ false) (map (λ t. t.node) ts) → Fresh n ts
+fresh_of n [] h = tt
+fresh_of n (t ∷ ts) h = (differ n t.node h.0, fresh_of n ts h.1)
+  where
+    differ : (a b : ℕ) → nat_eq a b ≡ false → a ≡ b → ⊥
+    differ a b e f = grind (arith, nat_tests)
+
+pub differ_of : (ts : List Tree) → HaveEachNodeOnce ts → Differ ts
+differ_of [] h = tt
+differ_of (t ∷ ts) h = (fresh_of t.node ts (IsDistinct-head nat_eq t.node (map (λ u. u.node) ts) h), differ_of ts (IsDistinct-tail nat_eq t.node (map (λ u. u.node) ts) h))
+
+above_has : (n : ℕ) (ts : List Tree) (t : Tree) → Above n ts → Has t ts → n < t.node
+above_has n [] t a h = absurd h
+above_has n (u ∷ us) t a (inl e) = rw e a.0
+above_has n (u ∷ us) t a (inr h) = above_has n us t a.1 h
+
+-- two rising lists of the same trees are equal
+pub rising_same : (xs ys : List Tree) → Rising xs → Rising ys → ((t : Tree) → Has t xs → Has t ys) → ((t : Tree) → Has t ys → Has t xs) → xs ≡ ys
+rising_same [] [] r s f g = refl
+rising_same [] (y ∷ ys) r s f g = absurd (g y (inl refl))
+rising_same (x ∷ xs) [] r s f g = absurd (f x (inl refl))
+rising_same (x ∷ xs) (y ∷ ys) r s f g =
+    let e = same_head (f x (inl refl)) (g y (inl refl)) in
+    ap₂ (λ a b. a ∷ b) e (rising_same xs ys r.1 s.1
+    (λ t h. tail t y ys (above_has x.node xs t r.0 h) (ap (λ z. z.node) e) (f t (inr h)))
+    (λ t h. tail t x xs (above_has y.node ys t s.0 h) (ap (λ z. z.node) (sym e)) (g t (inr h))))
+  where
+    same_head : (x ≡ y) ⊎ Has x ys → (y ≡ x) ⊎ Has y xs → x ≡ y
+    same_head (inl e) k = e
+    same_head (inr h) (inl e) = sym e
+    same_head (inr h) (inr k) = absurd (let a = above_has y.node ys x s.0 h in let b = above_has x.node xs y r.0 k in omega (arith, a, b))
+
+    tail : (t z : Tree) (zs : List Tree) {n : ℕ} → n < t.node → n ≡ z.node → (t ≡ z) ⊎ Has t zs → Has t zs
+    tail t z zs l e (inl q) = absurd (let w = ap (λ v. v.node) q in omega (arith, l, e, w))
+    tail t z zs l e (inr h) = h
+
+-- the definition's list
+at_front : (t u : Tree) (us : List Tree) → t.node < u.node → insert t (u ∷ us) ≡ t ∷ u ∷ us
+at_front t u us h = rw (lt-ltb t.node u.node h)
+
+further : (t u : Tree) (us : List Tree) → u.node ≤ t.node → insert t (u ∷ us) ≡ u ∷ insert t us
+further t u us h = rw (le-ltb t.node u.node h)
+
+has_insert : (t : Tree) (us : List Tree) (s : Tree) → (s ≡ t) ⊎ Has s us → Has s (insert t us)
+has_insert t [] s h = h
+has_insert t (u ∷ us) s h = go (nat_lt t.node u.node) refl h (has_insert t us s)
+  where
+    go : (b : Bool) → nat_lt t.node u.node ≡ b → (s ≡ t) ⊎ ((s ≡ u) ⊎ Has s us) → ((s ≡ t) ⊎ Has s us → Has s (insert t us)) → Has s (insert t (u ∷ us))
+    go true e h k = rw e h
+    go false e (inl h) k = rw e (inr (k (inl h)))
+    go false e (inr (inl h)) k = rw e (inl h)
+    go false e (inr (inr h)) k = rw e (inr (k (inr h)))
+
+insert_has : (t : Tree) (us : List Tree) (s : Tree) → Has s (insert t us) → (s ≡ t) ⊎ Has s us
+insert_has t [] s h = h
+insert_has t (u ∷ us) s h = go (nat_lt t.node u.node) refl h (insert_has t us s)
+  where
+    later : (s ≡ t) ⊎ Has s us → (s ≡ t) ⊎ ((s ≡ u) ⊎ Has s us)
+    later (inl e) = inl e
+    later (inr h) = inr (inr h)
+
+    cases : (s ≡ u) ⊎ Has s (insert t us) → (Has s (insert t us) → (s ≡ t) ⊎ Has s us) → (s ≡ t) ⊎ ((s ≡ u) ⊎ Has s us)
+    cases (inl e) k = inr (inl e)
+    cases (inr h) k = later (k h)
+
+    go : (b : Bool) → nat_lt t.node u.node ≡ b → Has s (insert t (u ∷ us)) → (Has s (insert t us) → (s ≡ t) ⊎ Has s us) → (s ≡ t) ⊎ ((s ≡ u) ⊎ Has s us)
+    go true e h k = rw e at h
+    go false e h k = cases (rw e at h) k
+
+pub has_ascending : (ts : List Tree) (s : Tree) → Has s ts → Has s (ascending ts)
+has_ascending [] s h = h
+has_ascending (t ∷ ts) s (inl e) = has_insert t (ascending ts) s (inl e)
+has_ascending (t ∷ ts) s (inr h) = has_insert t (ascending ts) s (inr (has_ascending ts s h))
+
+pub ascending_has : (ts : List Tree) (s : Tree) → Has s (ascending ts) → Has s ts
+ascending_has [] s h = h
+ascending_has (t ∷ ts) s h = go (insert_has t (ascending ts) s h) (ascending_has ts s)
+  where
+    go : (s ≡ t) ⊎ Has s (ascending ts) → (Has s (ascending ts) → Has s ts) → (s ≡ t) ⊎ Has s ts
+    go (inl e) k = inl e
+    go (inr h) k = inr (k h)
+
+above_from : (n : ℕ) (ts : List Tree) → ((s : Tree) → Has s ts → n < s.node) → Above n ts
+above_from n [] h = tt
+above_from n (t ∷ ts) h = (h t (inl refl), above_from n ts (λ s k. h s (inr k)))
+
+fresh_has : (n : ℕ) (ts : List Tree) (s : Tree) → Fresh n ts → Has s ts → n ≡ s.node → ⊥
+fresh_has n [] s f h = absurd h
+fresh_has n (t ∷ ts) s f (inl e) = λ q. f.0 (q ∙ ap (λ z. z.node) e)
+fresh_has n (t ∷ ts) s f (inr h) = fresh_has n ts s f.1 h
+
+fresh_from : (n : ℕ) (ts : List Tree) → ((s : Tree) → Has s ts → n ≡ s.node → ⊥) → Fresh n ts
+fresh_from n [] h = tt
+fresh_from n (t ∷ ts) h = (h t (inl refl), fresh_from n ts (λ s k. h s (inr k)))
+
+rising_insert : (t : Tree) (us : List Tree) → Rising us → Fresh t.node us → Rising (insert t us)
+rising_insert t [] r f = (tt, tt)
+rising_insert t (u ∷ us) r f = go (nat_lt t.node u.node) refl (rising_insert t us r.1 f.1)
+  where
+    lower : nat_lt t.node u.node ≡ true → t.node < u.node
+    lower e = grind (arith, nat_tests)
+
+    higher : nat_lt t.node u.node ≡ false → u.node < t.node
+    higher e = let w = f.0 in grind (arith, nat_tests)
+
+    all_lower : t.node < u.node → (s : Tree) → (s ≡ u) ⊎ Has s us → t.node < s.node
+    all_lower l s (inl e) = rw e l
+    all_lower l s (inr h) = let a = above_has u.node us s r.0 h in omega (arith, l, a)
+
+    all_higher : u.node < t.node → (s : Tree) → (s ≡ t) ⊎ Has s us → u.node < s.node
+    all_higher l s (inl e) = rw e l
+    all_higher l s (inr h) = above_has u.node us s r.0 h
+
+    go : (b : Bool) → nat_lt t.node u.node ≡ b → Rising (insert t us) → Rising (insert t (u ∷ us))
+    go true e k = rw e (above_from t.node (u ∷ us) (all_lower (lower e)), r)
+    go false e k = rw e (above_from u.node (insert t us) (λ s h. all_higher (higher e) s (insert_has t us s h)), k)
+
+pub rising_ascending : (ts : List Tree) → Differ ts → Rising (ascending ts)
+rising_ascending [] d = tt
+rising_ascending (t ∷ ts) d =
+    rising_insert t (ascending ts) (rising_ascending ts d.1)
+    (fresh_from t.node (ascending ts) (λ s h. fresh_has t.node ts s d.0 (ascending_has ts s h)))
+
+-- a list that doesn't fall and has each node once rises
+rising_sorted : (ts : List Tree) → IsNonDecreasingBy (λ t. t.node) ts → Differ ts → Rising ts
+rising_sorted [] n d = tt
+rising_sorted (t ∷ ts) n d = (
+  first ts (λ j e l. n 0 (suc j) e (omega arith) (omega arith)) d.0,
+  rising_sorted ts (λ i j e l k. n (suc i) (suc j) e (omega arith) (omega arith)) d.1,
+)
+  where
+    first : (us : List Tree) → ((j : ℕ) (e : Tree) → j < length us → t.node ≤ (get_or us j e).node) → Fresh t.node us → Above t.node us
+    first [] h f = tt
+    first (u ∷ us) h f = (let l = h 0 u (omega arith) in strict t.node u.node l f.0, first us (λ j e l. h (suc j) e (omega arith)) f.1)
+      where
+        strict : (a b : ℕ) → a ≤ b → (a ≡ b → ⊥) → a < b
+        strict a b l f = omega (arith, f)
+
+has_all : (ts : List Tree) → AllByRecursion (λ t. Has t ts) ts
+has_all ts = within ts (λ t h. h)
+  where
+    within : (us : List Tree) → ((t : Tree) → Has t us → Has t ts) → AllByRecursion (λ t. Has t ts) us
+    within [] f = tt
+    within (u ∷ us) f = (f u (inl refl), within us (λ t h. f t (inr h)))
+
+has_from : (ts us : List Tree) → AllByRecursion (λ t. Has t us) ts → (t : Tree) → Has t ts → Has t us
+has_from [] us a t h = absurd h
+has_from (v ∷ ts) us a t (inl e) = rw e a.0
+has_from (v ∷ ts) us a t (inr h) = has_from ts us a.1 t h
+
+pub has_permutation : (ts us : List Tree) → IsPermutation ts us → (t : Tree) → Has t us → Has t ts
+has_permutation ts us p = has_from us ts (recursion_from_All _ us (All-permutation (λ t. Has t ts) ts us p (All-from_recursion _ ts (has_all ts))))
+
+flips : (x y : ℕ) → nat_eq x y ≡ nat_eq y x
+flips x y = grind (arith, nat_tests)
+
+pub once_permutation : (ts us : List Tree) → IsPermutation ts us → HaveEachNodeOnce ts → HaveEachNodeOnce us
+once_permutation ts us p h = IsDistinct-IsPermutation nat_eq flips (map (λ t. t.node) ts) (map (λ t. t.node) us) (IsPermutation-map (λ t. t.node) ts us p) h
+
+-- what a sort by node leaves
+pub sorted_is : (ts us : List Tree) → HaveEachNodeOnce ts → IsPermutation ts us → IsNonDecreasingBy (λ t. t.node) us → us ≡ ascending ts
+sorted_is ts us o p n =
+    rising_same us (ascending ts)
+    (rising_sorted us n (differ_of us (once_permutation ts us p o))) (rising_ascending ts (differ_of ts o))
+    (λ t h. has_ascending ts t (has_permutation ts us p t h))
+    (λ t h. has_permutation us ts (IsPermutation-sym ts us p) t (ascending_has ts t h))
+
+-- the order in which the trees come is nothing to their ascending list
+pub same_ascending : (ts us : List Tree) → HaveEachNodeOnce ts → IsPermutation ts us → ascending us ≡ ascending ts
+same_ascending ts us o p =
+    rising_same (ascending us) (ascending ts)
+    (rising_ascending us (differ_of us (once_permutation ts us p o))) (rising_ascending ts (differ_of ts o))
+    (λ t h. has_ascending ts t (has_permutation ts us p t (ascending_has us t h)))
+    (λ t h. has_ascending us t (has_permutation us ts (IsPermutation-sym ts us p) t (ascending_has ts t h)))

@@ -1,0 +1,64 @@
+-- What the table of places says of a member's parent, and how it is filled.
+use Rattle.std.proofs.Common.{◌≡◌, ◌≢◌, ℕ, ◌+◌, ◌<◌, ◌≤◌, ◌⊎◌, inl, inr, List, length, get_or, set, length-set, sym, ap, ◌∙◌, arith}
+use Rattle.std.proofs.lemmas.List.{get_or-set_same, get_or-set_other}
+use Rattle.std.specs.Prelude.{Option, Some, None}
+use Rattle.route_tree.specs.Members.{HasParentBefore}
+use Rattle.route_tree.specs.Places.{place_of, Finds}
+use Rattle.route_tree.specs.Slots.{StandsAt}
+use Rattle.route_tree.specs.declared.member.Member.{Member}
+use Rattle.route_tree.proofs.Waiting.{clash, some_same, no_member}
+
+-- the parent's place, by the table
+found : (ms : List Member) (n at : ℕ) (table : List (Option ℕ)) (m : Member) (x : ℕ) → Finds ms n table → at ≤ n → (h : HasParentBefore ms at m) → m.parent ≡ Some x → place_of table x ≡ Some h.0
+found ms n at table m x f l h e =
+    ap (place_of table) (some_same (sym e ∙ h.1.1 no_member)) ∙ f.there h.0 no_member (let w = h.1.0 in omega (arith, w))
+
+pub surely_found : (ms : List Member) (n at : ℕ) (table : List (Option ℕ)) (m : Member) (x : ℕ) → Finds ms n table → at ≤ n → HasParentBefore ms at m → m.parent ≡ Some x → place_of table x ≡ None → ⊥
+surely_found ms n at table m x f l h e g = clash (sym g ∙ found ms n at table m x f l h e)
+
+pub stands : (ms : List Member) (n at : ℕ) (table : List (Option ℕ)) (m : Member) (x p : ℕ) → Finds ms n table → at ≤ n → HasParentBefore ms at m → m.parent ≡ Some x → place_of table x ≡ Some p → StandsAt ms at m.parent p
+stands ms n at table m x p f l h e g =
+    let same : h.0 ≡ p = some_same (sym (found ms n at table m x f l h e) ∙ g) in
+    record {
+      before = (let w = h.1.0 in omega (arith, w, same));
+      is = λ d. h.1.1 d ∙ ap (λ k. Some (get_or ms k d).node) same;
+    }
+
+same_or_not : (a b : ℕ) → (a ≡ b) ⊎ (a ≢ b)
+same_or_not a b = grind arith
+
+-- one more member's place, where no earlier one has its node n
+pub finds_more : (ms : List Member) (i n : ℕ) (table : List (Option ℕ)) → Finds ms i table → i < length ms → ((d : Member) → n ≡ (get_or ms i d).node)
+    → ((k : ℕ) (d : Member) → k < i → (get_or ms k d).node ≢ n) → Finds ms (i + 1) (set table n (Some i))
+finds_more ms i n table f l is other = record {
+  fits = λ k d h. (let a = f.fits k d h in omega (arith, a, length-set table n (Some i)));
+  there = λ k d h. there k d (or_less k h);
+  before = λ x k g. before x k g (same_or_not x n);
+  only = λ x k d g. only x k d g (same_or_not x n);
+}
+  where
+    room : n < length table
+    room = let a = f.fits i no_member l in let e = is no_member in omega (arith, a, e)
+
+    or_less : (k : ℕ) → k < i + 1 → (k ≡ i) ⊎ (k < i)
+    or_less k h = grind arith
+
+    there : (k : ℕ) (d : Member) → (k ≡ i) ⊎ (k < i) → place_of (set table n (Some i)) (get_or ms k d).node ≡ Some k
+    there k d (inl e) =
+        ap (place_of (set table n (Some i))) (ap (λ j. (get_or ms j d).node) e ∙ sym (is d))
+        ∙ get_or-set_same table n (Some i) None room ∙ ap (λ z. Some z) (sym e)
+    there k d (inr h) = get_or-set_other table n (get_or ms k d).node (Some i) None (other k d h) ∙ f.there k d h
+
+    here : (x k : ℕ) → x ≡ n → place_of (set table n (Some i)) x ≡ Some k → i ≡ k
+    here x k e g = some_same (sym (get_or-set_same table n (Some i) None room) ∙ (sym (ap (place_of (set table n (Some i))) e) ∙ g))
+
+    old : (x k : ℕ) → x ≢ n → place_of (set table n (Some i)) x ≡ Some k → place_of table x ≡ Some k
+    old x k h g = sym (get_or-set_other table n x (Some i) None h) ∙ g
+
+    before : (x k : ℕ) → place_of (set table n (Some i)) x ≡ Some k → (x ≡ n) ⊎ (x ≢ n) → k < i + 1
+    before x k g (inl e) = let w = here x k e g in omega (arith, w)
+    before x k g (inr h) = let w = f.before x k (old x k h g) in omega (arith, w)
+
+    only : (x k : ℕ) (d : Member) → place_of (set table n (Some i)) x ≡ Some k → (x ≡ n) ⊎ (x ≢ n) → (get_or ms k d).node ≡ x
+    only x k d g (inl e) = ap (λ j. (get_or ms j d).node) (sym (here x k e g)) ∙ (sym (is d) ∙ sym e)
+    only x k d g (inr h) = f.only x k d (old x k h g)

@@ -1,0 +1,10 @@
+pub mod Ascending
+pub mod Counting
+pub mod EachOnce
+pub mod Finding
+pub mod Following
+pub mod Fronts
+pub mod Heaviest
+pub mod Orders
+pub mod Shapes
+pub mod Waiting
