@@ -3,6 +3,7 @@ pub mod Counting
 pub mod EachOnce
 pub mod Finding
 pub mod Following
+pub mod Fronted
 pub mod Fronts
 pub mod Heaviest
 pub mod Orders

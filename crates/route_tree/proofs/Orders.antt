@@ -109,7 +109,7 @@ take_less (suc i) [] = refl
 take_less (suc i) (u ∷ us) = ap (λ z. u ∷ z) (take_less i us)
 
 -- the heavy tree, and the others in their order
-front_is : (us : List Tree) (d : Tree) → heavy_at us < length us → heavy_to_front us ≡ get_or us (heavy_at us) d ∷ (take (heavy_at us) us ++ drop (suc (heavy_at us)) us)
+pub front_is : (us : List Tree) (d : Tree) → heavy_at us < length us → heavy_to_front us ≡ get_or us (heavy_at us) d ∷ (take (heavy_at us) us ++ drop (suc (heavy_at us)) us)
 front_is us d h =
     let i = heavy_at us in
     let turned : (drop i (take (suc i) us) ++ take i (take (suc i) us)) ++ drop (suc i) us ≡ get_or us i d ∷ (take i us ++ drop (suc i) us) =

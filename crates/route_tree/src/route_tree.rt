@@ -1,8 +1,8 @@
 ghost use Rattle.std.specs.Prelude.{◌≡◌, ◌≤◌, IfOk, IsPermutation, length, slice_index_or};
 ghost use Rattle.route_tree.specs.Growth.{subtrees, first_or};
 ghost use Rattle.route_tree.specs.Members.{AreMembers, members_of};
-ghost use Rattle.route_tree.specs.Order.{ascending, HaveEachNodeOnce};
-ghost use Rattle.route_tree.specs.Front.{heavy_to_front, IsInOrder};
+ghost use Rattle.route_tree.specs.Order.{in_order, HaveEachNodeOnce};
+ghost use Rattle.route_tree.specs.Front.{IsInOrder};
 ghost use Rattle.route_tree.specs.Rose.{Tree, tree_size};
 ghost use Rattle.route_tree.specs.Shape.{IsRouteTree};
 ghost use Rattle.route_tree.specs.declared.member.Member.{Member};
@@ -77,7 +77,7 @@ impl<A: Allocator> RouteTree<A> {
     pub fn heavy_first(children: &mut [Twig<A>])
         ensures same { IsPermutation children.old children.new }
         ensures order { IsInOrder children.new }
-        ensures list { HaveEachNodeOnce children.old → children.new ≡ heavy_to_front (ascending children.old) }
+        ensures list { HaveEachNodeOnce children.old → children.new ≡ in_order children.old }
     {
         heavy::heavy_first(children);
     }

@@ -35,7 +35,7 @@ impl<A: Allocator> Model for Twig<A> {
 impl<A: Allocator> Twig<A> {
     /// A member with the trees that hang on it, in time linear in these.
     pub fn new(node: u16, up: Option<u16>, down: Option<u16>, children: Vec<Twig<A>, A>) -> Twig<A>
-        requires fits { count (of_list children.items) < 2 ^ 63 }
+        requires fits { count (of_list children.items) < usize.MAX }
         ensures { result ≡ tree node up down (of_list children.items) }
     {
         let mut size = 1;

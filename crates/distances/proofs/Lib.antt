@@ -1,0 +1,7 @@
+pub mod Progress
+pub mod Turns
+pub mod Queues
+pub mod OpenDegrees
+pub mod Tight
+pub mod Trees
+pub mod NearestLandmarks

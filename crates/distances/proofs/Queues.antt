@@ -1,0 +1,269 @@
+-- The entries that wait in a heap.
+use Rattle.std.proofs.Common.{◌≡◌, ℕ, zero, suc, ◌+◌, ◌*◌, ◌<◌, ◌≤◌, Bool, true, false, cond, ◌&&◌, ◌≢◌, ◌⊎◌, inl, inr, List, [], ◌∷◌, ◌++◌, map, length, take, get_or, set, Option, Some, None, eqb, ltb, refl, sym, ap, ◌∙◌, subst, arith, length-append}
+use Rattle.std.specs.List.{All, Contains, filter_map, cons_option, count_by}
+use Rattle.std.specs.List.Sorted.{IsPermutation}
+use Rattle.std.specs.Ordering.{nat_cmp, ordering_then, is_lt}
+use Rattle.std.specs.BinaryHeap.{IsUpperBound, lt_by_cmp}
+use Rattle.std.proofs.lemmas.Bool.{cases_eq, cases_lt}
+use Rattle.std.proofs.lemmas.Bool.Decides.{nat_tests}
+use Rattle.std.proofs.lemmas.List.Elements.{All-cons, All-head, All-tail, All-same, All-weaker, All-contains, All-from_recursion, All-nil, All-from_get_or, Contains-append_right}
+use Rattle.std.proofs.lemmas.List.Sorted.{All-permutation, Contains-permutation, length_permutation}
+use Rattle.std.proofs.lemmas.List.Sums.{count_by_more_yes, count_by_more_no, sum_by-le, sum_by_push, count_by-le-length}
+use Rattle.std.proofs.lemmas.Option.{same_Some, none-some}
+use Rattle.graph_edits.specs.Edges.{Network, neighbours_of, weight_in, below, most_nodes}
+use Rattle.std.specs.Option.{option_map}
+use Rattle.distances.specs.declared.search.Settled.{Settled}
+use Rattle.distances.specs.Search.{is_below, is_better, offered, flag_at, number_at, first_number, degrees}
+use Rattle.distances.specs.Waiting.{Entry, nearest_first, IsQueue, IsJoined}
+use Rattle.graph_edits.specs.Edges.{degree_of}
+use Rattle.distances.proofs.Progress.{IsNext}
+use Rattle.distances.proofs.Turns.{number_set, split_and, first_at, flag_set_same, flag_set_other}
+use Rattle.std.proofs.HeapSift.{at_most}
+use Rattle.std.proofs.lemmas.List.{get_or_past}
+use Rattle.std.specs.declared.cmp.Ordering.{Ordering}
+use Rattle.std.specs.declared.cmp.Ordering.TheVariants.{Less, Equal, Greater}
+
+abbrev pub IsEntry : ℕ → (ℕ → Option ℕ) → Entry → Type 0
+IsEntry n number q = (q.0.node < n) × ((e : ℕ) × ((number q.0.node ≡ Some e) × (e ≤ q.0.distance)))
+
+-- ---- lists
+
+contains_first : {X : Type 0} (x : X) (xs : List X) → Contains (x ∷ xs) x
+contains_first x xs = (0, omega arith, refl)
+
+contains_more : {X : Type 0} (x : X) (xs : List X) (q : X) → Contains xs q → Contains (x ∷ xs) q
+contains_more x xs q c = Contains-append_right (x ∷ []) xs q c
+
+contains_cases : {X : Type 0} (x : X) (xs : List X) (q : X) → Contains (x ∷ xs) q → (x ≡ q) ⊎ Contains xs q
+contains_cases x xs q (zero, lt, e) = inl e
+contains_cases x xs q (suc k, lt, e) = inr (k, omega (arith, lt), e)
+
+joined_entries : (P : Entry → Type 0) (b : Bool) (s : Settled) (xs ys : List Entry) → IsJoined b s xs ys → All P xs → ((q : Entry) → q.0 ≡ s → P q) → All P ys
+joined_entries P true s xs ys j all one = All-permutation P (j.0 ∷ xs) ys j.1.1 (All-cons P j.0 xs (one j.0 j.1.0) all)
+joined_entries P false s xs ys e all one = All-same P ys xs e all
+
+joined_contains : (b : Bool) (s : Settled) (xs ys : List Entry) (q : Entry) → IsJoined b s xs ys → Contains xs q → Contains ys q
+joined_contains true s xs ys q j c = Contains-permutation (j.0 ∷ xs) ys q j.1.1 (contains_more j.0 xs q c)
+joined_contains false s xs ys q e c = subst (λ l. Contains l q) (sym e) c
+
+joined_one : (s : Settled) (xs ys : List Entry) → IsJoined true s xs ys → (q : Entry) × (Contains ys q × (q.0 ≡ s))
+joined_one s xs ys j = (j.0, (Contains-permutation (j.0 ∷ xs) ys j.0 j.1.1 (contains_first j.0 xs), j.1.0))
+
+pub joined_length : (b : Bool) (s : Settled) (xs ys : List Entry) → IsJoined b s xs ys → length ys ≡ length xs + cond b 1 0
+joined_length true s xs ys j = let e = length_permutation (j.0 ∷ xs) ys j.1.1 in omega arith
+joined_length false s xs ys e = let k = ap length e in omega arith
+
+-- ---- an offer
+
+module _ (n : ℕ) (number number' : ℕ → Option ℕ) (done : ℕ → Bool) (xs : List Entry) (h : IsQueue n number done xs) where
+  queue_kept : (ys : List Entry) → ys ≡ xs → ((z : ℕ) → number' z ≡ number z) → IsQueue n number' done ys
+  queue_kept ys e same = record {
+    entries = All-same (IsEntry n number') ys xs e (All-weaker (IsEntry n number) (IsEntry n number') (λ q r. (r.0, (r.1.0, (same q.0.node ∙ r.1.1.0, r.1.1.1)))) xs h.entries);
+    waits = λ y d o is. let w = h.waits y d o (sym (same y) ∙ is) in (w.0, (subst (λ l. Contains l w.0) (sym e) w.1.0, w.1.1, w.1.2));
+  }
+
+  module _ (s : Settled) (lt : s.node < n) (here : number' s.node ≡ Some s.distance) (others : (z : ℕ) → z ≢ s.node → number' z ≡ number z) (better : is_better s.distance (number s.node) ≡ true) where
+    below_here : (e : ℕ) → number s.node ≡ Some e → s.distance < e
+    below_here e is = let t : ltb s.distance e ≡ true = sym (ap (is_better s.distance) is) ∙ better in grind (arith, nat_tests)
+
+    entry_falls : (q : Entry) → IsEntry n number q → IsEntry n number' q
+    entry_falls q r = elim (cases_eq q.0.node s.node) [
+      | inl e ↦ let k = below_here r.1.0 (ap number (sym e) ∙ r.1.1.0) in let le = r.1.1.1 in (r.0, (s.distance, (ap number' e ∙ here, omega arith)))
+      | inr ne ↦ (r.0, (r.1.0, (others q.0.node ne ∙ r.1.1.0, r.1.1.1)))
+    ]
+
+    queue_joined : (ys : List Entry) → IsJoined true s xs ys → IsQueue n number' done ys
+    queue_joined ys j = record {
+      entries = joined_entries (IsEntry n number') true s xs ys j (All-weaker (IsEntry n number) (IsEntry n number') entry_falls xs h.entries)
+          (λ q e. let node : q.0.node ≡ s.node = ap (λ t. t.node) e in let distance : q.0.distance ≡ s.distance = ap (λ t. t.distance) e in (omega (arith, lt, node), (s.distance, (ap number' node ∙ here, omega (arith, distance)))));
+      waits = λ y d o is. elim (cases_eq y s.node) [
+        | inl e ↦ let w = joined_one s xs ys j in let same : s.distance ≡ d = same_Some s.distance d (sym here ∙ ap number' (sym e) ∙ is) in
+            (w.0, (w.1.0, ap (λ t. t.node) w.1.1 ∙ sym e, ap (λ t. t.distance) w.1.1 ∙ same))
+        | inr ne ↦ let w = h.waits y d o (sym (others y ne) ∙ is) in (w.0, (joined_contains true s xs ys w.0 j w.1.0, w.1.1, w.1.2))
+      ];
+    }
+
+pub queue_offered : (n : ℕ) (tentative : List (Option ℕ)) (done : ℕ → Bool) (xs ys : List Entry) (limit : Option ℕ) (s : Settled) → s.node < n → s.node < length tentative → IsQueue n (number_at tentative) done xs
+    → IsJoined (is_below s.distance limit && is_better s.distance (number_at tentative s.node)) s xs ys → IsQueue n (number_at (set tentative s.node (offered limit s.distance (number_at tentative s.node)))) done ys
+queue_offered n tentative done xs ys limit s lt within h j =
+    let same : eqb s.node s.node ≡ true = grind (arith, nat_tests) in
+    elim (is_below s.distance limit && is_better s.distance (number_at tentative s.node)) as (λ b. (is_below s.distance limit && is_better s.distance (number_at tentative s.node)) ≡ b → IsJoined b s xs ys
+    → IsQueue n (number_at (set tentative s.node (cond b (Some s.distance) (number_at tentative s.node)))) done ys) [
+      | true ↦ λ t k. queue_joined n (number_at tentative) (number_at (set tentative s.node (Some s.distance))) done xs h s lt
+          (number_set tentative s.node s.node (Some s.distance) within ∙ ap (λ b. cond b (Some s.distance) (number_at tentative s.node)) same)
+          (λ z ne. let f : eqb z s.node ≡ false = grind (arith, nat_tests) in number_set tentative s.node z (Some s.distance) within ∙ ap (λ b. cond b (Some s.distance) (number_at tentative z)) f)
+          (split_and _ _ t).1 ys k
+      | false ↦ λ t k. queue_kept n (number_at tentative) (number_at (set tentative s.node (number_at tentative s.node))) done xs h ys k
+          (λ z. number_set tentative s.node z (number_at tentative s.node) within ∙ elim (cases_eq z s.node) [
+            | inl e ↦ subst (λ y. cond (eqb y s.node) (number_at tentative s.node) (number_at tentative y) ≡ number_at tentative y) (sym e) (ap (λ b. cond b (number_at tentative s.node) (number_at tentative s.node)) same)
+            | inr ne ↦ let f : eqb z s.node ≡ false = grind (arith, nat_tests) in ap (λ b. cond b (number_at tentative s.node) (number_at tentative z)) f
+          ])
+    ] refl j
+
+-- ---- a pop
+
+tied : (a b : ℕ) → a ≡ b → nat_cmp a b ≡ Equal
+tied a b e =
+    let f : ltb a b ≡ false = grind (arith, nat_tests) in
+    let t : eqb a b ≡ true = grind (arith, nat_tests) in
+    ap (λ u. cond u Less (cond (eqb a b) Equal Greater)) f ∙ ap (λ u. cond u Equal Greater) t
+
+first_not_less : (a b : Ordering) → is_lt (ordering_then a b) ≡ false → is_lt a ≡ false
+first_not_less Less b e = e
+first_not_less Equal b e = refl
+first_not_less Greater b e = refl
+
+precedes_from : (p q : Entry) → lt_by_cmp nearest_first p q ≡ false → (p.0.distance < q.0.distance) ⊎ ((p.0.distance ≡ q.0.distance) × (p.0.node ≤ q.0.node))
+precedes_from p q h =
+    let le : p.0.distance ≤ q.0.distance = at_most q.0.distance p.0.distance (first_not_less (nat_cmp q.0.distance p.0.distance) (nat_cmp q.0.node p.0.node) h) in
+    elim (cases_eq p.0.distance q.0.distance) [
+      | inl e ↦ inr (e, at_most q.0.node p.0.node (sym (ap (λ o. is_lt (ordering_then o (nat_cmp q.0.node p.0.node))) (tied q.0.distance p.0.distance (sym e))) ∙ h))
+      | inr ne ↦ inl (omega arith)
+    ]
+
+module _ (n : ℕ) (number : ℕ → Option ℕ) (done : ℕ → Bool) (xs ys : List Entry) (x : Entry) (h : IsQueue n number done xs) (moved : IsPermutation xs (x ∷ ys)) where
+  here : IsEntry n number x
+  here = All-head (IsEntry n number) x ys (All-permutation (IsEntry n number) xs (x ∷ ys) moved h.entries)
+
+  pub popped_within : x.0.node < n
+  popped_within = here.0
+
+  module _ (greatest : IsUpperBound nearest_first x xs) where
+    over : (q : Entry) → Contains xs q → (x.0.distance < q.0.distance) ⊎ ((x.0.distance ≡ q.0.distance) × (x.0.node ≤ q.0.node))
+    over q c = precedes_from x q (All-contains (λ y. lt_by_cmp nearest_first x y ≡ false) xs q (All-from_recursion (λ y. lt_by_cmp nearest_first x y ≡ false) xs greatest) c)
+
+    at_number : (e : ℕ) → number x.0.node ≡ Some e → e ≤ x.0.distance → done x.0.node ≡ false → number x.0.node ≡ Some x.0.distance
+    at_number e is le o =
+        let w = h.waits x.0.node e o is in
+        let k = w.1.2 in
+        let same : e ≡ x.0.distance = elim (over w.0 w.1.0) [ inl lt ↦ omega arith | inr t ↦ omega (arith, t.0) ] in
+        is ∙ ap Some same
+
+    pub popped_nearest : done x.0.node ≡ false → IsNext done number x.0.node x.0.distance
+    popped_nearest o = record {
+      is_open = o;
+      has = at_number here.1.0 here.1.1.0 here.1.1.1 o;
+      least = λ y e f is.
+          let w = h.waits y e f is in
+          let k = w.1.1 in
+          let l = w.1.2 in
+          elim (over w.0 w.1.0) [ inl lt ↦ inl (omega arith) | inr t ↦ inr (omega (arith, t.0), omega (arith, t.1)) ];
+    }
+
+  pub popped_rest : (done' : ℕ → Bool) → done' x.0.node ≡ true → ((y : ℕ) → done' y ≡ false → done y ≡ false) → IsQueue n number done' ys
+  popped_rest done' now others = record {
+    entries = All-tail (IsEntry n number) x ys (All-permutation (IsEntry n number) xs (x ∷ ys) moved h.entries);
+    waits = λ y e o is.
+        let w = h.waits y e (others y o) is in
+        elim (contains_cases x ys w.0 (Contains-permutation xs (x ∷ ys) w.0 moved w.1.0)) [
+          | inl same ↦ let t : true ≡ false = sym now ∙ ap done' (ap (λ (q : Entry). q.0.node) same ∙ w.1.1) ∙ o in absurd (cc)
+          | inr c ↦ (w.0, (c, w.1.1, w.1.2))
+        ];
+  }
+
+-- ---- the start
+
+abbrev pub IsStart : List Bool → Entry → Type 0
+IsStart sources q = (q.0.node < length sources) × (flag_at sources q.0.node ≡ true) × (q.0.distance ≡ 0)
+
+-- the sources among the first k nodes wait
+pub record IsStarted (sources : List Bool) (k : ℕ) (waiting : List Entry) : Type 0 where
+  pub entries : All (IsStart sources) waiting
+  pub waits : (y : ℕ) → y < k → flag_at sources y ≡ true → (q : Entry) × (Contains waiting q × (q.0.node ≡ y) × (q.0.distance ≡ 0))
+  pub counted : length waiting ≡ count_by (λ s. s) (take k sources)
+
+pub started_none : (sources : List Bool) → IsStarted sources 0 []
+started_none sources = record { entries = All-nil (IsStart sources); waits = λ y lt t. absurd (omega arith); counted = refl }
+
+pub started_more : (sources : List Bool) (k : ℕ) (s : Settled) (xs ys : List Entry) → k < length sources → s.node ≡ k → s.distance ≡ 0 → IsStarted sources k xs → IsJoined (flag_at sources k) s xs ys → IsStarted sources (k + 1) ys
+started_more sources k s xs ys lt node distance h j = elim (flag_at sources k) as (λ b. flag_at sources k ≡ b → IsJoined b s xs ys → IsStarted sources (k + 1) ys) [
+  | true ↦ λ t i. record {
+    entries = joined_entries (IsStart sources) true s xs ys i h.entries (λ q e. let m : q.0.node ≡ k = ap (λ u. u.node) e ∙ node in (omega (arith, m, lt), ap (flag_at sources) m ∙ t, ap (λ u. u.distance) e ∙ distance));
+    waits = λ y l f. elim (cases_eq y k) [
+      | inl e ↦ let w = joined_one s xs ys i in (w.0, (w.1.0, ap (λ u. u.node) w.1.1 ∙ node ∙ sym e, ap (λ u. u.distance) w.1.1 ∙ distance))
+      | inr ne ↦ let w = h.waits y (omega arith) f in (w.0, (joined_contains true s xs ys w.0 i w.1.0, w.1.1, w.1.2))
+    ];
+    counted = let m = joined_length true s xs ys i in let c : count_by (λ b. b) (take (k + 1) sources) ≡ count_by (λ b. b) (take k sources) + 1 = count_by_more_yes (λ b. b) sources k false lt t in let v = h.counted in omega arith;
+  }
+  | false ↦ λ t i. record {
+    entries = All-same (IsStart sources) ys xs i h.entries;
+    waits = λ y l f. elim (cases_eq y k) [
+      | inl e ↦ let u : true ≡ false = sym f ∙ ap (flag_at sources) e ∙ t in absurd (cc)
+      | inr ne ↦ let w = h.waits y (omega arith) f in (w.0, (joined_contains false s xs ys w.0 i w.1.0, w.1.1, w.1.2))
+    ];
+    counted = let m = ap length i in let c : count_by (λ b. b) (take (k + 1) sources) ≡ count_by (λ b. b) (take k sources) = count_by_more_no (λ b. b) sources k false lt t in let v = h.counted in omega arith;
+  }
+] refl j
+
+first_number_at : (sources : List Bool) (y : ℕ) (b : Bool) → flag_at sources y ≡ b → number_at (map first_number sources) y ≡ first_number b
+first_number_at sources y b t = first_at sources y ∙ ap first_number t
+
+pub started_all : (sources : List Bool) (k : ℕ) (waiting : List Entry) (done : ℕ → Bool) → length sources ≤ k → IsStarted sources k waiting → IsQueue (length sources) (number_at (map first_number sources)) done waiting
+started_all sources k waiting done le h = record {
+  entries = All-weaker (IsStart sources) (IsEntry (length sources) (number_at (map first_number sources))) (λ q r. let z = r.2 in (r.0, (0, (first_number_at sources q.0.node true r.1, omega arith)))) waiting h.entries;
+  waits = λ y e o is. elim (flag_at sources y) as (λ b. flag_at sources y ≡ b → (q : Entry) × (Contains waiting q × (q.0.node ≡ y) × (q.0.distance ≡ e))) [
+    | true ↦ λ t.
+        let zero_is : 0 ≡ e = same_Some 0 e (sym (first_number_at sources y true t) ∙ is) in
+        let w = h.waits y (flag_within sources y k t le) t in
+        (w.0, (w.1.0, w.1.1, w.1.2 ∙ zero_is))
+    | false ↦ λ t. absurd (none-some e (sym (first_number_at sources y false t) ∙ is))
+  ] refl;
+}
+  where
+    flag_within : (sources : List Bool) (y k : ℕ) → flag_at sources y ≡ true → length sources ≤ k → y < k
+    flag_within sources y k t le = elim (cases_lt y (length sources)) [ inl lt ↦ omega arith | inr past ↦ let u : true ≡ false = sym t ∙ get_or_past sources y false past in absurd (cc) ]
+
+-- ---- degrees
+
+few_more : {Y : Type 0} (o : Option Y) (ys : List Y) (k : ℕ) → length ys ≤ k → length (cons_option o ys) ≤ k + 1
+few_more None ys k le = omega arith
+few_more (Some y) ys k le = omega arith
+
+length_filter_map : {X Y : Type 0} (f : X → Option Y) (xs : List X) → length (filter_map f xs) ≤ length xs
+length_filter_map f [] = omega arith
+length_filter_map f (x ∷ xs) = let le = few_more (f x) (filter_map f xs) (length xs) (length_filter_map f xs) in omega arith
+
+length_below : (n : ℕ) → length (below n) ≡ n
+length_below zero = refl
+length_below (suc n) = let e = length-append (below n) (n ∷ []) in let r = length_below n in omega arith
+
+pub degree_few : (g : Network) (x : ℕ) → degree_of g x ≤ g.nodes
+degree_few g x =
+    let e = length_below g.nodes in
+    let le : length (neighbours_of g x) ≤ length (below g.nodes) = length_filter_map (λ y. option_map (λ w. (y, w)) (weight_in g x y)) (below g.nodes) in
+    omega arith
+
+degrees_few : (g : Network) (k : ℕ) (order : List Settled) → g.nodes ≤ k → degrees g order ≤ length order * k
+degrees_few g k order le = sum_by-le (λ s. degree_of g s.node) k order (All-from_get_or (λ s. degree_of g s.node ≤ k) order (record { distance = 0; node = 0 }) (λ i lt. let few = degree_few g (get_or order i (record { distance = 0; node = 0 })).node in omega arith))
+
+pub degrees_push : (g : Network) (order : List Settled) (s : Settled) → degrees g (order ++ s ∷ []) ≡ degrees g order + degree_of g s.node
+degrees_push g order s = sum_by_push (λ s. degree_of g s.node) order s
+
+-- the most pops of a search: each node is a source at most once, and each has fewer neighbours than there are nodes
+abbrev pub most_pops : ℕ
+most_pops = most_nodes + most_nodes * most_nodes
+
+pub pops_fit : (g : Network) (sources : List Bool) (order : List Settled) (pops waiting : ℕ) → g.nodes ≤ most_nodes → length sources ≡ g.nodes → length order ≤ g.nodes → pops + waiting ≤ count_by (λ s. s) sources + degrees g order → pops + waiting ≤ most_pops
+pops_fit g sources order pops waiting few all le h =
+    let a = count_by-le-length (λ s. s) sources in
+    let b = degrees_few g most_nodes order few in
+    omega arith
+
+pub joined_few : (b : Bool) (s : Settled) (xs ys : List Entry) → IsJoined b s xs ys → length ys ≤ length xs + 1
+joined_few true s xs ys j = let e = joined_length true s xs ys j in omega arith
+joined_few false s xs ys j = let e = joined_length false s xs ys j in omega arith
+
+pub popped_length : (x : Entry) (xs ys : List Entry) → IsPermutation xs (x ∷ ys) → length xs ≡ length ys + 1
+popped_length x xs ys moved = let e = length_permutation xs (x ∷ ys) moved in omega arith
+
+pub open_before : (done : List Bool) (x y : ℕ) → x < length done → flag_at (set done x true) y ≡ false → flag_at done y ≡ false
+open_before done x y lt o = elim (cases_eq y x) [
+  | inl e ↦ let u : true ≡ false = sym (flag_set_same done x lt) ∙ ap (flag_at (set done x true)) (sym e) ∙ o in absurd (cc)
+  | inr ne ↦ sym (flag_set_other done x y ne) ∙ o
+]
+
+pub none_waits : (n : ℕ) (number : ℕ → Option ℕ) (done : ℕ → Bool) (waiting : List Entry) → IsQueue n number done waiting → length waiting ≡ 0 → (y : ℕ) → done y ≡ false → number y ≡ None
+none_waits n number done waiting h none y o = elim (number y) as (λ r. number y ≡ r → number y ≡ None) [
+  | None ↦ λ is. is
+  | Some e ↦ λ is. let w = h.waits y e o is in let lt = w.1.0.1 in absurd (omega arith)
+] refl

@@ -1,0 +1,141 @@
+-- The tree that a search and its parents make.
+use Rattle.std.proofs.Common.{◌≡◌, ℕ, zero, suc, ◌+◌, ◌<◌, ◌≤◌, true, false, cond, inl, inr, List, [], ◌∷◌, map, set, replicate, length, get_or, Option, Some, None, refl, sym, ap, ◌∙◌, subst, arith}
+use Rattle.std.specs.List.{All, Contains, count_by}
+use Rattle.std.proofs.lemmas.Bool.{cases_eq, cases_lt}
+use Rattle.std.proofs.lemmas.List.{get_or_past}
+use Rattle.std.proofs.lemmas.List.Elements.{All-nil, All-cons, All-contains, All-weaker, Contains-append_right}
+use Rattle.std.proofs.lemmas.List.Sums.{sum_by-set, sum_by-cons}
+use Rattle.std.proofs.lemmas.Option.{same_Some, none-some}
+use Rattle.graph_edits.specs.Edges.{EdgeMap, Network, IsSound}
+use Rattle.graph_edits.specs.Walks.{walk_length, IsLeast}
+use Rattle.graph_edits.specs.Laws.{weight_between-sym}
+use Rattle.distances.specs.declared.search.Settled.{Settled}
+use Rattle.distances.specs.declared.reach.Reached.{Reached}
+use Rattle.distances.specs.Search.{is_below, flag_at, number_at, IsSource, AreGentle, IsAscending, EachSettled, HasNode, degrees}
+use Rattle.distances.specs.Table.{IsTable, IsListing, IsTightBy, IsFirstTight}
+use Rattle.graph_edits.specs.Edges.{degree_of}
+use Rattle.distances.specs.Reach.{settled_of, IsTight, IsParent, IsTree, degrees_of}
+use Rattle.distances.proofs.Turns.{none_done, flag_set_same, flag_set_other}
+use Rattle.distances.proofs.Tight.{tight_exists}
+
+-- ---- other words for the sources
+
+pub least_from : (m : EdgeMap) (Source Other : ℕ → Type 0) → ((s : ℕ) → Source s → Other s) → ((s : ℕ) → Other s → Source s) → (v d : ℕ) → IsLeast m Source v d → IsLeast m Other v d
+least_from m Source Other to back v d h = let a = h.attained in record { attained = (a.0, (to a.0 a.1.0, a.1.1)); least = λ s xs o walk. h.least s xs (back s o) walk }
+
+pub table_from : (m : EdgeMap) (Source Other : ℕ → Type 0) → ((s : ℕ) → Source s → Other s) → ((s : ℕ) → Other s → Source s) → (limit number : ℕ → Option ℕ) → IsTable m Source limit number → IsTable m Other limit number
+table_from m Source Other to back limit number h = record {
+  exact = λ y e is. let x = h.exact y e is in (least_from m Source Other to back y e x.0, x.1);
+  complete = λ s x xs o walk below. h.complete s x xs (back s o) walk below;
+}
+
+pub only_root : (n root s : ℕ) → root < n → IsSource (set (replicate n false) root true) s → s ≡ root
+only_root n root s lt t = elim (cases_eq s root) [
+  | inl e ↦ e
+  | inr ne ↦ let u : true ≡ false = sym t ∙ flag_set_other (replicate n false) root s ne ∙ none_done n s in absurd (cc)
+]
+
+pub root_is : (n root s : ℕ) → root < length (replicate n false) → s ≡ root → IsSource (set (replicate n false) root true) s
+root_is n root s lt e = ap (flag_at (set (replicate n false) root true)) e ∙ flag_set_same (replicate n false) root lt
+
+count_none : (n : ℕ) → count_by (λ s. s) (replicate n false) ≡ 0
+count_none zero = refl
+count_none (suc n) =
+    let a : count_by (λ s. s) (false ∷ replicate n false) ≡ 0 + count_by (λ s. s) (replicate n false) = sum_by-cons (λ s. cond s 1 0) false (replicate n false) in
+    let b = count_none n in
+    omega (arith, a, b)
+
+pub count_root : (n root : ℕ) → root < length (replicate n false) → count_by (λ s. s) (set (replicate n false) root true) ≡ 1
+count_root n root lt =
+    let e : count_by (λ s. s) (set (replicate n false) root true) + cond (get_or (replicate n false) root false) 1 0 ≡ count_by (λ s. s) (replicate n false) + 1 = sum_by-set (λ s. cond s 1 0) (replicate n false) root true false lt in
+    let f : cond {A = ℕ} (get_or (replicate n false) root false) 1 0 ≡ 0 = ap (λ s. cond {A = ℕ} s 1 0) (none_done n root) in
+    let z : count_by (λ s. s) (replicate n false) ≡ 0 = count_none n in
+    omega (arith, e, f, z)
+
+-- ---- members
+
+listed_members : (number : ℕ → Option ℕ) (tree : List Reached) → EachSettled (λ x d. number x ≡ Some d) (map settled_of tree) → All (λ r. number r.node ≡ Some r.distance) tree
+listed_members number [] h = All-nil (λ r. number r.node ≡ Some r.distance)
+listed_members number (r ∷ rs) h = All-cons (λ r. number r.node ≡ Some r.distance) r rs h.0 (listed_members number rs h.1)
+
+has_member : (x : ℕ) (tree : List Reached) → HasNode x (map settled_of tree) → (r : Reached) × (Contains tree r × (r.node ≡ x))
+has_member x [] h = absurd h
+has_member x (r ∷ rs) (inl e) = (r, ((0, omega arith, refl), e))
+has_member x (r ∷ rs) (inr h) = let m = has_member x rs h in (m.0, (Contains-append_right (r ∷ []) rs m.0 m.1.0, m.1.1))
+
+pub degrees_members : (g : Network) (tree : List Reached) → degrees g (map settled_of tree) ≡ degrees_of g tree
+degrees_members g [] = refl
+degrees_members g (r ∷ rs) =
+    let a = sum_by-cons (λ s. degree_of g s.node) (settled_of r) (map settled_of rs) in
+    let b = sum_by-cons (λ r. degree_of g r.node) r rs in
+    let c = degrees_members g rs in
+    omega (arith, a, b, c)
+
+module _ (g : Network) (sound : IsSound g) (root : ℕ) (limit number : ℕ → Option ℕ) (gentle : AreGentle g.edges limit) (table : IsTable g.edges (λ s. s ≡ root) limit number) (order : List Settled) (listing : IsListing number order) (ascending : IsAscending order)
+    (tree : List Reached) (same : map settled_of tree ≡ order) (first : All (λ r. IsFirstTight g.edges number r.node r.distance r.parent) tree) where
+  members : All (λ r. number r.node ≡ Some r.distance) tree
+  members = listed_members number tree (subst (EachSettled (λ x d. number x ≡ Some d)) (sym same) listing.listed)
+
+  member : (x d : ℕ) → number x ≡ Some d → (r : Reached) × (Contains tree r × (r.node ≡ x))
+  member x d is = has_member x tree (subst (HasNode x) (sym same) (listing.has x d is))
+
+  to_tight : (x d y : ℕ) → IsTightBy g.edges number x d y → IsTight g.edges tree x d y
+  to_tight x d y t =
+      let k = member y t.0 t.1.1.0 in
+      let at : number k.0.node ≡ Some k.0.distance = All-contains (λ r. number r.node ≡ Some r.distance) tree k.0 members k.1.0 in
+      let e : k.0.distance ≡ t.0 = same_Some k.0.distance t.0 (sym at ∙ ap number k.1.1 ∙ t.1.1.0) in
+      (k.0, t.1.0, (k.1.0, k.1.1, weight_between-sym g.edges y x ∙ t.1.1.1, ap (λ n. n + t.1.0) e ∙ t.1.1.2))
+
+  from_tight : (x d y : ℕ) → IsTight g.edges tree x d y → IsTightBy g.edges number x d y
+  from_tight x d y t =
+      let at : number t.0.node ≡ Some t.0.distance = All-contains (λ r. number r.node ≡ Some r.distance) tree t.0 members t.2.0 in
+      (t.0.distance, (t.1, (ap number (sym t.2.1) ∙ at, weight_between-sym g.edges x y ∙ t.2.2, t.2.3)))
+
+  root_at : (d : ℕ) → number root ≡ Some d → d ≤ 0
+  root_at d is = (table.exact root d is).0.least root [] refl refl
+
+  no_tight_root : (x d y : ℕ) → number x ≡ Some d → IsTightBy g.edges number x d y → x ≡ root → ⊥
+  no_tight_root x d y is t e =
+      let z = root_at d (ap number (sym e) ∙ is) in
+      let one = (sound.weighted x y t.1.0 t.1.1.1).0 in
+      absurd (omega (arith, z, one, t.1.1.2))
+
+  parent_is : (x d : ℕ) (o : Option ℕ) → number x ≡ Some d → IsFirstTight g.edges number x d o → IsParent g.edges root tree x d o
+  parent_is x d None is h = elim (cases_eq x root) [
+    | inl e ↦ e
+    | inr ne ↦ let t = tight_exists g.edges (λ s. s ≡ root) limit number table gentle x d is ne in absurd (h t.0 t.1)
+  ]
+  parent_is x d (Some y) is h = (no_tight_root x d y is h.0, to_tight x d y h.0, λ z t. h.1 z (from_tight x d z t))
+
+  parents_each : (rs : List Reached) → All (λ r. number r.node ≡ Some r.distance) rs → All (λ r. IsFirstTight g.edges number r.node r.distance r.parent) rs → All (λ r. IsParent g.edges root tree r.node r.distance r.parent) rs
+  parents_each rs n f = λ i d lt. parent_is (get_or rs i d).node (get_or rs i d).distance (get_or rs i d).parent (n i d lt) (f i d lt)
+
+  pub tree_done : IsTree g.edges root limit tree
+  tree_done = record {
+    ascending = subst IsAscending (sym same) ascending;
+    exact = All-weaker (λ r. number r.node ≡ Some r.distance) (λ r. IsLeast g.edges (λ s. s ≡ root) r.node r.distance × (is_below r.distance (limit r.node) ≡ true)) (λ r is. table.exact r.node r.distance is) tree members;
+    complete = λ x d h below.
+        let a = h.attained in
+        let e = table.complete a.0 x a.1.1.0 a.1.0 a.1.1.1.0 (subst (λ k. is_below k (limit x) ≡ true) (sym a.1.1.1.1) below) in
+        member x e.0 e.1;
+    parents = parents_each tree members first;
+  }
+
+pub within_order : (n : ℕ) (distances : List (Option ℕ)) → length distances ≡ n → (order : List Settled) → EachSettled (λ x d. number_at distances x ≡ Some d) order → All (λ s. s.node < n) order
+within_order n distances e [] h = All-nil (λ s. s.node < n)
+within_order n distances e (s ∷ ss) h = All-cons (λ s. s.node < n) s ss (elim (cases_lt s.node (length distances)) [
+  | inl lt ↦ omega (arith, lt, e)
+  | inr le ↦ absurd (none-some s.distance (sym (get_or_past distances s.node None le) ∙ h.0))
+]) (within_order n distances e ss h.1)
+
+pub no_limit : (n x : ℕ) → number_at (replicate n None) x ≡ None
+no_limit zero x = refl
+no_limit (suc n) zero = refl
+no_limit (suc n) (suc x) = no_limit n x
+
+-- a table by other words for the limits
+pub table_limits : (m : EdgeMap) (Source : ℕ → Type 0) (limit other number : ℕ → Option ℕ) → ((x : ℕ) → limit x ≡ other x) → IsTable m Source limit number → IsTable m Source other number
+table_limits m Source limit other number same h = record {
+  exact = λ y e is. let x = h.exact y e is in (x.0, ap (is_below e) (sym (same y)) ∙ x.1);
+  complete = λ s x xs source walk below. h.complete s x xs source walk (ap (is_below (walk_length m s xs)) (same x) ∙ below);
+}

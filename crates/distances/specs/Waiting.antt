@@ -1,0 +1,25 @@
+-- The entries that wait in a search.
+use Rattle.std.specs.Prelude.{◌≡◌, ℕ, ◌<◌, ◌≤◌, Bool, true, false, List, ◌∷◌, Option, Some, IsPermutation}
+use Rattle.std.specs.Ordering.{nat_cmp, ordering_then}
+use Rattle.std.specs.declared.cmp.Ordering.{Ordering}
+use Rattle.std.specs.declared.cmp.Reverse.{Reverse}
+use Rattle.std.specs.List.{All, Contains}
+use Rattle.distances.specs.declared.search.Settled.{Settled}
+
+-- a node that waits at a distance
+abbrev pub Entry : Type 0
+Entry = Reverse Settled
+
+-- the nearest entry is the greatest, the smaller node where two are as near
+abbrev pub nearest_first : Entry → Entry → Ordering
+nearest_first p q = ordering_then (nat_cmp q.0.distance p.0.distance) (nat_cmp q.0.node p.0.node)
+
+-- each entry is of a node with a number that is no greater, and each open node with a number waits at that number
+pub record IsQueue (n : ℕ) (number : ℕ → Option ℕ) (done : ℕ → Bool) (waiting : List Entry) : Type 0 where
+  pub entries : All (λ q. (q.0.node < n) × ((e : ℕ) × ((number q.0.node ≡ Some e) × (e ≤ q.0.distance)))) waiting
+  pub waits : (y e : ℕ) → done y ≡ false → number y ≡ Some e → (q : Entry) × (Contains waiting q × (q.0.node ≡ y) × (q.0.distance ≡ e))
+
+-- s joined the entries, or nothing did
+abbrev pub IsJoined : Bool → Settled → List Entry → List Entry → Type 0
+IsJoined true s before after = (q : Entry) × ((q.0 ≡ s) × IsPermutation (q ∷ before) after)
+IsJoined false s before after = after ≡ before

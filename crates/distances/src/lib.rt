@@ -1,0 +1,32 @@
+//! Least distances in a graph: from one root with the tree of parents, and from the nearest landmark.
+//!
+//! The distance of two nodes is the least length of all walks between them, and there is none where
+//! no walk is. Nothing here rounds or estimates: each contract names all walks of the edge map.
+//!
+//! The contract that the layers above use is that of [`from_root`]: the answer has exactly the nodes
+//! that a walk from the root reaches, each with its distance, in ascending order of distance and
+//! then of node, and with its parent: the smallest-numbered member y of the tree with
+//! D(y) + weight(y, x) = D(x). [`from_landmarks`] gives each node its nearest landmark, the
+//! smallest-numbered where several are as near. [`tree_within`] is [`from_root`] cut off at a limit
+//! for each node; clusters are made of it.
+//!
+//! All three run one search: Dijkstra's, over a binary heap that pops by distance and then by node.
+//! Each counts the entries that it popped, and the contracts bound the count by the edges.
+//!
+//! ```text
+//! // 0 -1- 1 -1- 2, and 0 -2- 2
+//! let reach = from_root(alloc, &graph, 0)?;
+//! reach.members()[2]      // Reached { node: 2, distance: 2, parent: Some(0) }
+//! ```
+#![tactic(auto)]
+
+mod nearest;
+mod reach;
+mod search;
+
+pub use nearest::{Near, Nearest, from_landmarks};
+pub use reach::{Reach, Reached, from_root, tree_within};
+pub use search::Settled;
+
+#[cfg(test)]
+mod tests;

@@ -1,0 +1,192 @@
+// A graph, kept as the row of each node.
+ghost use Rattle.std.specs.Prelude.{◌≡◌, ℕ, ◌+◌, ◌<◌, ◌≤◌, ◌≢◌, T, not, Option, None, length, vec_len, vec_capacity, IfOk, IfErr, IsOk, OnOk, OnErr, Ok, ◌↔◌, Some, IsSome};
+ghost use Rattle.std.specs.FinMap.{empty, len};
+ghost use Rattle.graph_edits.specs.Changes.{after, fold, edges_after, err_of, IsRefusedAs};
+ghost use Rattle.graph_edits.specs.Edges.{weight_in, neighbours_of, over_port, all_degrees, IsSound};
+
+use crate::edits::{Change, Code, EditRefused, Op};
+use crate::limits::{MOST_EDGES, MOST_NODES};
+use crate::overlay::Overlay;
+use crate::prepared::{Prepared, rewrite_all};
+use crate::{rows, table};
+use std::alloc::{AllocError, Global};
+use std::marker::Model;
+use std::slice;
+use std::snapshot::Snapshot;
+
+/// An undirected graph with weighted edges, at most one between two nodes and none from a node to itself.
+#[derive(Debug, Drop)]
+pub struct Graph {
+    rows: Vec<Vec<(u16, u32)>>,
+    edges: usize,
+}
+
+impl Model for Graph {
+    ghost use Rattle.graph_edits.specs.Edges.{Network, network_code};
+    ghost use Rattle.graph_edits.specs.Rows.{network_of, lists, AreRows};
+
+    ghost Value = { Network };
+
+    ghost coded = { network_code };
+
+    ghost view = { λ g. network_of (lists g.rows.items) };
+
+    ghost invariant = { λ g. AreRows (lists g.rows.items) g.edges };
+}
+
+impl Graph {
+    /// A graph of so many nodes, without edges.
+    pub fn empty(alloc: Global, nodes: u16) -> Result<Graph, AllocError>
+        requires some { 1 ≤ nodes }
+        requires few { nodes ≤ MOST_NODES }
+        ensures { IfOk result (λ graph. graph ≡ record { nodes = nodes; edges = empty }) }
+    {
+        let mut rows = Vec::with_capacity(alloc, nodes as usize)?;
+        for _ in 0..nodes {
+            rows.push(Vec::new(alloc))?;
+        }
+        Ok(Graph { rows, edges: 0 })
+    }
+
+    /// How many nodes there are, numbered from 0.
+    pub fn nodes(&self) -> u16
+        ensures nodes { result ≡ self.now.nodes }
+        ensures sound { IsSound self.now }
+        ensures degrees { all_degrees self.now ≡ len self.now.edges + len self.now.edges }
+    {
+        self.rows.len() as u16
+    }
+
+    /// How many edges there are, in one step.
+    pub fn edges(&self) -> usize
+        ensures { result ≡ len self.now.edges }
+    {
+        self.edge_count()
+    }
+
+    // The same with the limit, which an overlay starts from.
+    pub(crate) fn edge_count(&self) -> usize
+        ensures edges { result ≡ len self.now.edges }
+        ensures few { result ≤ MOST_EDGES }
+    {
+        self.edges
+    }
+
+    /// The weight of the edge between two nodes, in either order. There is none where a number names no node.
+    pub fn weight(&self, a: u16, b: u16) -> Option<u32>
+        ensures { result ≡ weight_in self.now a b }
+    {
+        if a >= self.nodes() {
+            return None;
+        }
+        table::value_of(&self.rows[a as usize], b)
+    }
+
+    /// The neighbours of a node with the weights, in ascending order: the k-th has the port k.
+    pub fn neighbours(&self, x: u16) -> &[(u16, u32)]
+        requires { x < self.now.nodes }
+        ensures list { result.now ≡ neighbours_of self.now x }
+        ensures sound { IsSound self.now }
+    {
+        self.rows[x as usize].as_slice()
+    }
+
+    /// The port of the node `x` to the neighbour `y`, if it is one.
+    pub fn port_to(&self, x: u16, y: u16) -> Option<u16>
+        requires { x < self.now.nodes }
+        ensures { (port : ℕ) → (result ≡ Some port) ↔ (over_port self.now x port ≡ Some y) }
+    {
+        rows::port_of(self.neighbours(x), y)
+    }
+
+    /// The neighbour of the node `x` behind a port, if the node has that port.
+    pub fn over(&self, x: u16, port: u16) -> Option<u16>
+        requires { x < self.now.nodes }
+        ensures { result ≡ over_port self.now x port }
+    {
+        rows::behind(self.neighbours(x), port)
+    }
+
+    /// A graph of its own with the same nodes and edges.
+    pub fn try_clone(&self, alloc: Global) -> Result<Graph, AllocError>
+        ensures { IfOk result (λ graph. graph ≡ self.now) }
+    {
+        let mut rows = Vec::with_capacity(alloc, self.rows.len())?;
+        for row in &self.rows {
+            rows.push(rows::copy_of(alloc, row)?)?;
+        }
+        Ok(Graph {
+            rows,
+            edges: self.edges,
+        })
+    }
+}
+
+impl Graph {
+    /// Makes all ops in order, or none. Any refusal leaves the graph as it was.
+    ///
+    /// It costs work in the ops and in the neighbours of the nodes that they name, whatever the size of the graph.
+    pub fn apply(&mut self, change: &Change) -> Result<(), EditRefused>
+        ensures ok { OnOk result (after self.old change.now ≡ Ok self.new) }
+        ensures unchanged { OnErr result (self.new ≡ self.old) }
+        ensures refused { IfErr result (IsRefusedAs (after self.old change.now)) }
+        ensures memory { result ≡ Err EditRefused.Memory → IsOk (after self.old change.now) }
+    {
+        if let Some((index, code)) = self.first_refused(change.ops()) {
+            return Err(EditRefused::Op { index, code });
+        }
+        match self.prepare(self.allocator(), slice::from_ref(change)) {
+            Ok(prepared) => {
+                self.install(prepared);
+                Ok(())
+            }
+            Err(_) => Err(EditRefused::Memory),
+        }
+    }
+
+    /// Makes what the graph needs to take changes that it accepts in order: new rows for the nodes that they name.
+    ///
+    /// The graph stays as it is. `Overlay::apply` says whether it accepts them.
+    pub fn prepare(&self, alloc: Global, changes: &[Change]) -> Result<Prepared, AllocError>
+        requires accepted { IsSome (fold self.now changes.now) }
+        ensures before { IfOk result (λ prepared. prepared.before ≡ self.now) }
+        ensures after { IfOk result (λ prepared. Some prepared.after ≡ fold self.now changes.now) }
+    {
+        let mut rows = Vec::new(alloc);
+        let mut edges = self.edges;
+        for change in changes {
+            rewrite_all(alloc, &self.rows, &mut rows, &mut edges, change.ops())?;
+        }
+        Ok(Prepared {
+            rows,
+            edges,
+            before: Snapshot::of(self),
+        })
+    }
+
+    /// Takes what was prepared for the graph as it stands. It takes no memory and can't be refused.
+    pub fn install(&mut self, prepared: Prepared)
+        requires of_this { prepared.before ≡ self.old }
+        ensures { self.new ≡ prepared.after }
+    {
+        let Prepared {
+            mut rows,
+            edges,
+            before: _,
+        } = prepared;
+        while let Some((node, row)) = rows.pop() {
+            self.rows[node as usize] = row;
+        }
+        self.edges = edges;
+    }
+
+    fn first_refused(&self, ops: &[Op]) -> Option<(usize, Code)>
+        ensures { result ≡ err_of (edges_after self.now.nodes self.now.edges 0 ops.now) }
+    {
+        Overlay::over(self.allocator(), self).first_refused(ops)
+    }
+
+    fn allocator(&self) -> Global {
+        *self.rows.allocator()
+    }
+}

@@ -1,0 +1,7 @@
+mod AreaLemmas
+mod Readers
+mod Groups
+mod JournalLemmas
+mod Loop
+pub mod Lists
+mod Scans

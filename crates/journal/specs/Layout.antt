@@ -1,0 +1,56 @@
+-- Sizes of a record's parts in bytes, and the limits of a group, as the code declares them.
+use Rattle.std.specs.Prelude.{ℕ}
+use Rattle.journal.specs.declared.layout.TheConstants.{OPEN_GATE, CLOSED_GATE, ADD, SET, CUT, LENGTH_SIZE, RECORD_HEAD, COUNT_SIZE, ENTRY_HEAD, OP_SIZE, MOST_ENTRIES, MOST_ENTRY, LEAST_PAYLOAD, MOST_PAYLOAD, MOST_RECORD}
+
+-- the gates: any byte that isn't the open one is closed
+abbrev pub open_gate : ℕ
+open_gate = OPEN_GATE
+
+abbrev pub closed_gate : ℕ
+closed_gate = CLOSED_GATE
+
+-- the kinds of ops
+abbrev pub add_kind : ℕ
+add_kind = ADD
+
+abbrev pub set_kind : ℕ
+set_kind = SET
+
+abbrev pub cut_kind : ℕ
+cut_kind = CUT
+
+-- the length of a payload
+abbrev pub length_size : ℕ
+length_size = LENGTH_SIZE
+
+-- a record up to its payload
+abbrev pub record_head : ℕ
+record_head = RECORD_HEAD
+
+-- a payload up to its first entry
+abbrev pub count_size : ℕ
+count_size = COUNT_SIZE
+
+-- an entry up to its first op
+abbrev pub entry_head : ℕ
+entry_head = ENTRY_HEAD
+
+abbrev pub op_size : ℕ
+op_size = OP_SIZE
+
+-- the most entries of a group
+abbrev pub most_entries : ℕ
+most_entries = MOST_ENTRIES
+
+-- the longest entry, the shortest and the longest payload, and the longest record
+abbrev pub most_entry : ℕ
+most_entry = MOST_ENTRY
+
+abbrev pub least_payload : ℕ
+least_payload = LEAST_PAYLOAD
+
+abbrev pub most_payload : ℕ
+most_payload = MOST_PAYLOAD
+
+abbrev pub most_record : ℕ
+most_record = MOST_RECORD

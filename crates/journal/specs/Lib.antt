@@ -1,0 +1,10 @@
+pub mod Layout
+pub mod Entry
+pub mod Spelling
+pub mod Records
+pub mod JournalView
+pub mod Reading
+pub mod Scanning
+pub mod Windows
+pub mod Laws
+pub mod Elsewhere
