@@ -1,0 +1,59 @@
+-- What a fresh device stands for.
+use Rattle.std.proofs.Common.{◌≡◌, ◌≢◌, ℕ, ◌+◌, ◌*◌, ◌<◌, ◌≤◌, List, [], ◌∷◌, ◌++◌, length, get_or, take, drop, Some, None, refl, sym, ◌∙◌, ap, subst, arith, lit<, lit≤}
+use Rattle.std.specs.FinMap.{entries, empty, get, get-empty}
+use Rattle.std.specs.List.{flat_map}
+use Rattle.disk_trait.specs.Disk.{bytes_at}
+use Rattle.graph_edits.specs.Edges.{pair_cmp, most_nodes}
+use Rattle.checkpoint.specs.Layout.{device_len, header, slot_start, other, journal_of, epoch_at}
+use Rattle.checkpoint.specs.State.{State, first_state, edge_text, checkpoint_text, IsLawful}
+use Rattle.checkpoint.specs.Slots.{head_text, HasHead, HasCheckpoint}
+use Rattle.checkpoint.specs.Standing.{StandsFor}
+use Rattle.checkpoint.proofs.EdgeLemmas.{no_entries}
+use Rattle.checkpoint.proofs.BaseLemmas.{has_text, size_of}
+use Rattle.checkpoint.proofs.Folds.{after-nil}
+use Rattle.checkpoint.proofs.HeadLemmas.{gate_and}
+
+first_lawful : (nodes : ℕ) → 1 ≤ nodes → nodes ≤ most_nodes → IsLawful (first_state nodes).graph
+first_lawful nodes some few = record {
+  some_nodes = some;
+  few_nodes = few;
+  few_edges = omega (arith, ap length no_entries);
+  each = λ pair weight is. absurd (none pair weight is);
+}
+  where
+    none : (pair : ℕ × ℕ) (weight : ℕ) → get (empty {K = ℕ × ℕ} {X = ℕ} {R = pair_cmp}) pair ≡ Some weight → ⊥
+    none pair weight is = let clash : None ≡ Some weight = sym (get-empty pair_cmp pair) ∙ is in cc
+
+module _ (nodes : ℕ) (some : 1 ≤ nodes) (few : nodes ≤ most_nodes) (image : List ℕ) (long : length image ≡ device_len) (front : bytes_at image 0 10 ≡ header nodes)
+    (there : bytes_at image 4096 23 ≡ 1 ∷ head_text 1 0 nodes 0) (journal : get_or image 139264 1 ≡ 0) (closed : get_or image 1187840 0 ≡ 0) where
+  both_there : (get_or image 4096 0 ≡ 1) × (bytes_at image 4097 22 ≡ head_text 1 0 nodes 0)
+  both_there = let two = gate_and image (1 ∷ head_text 1 0 nodes 0) 4096 22 (sym there) in (two.0, two.1)
+
+  text_there : HasCheckpoint 0 1 (first_state nodes) image
+  text_there = has_text 0 1 1 (first_state nodes) 0 nodes image (record { gate_is = both_there.0; text = both_there.1 }) refl (sym (ap length no_entries)) (sym (ap (flat_map edge_text) no_entries))
+
+  pub fresh_stands : StandsFor (first_state nodes) image
+  fresh_stands = record {
+    slot = 0;
+    epoch = 1;
+    base = first_state nodes;
+    groups = [];
+    is_slot = omega arith;
+    by = record {
+      as_long = long;
+      head = front;
+      gate = both_there.0;
+      text = text_there;
+      lawful = first_lawful nodes some few;
+      epoch_fits = lit≤ tt;
+      older = λ is_open. absurd (let clash : 0 ≡ 1 = sym closed ∙ is_open in omega arith);
+      records = record {
+        each = tt;
+        open_records = refl;
+        gate = λ one. let clash : 0 ≡ 1 = sym journal ∙ one in omega arith;
+        within = lit< tt;
+      };
+    };
+    folds = after-nil (first_state nodes);
+    count_fits = lit≤ tt;
+  }

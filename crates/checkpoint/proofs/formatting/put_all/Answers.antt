@@ -1,0 +1,24 @@
+use Rattle.std.proofs.Common.{sym, List, ℕ, ◌≡◌, ◌∷◌, length, get_or, subst, ◌∙◌, arith}
+use Rattle.disk_trait.specs.Disk.{only_read, bytes_at}
+use Rattle.checkpoint.specs.Layout.{device_len, header}
+use Rattle.checkpoint.specs.State.{first_state}
+use Rattle.checkpoint.specs.Standing.{StandsFor}
+use Rattle.checkpoint.specs.Slots.{head_text}
+use Rattle.checkpoint.proofs.ReadLemmas.{still}
+use Rattle.checkpoint.proofs.FormatLemmas.{fresh_stands}
+use Rattle.checkpoint.proofs.formatting.put_all.Goals as goal
+
+pub returns-in-Ok-sync-clause-ok : goal.returns-in-Ok-sync-clause-ok
+returns-in-Ok-sync-clause-ok g c model =
+    let v0 = g.D.Disk.view c.args.disk.now in
+    let v1 = g.D.Disk.view c.put_front.new.disk in
+    let v2 = g.D.Disk.view c.put_gates.new.disk in
+    let v3 = g.D.Disk.view c.sync.new.self in
+    let m1 = still v0 v1 c.put_front.ensures.ran model in
+    let m2 = still v1 v2 c.put_gates.ensures.ran m1 in
+    let front = c.in-Ok.ensures in
+    let gates = c.in-Ok-put_gates.ensures in
+    let same = (only_read v2 v3 c.sync.result c.sync.ensures.call m2).content in
+    let long : length v2.content ≡ device_len = c.put_gates.ensures.ran.as_long ∙ c.put_front.ensures.ran.as_long ∙ c.requires.long in
+    subst (λ (l : List ℕ). StandsFor (first_state c.args.nodes) l) (sym same)
+    (fresh_stands c.args.nodes c.requires.some c.requires.few v2.content long (gates.below m1 0 10 (omega arith) ∙ front.header model) (gates.below m1 4096 23 (omega arith) ∙ front.slot model) (gates.journal m1) (gates.other m1))

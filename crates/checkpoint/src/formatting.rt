@@ -1,0 +1,134 @@
+//! Making a device ready.
+ghost use Rattle.std.specs.Prelude.{◌≡◌, ◌≢◌, ◌≤◌, ◌<◌, ◌+◌, ◌↔◌, ◌∷◌, ℕ, List, length, get_or, IsTrue, OnOk, OnErr, IsErr, IsErrOf};
+ghost use Rattle.disk_trait.specs.Disk.{MayLeave, IsSameDevice, IsSettled, Torn, bytes_at};
+ghost use Rattle.graph_edits.specs.Edges.{most_nodes};
+ghost use Rattle.checkpoint.specs.Layout.{device_len, header};
+ghost use Rattle.checkpoint.specs.State.{first_state};
+ghost use Rattle.checkpoint.specs.Standing.{StandsFor};
+ghost use Rattle.checkpoint.specs.Slots.{head_text};
+
+use crate::layout::{
+    CHECKPOINT_ROOM, CLOSED_GATE, DEVICE_LEN, FIRST_EPOCH, HEAD_LEN, HEADER_LEN, MAGIC, OPEN_GATE,
+    SLOT_ROOM, SLOTS_START, VERSION,
+};
+use crate::refusals::FormatRefused;
+use byteorder::{BigEndian, ByteOrder};
+use disk_trait::{DeviceFault, Disk};
+use graph_edits::MOST_NODES;
+
+// The front of a device.
+fn header_of(nodes: u16) -> [u8; HEADER_LEN]
+    ensures { result ≡ header nodes }
+{
+    let mut front = [0; HEADER_LEN];
+    front[..6].copy_from_slice(&MAGIC);
+    front[6..8].copy_from_slice(&VERSION);
+    BigEndian::write_u16(&mut front[8..10], nodes);
+    front
+}
+
+// An open gate and a checkpoint of no changes and no edges.
+fn first_checkpoint(nodes: u16) -> [u8; HEAD_LEN]
+    ensures { result ≡ 1 ∷ head_text 1 0 nodes 0 }
+{
+    let mut text = [0; HEAD_LEN];
+    text[0] = OPEN_GATE;
+    BigEndian::write_u64(&mut text[1..9], FIRST_EPOCH);
+    BigEndian::write_u16(&mut text[17..19], nodes);
+    text
+}
+
+// Puts bytes from `at` on.
+fn put<D: Disk>(disk: &mut D, at: usize, bytes: &[u8]) -> Result<(), DeviceFault>
+    requires { at + length bytes.now ≤ length (D.view disk.old).content }
+    ensures ran { IsSameDevice (D.view disk.old) (D.view disk.new) }
+    ensures fault { OnErr result ((D.view disk.old).failures < (D.view disk.new).failures) }
+    ensures there { IsTrue (D.view disk.old).keeps_model → OnOk result (bytes_at (D.view disk.new).content at (length bytes.now) ≡ bytes.now) }
+    ensures elsewhere { IsTrue (D.view disk.old).keeps_model → OnOk result (Torn at (length bytes.now) (D.view disk.old).content (D.view disk.new).content) }
+{
+    disk.write_at(at, bytes)
+}
+
+// Puts the header, and an open slot.
+fn put_front<D: Disk>(disk: &mut D, nodes: u16) -> Result<(), DeviceFault>
+    requires { length (D.view disk.old).content ≡ device_len }
+    ensures header { IsTrue (D.view disk.old).keeps_model → OnOk result (bytes_at (D.view disk.new).content 0 10 ≡ header nodes) }
+    ensures slot { IsTrue (D.view disk.old).keeps_model → OnOk result (bytes_at (D.view disk.new).content 4096 23 ≡ 1 ∷ head_text 1 0 nodes 0) }
+    ensures fault { OnErr result ((D.view disk.old).failures < (D.view disk.new).failures) }
+    ensures ran { IsSameDevice (D.view disk.old) (D.view disk.new) }
+{
+    match put(disk, 0, &header_of(nodes)) {
+        Ok(()) => {}
+        Err(fault) => return Err(fault),
+    }
+    match put(disk, SLOTS_START, &first_checkpoint(nodes)) {
+        Ok(()) => Ok(()),
+        Err(fault) => Err(fault),
+    }
+}
+
+// Closes the first gate of the open slot's journal, and the other slot.
+fn put_gates<D: Disk>(disk: &mut D) -> Result<(), DeviceFault>
+    requires { length (D.view disk.old).content ≡ device_len }
+    ensures journal { IsTrue (D.view disk.old).keeps_model → OnOk result (get_or (D.view disk.new).content 139264 1 ≡ 0) }
+    ensures other { IsTrue (D.view disk.old).keeps_model → OnOk result (get_or (D.view disk.new).content 1187840 0 ≡ 0) }
+    ensures below { IsTrue (D.view disk.old).keeps_model → OnOk result ((from n : ℕ) → from + n ≤ 139264 → bytes_at (D.view disk.new).content from n ≡ bytes_at (D.view disk.old).content from n) }
+    ensures fault { OnErr result ((D.view disk.old).failures < (D.view disk.new).failures) }
+    ensures ran { IsSameDevice (D.view disk.old) (D.view disk.new) }
+{
+    match put(disk, SLOTS_START + CHECKPOINT_ROOM, &[CLOSED_GATE]) {
+        Ok(()) => {}
+        Err(fault) => return Err(fault),
+    }
+    match put(disk, SLOTS_START + SLOT_ROOM, &[CLOSED_GATE]) {
+        Ok(()) => Ok(()),
+        Err(fault) => Err(fault),
+    }
+}
+
+// Puts all that a fresh device has, and syncs.
+fn put_all<D: Disk>(disk: &mut D, nodes: u16) -> Result<(), DeviceFault>
+    requires long { length (D.view disk.old).content ≡ device_len }
+    requires some { 1 ≤ nodes }
+    requires few { nodes ≤ most_nodes }
+    ensures ok { IsTrue (D.view disk.old).keeps_model → OnOk result (StandsFor (first_state nodes) (D.view disk.new).content) }
+    ensures settled { IsTrue (D.view disk.old).keeps_model → OnOk result (IsSettled (D.view disk.new)) }
+    ensures fault { OnErr result ((D.view disk.old).failures < (D.view disk.new).failures) }
+    ensures ran { IsSameDevice (D.view disk.old) (D.view disk.new) }
+{
+    match put_front(disk, nodes) {
+        Ok(()) => {}
+        Err(fault) => return Err(fault),
+    }
+    match put_gates(disk) {
+        Ok(()) => {}
+        Err(fault) => return Err(fault),
+    }
+    match disk.sync() {
+        Ok(()) => Ok(()),
+        Err(fault) => Err(fault),
+    }
+}
+
+/// Makes a device hold a network of so many nodes and no edges. It takes no memory. Where the device
+/// fails, it holds no store.
+pub fn format<D: Disk>(disk: &mut D, n: u16) -> Result<(), FormatRefused>
+    ensures ok { IsTrue (D.view disk.old).keeps_model → OnOk result (StandsFor (first_state n) (D.view disk.new).content) }
+    ensures left { IsTrue (D.view disk.old).keeps_model → OnOk result ((image : List ℕ) → MayLeave (D.view disk.new) image → StandsFor (first_state n) image) }
+    ensures bad_size { IsErrOf result FormatRefused.BadSize ↔ (¬ ((1 ≤ n) × (n ≤ most_nodes))) }
+    ensures bad_length { IsErrOf result FormatRefused.BadLength ↔ ((1 ≤ n) × (n ≤ most_nodes) × (length (D.view disk.old).content ≢ device_len)) }
+    ensures untouched { IsErr result → ¬ (IsErrOf result FormatRefused.Device) → disk.new ≡ disk.old }
+    ensures device { IsErrOf result FormatRefused.Device → (D.view disk.old).failures < (D.view disk.new).failures }
+    ensures ran { IsSameDevice (D.view disk.old) (D.view disk.new) }
+{
+    if n < 1 || n > MOST_NODES {
+        return Err(FormatRefused::BadSize);
+    }
+    if disk.len() != DEVICE_LEN {
+        return Err(FormatRefused::BadLength);
+    }
+    match put_all(disk, n) {
+        Ok(()) => Ok(()),
+        Err(_) => Err(FormatRefused::Device),
+    }
+}

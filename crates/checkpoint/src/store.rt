@@ -1,0 +1,156 @@
+//! The store.
+ghost use Rattle.std.specs.Prelude.{◌≡◌, ◌≢◌, ◌⊎◌, ◌≤◌, ◌<◌, ◌+◌, ◌*◌, ◌^◌, ◌↔◌, ◌++◌, [], ◌∷◌, ℕ, List, length, IsTrue, IfOk, IfErr, OnOk, OnErr, IsErrOf, IsErr, IsSome, Some, false, true, map};
+ghost use Rattle.std.proofs.Props.{props};
+ghost use Rattle.disk_trait.specs.Disk.{IsSameDevice, MayLeave, LeavesOnly, OnlyRead};
+ghost use Rattle.graph_edits.specs.Changes.{fold};
+ghost use Rattle.journal.specs.Layout.{most_entries};
+ghost use Rattle.checkpoint.specs.Layout.{worn_limit, device_len, slot_start};
+ghost use Rattle.checkpoint.specs.State.{State, after};
+ghost use Rattle.checkpoint.specs.Standing.{StandsFor, StandsForNone};
+ghost use Rattle.checkpoint.specs.Refusals.{IsFormatFault};
+ghost use Rattle.checkpoint.specs.Kept.{IsKept};
+
+use crate::layout::WORN_LIMIT;
+use crate::opening::load;
+use crate::refusals::{CommitRefused, OpenRefused};
+use disk_trait::Disk;
+use graph_edits::Graph;
+use journal::{AppendRefused, Entry, Journal};
+use std::alloc::Global;
+use std::snapshot::Snapshot;
+
+/// A network and a count on a disk, through crashes.
+#[derive(Drop)]
+pub struct Store<D: Disk> {
+    disk: D,
+    journal: Journal,
+    slot: usize,
+    epoch: u64,
+    // The other slot's gate byte, as it stands on the device.
+    other_gate: u8,
+    // The checkpoint in use, for contracts alone.
+    base_count: Snapshot<u64>,
+    base: Snapshot<Graph>,
+    count: u64,
+    graph: Graph,
+    down: bool,
+    ghost fits: { count ≤ 9223372036854775807 },
+    ghost two_slots: { slot < 2 },
+    ghost at: { journal.area.start ≡ 4096 + 1183744 * slot + 135168 },
+    ghost room: { journal.area.room ≡ 1048576 },
+    ghost long: { length (D.view disk).content ≡ 2371584 },
+    ghost kept: { IsTrue (D.view disk).keeps_model → down ≡ false → IsKept (D.view disk) slot epoch other_gate (record { count = base_count.value; graph = base.value }) (record { count = count; graph = graph }) journal.groups } by { Prim.hlevel props },
+}
+
+impl<D: Disk> Store<D> {
+    ghost use Rattle.checkpoint.specs.StoreWords.{state_of, nodes_of, disk_of, view_of, is_down, IsRolled, IsWornOut};
+
+    /// The store that a device holds. It syncs, and writes nothing; with a refusal the device comes back.
+    pub fn open(alloc: Global, disk: D) -> Result<Store<D>, (OpenRefused, D)>
+        ensures ok { IsTrue (D.view disk).keeps_model → IfOk result (λ store. StandsFor (state_of store) (D.view disk).content) }
+        ensures up { IfOk result (λ store. is_down store ≡ false) }
+        ensures reads { IsTrue (D.view disk).keeps_model → IfOk result (λ store. OnlyRead (D.view disk) (view_of store)) }
+        ensures ran { IfOk result (λ store. IsSameDevice (D.view disk) (view_of store)) }
+        ensures refused { IsTrue (D.view disk).keeps_model → IfErr result (λ e. IsFormatFault e.0 → StandsForNone (D.view disk).content) }
+        ensures device { IfErr result (λ e. e.0 ≡ OpenRefused.Device → (D.view disk).failures < (D.view e.1).failures) }
+        ensures reads_err { IsTrue (D.view disk).keeps_model → IfErr result (λ e. OnlyRead (D.view disk) (D.view e.1)) }
+        ensures ran_err { IfErr result (λ e. IsSameDevice (D.view disk) (D.view e.1)) }
+    {
+        let mut disk = disk;
+        match load(alloc, &mut disk) {
+            Err(refused) => Err((refused, disk)),
+            Ok(loaded) => Ok(Store {
+                disk,
+                journal: loaded.journal,
+                slot: loaded.slot,
+                epoch: loaded.epoch,
+                other_gate: loaded.other_gate,
+                base_count: Snapshot::of(&loaded.base_count),
+                base: loaded.base,
+                count: loaded.count,
+                graph: loaded.graph,
+                down: false,
+            }),
+        }
+    }
+
+    /// How many changes were accepted.
+    pub fn count(&self) -> u64
+        ensures same { result ≡ (state_of self.now).count }
+        ensures fits { result ≤ worn_limit }
+    {
+        self.count
+    }
+
+    /// The network that they made.
+    pub fn graph(&self) -> &Graph
+        ensures { result.now ≡ (state_of self.now).graph }
+    {
+        &self.graph
+    }
+
+    /// The number of its nodes.
+    pub fn nodes(&self) -> u16
+        ensures { result ≡ nodes_of self.now }
+    {
+        self.graph.nodes()
+    }
+
+    /// Whether the device has failed, so that the store takes no more.
+    pub fn is_down(&self) -> bool
+        ensures { result ≡ is_down self.now }
+    {
+        self.down
+    }
+
+    pub fn into_disk(self) -> D
+        ensures { result ≡ disk_of self }
+    {
+        self.disk
+    }
+
+    /// Adds changes: all of them, or none. They count from `Ok` on.
+    pub fn commit(&mut self, alloc: Global, changes: &[Entry]) -> Result<(), CommitRefused>
+        requires some { 1 ≤ length changes.now }
+        requires few { length changes.now ≤ most_entries }
+        requires accepted { IsSome (fold (state_of self.old).graph changes.now) }
+        ensures ok { OnOk result (after (state_of self.old) changes.now ≡ Some (state_of self.new)) }
+        ensures err { OnErr result (state_of self.new ≡ state_of self.old) }
+        ensures nodes { nodes_of self.new ≡ nodes_of self.old }
+        ensures down { IsErrOf result CommitRefused.Down ↔ (is_down self.old ≡ true) }
+        ensures worn { IsErrOf result CommitRefused.Worn ↔ ((is_down self.old ≡ false) × (worn_limit < (state_of self.old).count + length changes.now)) }
+        ensures needs_roll { IsErrOf result CommitRefused.NeedsRoll → ¬ (IsRolled self.old) }
+        ensures device { IsErrOf result CommitRefused.Device → (view_of self.old).failures < (view_of self.new).failures }
+        ensures lost { IsErrOf result CommitRefused.Device → is_down self.new ≡ true }
+        ensures stays_up { is_down self.old ≡ false → ¬ (IsErrOf result CommitRefused.Device) → is_down self.new ≡ false }
+        ensures worn_out { IsWornOut self.new ↔ IsWornOut self.old }
+        ensures ran { IsSameDevice (view_of self.old) (view_of self.new) }
+        ensures untouched { IsErr result → ¬ (IsErrOf result CommitRefused.Device) → disk_of self.new ≡ disk_of self.old }
+        ensures any_moment { IsTrue (view_of self.old).keeps_model → is_down self.old ≡ false → (next : State) → after (state_of self.old) changes.now ≡ Some next
+            → LeavesOnly (view_of self.old) (view_of self.new) (λ image. StandsFor (state_of self.old) image ⊎ StandsFor next image) }
+    {
+        if self.down {
+            return Err(CommitRefused::Down);
+        }
+        if WORN_LIMIT - self.count < changes.len() as u64 {
+            return Err(CommitRefused::Worn);
+        }
+        if !self.journal.has_room(changes) {
+            return Err(CommitRefused::NeedsRoll);
+        }
+        let prepared = self.graph.prepare(alloc, changes)?;
+        match self.journal.append(alloc, &mut self.disk, changes) {
+            Err(AppendRefused::NoRoom) => Err(CommitRefused::NeedsRoll),
+            Err(AppendRefused::Memory) => Err(CommitRefused::Memory),
+            Err(AppendRefused::Device) => {
+                self.down = true;
+                Err(CommitRefused::Device)
+            }
+            Ok(()) => {
+                self.count += changes.len() as u64;
+                self.graph.install(prepared);
+                Ok(())
+            }
+        }
+    }
+}
