@@ -12,3 +12,6 @@ pub mod EdgeLemmas
 pub mod BaseLemmas
 pub mod OpenLemmas
 pub mod FormatLemmas
+pub mod LawfulEdits
+pub mod EdgeRows
+pub mod Rolls

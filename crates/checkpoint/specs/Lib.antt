@@ -6,3 +6,4 @@ pub mod Ascending
 pub mod Slots
 pub mod Refusals
 pub mod StoreWords
+pub mod Rolling

@@ -1,5 +1,5 @@
 -- A store, as the crates above see it.
-use Rattle.std.specs.Prelude.{◌≡◌, ℕ, List, [], Bool, false, IsTrue}
+use Rattle.std.specs.Prelude.{◌≡◌, ◌≤◌, ℕ, List, [], Bool, false, IsTrue}
 use Rattle.disk_trait.specs.Disk.{DiskView, MayLeave}
 use Rattle.graph_edits.specs.Edges.{Network}
 use Rattle.checkpoint.specs.declared.store.Store.{Store}
@@ -33,7 +33,7 @@ IsRolled store = store.journal.groups ≡ []
 
 -- its epoch stands at the worn limit, so it can't roll
 abbrev pub IsWornOut : {D : Type 0} {V : _} → Store D V → Type 0
-IsWornOut store = store.epoch ≡ worn_limit
+IsWornOut store = worn_limit ≤ store.epoch
 
 -- each image that a crash of a store that is up may leave stands for its state
 pub stands_now : {D : Type 0} {V : _} → (store : Store D V) → IsTrue (view_of store).keeps_model → is_down store ≡ false → (image : List ℕ) → MayLeave (view_of store) image → StandsFor (state_of store) image

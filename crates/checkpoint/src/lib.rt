@@ -30,6 +30,7 @@ mod layout;
 mod opening;
 mod reading;
 mod refusals;
+mod roll;
 mod slots;
 mod store;
 

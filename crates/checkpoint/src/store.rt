@@ -22,18 +22,18 @@ use std::snapshot::Snapshot;
 /// A network and a count on a disk, through crashes.
 #[derive(Drop)]
 pub struct Store<D: Disk> {
-    disk: D,
-    journal: Journal,
-    slot: usize,
-    epoch: u64,
+    pub(crate) disk: D,
+    pub(crate) journal: Journal,
+    pub(crate) slot: usize,
+    pub(crate) epoch: u64,
     // The other slot's gate byte, as it stands on the device.
-    other_gate: u8,
+    pub(crate) other_gate: u8,
     // The checkpoint in use, for contracts alone.
-    base_count: Snapshot<u64>,
-    base: Snapshot<Graph>,
-    count: u64,
-    graph: Graph,
-    down: bool,
+    pub(crate) base_count: Snapshot<u64>,
+    pub(crate) base: Snapshot<Graph>,
+    pub(crate) count: u64,
+    pub(crate) graph: Graph,
+    pub(crate) down: bool,
     ghost fits: { count ≤ 9223372036854775807 },
     ghost two_slots: { slot < 2 },
     ghost at: { journal.area.start ≡ 4096 + 1183744 * slot + 135168 },

@@ -1,0 +1,55 @@
+use Rattle.std.proofs.Common.{arith, ◌≡◌, ◌+◌, ◌≤◌, sym, ◌∙◌, IsTrue, List, ℕ, false, subst, refl}
+use Rattle.disk_trait.specs.Disk.{DiskView, LeavesOnly, started, MayLeave}
+use Rattle.checkpoint.specs.Layout.{worn_limit}
+use Rattle.checkpoint.specs.State.{State}
+use Rattle.checkpoint.specs.Standing.{StandsFor}
+use Rattle.checkpoint.specs.StoreWords.{state_of, view_of, stands_now}
+use Rattle.checkpoint.proofs.ReadLemmas.{still}
+use Rattle.checkpoint.proofs.Rolls.{stands_closing, stands_publishing, kept_rolled}
+use Rattle.checkpoint.proofs.store.Store.roll.Goals as goal
+
+pub returns-then-self-ge-WORN_LIMIT-clause-any_moment : goal.returns-then-self-ge-WORN_LIMIT-clause-any_moment
+returns-then-self-ge-WORN_LIMIT-clause-any_moment g c model up = started (view_of c.args.self.now) (StandsFor (state_of c.args.self.now)) (stands_now c.args.self.now model up)
+
+pub returns-in-Err-clause-any_moment : goal.returns-in-Err-clause-any_moment
+returns-in-Err-clause-any_moment g c model up = started (view_of c.args.self.now) (StandsFor (state_of c.args.self.now)) (stands_now c.args.self.now model up)
+
+pub returns-in-Err-close_open-clause-any_moment : goal.returns-in-Err-close_open-clause-any_moment
+returns-in-Err-close_open-clause-any_moment g c model up =
+    let s = c.args.self.now in
+    let base : State = record { count = s.base_count.value; graph = s.base.value } in
+    stands_closing (view_of s) (g.D.Disk.view c.close_open.new.disk) s.slot s.epoch s.other_gate base (state_of s) s.journal.groups s.two_slots (s.kept model up) s.fits (c.close_open.ensures.any_moment model)
+
+pub returns-in-Err-publish-clause-any_moment : goal.returns-in-Err-publish-clause-any_moment
+returns-in-Err-publish-clause-any_moment g c model up =
+    let s = c.args.self.now in
+    let base : State = record { count = s.base_count.value; graph = s.base.value } in
+    let v0 = view_of s in
+    let v1 = g.D.Disk.view c.close_open.new.disk in
+    stands_publishing v0 v1 s.slot s.epoch s.other_gate base (state_of s) s.journal.groups s.two_slots (s.kept model up) s.fits (c.close_open.ensures.any_moment model)
+    c.deref.result.now (λ lawful. c.deref.ensures.value ∙ c.in-Ok.ensures.text lawful) (omega (arith, c.if-self-ge-WORN_LIMIT.false)) (c.in-Ok-close_open.ensures.ok model)
+    (g.D.Disk.view c.publish.new.disk) (c.publish.ensures.any_moment (still v0 v1 c.close_open.ensures.ran model))
+
+pub returns-clause-any_moment : goal.returns-clause-any_moment
+returns-clause-any_moment g c model up =
+    let s = c.args.self.now in
+    let base : State = record { count = s.base_count.value; graph = s.base.value } in
+    let v0 = view_of s in
+    let v1 = g.D.Disk.view c.close_open.new.disk in
+    stands_publishing v0 v1 s.slot s.epoch s.other_gate base (state_of s) s.journal.groups s.two_slots (s.kept model up) s.fits (c.close_open.ensures.any_moment model)
+    c.deref.result.now (λ lawful. c.deref.ensures.value ∙ c.in-Ok.ensures.text lawful) (omega (arith, c.if-self-ge-WORN_LIMIT.false)) (c.in-Ok-close_open.ensures.ok model)
+    (g.D.Disk.view c.publish.new.disk) (c.publish.ensures.any_moment (still v0 v1 c.close_open.ensures.ran model))
+
+pub invariant_of-self-2-clause-kept : goal.invariant_of-self-2-clause-kept
+invariant_of-self-2-clause-kept g c model_new up =
+    let s = c.args.self.now in
+    let base : State = record { count = s.base_count.value; graph = s.base.value } in
+    let v0 = view_of s in
+    let v1 = g.D.Disk.view c.close_open.new.disk in
+    let v2 = g.D.Disk.view c.publish.new.disk in
+    let model1 : IsTrue v1.keeps_model = subst IsTrue c.publish.ensures.ran.model model_new in
+    let model : IsTrue v0.keeps_model = subst IsTrue c.close_open.ensures.ran.model model1 in
+    let kept = kept_rolled v0 v1 s.slot s.epoch s.other_gate base (state_of s) s.journal.groups s.two_slots (s.kept model c.if-self.false) s.fits (c.close_open.ensures.any_moment model)
+    c.deref.result.now (λ lawful. c.deref.ensures.value ∙ c.in-Ok.ensures.text lawful) (omega (arith, c.if-self-ge-WORN_LIMIT.false)) (c.in-Ok-close_open.ensures.ok model)
+    v2 (c.in-Ok-publish.ensures.ok model1) in
+    rw (c.of.ensures, c.of-2.ensures, c.fresh-self.ensures) kept
