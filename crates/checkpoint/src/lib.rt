@@ -13,6 +13,8 @@
 //! - [`Store::commit`] adds a group of changes: at any moment of the call a crash leaves an image that stands for the old state or for
 //!   the new one with the whole group, and after Ok for the new one alone (the law `stands_now` of specs/StoreWords.antt). Every refusal
 //!   but Device leaves the device as it was. After Device the store is down until it is opened again.
+//! - [`Store::roll`] makes the state the checkpoint of the slot that isn't in use, so that the journal is empty and no commit is refused
+//!   as NeedsRoll: at any moment of the call a crash leaves an image that stands for the same state, whatever the answer.
 //!
 //! ```text
 //! format(&mut disk, 5)?;

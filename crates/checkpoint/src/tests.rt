@@ -12,6 +12,8 @@ use std::alloc::{AllocError, Global};
 use std::process::Abort;
 use std::test::*;
 
+mod rolls;
+
 const WORDS: [u64; 5] = [0, 1, 7, 256, 257];
 
 fn formatted(alloc: Global, nodes: u16) -> Result<MemDisk, Fail> {

@@ -1,0 +1,38 @@
+-- A desk, as the crates above see it.
+use Rattle.std.specs.Prelude.{◌≡◌, ◌≤◌, List, [], length, Option, true}
+use Rattle.checkpoint.specs.declared.store.Store.{Store}
+use Rattle.checkpoint.specs.StoreWords.{state_of, is_down}
+use Rattle.group_commit.specs.Limits.{most_held}
+use Rattle.group_commit.specs.declared.desk.Desk.{Desk}
+use Rattle.group_commit.specs.declared.request.Request.{Request}
+use Rattle.group_commit.specs.declared.posting.Posting.{Posting}
+use Rattle.group_commit.specs.Postings.{AreMarksDue, IsDownDue}
+use Rattle.group_commit.specs.Settling.{Settled, settle}
+
+-- its store
+abbrev pub store_of : {D : Type 0} {V : _} → Desk D V → Store D V
+store_of desk = desk.store
+
+-- the requests that it holds, in order
+abbrev pub held_of : {D : Type 0} {V : _} → Desk D V → List Request
+held_of desk = desk.held.items
+
+-- what it has to tell
+abbrev pub due_of : {D : Type 0} {V : _} → Desk D V → Option Posting
+due_of desk = desk.due
+
+-- what becomes of the requests that it holds, from where its store stands
+abbrev pub settled_of : {D : Type 0} {V : _} → Desk D V → Settled
+settled_of desk = settle (state_of desk.store) desk.held.items
+
+-- it holds no more than there is room for
+pub few_held : {D : Type 0} {V : _} → (desk : Desk D V) → length (held_of desk) ≤ most_held
+few_held desk = desk.few
+
+-- while marks are due, nothing is held
+pub none_held : {D : Type 0} {V : _} → (desk : Desk D V) → AreMarksDue (due_of desk) → held_of desk ≡ []
+none_held desk due = desk.told_first due
+
+-- where Down is due, the store is down
+pub is_lost : {D : Type 0} {V : _} → (desk : Desk D V) → IsDownDue (due_of desk) → is_down (store_of desk) ≡ true
+is_lost desk due = desk.lost due

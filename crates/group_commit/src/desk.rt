@@ -1,0 +1,149 @@
+//! The desk: requests are held, settled in order, and committed as one group.
+ghost use Rattle.std.specs.Prelude.{◌≡◌, ◌≢◌, ◌⊎◌, ◌≤◌, ◌<◌, ◌↔◌, ◌++◌, [], ◌∷◌, length, option_copied, IsTrue, IfOk, OnOk, OnErr, IsErrOf, IsErr, None, false, true};
+ghost use Rattle.disk_trait.specs.Disk.{IsSameDevice, LeavesOnly};
+ghost use Rattle.checkpoint.specs.Layout.{worn_limit};
+ghost use Rattle.checkpoint.specs.Standing.{StandsFor};
+ghost use Rattle.checkpoint.specs.StoreWords.{state_of, nodes_of, view_of, is_down, IsWornOut};
+ghost use Rattle.group_commit.specs.Limits.{most_held};
+ghost use Rattle.group_commit.specs.Postings.{MarksAreDue, AreMarksDue, IsDownDue};
+
+use crate::posting::Posting;
+use crate::refused::DeskRefused;
+use crate::request::{MOST_HELD, Request};
+use crate::rolling::commit_rolling;
+use crate::settling::settle_all;
+use arrayvec::ArrayVec;
+use checkpoint::Store;
+use disk_trait::Disk;
+use std::alloc::Global;
+
+/// The one owner of a store. It holds up to [`MOST_HELD`] requests, and has at most one posting to tell.
+#[derive(Drop)]
+pub struct Desk<D: Disk> {
+    store: Store<D>,
+    held: ArrayVec<Request, MOST_HELD>,
+    due: Option<Posting>,
+    ghost few: { length held.items ≤ most_held },
+    // The marks of a group are told before another is held.
+    ghost told_first: { AreMarksDue due → held.items ≡ [] },
+    ghost lost: { IsDownDue due → is_down store ≡ true },
+}
+
+impl<D: Disk> Desk<D> {
+    ghost use Rattle.group_commit.specs.DeskWords.{store_of, held_of, due_of, settled_of};
+
+    /// A desk that holds nothing and has nothing to tell. No call of the store has met a failure of its device.
+    pub fn new(store: Store<D>) -> Desk<D>
+        requires { is_down store ≡ false }
+        ensures store { store_of result ≡ store }
+        ensures held { held_of result ≡ [] }
+        ensures due { due_of result ≡ None }
+    {
+        Desk {
+            store,
+            held: ArrayVec::new(),
+            due: None,
+        }
+    }
+
+    /// Takes a request in, behind those that are held.
+    pub fn give(&mut self, request: Request)
+        requires room { length (held_of self.old) < MOST_HELD }
+        requires told { due_of self.old ≡ None }
+        ensures held { held_of self.new ≡ held_of self.old ++ request ∷ [] }
+        ensures store { store_of self.new ≡ store_of self.old }
+        ensures due { due_of self.new ≡ None }
+    {
+        self.held.push(request);
+    }
+
+    /// How many requests are held.
+    pub fn held(&self) -> usize
+        ensures same { result ≡ length (held_of self.now) }
+        ensures few { result ≤ MOST_HELD }
+    {
+        self.held.len()
+    }
+
+    /// Settles the held requests in order, commits the changes that are accepted as one record, and has their marks to tell. A roll
+    /// goes before it where the journal has no room. The answer is how many are accepted; where none is, nothing is written.
+    pub fn commit(&mut self, alloc: Global) -> Result<usize, DeskRefused>
+        requires { held_of self.old ≢ [] }
+        ensures ok { OnOk result (state_of (store_of self.new) ≡ (settled_of self.old).state) }
+        ensures number { IfOk result (λ accepted. accepted ≡ length (settled_of self.old).accepted) }
+        ensures marks { OnOk result (MarksAreDue (due_of self.new) (settled_of self.old).marks) }
+        ensures none_held { OnOk result (held_of self.new ≡ []) }
+        // Nothing is written where nothing is accepted.
+        ensures idle { (settled_of self.old).accepted ≡ [] → store_of self.new ≡ store_of self.old }
+        ensures err { OnErr result (state_of (store_of self.new) ≡ state_of (store_of self.old)) }
+        ensures still_held { OnErr result (held_of self.new ≡ held_of self.old) }
+        ensures untold { IsErr result → ¬ (IsErrOf result DeskRefused.Device) → due_of self.new ≡ due_of self.old }
+        ensures nodes { nodes_of (store_of self.new) ≡ nodes_of (store_of self.old) }
+        ensures device { IsErrOf result DeskRefused.Device → (view_of (store_of self.old)).failures < (view_of (store_of self.new)).failures }
+        ensures lost { IsErrOf result DeskRefused.Device → is_down (store_of self.new) ≡ true }
+        ensures down_due { IsErrOf result DeskRefused.Device → IsDownDue (due_of self.new) }
+        ensures down { IsErrOf result DeskRefused.Down ↔ (is_down (store_of self.old) ≡ true) }
+        ensures down_leaves { IsErrOf result DeskRefused.Down → store_of self.new ≡ store_of self.old }
+        ensures worn { IsErrOf result DeskRefused.Worn → (worn_limit < (settled_of self.old).state.count) ⊎ IsWornOut (store_of self.old) }
+        ensures stays_up { is_down (store_of self.old) ≡ false → ¬ (IsErrOf result DeskRefused.Device) → is_down (store_of self.new) ≡ false }
+        ensures ran { IsSameDevice (view_of (store_of self.old)) (view_of (store_of self.new)) }
+        // A crash at any moment of the call leaves the old state, or the new one with the whole group.
+        ensures any_moment { IsTrue (view_of (store_of self.old)).keeps_model → is_down (store_of self.old) ≡ false
+            → LeavesOnly (view_of (store_of self.old)) (view_of (store_of self.new)) (λ image. StandsFor (state_of (store_of self.old)) image ⊎ StandsFor (settled_of self.old).state image) }
+        // Where the group stays held, it leaves the old state alone.
+        ensures refused { IsErr result → ¬ (IsErrOf result DeskRefused.Device) → IsTrue (view_of (store_of self.old)).keeps_model → is_down (store_of self.old) ≡ false
+            → LeavesOnly (view_of (store_of self.old)) (view_of (store_of self.new)) (StandsFor (state_of (store_of self.old))) }
+    {
+        if self.store.is_down() {
+            return Err(DeskRefused::Down);
+        }
+        let settled = settle_all(alloc, &self.store, self.held.as_slice())?;
+        let accepted = settled.accepted.len();
+        match commit_rolling(alloc, &mut self.store, &settled.accepted) {
+            Ok(()) => {
+                self.held.clear();
+                self.due = Some(Posting::Marks(settled.marks));
+                Ok(accepted)
+            }
+            Err(DeskRefused::Device) => {
+                self.due = Some(Posting::Down);
+                Err(DeskRefused::Device)
+            }
+            Err(DeskRefused::Memory) => Err(DeskRefused::Memory),
+            Err(DeskRefused::Worn) => Err(DeskRefused::Worn),
+            Err(DeskRefused::Down) => unreachable!(),
+        }
+    }
+
+    /// What is to be told, until [`Desk::paid`].
+    pub fn due(&self) -> Option<&Posting>
+        ensures lends { option_copied result ≡ due_of self.now }
+        ensures told_first { AreMarksDue (due_of self.now) → held_of self.now ≡ [] }
+        ensures lost { IsDownDue (due_of self.now) → is_down (store_of self.now) ≡ true }
+    {
+        self.due.as_ref()
+    }
+
+    /// What was due is told.
+    pub fn paid(&mut self)
+        ensures due { due_of self.new ≡ None }
+        ensures store { store_of self.new ≡ store_of self.old }
+        ensures held { held_of self.new ≡ held_of self.old }
+    {
+        self.due = None;
+    }
+
+    /// The store.
+    pub fn store(&self) -> &Store<D>
+        ensures { result.now ≡ store_of self.now }
+    {
+        &self.store
+    }
+
+    /// The store, without what is held and due.
+    pub fn into_store(self) -> Store<D>
+        ensures { result ≡ store_of self }
+    {
+        self.store
+    }
+}
