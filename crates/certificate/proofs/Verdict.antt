@@ -1,0 +1,139 @@
+-- From the answers of the checks, in their order, to the verdict.
+use Rattle.std.proofs.Common.{◌≡◌, ◌+◌, ◌<◌, ◌≤◌, ◌==◌, ℕ, Bool, true, false, cond, sym, refl, ap, subst, ◌∙◌, arith, nat_lt}
+use Rattle.std.specs.Prelude.{Result, Ok, Err, ◌↔◌, IsTrue}
+use Rattle.std.proofs.lemmas.Bool.Decides.{nat_tests}
+use Rattle.node_table.specs.declared.parts.Parts.{Parts}
+use Rattle.graph_edits.specs.Edges.{Network, IsSound}
+use Rattle.node_table.specs.Checks.{Fault as Rule, k1, k2, k3, k4, k5, k6, k7, k8, Holds, number_of, IsChecked, IsFirstFault}
+use Rattle.node_table.specs.Tables.{tables}
+use Rattle.node_table.specs.Service.{Serves}
+use Rattle.node_table.proofs.Law.{checked_serves}
+use Rattle.certificate.specs.declared.fault.Fault.{Fault}
+use Rattle.certificate.specs.declared.fault.Fault.TheVariants.{Shape, Edges, Parents, Strict, Nearest, Records, Labels, Directories}
+use Rattle.certificate.specs.Faults.{rule_of, IsExact}
+use Rattle.certificate.specs.Climbs.{HoldsFirst}
+
+-- ---- rules by their numbers
+
+rule_at : ℕ → Rule
+rule_at n = cond (n == 1) k1 (cond (n == 2) k2 (cond (n == 3) k3 (cond (n == 4) k4 (cond (n == 5) k5 (cond (n == 6) k6 (cond (n == 7) k7 k8))))))
+
+rule_back : (j : Rule) → rule_at (number_of j) ≡ j
+unfolding rule_at
+rule_back k1 = refl
+rule_back k2 = refl
+rule_back k3 = refl
+rule_back k4 = refl
+rule_back k5 = refl
+rule_back k6 = refl
+rule_back k7 = refl
+rule_back k8 = refl
+
+one_rule : (j k : Rule) → number_of j ≡ number_of k → j ≡ k
+one_rule j k e = sym (rule_back j) ∙ ap rule_at e ∙ rule_back k
+
+most : (j : Rule) → number_of j ≤ 8
+most k1 = omega arith
+most k2 = omega arith
+most k3 = omega arith
+most k4 = omega arith
+most k5 = omega arith
+most k6 = omega arith
+most k7 = omega arith
+most k8 = omega arith
+
+least : (j : Rule) → 0 < number_of j
+least k1 = omega arith
+least k2 = omega arith
+least k3 = omega arith
+least k4 = omega arith
+least k5 = omega arith
+least k6 = omega arith
+least k7 = omega arith
+least k8 = omega arith
+
+fault_of : Rule → Fault
+fault_of k1 = Shape
+fault_of k2 = Edges
+fault_of k3 = Parents
+fault_of k4 = Strict
+fault_of k5 = Nearest
+fault_of k6 = Records
+fault_of k7 = Labels
+fault_of k8 = Directories
+
+fault_back : (f : Fault) → fault_of (rule_of f) ≡ f
+unfolding fault_of
+fault_back Shape = refl
+fault_back Edges = refl
+fault_back Parents = refl
+fault_back Strict = refl
+fault_back Nearest = refl
+fault_back Records = refl
+fault_back Labels = refl
+fault_back Directories = refl
+
+-- ---- the rules up to a number
+
+abbrev pub HoldsTo : Network → Parts → ℕ → Type 0
+HoldsTo m p n = (j : Rule) → number_of j ≤ n → Holds m p j
+
+pub to_none : (m : Network) (p : Parts) → HoldsTo m p 0
+to_none m p j l = (let g = least j in absurd (omega (arith, l, g)))
+
+pub to_next : (m : Network) (p : Parts) (n : ℕ) (k : Rule) → number_of k ≡ n + 1 → HoldsTo m p n → Holds m p k → HoldsTo m p (n + 1)
+to_next m p n k e h at j l = go (nat_lt (number_of j) (n + 1)) refl
+  where
+    go : (b : Bool) → nat_lt (number_of j) (n + 1) ≡ b → Holds m p j
+    go true t = h j (let l2 : number_of j < n + 1 = grind (arith, nat_tests) in omega (arith, l2))
+    go false t =
+        let l2 : n + 1 ≤ number_of j = grind (arith, nat_tests) in
+        subst (Holds m p) (sym (one_rule j k (omega (arith, l, l2, e)))) at
+
+pub first_five : (m : Network) → IsSound m → (p : Parts) → HoldsTo m p 5 → HoldsFirst m p
+unfolding HoldsFirst
+first_five m s p h = (s, h)
+
+pub all_eight : (m : Network) (p : Parts) → HoldsTo m p 8 → IsChecked m p
+all_eight m p h j = h j (most j)
+
+pub first_fault : (m : Network) (p : Parts) (n : ℕ) (k : Rule) → number_of k ≡ n + 1 → HoldsTo m p n → (Holds m p k → ⊥) → IsFirstFault m p k
+first_fault m p n k e h not = (not, λ j l. h j (omega (arith, l, e)))
+
+-- a test that failed
+pub failed : {P : Type 0} (b : Bool) → IsTrue b ↔ P → b ≡ false → P → ⊥
+failed b h e p = both (h.1 p) e
+  where
+    both : b ≡ true → b ≡ false → ⊥
+    both u v = cc
+
+-- ---- exactness
+
+one_fault : (m : Network) (p : Parts) (f g : Fault) → IsFirstFault m p (rule_of f) → IsFirstFault m p (rule_of g) → f ≡ g
+one_fault m p f g a b = sym (fault_back f) ∙ ap fault_of (one_rule (rule_of f) (rule_of g) (same (nat_lt (number_of (rule_of f)) (number_of (rule_of g))) refl (nat_lt (number_of (rule_of g)) (number_of (rule_of f))) refl)) ∙ fault_back g
+  where
+    same : (x : Bool) → nat_lt (number_of (rule_of f)) (number_of (rule_of g)) ≡ x → (y : Bool) → nat_lt (number_of (rule_of g)) (number_of (rule_of f)) ≡ y → number_of (rule_of f) ≡ number_of (rule_of g)
+    same true s y t = absurd (a.0 (b.1 (rule_of f) (grind (arith, nat_tests))))
+    same false s true t = absurd (b.0 (a.1 (rule_of g) (grind (arith, nat_tests))))
+    same false s false t = grind (arith, nat_tests)
+
+err_ok : {f : Fault} {u : Unit {0}} → (let a : Result (Unit {0}) Fault = Err f in a ≡ Ok u) → ⊥
+err_ok e = cc
+
+inner : {f g : Fault} → (let a : Result (Unit {0}) Fault = Err f in a ≡ Err g) → f ≡ g
+inner e = cc
+
+pub exact_fault : (m : Network) (p : Parts) (f : Fault) → IsFirstFault m p (rule_of f) → IsExact m p (Err f)
+exact_fault m p f a = record {
+  ok = (λ e. absurd (err_ok e), λ h. absurd (a.0 (h (rule_of f))));
+  fault = λ g. (λ e. subst (λ z. IsFirstFault m p (rule_of z)) (inner e) a, λ b. ap (λ z. Err z) (one_fault m p f g a b));
+}
+
+pub exact_ok : (m : Network) (p : Parts) → IsChecked m p → IsExact m p (Ok tt)
+exact_ok m p h = record {
+  ok = (λ e. h, λ h. refl);
+  fault = λ g. (λ e. absurd (err_ok (sym e)), λ b. absurd (b.0 (h (rule_of g))));
+}
+
+pub serves : (m : Network) → IsSound m → (p : Parts) → IsChecked m p → Serves m (tables p)
+serves m s p h = checked_serves m s p h

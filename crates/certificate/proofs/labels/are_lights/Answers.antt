@@ -1,0 +1,38 @@
+use Rattle.std.proofs.Common.{◌≡◌, [], true, false, sym, ◌∙◌, rules}
+use Rattle.std.specs.Prelude.{◌↔◌, IsTrue}
+use Rattle.node_table.specs.Tables.{tables}
+use Rattle.certificate.specs.Climbs.{HasLights}
+use Rattle.certificate.proofs.ClimbLemmas.{distances_first, climb_falls, climb_on, climb_off, climb_done, empty_test, lights_of_tree}
+use Rattle.certificate.proofs.labels.are_lights.Goals as goal
+
+bad : {X : Type 0} → false ≡ true → X
+bad e = absurd (let f : false ≡ true = e in cc)
+
+pub returns-in-None : goal.returns-in-None
+unfolding HasLights
+returns-in-None c =
+    let d = distances_first c.args.graph.now c.args.scheme.now c.requires in (
+      λ t. bad t,
+      λ e. absurd (climb_off c.args.graph.now (tables c.args.scheme.now) d c.args.root c.loop-above.at c.in-Some.above _ _ c.args.lights.now c.loop-above.left.now _
+          c.in-Some.ensures c.light_depth.ensures c.light_depth-in-Some.ensures c.loop-above.invariant (c.in-None.ensures _)
+          (e ∙ sym (lights_of_tree c.args.graph.now c.args.scheme.now c.requires c.args.root c.args.v))),
+    )
+
+pub loop-above-smaller : goal.loop-above-smaller
+loop-above-smaller c = climb_falls c.args.graph.now (tables c.args.scheme.now) (distances_first c.args.graph.now c.args.scheme.now c.requires) c.args.root c.loop-above.at c.in-Some.above c.in-Some.ensures
+
+pub loop-above-preserved : goal.loop-above-preserved
+loop-above-preserved c =
+    let d = distances_first c.args.graph.now c.args.scheme.now c.requires in
+    climb_on c.args.graph.now (tables c.args.scheme.now) d c.args.root c.loop-above.at c.in-Some.above _ _ c.args.lights.now c.loop-above.left.now c.in-Some-climbed.rest.now _
+    c.in-Some.ensures c.light_depth.ensures c.light_depth-in-Some.ensures c.loop-above.invariant (c.in-Some-climbed.ensures _)
+
+pub returns : goal.returns
+unfolding HasLights
+returns c =
+    let d = distances_first c.args.graph.now c.args.scheme.now c.requires in
+    let k : IsTrue c.is_empty.result ↔ (c.loop-above.left.now ≡ []) = empty_test c.loop-above.left.now c.is_empty.result (search (rules, c.is_empty.ensures)) in
+    let h = climb_done c.args.graph.now (tables c.args.scheme.now) d c.args.root c.loop-above.at c.args.lights.now c.loop-above.left.now _ c.is_empty.result
+    c.in_default.ensures c.loop-above.invariant k in
+    let same = lights_of_tree c.args.graph.now c.args.scheme.now c.requires c.args.root c.args.v in
+    (λ t. h.0 t ∙ same, λ e. h.1 (e ∙ sym same))

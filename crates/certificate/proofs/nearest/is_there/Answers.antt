@@ -1,0 +1,8 @@
+use Rattle.std.proofs.Common.{◌≡◌, rules}
+use Rattle.certificate.proofs.Found.{found, and_more}
+use Rattle.certificate.specs.Entries.{IsThere}
+use Rattle.certificate.proofs.nearest.is_there.Goals as goal
+
+pub returns-in-Some : goal.returns-in-Some
+unfolding IsThere
+returns-in-Some c = and_more _ (cc (c.is_landmark.ensures)) (found _ _ (λ e. e.distance ≡ c.args.near.distance) _ c.in-Some.ensures (search rules))

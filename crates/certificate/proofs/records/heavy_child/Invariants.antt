@@ -1,0 +1,8 @@
+use Rattle.std.proofs.Common.{◌≡◌, drop, map}
+use Rattle.std.specs.Prelude.{None}
+use Rattle.certificate.specs.Rows.{widest_from}
+use Rattle.node_table.specs.Tables.{tables}
+use Rattle.certificate.proofs.records.heavy_child.Given as goal
+
+abbrev pub invariant-loop-edge : goal.invariant-loop-edge
+invariant-loop-edge l = widest_from (tables l.scheme) l.root l.x l.heavy (map (λ e. e.0) (drop l.edge-index l.row)) ≡ widest_from (tables l.scheme) l.root l.x None (map (λ e. e.0) l.row)

@@ -1,0 +1,33 @@
+-- What is said of the labels of one node, by climbing from the nodes that they name.
+use Rattle.std.specs.Prelude.{◌≡◌, ℕ, ◌≤◌, Some, IsSome, List}
+use Rattle.std.specs.List.{All}
+use Rattle.heavy_labels.specs.Label.{Label}
+use Rattle.node_table.specs.declared.parts.Parts.{Parts}
+use Rattle.node_table.specs.declared.parts.Listed.{Listed}
+use Rattle.distances.specs.declared.nearest.Near.{Near}
+use Rattle.graph_edits.specs.Edges.{Network, IsSound}
+use Rattle.node_table.specs.Tables.{Tables, tables, directory_at}
+use Rattle.node_table.specs.Checks.{Fault, Holds, number_of, distance_of, farthest}
+use Rattle.node_table.specs.Local.{lights_to, IsLocalLabel}
+
+-- the network is sound, and the first five rules hold
+unfoldable pub HoldsFirst : Network → Parts → Type 0
+HoldsFirst m p = IsSound m × ((k : Fault) → number_of k ≤ 5 → Holds m p k)
+
+-- the light ports on the way from the root of r's tree to x
+abbrev pub lights_up : Network → Tables → ℕ → ℕ → List ℕ
+lights_up m t r x = lights_to m t r (distance_of (t.entry x r)) x
+
+unfoldable pub HasLights : Network → Tables → ℕ → ℕ → List ℕ → Type 0
+HasLights m t r x ls = ls ≡ lights_to m t r (farthest t r m.nodes) x
+
+-- a label of u's directory is right, if its node has an entry for u
+unfoldable pub IsLabelRight : Network → Tables → ℕ → Listed → Type 0
+IsLabelRight m t u e = IsSome (t.entry e.node u) → IsLocalLabel m t u e.node e.label
+
+-- a home label is right, if there is a nearest landmark
+unfoldable pub IsHomeRight : Network → Parts → ℕ → Type 0
+IsHomeRight m p v = (q : Near) (l : Label) → (tables p).home v ≡ Some l → (tables p).nearest v ≡ Some q → IsLocalLabel m (tables p) q.landmark v l
+
+unfoldable pub HasLabelsAt : Network → Parts → ℕ → Type 0
+HasLabelsAt m p u = All (IsLabelRight m (tables p) u) (directory_at p u) × IsHomeRight m p u

@@ -1,0 +1,93 @@
+-- What each rule says of one entry of a node, and of one node.
+use Rattle.std.specs.Prelude.{◌≡◌, ◌≢◌, ℕ, ◌+◌, ◌<◌, ◌≤◌, ◌⊎◌, ◌↔◌, true, false, Some, None, IsSome, MatchOption, [], length}
+use Rattle.std.specs.List.{All}
+use Rattle.std.specs.List.Sorted.{IsStrictlyIncreasing}
+use Rattle.node_table.specs.declared.parts.Parts.{Parts}
+use Rattle.node_table.specs.declared.parts.Entry.{Entry}
+use Rattle.distances.specs.declared.nearest.Near.{Near}
+use Rattle.graph_edits.specs.Edges.{Network, weight_in, neighbours_of}
+use Rattle.node_table.specs.Ports.{neighbours}
+use Rattle.node_table.specs.Tables.{Tables, tables, entries_at, directory_at, ports_at, roots_of, nodes_of}
+
+-- each entry of each node
+abbrev pub EachEntry : Network → Parts → (ℕ → Entry → Type 0) → Type 0
+EachEntry m p P = (x : ℕ) → x < m.nodes → All (P x) (entries_at p x)
+
+-- ---- Shape
+
+-- every list of nodes has a place for each
+abbrev pub HasPlaces : ℕ → Parts → Type 0
+HasPlaces n p =
+    (p.nodes ≡ n) × ((length p.landmarks.items ≡ n) × ((length p.ports.items ≡ n) × ((length p.nearest.items ≡ n)
+    × ((length p.entries.items ≡ n) × ((length p.directories.items ≡ n) × (length p.homes.items ≡ n))))))
+
+-- the root is a node, and at any other node the parent is a neighbour with an entry for it
+unfoldable pub HasParentAt : Network → Tables → ℕ → Entry → Type 0
+HasParentAt m t x e = (y : ℕ) × ((e.parent ≡ Some y) × (IsSome (weight_in m x y) × IsSome (t.entry y e.root)))
+
+unfoldable pub IsEntryShaped : Network → Tables → ℕ → Entry → Type 0
+IsEntryShaped m t x e = (e.root < m.nodes) × (x ≢ e.root → HasParentAt m t x e)
+
+-- a node's entry for itself
+unfoldable pub HasOwn : Tables → ℕ → Type 0
+HasOwn t x = (e : Entry) × ((t.entry x x ≡ Some e) × ((e.distance ≡ 0) × (e.parent ≡ None)))
+
+unfoldable pub IsNodeShaped : Network → Parts → ℕ → Type 0
+IsNodeShaped m p x =
+    (ports_at p x ≡ neighbours m x) × (IsStrictlyIncreasing (roots_of (entries_at p x)) × (HasOwn (tables p) x × All (IsEntryShaped m (tables p) x) (entries_at p x)))
+
+-- ---- Edges
+
+-- over an edge to f.0 of weight f.1
+unfoldable pub IsClosedOver : Tables → Entry → ℕ × ℕ → Type 0
+IsClosedOver t e f =
+    ((g : Entry) × ((t.entry f.0 e.root ≡ Some g) × (g.distance ≤ e.distance + f.1)))
+    ⊎ ((t.entry f.0 e.root ≡ None) × ((t.landmark e.root ≡ false) × ((q : Near) × ((t.nearest f.0 ≡ Some q) × (q.distance ≤ e.distance + f.1)))))
+
+unfoldable pub IsClosedAt : Network → Tables → ℕ → Entry → Type 0
+IsClosedAt m t x e = All (IsClosedOver t e) (neighbours_of m x)
+
+-- ---- Parents
+
+-- the parent y gives the distance
+unfoldable pub IsTightBy : Network → Tables → ℕ → Entry → ℕ → Type 0
+IsTightBy m t x e y = (w : ℕ) × ((g : Entry) × ((weight_in m x y ≡ Some w) × ((t.entry y e.root ≡ Some g) × (e.distance ≡ g.distance + w))))
+
+-- the neighbour f.0 is not before y, or does not give the distance
+unfoldable pub IsNoEarlier : Tables → Entry → ℕ → ℕ × ℕ → Type 0
+IsNoEarlier t e y f = (g : Entry) → f.0 < y → t.entry f.0 e.root ≡ Some g → e.distance ≢ g.distance + f.1
+
+unfoldable pub IsTightAt : Network → Tables → ℕ → Entry → Type 0
+IsTightAt m t x e = (y : ℕ) → e.parent ≡ Some y → IsTightBy m t x e y × All (IsNoEarlier t e y) (neighbours_of m x)
+
+-- ---- Strict
+
+-- the entry's distance is below the nearest landmark's, if its root is no landmark
+abbrev pub IsStrictAt : Tables → ℕ → Entry → Type 0
+IsStrictAt t x e = (q : Near) → t.landmark e.root ≡ false → t.nearest x ≡ Some q → e.distance < q.distance
+
+-- ---- Nearest
+
+-- q is a landmark at its distance
+unfoldable pub IsThere : Tables → ℕ → Near → Type 0
+IsThere t x q = (t.landmark q.landmark ≡ true) × ((e : Entry) × ((t.entry x q.landmark ≡ Some e) × (e.distance ≡ q.distance)))
+
+-- q is no farther than the entry's root, if that is a landmark
+unfoldable pub IsNoNearer : Tables → Near → Entry → Type 0
+IsNoNearer t q e = t.landmark e.root ≡ true → (q.distance < e.distance) ⊎ ((q.distance ≡ e.distance) × (q.landmark ≤ e.root))
+
+unfoldable pub IsNearestAt : Parts → ℕ → Type 0
+IsNearestAt p x = MatchOption ((tables p).nearest x) (All (λ e. (tables p).landmark e.root ≡ false) (entries_at p x)) (λ q. IsThere (tables p) x q × All (IsNoNearer (tables p) q) (entries_at p x))
+
+-- ---- Directories
+
+-- a root that is no landmark lists the entry's node
+unfoldable pub IsListedBack : Tables → ℕ → Entry → Type 0
+IsListedBack t x e = t.landmark e.root ≡ false → IsSome (t.listed e.root x)
+
+-- no node is listed by a landmark, and none that has no entry
+unfoldable pub IsListedRight : Parts → ℕ → Type 0
+IsListedRight p u = ((tables p).landmark u ≡ true → directory_at p u ≡ []) × ((tables p).landmark u ≡ false → All (λ e. IsSome ((tables p).entry e.node u)) (directory_at p u))
+
+unfoldable pub HasDirectoryAt : Parts → ℕ → Type 0
+HasDirectoryAt p u = IsStrictlyIncreasing (nodes_of (directory_at p u)) × (IsListedRight p u × ((IsSome ((tables p).home u) ↔ IsSome ((tables p).nearest u)) × All (IsListedBack (tables p) u) (entries_at p u)))

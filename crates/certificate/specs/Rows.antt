@@ -1,0 +1,57 @@
+-- What is said of one entry's record: the numbers of its children, found among its node's neighbours.
+use Rattle.std.specs.Prelude.{ℕ, ◌+◌, ◌==◌, nat_lt, not, true, cond, Option, Some, None, List, [], ◌∷◌}
+use Rattle.heavy_labels.specs.Numbering.{Record}
+use Rattle.heavy_labels.specs.Stepped.{record_of}
+use Rattle.std.specs.List.{All}
+use Rattle.node_table.specs.declared.parts.Parts.{Parts}
+use Rattle.node_table.specs.declared.parts.Entry.{Entry}
+use Rattle.graph_edits.specs.Edges.{Network}
+use Rattle.node_table.specs.Ports.{neighbours, filtered}
+use Rattle.node_table.specs.Tables.{Tables, tables, entries_at}
+use Rattle.node_table.specs.Checks.{parent_is}
+use Rattle.node_table.specs.Local.{record_at, span, IsRow, IsHeavyOf, FitsRoot}
+
+-- the children of x in the tree of r among some nodes
+abbrev pub children_among : Tables → ℕ → ℕ → List ℕ → List ℕ
+children_among t r x ys = filtered (λ y. parent_is x (t.entry y r)) ys
+
+-- the wider of a child that was met before and y, the earlier one where they are as wide
+abbrev pub by_span : Tables → ℕ → Option ℕ → ℕ → Option ℕ
+by_span t r None y = Some y
+by_span t r (Some h) y = cond (nat_lt (span (record_at t r h)) (span (record_at t r y))) (Some y) (Some h)
+
+abbrev pub wider : Tables → ℕ → ℕ → Option ℕ → ℕ → Option ℕ
+wider t r x o y = cond (parent_is x (t.entry y r)) (by_span t r o y) o
+
+-- the widest child of x among some nodes and the one that was met before
+abbrev pub widest_from : Tables → ℕ → ℕ → Option ℕ → List ℕ → Option ℕ
+widest_from t r x o [] = o
+widest_from t r x o (y ∷ ys) = widest_from t r x (wider t r x o y) ys
+
+-- y in front of others, if it is a child of x and not h
+abbrev pub with_other : Tables → ℕ → ℕ → ℕ → ℕ → List ℕ → List ℕ
+with_other t r x h y ys = cond (parent_is x (t.entry y r)) (cond (not (y == h)) (y ∷ ys) ys) ys
+
+-- the children of x among some nodes but h
+abbrev pub others : Tables → ℕ → ℕ → ℕ → List ℕ → List ℕ
+others t r x h [] = []
+others t r x h (y ∷ ys) = with_other t r x h y (others t r x h ys)
+
+-- the heavy child of x and its others
+abbrev pub row_after : Network → Tables → ℕ → ℕ → Option ℕ → List ℕ
+row_after m t r x None = []
+row_after m t r x (Some h) = h ∷ others t r x h (neighbours m x)
+
+abbrev pub row_at : Network → Tables → ℕ → ℕ → List ℕ
+row_at m t r x = row_after m t r x (widest_from t r x None (neighbours m x))
+
+-- a record fits those of the children of its node
+unfoldable pub FitsRow : Network → Tables → ℕ → Record → List ℕ → Type 0
+FitsRow m t r k row = IsRow m t r true (k.first + 1) k.light_depth (k.last + 1) row × IsHeavyOf m t r k row
+
+unfoldable pub FitsAt : Network → Tables → ℕ → Entry → Type 0
+FitsAt m t x e = FitsRow m t e.root (record_of e.tree_record) (row_at m t e.root x)
+
+-- the record of x as a root, and the records of x in all trees
+unfoldable pub IsLocalAt : Network → Parts → ℕ → Type 0
+IsLocalAt m p x = FitsRoot (tables p) x × All (FitsAt m (tables p) x) (entries_at p x)

@@ -1,0 +1,94 @@
+// Directories: a node that is no landmark lists exactly the members of its tree, and homes go with nearest landmarks.
+ghost use Rattle.std.specs.Prelude.{◌≡◌, ◌<◌, ◌↔◌, ℕ, IsTrue, IsSome, is_some, slice_get};
+ghost use Rattle.std.specs.List.{All};
+ghost use Rattle.std.specs.List.Sorted.{IsStrictlyIncreasing};
+ghost use Rattle.certificate.specs.Entries.{HasDirectoryAt, IsListedBack, IsListedRight};
+ghost use Rattle.node_table.specs.Tables.{directory_at, entries_at, nodes_of, or_none, tables};
+ghost use Rattle.node_table.specs.Checks.{Holds, IsShaped, k8};
+
+use crate::reading::{directory, entries, is_landmark, nearest};
+use graph_edits::Graph;
+use heavy_labels::Label;
+use node_table::{Entry, Listed, Scheme};
+
+/// Whether the nodes of a directory strictly ascend.
+fn nodes_ascend(directory: &[Listed]) -> bool
+    ensures { IsTrue result ↔ IsStrictlyIncreasing (nodes_of directory.now) }
+{
+    for i in 1..directory.len() {
+        if directory[i - 1].node >= directory[i].node {
+            return false;
+        }
+    }
+    true
+}
+
+fn all_have_entries(scheme: &Scheme, u: u16) -> bool
+    ensures { IsTrue result ↔ All (λ e. IsSome ((tables scheme.now).entry e.node u)) (directory_at scheme.now u) }
+{
+    directory(scheme, u)
+        .iter()
+        .all(|listed| scheme.entry(listed.node, u).is_some())
+}
+
+#[tactic(auto, unfolding(crate::specs::Entries::IsListedRight))]
+fn is_listed_right(scheme: &Scheme, u: u16) -> bool
+    ensures { IsTrue result ↔ IsListedRight scheme.now u }
+{
+    if is_landmark(scheme, u) {
+        directory(scheme, u).is_empty()
+    } else {
+        all_have_entries(scheme, u)
+    }
+}
+
+#[tactic(auto, unfolding(crate::specs::Entries::IsListedBack))]
+fn is_listed_back(scheme: &Scheme, x: u16, entry: &Entry) -> bool
+    ensures { IsTrue result ↔ IsListedBack (tables scheme.now) x entry.now }
+{
+    is_landmark(scheme, entry.root) || scheme.listed(entry.root, x).is_some()
+}
+
+fn are_listed_back(scheme: &Scheme, x: u16) -> bool
+    ensures { IsTrue result ↔ All (IsListedBack (tables scheme.now) x) (entries_at scheme.now x) }
+{
+    entries(scheme, x)
+        .iter()
+        .all(|entry| is_listed_back(scheme, x, entry))
+}
+
+fn is_label_at(homes: &[Option<Label>], v: u16) -> bool
+    ensures { result ≡ is_some (or_none (slice_get homes.now v)) }
+{
+    let i = v as usize;
+    i < homes.len() && homes[i].is_some()
+}
+
+fn has_home_right(scheme: &Scheme, v: u16) -> bool
+    ensures { IsTrue result ↔ (IsSome ((tables scheme.now).home v) ↔ IsSome ((tables scheme.now).nearest v)) }
+{
+    is_label_at(scheme.parts().homes.as_slice(), v) == nearest(scheme, v).is_some()
+}
+
+#[tactic(auto, unfolding(crate::specs::Entries::HasDirectoryAt))]
+fn has_directory(scheme: &Scheme, u: u16) -> bool
+    ensures { IsTrue result ↔ HasDirectoryAt scheme.now u }
+{
+    nodes_ascend(directory(scheme, u))
+        && is_listed_right(scheme, u)
+        && has_home_right(scheme, u)
+        && are_listed_back(scheme, u)
+}
+
+/// Whether every directory lists what it should, and every home label is where it should be.
+pub(crate) fn has_directories(graph: &Graph, scheme: &Scheme) -> bool
+    requires { IsShaped graph.now scheme.now }
+    ensures { IsTrue result ↔ Holds graph.now scheme.now k8 }
+{
+    for u in 0..graph.nodes() {
+        if !has_directory(scheme, u) {
+            return false;
+        }
+    }
+    true
+}

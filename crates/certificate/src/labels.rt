@@ -1,0 +1,165 @@
+// Labels: each by a climb from its node to the root, which meets the label's light ports from the last to the first.
+ghost use Rattle.std.specs.Prelude.{◌≡◌, ◌==◌, ◌<◌, ◌↔◌, ℕ, IsTrue, MatchOption, List, Option, Some, None, false, slice_get};
+ghost use Rattle.std.specs.List.{All};
+ghost use Rattle.certificate.specs.Climbs.{HasLabelsAt, HasLights, HoldsFirst, IsHomeRight, IsLabelRight};
+ghost use Rattle.heavy_labels.specs.Label.{Label};
+ghost use Rattle.heavy_labels.specs.Numbering.{lights_at};
+ghost use Rattle.node_table.specs.Checks.{Holds, k6, k7};
+ghost use Rattle.node_table.specs.Local.{IsLocalLabel, parent_of, record_at};
+ghost use Rattle.node_table.specs.Ports.{port_to};
+ghost use Rattle.node_table.specs.Tables.{directory_at, or_none, tables};
+
+use crate::ports::port;
+use crate::reading::{directory, nearest};
+use graph_edits::Graph;
+use heavy_labels::Label;
+use node_table::{Listed, Scheme};
+
+fn parent(scheme: &Scheme, root: u16, x: u16) -> Option<u16>
+    ensures { result ≡ parent_of ((tables scheme.now).entry x root) }
+{
+    match scheme.entry(x, root) {
+        Some(entry) => entry.parent,
+        None => None,
+    }
+}
+
+fn light_depth(scheme: &Scheme, root: u16, x: u16) -> u16
+    ensures { result ≡ (record_at (tables scheme.now) root x).light_depth }
+{
+    match scheme.entry(x, root) {
+        Some(entry) => entry.tree_record.light_depth,
+        None => 0,
+    }
+}
+
+fn number(scheme: &Scheme, root: u16, x: u16) -> u16
+    ensures { result ≡ (record_at (tables scheme.now) root x).first }
+{
+    match scheme.entry(x, root) {
+        Some(entry) => entry.tree_record.first,
+        None => 0,
+    }
+}
+
+/// The light ports without the last one, if that is a port. A port that isn't there counts as 0.
+fn without_last(lights: &[u16], port: Option<u16>) -> Option<&[u16]>
+    ensures { (ls : List ℕ) → MatchOption result (lights.now ≡ lights_at false ls port → ⊥) (λ rest. (lights.now ≡ lights_at false ls port) ↔ (rest.now ≡ ls)) }
+{
+    let (last, rest) = lights.split_last()?;
+    if *last == port.unwrap_or(0) {
+        Some(rest)
+    } else {
+        None
+    }
+}
+
+/// The light ports above y, where these are those above its child x; none where they can't be. The edge is light where
+/// it raises the light depth.
+fn climbed<'a>(
+    graph: &Graph,
+    x: u16,
+    y: u16,
+    is_heavy: bool,
+    lights: &'a [u16],
+) -> Option<&'a [u16]>
+    ensures { (ls : List ℕ) → MatchOption result (lights.now ≡ lights_at is_heavy ls (port_to graph.now y x) → ⊥) (λ rest. (lights.now ≡ lights_at is_heavy ls (port_to graph.now y x)) ↔ (rest.now ≡ ls)) }
+{
+    if is_heavy {
+        Some(lights)
+    } else {
+        without_last(lights, port(graph, y, x))
+    }
+}
+
+/// Whether the light ports on the way from a root to a node are these.
+fn are_lights(graph: &Graph, scheme: &Scheme, root: u16, v: u16, lights: &[u16]) -> bool
+    requires { HoldsFirst graph.now scheme.now }
+    ensures { IsTrue result ↔ HasLights graph.now (tables scheme.now) root v lights.now }
+{
+    let mut left = lights;
+    let mut at = v;
+    while let Some(above) = parent(scheme, root, at) {
+        let is_heavy = light_depth(scheme, root, at) == light_depth(scheme, root, above);
+        match climbed(graph, at, above, is_heavy, left) {
+            Some(rest) => left = rest,
+            None => return false,
+        }
+        at = above;
+    }
+    left.is_empty()
+}
+
+/// Whether a label is that of v in the tree of a root.
+#[tactic(auto, unfolding(crate::specs::Climbs::HasLights))]
+fn is_label(graph: &Graph, scheme: &Scheme, root: u16, v: u16, label: &Label) -> bool
+    requires { HoldsFirst graph.now scheme.now }
+    ensures { IsTrue result ↔ IsLocalLabel graph.now (tables scheme.now) root v label.now }
+{
+    label.first() == number(scheme, root, v) && are_lights(graph, scheme, root, v, label.lights())
+}
+
+/// Whether a label of u's directory is right, or of a node without an entry for u.
+#[tactic(auto, unfolding(crate::specs::Climbs::IsLabelRight))]
+fn is_label_right(graph: &Graph, scheme: &Scheme, u: u16, listed: &Listed) -> bool
+    requires { HoldsFirst graph.now scheme.now }
+    ensures { IsTrue result ↔ IsLabelRight graph.now (tables scheme.now) u listed.now }
+{
+    scheme.entry(listed.node, u).is_none() || is_label(graph, scheme, u, listed.node, &listed.label)
+}
+
+fn are_labels_right(graph: &Graph, scheme: &Scheme, u: u16) -> bool
+    requires { HoldsFirst graph.now scheme.now }
+    ensures { IsTrue result ↔ All (IsLabelRight graph.now (tables scheme.now) u) (directory_at scheme.now u) }
+{
+    directory(scheme, u)
+        .iter()
+        .all(|listed| is_label_right(graph, scheme, u, listed))
+}
+
+/// A node's home label.
+fn home(scheme: &Scheme, v: u16) -> Option<&Label>
+    ensures { MatchOption result ((tables scheme.now).home v ≡ None) (λ l. (tables scheme.now).home v ≡ Some l.now) }
+{
+    let homes = &scheme.parts().homes;
+    let i = v as usize;
+    if i < homes.len() {
+        homes[i].as_ref()
+    } else {
+        None
+    }
+}
+
+/// Whether a home label is right, or without a nearest landmark.
+#[tactic(auto, unfolding(crate::specs::Climbs::IsHomeRight))]
+fn is_home_right(graph: &Graph, scheme: &Scheme, v: u16) -> bool
+    requires { HoldsFirst graph.now scheme.now }
+    ensures { IsTrue result ↔ IsHomeRight graph.now scheme.now v }
+{
+    match (home(scheme, v), nearest(scheme, v)) {
+        (Some(label), Some(near)) => is_label(graph, scheme, near.landmark, v, label),
+        _ => true,
+    }
+}
+
+#[tactic(auto, unfolding(crate::specs::Climbs::HasLabelsAt))]
+fn has_labels_at(graph: &Graph, scheme: &Scheme, u: u16) -> bool
+    requires { HoldsFirst graph.now scheme.now }
+    ensures { IsTrue result ↔ HasLabelsAt graph.now scheme.now u }
+{
+    are_labels_right(graph, scheme, u) && is_home_right(graph, scheme, u)
+}
+
+/// Whether every label is that of its tree.
+pub(crate) fn has_labels(graph: &Graph, scheme: &Scheme) -> bool
+    requires first { HoldsFirst graph.now scheme.now }
+    requires records { Holds graph.now scheme.now k6 }
+    ensures { IsTrue result ↔ Holds graph.now scheme.now k7 }
+{
+    for u in 0..graph.nodes() {
+        if !has_labels_at(graph, scheme, u) {
+            return false;
+        }
+    }
+    true
+}

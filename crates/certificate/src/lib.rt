@@ -1,0 +1,51 @@
+//! Certificates: whether a scheme is one for a graph.
+//!
+//! A scheme may have been built here, or assembled of tables from anywhere. [`check`] tests it against a graph by eight
+//! rules, and names the first that it breaks. It builds no tree and no list, takes no memory and ends on every scheme.
+//!
+//! | Fault | Rule |
+//! |---|---|
+//! | K1 Shape | every list has its places, ports are the graph's, entries ascend by root, parents have entries |
+//! | K2 Edges | over every edge an entry leads to one that is no farther, or to where a landmark is as near |
+//! | K3 Parents | an entry's distance is its parent's and the edge, the first of all neighbours that gives it |
+//! | K4 Strict | an entry for a root that is no landmark is nearer than the nearest landmark |
+//! | K5 Nearest | a nearest landmark is the least of the entries for landmarks |
+//! | K6 Records | every record is that of the tree that the parents give |
+//! | K7 Labels | every label is that of its tree |
+//! | K8 Directories | directories list exactly the members of their trees, homes go with nearest landmarks |
+//!
+//! The first five are tested entry by entry, over the edges of the entry's node. A record is tested against those of its
+//! children, which are neighbours: one pass over the ports finds the heavy child, a second one counts the others through.
+//! A label is tested by a climb from its node, which meets the label's light ports from the last to the first. That these
+//! tests are the rules is proved: the trees, records and labels are those of Thorup and Zwick, Compact Routing Schemes, in
+//! this project's profile.
+//!
+//! The contract that the layers above use is that of [`check`]: Ok exactly where all rules hold, a fault exactly where it
+//! is the first that fails, and what passes carries every packet to its destination over a walk at most three times as
+//! long as the shortest.
+//!
+//! ```text
+//! match check(&graph, &scheme) {
+//!     Ok(()) => ..              // the scheme serves the graph
+//!     Err(fault) => ..          // "{fault}" is K1 to K8
+//! }
+//! ```
+#![tactic(auto)]
+
+mod checks;
+mod directories;
+mod edges;
+mod fault;
+mod labels;
+mod nearest;
+mod parents;
+mod ports;
+mod reading;
+mod records;
+mod shape;
+mod strict;
+#[cfg(test)]
+mod tests;
+
+pub use checks::check;
+pub use fault::Fault;

@@ -1,0 +1,37 @@
+// Ports of the graph.
+ghost use Rattle.std.specs.Prelude.{◌≡◌, Some};
+ghost use Rattle.node_table.specs.Checks.{down_port, up_port};
+ghost use Rattle.node_table.specs.Ports.{port_to};
+
+use graph_edits::Graph;
+use node_table::Entry;
+
+/// The port of a node to another, none where no edge joins them.
+pub(crate) fn port(graph: &Graph, x: u16, y: u16) -> Option<u16>
+    ensures { result ≡ port_to graph.now x y }
+{
+    if x >= graph.nodes() {
+        return None;
+    }
+    graph.port_to(x, y)
+}
+
+/// The port of a node to the parent that its entry names.
+pub(crate) fn port_up(graph: &Graph, x: u16, entry: &Entry) -> Option<u16>
+    ensures { result ≡ up_port graph.now x (Some entry.now) }
+{
+    match entry.parent {
+        Some(y) => port(graph, x, y),
+        None => None,
+    }
+}
+
+/// The port to a node of the parent that its entry names.
+pub(crate) fn port_down(graph: &Graph, x: u16, entry: &Entry) -> Option<u16>
+    ensures { result ≡ down_port graph.now x (Some entry.now) }
+{
+    match entry.parent {
+        Some(y) => port(graph, y, x),
+        None => None,
+    }
+}

@@ -1,0 +1,222 @@
+// Records: each by those of its children, two passes over the ports of its node.
+ghost use Rattle.std.specs.Prelude.{◌≡◌, ◌<◌, ◌+◌, ◌↔◌, ℕ, IsTrue, Some, None, MatchOption, true, false, List, [], ◌∷◌};
+ghost use Rattle.std.specs.List.{All};
+ghost use Rattle.certificate.specs.Rows.{FitsAt, FitsRow, IsLocalAt, others, row_after, widest_from, wider as wider_of, with_other};
+ghost use Rattle.heavy_labels.specs.Stepped.{record_of};
+ghost use Rattle.certificate.specs.Climbs.{HoldsFirst};
+ghost use Rattle.node_table.specs.Checks.{Holds, k6, parent_is, up_port};
+ghost use Rattle.node_table.specs.Local.{FitsChild, FitsRoot, IsHeavyOf, IsRow, record_at, span as span_of};
+ghost use Rattle.node_table.specs.Ports.{neighbours};
+ghost use Rattle.node_table.specs.Tables.{Tables, entries_at, tables};
+ghost use Rattle.graph_edits.specs.Edges.{Network};
+
+use crate::ports::{port_down, port_up};
+use crate::reading::entries;
+use graph_edits::Graph;
+use heavy_labels::Record;
+use node_table::{Entry, Scheme};
+
+/// The entry of y, if y is a child of x in the tree of a root.
+fn child(scheme: &Scheme, root: u16, x: u16, y: u16) -> Option<&Entry>
+    ensures { MatchOption result (parent_is x ((tables scheme.now).entry y root) ≡ false) (λ e. ((tables scheme.now).entry y root ≡ Some e.now) × (e.now.parent ≡ Some x)) }
+{
+    match scheme.entry(y, root) {
+        Some(entry) => if entry.parent == Some(x) {
+            Some(entry)
+        } else {
+            None
+        },
+        None => None,
+    }
+}
+
+/// How many members a record says that there are, its own and those below it.
+fn span(given: &Record) -> u32
+    ensures { result ≡ span_of (record_of given.now) }
+{
+    (given.last as u32 + 1).saturating_sub(given.first as u32)
+}
+
+/// The same of a node's record in the tree of a root.
+fn span_at(scheme: &Scheme, root: u16, x: u16) -> u32
+    ensures { result ≡ span_of (record_at (tables scheme.now) root x) }
+{
+    match scheme.entry(x, root) {
+        Some(entry) => span(&entry.tree_record),
+        None => 1,
+    }
+}
+
+/// The widest child of x, when y is looked at too.
+fn wider(scheme: &Scheme, root: u16, x: u16, heavy: Option<u16>, y: u16) -> Option<u16>
+    ensures { result ≡ wider_of (tables scheme.now) root x heavy y }
+{
+    let Some(entry) = child(scheme, root, x, y) else {
+        return heavy;
+    };
+    let wide = span(&entry.tree_record);
+    match heavy {
+        Some(h) => {
+            if span_at(scheme, root, h) < wide {
+                Some(y)
+            } else {
+                Some(h)
+            }
+        }
+        None => Some(y),
+    }
+}
+
+/// The heavy child of x: the widest, the smallest where several are as wide.
+fn heavy_child(graph: &Graph, scheme: &Scheme, root: u16, x: u16) -> Option<u16>
+    requires { x < graph.now.nodes }
+    ensures { result ≡ widest_from (tables scheme.now) root x None (neighbours graph.now x) }
+{
+    let row = graph.neighbours(x);
+    let mut heavy = None;
+    for edge in row {
+        heavy = wider(scheme, root, x, heavy, edge.0);
+    }
+    heavy
+}
+
+/// Whether the record of a child has a number and a light depth, and its port to its parent.
+fn fits_child(graph: &Graph, entry: &Entry, y: u16, first: u32, depth: u32) -> bool
+    ensures { IsTrue result ↔ (((record_of entry.now.tree_record).first ≡ first) × (((record_of entry.now.tree_record).light_depth ≡ depth) × ((record_of entry.now.tree_record).parent_port ≡ up_port graph.now y (Some entry.now)))) }
+{
+    let record = &entry.tree_record;
+    record.first as u32 == first
+        && record.light_depth as u32 == depth
+        && record.parent_port == port_up(graph, y, entry)
+}
+
+/// The number after y's members, or the same number where y is no child of x but the heavy one; none where its record
+/// doesn't fit.
+fn number_after(
+    graph: &Graph,
+    scheme: &Scheme,
+    root: u16,
+    x: u16,
+    heavy: u16,
+    y: u16,
+    next: u32,
+    depth: u16,
+) -> Option<u32>
+    ensures { (ys : List ℕ) (end : ℕ) → MatchOption result (IsRow graph.now (tables scheme.now) root false next depth end (with_other (tables scheme.now) root x heavy y ys) → ⊥) (λ n. IsRow graph.now (tables scheme.now) root false next depth end (with_other (tables scheme.now) root x heavy y ys) ↔ IsRow graph.now (tables scheme.now) root false n depth end ys) }
+{
+    let Some(entry) = child(scheme, root, x, y) else {
+        return Some(next);
+    };
+    if y == heavy {
+        return Some(next);
+    }
+    if !fits_child(graph, entry, y, next, depth as u32 + 1) {
+        return None;
+    }
+    Some(entry.tree_record.last as u32 + 1)
+}
+
+/// Whether the children of x but the heavy one have the numbers from `start` to `end`.
+fn are_others_fit(
+    graph: &Graph,
+    scheme: &Scheme,
+    root: u16,
+    x: u16,
+    heavy: u16,
+    start: u32,
+    depth: u16,
+    end: u32,
+) -> bool
+    requires { x < graph.now.nodes }
+    ensures { IsTrue result ↔ IsRow graph.now (tables scheme.now) root false start depth end (others (tables scheme.now) root x heavy (neighbours graph.now x)) }
+{
+    let row = graph.neighbours(x);
+    let mut next = start;
+    for edge in row {
+        match number_after(graph, scheme, root, x, heavy, edge.0, next, depth) {
+            Some(after) => next = after,
+            None => return false,
+        }
+    }
+    next == end
+}
+
+/// Whether a record fits a heavy child and the others of its node.
+#[tactic(auto, unfolding(crate::specs::Rows::FitsRow))]
+fn fits_heavy(graph: &Graph, scheme: &Scheme, x: u16, entry: &Entry, heavy: u16) -> bool
+    requires { x < graph.now.nodes }
+    ensures { IsTrue result ↔ FitsRow graph.now (tables scheme.now) entry.now.root (record_of entry.now.tree_record) (heavy ∷ others (tables scheme.now) entry.now.root x heavy (neighbours graph.now x)) }
+{
+    let record = &entry.tree_record;
+    let Some(below) = scheme.entry(heavy, entry.root) else {
+        return false;
+    };
+    let first = record.first as u32 + 1;
+    let next = below.tree_record.last as u32 + 1;
+    let end = record.last as u32 + 1;
+    let depth = record.light_depth;
+    fits_child(graph, below, heavy, first, depth as u32)
+        && are_others_fit(graph, scheme, entry.root, x, heavy, next, depth, end)
+        && record.heavy_last == below.tree_record.last
+        && record.heavy_port == port_down(graph, heavy, below)
+}
+
+/// Whether a record fits a node without children.
+#[tactic(auto, unfolding(crate::specs::Rows::FitsRow))]
+fn fits_leaf(given: &Record) -> bool
+    ensures { (m : Network) (t : Tables) (r : ℕ) → IsTrue result ↔ FitsRow m t r (record_of given.now) [] }
+{
+    given.first == given.last && given.heavy_last == given.first && given.heavy_port.is_none()
+}
+
+#[tactic(auto, unfolding(crate::specs::Rows::FitsAt))]
+fn fits_below(graph: &Graph, scheme: &Scheme, x: u16, entry: &Entry) -> bool
+    requires { x < graph.now.nodes }
+    ensures { IsTrue result ↔ FitsAt graph.now (tables scheme.now) x entry.now }
+{
+    match heavy_child(graph, scheme, entry.root, x) {
+        Some(heavy) => fits_heavy(graph, scheme, x, entry, heavy),
+        None => fits_leaf(&entry.tree_record),
+    }
+}
+
+fn are_below_fit(graph: &Graph, scheme: &Scheme, x: u16) -> bool
+    requires { x < graph.now.nodes }
+    ensures { IsTrue result ↔ All (FitsAt graph.now (tables scheme.now) x) (entries_at scheme.now x) }
+{
+    entries(scheme, x)
+        .iter()
+        .all(|entry| fits_below(graph, scheme, x, entry))
+}
+
+/// Whether a root's record of itself is that of a root. Where it has none there is nothing to fit.
+fn fits_root(scheme: &Scheme, x: u16) -> bool
+    ensures { IsTrue result ↔ FitsRoot (tables scheme.now) x }
+{
+    let Some(entry) = scheme.entry(x, x) else {
+        return true;
+    };
+    let record = &entry.tree_record;
+    record.first == 0 && record.light_depth == 0 && record.parent_port.is_none()
+}
+
+#[tactic(auto, unfolding(crate::specs::Rows::IsLocalAt))]
+fn is_local(graph: &Graph, scheme: &Scheme, x: u16) -> bool
+    requires { x < graph.now.nodes }
+    ensures { IsTrue result ↔ IsLocalAt graph.now scheme.now x }
+{
+    fits_root(scheme, x) && are_below_fit(graph, scheme, x)
+}
+
+/// Whether every record is that of its tree.
+pub(crate) fn has_records(graph: &Graph, scheme: &Scheme) -> bool
+    requires { HoldsFirst graph.now scheme.now }
+    ensures { IsTrue result ↔ Holds graph.now scheme.now k6 }
+{
+    for x in 0..graph.nodes() {
+        if !is_local(graph, scheme, x) {
+            return false;
+        }
+    }
+    true
+}

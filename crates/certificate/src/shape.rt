@@ -1,0 +1,114 @@
+// Shape: the lists have a place for each node, the ports are the graph's, and entries ascend, with parents.
+ghost use Rattle.std.specs.Prelude.{◌≡◌, ◌≢◌, ◌<◌, ◌↔◌, ℕ, IsTrue, IsSome, map};
+ghost use Rattle.std.specs.List.{All};
+ghost use Rattle.std.specs.List.Sorted.{IsStrictlyIncreasing};
+ghost use Rattle.certificate.specs.Entries.{HasOwn, HasParentAt, HasPlaces, IsEntryShaped, IsNodeShaped};
+ghost use Rattle.graph_edits.specs.Edges.{IsSound};
+ghost use Rattle.node_table.specs.Checks.{Holds, k1};
+ghost use Rattle.node_table.specs.Tables.{entries_at, roots_of, tables};
+
+use crate::reading::{entries, ports};
+use graph_edits::Graph;
+use node_table::{Entry, Scheme};
+
+fn has_places(scheme: &Scheme, nodes: u16) -> bool
+    ensures { IsTrue result ↔ HasPlaces nodes scheme.now }
+{
+    let parts = scheme.parts();
+    let n = nodes as usize;
+    parts.nodes == nodes
+        && parts.landmarks.len() == n
+        && parts.ports.len() == n
+        && parts.nearest.len() == n
+        && parts.entries.len() == n
+        && parts.directories.len() == n
+        && parts.homes.len() == n
+}
+
+fn are_ports(ports: &[u16], row: &[(u16, u32)]) -> bool
+    ensures { IsTrue result ↔ ports.now ≡ map (λ e. e.0) row.now }
+{
+    if ports.len() != row.len() {
+        return false;
+    }
+    for i in 0..ports.len() {
+        if ports[i] != row[i].0 {
+            return false;
+        }
+    }
+    true
+}
+
+/// Whether the roots of entries strictly ascend.
+fn roots_ascend(entries: &[Entry]) -> bool
+    ensures { IsTrue result ↔ IsStrictlyIncreasing (roots_of entries.now) }
+{
+    for i in 1..entries.len() {
+        if entries[i - 1].root >= entries[i].root {
+            return false;
+        }
+    }
+    true
+}
+
+#[tactic(auto, unfolding(crate::specs::Entries::HasParentAt))]
+fn has_parent(graph: &Graph, scheme: &Scheme, x: u16, entry: &Entry) -> bool
+    ensures { IsTrue result ↔ HasParentAt graph.now (tables scheme.now) x entry.now }
+{
+    match entry.parent {
+        Some(y) => graph.weight(x, y).is_some() && scheme.entry(y, entry.root).is_some(),
+        None => false,
+    }
+}
+
+#[tactic(auto, unfolding(crate::specs::Entries::IsEntryShaped))]
+fn is_entry_shaped(graph: &Graph, scheme: &Scheme, x: u16, entry: &Entry) -> bool
+    ensures { IsTrue result ↔ IsEntryShaped graph.now (tables scheme.now) x entry.now }
+{
+    entry.root < graph.nodes() && (x == entry.root || has_parent(graph, scheme, x, entry))
+}
+
+fn are_entries_shaped(graph: &Graph, scheme: &Scheme, x: u16) -> bool
+    ensures { IsTrue result ↔ All (IsEntryShaped graph.now (tables scheme.now) x) (entries_at scheme.now x) }
+{
+    entries(scheme, x)
+        .iter()
+        .all(|entry| is_entry_shaped(graph, scheme, x, entry))
+}
+
+#[tactic(auto, unfolding(crate::specs::Entries::HasOwn))]
+fn has_own(scheme: &Scheme, x: u16) -> bool
+    ensures { IsTrue result ↔ HasOwn (tables scheme.now) x }
+{
+    match scheme.entry(x, x) {
+        Some(entry) => entry.distance == 0 && entry.parent.is_none(),
+        None => false,
+    }
+}
+
+#[tactic(auto, unfolding(crate::specs::Entries::IsNodeShaped))]
+fn is_node_shaped(graph: &Graph, scheme: &Scheme, x: u16) -> bool
+    requires { x < graph.now.nodes }
+    ensures { IsTrue result ↔ IsNodeShaped graph.now scheme.now x }
+{
+    are_ports(ports(scheme, x), graph.neighbours(x))
+        && roots_ascend(entries(scheme, x))
+        && has_own(scheme, x)
+        && are_entries_shaped(graph, scheme, x)
+}
+
+/// Whether the lists have their places, and every node its ports and its entries.
+pub(crate) fn is_shaped(graph: &Graph, scheme: &Scheme) -> bool
+    ensures exact { IsTrue result ↔ Holds graph.now scheme.now k1 }
+    ensures sound { IsSound graph.now }
+{
+    if !has_places(scheme, graph.nodes()) {
+        return false;
+    }
+    for x in 0..graph.nodes() {
+        if !is_node_shaped(graph, scheme, x) {
+            return false;
+        }
+    }
+    true
+}

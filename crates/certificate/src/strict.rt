@@ -1,0 +1,43 @@
+// Strict: an entry for a root that is no landmark is nearer to it than to every landmark.
+ghost use Rattle.std.specs.Prelude.{◌≡◌, ◌<◌, ◌↔◌, ℕ, IsTrue};
+ghost use Rattle.std.specs.List.{All};
+ghost use Rattle.certificate.specs.Entries.{EachEntry, IsStrictAt};
+ghost use Rattle.node_table.specs.Tables.{entries_at, tables};
+ghost use Rattle.node_table.specs.Checks.{Holds, IsShaped, k4};
+
+use crate::reading::{entries, is_landmark, nearest};
+use graph_edits::Graph;
+use node_table::{Entry, Scheme};
+
+fn is_strict_at(scheme: &Scheme, x: u16, entry: &Entry) -> bool
+    ensures { IsTrue result ↔ IsStrictAt (tables scheme.now) x entry.now }
+{
+    if is_landmark(scheme, entry.root) {
+        return true;
+    }
+    match nearest(scheme, x) {
+        Some(near) => entry.distance < near.distance,
+        None => true,
+    }
+}
+
+fn are_strict(scheme: &Scheme, x: u16) -> bool
+    ensures { IsTrue result ↔ All (IsStrictAt (tables scheme.now) x) (entries_at scheme.now x) }
+{
+    entries(scheme, x)
+        .iter()
+        .all(|entry| is_strict_at(scheme, x, entry))
+}
+
+/// Whether every entry is strict.
+pub(crate) fn is_strict(graph: &Graph, scheme: &Scheme) -> bool
+    requires { IsShaped graph.now scheme.now }
+    ensures { IsTrue result ↔ Holds graph.now scheme.now k4 }
+{
+    for x in 0..graph.nodes() {
+        if !are_strict(scheme, x) {
+            return false;
+        }
+    }
+    true
+}

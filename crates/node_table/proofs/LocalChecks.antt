@@ -1,0 +1,106 @@
+-- The local forms of Records and Labels are those two checks, once the checks before them hold.
+use Rattle.std.proofs.Common.{◌<◌, ◌≤◌, arith, ◌≡◌, ℕ, Bool, true, false, cond, sym, refl, ap, ◌∙◌, List, [], ◌∷◌}
+use Rattle.std.specs.Prelude.{Option, Some, None, IsSome, is_some, ◌↔◌}
+use Rattle.node_table.specs.declared.parts.Parts.{Parts}
+use Rattle.graph_edits.specs.Edges.{Network, IsSound, below as up_to, weight_in}
+use Rattle.node_table.specs.Ports.{filtered, neighbours}
+use Rattle.node_table.proofs.Walks.{neighbours_are}
+use Rattle.node_table.specs.Tables.{Tables, tables}
+use Rattle.node_table.specs.Checks.{Fault, k1, k2, k3, k4, k5, k6, k7, k8, Holds, number_of, IsChecked, IsShaped, IsFirstFault, parent_is, children, HasRecords, HasLabels}
+use Rattle.node_table.specs.Local.{HasLocalRecords, HasLocalLabels}
+use Rattle.node_table.proofs.Exact.{Distances}
+use Rattle.node_table.proofs.TreeOfTables.{child_of}
+use Rattle.node_table.proofs.Law.{distances_from}
+use Rattle.node_table.proofs.LocalRecords.{local_records}
+use Rattle.node_table.proofs.RecordsLocal.{records_local}
+use Rattle.node_table.proofs.LocalLabels.{local_label, label_local}
+
+pub records_check : (m : Network) (t : Tables) → Distances m t → t.nodes ≡ m.nodes → HasRecords m t ↔ HasLocalRecords m t
+records_check m t d nodes = (λ h. records_local m t d nodes h, λ h. local_records m t d h)
+
+is_there : {X : Type 0} (o : Option X) → IsSome o → (x : X) × (o ≡ Some x)
+is_there None e = absurd (bad e)
+  where
+    bad : false ≡ true → ⊥
+    bad e = cc
+is_there (Some x) e = (x, refl)
+
+pub labels_check : (m : Network) (p : Parts) → Distances m (tables p) → HasRecords m (tables p) → (tables p).nodes ≡ m.nodes → HasLabels m p ↔ HasLocalLabels m p
+labels_check m p d records nodes = (there, back)
+  where
+    there : HasLabels m p → HasLocalLabels m p
+    there h = record {
+      listed = λ u e i s. (let k = is_there ((tables p).entry e.node u) s in label_local m (tables p) d records nodes u e.node k.0 e.label k.1 (h.listed u e i s));
+      home = λ v q l g n. (let k = d.nearest.there v q n in label_local m (tables p) d records nodes q.landmark v k.1.0 l k.1.1.0 (h.home v q l g n));
+    }
+
+    back : HasLocalLabels m p → HasLabels m p
+    back h = record {
+      listed = λ u e i s. (let k = is_there ((tables p).entry e.node u) s in local_label m (tables p) d records u e.node e.label (d.inside e.node u k.0 k.1) (h.listed u e i s));
+      home = λ v q l g n. (let k = d.nearest.there v q n in local_label m (tables p) d records q.landmark v l (d.inside v q.landmark k.1.0 k.1.1.0) (h.home v q l g n));
+    }
+
+filtered_twice : (b c : ℕ → Bool) → ((x : ℕ) → b x ≡ true → c x ≡ true) → (xs : List ℕ) → filtered b xs ≡ filtered b (filtered c xs)
+filtered_twice b c h [] = refl
+filtered_twice b c h (x ∷ xs) = go (filtered_twice b c h xs) (b x) (c x) refl (h x)
+  where
+    go : filtered b xs ≡ filtered b (filtered c xs) → (y z : Bool) → b x ≡ y → (b x ≡ true → z ≡ true) → cond y (x ∷ filtered b xs) (filtered b xs) ≡ filtered b (cond z (x ∷ filtered c xs) (filtered c xs))
+    go ih true true e k = ap (λ w. x ∷ w) ih ∙ sym (ap (λ w. cond w (x ∷ filtered b (filtered c xs)) (filtered b (filtered c xs))) e)
+    go ih true false e k = absurd (bad (k e))
+      where
+        bad : false ≡ true → ⊥
+        bad f = cc
+    go ih false true e k = ih ∙ sym (ap (λ w. cond w (x ∷ filtered b (filtered c xs)) (filtered b (filtered c xs))) e)
+    go ih false false e k = ih
+
+-- the children of x are found among its neighbours
+pub children_near : (m : Network) (t : Tables) → Distances m t → t.nodes ≡ m.nodes → (r x : ℕ) → children t r x ≡ filtered (λ y. parent_is x (t.entry y r)) (neighbours m x)
+children_near m t d nodes r x =
+    ap (λ n. filtered (λ y. parent_is x (t.entry y r)) (up_to n)) nodes
+    ∙ filtered_twice (λ y. parent_is x (t.entry y r)) (λ y. is_some (weight_in m x y)) near (up_to m.nodes)
+    ∙ ap (filtered (λ y. parent_is x (t.entry y r))) (sym (neighbours_are m x))
+  where
+    near : (y : ℕ) → parent_is x (t.entry y r) ≡ true → is_some (weight_in m x y) ≡ true
+    near y g =
+        let a = child_of m t r x y (t.entry y r) refl g in
+        let c = (d.tight y x r a.entry a.is a.parent).0 in
+        ap is_some c.1.1.0
+
+-- the first five checks
+abbrev pub FirstFive : Network → Parts → Type 0
+FirstFive m p = (k : Fault) → number_of k ≤ 5 → Holds m p k
+
+shape_of : (m : Network) (p : Parts) → FirstFive m p → IsShaped m p
+shape_of m p first = first k1 (omega arith)
+
+-- What a checker without memory tests gives all eight, and each fault that it finds is one.
+pub local_checked : (m : Network) → IsSound m → (p : Parts) → FirstFive m p → HasLocalRecords m (tables p) → HasLocalLabels m p → Holds m p k8 → IsChecked m p
+local_checked m s p first records labels last k1 = first k1 (omega arith)
+local_checked m s p first records labels last k2 = first k2 (omega arith)
+local_checked m s p first records labels last k3 = first k3 (omega arith)
+local_checked m s p first records labels last k4 = first k4 (omega arith)
+local_checked m s p first records labels last k5 = first k5 (omega arith)
+local_checked m s p first records labels last k6 = local_records m (tables p) (distances_from m s p first) records
+local_checked m s p first records labels last k7 =
+    let d = distances_from m s p first in
+    (labels_check m p d (local_records m (tables p) d records) (shape_of m p first).nodes).1 labels
+local_checked m s p first records labels last k8 = last
+
+pub records_fault : (m : Network) → IsSound m → (p : Parts) → FirstFive m p → (HasLocalRecords m (tables p) → ⊥) → IsFirstFault m p k6
+records_fault m s p first fails = (λ h. fails (records_local m (tables p) (distances_from m s p first) (shape_of m p first).nodes h), λ j l. first j (omega arith))
+
+pub labels_fault : (m : Network) → IsSound m → (p : Parts) → FirstFive m p → HasLocalRecords m (tables p) → (HasLocalLabels m p → ⊥) → IsFirstFault m p k7
+labels_fault m s p first local fails =
+    let d = distances_from m s p first in
+    let records = local_records m (tables p) d local in
+    (λ h. fails ((labels_check m p d records (shape_of m p first).nodes).0 h), before records)
+  where
+    before : HasRecords m (tables p) → (j : Fault) → number_of j < 7 → Holds m p j
+    before records k1 l = first k1 (omega arith)
+    before records k2 l = first k2 (omega arith)
+    before records k3 l = first k3 (omega arith)
+    before records k4 l = first k4 (omega arith)
+    before records k5 l = first k5 (omega arith)
+    before records k6 l = records
+    before records k7 l = absurd (omega arith)
+    before records k8 l = absurd (omega arith)

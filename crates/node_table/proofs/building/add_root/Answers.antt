@@ -1,0 +1,16 @@
+use Rattle.std.proofs.Common.{◌≡◌, ◌∙◌, ◌+◌, ◌<◌, length, map, sym, ap, subst, arith, ℕ, List, Bool, false}
+use Rattle.std.specs.Prelude.{Result, Ok, Err, OnOk, All, slice_get, slice_index_or, Option}
+use Rattle.node_table.specs.declared.columns.Row.{Row}
+use Rattle.node_table.specs.Building.{IsBuildOf, IsWith, AreRowsOf}
+use Rattle.node_table.proofs.BuildTurns.{built_of_more, rows_of}
+use Rattle.node_table.proofs.building.add_root.Goals as goal
+
+on_ok : {X E : Type 0} (P Q : Type 0) (r : Result X E) → (P → Q) → OnOk r P → OnOk r Q
+on_ok P Q (Ok x) f h = f h
+on_ok P Q (Err e) f h = h
+
+pub returns : goal.returns
+returns g c = on_ok _ _ c.add_rows.result (λ h.
+    built_of_more c.args.graph.now c.args.landmarks.now c.args.nearest.now.nearest c.args.parts.now.generation c.args.parts.now c.add_rows.new.parts c.args.root c.deref.result.now c.requires.built
+    (rows_of c.args.graph.now c.args.landmarks.now c.args.nearest.now.nearest c.args.parts.now.generation c.args.parts.now c.args.root c.deref.result.now c.in_ok-rows.rows.items c.requires.built
+    c.deref.ensures.value c.in_ok-rows.ensures.ascend c.in_ok-rows.ensures.inside c.in_ok-rows.ensures.root c.in_ok-rows.ensures.column) h) c.add_rows.ensures

@@ -1,0 +1,78 @@
+-- What each step of a build does to the tables.
+use Rattle.std.specs.Prelude.{◌≡◌, ℕ, ◌<◌, ◌≤◌, ◌==◌, Bool, true, false, cond, Option, Some, None, List, [], ◌∷◌, ◌++◌, length, map, slice_get}
+use Rattle.std.specs.List.{All}
+use Rattle.std.specs.List.Sorted.{IsStrictlyIncreasing}
+use Rattle.std.specs.declared.vec.Vec.{Vec}
+use Rattle.graph_edits.specs.Edges.{Network}
+use Rattle.distances.specs.Nearest.{near_limit}
+use Rattle.distances.specs.declared.nearest.Near.{Near}
+use Rattle.heavy_labels.specs.Label.{Label}
+use Rattle.node_table.specs.declared.parts.Parts.{Parts}
+use Rattle.node_table.specs.declared.parts.Entry.{Entry}
+use Rattle.node_table.specs.declared.parts.Listed.{Listed}
+use Rattle.node_table.specs.declared.columns.Row.{Row}
+use Rattle.node_table.specs.Tables.{tables, or_none, or_false}
+use Rattle.node_table.specs.Columns.{IsColumn, IsBuilt}
+use Rattle.node_table.specs.RowLists.{entry_in, label_in}
+
+-- the list at a place, empty where there is none
+abbrev pub items_at : {X A : Type 0} → List (Vec X A) → ℕ → List X
+items_at vs x = elim (slice_get vs x) [ None ↦ [] | Some v ↦ v.items ]
+
+-- the entries of a node's rows
+abbrev pub entries_for : ℕ → List Row → List Entry
+entries_for x [] = []
+entries_for x (w ∷ ws) = cond (w.node == x) (w.entry ∷ entries_for x ws) (entries_for x ws)
+
+-- a row in its root's directory
+abbrev pub listed_row : Row → Listed
+listed_row w = record { node = w.node; label = w.label }
+
+-- whether the nearest landmark is r
+abbrev pub has_home : Option Near → ℕ → Bool
+has_home None r = false
+has_home (Some q) r = q.landmark == r
+
+-- the home label of a node once it has a label in the tree of r
+abbrev pub home_by : Option Near → ℕ → Label → Option Label → Option Label
+home_by None r l o = o
+home_by (Some q) r l o = cond (q.landmark == r) (Some l) o
+
+-- the home label of v after these rows of the tree of r
+abbrev pub home_after : Option Near → ℕ → List Row → ℕ → Option Label → Option Label
+home_after near r [] v o = o
+home_after near r (w ∷ ws) v o = home_after near r ws v (cond (w.node == v) (home_by near r w.label o) o)
+
+-- the limit of the tree of r
+abbrev pub limit_by : Bool → List (Option Near) → ℕ → Option ℕ
+limit_by true nearest x = None
+limit_by false nearest x = near_limit nearest x
+
+-- the rows of the tree of r
+pub record AreRowsOf (m : Network) (p : Parts) (r : ℕ) (ws : List Row) : Type 0 where
+  pub ascend : IsStrictlyIncreasing (map (λ w. w.node) ws)
+  pub inside : All (λ w. w.node < m.nodes) ws
+  pub root : All (λ w. w.entry.root ≡ r) ws
+  pub column : IsColumn m (limit_by (or_false (slice_get p.landmarks.items r)) p.nearest.items) r (entry_in ws) (label_in ws)
+
+-- the tables after the rows of the tree of r
+pub record IsWith (p : Parts) (r : ℕ) (ws : List Row) (q : Parts) : Type 0 where
+  pub nodes : q.nodes ≡ p.nodes
+  pub generation : q.generation ≡ p.generation
+  pub landmarks : q.landmarks.items ≡ p.landmarks.items
+  pub ports : q.ports.items ≡ p.ports.items
+  pub nearest : q.nearest.items ≡ p.nearest.items
+  pub entries_length : length q.entries.items ≡ length p.entries.items
+  pub entries : (x : ℕ) → items_at q.entries.items x ≡ items_at p.entries.items x ++ entries_for x ws
+  pub directories_length : length q.directories.items ≡ length p.directories.items
+  pub directory : items_at q.directories.items r ≡ cond (or_false (slice_get p.landmarks.items r)) (items_at p.directories.items r) (map listed_row ws)
+  pub other_directories : (x : ℕ) → (x ≡ r → ⊥) → items_at q.directories.items x ≡ items_at p.directories.items x
+  pub homes_length : length q.homes.items ≡ length p.homes.items
+  pub homes : (v : ℕ) → or_none (slice_get q.homes.items v) ≡ home_after (or_none (slice_get p.nearest.items v)) r ws v (or_none (slice_get p.homes.items v))
+
+-- the tables of a build that holds the trees of the first k roots
+pub record IsBuildOf (m : Network) (flags : List Bool) (nearest : List (Option Near)) (generation : ℕ) (p : Parts) (k : ℕ) : Type 0 where
+  pub built : IsBuilt m p k
+  pub landmarks : p.landmarks.items ≡ flags
+  pub nearest_list : p.nearest.items ≡ nearest
+  pub given : p.generation ≡ generation

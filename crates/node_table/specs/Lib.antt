@@ -1,0 +1,10 @@
+pub mod Checks
+pub mod Local
+pub mod Ports
+pub mod Service
+pub mod Tables
+pub mod Trails
+pub mod Laws
+pub mod Columns
+pub mod RowLists
+pub mod Building

@@ -1,0 +1,72 @@
+-- What a scheme's lists say: the first place of a list counts, and a place that is not there is empty.
+use Rattle.std.specs.Prelude.{◌≡◌, ℕ, ◌<◌, ◌==◌, Bool, false, cond, Option, Some, None, List, [], ◌∷◌, map, slice_get}
+use Rattle.std.specs.List.{All}
+use Rattle.std.specs.List.Sorted.{IsStrictlyIncreasing}
+use Rattle.heavy_labels.specs.Label.{Label}
+use Rattle.node_table.specs.declared.parts.Parts.{Parts}
+use Rattle.node_table.specs.declared.parts.Entry.{Entry}
+use Rattle.node_table.specs.declared.parts.Listed.{Listed}
+use Rattle.distances.specs.declared.nearest.Near.{Near}
+
+-- the look-ups of a scheme, apart from its lists
+pub record Tables : Type 0 where
+  pub nodes : ℕ
+  pub generation : ℕ
+  pub landmark : ℕ → Bool
+  pub over : ℕ → ℕ → Option ℕ
+  pub nearest : ℕ → Option Near
+  pub entry : ℕ → ℕ → Option Entry
+  pub listed : ℕ → ℕ → Option Label
+  pub home : ℕ → Option Label
+
+abbrev pub or_none : {X : Type 0} → Option (Option X) → Option X
+or_none None = None
+or_none (Some o) = o
+
+abbrev pub or_false : Option Bool → Bool
+or_false None = false
+or_false (Some b) = b
+
+-- the first entry for a root
+abbrev pub first_entry : ℕ → List Entry → Option Entry
+first_entry r [] = None
+first_entry r (e ∷ es) = cond (e.root == r) (Some e) (first_entry r es)
+
+-- the first label of a node
+abbrev pub first_listed : ℕ → List Listed → Option Label
+first_listed v [] = None
+first_listed v (e ∷ es) = cond (e.node == v) (Some e.label) (first_listed v es)
+
+-- the neighbours that a scheme has for x, port by port
+abbrev pub ports_at : Parts → ℕ → List ℕ
+ports_at p x = elim (slice_get p.ports.items x) [ None ↦ [] | Some v ↦ v.items ]
+
+abbrev pub entries_at : Parts → ℕ → List Entry
+entries_at p x = elim (slice_get p.entries.items x) [ None ↦ [] | Some v ↦ v.items ]
+
+abbrev pub directory_at : Parts → ℕ → List Listed
+directory_at p x = elim (slice_get p.directories.items x) [ None ↦ [] | Some v ↦ v.items ]
+
+-- the roots of entries, and the nodes of a directory
+abbrev pub roots_of : List Entry → List ℕ
+roots_of es = map (λ e. e.root) es
+
+abbrev pub nodes_of : List Listed → List ℕ
+nodes_of es = map (λ e. e.node) es
+
+abbrev pub tables : Parts → Tables
+tables p = record {
+  nodes = p.nodes;
+  generation = p.generation;
+  landmark = λ x. or_false (slice_get p.landmarks.items x);
+  over = λ x k. slice_get (ports_at p x) k;
+  nearest = λ x. or_none (slice_get p.nearest.items x);
+  entry = λ x r. first_entry r (entries_at p x);
+  listed = λ u v. first_listed v (directory_at p u);
+  home = λ x. or_none (slice_get p.homes.items x);
+}
+
+-- every list of entries strictly ascends by root, and every directory by node
+pub record AreAscending (p : Parts) : Type 0 where
+  pub entries : All (λ es. IsStrictlyIncreasing (roots_of es.items)) p.entries.items
+  pub directories : All (λ es. IsStrictlyIncreasing (nodes_of es.items)) p.directories.items

@@ -1,0 +1,337 @@
+// Schemes out of graphs.
+ghost use Rattle.std.specs.Prelude.{◌≡◌, ◌<◌, ◌≤◌, ◌+◌, ◌++◌, ◌∷◌, ◌↔◌, IsSome, ◌==◌, [], ℕ, None, Some, true, false, cond, All, IfOk, OnOk, length, map, slice_get, slice_index_or};
+ghost use Rattle.std.specs.List.Sorted.{IsStrictlyIncreasing};
+ghost use Rattle.distances.specs.Nearest.{IsNearestOf};
+ghost use Rattle.node_table.specs.Building.{IsWith, IsBuildOf, entries_for, has_home, home_after, home_by, items_at, limit_by, listed_row};
+ghost use Rattle.node_table.specs.Checks.{IsChecked};
+ghost use Rattle.node_table.specs.Columns.{IsColumn};
+ghost use Rattle.node_table.specs.Laws.{IsInTree, NearestIsRight};
+ghost use Rattle.node_table.specs.RowLists.{entry_in, label_in};
+ghost use Rattle.node_table.specs.Ports.{neighbours};
+ghost use Rattle.node_table.specs.Service.{Serves};
+ghost use Rattle.node_table.specs.Tables.{tables, or_none};
+
+use crate::columns::{Row, tree_rows};
+use crate::parts::{Entry, Listed, Near, Parts};
+use crate::scheme::Scheme;
+use clusters::cluster;
+use distances::{Nearest, from_landmarks, from_root};
+use graph_edits::Graph;
+use heavy_labels::Label;
+use landmarks::Landmarks;
+use std::alloc::{AllocError, Allocator, Global};
+
+/// A list with an entry more at one place.
+fn push_at(lists: &mut Vec<Vec<Entry>>, at: usize, entry: Entry) -> Result<(), AllocError>
+    requires { at < length lists.old.items }
+    ensures length { OnOk result (length lists.new.items ≡ length lists.old.items) }
+    ensures items { OnOk result ((x : ℕ) → items_at lists.new.items x ≡ items_at lists.old.items x ++ cond (at == x) (entry ∷ []) []) }
+{
+    let list = &mut lists[at];
+    list.push(entry)?;
+    Ok(())
+}
+
+/// The entry of each row, at the end of its node's.
+fn add_entries(entries: &mut Vec<Vec<Entry>>, rows: &[Row]) -> Result<(), AllocError>
+    requires { All (λ w. w.node < length entries.old.items) rows.now }
+    ensures length { OnOk result (length entries.new.items ≡ length entries.old.items) }
+    ensures items { OnOk result ((x : ℕ) → items_at entries.new.items x ≡ items_at entries.old.items x ++ entries_for x rows.now) }
+{
+    for row in rows {
+        push_at(entries, row.node as usize, row.entry)?;
+    }
+    Ok(())
+}
+
+/// The directory of a root out of its rows.
+fn directory(alloc: Global, rows: &[Row]) -> Result<Vec<Listed>, AllocError>
+    ensures { IfOk result (λ all. all.items ≡ map listed_row rows.now) }
+{
+    let mut all = Vec::with_capacity(alloc, rows.len())?;
+    for row in rows {
+        all.push(Listed {
+            node: row.node,
+            label: row.label.copy(),
+        })?;
+    }
+    Ok(all)
+}
+
+/// Whether a node's nearest landmark is this one.
+fn is_home(near: Option<Near>, root: u16) -> bool
+    ensures { result ≡ has_home near root }
+{
+    match near {
+        Some(near) => near.landmark == root,
+        None => false,
+    }
+}
+
+/// The home label of a node, if its nearest landmark is the root of the tree in which it has that label.
+fn set_home(homes: &mut [Option<Label>], at: usize, near: Option<Near>, root: u16, label: &Label)
+    requires { at < length homes.old }
+    ensures { (v : ℕ) → or_none (slice_get homes.new v) ≡ cond (at == v) (home_by near root label.now (or_none (slice_get homes.old v))) (or_none (slice_get homes.old v)) }
+{
+    if !is_home(near, root) {
+        return;
+    }
+    homes[at] = Some(label.copy());
+}
+
+/// The home labels of the nodes whose nearest landmark is the root of the rows.
+fn set_homes(homes: &mut [Option<Label>], nearest: &[Option<Near>], root: u16, rows: &[Row])
+    requires homes { All (λ w. w.node < length homes.old) rows.now }
+    requires nearest { All (λ w. w.node < length nearest.now) rows.now }
+    ensures { (v : ℕ) → or_none (slice_get homes.new v) ≡ home_after (or_none (slice_get nearest.now v)) root rows.now v (or_none (slice_get homes.old v)) }
+{
+    for row in rows {
+        let at = row.node as usize;
+        set_home(homes, at, nearest[at], root, &row.label);
+    }
+}
+
+/// The directory of a root that is no landmark.
+fn set_directory(
+    alloc: Global,
+    directories: &mut Vec<Vec<Listed>>,
+    root: u16,
+    landmark: bool,
+    rows: &[Row],
+) -> Result<(), AllocError>
+    requires { root < length directories.old.items }
+    ensures length { OnOk result (length directories.new.items ≡ length directories.old.items) }
+    ensures here { OnOk result (items_at directories.new.items root ≡ cond landmark (items_at directories.old.items root) (map listed_row rows.now)) }
+    ensures others { OnOk result ((x : ℕ) → (x ≡ root → ⊥) → items_at directories.new.items x ≡ items_at directories.old.items x) }
+{
+    if landmark {
+        return Ok(());
+    }
+    directories[root as usize] = directory(alloc, rows)?;
+    Ok(())
+}
+
+/// The rows of a root's tree, in the tables.
+fn add_rows(alloc: Global, parts: &mut Parts, root: u16, rows: &[Row]) -> Result<(), AllocError>
+    requires landmarks { root < length parts.old.landmarks.items }
+    requires directories { root < length parts.old.directories.items }
+    requires entries { All (λ w. w.node < length parts.old.entries.items) rows.now }
+    requires homes { All (λ w. w.node < length parts.old.homes.items) rows.now }
+    requires nearest { All (λ w. w.node < length parts.old.nearest.items) rows.now }
+    ensures { OnOk result (IsWith parts.old root rows.now parts.new) }
+{
+    add_entries(&mut parts.entries, rows)?;
+    let landmark = parts.landmarks[root as usize];
+    set_directory(alloc, &mut parts.directories, root, landmark, rows)?;
+    set_homes(
+        parts.homes.as_mut_slice(),
+        parts.nearest.as_slice(),
+        root,
+        rows,
+    );
+    Ok(())
+}
+
+/// The rows of a root's tree: what a landmark reaches, or the cluster of another node.
+fn root_rows<A: Allocator>(
+    alloc: Global,
+    graph: &Graph,
+    landmarks: &Landmarks,
+    nearest: &Nearest,
+    root: u16,
+    scratch: A,
+) -> Result<Vec<Row>, AllocError>
+    requires inside { root < graph.now.nodes }
+    requires same_size { length landmarks.now ≡ graph.now.nodes }
+    requires nodes { length nearest.now.nearest ≡ graph.now.nodes }
+    requires nearest { (v : ℕ) → IsNearestOf graph.now.edges landmarks.now v (slice_index_or nearest.now.nearest v None) }
+    ensures ascend { IfOk result (λ rows. IsStrictlyIncreasing (map (λ w. w.node) rows.items)) }
+    ensures inside { IfOk result (λ rows. All (λ w. w.node < graph.now.nodes) rows.items) }
+    ensures root { IfOk result (λ rows. All (λ w. w.entry.root ≡ root) rows.items) }
+    ensures column { IfOk result (λ rows. IsColumn graph.now (limit_by (slice_index_or landmarks.now root false) nearest.now.nearest) root (entry_in rows.items) (label_in rows.items)) }
+{
+    let _sound = graph.nodes();
+    if landmarks.holds(root) {
+        let reach = from_root(alloc, graph, root)?;
+        return tree_rows(alloc, graph, root, reach.members(), scratch);
+    }
+    let near = cluster(alloc, graph, nearest, root)?;
+    tree_rows(alloc, graph, root, near.members(), scratch)
+}
+
+fn ports_of(alloc: Global, graph: &Graph, x: u16) -> Result<Vec<u16>, AllocError>
+    requires { x < graph.now.nodes }
+    ensures { IfOk result (λ ports. ports.items ≡ neighbours graph.now x) }
+{
+    graph.neighbours(x).iter().map(|edge| edge.0).collect(alloc)
+}
+
+/// The neighbours of each node.
+fn all_ports(alloc: Global, graph: &Graph) -> Result<Vec<Vec<u16>>, AllocError>
+    ensures length { IfOk result (λ all. length all.items ≡ graph.now.nodes) }
+    ensures each { IfOk result (λ all. (x : ℕ) → x < graph.now.nodes → items_at all.items x ≡ neighbours graph.now x) }
+{
+    let nodes = graph.nodes();
+    let mut all = Vec::with_capacity(alloc, nodes as usize)?;
+    for x in 0..nodes {
+        all.push(ports_of(alloc, graph, x)?)?;
+    }
+    Ok(all)
+}
+
+/// An empty list of entries for each node.
+fn no_entries(alloc: Global, nodes: u16) -> Result<Vec<Vec<Entry>>, AllocError>
+    ensures length { IfOk result (λ all. length all.items ≡ nodes) }
+    ensures empty { IfOk result (λ all. (x : ℕ) → items_at all.items x ≡ []) }
+{
+    let mut all = Vec::with_capacity(alloc, nodes as usize)?;
+    for _x in 0..nodes {
+        all.push(Vec::new(alloc))?;
+    }
+    Ok(all)
+}
+
+/// An empty directory for each node.
+fn no_directories(alloc: Global, nodes: u16) -> Result<Vec<Vec<Listed>>, AllocError>
+    ensures length { IfOk result (λ all. length all.items ≡ nodes) }
+    ensures empty { IfOk result (λ all. (x : ℕ) → items_at all.items x ≡ []) }
+{
+    let mut all = Vec::with_capacity(alloc, nodes as usize)?;
+    for _x in 0..nodes {
+        all.push(Vec::new(alloc))?;
+    }
+    Ok(all)
+}
+
+/// No home label for any node.
+fn no_homes(alloc: Global, nodes: u16) -> Result<Vec<Option<Label>>, AllocError>
+    ensures length { IfOk result (λ all. length all.items ≡ nodes) }
+    ensures none { IfOk result (λ all. (v : ℕ) → or_none (slice_get all.items v) ≡ None) }
+{
+    let mut all = Vec::with_capacity(alloc, nodes as usize)?;
+    for _x in 0..nodes {
+        all.push(None)?;
+    }
+    Ok(all)
+}
+
+/// The nearest landmark of each node.
+fn nearest_list(
+    alloc: Global,
+    nodes: u16,
+    nearest: &Nearest,
+) -> Result<Vec<Option<Near>>, AllocError>
+    requires { length nearest.now.nearest ≡ nodes }
+    ensures { IfOk result (λ all. all.items ≡ nearest.now.nearest) }
+{
+    let mut all = Vec::with_capacity(alloc, nodes as usize)?;
+    for v in 0..nodes {
+        all.push(nearest.of(v))?;
+    }
+    Ok(all)
+}
+
+fn flag_list(alloc: Global, landmarks: &Landmarks) -> Result<Vec<bool>, AllocError>
+    ensures { IfOk result (λ all. all.items ≡ landmarks.now) }
+{
+    let flags = landmarks.flags();
+    let mut all = Vec::with_capacity(alloc, flags.len())?;
+    for flag in flags {
+        all.push(*flag)?;
+    }
+    Ok(all)
+}
+
+/// The tables without a tree.
+fn empty_parts(
+    alloc: Global,
+    graph: &Graph,
+    landmarks: &Landmarks,
+    nearest: &Nearest,
+    generation: u64,
+) -> Result<Parts, AllocError>
+    requires same_size { length landmarks.now ≡ graph.now.nodes }
+    requires nodes { length nearest.now.nearest ≡ graph.now.nodes }
+    requires nearest { (v : ℕ) → IsNearestOf graph.now.edges landmarks.now v (slice_index_or nearest.now.nearest v None) }
+    ensures { IfOk result (λ parts. IsBuildOf graph.now landmarks.now nearest.now.nearest generation parts 0) }
+{
+    let nodes = graph.nodes();
+    Ok(Parts {
+        nodes,
+        generation,
+        landmarks: flag_list(alloc, landmarks)?,
+        ports: all_ports(alloc, graph)?,
+        nearest: nearest_list(alloc, nodes, nearest)?,
+        entries: no_entries(alloc, nodes)?,
+        directories: no_directories(alloc, nodes)?,
+        homes: no_homes(alloc, nodes)?,
+    })
+}
+
+/// One root more: its tree lies in an arena of its own over the scratch, and is gone when its rows are in the tables.
+fn add_root<A: Allocator>(
+    alloc: Global,
+    graph: &Graph,
+    landmarks: &Landmarks,
+    nearest: &Nearest,
+    parts: &mut Parts,
+    root: u16,
+    scratch: A,
+) -> Result<(), AllocError>
+    requires inside { root < graph.now.nodes }
+    requires same_size { length landmarks.now ≡ graph.now.nodes }
+    requires nodes { length nearest.now.nearest ≡ graph.now.nodes }
+    requires nearest { (v : ℕ) → IsNearestOf graph.now.edges landmarks.now v (slice_index_or nearest.now.nearest v None) }
+    requires built { IsBuildOf graph.now landmarks.now nearest.now.nearest parts.old.generation parts.old root }
+    ensures { OnOk result (IsBuildOf graph.now landmarks.now nearest.now.nearest parts.old.generation parts.new (root + 1)) }
+{
+    let rows = root_rows(alloc, graph, landmarks, nearest, root, scratch)?;
+    add_rows(alloc, parts, root, &rows)
+}
+
+/// The trees of all roots, one after the other.
+fn add_roots<A: Allocator + Clone>(
+    alloc: Global,
+    graph: &Graph,
+    landmarks: &Landmarks,
+    nearest: &Nearest,
+    parts: &mut Parts,
+    scratch: A,
+) -> Result<(), AllocError>
+    requires same_size { length landmarks.now ≡ graph.now.nodes }
+    requires nodes { length nearest.now.nearest ≡ graph.now.nodes }
+    requires nearest { (v : ℕ) → IsNearestOf graph.now.edges landmarks.now v (slice_index_or nearest.now.nearest v None) }
+    requires built { IsBuildOf graph.now landmarks.now nearest.now.nearest parts.old.generation parts.old 0 }
+    ensures { OnOk result (IsBuildOf graph.now landmarks.now nearest.now.nearest parts.old.generation parts.new graph.now.nodes) }
+{
+    for root in 0..graph.nodes() {
+        let below = scratch.clone()?;
+        add_root(alloc, graph, landmarks, nearest, parts, root, below)?;
+    }
+    Ok(())
+}
+
+/// The scheme of a graph with these landmarks: all eight rules hold of it, so it serves the graph. Each root's tree lies in
+/// an arena of its own over the scratch, and nothing of the scratch stays in the scheme, which is the same for every
+/// scratch. An `Err` means that memory was refused.
+pub fn build<A: Allocator + Clone>(
+    alloc: Global,
+    graph: &Graph,
+    landmarks: &Landmarks,
+    generation: u64,
+    scratch: A,
+) -> Result<Scheme, AllocError>
+    requires same_size { length landmarks.now ≡ graph.now.nodes }
+    ensures checked { IfOk result (λ scheme. IsChecked graph.now scheme) }
+    ensures serves { IfOk result (λ scheme. Serves graph.now (tables scheme)) }
+    ensures landmarks { IfOk result (λ scheme. scheme.landmarks.items ≡ landmarks.now) }
+    ensures generation { IfOk result (λ scheme. scheme.generation ≡ generation) }
+    ensures trees { IfOk result (λ scheme. (x r : ℕ) → IsSome ((tables scheme).entry x r) ↔ IsInTree graph.now (tables scheme).landmark r x) }
+    ensures nearest { IfOk result (λ scheme. (x : ℕ) → NearestIsRight graph.now (tables scheme).landmark x ((tables scheme).nearest x)) }
+{
+    let nearest = from_landmarks(alloc, graph, landmarks)?;
+    let mut parts = empty_parts(alloc, graph, landmarks, &nearest, generation)?;
+    let _sound = graph.nodes();
+    add_roots(alloc, graph, landmarks, &nearest, &mut parts, scratch)?;
+    Ok(Scheme::assemble(parts))
+}

@@ -1,0 +1,43 @@
+//! Schemes: the tables by which nodes carry packets over at most three times the shortest way.
+//!
+//! A scheme has two levels, landmarks and clusters (after Thorup and Zwick, Compact Routing Schemes;
+//! the tables, the limits and the order of refusals are this project's profile). Each node is the root
+//! of one tree: a landmark's spans all that it reaches, another node's its cluster. A node keeps an
+//! entry for each tree that it is in; a node that is no landmark also keeps a directory, the labels in
+//! its own tree. The address of a node names its nearest landmark and its label in that landmark's tree.
+//!
+//! The contract that the layers above use is that of [`build`]: all eight rules (`IsChecked` of
+//! `specs/Checks`) hold of the scheme, so it serves the graph (`Serves` of `specs/Service`, which names
+//! no tree, landmark or label), with exactly the landmarks and the generation that were handed in. That
+//! the rules give good service is a law, proved once: [`scheme_laws`].
+//!
+//! [`Scheme::assemble`] takes any tables. All its calls are total for any of them and take no memory, but
+//! for [`Scheme::carry`], which takes that of its trail.
+//!
+//! ```text
+//! let scheme = build(alloc, &graph, &landmarks, generation, &heap)?;
+//! let address = scheme.address(4)?;               // where node 4 is to be found
+//! let packet = scheme.decide(0, &address)?;       // node 0 sends
+//! scheme.node_step(0, &packet)?                   // Forward { port: 0, next: 1, packet }
+//! ```
+#![tactic(auto)]
+
+#[cfg(test)]
+mod build_tests;
+mod building;
+mod columns;
+mod laws;
+mod packet;
+mod parts;
+mod scheme;
+mod search;
+#[cfg(test)]
+mod tests;
+mod trail;
+
+pub use building::build;
+pub use laws::scheme_laws;
+pub use packet::{Address, Home, Move, Packet, Refused};
+pub use parts::{Entry, Listed, Near, Parts};
+pub use scheme::Scheme;
+pub use trail::{CarryRefused, Trail};

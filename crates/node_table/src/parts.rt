@@ -1,0 +1,42 @@
+// The tables that a scheme holds.
+pub use distances::Near;
+use heavy_labels::{Label, Record};
+
+/// A node's place in the tree of a root.
+#[derive(Clone, Copy)]
+pub struct Entry {
+    pub root: u16,
+    /// The distance of the node from the root.
+    pub distance: u64,
+    /// The node's parent in the tree: none at the root.
+    pub parent: Option<u16>,
+    pub tree_record: Record,
+}
+
+/// A member of a root's tree, in the directory of that root.
+#[derive(Drop)]
+pub struct Listed {
+    pub node: u16,
+    /// The member's label in the tree of the directory's node.
+    pub label: Label,
+}
+
+/// All that a scheme holds. A list of nodes has the place of each node at its number.
+#[derive(Drop)]
+pub struct Parts {
+    /// The number of nodes.
+    pub nodes: u16,
+    pub generation: u64,
+    /// Whether each node is a landmark.
+    pub landmarks: Vec<bool>,
+    /// The neighbours of each node: the k-th is behind port k.
+    pub ports: Vec<Vec<u16>>,
+    /// The nearest landmark of each node, where a landmark reaches it.
+    pub nearest: Vec<Option<Near>>,
+    /// Each node's entries, one for each root in whose tree it is.
+    pub entries: Vec<Vec<Entry>>,
+    /// The members of each node's own tree with their labels in it. A landmark keeps none.
+    pub directories: Vec<Vec<Listed>>,
+    /// Each node's label in the tree of its nearest landmark.
+    pub homes: Vec<Option<Label>>,
+}

@@ -1,0 +1,313 @@
+ghost use Rattle.std.specs.Prelude.{◌≡◌, ◌<◌, ◌≤◌, ◌^◌, ◌==◌, ℕ, cond, is_some, None, Some, Ok, Err, length, MatchOption, slice_get};
+ghost use Rattle.node_table.specs.declared.packet.Move.TheVariants.{Delivered};
+ghost use Rattle.node_table.specs.declared.packet.Refused.TheVariants.{Stray, Unreachable};
+ghost use Rattle.node_table.specs.Checks.{distance_of};
+ghost use Rattle.node_table.specs.Laws.{AreTreesOf};
+ghost use Rattle.node_table.specs.Ports.{index_of};
+ghost use Rattle.node_table.specs.Trails.{gap};
+ghost use Rattle.node_table.specs.Service.{address_given, decide as packet_given, forward_over, home_of, node_step as move_given, one_less, packet_by};
+ghost use Rattle.node_table.specs.Tables.{AreAscending, entries_at, first_entry, first_listed, directory_at, or_none, roots_of, tables, ports_at};
+
+use crate::packet::{Address, Home, Move, Packet, Refused};
+use crate::parts::{Entry, Listed, Near, Parts};
+use crate::search::{directories_ascend, entries_ascend, node_place, root_place};
+use heavy_labels::{Label, TreeStep, step};
+use std::marker::Model;
+
+/// A scheme: its tables, and whether they can be searched by halving. Contracts see the tables.
+#[derive(Drop)]
+pub struct Scheme {
+    parts: Parts,
+    ascending: bool,
+}
+
+impl Model for Scheme {
+    ghost use Rattle.std.specs.Prelude.{◌↔◌, IsTrue};
+    ghost use Rattle.node_table.specs.declared.parts.Parts.{Parts};
+    ghost use Rattle.node_table.specs.Tables.{AreAscending};
+
+    ghost Value = { Parts };
+
+    ghost view = { λ s. s.parts };
+
+    ghost invariant = { λ s. IsTrue s.ascending ↔ AreAscending s.parts };
+}
+
+impl Scheme {
+    /// A scheme of any tables. Whether they ascend is found here, once.
+    pub fn assemble(parts: Parts) -> Scheme
+        ensures { result ≡ parts }
+    {
+        let ascending = entries_ascend(parts.entries.as_slice())
+            && directories_ascend(parts.directories.as_slice());
+        Scheme { parts, ascending }
+    }
+
+    /// The tables.
+    pub fn parts(&self) -> &Parts
+        ensures { result.now ≡ self.now }
+    {
+        &self.parts
+    }
+
+    /// In how many trees a node has an entry.
+    pub fn entries(&self, x: u16) -> usize
+        requires { x < self.now.nodes }
+        ensures count { result ≡ length (entries_at self.now x) }
+        ensures trees { AreTreesOf self.now x result }
+    {
+        self.entries_of(x).len()
+    }
+
+    /// The entries of a node.
+    fn entries_of(&self, x: u16) -> &[Entry]
+        ensures { result.now ≡ entries_at self.now x }
+    {
+        match self.parts.entries.get(x as usize) {
+            Some(entries) => entries.as_slice(),
+            None => &[],
+        }
+    }
+
+    /// The directory of a node.
+    fn directory_of(&self, x: u16) -> &[Listed]
+        ensures { result.now ≡ directory_at self.now x }
+    {
+        match self.parts.directories.get(x as usize) {
+            Some(directory) => directory.as_slice(),
+            None => &[],
+        }
+    }
+
+    /// The place of a node's first entry for a root, and how many entries were looked at.
+    pub fn find(&self, x: u16, root: u16) -> (Option<usize>, u32)
+        requires { x < self.now.nodes }
+        ensures place { result.0 ≡ index_of root (roots_of (entries_at self.now x)) }
+        ensures some { AreAscending self.now → 0 < length (entries_at self.now x) → 0 < result.1 }
+        ensures few { AreAscending self.now → (k : ℕ) → length (entries_at self.now x) < 2 ^ k → result.1 ≤ k }
+    {
+        root_place(self.entries_of(x), root, self.ascending)
+    }
+
+    /// A node's first entry for a root.
+    #[tactic(auto, using(crate::proofs::Searches::root_within, crate::proofs::Searches::entry_found, crate::proofs::Searches::entry_missing))]
+    pub fn entry(&self, x: u16, root: u16) -> Option<&Entry>
+        ensures { MatchOption result (first_entry root (entries_at self.now x) ≡ None) (λ e. first_entry root (entries_at self.now x) ≡ Some e.now) }
+    {
+        let entries = self.entries_of(x);
+        let (place, _) = root_place(entries, root, self.ascending);
+        match place {
+            Some(i) => Some(&entries[i]),
+            None => None,
+        }
+    }
+
+    /// A node's distance from a root, 0 where it has no entry for it.
+    fn distance(&self, x: u16, root: u16) -> u64
+        ensures { result ≡ distance_of ((tables self.now).entry x root) }
+    {
+        match self.entry(x, root) {
+            Some(entry) => entry.distance,
+            None => 0,
+        }
+    }
+
+    /// How much the distances of two nodes from a root differ.
+    pub(crate) fn gap(&self, root: u16, x: u16, y: u16) -> u64
+        ensures { result ≡ gap (tables self.now) root x y }
+    {
+        let here = self.distance(x, root);
+        let there = self.distance(y, root);
+        if here < there {
+            there - here
+        } else {
+            here - there
+        }
+    }
+
+    /// A node's first label in a directory.
+    #[tactic(auto, using(crate::proofs::Searches::node_within, crate::proofs::Searches::listed_found, crate::proofs::Searches::listed_missing))]
+    pub fn listed(&self, u: u16, v: u16) -> Option<&Label>
+        ensures { MatchOption result (first_listed v (directory_at self.now u) ≡ None) (λ l. first_listed v (directory_at self.now u) ≡ Some l.now) }
+    {
+        let directory = self.directory_of(u);
+        match node_place(directory, v, self.ascending) {
+            Some(i) => Some(&directory[i].label),
+            None => None,
+        }
+    }
+
+    /// The address of a node, under this scheme's generation.
+    pub fn address(&self, v: u16) -> Result<Address, Refused>
+        ensures { result ≡ address_given (tables self.now) v }
+    {
+        if v >= self.parts.nodes {
+            return Err(Refused::NoNode);
+        }
+        Ok(Address {
+            generation: self.parts.generation,
+            node: v,
+            home: self.home(v),
+        })
+    }
+
+    /// A node's nearest landmark, and the node's label in its tree.
+    fn home(&self, v: u16) -> Option<Home>
+        ensures { result ≡ home_of ((tables self.now).nearest v) ((tables self.now).home v) }
+    {
+        let near = nearest_at(self.parts.nearest.as_slice(), v)?;
+        let label = label_at(self.parts.homes.as_slice(), v)?;
+        Some(Home {
+            landmark: near.landmark,
+            label,
+        })
+    }
+
+    /// The packet that a node sends to an address: in its own tree where its directory lists the destination, else in
+    /// the tree of the landmark that the address names. The address's generation isn't looked at.
+    pub fn decide(&self, u: u16, address: &Address) -> Result<Packet, Refused>
+        ensures { result ≡ packet_given (tables self.now) u address.now }
+    {
+        let nodes = self.parts.nodes;
+        if u >= nodes || address.node >= nodes {
+            return Err(Refused::NoNode);
+        }
+        if let Some(label) = self.listed(u, address.node) {
+            return Ok(self.packet(address.node, u, label));
+        }
+        match &address.home {
+            Some(home) => self.by_home(u, address.node, home),
+            None => Err(Refused::Unreachable),
+        }
+    }
+
+    /// The packet for v in the tree of a landmark that has an entry at u.
+    fn by_home(&self, u: u16, v: u16, home: &Home) -> Result<Packet, Refused>
+        requires { u < self.now.nodes }
+        ensures { result ≡ cond (is_some ((tables self.now).entry u home.now.landmark)) (Ok (packet_by (tables self.now) v home.now.landmark home.now.label)) (Err Unreachable) }
+    {
+        if self.entry(u, home.landmark).is_none() {
+            return Err(Refused::Unreachable);
+        }
+        Ok(self.packet(v, home.landmark, &home.label))
+    }
+
+    /// A new packet for a node, to go in the tree of `root` by the node's label there.
+    fn packet(&self, destination: u16, root: u16, label: &Label) -> Packet
+        requires { 0 < self.now.nodes }
+        ensures { result ≡ packet_by (tables self.now) destination root label.now }
+    {
+        Packet {
+            generation: self.parts.generation,
+            destination,
+            root,
+            label: label.copy(),
+            hops_left: self.parts.nodes - 1,
+        }
+    }
+
+    /// The node behind a port.
+    fn over(&self, x: u16, port: u16) -> Option<u16>
+        ensures { result ≡ (tables self.now).over x port }
+    {
+        match self.parts.ports.get(x as usize) {
+            Some(ports) => port_at(ports.as_slice(), port),
+            None => None,
+        }
+    }
+
+    /// The packet goes on by a port of x.
+    fn forward(&self, x: u16, port: u16, packet: &Packet) -> Result<Move, Refused>
+        ensures { result ≡ forward_over packet.now port ((tables self.now).over x port) }
+    {
+        let Some(next) = self.over(x, port) else {
+            return Err(Refused::Stray);
+        };
+        if packet.hops_left == 0 {
+            return Err(Refused::Spent);
+        }
+        Ok(Move::Forward {
+            port,
+            next,
+            packet: one_hop_less(packet),
+        })
+    }
+
+    /// What a node does with a packet. The packet's generation isn't looked at.
+    pub fn node_step(&self, x: u16, packet: &Packet) -> Result<Move, Refused>
+        ensures { result ≡ move_given (tables self.now) x packet.now }
+    {
+        let nodes = self.parts.nodes;
+        if x >= nodes {
+            return Err(Refused::NoNode);
+        }
+        if packet.hops_left >= nodes {
+            return Err(Refused::Stray);
+        }
+        let Some(entry) = self.entry(x, packet.root) else {
+            return Err(Refused::Stray);
+        };
+        match step(&entry.tree_record, &packet.label) {
+            TreeStep::Arrived => delivered(x, packet),
+            TreeStep::Port(port) => self.forward(x, port, packet),
+            TreeStep::NoParent => Err(Refused::Stray),
+            TreeStep::NoLight => Err(Refused::Stray),
+        }
+    }
+}
+
+/// The packet with one hop less.
+fn one_hop_less(packet: &Packet) -> Packet
+    requires { 0 < packet.now.hops_left }
+    ensures { result ≡ one_less packet.now }
+{
+    Packet {
+        generation: packet.generation,
+        destination: packet.destination,
+        root: packet.root,
+        label: packet.label.copy(),
+        hops_left: packet.hops_left - 1,
+    }
+}
+
+/// What x does with a packet whose label is x's own in the packet's tree.
+fn delivered(x: u16, packet: &Packet) -> Result<Move, Refused>
+    ensures { result ≡ cond (x == packet.now.destination) (Ok Delivered) (Err Stray) }
+{
+    if x == packet.destination {
+        Ok(Move::Delivered)
+    } else {
+        Err(Refused::Stray)
+    }
+}
+
+fn port_at(ports: &[u16], port: u16) -> Option<u16>
+    ensures { result ≡ slice_get ports.now port }
+{
+    let i = port as usize;
+    if i < ports.len() {
+        Some(ports[i])
+    } else {
+        None
+    }
+}
+
+fn nearest_at(nearest: &[Option<Near>], v: u16) -> Option<Near>
+    ensures { result ≡ or_none (slice_get nearest.now v) }
+{
+    let i = v as usize;
+    if i < nearest.len() { nearest[i] } else { None }
+}
+
+fn label_at(homes: &[Option<Label>], v: u16) -> Option<Label>
+    ensures { result ≡ or_none (slice_get homes.now v) }
+{
+    let i = v as usize;
+    if i >= homes.len() {
+        return None;
+    }
+    match &homes[i] {
+        Some(label) => Some(label.copy()),
+        None => None,
+    }
+}

@@ -1,0 +1,4 @@
+pub mod Texts
+pub mod OneRequest
+pub mod Listings
+pub mod Answering

@@ -1,0 +1,5 @@
+pub mod OpText
+pub mod Lines
+pub mod Faults
+pub mod Answer
+pub mod Printed

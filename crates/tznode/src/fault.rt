@@ -1,0 +1,138 @@
+//! What ends a command.
+ghost use Rattle.std.specs.Prelude.{◌≡◌, ◌≤◌};
+ghost use Rattle.tznode.specs.Faults.{fault_text, status_of};
+
+use checkpoint::{FormatRefused, OpenRefused};
+use group_commit::DeskRefused;
+use std::alloc::{AllocError, AllocFailed};
+use thiserror::Error;
+
+/// Why a command ended, and what the program says of it.
+#[derive(Clone, Copy, Debug, PartialEq, Eq, Drop, Error)]
+#[error("{}", self.text())]
+pub enum Fault {
+    /// The words are no command, or a number among them is out of its range.
+    Usage,
+    /// A word in the place of an OP isn't one.
+    Op,
+    /// There are more OPs than a change may have.
+    ChangeTooLong,
+    /// A device can't have so many nodes.
+    NodeCount,
+    /// The file that was made hasn't a device's length.
+    DeviceLength,
+    /// The file can't be made or opened.
+    DeviceFile,
+    /// The file's front isn't that of a device.
+    NotFormatted,
+    /// The device is of another layout.
+    LayoutNotKnown,
+    /// The device's bytes are not those of a store.
+    Damaged,
+    /// A read, write or sync of the device failed.
+    Device,
+    /// Memory ran out.
+    Memory,
+    /// The count or the epoch stands at its limit.
+    Worn,
+    /// What was to be printed couldn't be.
+    Output,
+}
+
+impl Fault {
+    /// What is told of it.
+    pub fn text(&self) -> &'static str
+        ensures { result.now ≡ fault_text self.now }
+    {
+        match self {
+            Fault::Usage => "usage",
+            Fault::Op => "op not understood",
+            Fault::ChangeTooLong => "change too long",
+            Fault::NodeCount => "node count out of range",
+            Fault::DeviceLength => "device length is wrong",
+            Fault::DeviceFile => "device file cannot be used",
+            Fault::NotFormatted => "not formatted",
+            Fault::LayoutNotKnown => "layout not known",
+            Fault::Damaged => "damaged",
+            Fault::Device => "device failed",
+            Fault::Memory => "out of memory",
+            Fault::Worn => "worn out",
+            Fault::Output => "input or output failed",
+        }
+    }
+
+    /// The program's exit status.
+    pub fn status(self) -> u8
+        ensures value { result ≡ status_of self }
+        ensures some { 1 ≤ result }
+    {
+        match self {
+            Fault::Usage | Fault::Op => 2,
+            _ => 1,
+        }
+    }
+}
+
+impl From<AllocError> for Fault {
+    ghost use Rattle.tznode.specs.declared.fault.Fault.TheVariants.{Memory};
+
+    ghost from_gives = { λ _ e. e ≡ Memory };
+
+    fn from(_: AllocError) -> Self {
+        Fault::Memory
+    }
+}
+
+impl<T: Drop> From<AllocFailed<T>> for Fault {
+    ghost use Rattle.tznode.specs.declared.fault.Fault.TheVariants.{Memory};
+
+    ghost from_gives = { λ _ e. e ≡ Memory };
+
+    fn from(_: AllocFailed<T>) -> Self {
+        Fault::Memory
+    }
+}
+
+impl From<FormatRefused> for Fault {
+    ghost use Rattle.tznode.specs.Faults.{format_fault};
+
+    ghost from_gives = { λ refused e. e ≡ format_fault refused };
+
+    fn from(refused: FormatRefused) -> Self {
+        match refused {
+            FormatRefused::BadSize => Fault::NodeCount,
+            FormatRefused::BadLength => Fault::DeviceLength,
+            FormatRefused::Device => Fault::Device,
+        }
+    }
+}
+
+impl From<OpenRefused> for Fault {
+    ghost use Rattle.tznode.specs.Faults.{open_fault};
+
+    ghost from_gives = { λ refused e. e ≡ open_fault refused };
+
+    fn from(refused: OpenRefused) -> Self {
+        match refused {
+            OpenRefused::NotFormatted => Fault::NotFormatted,
+            OpenRefused::BadVersion => Fault::LayoutNotKnown,
+            OpenRefused::Damaged => Fault::Damaged,
+            OpenRefused::Device => Fault::Device,
+            OpenRefused::Memory => Fault::Memory,
+        }
+    }
+}
+
+impl From<DeskRefused> for Fault {
+    ghost use Rattle.tznode.specs.Faults.{desk_fault};
+
+    ghost from_gives = { λ refused e. e ≡ desk_fault refused };
+
+    fn from(refused: DeskRefused) -> Self {
+        match refused {
+            DeskRefused::Device | DeskRefused::Down => Fault::Device,
+            DeskRefused::Memory => Fault::Memory,
+            DeskRefused::Worn => Fault::Worn,
+        }
+    }
+}
