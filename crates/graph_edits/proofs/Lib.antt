@@ -7,3 +7,4 @@ pub mod Laying
 pub mod Placing
 pub mod Making
 pub mod Preparing
+pub mod EdgeRows

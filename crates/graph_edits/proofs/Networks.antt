@@ -1,7 +1,7 @@
 -- The network that rows stand for.
 use Rattle.std.proofs.Common.{◌≡◌, ℕ, zero, suc, ◌+◌, ◌<◌, ◌≤◌, Bool, true, false, cond, ◌&&◌, T, ◌≢◌, inl, inr, List, [], ◌∷◌, ◌++◌, length, get_or, Option, None, Some, Less, is_lt, nat_cmp, eqb, ltb, refl, sym, ap, ◌∙◌, subst, arith, Vec, Global, take, set, get_or-set_other}
 use Rattle.std.specs.Cmp.{nat_cmp_total, nat_cmp_is, unsigned_tied}
-use Rattle.std.specs.FinMap.{find, len, empty, get-empty, len-empty, same_map, is_sorted, nat_cmp-IsAntisymmetric}
+use Rattle.std.specs.FinMap.{find, get, len, empty, get-empty, len-empty, same_map, is_sorted, nat_cmp-IsAntisymmetric}
 use Rattle.std.specs.FinMap.Entries.{same_entries, find-append, below_all}
 use Rattle.std.specs.List.{filter_map, cons_option, sum_by}
 use Rattle.std.proofs.lemmas.List.Sums.{sum_by-append, sum_by-cons}
@@ -26,8 +26,16 @@ past rows a b w le is = let e : row_of rows a ≡ [] = get_or_past rows a [] le 
 bounded : (rows : List Row) (a b w : ℕ) → find nat_cmp b (row_of rows a) ≡ Some w → a < length rows
 bounded rows a b w is = elim (cases_lt a (length rows)) [ inl lt ↦ lt | inr le ↦ absurd (past rows a b w le is) ]
 
+ordered : (rows : List Row) (a b w : ℕ) → get (edges_from 0 rows) (a, b) ≡ Some w → a < b
+ordered rows a b w is = by (ltb a b) refl (sym (get-edges_from rows a b) ∙ is)
+  where
+    by : (t : Bool) → ltb a b ≡ t → cond t (find nat_cmp b (row_of rows a)) None ≡ Some w → a < b
+    by true lt _ = grind (arith, nat_tests, lt)
+    by false ge none = absurd cc
+
 pub sound_rows : (rows : List Row) (count : ℕ) → AreRows rows count → IsSound (network_of rows)
 sound_rows rows count kept = record {
+  ordered = ordered rows;
   within = λ a b w is. let here = sym (weight_rows rows count kept a b) ∙ is in (bounded rows a b w here, bounded rows b a w (sym (kept.mirrored a b) ∙ here));
   loopless = λ a w is. let none : None ≡ Some w = sym (weight_rows rows count kept a a ∙ kept.loopless a) ∙ is in cc;
   weighted = λ a b w is. kept.weighted a b w (sym (weight_rows rows count kept a b) ∙ is);

@@ -70,8 +70,9 @@ degree_of g x = length (neighbours_of g x)
 abbrev pub all_degrees : Network → ℕ
 all_degrees g = sum_by (λ x. degree_of g x) (below g.nodes)
 
--- each edge joins two different nodes of the network, and its weight is in range
+-- each edge has its smaller node first, joins two different nodes of the network, and its weight is in range
 pub record IsSound (g : Network) : Type 0 where
+  pub ordered : (a b w : ℕ) → get g.edges (a, b) ≡ Some w → a < b
   pub within : (a b w : ℕ) → weight_in g a b ≡ Some w → (a < g.nodes) × (b < g.nodes)
   pub loopless : (a w : ℕ) → weight_in g a a ≡ Some w → ⊥
   pub weighted : (a b w : ℕ) → weight_in g a b ≡ Some w → (1 ≤ w) × (w ≤ greatest_weight)

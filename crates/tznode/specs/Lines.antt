@@ -1,8 +1,7 @@
 -- The lines that the program prints.
 use Rattle.std.specs.Prelude.{ℕ, List, [], ◌∷◌, ◌++◌, codes, decimal, cond, nat_lt}
 use Rattle.std.specs.List.{flat_map}
-use Rattle.std.specs.FinMap.{len}
-use Rattle.graph_edits.specs.Edges.{Network, below, neighbours_of}
+use Rattle.std.specs.FinMap.{len, entries}
 use Rattle.graph_edits.specs.declared.edits.Code.{Code}
 use Rattle.graph_edits.specs.declared.edits.Code.TheVariants.{NoNode, Loop, BadWeight, EdgeThere, NoEdge, TooManyEdges}
 use Rattle.checkpoint.specs.State.{State}
@@ -39,18 +38,14 @@ verdict_text (Refused op code) = codes "refused op=" ++ (decimal op ++ (codes " 
 abbrev pub line : List ℕ → List ℕ
 line text = text ++ 10 ∷ []
 
--- a node's edge to a neighbour, at the smaller of the two
-abbrev pub edge_line : ℕ → ℕ × ℕ → List ℕ
-edge_line node neighbour = cond (nat_lt node neighbour.0) (line (edge_text node neighbour.0 neighbour.1)) []
+-- the line of an edge
+abbrev pub edge_line : (ℕ × ℕ) × ℕ → List ℕ
+edge_line e = line (edge_text e.0.0 e.0.1 e.1)
 
--- a node's edges to neighbours of a row
-abbrev pub row_lines : ℕ → List (ℕ × ℕ) → List ℕ
-row_lines node row = flat_map (edge_line node) row
-
--- the edges of the nodes below n, each at its smaller node
-abbrev pub lines_below : Network → ℕ → List ℕ
-lines_below graph n = flat_map (λ node. row_lines node (neighbours_of graph node)) (below n)
-
--- what `show` prints: the totals, then each edge once, ascending
+-- what `show` prints: the totals, then the edges in ascending order
 abbrev pub listing_text : State → List ℕ
-listing_text state = line (totals_text state.count (len state.graph.edges)) ++ lines_below state.graph state.graph.nodes
+listing_text state = line (totals_text state.count (len state.graph.edges)) ++ flat_map edge_line (entries state.graph.edges)
+
+-- what a node's row adds to it for a neighbour: the edge, where the neighbour is the greater node
+abbrev pub line_up : ℕ → ℕ × ℕ → List ℕ
+line_up node neighbour = cond (nat_lt node neighbour.0) (edge_line ((node, neighbour.0), neighbour.1)) []

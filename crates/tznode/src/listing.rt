@@ -1,7 +1,8 @@
 //! A graph, as the program prints it.
 ghost use Rattle.std.specs.Prelude.{◌≡◌, ◌++◌, IfOk, OnOk};
+ghost use Rattle.std.specs.List.{flat_map};
 ghost use Rattle.std.specs.String.{string_bytes};
-ghost use Rattle.tznode.specs.Lines.{listing_text, row_lines, edge_line};
+ghost use Rattle.tznode.specs.Lines.{listing_text, line_up};
 
 use crate::lines::{EdgeLine, Totals};
 use graph_edits::Graph;
@@ -25,7 +26,7 @@ pub fn listing_of(alloc: Global, count: u64, graph: &Graph) -> Result<String, Al
 
 // The edges of one node to greater ones.
 fn push_edges(text: &mut String, node: u16, row: &[(u16, u32)]) -> Result<(), AllocError>
-    ensures { OnOk result (string_bytes text.new ≡ string_bytes text.old ++ row_lines node row.now) }
+    ensures { OnOk result (string_bytes text.new ≡ string_bytes text.old ++ flat_map (line_up node) row.now) }
 {
     for (neighbour, weight) in row {
         push_edge(text, node, *neighbour, *weight)?;
@@ -34,7 +35,7 @@ fn push_edges(text: &mut String, node: u16, row: &[(u16, u32)]) -> Result<(), Al
 }
 
 fn push_edge(text: &mut String, node: u16, neighbour: u16, weight: u32) -> Result<(), AllocError>
-    ensures { OnOk result (string_bytes text.new ≡ string_bytes text.old ++ edge_line node (neighbour, weight)) }
+    ensures { OnOk result (string_bytes text.new ≡ string_bytes text.old ++ line_up node (neighbour, weight)) }
 {
     if node < neighbour {
         let edge = EdgeLine {

@@ -1,7 +1,8 @@
 use Rattle.std.proofs.Common.{◌≡◌, ◌++◌}
 use Rattle.std.specs.String.{string_bytes}
 use Rattle.std.specs.FinMap.{len}
-use Rattle.tznode.specs.Lines.{line, totals_text, lines_below}
+use Rattle.tznode.specs.Lines.{line, totals_text}
+use Rattle.tznode.proofs.Listings.{lines_below}
 use Rattle.tznode.proofs.listing.listing_of.Given as goal
 
 abbrev pub invariant-loop-node : goal.invariant-loop-node
