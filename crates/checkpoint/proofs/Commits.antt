@@ -1,13 +1,13 @@
 -- What an append leaves of a store.
-use Rattle.std.proofs.Common.{◌≡◌, ◌⊎◌, inl, inr, ⊎_elim, ℕ, ◌+◌, ◌<◌, ◌≤◌, List, [], ◌∷◌, ◌++◌, sym, ◌∙◌, ap, arith, Some}
+use Rattle.std.proofs.Common.{◌≡◌, ◌⊎◌, inl, inr, ⊎_elim, ℕ, ◌+◌, ◌<◌, ◌≤◌, List, [], ◌∷◌, ◌++◌, sym, ◌∙◌, arith, Some}
 use Rattle.journal.specs.Entry.{Entry}
 use Rattle.disk_trait.specs.Disk.{DiskView, MayLeave}
 use Rattle.journal.specs.Records.{AllSpell, IsBeforeOrAfter, entries_of}
-use Rattle.checkpoint.specs.Layout.{worn_limit, slot_start, other, journal_of}
-use Rattle.checkpoint.specs.State.{State, after}
-use Rattle.checkpoint.specs.Standing.{StandsBy, StandsFor}
+use Rattle.standing.specs.Layout.{worn_limit, slot_start, other, journal_of}
+use Rattle.standing.specs.State.{State, after}
+use Rattle.standing.specs.Standing.{StandsBy, StandsFor}
 use Rattle.checkpoint.specs.Kept.{IsKept}
-use Rattle.checkpoint.proofs.Folds.{after-push}
+use Rattle.standing.proofs.Folds.{after-push}
 use Rattle.checkpoint.proofs.TornSlots.{apart, byte_apart, away, moved}
 
 module _ (v0 : DiskView) (slot epoch other_gate : ℕ) (base state next : State) (groups : List (List Entry)) (group : List Entry) (is : slot < 2) (kept : IsKept v0 slot epoch other_gate base state groups) (goes : after state group ≡ Some next) where

@@ -1,6 +1,6 @@
 -- The text of a network's edges, node by node.
-use Rattle.std.proofs.Common.{◌≡◌, ◌⊎◌, inl, inr, append_assoc, ℕ, zero, suc, ◌+◌, ◌<◌, ◌≤◌, Bool, true, false, cond, ◌&&◌, ◌||◌, List, [], ◌∷◌, ◌++◌, length, Option, None, Some, Ordering, Less, Equal, ltb, eqb, nat_cmp, refl, sym, ◌∙◌, ap, subst, arith}
-use Rattle.std.specs.List.{flat_map, filter_map, cons_option, AllByRecursion}
+use Rattle.std.proofs.Common.{◌≡◌, ◌⊎◌, inl, inr, append_assoc, ℕ, zero, suc, ◌<◌, ◌≤◌, Bool, true, false, cond, ◌&&◌, ◌||◌, List, [], ◌∷◌, ◌++◌, Option, None, Some, Less, Equal, ltb, eqb, nat_cmp, refl, sym, ◌∙◌, ap, subst, arith}
+use Rattle.std.specs.List.{flat_map, filter_map, cons_option}
 use Rattle.std.specs.Option.{option_map}
 use Rattle.std.specs.Ordering.{ordering_then}
 use Rattle.std.specs.Cmp.{nat_cmp_is}
@@ -9,13 +9,13 @@ use Rattle.std.proofs.lemmas.List.{append-nil}
 use Rattle.std.proofs.lemmas.List.Concat.{flat_map-append, flat_map-cons}
 use Rattle.std.proofs.lemmas.List.Elements.{filter_map-append}
 use Rattle.std.proofs.lemmas.Bool.Decides.{nat_tests}
-use Rattle.graph_edits.specs.Edges.{EdgeMap, Network, pair_cmp, pair_of, weight_in, below, neighbours_of}
+use Rattle.graph_edits.specs.Edges.{EdgeMap, Network, pair_cmp, weight_in, below, neighbours_of}
 use Rattle.graph_edits.proofs.EdgesOfRows.{pair_total, pair_same, pair_tied}
-use Rattle.checkpoint.specs.Ascending.{AllBelow, IsBefore}
-use Rattle.checkpoint.specs.State.{edge_text, edges_text, IsEdge, IsLawful}
+use Rattle.standing.specs.Ascending.{AllBelow}
+use Rattle.standing.specs.State.{edge_text, edges_text, IsEdge, IsLawful}
 use Rattle.checkpoint.specs.Rolling.{up_text}
-use Rattle.checkpoint.proofs.Entries.{all_entries}
-use Rattle.checkpoint.proofs.EdgeLemmas.{entries_added, no_entries, pair_in_order}
+use Rattle.standing.proofs.Entries.{all_entries}
+use Rattle.standing.proofs.EdgeLemmas.{entries_added, no_entries, pair_in_order}
 
 abbrev before : ℕ × ℕ → ℕ × ℕ → Bool
 before q k = ltb q.0 k.0 || (eqb q.0 k.0 && ltb q.1 k.1)

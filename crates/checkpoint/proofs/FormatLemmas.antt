@@ -1,17 +1,17 @@
 -- What a fresh device stands for.
-use Rattle.std.proofs.Common.{◌≡◌, ◌≢◌, ℕ, ◌+◌, ◌*◌, ◌<◌, ◌≤◌, List, [], ◌∷◌, ◌++◌, length, get_or, take, drop, Some, None, refl, sym, ◌∙◌, ap, subst, arith, lit<, lit≤}
-use Rattle.std.specs.FinMap.{entries, empty, get, get-empty}
+use Rattle.std.proofs.Common.{◌≡◌, ℕ, ◌≤◌, List, [], ◌∷◌, length, get_or, Some, None, refl, sym, ◌∙◌, ap, arith, lit<, lit≤}
+use Rattle.std.specs.FinMap.{empty, get, get-empty}
 use Rattle.std.specs.List.{flat_map}
 use Rattle.disk_trait.specs.Disk.{bytes_at}
 use Rattle.graph_edits.specs.Edges.{pair_cmp, most_nodes}
-use Rattle.checkpoint.specs.Layout.{device_len, header, slot_start, other, journal_of, epoch_at}
-use Rattle.checkpoint.specs.State.{State, first_state, edge_text, checkpoint_text, IsLawful}
-use Rattle.checkpoint.specs.Slots.{head_text, HasHead, HasCheckpoint}
-use Rattle.checkpoint.specs.Standing.{StandsFor}
-use Rattle.checkpoint.proofs.EdgeLemmas.{no_entries}
-use Rattle.checkpoint.proofs.BaseLemmas.{has_text, size_of}
-use Rattle.checkpoint.proofs.Folds.{after-nil}
-use Rattle.checkpoint.proofs.HeadLemmas.{gate_and}
+use Rattle.standing.specs.Layout.{device_len, header}
+use Rattle.standing.specs.State.{first_state, edge_text, IsLawful}
+use Rattle.standing.specs.Slots.{head_text, HasCheckpoint}
+use Rattle.standing.specs.Standing.{StandsFor}
+use Rattle.standing.proofs.EdgeLemmas.{no_entries}
+use Rattle.standing.proofs.BaseLemmas.{has_text}
+use Rattle.standing.proofs.Folds.{after-nil}
+use Rattle.standing.proofs.HeadLemmas.{gate_and}
 
 first_lawful : (nodes : ℕ) → 1 ≤ nodes → nodes ≤ most_nodes → IsLawful (first_state nodes).graph
 first_lawful nodes some few = record {

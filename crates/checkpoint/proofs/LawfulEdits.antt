@@ -1,21 +1,20 @@
 -- Edits that are accepted keep a network within the limits.
-use Rattle.std.proofs.Common.{◌≡◌, ◌≢◌, ℕ, ◌+◌, ◌<◌, ◌≤◌, Bool, true, false, cond, List, [], ◌∷◌, length, Option, None, Some, Ordering, Less, Equal, Greater, is_eq, ltb, refl, sym, ◌∙◌, ap, subst, arith}
+use Rattle.std.proofs.Common.{◌≡◌, ◌≢◌, ℕ, ◌+◌, ◌<◌, ◌≤◌, Bool, true, false, cond, List, [], ◌∷◌, length, Option, None, Some, Ordering, Less, Equal, Greater, is_eq, ltb, refl, sym, ◌∙◌, subst, arith}
 use Rattle.std.specs.Prelude.{Result, Ok, Err, is_some}
-use Rattle.std.specs.Ordering.{eq_by_cmp}
 use Rattle.std.specs.Option.{option_map}
-use Rattle.std.specs.FinMap.{get, insert, remove, len, entries, len-entries, get-insert, get-remove}
+use Rattle.std.specs.FinMap.{get, insert, remove, len, len-entries, get-insert, get-remove}
 use Rattle.std.proofs.lemmas.Bool.Decides.{nat_tests}
 use Rattle.journal.specs.Entry.{Entry}
 use Rattle.graph_edits.specs.declared.edits.Op.{Op}
 use Rattle.graph_edits.specs.declared.edits.Op.TheVariants.{Add, Set, Cut}
 use Rattle.graph_edits.specs.declared.edits.Code.{Code}
-use Rattle.graph_edits.specs.Edges.{EdgeMap, Network, pair_cmp, pair_of, weight_between, most_edges, most_nodes, greatest_weight}
+use Rattle.graph_edits.specs.Edges.{EdgeMap, Network, pair_cmp, pair_of, weight_between, most_edges, greatest_weight}
 use Rattle.graph_edits.specs.Changes.{fold, edges_after, edges_after_op, refusal_at, or_refused_at, after as graph_after}
 use Rattle.graph_edits.proofs.EdgesOfRows.{pair_total, pair_same}
-use Rattle.graph_edits.proofs.Ops.{HasEnds, add_passed, set_passed, cut_passed}
+use Rattle.graph_edits.proofs.Ops.{HasEnds, add_passed, set_passed}
 use Rattle.graph_edits.proofs.Applied.{count_fits, count_step, count_few}
-use Rattle.checkpoint.specs.State.{State, after, IsEdge, IsLawful}
-use Rattle.checkpoint.proofs.Folds.{some_is, ok_is}
+use Rattle.standing.specs.State.{State, after, IsEdge, IsLawful}
+use Rattle.standing.proofs.Folds.{some_is, ok_is}
 
 -- the edges of a network of so many nodes
 abbrev Edges : ℕ → EdgeMap → Type 0

@@ -1,16 +1,5 @@
-pub mod Folds
-pub mod Texts
 pub mod TornSlots
 pub mod Commits
-pub mod Codes
-pub mod Entries
-pub mod Maps
-pub mod OneStateLemmas
-pub mod ReadLemmas
-pub mod HeadLemmas
-pub mod EdgeLemmas
-pub mod BaseLemmas
-pub mod OpenLemmas
 pub mod FormatLemmas
 pub mod LawfulEdits
 pub mod EdgeRows

@@ -1,8 +1,8 @@
 -- What the writes of a roll leave.
-use Rattle.std.proofs.Common.{◌≡◌, ◌≢◌, ◌⊎◌, inl, inr, ⊎_elim, ℕ, ◌+◌, ◌*◌, ◌-◌, ◌<◌, ◌≤◌, ◌^◌, List, [], ◌∷◌, ◌++◌, length, get_or, take, drop, replicate, refl, sym, ◌∙◌, ap, subst, arith, length-append, append_assoc, Option, None, Some, add-zero, lit<, get_or-drop}
+use Rattle.std.proofs.Common.{◌≡◌, ◌≢◌, ⊎_elim, ℕ, ◌+◌, ◌-◌, ◌<◌, ◌≤◌, List, [], ◌++◌, length, get_or, take, drop, refl, sym, ◌∙◌, ap, subst, arith, length-append, Option, None, Some, add-zero, lit<, get_or-drop}
 use Rattle.std.proofs.lemmas.List.{take-take, take_at, take_all, drop_at, length-replicate, get_or-replicate}
 use Rattle.std.proofs.lemmas.Nat.{from_be_bytes-to_be_bytes_8}
-use Rattle.std.specs.Int.{w64, to_be_bytes, from_be_bytes}
+use Rattle.std.specs.Int.{w64, to_be_bytes}
 use Rattle.std.proofs.lemmas.Bool.{cases_eq}
 use Rattle.std.specs.Option.{option_map}
 use Rattle.graph_edits.specs.Edges.{Network}
@@ -11,15 +11,16 @@ use Rattle.journal.specs.Entry.{Entry}
 use Rattle.journal.specs.Records.{entries_of}
 use Rattle.disk_trait.specs.Disk.{DiskView, MayLeave, LeavesOnly, weaker, joined, Torn, HasTextBehind, IsPublishing, IsPublished, bytes_at}
 use Rattle.disk_trait.specs.Places.{above, byte_below, byte_of, below}
-use Rattle.checkpoint.specs.Kept.{IsKept, IsInUse}
-use Rattle.checkpoint.specs.Layout.{worn_limit, checkpoint_room, slot_start, other, journal_of, epoch_at, header}
-use Rattle.checkpoint.specs.State.{State, checkpoint_text, state_text, after, IsLawful}
-use Rattle.checkpoint.specs.Standing.{StandsBy, StandsFor}
+use Rattle.checkpoint.specs.Kept.{IsKept}
+use Rattle.standing.specs.InUse.{IsInUse}
+use Rattle.standing.specs.Layout.{worn_limit, checkpoint_room, slot_start, other, epoch_at, header}
+use Rattle.standing.specs.State.{State, checkpoint_text, after, IsLawful}
+use Rattle.standing.specs.Standing.{StandsBy, StandsFor}
 use Rattle.checkpoint.specs.Rolling.{area_text, padding, IsClosing}
 use Rattle.checkpoint.proofs.LawfulEdits.{lawful_after}
-use Rattle.checkpoint.proofs.Texts.{text_fits, length_text}
-use Rattle.checkpoint.proofs.Folds.{after-nil, nodes_fold, some_is}
-use Rattle.checkpoint.proofs.TornSlots.{apart, byte_apart, slots_apart, stays}
+use Rattle.standing.proofs.Texts.{text_fits, length_text}
+use Rattle.standing.proofs.Folds.{after-nil, nodes_fold, some_is}
+use Rattle.checkpoint.proofs.TornSlots.{apart, slots_apart, stays}
 
 -- changes keep the number of nodes
 pub after_nodes : (s t : State) (changes : List Entry) → after s changes ≡ Some t → t.graph.nodes ≡ s.graph.nodes

@@ -1,14 +1,14 @@
 -- What torn writes leave of the two slots.
-use Rattle.std.proofs.Common.{◌≡◌, ◌≢◌, ◌⊎◌, inl, inr, ⊎_elim, ℕ, zero, suc, ◌+◌, ◌*◌, ◌-◌, ◌<◌, ◌≤◌, List, length, get_or, refl, sym, ◌∙◌, ap, subst, arith}
+use Rattle.std.proofs.Common.{◌≡◌, ◌⊎◌, inl, inr, ℕ, zero, suc, ◌+◌, ◌<◌, ◌≤◌, List, length, get_or, sym, ◌∙◌, arith}
 use Rattle.disk_trait.specs.Disk.{Torn, bytes_at}
 use Rattle.disk_trait.specs.Places.{below, above, byte_below, byte_above}
 use Rattle.journal.specs.Entry.{Entry}
 use Rattle.journal.specs.Elsewhere.{still_spells}
 use Rattle.journal.specs.Records.{Spells}
-use Rattle.checkpoint.specs.Layout.{slot_start, other, journal_of, epoch_at}
-use Rattle.checkpoint.specs.State.{State, checkpoint_text}
-use Rattle.checkpoint.specs.Standing.{StandsBy}
-use Rattle.checkpoint.proofs.Texts.{text_fits}
+use Rattle.standing.specs.Layout.{slot_start, other, journal_of, epoch_at}
+use Rattle.standing.specs.State.{State, checkpoint_text}
+use Rattle.standing.specs.Standing.{StandsBy}
+use Rattle.standing.proofs.Texts.{text_fits}
 
 -- a range that another leaves alone
 abbrev pub Apart : ℕ → ℕ → ℕ → ℕ → Type 0

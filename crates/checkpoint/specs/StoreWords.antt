@@ -1,11 +1,12 @@
 -- A store, as the crates above see it.
 use Rattle.std.specs.Prelude.{◌≡◌, ◌≤◌, ℕ, List, [], Bool, false, IsTrue}
 use Rattle.disk_trait.specs.Disk.{DiskView, MayLeave}
-use Rattle.graph_edits.specs.Edges.{Network}
+use Rattle.journal.specs.Entry.{Entry}
+use Rattle.journal.specs.JournalView.{LacksRoom}
 use Rattle.checkpoint.specs.declared.store.Store.{Store}
-use Rattle.checkpoint.specs.Layout.{worn_limit}
-use Rattle.checkpoint.specs.State.{State}
-use Rattle.checkpoint.specs.Standing.{StandsFor}
+use Rattle.standing.specs.Layout.{worn_limit}
+use Rattle.standing.specs.State.{State}
+use Rattle.standing.specs.Standing.{StandsFor}
 
 -- the state that a store has
 abbrev pub state_of : {D : Type 0} {V : _} → Store D V → State
@@ -30,6 +31,10 @@ is_down store = store.down
 -- nothing was committed since the store rolled, so any group fits
 abbrev pub IsRolled : {D : Type 0} {V : _} → Store D V → Type 0
 IsRolled store = store.journal.groups ≡ []
+
+-- its journal has no room for the record of these changes
+abbrev pub LacksRoomFor : {D : Type 0} {V : _} → Store D V → List Entry → Type 0
+LacksRoomFor store changes = LacksRoom store.journal changes
 
 -- its epoch stands at the worn limit, so it can't roll
 abbrev pub IsWornOut : {D : Type 0} {V : _} → Store D V → Type 0

@@ -2,19 +2,19 @@
 ghost use Rattle.std.specs.Prelude.{◌≡◌, ◌≢◌, ◌≤◌, ◌<◌, ◌+◌, ◌↔◌, ◌∷◌, ℕ, List, length, get_or, IsTrue, OnOk, OnErr, IsErr, IsErrOf};
 ghost use Rattle.disk_trait.specs.Disk.{MayLeave, IsSameDevice, IsSettled, Torn, bytes_at};
 ghost use Rattle.graph_edits.specs.Edges.{most_nodes};
-ghost use Rattle.checkpoint.specs.Layout.{device_len, header};
-ghost use Rattle.checkpoint.specs.State.{first_state};
-ghost use Rattle.checkpoint.specs.Standing.{StandsFor};
-ghost use Rattle.checkpoint.specs.Slots.{head_text};
+ghost use Rattle.standing.specs.Layout.{device_len, header};
+ghost use Rattle.standing.specs.State.{first_state};
+ghost use Rattle.standing.specs.Standing.{StandsFor};
+ghost use Rattle.standing.specs.Slots.{head_text};
 
-use crate::layout::{
-    CHECKPOINT_ROOM, CLOSED_GATE, DEVICE_LEN, FIRST_EPOCH, HEAD_LEN, HEADER_LEN, MAGIC, OPEN_GATE,
-    SLOT_ROOM, SLOTS_START, VERSION,
-};
 use crate::refusals::FormatRefused;
 use byteorder::{BigEndian, ByteOrder};
 use disk_trait::{DeviceFault, Disk};
 use graph_edits::MOST_NODES;
+use standing::layout::{
+    CHECKPOINT_ROOM, CLOSED_GATE, DEVICE_LEN, FIRST_EPOCH, HEAD_LEN, HEADER_LEN, MAGIC, OPEN_GATE,
+    SLOT_ROOM, SLOTS_START, VERSION,
+};
 
 // The front of a device.
 fn header_of(nodes: u16) -> [u8; HEADER_LEN]

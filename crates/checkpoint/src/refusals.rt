@@ -1,7 +1,6 @@
 //! Why a call of a store is refused. The numbers are those that the program's documents give.
 ghost use Rattle.std.specs.Prelude.{◌≡◌};
 
-use disk_trait::DeviceFault;
 use std::alloc::AllocError;
 
 /// Why a device can't be formatted, in the order of the tests.
@@ -13,21 +12,6 @@ pub enum FormatRefused {
     BadLength = 2,
     /// A call of the device failed: it holds no store.
     Device = 3,
-}
-
-/// Why a device can't be opened.
-#[derive(Clone, Copy, Debug, PartialEq, Eq, Drop)]
-pub enum OpenRefused {
-    /// The front isn't that of a formatted device.
-    NotFormatted = 1,
-    /// The device has another layout.
-    BadVersion = 2,
-    /// The bytes aren't those of a store.
-    Damaged = 3,
-    /// A call of the device failed.
-    Device = 4,
-    /// Memory ran out.
-    Memory = 5,
 }
 
 /// Why changes aren't committed. Tested in the order Down, Worn, NeedsRoll, Memory, Device.
@@ -65,25 +49,5 @@ impl From<AllocError> for CommitRefused {
 
     fn from(_: AllocError) -> Self {
         CommitRefused::Memory
-    }
-}
-
-impl From<AllocError> for OpenRefused {
-    ghost use Rattle.checkpoint.specs.declared.refusals.OpenRefused.TheVariants.{Memory};
-
-    ghost from_gives = { λ _ e. e ≡ Memory };
-
-    fn from(_: AllocError) -> Self {
-        OpenRefused::Memory
-    }
-}
-
-impl From<DeviceFault> for OpenRefused {
-    ghost use Rattle.checkpoint.specs.declared.refusals.OpenRefused.TheVariants.{Device};
-
-    ghost from_gives = { λ _ e. e ≡ Device };
-
-    fn from(_: DeviceFault) -> Self {
-        OpenRefused::Device
     }
 }

@@ -4,20 +4,20 @@ ghost use Rattle.std.specs.List.{flat_map};
 ghost use Rattle.std.specs.FinMap.{len};
 ghost use Rattle.graph_edits.specs.Edges.{most_edges};
 ghost use Rattle.disk_trait.specs.Disk.{IsSameDevice, MayLeave, LeavesOnly};
-ghost use Rattle.checkpoint.specs.Layout.{checkpoint_room};
-ghost use Rattle.checkpoint.specs.State.{IsLawful, edge_text, edges_text};
-ghost use Rattle.checkpoint.specs.Slots.{head_text};
-ghost use Rattle.checkpoint.specs.Standing.{StandsFor};
+ghost use Rattle.standing.specs.Layout.{checkpoint_room};
+ghost use Rattle.standing.specs.State.{IsLawful, edge_text, edges_text};
+ghost use Rattle.standing.specs.Slots.{head_text};
+ghost use Rattle.standing.specs.Standing.{StandsFor};
 ghost use Rattle.checkpoint.specs.Rolling.{up_text, padding, area_text, IsClosing};
 
-use crate::layout::{CHECKPOINT_ROOM, HEAD_LEN, OPEN_GATE, SLOT_ROOM, SLOTS_START, WORN_LIMIT};
-use crate::opening::journal_area;
 use crate::refusals::RollRefused;
 use crate::store::Store;
 use byteorder::{BigEndian, ByteOrder};
 use disk_trait::{DeviceFault, Disk, close, publish};
 use graph_edits::Graph;
 use journal::Journal;
+use standing::journal_area;
+use standing::layout::{CHECKPOINT_ROOM, HEAD_LEN, OPEN_GATE, SLOT_ROOM, SLOTS_START, WORN_LIMIT};
 use std::alloc::{AllocError, Global};
 use std::snapshot::Snapshot;
 

@@ -4,18 +4,18 @@ ghost use Rattle.std.proofs.Props.{props};
 ghost use Rattle.disk_trait.specs.Disk.{IsSameDevice, MayLeave, LeavesOnly, OnlyRead};
 ghost use Rattle.graph_edits.specs.Changes.{fold};
 ghost use Rattle.journal.specs.Layout.{most_entries};
-ghost use Rattle.checkpoint.specs.Layout.{worn_limit, device_len, slot_start};
-ghost use Rattle.checkpoint.specs.State.{State, after};
-ghost use Rattle.checkpoint.specs.Standing.{StandsFor, StandsForNone};
-ghost use Rattle.checkpoint.specs.Refusals.{IsFormatFault};
+ghost use Rattle.standing.specs.Layout.{worn_limit, device_len, slot_start};
+ghost use Rattle.standing.specs.State.{State, after};
+ghost use Rattle.standing.specs.Standing.{StandsFor, StandsForNone};
+ghost use Rattle.standing.specs.Fronts.{LacksMagic, HasOtherVersion, HasThisVersion};
+ghost use Rattle.standing.specs.Refusals.{IsFormatFault};
 ghost use Rattle.checkpoint.specs.Kept.{IsKept};
 
-use crate::layout::WORN_LIMIT;
-use crate::opening::load;
-use crate::refusals::{CommitRefused, OpenRefused};
+use crate::refusals::CommitRefused;
 use disk_trait::Disk;
 use graph_edits::Graph;
 use journal::{AppendRefused, Entry, Journal};
+use standing::{OpenRefused, WORN_LIMIT, load};
 use std::alloc::Global;
 use std::snapshot::Snapshot;
 
@@ -43,7 +43,7 @@ pub struct Store<D: Disk> {
 }
 
 impl<D: Disk> Store<D> {
-    ghost use Rattle.checkpoint.specs.StoreWords.{state_of, nodes_of, disk_of, view_of, is_down, IsRolled, IsWornOut};
+    ghost use Rattle.checkpoint.specs.StoreWords.{state_of, nodes_of, disk_of, view_of, is_down, IsRolled, LacksRoomFor, IsWornOut};
 
     /// The store that a device holds. It syncs, and writes nothing; with a refusal the device comes back.
     pub fn open(alloc: Global, disk: D) -> Result<Store<D>, (OpenRefused, D)>
@@ -51,7 +51,12 @@ impl<D: Disk> Store<D> {
         ensures up { IfOk result (λ store. is_down store ≡ false) }
         ensures reads { IsTrue (D.view disk).keeps_model → IfOk result (λ store. OnlyRead (D.view disk) (view_of store)) }
         ensures ran { IfOk result (λ store. IsSameDevice (D.view disk) (view_of store)) }
+        ensures opened { IsTrue (D.view disk).keeps_model → OnOk result (HasThisVersion (D.view disk).content) }
         ensures refused { IsTrue (D.view disk).keeps_model → IfErr result (λ e. IsFormatFault e.0 → StandsForNone (D.view disk).content) }
+        ensures not_formatted { IsTrue (D.view disk).keeps_model → IfErr result (λ e. e.0 ≡ OpenRefused.NotFormatted → LacksMagic (D.view disk).content) }
+        ensures bad_version { IsTrue (D.view disk).keeps_model → IfErr result (λ e. e.0 ≡ OpenRefused.BadVersion → HasOtherVersion (D.view disk).content) }
+        ensures damaged { IsTrue (D.view disk).keeps_model → IfErr result (λ e. e.0 ≡ OpenRefused.Damaged → HasThisVersion (D.view disk).content) }
+        ensures memory { IsTrue (D.view disk).keeps_model → IfErr result (λ e. e.0 ≡ OpenRefused.Memory → HasThisVersion (D.view disk).content) }
         ensures device { IfErr result (λ e. e.0 ≡ OpenRefused.Device → (D.view disk).failures < (D.view e.1).failures) }
         ensures reads_err { IsTrue (D.view disk).keeps_model → IfErr result (λ e. OnlyRead (D.view disk) (D.view e.1)) }
         ensures ran_err { IfErr result (λ e. IsSameDevice (D.view disk) (D.view e.1)) }
@@ -119,7 +124,9 @@ impl<D: Disk> Store<D> {
         ensures nodes { nodes_of self.new ≡ nodes_of self.old }
         ensures down { IsErrOf result CommitRefused.Down ↔ (is_down self.old ≡ true) }
         ensures worn { IsErrOf result CommitRefused.Worn ↔ ((is_down self.old ≡ false) × (worn_limit < (state_of self.old).count + length changes.now)) }
-        ensures needs_roll { IsErrOf result CommitRefused.NeedsRoll → ¬ (IsRolled self.old) }
+        ensures needs_roll { IsErrOf result CommitRefused.NeedsRoll
+            ↔ ((is_down self.old ≡ false) × ((state_of self.old).count + length changes.now ≤ worn_limit) × LacksRoomFor self.old changes.now) }
+        ensures rolled_fits { IsRolled self.old → ¬ (IsErrOf result CommitRefused.NeedsRoll) }
         ensures device { IsErrOf result CommitRefused.Device → (view_of self.old).failures < (view_of self.new).failures }
         ensures lost { IsErrOf result CommitRefused.Device → is_down self.new ≡ true }
         ensures stays_up { is_down self.old ≡ false → ¬ (IsErrOf result CommitRefused.Device) → is_down self.new ≡ false }

@@ -4,9 +4,8 @@ ghost use Rattle.graph_edits.specs.Changes.{fold};
 ghost use Rattle.journal.specs.Layout.{most_entries};
 
 use super::*;
-use crate::opening::apply_all;
 use disk_trait::{CrashDisk, Disk, MemDisk, Plan};
-use graph_edits::{Change, Graph, Op};
+use graph_edits::{Change, EditRefused, Graph, Op, Overlay};
 use journal::Entry;
 use std::alloc::{AllocError, Global};
 use std::process::Abort;
@@ -53,11 +52,15 @@ fn refusal(alloc: Global, disk: MemDisk) -> Option<OpenRefused> {
 fn is_accepted(alloc: Global, graph: &Graph, changes: &[Entry]) -> Result<bool, AllocError>
     ensures { IfOk result (λ yes. IsTrue yes → IsSome (fold graph.now changes.now)) }
 {
-    let mut copy = graph.try_clone(alloc)?;
-    match apply_all(&mut copy, changes) {
-        Ok(()) => Ok(true),
-        Err(_) => Ok(false),
+    let mut overlay = Overlay::over(alloc, graph);
+    for change in changes {
+        match overlay.apply(change) {
+            Ok(()) => {}
+            Err(EditRefused::Op { .. }) => return Ok(false),
+            Err(EditRefused::Memory) => return Err(AllocError),
+        }
     }
+    Ok(true)
 }
 
 // Commits changes that the graph accepts, again where memory was short.

@@ -2,8 +2,8 @@
 use Rattle.std.proofs.Common.{sym, ◌≡◌, ◌⊎◌, inl, IsTrue, false, subst}
 use Rattle.disk_trait.specs.Disk.{LeavesOnly, started, joined, weaker}
 use Rattle.checkpoint.specs.declared.store.Store.{Store}
-use Rattle.checkpoint.specs.State.{State}
-use Rattle.checkpoint.specs.Standing.{StandsFor}
+use Rattle.standing.specs.State.{State}
+use Rattle.standing.specs.Standing.{StandsFor}
 use Rattle.checkpoint.specs.StoreWords.{state_of, view_of, disk_of, is_down, stands_now}
 
 -- a store that isn't touched leaves its state

@@ -2,7 +2,7 @@
 use Rattle.std.specs.Prelude.{◌≡◌, ◌+◌, ◌++◌, ℕ, List, [], ◌∷◌, length, map, Some}
 use Rattle.std.specs.List.{range_with_len}
 use Rattle.graph_edits.specs.declared.edits.Op.{Op}
-use Rattle.checkpoint.specs.State.{State, after}
+use Rattle.standing.specs.State.{State, after}
 use Rattle.group_commit.specs.declared.request.Request.{Request}
 use Rattle.group_commit.specs.declared.request.Mark.{Mark}
 use Rattle.group_commit.specs.declared.request.Verdict.{Verdict}

@@ -4,7 +4,7 @@ use Rattle.graph_edits.specs.declared.edits.Op.{Op}
 use Rattle.graph_edits.specs.declared.edits.Code.{Code}
 use Rattle.graph_edits.specs.Edges.{Network}
 use Rattle.graph_edits.specs.Changes.{after as graph_after}
-use Rattle.checkpoint.specs.State.{State}
+use Rattle.standing.specs.State.{State}
 use Rattle.group_commit.specs.declared.request.Request.{Request}
 use Rattle.group_commit.specs.declared.request.Mark.{Mark}
 use Rattle.group_commit.specs.declared.request.Verdict.TheVariants.{Accepted, Refused}

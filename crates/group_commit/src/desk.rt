@@ -1,8 +1,8 @@
 //! The desk: requests are held, settled in order, and committed as one group.
 ghost use Rattle.std.specs.Prelude.{◌≡◌, ◌≢◌, ◌⊎◌, ◌≤◌, ◌<◌, ◌↔◌, ◌++◌, [], ◌∷◌, length, option_copied, IsTrue, IfOk, OnOk, OnErr, IsErrOf, IsErr, None, false, true};
 ghost use Rattle.disk_trait.specs.Disk.{IsSameDevice, LeavesOnly};
-ghost use Rattle.checkpoint.specs.Layout.{worn_limit};
-ghost use Rattle.checkpoint.specs.Standing.{StandsFor};
+ghost use Rattle.standing.specs.Layout.{worn_limit};
+ghost use Rattle.standing.specs.Standing.{StandsFor};
 ghost use Rattle.checkpoint.specs.StoreWords.{state_of, nodes_of, view_of, is_down, IsWornOut};
 ghost use Rattle.group_commit.specs.Limits.{most_held};
 ghost use Rattle.group_commit.specs.Postings.{MarksAreDue, AreMarksDue, IsDownDue};

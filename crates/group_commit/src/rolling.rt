@@ -3,9 +3,9 @@ ghost use Rattle.std.specs.Prelude.{◌≡◌, ◌≤◌, ◌<◌, ◌+◌, ◌�
 ghost use Rattle.disk_trait.specs.Disk.{IsSameDevice, LeavesOnly};
 ghost use Rattle.graph_edits.specs.Changes.{fold};
 ghost use Rattle.journal.specs.Layout.{most_entries};
-ghost use Rattle.checkpoint.specs.Layout.{worn_limit};
-ghost use Rattle.checkpoint.specs.State.{State, after};
-ghost use Rattle.checkpoint.specs.Standing.{StandsFor};
+ghost use Rattle.standing.specs.Layout.{worn_limit};
+ghost use Rattle.standing.specs.State.{State, after};
+ghost use Rattle.standing.specs.Standing.{StandsFor};
 ghost use Rattle.checkpoint.specs.StoreWords.{state_of, nodes_of, view_of, is_down, IsWornOut};
 
 use crate::refused::DeskRefused;

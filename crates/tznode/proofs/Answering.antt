@@ -1,7 +1,7 @@
 -- What commands print, as answers.
 use Rattle.std.proofs.Common.{refl, ◌≡◌, inl, inr, ℕ, List, Option, Result, Ok, Err, IfOk, OnOk}
 use Rattle.std.specs.Io.KnownBytes.{Appends}
-use Rattle.checkpoint.specs.State.{State}
+use Rattle.standing.specs.State.{State}
 use Rattle.tznode.specs.declared.fault.Fault.{Fault}
 use Rattle.tznode.specs.declared.run.Ended.{Ended}
 use Rattle.tznode.specs.declared.run.Ended.TheVariants.{Done}

@@ -4,7 +4,7 @@ use Rattle.disk_trait.specs.Disk.{LeavesOnly, OnlyRead, joined, reading_leaves}
 use Rattle.graph_edits.specs.declared.edits.Op.{Op}
 use Rattle.graph_edits.specs.Edges.{Network}
 use Rattle.graph_edits.specs.Changes.{after as graph_after}
-use Rattle.checkpoint.specs.State.{State}
+use Rattle.standing.specs.State.{State}
 use Rattle.group_commit.specs.declared.request.Request.{Request}
 use Rattle.group_commit.specs.declared.request.Mark.{Mark}
 use Rattle.group_commit.specs.declared.request.Verdict.{Verdict}
@@ -14,7 +14,7 @@ use Rattle.group_commit.specs.declared.posting.Posting.TheVariants.{Marks, Down}
 use Rattle.group_commit.specs.Postings.{MarksAreDue}
 use Rattle.group_commit.specs.Settling.{Settled, settle, accept, refuse, one_more}
 use Rattle.checkpoint.specs.declared.store.Store.{Store}
-use Rattle.checkpoint.specs.Standing.{StandsFor}
+use Rattle.standing.specs.Standing.{StandsFor}
 use Rattle.checkpoint.specs.StoreWords.{state_of, view_of, disk_of, is_down, stands_now}
 use Rattle.group_commit.specs.declared.desk.Desk.{Desk}
 use Rattle.group_commit.specs.DeskWords.{store_of, held_of, settled_of}

@@ -3,8 +3,8 @@ use Rattle.std.specs.Prelude.{◌+◌, ℕ, List, [], ◌∷◌, Option, Some, N
 use Rattle.disk_trait.specs.Disk.{DiskView, MayLeave}
 use Rattle.graph_edits.specs.declared.edits.Op.{Op}
 use Rattle.graph_edits.specs.Changes.{after as graph_after}
-use Rattle.checkpoint.specs.State.{State}
-use Rattle.checkpoint.specs.Standing.{StandsFor}
+use Rattle.standing.specs.State.{State}
+use Rattle.standing.specs.Standing.{StandsFor}
 use Rattle.group_commit.specs.declared.request.Mark.{Mark}
 use Rattle.group_commit.specs.declared.request.Verdict.{Verdict}
 use Rattle.group_commit.specs.declared.request.Verdict.TheVariants.{Accepted, Refused}

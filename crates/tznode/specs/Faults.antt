@@ -2,8 +2,8 @@
 use Rattle.std.specs.Prelude.{ℕ, List, codes}
 use Rattle.checkpoint.specs.declared.refusals.FormatRefused.{FormatRefused}
 use Rattle.checkpoint.specs.declared.refusals.FormatRefused.TheVariants.{BadSize, BadLength, Device as FormatDevice}
-use Rattle.checkpoint.specs.declared.refusals.OpenRefused.{OpenRefused}
-use Rattle.checkpoint.specs.declared.refusals.OpenRefused.TheVariants.{NotFormatted as OpenNotFormatted, BadVersion, Damaged as OpenDamaged, Device as OpenDevice, Memory as OpenMemory}
+use Rattle.standing.specs.declared.refusals.OpenRefused.{OpenRefused}
+use Rattle.standing.specs.declared.refusals.OpenRefused.TheVariants.{NotFormatted as OpenNotFormatted, BadVersion, Damaged as OpenDamaged, Device as OpenDevice, Memory as OpenMemory}
 use Rattle.group_commit.specs.declared.refused.DeskRefused.{DeskRefused}
 use Rattle.group_commit.specs.declared.refused.DeskRefused.TheVariants.{Device as DeskDevice, Down, Memory as DeskMemory, Worn as DeskWorn}
 use Rattle.tznode.specs.declared.fault.Fault.{Fault}

@@ -4,7 +4,7 @@ use Rattle.std.specs.List.{flat_map}
 use Rattle.std.specs.FinMap.{len, entries}
 use Rattle.graph_edits.specs.declared.edits.Code.{Code}
 use Rattle.graph_edits.specs.declared.edits.Code.TheVariants.{NoNode, Loop, BadWeight, EdgeThere, NoEdge, TooManyEdges}
-use Rattle.checkpoint.specs.State.{State}
+use Rattle.standing.specs.State.{State}
 use Rattle.group_commit.specs.declared.request.Verdict.{Verdict}
 use Rattle.group_commit.specs.declared.request.Verdict.TheVariants.{Accepted, Refused}
 

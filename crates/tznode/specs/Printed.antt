@@ -1,7 +1,7 @@
 -- What a command prints.
 use Rattle.std.specs.Prelude.{◌≡◌, ◌⊎◌, ℕ, List, Option}
 use Rattle.std.specs.Io.KnownBytes.{Appends}
-use Rattle.checkpoint.specs.State.{State}
+use Rattle.standing.specs.State.{State}
 use Rattle.group_commit.specs.declared.request.Verdict.{Verdict}
 use Rattle.group_commit.specs.declared.request.Verdict.TheVariants.{Accepted, Refused}
 use Rattle.tznode.specs.declared.run.Ended.{Ended}

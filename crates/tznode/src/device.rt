@@ -2,8 +2,8 @@
 ghost use Rattle.std.specs.Prelude.{◌≡◌, ◌⊎◌, ℕ, List, ◌∷◌, [], IsTrue, IfOk, IfErr, OnOk, OnErr, Some, false};
 ghost use Rattle.std.specs.String.{string_bytes};
 ghost use Rattle.disk_trait.specs.Disk.{IsSameDevice, LeavesOnly, OnlyRead};
-ghost use Rattle.checkpoint.specs.State.{State};
-ghost use Rattle.checkpoint.specs.Standing.{StandsFor};
+ghost use Rattle.standing.specs.State.{State};
+ghost use Rattle.standing.specs.Standing.{StandsFor};
 ghost use Rattle.checkpoint.specs.StoreWords.{state_of, view_of, is_down, stands_now};
 ghost use Rattle.group_commit.specs.DeskWords.{due_of};
 ghost use Rattle.tznode.specs.Answer.{verdict_of, state_after, verdict_due, KeepsThrough};

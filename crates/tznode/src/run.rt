@@ -1,7 +1,7 @@
 //! The program, on any words, reader and writers.
 ghost use Rattle.std.specs.Prelude.{◌≡◌, ◌≤◌, ◌++◌, ◌∷◌, [], ℕ, IfOk, IfErr, IfSome, OnOk};
 ghost use Rattle.std.specs.Io.KnownBytes.{Appends, Keeps};
-ghost use Rattle.checkpoint.specs.State.{State};
+ghost use Rattle.standing.specs.State.{State};
 ghost use Rattle.tznode.specs.Faults.{status_of};
 ghost use Rattle.tznode.specs.Lines.{formatted_text, verdict_text, listing_text, line};
 ghost use Rattle.tznode.specs.Printed.{Printed, ended_by};

@@ -1,10 +1,9 @@
-use Rattle.std.proofs.Common.{sym, List, ℕ, ◌≡◌, ◌∷◌, length, get_or, subst, ◌∙◌, arith}
-use Rattle.disk_trait.specs.Disk.{only_read, bytes_at}
-use Rattle.checkpoint.specs.Layout.{device_len, header}
-use Rattle.checkpoint.specs.State.{first_state}
-use Rattle.checkpoint.specs.Standing.{StandsFor}
-use Rattle.checkpoint.specs.Slots.{head_text}
-use Rattle.checkpoint.proofs.ReadLemmas.{still}
+use Rattle.std.proofs.Common.{sym, List, ℕ, ◌≡◌, length, subst, ◌∙◌, arith}
+use Rattle.disk_trait.specs.Disk.{only_read}
+use Rattle.standing.specs.Layout.{device_len}
+use Rattle.standing.specs.State.{first_state}
+use Rattle.standing.specs.Standing.{StandsFor}
+use Rattle.standing.proofs.ReadLemmas.{still}
 use Rattle.checkpoint.proofs.FormatLemmas.{fresh_stands}
 use Rattle.checkpoint.proofs.formatting.put_all.Goals as goal
 

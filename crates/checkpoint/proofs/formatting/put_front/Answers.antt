@@ -1,7 +1,7 @@
 use Rattle.std.proofs.Common.{◌∙◌, ◌≡◌, arith, ap, sym, subst, length}
 use Rattle.disk_trait.specs.Disk.{Torn, bytes_at}
 use Rattle.disk_trait.specs.Places.{below}
-use Rattle.checkpoint.proofs.ReadLemmas.{still}
+use Rattle.standing.proofs.ReadLemmas.{still}
 use Rattle.checkpoint.proofs.formatting.put_front.Goals as goal
 
 pub returns-in-Ok-put-clause-header : goal.returns-in-Ok-put-clause-header

@@ -1,6 +1,6 @@
-use Rattle.std.proofs.Common.{◌∙◌, ◌≡◌, ap, sym, arith, List, ℕ, get_or, ◌+◌, ◌≤◌}
+use Rattle.std.proofs.Common.{◌∙◌, ap, sym, arith, List, ℕ, get_or}
 use Rattle.disk_trait.specs.Places.{below, byte_below, byte_of}
-use Rattle.checkpoint.proofs.ReadLemmas.{still}
+use Rattle.standing.proofs.ReadLemmas.{still}
 use Rattle.checkpoint.proofs.formatting.put_gates.Goals as goal
 
 pub returns-in-Ok-put-clause-journal : goal.returns-in-Ok-put-clause-journal

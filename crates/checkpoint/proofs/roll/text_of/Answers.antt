@@ -1,7 +1,7 @@
-use Rattle.std.proofs.Common.{◌≡◌, ◌++◌, [], ◌∙◌, ap, ℕ, List}
+use Rattle.std.proofs.Common.{◌++◌, ◌∙◌, ap, ℕ, List}
 use Rattle.std.specs.FinMap.{len, len-entries}
-use Rattle.checkpoint.specs.State.{State, edges_text}
-use Rattle.checkpoint.specs.Slots.{head_text}
+use Rattle.standing.specs.State.{State, edges_text}
+use Rattle.standing.specs.Slots.{head_text}
 use Rattle.checkpoint.proofs.Rolls.{padded}
 use Rattle.checkpoint.proofs.roll.text_of.Goals as goal
 

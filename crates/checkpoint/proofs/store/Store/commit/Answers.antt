@@ -1,15 +1,15 @@
-use Rattle.std.proofs.Common.{arith, ◌≡◌, ◌⊎◌, inl, ◌+◌, ◌≤◌, ◌++◌, ◌∷◌, [], length, refl, ap, sym, ◌∙◌, IsTrue, List, ℕ, false, subst, Some}
+use Rattle.std.proofs.Common.{arith, ◌≡◌, ◌⊎◌, inl, ◌+◌, ◌≤◌, ◌++◌, ◌∷◌, [], length, refl, ap, sym, ◌∙◌, IsTrue, List, ℕ, subst, Some}
 use Rattle.std.specs.Prelude.{Err}
-use Rattle.disk_trait.specs.Disk.{DiskView, LeavesOnly, started, weaker, MayLeave}
+use Rattle.disk_trait.specs.Disk.{LeavesOnly, started, weaker, MayLeave}
 use Rattle.journal.specs.declared.area.Area.{Area}
 use Rattle.journal.specs.Records.{AllSpell, IsBeforeOrAfter}
 use Rattle.journal.specs.Entry.{Entry}
-use Rattle.checkpoint.specs.Layout.{worn_limit, journal_of}
-use Rattle.checkpoint.specs.State.{State, after}
-use Rattle.checkpoint.specs.Standing.{StandsFor}
+use Rattle.standing.specs.Layout.{worn_limit, journal_of}
+use Rattle.standing.specs.State.{State, after}
+use Rattle.standing.specs.Standing.{StandsFor}
 use Rattle.checkpoint.specs.Kept.{IsKept}
 use Rattle.checkpoint.specs.StoreWords.{state_of, view_of, stands_now}
-use Rattle.checkpoint.proofs.Folds.{after_is, after_count, nodes_fold}
+use Rattle.standing.proofs.Folds.{after_is, after_count, nodes_fold}
 use Rattle.checkpoint.proofs.Commits.{either, kept_next}
 use Rattle.checkpoint.proofs.store.Store.commit.Goals as goal
 

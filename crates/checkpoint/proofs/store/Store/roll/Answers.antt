@@ -1,10 +1,9 @@
-use Rattle.std.proofs.Common.{arith, ◌≡◌, ◌+◌, ◌≤◌, sym, ◌∙◌, IsTrue, List, ℕ, false, subst, refl}
-use Rattle.disk_trait.specs.Disk.{DiskView, LeavesOnly, started, MayLeave}
-use Rattle.checkpoint.specs.Layout.{worn_limit}
-use Rattle.checkpoint.specs.State.{State}
-use Rattle.checkpoint.specs.Standing.{StandsFor}
+use Rattle.std.proofs.Common.{arith, ◌∙◌, IsTrue, subst}
+use Rattle.disk_trait.specs.Disk.{started}
+use Rattle.standing.specs.State.{State}
+use Rattle.standing.specs.Standing.{StandsFor}
 use Rattle.checkpoint.specs.StoreWords.{state_of, view_of, stands_now}
-use Rattle.checkpoint.proofs.ReadLemmas.{still}
+use Rattle.standing.proofs.ReadLemmas.{still}
 use Rattle.checkpoint.proofs.Rolls.{stands_closing, stands_publishing, kept_rolled}
 use Rattle.checkpoint.proofs.store.Store.roll.Goals as goal
 

@@ -1,0 +1,11 @@
+pub mod Folds
+pub mod Texts
+pub mod Codes
+pub mod Entries
+pub mod Maps
+pub mod OneStateLemmas
+pub mod ReadLemmas
+pub mod HeadLemmas
+pub mod EdgeLemmas
+pub mod BaseLemmas
+pub mod OpenLemmas
