@@ -34,6 +34,3 @@ pub use formatting::format;
 pub use refusals::{CommitRefused, FormatRefused, RollRefused};
 pub use standing::{DEVICE_LEN, OpenRefused, WORN_LIMIT, standing_law};
 pub use store::Store;
-
-#[cfg(test)]
-mod tests;

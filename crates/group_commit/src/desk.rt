@@ -3,7 +3,7 @@ ghost use Rattle.std.specs.Prelude.{◌≡◌, ◌≢◌, ◌⊎◌, ◌≤◌, 
 ghost use Rattle.disk_trait.specs.Disk.{IsSameDevice, LeavesOnly};
 ghost use Rattle.standing.specs.Layout.{worn_limit};
 ghost use Rattle.standing.specs.Standing.{StandsFor};
-ghost use Rattle.checkpoint.specs.StoreWords.{state_of, nodes_of, view_of, is_down, IsWornOut};
+ghost use Rattle.checkpoint.specs.StoreWords.{state_of, nodes_of, view_of, is_down, LacksRoomFor, IsWornOut};
 ghost use Rattle.group_commit.specs.Limits.{most_held};
 ghost use Rattle.group_commit.specs.Postings.{MarksAreDue, AreMarksDue, IsDownDue};
 
@@ -84,7 +84,8 @@ impl<D: Disk> Desk<D> {
         ensures down_due { IsErrOf result DeskRefused.Device → IsDownDue (due_of self.new) }
         ensures down { IsErrOf result DeskRefused.Down ↔ (is_down (store_of self.old) ≡ true) }
         ensures down_leaves { IsErrOf result DeskRefused.Down → store_of self.new ≡ store_of self.old }
-        ensures worn { IsErrOf result DeskRefused.Worn → (worn_limit < (settled_of self.old).state.count) ⊎ IsWornOut (store_of self.old) }
+        // The count would pass the limit, or the group needs a roll and the epoch stands there.
+        ensures worn { IsErrOf result DeskRefused.Worn → (worn_limit < (settled_of self.old).state.count) ⊎ (LacksRoomFor (store_of self.old) (settled_of self.old).accepted × IsWornOut (store_of self.old)) }
         ensures stays_up { is_down (store_of self.old) ≡ false → ¬ (IsErrOf result DeskRefused.Device) → is_down (store_of self.new) ≡ false }
         ensures ran { IsSameDevice (view_of (store_of self.old)) (view_of (store_of self.new)) }
         // A crash at any moment of the call leaves the old state, or the new one with the whole group.

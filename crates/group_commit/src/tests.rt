@@ -18,15 +18,22 @@ const SECOND_SLOT: usize = 1_187_840;
 // A request: its session, its ticket and its ops.
 type Ask<'a> = (u8, u64, &'a [Op]);
 
-// A disk formatted for five nodes.
+// A disk formatted for five nodes; made once more where memory was refused.
 fn formatted(alloc: Global) -> Result<MemDisk, Fail> {
-    let mut disk = MemDisk::new(alloc, DEVICE_LEN)?;
+    let mut disk = match MemDisk::new(alloc, DEVICE_LEN) {
+        Ok(disk) => disk,
+        Err(_) => MemDisk::new(alloc, DEVICE_LEN)?,
+    };
     format(&mut disk, 5)?;
     Ok(disk)
 }
 
+// A desk over a disk; opened once more where memory was refused.
 fn opened(alloc: Global, disk: MemDisk) -> Result<Desk<MemDisk>, Fail> {
-    let store = Store::open(alloc, disk).ok().ok_or("not opened")?;
+    let store = match Store::open(alloc, disk) {
+        Ok(store) => store,
+        Err((_, disk)) => Store::open(alloc, disk).ok().ok_or("not opened")?,
+    };
     Ok(Desk::new(store))
 }
 
@@ -335,6 +342,18 @@ fn give_group(
     Ok(())
 }
 
+// Commits, and once more where memory was refused.
+fn commit_at_last(
+    rt: &impl Abort,
+    alloc: Global,
+    desk: &mut Desk<MemDisk>,
+) -> Result<usize, DeskRefused> {
+    match commit(rt, alloc, desk) {
+        Err(DeskRefused::Memory) => commit(rt, alloc, desk),
+        answer => answer,
+    }
+}
+
 // A desk whose journal holds 112 groups of 64 changes of 16 ops.
 fn full(rt: &impl Abort, alloc: Global) -> Result<Desk<MemDisk>, Fail> {
     let mut desk = opened(alloc, formatted(alloc)?)?;
@@ -342,11 +361,11 @@ fn full(rt: &impl Abort, alloc: Global) -> Result<Desk<MemDisk>, Fail> {
     first[0] = Op::Add(0, 1, 1);
     give_all(rt, &mut desk, &[(0, 1, &first)])?;
     give_group(rt, &mut desk, 63, 63, 16)?;
-    assert_eq!(rt; commit(rt, alloc, &mut desk), Ok(64));
+    assert_eq!(rt; commit_at_last(rt, alloc, &mut desk), Ok(64));
     desk.paid();
     for _ in 1..112 {
         give_group(rt, &mut desk, 64, 64, 16)?;
-        assert_eq!(rt; commit(rt, alloc, &mut desk), Ok(64));
+        assert_eq!(rt; commit_at_last(rt, alloc, &mut desk), Ok(64));
         desk.paid();
     }
     assert_eq!(rt; desk.store().count(), 7168);
@@ -438,5 +457,24 @@ fn commits_later_what_had_no_memory(rt: HostRuntime) -> Result<(), Fail> {
         ],
     );
     assert_eq!(rt; desk.store().graph().weight(1, 2), Some(3));
+    Ok(())
+}
+
+// The same of a commit that rolls: what a roll did before memory ran out is no harm, and the group stays held.
+#[test]
+fn rolls_later_what_had_no_memory(rt: HostRuntime) -> Result<(), Fail> {
+    let mut desk = full(&rt, rt.alloc())?;
+    give_group(&rt, &mut desk, 64, 57, 11)?;
+    let mut answer = commit(&rt, rt.alloc(), &mut desk);
+    if answer == Err(DeskRefused::Memory) {
+        assert_eq!(rt; (desk.held(), desk.store().count()), (64, 7168));
+        assert!(rt; desk.due().is_none());
+        assert_eq!(rt; desk.store().graph().weight(0, 1), Some(1));
+        answer = commit(&rt, rt.alloc(), &mut desk);
+    }
+    assert_eq!(rt; answer, Ok(64));
+    let desk = opened(rt.alloc(), desk.into_store().into_disk())?;
+    assert_eq!(rt; desk.store().count(), 7232);
+    assert_eq!(rt; desk.store().graph().weight(0, 1), Some(1));
     Ok(())
 }

@@ -2,7 +2,7 @@
 use super::*;
 
 // Rolls, again where memory was short.
-fn roll(alloc: Global, store: &mut Store<MemDisk>) -> Result<(), RollRefused> {
+pub(super) fn roll(alloc: Global, store: &mut Store<MemDisk>) -> Result<(), RollRefused> {
     match store.roll(alloc) {
         Err(RollRefused::Memory) => store.roll(alloc),
         answer => answer,
@@ -10,7 +10,7 @@ fn roll(alloc: Global, store: &mut Store<MemDisk>) -> Result<(), RollRefused> {
 }
 
 // Commits 1 to 64 changes.
-fn commit_group(
+pub(super) fn commit_group(
     rt: &impl Abort,
     alloc: Global,
     store: &mut Store<MemDisk>,
@@ -23,7 +23,7 @@ fn commit_group(
 }
 
 // Count, edges and the weight of an edge.
-fn shown(store: &Store<MemDisk>, a: u16, b: u16) -> (u64, usize, Option<u32>) {
+pub(super) fn shown(store: &Store<MemDisk>, a: u16, b: u16) -> (u64, usize, Option<u32>) {
     (
         store.count(),
         store.graph().edges(),

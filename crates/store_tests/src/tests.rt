@@ -3,7 +3,9 @@ ghost use Rattle.std.specs.Prelude.{◌≡◌, ◌≤◌, ◌+◌, length, IsTru
 ghost use Rattle.graph_edits.specs.Changes.{fold};
 ghost use Rattle.journal.specs.Layout.{most_entries};
 
-use super::*;
+use checkpoint::{
+    CommitRefused, DEVICE_LEN, FormatRefused, OpenRefused, RollRefused, Store, WORN_LIMIT, format,
+};
 use disk_trait::{CrashDisk, Disk, MemDisk, Plan};
 use graph_edits::{Change, EditRefused, Graph, Op, Overlay};
 use journal::Entry;
@@ -11,6 +13,12 @@ use std::alloc::{AllocError, Global};
 use std::process::Abort;
 use std::test::*;
 
+mod damage;
+mod formats;
+mod groups;
+mod memory;
+mod openings;
+mod records;
 mod rolls;
 
 const WORDS: [u64; 5] = [0, 1, 7, 256, 257];
@@ -52,15 +60,25 @@ fn refusal(alloc: Global, disk: MemDisk) -> Option<OpenRefused> {
 fn is_accepted(alloc: Global, graph: &Graph, changes: &[Entry]) -> Result<bool, AllocError>
     ensures { IfOk result (λ yes. IsTrue yes → IsSome (fold graph.now changes.now)) }
 {
-    let mut overlay = Overlay::over(alloc, graph);
+    let mut after = Overlay::over(alloc, graph);
     for change in changes {
-        match overlay.apply(change) {
+        match after.apply(change) {
             Ok(()) => {}
             Err(EditRefused::Op { .. }) => return Ok(false),
             Err(EditRefused::Memory) => return Err(AllocError),
         }
     }
     Ok(true)
+}
+
+// The same, asked again where memory was short.
+fn accepts(alloc: Global, graph: &Graph, changes: &[Entry]) -> bool
+    ensures { IsTrue result → IsSome (fold graph.now changes.now) }
+{
+    match is_accepted(alloc, graph, changes) {
+        Ok(accepted) => accepted,
+        Err(_) => is_accepted(alloc, graph, changes).unwrap_or(false),
+    }
 }
 
 // Commits changes that the graph accepts, again where memory was short.
@@ -73,14 +91,10 @@ fn commit(
     requires some { 1 ≤ length changes.now }
     requires few { length changes.now ≤ most_entries }
 {
-    let accepted = match is_accepted(alloc, store.graph(), changes) {
-        Ok(accepted) => accepted,
-        Err(_) => is_accepted(alloc, store.graph(), changes).unwrap_or(false),
-    };
-    assert!(rt; accepted);
+    assert!(rt; accepts(alloc, store.graph(), changes));
     match store.commit(alloc, changes) {
         Err(CommitRefused::Memory) => {
-            assert!(rt; is_accepted(alloc, store.graph(), changes).unwrap_or(false));
+            assert!(rt; accepts(alloc, store.graph(), changes));
             store.commit(alloc, changes)
         }
         answer => answer,
@@ -402,22 +416,6 @@ fn each_call_of_a_format_fails(rt: HostRuntime) -> Result<(), Fail> {
     Ok(())
 }
 
-#[test]
-fn each_call_of_an_opening_fails(rt: HostRuntime) -> Result<(), Fail> {
-    for call in 1..7 {
-        let mut disk = with_edge(&rt, rt.alloc())?;
-        disk.fail_at(call);
-        match open_again(rt.alloc(), disk) {
-            Ok(_) => return Err(Fail::new(format_args!("opened though call {call} failed"))),
-            Err((refused, disk)) => {
-                assert_eq!(rt; refused, OpenRefused::Device, "call {call}");
-                assert_eq!(rt; opened(rt.alloc(), disk)?.count(), 1);
-            }
-        }
-    }
-    Ok(())
-}
-
 // What a commit that the plan stops answers, and the count after a crash and an opening.
 fn interrupted(
     rt: &impl Abort,
@@ -488,21 +486,5 @@ fn a_commit_stops_inside_each_write(rt: HostRuntime) -> Result<(), Fail> {
             }
         }
     }
-    Ok(())
-}
-
-// Run with `rt try --test --fail-alloc N` for each N: what is refused for memory changes nothing, and the same call
-// made again gives this answer.
-#[test]
-fn answers_after_a_want_of_memory(rt: HostRuntime) -> Result<(), Fail> {
-    let store = opened(rt.alloc(), with_edge(&rt, rt.alloc())?)?;
-    assert_eq!(rt;
-        (
-            store.count(),
-            store.graph().edges(),
-            store.graph().weight(0, 1)
-        ),
-        (1, 1, Some(1))
-    );
     Ok(())
 }
