@@ -1,6 +1,6 @@
 -- The rules of Shape, Edges, Parents, Strict, Nearest and Directories, as what they say of each node and each entry.
 use Rattle.std.proofs.Common.{◌≡◌, ◌≢◌, ◌+◌, ◌<◌, ◌≤◌, ◌⊎◌, ℕ, Bool, true, false, sym, refl, ap, subst, ◌∙◌, arith, nat_lt, [], get_or}
-use Rattle.std.specs.Prelude.{Option, Some, None, IsSome, MatchOption}
+use Rattle.std.specs.Prelude.{Option, Some, None, IsSome, is_some, MatchOption}
 use Rattle.std.specs.List.{All}
 use Rattle.std.specs.List.Sorted.{IsStrictlyIncreasing}
 use Rattle.std.proofs.lemmas.Bool.Decides.{nat_tests}
@@ -15,7 +15,7 @@ use Rattle.node_table.specs.Tables.{tables, entries_at, directory_at, or_none, n
 use Rattle.node_table.specs.Checks.{IsShaped, IsClosed, HasParents, IsStrict, IsNearestThere, HasDirectories}
 use Rattle.node_table.proofs.Walks.{symmetric}
 use Rattle.certificate.specs.Entries.{EachEntry, HasPlaces, IsNodeShaped, IsEntryShaped, HasOwn, HasParentAt, IsClosedAt, IsClosedOver, IsTightAt, IsTightBy, IsNoEarlier, IsStrictAt, IsNearestAt, IsThere, IsNoNearer, HasDirectoryAt, IsListedRight, IsListedBack}
-use Rattle.certificate.proofs.LookUps.{clash, is_there, some_is, found_has, found_at, listed_has, listed_at, no_directory, looked_up, inside, each_one}
+use Rattle.certificate.proofs.LookUps.{clash, is_there, found_has, found_at, listed_has, listed_at, no_directory, looked_up, inside, each_one}
 
 -- ---- Shape
 
@@ -201,7 +201,7 @@ directories_from m p h c u l = (
     (
       c.homes u l,
       each_one m p h.roots_ascend (IsListedBack (tables p)) (λ x r e i g s n.
-          (c.exact e.root x (subst (λ z. z < m.nodes) (sym s) (h.roots_inside x r e g)) n).1 (subst (λ z. IsSome ((tables p).entry x z)) (sym s) (some_is g))) u l,
+          (c.exact e.root x (subst (λ z. z < m.nodes) (sym s) (h.roots_inside x r e g)) n).1 (subst (λ z. IsSome ((tables p).entry x z)) (sym s) (ap is_some g))) u l,
     ),
   ),
 )

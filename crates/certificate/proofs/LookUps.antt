@@ -29,9 +29,6 @@ is_there None e = absurd (bad e)
     bad e = cc
 is_there (Some x) e = (x, refl)
 
-pub some_is : {X : Type 0} {x : X} {o : Option X} → o ≡ Some x → IsSome o
-some_is e = ap is_some e
-
 -- what a look-up finds has the root that was asked for, and what all entries have
 pub found_has : (P : Entry → Type 0) (r : ℕ) (es : List Entry) (e : Entry) → All P es → first_entry r es ≡ Some e → P e × (e.root ≡ r)
 found_has P r [] e a h = absurd (bad h)

@@ -44,8 +44,6 @@ mod reading;
 mod records;
 mod shape;
 mod strict;
-#[cfg(test)]
-mod tests;
 
 pub use checks::check;
 pub use fault::Fault;

@@ -36,7 +36,6 @@ pub fn cluster(
         cluster.pops ≤ 1 + degrees_of graph.now cluster.members) }
 {
     let _sound = graph.nodes();
-    let limits = nearest.limits(alloc)?;
-    let reach = tree_within(alloc, graph, center, &limits)?;
+    let reach = tree_within(alloc, graph, center, nearest.distances())?;
     Ok(Cluster { reach })
 }

@@ -25,15 +25,20 @@ pub struct Near {
 #[derive(Drop)]
 pub struct Nearest {
     of: Vec<Option<Near>>,
+    distances: Vec<Option<u64>>,
     pops: u64,
 }
 
 impl Model for Nearest {
+    ghost use Rattle.std.specs.Prelude.{◌≡◌, map};
+    ghost use Rattle.std.specs.Option.{option_map};
     ghost use Rattle.distances.specs.Nearest.{NearestAll};
 
     ghost Value = { NearestAll };
 
     ghost view = { λ nearest. record { nearest = nearest.of.items; pops = nearest.pops } };
+
+    ghost invariant = { λ nearest. nearest.distances.items ≡ map (λ o. option_map (λ n. n.distance) o) nearest.of.items };
 }
 
 impl Nearest {
@@ -46,11 +51,18 @@ impl Nearest {
     }
 
     /// The distance of each node's nearest landmark: the limits of clusters.
+    pub fn distances(&self) -> &[Option<u64>]
+        ensures { result.now ≡ map (λ o. option_map (λ n. n.distance) o) self.now.nearest }
+    {
+        self.distances.as_slice()
+    }
+
+    /// These limits in a list of their own.
     pub fn limits(&self, alloc: Global) -> Result<Vec<Option<u64>>, AllocError>
         ensures { IfOk result (λ limits.
             limits.items ≡ map (λ o. option_map (λ n. n.distance) o) self.now.nearest) }
     {
-        self.of.iter().map(|near| distance_of(*near)).collect(alloc)
+        distances_of(alloc, &self.of)
     }
 
     /// How many entries the search popped.
@@ -68,6 +80,12 @@ fn distance_of(near: Option<Near>) -> Option<u64>
         Some(n) => Some(n.distance),
         None => None,
     }
+}
+
+fn distances_of(alloc: Global, of: &[Option<Near>]) -> Result<Vec<Option<u64>>, AllocError>
+    ensures { IfOk result (λ all. all.items ≡ map (λ o. option_map (λ n. n.distance) o) of.now) }
+{
+    of.iter().map(|near| distance_of(*near)).collect(alloc)
 }
 
 /// The nearest landmark of each node. An `Err` means that memory was refused.
@@ -90,8 +108,10 @@ pub fn from_landmarks(
     let flags = landmarks.flags();
     let search = search_from(alloc, graph, flags, &limits)?;
     let of = nearest_each(alloc, graph, flags, &search)?;
+    let distances = distances_of(alloc, &of)?;
     Ok(Nearest {
         of,
+        distances,
         pops: search.pops,
     })
 }

@@ -27,6 +27,7 @@ use Rattle.node_table.proofs.Walks.{symmetric}
 use Rattle.node_table.proofs.Exact.{Distances}
 use Rattle.node_table.proofs.Law.{first_is_listed}
 use Rattle.node_table.proofs.GrownTrees.{grown_tree}
+use Rattle.node_table.proofs.Options.{is_there, some_is}
 
 -- ---- least lengths
 
@@ -76,16 +77,6 @@ none_is e f = cc
 
 same_some : {X : Type 0} {x y : X} {o : Option X} → o ≡ Some x → o ≡ Some y → x ≡ y
 same_some e f = cc
-
-some_is : {X : Type 0} {x : X} {o : Option X} → o ≡ Some x → IsSome o
-some_is e = rw e refl
-
-is_there : {X : Type 0} (o : Option X) → IsSome o → (x : X) × (o ≡ Some x)
-is_there None e = absurd (bad e)
-  where
-    bad : false ≡ true → ⊥
-    bad e = cc
-is_there (Some x) e = (x, refl)
 
 not_some : {X : Type 0} (o : Option X) → o ≡ None → IsSome o → ⊥
 not_some o e s = none_is e (is_there o s).1

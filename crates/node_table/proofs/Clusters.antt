@@ -6,19 +6,10 @@ use Rattle.graph_edits.specs.Edges.{Network}
 use Rattle.node_table.proofs.Walks.{Walk, IsShortest}
 use Rattle.node_table.specs.Tables.{Tables}
 use Rattle.node_table.proofs.Exact.{Distances, exact, real, reach, close, nearest_least}
-
-is_there : {X : Type 0} (o : Option X) → IsSome o → (x : X) × (o ≡ Some x)
-is_there None e = absurd (bad e)
-  where
-    bad : false ≡ true → ⊥
-    bad e = cc
-is_there (Some x) e = (x, refl)
+use Rattle.node_table.proofs.Options.{is_there, some_is}
 
 same : {X : Type 0} {x y : X} {o : Option X} → o ≡ Some x → o ≡ Some y → x ≡ y
 same e f = cc
-
-some_is : {X : Type 0} {x : X} {o : Option X} → o ≡ Some x → IsSome o
-some_is e = rw e refl
 
 clash : {X : Type 0} {x : X} {o : Option X} → o ≡ None → o ≡ Some x → ⊥
 clash e f = cc

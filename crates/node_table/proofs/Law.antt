@@ -19,6 +19,7 @@ use Rattle.node_table.specs.Trails.{AreMeasured}
 use Rattle.node_table.proofs.Carry.{Ports}
 use Rattle.node_table.proofs.Exact.{Distances, exact, real, reach, close, nearest_least}
 use Rattle.node_table.proofs.Trees.{trip_in_tree}
+use Rattle.node_table.proofs.Options.{is_there, some_is}
 
 -- the rules on distances, out of the first five checks
 pub distances_from : (m : Network) → IsSound m → (p : Parts) → ((k : Fault) → number_of k ≤ 5 → Holds m p k) → Distances m (tables p)
@@ -73,21 +74,11 @@ pub record TableLaws (m : Network) (t : Tables) : Type 0 where
   pub entry_listed : (u v : ℕ) (e : Entry) → u < m.nodes → t.landmark u ≡ false → t.entry v u ≡ Some e → (l : Label) × (t.listed u v ≡ Some l)
   pub homes : (v : ℕ) (q : Near) → v < m.nodes → t.nearest v ≡ Some q → (l : Label) × (t.home v ≡ Some l)
 
-some_is : {X : Type 0} {x : X} {o : Option X} → o ≡ Some x → IsSome o
-some_is e = rw e refl
-
 clash : {X : Type 0} {x : X} {o : Option X} → o ≡ None → o ≡ Some x → ⊥
 clash e f = cc
 
 same : {X : Type 0} {x y : X} {o : Option X} → o ≡ Some x → o ≡ Some y → x ≡ y
 same e f = cc
-
-is_there : {X : Type 0} (o : Option X) → IsSome o → (x : X) × (o ≡ Some x)
-is_there None e = absurd (bad e)
-  where
-    bad : false ≡ true → ⊥
-    bad e = cc
-is_there (Some x) e = (x, refl)
 
 -- a packet from u to v arrives, each hop measured by the distances in its tree
 pub record Journey (m : Network) (t : Tables) (u v : ℕ) : Type 0 where

@@ -23,3 +23,4 @@ pub mod RowSteps
 pub mod RowColumns
 pub mod BuildSteps
 pub mod BuildTurns
+pub mod Options

@@ -14,16 +14,10 @@ use Rattle.node_table.proofs.Law.{distances_from}
 use Rattle.node_table.proofs.LocalRecords.{local_records}
 use Rattle.node_table.proofs.RecordsLocal.{records_local}
 use Rattle.node_table.proofs.LocalLabels.{local_label, label_local}
+use Rattle.node_table.proofs.Options.{is_there}
 
 pub records_check : (m : Network) (t : Tables) → Distances m t → t.nodes ≡ m.nodes → HasRecords m t ↔ HasLocalRecords m t
 records_check m t d nodes = (λ h. records_local m t d nodes h, λ h. local_records m t d h)
-
-is_there : {X : Type 0} (o : Option X) → IsSome o → (x : X) × (o ≡ Some x)
-is_there None e = absurd (bad e)
-  where
-    bad : false ≡ true → ⊥
-    bad e = cc
-is_there (Some x) e = (x, refl)
 
 pub labels_check : (m : Network) (p : Parts) → Distances m (tables p) → HasRecords m (tables p) → (tables p).nodes ≡ m.nodes → HasLabels m p ↔ HasLocalLabels m p
 labels_check m p d records nodes = (there, back)

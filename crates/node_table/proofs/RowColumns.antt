@@ -29,19 +29,13 @@ use Rattle.node_table.specs.Checks.{up_port, down_port}
 use Rattle.node_table.specs.Columns.{up_by, down_by, member_of, LacksMember, AreDistinct, FitsEntry, IsTightFrom, IsParentIn, IsColumn}
 use Rattle.node_table.specs.RowLists.{IsRowOf, IsRowFrom, IsRowList, row_at, entry_in, label_in}
 use Rattle.node_table.proofs.TreeMembers.{IsIn, is_in_of, contains_of, all_in, distinct_members, laid_members, ChildrenReached, same_distance, parent_reached, farther, begins_with_root, at_in, in_at, one_place, exact_in, parent_in, reached_inside, reached_members, first_member}
+use Rattle.node_table.proofs.Options.{is_there, some_is}
 
 none_some : {X : Type 0} {x : X} {o : Option X} → o ≡ None → o ≡ Some x → ⊥
 none_some e f = cc
 
 same_some : {X : Type 0} {x y : X} {o : Option X} → o ≡ Some x → o ≡ Some y → x ≡ y
 same_some e f = cc
-
-is_there : {X : Type 0} (o : Option X) → IsSome o → (x : X) × (o ≡ Some x)
-is_there None e = absurd (let b : false ≡ true = e in cc)
-is_there (Some x) e = (x, refl)
-
-some_is : {X : Type 0} {x : X} {o : Option X} → o ≡ Some x → IsSome o
-some_is e = rw e refl
 
 -- ---- the nodes of a tree, in preorder
 

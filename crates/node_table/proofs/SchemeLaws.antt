@@ -13,6 +13,7 @@ use Rattle.node_table.proofs.Walks.{Walk, IsShortest, walk_from, walk_of}
 use Rattle.node_table.proofs.Exact.{Distances, exact}
 use Rattle.node_table.proofs.Clusters.{landmark_tree, cluster, nearest_right, nearest_none}
 use Rattle.node_table.proofs.Law.{checked_serves, distances_of}
+use Rattle.node_table.proofs.Options.{is_there}
 
 -- the least length over walks by edges is the least over the edge map's walks
 pub least_of : (m : Network) → IsSound m → (u v d : ℕ) → u < m.nodes → IsShortest m u v d → IsLeast m.edges (λ s. s ≡ u) v d
@@ -42,13 +43,6 @@ pub exact_law : EntriesAreExact
 exact_law m p s h x r e g =
     let d = distances_of m s p h in
     least_of m s r x e.distance (d.inside x r e g) (exact m (tables p) d x r e ((tables p).landmark r) refl g)
-
-is_there : {X : Type 0} (o : Option X) → IsSome o → (x : X) × (o ≡ Some x)
-is_there None e = absurd (bad e)
-  where
-    bad : false ≡ true → ⊥
-    bad e = cc
-is_there (Some x) e = (x, refl)
 
 module _ (m : Network) (t : Tables) (d : Distances m t) where
   -- in the tree of r by its own length

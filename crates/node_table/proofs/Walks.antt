@@ -8,6 +8,7 @@ use Rattle.graph_edits.specs.Edges.{Network, IsSound, weight_in, weight_between,
 use Rattle.graph_edits.specs.Walks.{IsWalk, walk_length}
 use Rattle.graph_edits.specs.Laws.{weight_between-sym}
 use Rattle.node_table.specs.Ports.{neighbours, filtered}
+use Rattle.node_table.proofs.Options.{some_is}
 
 pub symmetric : (m : Network) (a b : ℕ) → weight_in m a b ≡ weight_in m b a
 symmetric m a b = weight_between-sym m.edges a b
@@ -38,9 +39,6 @@ some_of None e = absurd (bad e)
     bad e = cc
 some_of (Some w) e = refl
 
-is_some_of : {w : ℕ} {o : Option ℕ} → o ≡ Some w → IsSome o
-is_some_of e = rw e refl
-
 length_of : {w : ℕ} {o : Option ℕ} → o ≡ Some w → unwrap_or o 0 ≡ w
 length_of e = ap (λ o. unwrap_or o 0) e
 
@@ -56,7 +54,7 @@ pub walk_of : (m : Network) (u v x : ℕ) → Walk m u v x → (xs : List ℕ) �
 walk_of m u v x (stay _ _) = ([], (refl, refl))
 walk_of m u v x (go _ z _ a c e rest) =
     let r = walk_of m z v c rest in
-    (z ∷ r.0, ((is_some_of e, r.1.0), (let l = length_of e in omega (arith, l, r.1.1))))
+    (z ∷ r.0, ((some_is e, r.1.0), (let l = length_of e in omega (arith, l, r.1.1))))
 
 -- a trail begins with its first node, and the others are a walk from there
 pub trail_walk : (m : Network) (u : ℕ) (a : ℕ) (rest : List ℕ) (v x : ℕ) → IsTrail m u (a ∷ rest) v x → (u ≡ a) × (IsWalk m.edges a rest v × (walk_length m.edges a rest ≡ x))
@@ -64,7 +62,7 @@ trail_walk m u a [] v x t = (t.0, (sym t.1.0, sym t.1.1))
 trail_walk m u a (b ∷ rest) v x t =
     let g = t.1.1 in
     let r = trail_walk m b b rest v t.1.0 g.1.1.1 in
-    (g.0, ((is_some_of g.1.0, r.1.0), (let l = length_of g.1.0 in omega (arith, l, r.1.1, g.1.1.0))))
+    (g.0, ((some_is g.1.0, r.1.0), (let l = length_of g.1.0 in omega (arith, l, r.1.1, g.1.1.0))))
 
 -- the neighbours of x are the numbers below n to which an edge leads
 near_among : (f : ℕ → Option ℕ) (ys : List ℕ) → map (λ (e : ℕ × ℕ). e.0) (filter_map (λ y. option_map (λ w. (y, w)) (f y)) ys) ≡ filtered (λ y. is_some (f y)) ys

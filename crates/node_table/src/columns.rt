@@ -172,6 +172,9 @@ fn row_list(
     let by_number = places(alloc, nodes, &numbered_nodes(alloc, numbered)?)?;
     let mut rows = Vec::with_capacity(alloc, numbered.len())?;
     for x in 0..nodes {
+        let Some(_) = by_number[x as usize] else {
+            continue;
+        };
         let Some(row) = row_of(root, x, &by_distance, &by_number, reached, numbered) else {
             continue;
         };

@@ -22,8 +22,6 @@
 //! ```
 #![tactic(auto)]
 
-#[cfg(test)]
-mod build_tests;
 mod building;
 mod columns;
 mod laws;

@@ -28,6 +28,16 @@
 //!     Ok(Some(RouteTree::grow(alloc, 7, &members)?))
 //! }
 //! ```
+//!
+//! A tree can't outlive its arena's reset: a twig that is used past it is refused as `borrow-e0502`
+//! (cannot borrow `arena` as mutable because it is also borrowed as immutable).
+//!
+//! ```text
+//! let tree = RouteTree::grow(&arena, 7, &members)?;
+//! let twig = tree.root();
+//! let reset = arena.reset();      // refused here
+//! let node = twig.node();
+//! ```
 #![tactic(auto)]
 
 mod growth;

@@ -1,12 +1,9 @@
 // Built schemes: worked graphs, the longest path, each allocator, and drawn graphs against a plain search.
-use crate::building::build;
-use crate::packet::Refused;
-use crate::scheme::Scheme;
-use crate::trail::{CarryRefused, Trail};
 use bumpalo::Bump;
 use graph_edits::{Change, Graph, MOST_NODES, Op};
 use landmarks::Landmarks;
 use linked_list_allocator::LocalHeap;
+use node_table::{CarryRefused, Refused, Scheme, Trail, build};
 use rand_core::{Rng, SeedableRng};
 use rand_xoshiro::Xoshiro256PlusPlus;
 use std::alloc::{AllocError, Allocator, Global};

@@ -1,6 +1,6 @@
 // The scheme of a path of five nodes with the landmark in the middle, worked out by hand, and what one change does to it.
-use crate::{Fault, check};
 use arrayvec::ArrayVec;
+use certificate::{Fault, check};
 use graph_edits::{Change, Graph, MOST_NODES, Op};
 use heavy_labels::{Label, MOST_LIGHTS, Record};
 use node_table::{Entry, Listed, Near, Parts, Scheme};

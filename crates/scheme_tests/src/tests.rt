@@ -1,0 +1,93 @@
+// Both checkers, over drawn graphs and drawn changes.
+use crate::changes::{PARTS, change, copied};
+use crate::drawn::{below, drawn_graph, drawn_landmarks, graph_of};
+use crate::plain_graph::PlainGraph;
+use crate::second_checker::first_fault;
+use certificate::{Fault, check};
+use graph_edits::Graph;
+use landmarks::Landmarks;
+use node_table::{Scheme, build};
+use rand_core::SeedableRng;
+use rand_xoshiro::Xoshiro256PlusPlus;
+use std::alloc::{AllocError, Global};
+use std::process::Abort;
+use std::test::Fail;
+
+const GRAPHS: u32 = 100;
+
+const CHANGES: u32 = 10;
+
+/// How many changed schemes broke each rule first, at the number of the fault. At 0 stand those that kept all rules.
+#[derive(Clone, Copy, PartialEq, Eq, Debug)]
+struct Tally {
+    times: [u32; 9],
+}
+
+impl Tally {
+    fn count(&mut self, fault: Option<Fault>) {
+        let number = match fault {
+            Some(fault) => fault as usize,
+            None => 0,
+        };
+        if let Some(times) = self.times.get_mut(number) {
+            *times = times.saturating_add(1);
+        }
+    }
+}
+
+fn built(
+    rt: &impl Abort,
+    alloc: Global,
+    graph: &Graph,
+    landmarks: &Landmarks,
+) -> Result<Scheme, AllocError> {
+    let nodes = graph.nodes() as usize;
+    let marked = landmarks.flags().len();
+    assert!(rt; marked == nodes);
+    build(alloc, graph, landmarks, 1, alloc)
+}
+
+/// What both checkers answer on a built scheme after one change; all rules hold of it before.
+fn judge_changes(
+    rt: &impl Abort,
+    alloc: Global,
+    rng: &mut Xoshiro256PlusPlus,
+    plain: &PlainGraph,
+    tally: &mut Tally,
+) -> Result<(), AllocError> {
+    let graph = graph_of(rt, alloc, plain);
+    let landmarks = drawn_landmarks(rt, alloc, rng, plain.nodes)?;
+    let scheme = built(rt, alloc, &graph, &landmarks)?;
+    assert_eq!(rt; check(&graph, &scheme).err(), None);
+    assert_eq!(rt; first_fault(alloc, plain, scheme.parts())?, None);
+    for turn in 0..CHANGES {
+        let Some(part) = PARTS.get(below(rng, PARTS.len())).copied() else {
+            continue;
+        };
+        let mut parts = copied(alloc, scheme.parts())?;
+        change(rng, &mut parts, part)?;
+        let want = first_fault(alloc, plain, &parts)?;
+        let fault = check(&graph, &Scheme::assemble(parts)).err();
+        assert_eq!(rt; fault, want, "change {turn}, of {part:?}");
+        tally.count(want);
+    }
+    Ok(())
+}
+
+#[test]
+fn both_checkers_find_the_same_fault(rt: HostRuntime) -> Result<(), Fail> {
+    let alloc = rt.alloc();
+    let mut rng = Xoshiro256PlusPlus::seed_from_u64(29);
+    let mut tally = Tally { times: [0; 9] };
+    for _ in 0..GRAPHS {
+        let plain = drawn_graph(alloc, &mut rng)?;
+        judge_changes(&rt, alloc, &mut rng, &plain, &mut tally)?;
+    }
+    let mut all: u32 = 0;
+    for (number, times) in tally.times.iter().enumerate() {
+        assert!(rt; *times > 0, "answer {number} was never given");
+        all = all.saturating_add(*times);
+    }
+    assert_eq!(rt; all, GRAPHS * CHANGES);
+    Ok(())
+}

@@ -1,0 +1,13 @@
+//! Tests of worked schemes.
+//!
+//! There is nothing here but tests: schemes that are built of worked graphs, of the longest path and of drawn graphs, under each
+//! allocator; the scheme of a path of five nodes with one change to its tables, each judged by [`certificate::check`]; and building and
+//! carrying made again where memory was refused.
+#![tactic(auto)]
+
+#[cfg(test)]
+mod built;
+#[cfg(test)]
+mod changed;
+#[cfg(test)]
+mod memory;
