@@ -1,4 +1,4 @@
-pub mod Texts
 pub mod OneRequest
 pub mod Listings
 pub mod Answering
+pub mod SchemeAnswering

@@ -7,12 +7,13 @@ use Rattle.standing.specs.declared.refusals.OpenRefused.TheVariants.{NotFormatte
 use Rattle.group_commit.specs.declared.refused.DeskRefused.{DeskRefused}
 use Rattle.group_commit.specs.declared.refused.DeskRefused.TheVariants.{Device as DeskDevice, Down, Memory as DeskMemory, Worn as DeskWorn}
 use Rattle.tznode.specs.declared.fault.Fault.{Fault}
-use Rattle.tznode.specs.declared.fault.Fault.TheVariants.{Usage, Op, ChangeTooLong, NodeCount, DeviceLength, DeviceFile, NotFormatted, LayoutNotKnown, Damaged, Device, Memory, Worn, Output}
+use Rattle.tznode.specs.declared.fault.Fault.TheVariants.{Usage, Op, Words, ChangeTooLong, NodeCount, DeviceLength, DeviceFile, NotFormatted, LayoutNotKnown, Damaged, Device, Memory, Worn, NoNode, Output}
 
 -- what is told of a fault
 abbrev pub fault_text : Fault → List ℕ
 fault_text Usage = codes "usage"
 fault_text Op = codes "op not understood"
+fault_text Words = codes "words not understood"
 fault_text ChangeTooLong = codes "change too long"
 fault_text NodeCount = codes "node count out of range"
 fault_text DeviceLength = codes "device length is wrong"
@@ -23,12 +24,14 @@ fault_text Damaged = codes "damaged"
 fault_text Device = codes "device failed"
 fault_text Memory = codes "out of memory"
 fault_text Worn = codes "worn out"
+fault_text NoNode = codes "no node"
 fault_text Output = codes "input or output failed"
 
 -- the exit status: 2 where the words are not understood, else 1
 abbrev pub status_of : Fault → ℕ
 status_of Usage = 2
 status_of Op = 2
+status_of Words = 2
 status_of ChangeTooLong = 1
 status_of NodeCount = 1
 status_of DeviceLength = 1
@@ -39,6 +42,7 @@ status_of Damaged = 1
 status_of Device = 1
 status_of Memory = 1
 status_of Worn = 1
+status_of NoNode = 1
 status_of Output = 1
 
 -- why a device is not formatted

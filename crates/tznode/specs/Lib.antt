@@ -1,5 +1,6 @@
-pub mod OpText
 pub mod Lines
 pub mod Faults
 pub mod Answer
+pub mod RouteLines
+pub mod SchemeAnswers
 pub mod Printed

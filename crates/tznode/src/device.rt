@@ -1,5 +1,5 @@
 //! What the commands do on an open device.
-ghost use Rattle.std.specs.Prelude.{◌≡◌, ◌⊎◌, ℕ, List, ◌∷◌, [], IsTrue, IfOk, IfErr, OnOk, OnErr, Some, false};
+ghost use Rattle.std.specs.Prelude.{◌≡◌, ◌≢◌, ◌⊎◌, ℕ, List, ◌∷◌, [], IsTrue, IfOk, IfErr, OnOk, OnErr, Some, false};
 ghost use Rattle.std.specs.String.{string_bytes};
 ghost use Rattle.disk_trait.specs.Disk.{IsSameDevice, LeavesOnly, OnlyRead};
 ghost use Rattle.standing.specs.State.{State};
@@ -18,7 +18,8 @@ use graph_edits::Change;
 use group_commit::{Desk, Posting, Request, Verdict};
 use std::alloc::{AllocError, Global};
 
-fn open<D: Disk>(alloc: Global, disk: D) -> Result<Store<D>, (Fault, D)>
+/// Opens a device. One that is refused is handed back.
+pub fn open<D: Disk>(alloc: Global, disk: D) -> Result<Store<D>, (Fault, D)>
     ensures stands { IsTrue (D.view disk).keeps_model → IfOk result (λ store. StandsFor (state_of store) (D.view disk).content) }
     ensures up { IfOk result (λ store. is_down store ≡ false) }
     ensures reads { IsTrue (D.view disk).keeps_model → IfOk result (λ store. OnlyRead (D.view disk) (view_of store)) }
@@ -26,6 +27,7 @@ fn open<D: Disk>(alloc: Global, disk: D) -> Result<Store<D>, (Fault, D)>
     ensures reads_err { IsTrue (D.view disk).keeps_model → IfErr result (λ e. OnlyRead (D.view disk) (D.view e.1)) }
     ensures ran_err { IfErr result (λ e. IsSameDevice (D.view disk) (D.view e.1)) }
     ensures status { IfErr result (λ e. status_of e.0 ≡ 1) }
+    ensures nodes { IfErr result (λ e. e.0 ≢ Fault.NoNode) }
 {
     match Store::open(alloc, disk) {
         Ok(store) => Ok(store),

@@ -15,6 +15,8 @@ pub enum Fault {
     Usage,
     /// A word in the place of an OP isn't one.
     Op,
+    /// The text of `--words` isn't of its form, or names a node that the device hasn't.
+    Words,
     /// There are more OPs than a change may have.
     ChangeTooLong,
     /// A device can't have so many nodes.
@@ -35,6 +37,8 @@ pub enum Fault {
     Memory,
     /// The count or the epoch stands at its limit.
     Worn,
+    /// A node of a route isn't one of the device's.
+    NoNode,
     /// What was to be printed couldn't be.
     Output,
 }
@@ -47,6 +51,7 @@ impl Fault {
         match self {
             Fault::Usage => "usage",
             Fault::Op => "op not understood",
+            Fault::Words => "words not understood",
             Fault::ChangeTooLong => "change too long",
             Fault::NodeCount => "node count out of range",
             Fault::DeviceLength => "device length is wrong",
@@ -57,6 +62,7 @@ impl Fault {
             Fault::Device => "device failed",
             Fault::Memory => "out of memory",
             Fault::Worn => "worn out",
+            Fault::NoNode => "no node",
             Fault::Output => "input or output failed",
         }
     }
@@ -67,7 +73,7 @@ impl Fault {
         ensures some { 1 ≤ result }
     {
         match self {
-            Fault::Usage | Fault::Op => 2,
+            Fault::Usage | Fault::Op | Fault::Words => 2,
             _ => 1,
         }
     }

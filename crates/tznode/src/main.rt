@@ -5,40 +5,58 @@
 //! | `format DEVICE N` | the file is made anew, and formatted for N nodes | `formatted nodes=N` |
 //! | `show DEVICE` | the device is opened | `count=C edges=E`, then `a b w` for each edge |
 //! | `edit DEVICE OP..` | one change of all OPs, whole or not at all | `accepted count=C` or `refused op=I code=K` |
+//! | `route DEVICE FROM TO --words W` | a packet is carried by the scheme that these words give | `generation=G route 0 1 2 length L` or `generation=G unreachable` |
+//! | `check DEVICE --words W` | the scheme that these words give is built and checked | `ok generation=G landmarks=K` or `fault K4` |
 //!
-//! An OP is `add:A:B:W`, `set:A:B:W` or `cut:A:B`. The whole program is one call, [`run::run_words`], over the words, a reader and
-//! two writers; `main` makes it on the arguments and the standard streams. What ends a command is a [`fault::Fault`], told on
-//! standard error as `tznode: TEXT`.
+//! An OP is `add:A:B:W`, `set:A:B:W` or `cut:A:B`. W says which nodes are landmarks: `none`, those of `at:2,5`, or those that
+//! `draw:7` draws. The whole program is one call, [`run::run_words`], over the words, a reader and two writers; `main` makes it on
+//! the arguments and the standard streams. What ends a command is a [`fault::Fault`], told on standard error as `tznode: TEXT`.
 //!
-//! Of a device that keeps the disk model it is proved what `show` prints and what `edit` answers and leaves ([`device`]), of words what
-//! number or OP they are ([`op_words`]), and of a line its bytes ([`lines`]). What a file of the system holds is tested.
+//! Of a device that keeps the disk model it is proved what `show` prints, what `edit` answers and leaves ([`device`]), and what
+//! `route` and `check` answer ([`scheme_tasks`]); of words what number, OP or landmark words they are ([`given_words`]); and of a
+//! line its bytes ([`lines`], [`route_lines`]). What a file of the system holds is tested.
 #![tactic(auto)]
 
 mod device;
 mod fault;
 mod lines;
 mod listing;
-mod op_words;
+mod route_lines;
+#[cfg(test)]
+mod route_tests;
+mod routing;
 mod run;
+mod scheme_tasks;
 mod task;
 #[cfg(test)]
 mod tests;
 
 use fault::Fault;
+use std::alloc::AllocError;
 use std::env;
 use std::io::{self, ErrorKind};
 use std::process::ExitCode;
 
 fn main(rt: HostRuntime) -> ExitCode {
-    let status = match given_words(&rt) {
-        Ok(words) => run_given(&rt, &words),
-        Err(fault) => run::tell(&mut rt.stderr(), fault),
+    let given = match arguments(&rt) {
+        Ok(given) => given,
+        Err(fault) => return ExitCode::from(run::tell(&mut rt.stderr(), fault)),
     };
-    ExitCode::from(status)
+    let words = match borrowed(&rt, &given) {
+        Ok(words) => words,
+        Err(error) => return ExitCode::from(run::tell(&mut rt.stderr(), Fault::from(error))),
+    };
+    ExitCode::from(run::run_words(
+        &rt,
+        &words,
+        &mut rt.stdin(),
+        &mut rt.stdout(),
+        &mut rt.stderr(),
+    ))
 }
 
 // The program's words, without its name. A word that is no text is no word of a command.
-fn given_words(rt: &HostRuntime) -> Result<Vec<String>, Fault> {
+fn arguments(rt: &HostRuntime) -> Result<Vec<String>, Fault> {
     let mut words = Vec::new(rt.alloc());
     let given = match env::args(rt) {
         Ok(given) => given,
@@ -55,18 +73,10 @@ fn given_words(rt: &HostRuntime) -> Result<Vec<String>, Fault> {
     Ok(words)
 }
 
-fn run_given(rt: &HostRuntime, given: &[String]) -> u8 {
+fn borrowed<'a>(rt: &HostRuntime, given: &'a [String]) -> Result<Vec<&'a str>, AllocError> {
     let mut words = Vec::new(rt.alloc());
     for word in given {
-        if words.push(word.as_str()).is_err() {
-            return run::tell(&mut rt.stderr(), Fault::Memory);
-        }
+        words.push(word.as_str())?;
     }
-    run::run_words(
-        rt,
-        &words,
-        &mut rt.stdin(),
-        &mut rt.stdout(),
-        &mut rt.stderr(),
-    )
+    Ok(words)
 }

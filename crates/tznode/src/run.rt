@@ -9,6 +9,7 @@ ghost use Rattle.tznode.specs.Printed.{Printed, ended_by};
 use crate::device;
 use crate::fault::Fault;
 use crate::lines::{Formatted, VerdictLine};
+use crate::scheme_tasks::{run_check, run_route};
 use crate::task::{Task, understood};
 use disk_trait::FileDisk;
 use graph_edits::Change;
@@ -17,10 +18,11 @@ use std::fmt::Display;
 use std::fs::{File, OpenOptions};
 use std::io::{self, Read, Write};
 use std::rt::Files;
+use std::thread::Threads;
 
 /// How a command ended that no fault ended.
 #[derive(Clone, Copy, Debug, PartialEq, Eq, Drop)]
-enum Ended {
+pub enum Ended {
     Done,
     Refused,
 }
@@ -30,7 +32,7 @@ enum Ended {
 /// What is asked for is printed on `out`, and a fault is told on `err`. The words are judged before any file is opened. `script` is for `serve`, which is no command yet: nothing reads it.
 pub fn run_words<R, S, O, E>(rt: &R, words: &[&str], script: &mut S, out: &mut O, err: &mut E) -> u8
 where
-    R: Files<File = File> + AllocGlobal,
+    R: Files<File = File> + AllocGlobal + Threads,
     S: Read,
     O: Write,
     E: Write,
@@ -69,7 +71,7 @@ pub fn tell<E: Write>(err: &mut E, fault: Fault) -> u8
 
 fn run_task<R, O>(rt: &R, words: &[&str], out: &mut O) -> Result<Ended, Fault>
 where
-    R: Files<File = File> + AllocGlobal,
+    R: Files<File = File> + AllocGlobal + Threads,
     O: Write,
     ensures printed { IfOk result (λ ended. Printed ended (O.contents out.old) (O.contents out.new)) }
     ensures untouched { IfErr result (λ fault. status_of fault ≡ 2 → out.new ≡ out.old) }
@@ -78,6 +80,13 @@ where
         Task::Format { device, nodes } => run_format(rt, device, nodes, out),
         Task::Show { device } => run_show(rt, device, out),
         Task::Edit { device, change } => run_edit(rt, device, change, out),
+        Task::Route {
+            device,
+            from,
+            to,
+            words,
+        } => run_route(rt, device, from, to, &words, out),
+        Task::Check { device, words } => run_check(rt, device, &words, out),
     }
 }
 
@@ -151,7 +160,8 @@ fn make_file<R: Files<File = File>>(files: &R, path: &str) -> io::Result<FileDis
     FileDisk::new(file)
 }
 
-fn open_device<R: Files<File = File>>(files: &R, path: &str) -> Result<FileDisk, Fault>
+/// The disk of a file.
+pub fn open_device<R: Files<File = File>>(files: &R, path: &str) -> Result<FileDisk, Fault>
     ensures { IfErr result (λ fault. fault ≡ Fault.DeviceFile) }
 {
     match FileDisk::open(files, path) {
@@ -160,7 +170,8 @@ fn open_device<R: Files<File = File>>(files: &R, path: &str) -> Result<FileDisk,
     }
 }
 
-fn print_line<O: Write, L: Display + Drop>(out: &mut O, line: L) -> Result<(), Fault>
+/// Prints a line, and flushes.
+pub fn print_line<O: Write, L: Display + Drop>(out: &mut O, line: L) -> Result<(), Fault>
     ensures printed { OnOk result (IfSome (L.output line) (λ text. Appends (O.contents out.old) (O.contents out.new) (text ++ 10 ∷ []))) }
     ensures fault { IfErr result (λ fault. fault ≡ Fault.Output) }
 {

@@ -1,14 +1,13 @@
 //! The program, on real files. Expected texts and bytes are written out from the tables of docs/FORMATS.md.
 use crate::fault::Fault;
-use crate::op_words::{number, op};
 use crate::run::run_words;
 use checkpoint::FormatRefused;
-use graph_edits::Op;
 use group_commit::DeskRefused;
 use std::fs::File;
 use std::io::{self, ErrorKind, Write};
 use std::process::Abort;
 use std::rt::Files;
+use std::thread::Threads;
 use std::{env, fs, process};
 
 const DEVICE_BYTES: usize = 2_371_584;
@@ -20,12 +19,12 @@ const RECORD: usize = 139_264;
 
 /// A folder of one test's own.
 #[derive(Drop)]
-struct Folder {
-    path: String,
+pub struct Folder {
+    pub path: String,
 }
 
 impl Folder {
-    fn new(rt: &HostRuntime, test: &str) -> io::Result<Folder> {
+    pub fn new(rt: &HostRuntime, test: &str) -> io::Result<Folder> {
         let base = env::temp_dir(rt)?;
         let id = process::id(rt.process());
         let path = format!(in rt.alloc(); "{}/tznode-{id}-{test}", base.as_str())?;
@@ -34,17 +33,17 @@ impl Folder {
         Ok(Folder { path })
     }
 
-    fn file(&self, rt: &HostRuntime, name: &str) -> io::Result<String> {
+    pub fn file(&self, rt: &HostRuntime, name: &str) -> io::Result<String> {
         Ok(format!(in rt.alloc(); "{}/{name}", self.path.as_str())?)
     }
 
-    fn remove(self, rt: &HostRuntime) -> io::Result<()> {
+    pub fn remove(self, rt: &HostRuntime) -> io::Result<()> {
         fs::remove_dir_all(rt, self.path.as_str())
     }
 }
 
 // Runs the program, and compares all that it answers.
-fn expect_run<R: Files<File = File> + AllocGlobal + Abort>(
+pub fn expect_run<R: Files<File = File> + AllocGlobal + Abort + Threads>(
     rt: &R,
     words: &[&str],
     status: u8,
@@ -256,23 +255,6 @@ fn ops_of_another_form(rt: HostRuntime) {
 }
 
 #[test]
-fn greatest_numbers_of_ops(rt: HostRuntime) -> io::Result<()> {
-    let alloc = rt.alloc();
-    assert_eq!(&rt;
-        op(alloc, "add:65535:0:4294967295")?,
-        Some(Op::Add(65_535, 0, 4_294_967_295))
-    );
-    assert_eq!(&rt; op(alloc, "set:0:65535:0")?, Some(Op::Set(0, 65_535, 0)));
-    assert_eq!(&rt; op(alloc, "cut:10:9")?, Some(Op::Cut(10, 9)));
-    assert_eq!(&rt;
-        number(alloc, "18446744073709551615", u64::MAX)?,
-        Some(u64::MAX)
-    );
-    assert_eq!(&rt; number(alloc, "7", 6)?, None);
-    Ok(())
-}
-
-#[test]
 fn changes_of_up_to_16_ops(rt: HostRuntime) -> io::Result<()> {
     let folder = Folder::new(&rt, "changes_of_up_to_16_ops")?;
     let path = folder.file(&rt, "d")?;
@@ -292,7 +274,7 @@ fn changes_of_up_to_16_ops(rt: HostRuntime) -> io::Result<()> {
 }
 
 // A number of nodes that is refused leaves the zeros of the new file.
-fn expect_zeros<R: Files<File = File> + AllocGlobal + Abort>(
+fn expect_zeros<R: Files<File = File> + AllocGlobal + Abort + Threads>(
     rt: &R,
     d: &str,
     nodes: &str,
@@ -328,7 +310,7 @@ fn node_counts_out_of_range(rt: HostRuntime) -> io::Result<()> {
 }
 
 // `show` and `edit` of a device that can't be opened tell the same fault, and leave the file.
-fn expect_no_store<R: Files<File = File> + AllocGlobal + Abort>(
+fn expect_no_store<R: Files<File = File> + AllocGlobal + Abort + Threads>(
     rt: &R,
     d: &str,
     told: &str,
@@ -490,7 +472,7 @@ impl Write for Narrow {
     }
 }
 
-fn expect_output_fault<R: Files<File = File> + AllocGlobal + Abort>(
+fn expect_output_fault<R: Files<File = File> + AllocGlobal + Abort + Threads>(
     rt: &R,
     words: &[&str],
     left: usize,
@@ -508,7 +490,7 @@ fn expect_output_fault<R: Files<File = File> + AllocGlobal + Abort>(
 }
 
 // A writer that takes nothing, one that takes all but the last byte, and one that takes all and can't be flushed.
-fn expect_output_faults<R: Files<File = File> + AllocGlobal + Abort>(
+fn expect_output_faults<R: Files<File = File> + AllocGlobal + Abort + Threads>(
     rt: &R,
     words: &[&str],
     printed: usize,
@@ -552,6 +534,7 @@ fn texts_of_faults(rt: HostRuntime) -> io::Result<()> {
     let faults = [
         (Fault::Usage, "usage", 2),
         (Fault::Op, "op not understood", 2),
+        (Fault::Words, "words not understood", 2),
         (Fault::ChangeTooLong, "change too long", 1),
         (Fault::NodeCount, "node count out of range", 1),
         (Fault::DeviceLength, "device length is wrong", 1),
@@ -562,6 +545,7 @@ fn texts_of_faults(rt: HostRuntime) -> io::Result<()> {
         (Fault::Device, "device failed", 1),
         (Fault::Memory, "out of memory", 1),
         (Fault::Worn, "worn out", 1),
+        (Fault::NoNode, "no node", 1),
         (Fault::Output, "input or output failed", 1),
     ];
     for (fault, text, status) in faults {

@@ -1,9 +1,7 @@
-use Rattle.std.proofs.Common.{arith, ◌≡◌, ◌<◌, ◌^◌, ◌++◌, ◌∷◌, ℕ, List, IfSome, decimal, Option, Some, None, sym, ◌∙◌, subst}
-use Rattle.std.specs.Prelude.{MatchOption}
-use denote.Ref.{Bor}
+use Rattle.std.proofs.Common.{arith, ◌≡◌, ◌<◌, ◌^◌, decimal, Some}
 use Rattle.std.proofs.lemmas.Str.Pattern.{split_after}
-use Rattle.tznode.proofs.Texts.{no_colon, split_none, split_some}
-use Rattle.tznode.proofs.op_words.leading_node.Goals as goal
+use Rattle.given_words.proofs.Texts.{no_colon, split_none, split_some}
+use Rattle.given_words.proofs.op_words.leading_node.Goals as goal
 
 -- src/op_words.rt
 pub returns-in_default-clause-only : goal.returns-in_default-clause-only

@@ -1,7 +1,7 @@
-use Rattle.std.proofs.Common.{rules, arith, ◌≡◌, ◌≤◌, ◌<◌, ◌^◌, ℕ, decimal, Bool, true, false, List, sym, ◌∙◌, ap, Result, Ok, Err, Option, Some, None}
+use Rattle.std.proofs.Common.{rules, arith, ◌≡◌, ◌<◌, ◌^◌, decimal, true, false, sym, ◌∙◌, ap, Ok, Some}
 use Rattle.std.proofs.lemmas.Fmt.{parse-decimal}
-use Rattle.tznode.proofs.Texts.{equal_texts}
-use Rattle.tznode.proofs.op_words.number.Goals as goal
+use Rattle.given_words.proofs.Texts.{equal_texts}
+use Rattle.given_words.proofs.op_words.number.Goals as goal
 
 -- src/op_words.rt:14:9
 pub returns-in_default-clause-only : goal.returns-in_default-clause-only

@@ -1,7 +1,7 @@
-//! Numbers and ops as they stand among the program's words.
+//! Numbers and ops as they are written.
 ghost use Rattle.std.specs.Prelude.{◌≡◌, ◌≤◌, ◌<◌, ◌^◌, ◌++◌, ◌∷◌, ℕ, List, IfOk, IfSome, IsSomeAnd, decimal};
 ghost use Rattle.graph_edits.specs.declared.edits.Op.{Op};
-ghost use Rattle.tznode.specs.OpText.{pair_text, edge_text, op_text, Fits};
+ghost use Rattle.given_words.specs.OpText.{pair_text, edge_text, op_text, Fits};
 
 use graph_edits::Op;
 use std::alloc::{AllocError, Global};
@@ -26,8 +26,9 @@ pub fn number(alloc: Global, text: &str, most: u64) -> Result<Option<u64>, Alloc
 }
 
 /// A node's number.
-fn node(alloc: Global, text: &str) -> Result<Option<u16>, AllocError>
+pub fn node(alloc: Global, text: &str) -> Result<Option<u16>, AllocError>
     ensures found { IfOk result (λ o. IfSome o (λ n. text.now ≡ decimal n)) }
+    ensures fits { IfOk result (λ o. IfSome o (λ n. n < 2 ^ 16)) }
     ensures only { (n : ℕ) → n < 2 ^ 16 → text.now ≡ decimal n → IfOk result (λ o. o ≡ Some n) }
 {
     match number(alloc, text, 65_535)? {

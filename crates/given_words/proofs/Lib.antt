@@ -1,0 +1,3 @@
+pub mod Texts
+pub mod NodeTexts
+pub mod WordLemmas

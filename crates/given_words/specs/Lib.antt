@@ -1,0 +1,3 @@
+pub mod OpText
+pub mod WordsText
+pub mod Words
