@@ -1,4 +1,4 @@
-use Rattle.std.proofs.Common.{◌∙◌, take}
+use Rattle.std.proofs.Common.{◌∙◌}
 use Rattle.node_table.proofs.BuildSteps.{added_more}
 use Rattle.node_table.proofs.building.add_entries.Goals as goal
 

@@ -1,7 +1,4 @@
-use Rattle.std.proofs.Common.{◌≡◌, ◌∙◌, ◌+◌, ◌<◌, length, map, sym, ap, subst, arith, ℕ, List, Bool, false}
-use Rattle.std.specs.Prelude.{Result, Ok, Err, OnOk, All, slice_get, slice_index_or, Option}
-use Rattle.node_table.specs.declared.columns.Row.{Row}
-use Rattle.node_table.specs.Building.{IsBuildOf, IsWith, AreRowsOf}
+use Rattle.std.specs.Prelude.{Result, Ok, Err, OnOk}
 use Rattle.node_table.proofs.BuildTurns.{built_of_more, rows_of}
 use Rattle.node_table.proofs.building.add_root.Goals as goal
 

@@ -1,4 +1,4 @@
-use Rattle.std.proofs.Common.{◌≡◌, ◌∙◌, sym, ap, subst, ℕ}
+use Rattle.std.proofs.Common.{◌≡◌, sym, subst}
 use Rattle.graph_edits.specs.Edges.{Network, IsSound}
 use Rattle.node_table.specs.declared.parts.Parts.{Parts}
 use Rattle.node_table.specs.Checks.{IsChecked}

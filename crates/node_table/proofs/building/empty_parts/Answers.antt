@@ -1,8 +1,6 @@
-use Rattle.std.proofs.Common.{◌≡◌, ◌∙◌, ◌<◌, sym, ap, subst, ℕ, length, refl}
+use Rattle.std.proofs.Common.{◌∙◌, sym, ap, subst, length, refl}
 use Rattle.std.specs.Prelude.{slice_index_or, None}
 use Rattle.distances.specs.Nearest.{IsNearestOf}
-use Rattle.node_table.specs.Building.{items_at}
-use Rattle.node_table.specs.Ports.{neighbours}
 use Rattle.node_table.proofs.BuildTurns.{built_first}
 use Rattle.node_table.proofs.building.empty_parts.Goals as goal
 

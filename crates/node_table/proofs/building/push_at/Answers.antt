@@ -3,4 +3,4 @@ use Rattle.node_table.proofs.building.push_at.Goals as goal
 
 pub returns-clause-items : goal.returns-clause-items
 returns-clause-items c x =
-    pushed_at _ c.args.lists.now.items c.args.at c.index_mut-list.result.now c.push.new.self c.args.entry c.requires c.index_mut-list.ensures.value c.in_ok-push.ensures.items x
+    pushed_at _ c.args.lists.now.items c.args.at c.index_mut.result.now c.push_entry.new.list c.args.entry c.requires c.index_mut.ensures.value c.in_ok-push_entry.ensures x

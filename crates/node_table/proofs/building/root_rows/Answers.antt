@@ -1,10 +1,7 @@
-use Rattle.std.proofs.Common.{◌≡◌, ◌∙◌, ℕ, sym, ap, subst, false, true, Bool, List}
-use Rattle.std.specs.Prelude.{Result, Ok, Err, IfOk, Option, slice_index_or, None}
-use Rattle.graph_edits.specs.Edges.{Network, IsSound}
-use Rattle.landmarks.specs.Chosen.{IsLandmark}
+use Rattle.std.proofs.Common.{◌≡◌, sym, ap, subst, false, true}
+use Rattle.std.specs.Prelude.{Result, Ok, Err, IfOk}
 use Rattle.distances.specs.Reach.{IsTree}
-use Rattle.distances.specs.Search.{is_below}
-use Rattle.distances.specs.Nearest.{IsNearestOf, near_limit}
+use Rattle.distances.specs.Nearest.{near_limit}
 use Rattle.node_table.specs.Building.{limit_by}
 use Rattle.node_table.specs.Columns.{IsColumn}
 use Rattle.node_table.specs.RowLists.{entry_in, label_in}
