@@ -15,7 +15,8 @@ use Rattle.node_table.specs.Tables.{tables, entries_at, directory_at, or_none, n
 use Rattle.node_table.specs.Checks.{IsShaped, IsClosed, HasParents, IsStrict, IsNearestThere, HasDirectories}
 use Rattle.node_table.proofs.Walks.{symmetric}
 use Rattle.certificate.specs.Entries.{EachEntry, HasPlaces, IsNodeShaped, IsEntryShaped, HasOwn, HasParentAt, IsClosedAt, IsClosedOver, IsTightAt, IsTightBy, IsNoEarlier, IsStrictAt, IsNearestAt, IsThere, IsNoNearer, HasDirectoryAt, IsListedRight, IsListedBack}
-use Rattle.certificate.proofs.LookUps.{clash, is_there, found_has, found_at, listed_has, listed_at, no_directory, looked_up, inside, each_one}
+use Rattle.node_table.proofs.Options.{is_there, not_none}
+use Rattle.certificate.proofs.LookUps.{found_has, found_at, listed_has, listed_at, no_directory, looked_up, inside, each_one}
 
 -- ---- Shape
 
@@ -162,7 +163,7 @@ nearest_from m p h c x l = go ((tables p).nearest x) refl
   where
     go : (o : Option Near) → (tables p).nearest x ≡ o → IsNearestAt p x
     go None n = near_to p x None n (λ i d k. false_by ((tables p).landmark (get_or (entries_at p x) i d).root)
-        (λ t. clash (found_at (entries_at p x) (h.roots_ascend x l) i d k) (c.none x (get_or (entries_at p x) i d).root n t)))
+        (λ t. not_none (found_at (entries_at p x) (h.roots_ascend x l) i d k) (c.none x (get_or (entries_at p x) i d).root n t)))
     go (Some q) n = near_to p x (Some q) n (c.there x q n, λ i d k t. c.least x (get_or (entries_at p x) i d).root q (get_or (entries_at p x) i d) n t (found_at (entries_at p x) (h.roots_ascend x l) i d k))
 
 -- ---- Directories

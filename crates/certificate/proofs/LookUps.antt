@@ -1,6 +1,6 @@
 -- What stands in a list of entries is what a look-up finds, where roots ascend.
 use Rattle.std.proofs.Common.{◌≡◌, ◌<◌, ◌≤◌, ◌==◌, ℕ, zero, suc, Bool, true, false, cond, sym, refl, ap, subst, ◌∙◌, arith, nat_lt, List, [], ◌∷◌, length, get_or}
-use Rattle.std.specs.Prelude.{Option, Some, None, IsSome, is_some, slice_index}
+use Rattle.std.specs.Prelude.{Some, None, IsSome, is_some, slice_index}
 use Rattle.std.specs.List.{All}
 use Rattle.std.specs.List.Sorted.{IsStrictlyIncreasing}
 use Rattle.std.proofs.lemmas.Bool.{eqb-true, eq-eqb}
@@ -15,19 +15,6 @@ use Rattle.graph_edits.specs.Edges.{Network}
 use Rattle.node_table.specs.Tables.{tables, entries_at, directory_at, first_entry, first_listed, roots_of}
 use Rattle.node_table.proofs.Searches.{IsPast, index_at, entry_found, root_at, rises, roots_length}
 use Rattle.certificate.specs.Entries.{EachEntry}
-
-pub same : {X : Type 0} {x y : X} {o : Option X} → o ≡ Some x → o ≡ Some y → x ≡ y
-same e f = cc
-
-pub clash : {X : Type 0} {x : X} {o : Option X} → o ≡ Some x → o ≡ None → ⊥
-clash e f = cc
-
-pub is_there : {X : Type 0} (o : Option X) → IsSome o → (x : X) × (o ≡ Some x)
-is_there None e = absurd (bad e)
-  where
-    bad : false ≡ true → ⊥
-    bad e = cc
-is_there (Some x) e = (x, refl)
 
 -- what a look-up finds has the root that was asked for, and what all entries have
 pub found_has : (P : Entry → Type 0) (r : ℕ) (es : List Entry) (e : Entry) → All P es → first_entry r es ≡ Some e → P e × (e.root ≡ r)

@@ -15,12 +15,7 @@ use node_table::{Entry, Listed, Scheme};
 fn nodes_ascend(directory: &[Listed]) -> bool
     ensures { IsTrue result ↔ IsStrictlyIncreasing (nodes_of directory.now) }
 {
-    for i in 1..directory.len() {
-        if directory[i - 1].node >= directory[i].node {
-            return false;
-        }
-    }
-    true
+    directory.is_sorted_by(|before, after| before.node < after.node)
 }
 
 fn all_have_entries(scheme: &Scheme, u: u16) -> bool

@@ -43,12 +43,7 @@ fn are_ports(ports: &[u16], row: &[(u16, u32)]) -> bool
 fn roots_ascend(entries: &[Entry]) -> bool
     ensures { IsTrue result ↔ IsStrictlyIncreasing (roots_of entries.now) }
 {
-    for i in 1..entries.len() {
-        if entries[i - 1].root >= entries[i].root {
-            return false;
-        }
-    }
-    true
+    entries.is_sorted_by(|before, after| before.root < after.root)
 }
 
 #[tactic(auto, unfolding(crate::specs::Entries::HasParentAt))]

@@ -172,9 +172,6 @@ pub record IsStarted (sources : List Bool) (k : ℕ) (waiting : List Entry) : Ty
   pub waits : (y : ℕ) → y < k → flag_at sources y ≡ true → (q : Entry) × (Contains waiting q × (q.0.node ≡ y) × (q.0.distance ≡ 0))
   pub counted : length waiting ≡ count_by (λ s. s) (take k sources)
 
-pub started_none : (sources : List Bool) → IsStarted sources 0 []
-started_none sources = record { entries = All-nil (IsStart sources); waits = λ y lt t. absurd (omega arith); counted = refl }
-
 pub started_more : (sources : List Bool) (k : ℕ) (s : Settled) (xs ys : List Entry) → k < length sources → s.node ≡ k → s.distance ≡ 0 → IsStarted sources k xs → IsJoined (flag_at sources k) s xs ys → IsStarted sources (k + 1) ys
 started_more sources k s xs ys lt node distance h j = elim (flag_at sources k) as (λ b. flag_at sources k ≡ b → IsJoined b s xs ys → IsStarted sources (k + 1) ys) [
   | true ↦ λ t i. record {

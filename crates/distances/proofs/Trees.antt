@@ -45,13 +45,6 @@ count_none (suc n) =
     let b = count_none n in
     omega (arith, a, b)
 
-pub count_root : (n root : ℕ) → root < length (replicate n false) → count_by (λ s. s) (set (replicate n false) root true) ≡ 1
-count_root n root lt =
-    let e : count_by (λ s. s) (set (replicate n false) root true) + cond (get_or (replicate n false) root false) 1 0 ≡ count_by (λ s. s) (replicate n false) + 1 = sum_by-set (λ s. cond s 1 0) (replicate n false) root true false lt in
-    let f : cond {A = ℕ} (get_or (replicate n false) root false) 1 0 ≡ 0 = ap (λ s. cond {A = ℕ} s 1 0) (none_done n root) in
-    let z : count_by (λ s. s) (replicate n false) ≡ 0 = count_none n in
-    omega (arith, e, f, z)
-
 -- ---- members
 
 listed_members : (number : ℕ → Option ℕ) (tree : List Reached) → EachSettled (λ x d. number x ≡ Some d) (map settled_of tree) → All (λ r. number r.node ≡ Some r.distance) tree

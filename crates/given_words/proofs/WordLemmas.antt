@@ -19,13 +19,6 @@ drawn_more state n words word drawn is = record {
   each = λ k below. grind (arith, common_steps, drawn.count, drawn.each k, is);
 }
 
-pub zero_at_none : (n : ℕ) → AreZeroAt [] n (replicate n greatest)
-zero_at_none n = record {
-  count = length-replicate n greatest;
-  zeros = λ node below listed. absurd (omega (arith, listed.1));
-  others = λ node below unlisted. grind (arith, common_steps);
-}
-
 pub zero_at_more : (listed words : List ℕ) (n at : ℕ) → at < n → AreZeroAt listed n words → AreZeroAt (listed ++ at ∷ []) n (slice_set words at 0)
 zero_at_more listed words n at small old = record {
   count = grind (arith, common_steps, old.count);

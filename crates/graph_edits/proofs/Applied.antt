@@ -115,21 +115,3 @@ fold_accepts g change changes some =
 pub fold_step : (g : Network) (m : EdgeMap) (change : List Op) (changes : List (List Op)) → edges_after g.nodes g.edges 0 change ≡ Ok m → fold g (change ∷ changes) ≡ fold (record { nodes = g.nodes; edges = m }) changes
 unfolding folded
 fold_step g m change changes is = folded_is g change changes ∙ ap (folded g changes) is
-
--- a single change that is not refused is accepted
-pub fold_one : (g : Network) (change : List Op) → err_of (edges_after g.nodes g.edges 0 change) ≡ None → IsSome (fold g (change ∷ []))
-unfolding folded
-fold_one g change ok = subst IsSome (sym (folded_is g change []))
-    (elim (edges_after g.nodes g.edges 0 change) as (λ r. err_of r ≡ None → IsSome (folded g [] r)) [
-      | Ok m ↦ λ is. refl
-      | Err e ↦ λ is. absurd (none-some e (sym is))
-    ] ok)
-
--- and leaves what the fold does
-pub after_one : (g h : Network) (change : List Op) → Some h ≡ fold g (change ∷ []) → after g change ≡ Ok h
-unfolding folded
-after_one g h change is =
-    elim (edges_after g.nodes g.edges 0 change) as (λ r. Some h ≡ folded g [] r → elim r as (λ _. Result Network (ℕ × Code)) [ Ok m ↦ Ok (record g { edges = m }) | Err e ↦ Err e ] ≡ Ok h) [
-      | Ok m ↦ λ e. ap Ok (sym (same_Some h (record { nodes = g.nodes; edges = m }) e))
-      | Err e ↦ λ f. absurd (none-some h (sym f))
-    ] (is ∙ folded_is g change [])

@@ -191,28 +191,3 @@ pub row_read : (rows : List (Vec (ℕ × ℕ) Global)) (x : ℕ) (row : Vec (ℕ
 row_read [] x row lt is = absurd (omega arith)
 row_read (r ∷ rows) zero row lt is = ap (λ v. v.items) (sym is)
 row_read (r ∷ rows) (suc x) row lt is = row_read rows x row (omega arith) is
-
-pub row_push : (rows : List (Vec (ℕ × ℕ) Global)) (row : Vec (ℕ × ℕ) Global) → row.items ≡ [] → ((x : ℕ) → row_of (lists rows) x ≡ []) → (x : ℕ) → row_of (lists (rows ++ row ∷ [])) x ≡ []
-row_push [] row e h zero = e
-row_push [] row e h (suc x) = refl
-row_push (r ∷ rows) row e h zero = h 0
-row_push (r ∷ rows) row e h (suc x) = row_push rows row e (λ y. h (suc y)) x
-
-pub row_read_other : (rows : List (Vec (ℕ × ℕ) Global)) (a b : ℕ) (written row : Vec (ℕ × ℕ) Global) → a ≢ b → b < length rows → row ≡ get_or (set rows a written) b row → row_of (lists rows) b ≡ row.items
-row_read_other rows a b written row apart lt is = row_read rows b row lt (is ∙ get_or-set_other rows a b written row (λ e. apart (sym e)))
-
-pub lists_set : (rows : List (Vec (ℕ × ℕ) Global)) (a b : ℕ) (r s : Vec (ℕ × ℕ) Global) (x y : Row) → r.items ≡ x → s.items ≡ y → lists (set (set rows a r) b s) ≡ set (set (lists rows) a x) b y
-lists_set rows a b r s x y e f =
-    map-set (λ (row : Vec (ℕ × ℕ) Global). row.items) (set rows a r) b s
-    ∙ (λ i. set (map-set (λ (row : Vec (ℕ × ℕ) Global). row.items) rows a r i) b s.items)
-    ∙ (λ i. set (set (lists rows) a (e i)) b (f i))
-
-pub lists_push : (rows : List (Vec (ℕ × ℕ) Global)) (row : Vec (ℕ × ℕ) Global) → lists (rows ++ row ∷ []) ≡ lists rows ++ row.items ∷ []
-lists_push [] row = refl
-lists_push (r ∷ rows) row = ap (λ t. r.items ∷ t) (lists_push rows row)
-
--- a row that keeps its entries
-pub lists_one : (rows : List (Vec (ℕ × ℕ) Global)) (a : ℕ) (before after : Vec (ℕ × ℕ) Global) → a < length rows → before ≡ get_or rows a before → after.items ≡ before.items → lists (set rows a after) ≡ lists rows
-lists_one [] a before after lt is same = refl
-lists_one (r ∷ rows) zero before after lt is same = λ i. (same ∙ ap (λ v. v.items) is) i ∷ lists rows
-lists_one (r ∷ rows) (suc a) before after lt is same = ap (λ t. r.items ∷ t) (lists_one rows a before after (omega arith) is same)

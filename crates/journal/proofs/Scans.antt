@@ -80,12 +80,6 @@ not_none : {A : Type 0} (x : A) (r : Option A) → r ≡ Some x → r ≡ None �
 not_none x (Some y) e f = absurd cc
 not_none x None e f = absurd cc
 
-pub too_short : (bytes : List ℕ) → number_at w32 (drop 1 bytes) ≡ None → HasNoRecord bytes
-too_short bytes none group after is some e =
-    let p = payload_of group in
-    let there : drop 1 bytes ≡ to_be_bytes w32 (length p) ++ (p ++ after) = ap (drop 1) e ∙ append_assoc (to_be_bytes w32 (length p)) p after in
-    not_none (length p, p ++ after) (number_at w32 (drop 1 bytes)) (ap (number_at w32) there ∙ full.again (length p) (p ++ after) (omega (arith, (length_payload group is).1))) none
-
 pub refused_is : (bytes : List ℕ) (refused : ReadError) → refused ≡ Malformed → ((group : List Entry) → IsGroup group → bytes ≡ payload_of group → GivesOr {X = Vec Entry} (λ v. v.items) (Err refused) (Some group)) → (group : List Entry) → IsGroup group → bytes ≡ payload_of group → ⊥
 refused_is bytes Malformed e only group is same = not_none group (Some group) refl (only group is same)
 refused_is bytes Memory e only group is same = absurd cc

@@ -1,12 +1,11 @@
 -- Steps of a build: lists at places, entries and home labels of one more row, and the limits of trees.
-use Rattle.std.proofs.Common.{◌≡◌, ◌≢◌, ℕ, zero, suc, ◌+◌, ◌≤◌, ◌<◌, ◌==◌, ◌⊎◌, inl, inr, Bool, true, false, cond, nat_lt, sym, refl, ap, subst, ◌∙◌, arith, List, [], ◌∷◌, ◌++◌, length, map, take, get_or, append_assoc, add-one}
-use Rattle.std.specs.Prelude.{Option, Some, None, IsSome, slice_get, slice_index_or, IsTrue}
+use Rattle.std.proofs.Common.{◌≡◌, ℕ, zero, suc, ◌+◌, ◌<◌, ◌==◌, Bool, true, false, cond, nat_lt, sym, refl, ap, subst, ◌∙◌, arith, List, [], ◌∷◌, ◌++◌, length, take, get_or, append_assoc, add-one}
+use Rattle.std.specs.Prelude.{Option, Some, None, slice_get, slice_index_or}
 use Rattle.std.proofs.Math.ListN.{set}
 use Rattle.std.proofs.lemmas.Bool.Decides.{nat_tests}
 use Rattle.std.proofs.lemmas.Bool.{eqb-true, eq-eqb}
 use Rattle.std.specs.declared.vec.Vec.{Vec}
 use Rattle.graph_edits.specs.Edges.{Network, IsSound}
-use Rattle.graph_edits.specs.Walks.{IsLeast}
 use Rattle.landmarks.specs.Chosen.{IsLandmark}
 use Rattle.distances.specs.Search.{is_below}
 use Rattle.distances.specs.Nearest.{IsNearestOf, near_limit}
@@ -14,9 +13,8 @@ use Rattle.distances.specs.declared.nearest.Near.{Near}
 use Rattle.heavy_labels.specs.Label.{Label}
 use Rattle.node_table.specs.declared.parts.Entry.{Entry}
 use Rattle.node_table.specs.declared.columns.Row.{Row}
-use Rattle.node_table.specs.Ports.{neighbours}
 use Rattle.node_table.specs.Tables.{or_none}
-use Rattle.node_table.specs.Building.{items_at, entries_for, home_by, home_after, limit_by}
+use Rattle.node_table.specs.Building.{items_at, entries_for, home_by, home_after}
 use Rattle.node_table.proofs.Built.{zero_walk}
 
 -- ---- lists at places
@@ -103,10 +101,6 @@ near_is (o ∷ nearest) (suc i) = near_is nearest i
 
 -- ---- the limits of a tree
 
-pub not_landmark_itself : (m : Network) (flags : List Bool) (nearest : List (Option Near)) (r : ℕ) → ((v : ℕ) → IsNearestOf m.edges flags v (slice_index_or nearest v None)) → (IsLandmark flags r → ⊥)
-    → slice_index_or nearest r None ≢ Some (record { landmark = r; distance = 0 })
-not_landmark_itself m flags nearest r h none e = none (subst (IsNearestOf m.edges flags r) e (h r)).1
-
 pub cluster_within : (m : Network) → IsSound m → (flags : List Bool) (nearest : List (Option Near)) (r : ℕ) → ((v : ℕ) → IsNearestOf m.edges flags v (slice_index_or nearest v None)) → (IsLandmark flags r → ⊥)
     → is_below 0 (near_limit nearest r) ≡ true
 cluster_within m s flags nearest r h none = go (slice_index_or nearest r None) refl
@@ -150,33 +144,3 @@ flag_false flags r none = go (slice_index_or flags r false) refl
     go true e = absurd (none e)
 
 -- ---- lists that grow by a place
-
-pub still_empty : (X A : Type 0) (vs : List (Vec X A)) (v : Vec X A) → ((x : ℕ) → items_at vs x ≡ []) → v.items ≡ [] → (x : ℕ) → items_at (vs ++ v ∷ []) x ≡ []
-still_empty X A [] v h e zero = e
-still_empty X A [] v h e (suc x) = refl
-still_empty X A (u ∷ vs) v h e zero = h 0
-still_empty X A (u ∷ vs) v h e (suc x) = still_empty X A vs v (λ y. h (suc y)) e x
-
-pub still_none : (os : List (Option Label)) → ((v : ℕ) → or_none (slice_get os v) ≡ None) → (v : ℕ) → or_none (slice_get (os ++ None ∷ []) v) ≡ None
-still_none [] h zero = refl
-still_none [] h (suc v) = refl
-still_none (o ∷ os) h zero = h 0
-still_none (o ∷ os) h (suc v) = still_none os (λ y. h (suc y)) v
-
-items_left : {X A : Type 0} (vs : List (Vec X A)) (v : Vec X A) (x : ℕ) → x < length vs → items_at (vs ++ v ∷ []) x ≡ items_at vs x
-items_left [] v x l = absurd (omega (arith, l))
-items_left (u ∷ vs) v zero l = refl
-items_left (u ∷ vs) v (suc x) l = items_left vs v x (omega (arith, l))
-
-items_last : {X A : Type 0} (vs : List (Vec X A)) (v : Vec X A) → items_at (vs ++ v ∷ []) (length vs) ≡ v.items
-items_last [] v = refl
-items_last (u ∷ vs) v = items_last vs v
-
-pub ports_more : (A : Type 0) (m : Network) (vs : List (Vec ℕ A)) (v : Vec ℕ A) (n : ℕ) → length vs ≡ n → ((x : ℕ) → x < n → items_at vs x ≡ neighbours m x) → v.items ≡ neighbours m n → (x : ℕ) → x < n + 1 → items_at (vs ++ v ∷ []) x ≡ neighbours m x
-ports_more A m vs v n s h e x l = go (nat_lt x n) refl
-  where
-    go : (b : Bool) → nat_lt x n ≡ b → items_at (vs ++ v ∷ []) x ≡ neighbours m x
-    go true t = (let k : x < n = grind (arith, nat_tests) in items_left vs v x (omega (arith, k, s)) ∙ h x k)
-    go false t =
-        let k : x ≡ n = grind (arith, nat_tests) in
-        ap (items_at (vs ++ v ∷ [])) (k ∙ sym s) ∙ items_last vs v ∙ e ∙ ap (neighbours m) (sym k)

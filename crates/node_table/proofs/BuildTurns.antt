@@ -1,5 +1,5 @@
 -- One root more: tables that hold the trees of the first k roots hold k + 1 with the rows of the next.
-use Rattle.std.proofs.Common.{◌≡◌, ◌≢◌, ℕ, zero, suc, ◌+◌, ◌≤◌, ◌<◌, ◌==◌, ◌⊎◌, inl, inr, Bool, true, false, cond, nat_lt, sym, refl, ap, subst, ◌∙◌, arith, List, [], ◌∷◌, ◌++◌, length, map, get_or, add-one}
+use Rattle.std.proofs.Common.{◌≡◌, ℕ, suc, ◌+◌, ◌≤◌, ◌<◌, ◌==◌, ◌⊎◌, inl, inr, Bool, true, false, cond, nat_lt, sym, refl, ap, subst, ◌∙◌, arith, List, [], ◌∷◌, ◌++◌, length, map, get_or}
 use Rattle.std.specs.Prelude.{Option, Some, None, IsSome, slice_get, slice_index, slice_index_or}
 use Rattle.std.specs.Option.{option_map}
 use Rattle.std.specs.List.{All}
@@ -7,7 +7,7 @@ use Rattle.std.specs.List.Sorted.{IsStrictlyIncreasing}
 use Rattle.std.proofs.lemmas.Bool.Decides.{nat_tests}
 use Rattle.std.proofs.lemmas.Bool.{eqb-true, eq-eqb}
 use Rattle.graph_edits.specs.Edges.{Network}
-use Rattle.distances.specs.Nearest.{IsNearestOf, near_limit}
+use Rattle.distances.specs.Nearest.{IsNearestOf}
 use Rattle.distances.specs.declared.nearest.Near.{Near}
 use Rattle.heavy_labels.specs.Label.{Label}
 use Rattle.node_table.specs.declared.parts.Parts.{Parts}

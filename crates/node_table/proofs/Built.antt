@@ -1,33 +1,30 @@
 -- Tables that hold the trees of all roots keep the rules.
-use Rattle.std.proofs.Common.{◌≡◌, ◌≢◌, ℕ, zero, suc, ◌+◌, ◌≤◌, ◌<◌, ◌==◌, ◌⊎◌, inl, inr, Bool, true, false, cond, nat_lt, eqb, sym, refl, ap, subst, ◌∙◌, arith, List, [], ◌∷◌, ◌++◌, length, map}
-use Rattle.std.specs.Prelude.{Option, Some, None, IsSome, ◌↔◌, slice_get, slice_index_or}
+use Rattle.std.proofs.Common.{◌≡◌, ◌≢◌, ℕ, zero, suc, ◌+◌, ◌≤◌, ◌<◌, ◌==◌, ◌⊎◌, inl, inr, Bool, true, false, cond, nat_lt, eqb, sym, refl, ap, subst, ◌∙◌, arith, List, [], ◌∷◌, ◌++◌, length}
+use Rattle.std.specs.Prelude.{Option, Some, None, IsSome, slice_get, slice_index_or}
 use Rattle.std.specs.Option.{option_map, unwrap_or}
 use Rattle.std.specs.List.Sorted.{IsStrictlyIncreasing}
 use Rattle.std.proofs.lemmas.Bool.Decides.{nat_tests}
 use Rattle.std.proofs.lemmas.Bool.{eqb-true, eq-eqb}
-use Rattle.graph_edits.specs.Edges.{Network, IsSound, weight_in, weight_between}
+use Rattle.graph_edits.specs.Edges.{Network, IsSound, weight_in}
 use Rattle.graph_edits.specs.Walks.{IsWalk, walk_length, IsLeast, IsReached}
 use Rattle.graph_edits.specs.Laws.{IsWalk-push, IsLeast-unique}
 use Rattle.landmarks.specs.Chosen.{IsLandmark}
 use Rattle.distances.specs.Search.{is_below}
 use Rattle.distances.specs.Nearest.{IsNearestOf}
 use Rattle.distances.specs.declared.nearest.Near.{Near}
-use Rattle.route_tree.specs.Rose.{Tree}
-use Rattle.route_tree.specs.Growth.{subtrees, first_or}
 use Rattle.heavy_labels.specs.Label.{Label}
 use Rattle.heavy_labels.specs.Numbering.{Line, Place, tree_lines, Among}
 use Rattle.heavy_labels.specs.Stepped.{record_of}
 use Rattle.node_table.specs.declared.parts.Parts.{Parts}
 use Rattle.node_table.specs.declared.parts.Entry.{Entry}
-use Rattle.node_table.specs.declared.parts.Listed.{Listed}
-use Rattle.node_table.specs.Tables.{Tables, tables, entries_at, directory_at, first_entry, first_listed, roots_of, nodes_of, or_none, or_false}
-use Rattle.node_table.specs.Checks.{IsShaped, IsClosed, HasParents, IsStrict, IsNearestThere, HasRecords, HasLabels, IsLabelIn, HasDirectories, IsListed, IsChecked, tree_at, k1, k2, k3, k4, k5, k6, k7, k8}
-use Rattle.node_table.specs.Columns.{IsColumn, IsParentIn, IsTightFrom, limit_in, HasColumn, IsBuilt, AreBelow}
+use Rattle.node_table.specs.Tables.{tables, entries_at, directory_at, first_entry, roots_of, nodes_of, or_false}
+use Rattle.node_table.specs.Checks.{IsShaped, IsClosed, HasParents, IsStrict, IsNearestThere, HasRecords, HasLabels, IsLabelIn, HasDirectories, IsChecked, tree_at, k1, k2, k3, k4, k5, k6, k7, k8}
+use Rattle.node_table.specs.Columns.{IsParentIn, limit_in, IsBuilt, AreBelow}
 use Rattle.node_table.proofs.Walks.{symmetric}
 use Rattle.node_table.proofs.Exact.{Distances}
 use Rattle.node_table.proofs.Law.{first_is_listed}
 use Rattle.node_table.proofs.GrownTrees.{grown_tree}
-use Rattle.node_table.proofs.Options.{is_there, some_is}
+use Rattle.node_table.proofs.Options.{is_there, some_is, same_value}
 
 -- ---- least lengths
 
@@ -74,9 +71,6 @@ itself m r = record { attained = (r, (refl, ([], (refl, refl)))); least = λ s x
 
 none_is : {X : Type 0} {x : X} {o : Option X} → o ≡ None → o ≡ Some x → ⊥
 none_is e f = cc
-
-same_some : {X : Type 0} {x y : X} {o : Option X} → o ≡ Some x → o ≡ Some y → x ≡ y
-same_some e f = cc
 
 not_some : {X : Type 0} (o : Option X) → o ≡ None → IsSome o → ⊥
 not_some o e s = none_is e (is_there o s).1
@@ -308,7 +302,7 @@ module _ (m : Network) (sound : IsSound m) (p : Parts) (h : IsBuilt m p m.nodes)
   records r place above i a = (let k = line_of r i place above a in (k.0, (k.1.0, k.1.1.0)))
 
   label_in : (r v : ℕ) → (i : r < m.nodes) → (l : Label) → (h.columns r i).labels v ≡ Some l → IsLabelIn m (tables p) r v l
-  label_in r v i l g place above a is = (let k = line_of r i place above a in same_some k.1.1.1 (ap (h.columns r i).labels is ∙ g))
+  label_in r v i l g place above a is = (let k = line_of r i place above a in same_value k.1.1.1 (ap (h.columns r i).labels is ∙ g))
 
   labels : HasLabels m p
   labels = record {

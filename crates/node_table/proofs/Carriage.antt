@@ -1,10 +1,10 @@
 -- What a packet does on its way is what the law says of it: from each hop's node step to the trail.
-use Rattle.std.proofs.Common.{◌≡◌, ◌⊎◌, inl, inr, ℕ, zero, suc, ◌+◌, ◌-◌, ◌*◌, ◌^◌, ◌≤◌, ◌<◌, ◌==◌, nat_lt, min, Bool, true, false, cond, sym, refl, ap, subst, ◌∙◌, arith, List, [], ◌∷◌, ◌++◌, length, length-append, map}
-use Rattle.std.specs.Prelude.{Option, Some, None, Result, Ok, Err, MatchResult, slice_get}
+use Rattle.std.proofs.Common.{◌≡◌, inl, inr, ℕ, zero, suc, ◌+◌, ◌-◌, ◌*◌, ◌^◌, ◌≤◌, ◌<◌, ◌==◌, nat_lt, min, Bool, true, false, cond, sym, refl, ap, subst, ◌∙◌, arith, List, [], ◌∷◌, ◌++◌, length, map}
+use Rattle.std.specs.Prelude.{Option, Some, None, Result, Ok, Err, slice_get}
 use Rattle.std.specs.Option.{option_map}
 use Rattle.std.proofs.lemmas.Bool.Decides.{nat_tests}
-use Rattle.graph_edits.specs.Edges.{Network, IsSound, weight_in, neighbours_of, over_port, greatest_weight}
-use Rattle.graph_edits.specs.Walks.{IsWalk, walk_length}
+use Rattle.graph_edits.specs.Edges.{Network, IsSound, neighbours_of, greatest_weight}
+use Rattle.graph_edits.specs.Walks.{walk_length}
 use Rattle.heavy_labels.specs.Numbering.{Step, arrived, port, no_parent, no_light, step}
 use Rattle.heavy_labels.specs.Stepped.{record_of}
 use Rattle.node_table.specs.declared.parts.Parts.{Parts}
@@ -14,11 +14,9 @@ use Rattle.node_table.specs.declared.packet.Packet.{Packet}
 use Rattle.node_table.specs.declared.packet.Move.{Move}
 use Rattle.node_table.specs.declared.packet.Move.TheVariants.{Delivered, Forward}
 use Rattle.node_table.specs.declared.packet.Refused.{Refused}
-use Rattle.node_table.specs.declared.packet.Refused.TheVariants.{NoNode, Unreachable, Stray, Spent}
+use Rattle.node_table.specs.declared.packet.Refused.TheVariants.{NoNode, Stray, Spent}
 use Rattle.node_table.specs.declared.trail.Trail.{Trail}
 use Rattle.node_table.specs.declared.trail.CarryRefused.{CarryRefused}
-use Rattle.node_table.specs.declared.trail.CarryRefused.TheVariants.{Memory as CarryMemory, Unreachable as CarryUnreachable}
-use Rattle.node_table.specs.Ports.{neighbours}
 use Rattle.node_table.specs.Tables.{Tables, tables}
 use Rattle.node_table.specs.Checks.{IsChecked}
 use Rattle.node_table.specs.Service.{address, decide, node_step, move_at, move_by, forward_over, one_less, Carries, IsGoodTrip}
@@ -133,18 +131,6 @@ under_way_next t u a nodes ports len at left q y next nodes2 ports2 len2 hop h e
       long = same ∙ got.long;
     }
 
-pub under_way_first : (t : Tables) (u : ℕ) (a : Address) (nodes ports : List ℕ) (len : ℕ) (sent : Packet) → decide t u a ≡ Ok sent → nodes ≡ u ∷ [] → ports ≡ [] → len ≡ 0
-    → IsUnderWay t u a nodes ports len u sent
-under_way_first t u a nodes ports len sent d n q l = record {
-  sent = sent;
-  decided = d;
-  rest = [];
-  starts = n;
-  goes = subst (λ z. Goes t u [] z sent u sent) (sym q) (refl, refl);
-  same_root = refl;
-  long = l;
-}
-
 -- ---- the way that is carried is the only one
 
 two_moves : (q p y z : ℕ) (a b : Packet) (o : Result Move Refused) → o ≡ Ok (Forward q y a) → o ≡ Ok (Forward p z b) → (y ≡ z) × (a ≡ b)
@@ -243,9 +229,6 @@ good_trail m s p h u v a trail j is k =
 
 pub connected_ok : (p : Parts) (u : ℕ) (a : Address) (trail : Trail) → IsTrailOf (tables p) u a trail → IsCarriedWhereConnected p u a (Ok trail)
 connected_ok p u a trail k m v xs s h i j is w = good_trail m s p h u v a trail (journey m (tables p) (laws_of m s p h) u v xs i j w) is k
-
-pub connected_memory : (p : Parts) (u : ℕ) (a : Address) → IsCarriedWhereConnected p u a (Err CarryMemory)
-connected_memory p u a m v xs s h i j is w = refl
 
 pub connected_refused : (p : Parts) (u : ℕ) (a : Address) (r : Refused) → IsRefusedOnWay (tables p) u a r → IsCarriedWhereConnected p u a (Err (as_carried r))
 connected_refused p u a r k m v xs s h i j is w = absurd (

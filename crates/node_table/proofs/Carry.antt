@@ -5,6 +5,7 @@ use Rattle.std.proofs.lemmas.Bool.Decides.{nat_tests}
 use Rattle.std.proofs.lemmas.Bool.{lt-ltb, eqb-true}
 use Rattle.heavy_labels.specs.Numbering.{Place, arrived, port, step, Follows, Joins}
 use Rattle.heavy_labels.specs.Stepped.{record_of}
+use Rattle.node_table.proofs.Options.{not_none}
 use Rattle.node_table.specs.declared.parts.Entry.{Entry}
 use Rattle.graph_edits.specs.Edges.{Network}
 use Rattle.node_table.specs.Ports.{index_of, neighbours, port_to}
@@ -14,9 +15,6 @@ use Rattle.node_table.specs.declared.packet.Packet.{Packet}
 use Rattle.node_table.specs.declared.packet.Move.TheVariants.{Delivered, Forward}
 use Rattle.node_table.specs.Service.{node_step, one_less, Carries}
 
-clash : {X : Type 0} {x : X} → None ≡ Some x → ⊥
-clash e = cc
-
 some_same : {X : Type 0} {x y : X} → Some x ≡ Some y → x ≡ y
 some_same e = cc
 
@@ -24,14 +22,14 @@ get_next : (x y q k : ℕ) (xs : List ℕ) → k + 1 ≡ q → slice_get xs k �
 get_next x y q k xs e h = rw (← e) (rw add-one h)
 
 pub index_get : (y q : ℕ) (xs : List ℕ) → index_of y xs ≡ Some q → slice_get xs q ≡ Some y
-index_get y q [] e = absurd (clash e)
+index_get y q [] e = absurd (not_none e refl)
 index_get y q (x ∷ xs) e = go (λ k g. index_get y k xs g) (x == y) refl (index_of y xs) refl
   where
     go : ((k : ℕ) → index_of y xs ≡ Some k → slice_get xs k ≡ Some y) → (b : Bool) → (x == y) ≡ b → (o : Option ℕ) → index_of y xs ≡ o → slice_get (x ∷ xs) q ≡ Some y
     go ih true f o g =
         let z : 0 ≡ q = some_same (rw f at e) in
         rw (← z) (ap (λ w. Some w) (eqb-true x y f))
-    go ih false f None g = absurd (clash (rw (f, g) at e))
+    go ih false f None g = absurd (not_none (rw (f, g) at e) refl)
     go ih false f (Some k) g = get_next x y q k xs (some_same (rw (f, g) at e)) (ih k g)
 
 -- the place stands for what the tables say of its node

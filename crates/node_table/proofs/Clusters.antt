@@ -1,18 +1,12 @@
 -- What the first five checks say of entries: they are the landmarks' trees and the clusters, and the nearest landmarks are right.
 use Rattle.std.proofs.Common.{◌≡◌, ℕ, suc, ◌≤◌, ◌<◌, ◌⊎◌, inl, inr, true, false, refl, subst, arith}
-use Rattle.std.specs.Prelude.{Option, Some, None, IsSome, ◌↔◌}
+use Rattle.std.specs.Prelude.{Some, None, IsSome, ◌↔◌}
 use Rattle.distances.specs.declared.nearest.Near.{Near}
 use Rattle.graph_edits.specs.Edges.{Network}
 use Rattle.node_table.proofs.Walks.{Walk, IsShortest}
 use Rattle.node_table.specs.Tables.{Tables}
 use Rattle.node_table.proofs.Exact.{Distances, exact, real, reach, close, nearest_least}
-use Rattle.node_table.proofs.Options.{is_there, some_is}
-
-same : {X : Type 0} {x y : X} {o : Option X} → o ≡ Some x → o ≡ Some y → x ≡ y
-same e f = cc
-
-clash : {X : Type 0} {x : X} {o : Option X} → o ≡ None → o ≡ Some x → ⊥
-clash e f = cc
+use Rattle.node_table.proofs.Options.{is_there, some_is, not_none}
 
 -- every landmark that x can be walked to from is farther than d
 abbrev pub IsFarther : Network → Tables → ℕ → ℕ → Type 0
@@ -64,4 +58,4 @@ module _ (m : Network) (t : Tables) (h : Distances m t) where
       )
 
   pub nearest_none : (x : ℕ) → t.nearest x ≡ None → (a y : ℕ) → a < m.nodes → t.landmark a ≡ true → Walk m a x y → ⊥
-  nearest_none x g a y i l w = clash g (nearest_least m t h a x y l i w).1.0
+  nearest_none x g a y i l w = not_none (nearest_least m t h a x y l i w).1.0 g

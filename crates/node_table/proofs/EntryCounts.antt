@@ -1,15 +1,13 @@
 -- A node's entries are as many as the trees that it's in.
-use Rattle.std.proofs.Common.{◌≡◌, ◌≢◌, ℕ, zero, suc, ◌+◌, ◌<◌, ◌==◌, Bool, true, false, cond, sym, refl, ap, subst, ◌∙◌, arith, List, [], ◌∷◌, length}
-use Rattle.std.specs.Prelude.{Option, Some, None, IsSome, ◌↔◌, slice_index_or}
+use Rattle.std.proofs.Common.{◌≡◌, ℕ, zero, suc, ◌<◌, ◌==◌, Bool, true, false, cond, sym, refl, subst, ◌∙◌, arith, List, [], ◌∷◌, length}
+use Rattle.std.specs.Prelude.{Some, IsSome, slice_index_or}
 use Rattle.std.specs.List.{Contains}
-use Rattle.std.proofs.lemmas.Bool.Decides.{nat_tests}
 use Rattle.std.proofs.lemmas.Bool.{eqb-true, eq-eqb}
-use Rattle.graph_edits.specs.Edges.{Network, IsSound}
 use Rattle.node_table.specs.declared.parts.Parts.{Parts}
 use Rattle.node_table.specs.declared.parts.Entry.{Entry}
-use Rattle.node_table.specs.Tables.{tables, entries_at, first_entry, roots_of}
-use Rattle.node_table.specs.Checks.{IsChecked, k1}
-use Rattle.node_table.specs.Laws.{AreTreesOf, IsInTree}
+use Rattle.node_table.specs.Tables.{entries_at, first_entry, roots_of}
+use Rattle.node_table.specs.Checks.{k1}
+use Rattle.node_table.specs.Laws.{AreTreesOf}
 use Rattle.node_table.proofs.Searches.{roots_length}
 use Rattle.node_table.proofs.SchemeLaws.{trees_law}
 

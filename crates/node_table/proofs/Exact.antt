@@ -4,6 +4,7 @@ use Rattle.std.specs.Prelude.{Option, Some, None}
 use Rattle.node_table.specs.declared.parts.Entry.{Entry}
 use Rattle.distances.specs.declared.nearest.Near.{Near}
 use Rattle.graph_edits.specs.Edges.{Network, IsSound, weight_in}
+use Rattle.node_table.proofs.Options.{same_value, not_none}
 use Rattle.node_table.proofs.Walks.{Walk, stay, go, IsShortest, edge_inside}
 use Rattle.node_table.specs.Tables.{Tables}
 use Rattle.node_table.specs.Checks.{IsClosed, HasParents, IsStrict, IsNearestThere}
@@ -19,12 +20,6 @@ pub record Distances (m : Network) (t : Tables) : Type 0 where
   pub strict : IsStrict t
   pub nearest : IsNearestThere t
 
-same_entry : {e f : Entry} {o : Option Entry} → o ≡ Some e → o ≡ Some f → e ≡ f
-same_entry p q = cc
-
-no_entry : {X : Type 0} {e : X} {o : Option X} → o ≡ Some e → o ≡ None → ⊥
-no_entry p q = cc
-
 not_both : {b : Bool} → b ≡ true → b ≡ false → ⊥
 not_both p q = cc
 
@@ -39,7 +34,7 @@ module _ (m : Network) (t : Tables) (h : Distances m t) where
       ]
 
   some_nearest : (v a : ℕ) (e : Entry) (o : Option Near) → t.nearest v ≡ o → t.landmark a ≡ true → t.entry v a ≡ Some e → (q : Near) × ((t.nearest v ≡ Some q) × (q.distance ≤ e.distance))
-  some_nearest v a e None g l k = absurd (no_entry k (h.nearest.none v a g l))
+  some_nearest v a e None g l k = absurd (not_none k (h.nearest.none v a g l))
   some_nearest v a e (Some q) g l k = (q, (g, elim (h.nearest.least v a q e g l k) [ inl s ↦ omega arith | inr s ↦ omega (arith, s.0) ]))
 
   -- no landmark is nearer than the nearest one says
@@ -78,7 +73,7 @@ module _ (m : Network) (t : Tables) (h : Distances m t) where
   real (suc k) x r e lt g = elim (h.parents x r e g) [
     | inl s ↦ (
         let o = h.own r (h.inside x r e g) in
-        let d : e.distance ≡ 0 = ap (λ (z : Entry). z.distance) (same_entry g (subst (λ z. t.entry z r ≡ Some o.0) (sym s) o.1.0)) ∙ o.1.1.0 in
+        let d : e.distance ≡ 0 = ap (λ (z : Entry). z.distance) (same_value g (subst (λ z. t.entry z r ≡ Some o.0) (sym s) o.1.0)) ∙ o.1.1.0 in
         subst (λ z. Walk m r z e.distance) (sym s) (subst (Walk m r r) (sym d) (stay r (h.inside x r e g))))
     | inr p ↦ (
         let c = (h.tight x p.0 r e g p.1).0 in
@@ -94,7 +89,7 @@ module _ (m : Network) (t : Tables) (h : Distances m t) where
     least = λ y w.
         let o = h.own r (h.inside x r e g) in
         let f = reach r x r y o.0 l o.1.0 w in
-        let s = ap (λ (z : Entry). z.distance) (same_entry g f.1.0) in
+        let s = ap (λ (z : Entry). z.distance) (same_value g f.1.0) in
         omega (arith, f.1.1, o.1.1.0, s);
   }
   exact x r e false l g = record {
@@ -102,7 +97,7 @@ module _ (m : Network) (t : Tables) (h : Distances m t) where
     least = λ y w.
         let o = h.own r (h.inside x r e g) in
         elim (close r x r y o.0 o.1.0 w) [
-          | inl f ↦ (let s = ap (λ (z : Entry). z.distance) (same_entry g f.1.0) in omega (arith, f.1.1, o.1.1.0, s))
+          | inl f ↦ (let s = ap (λ (z : Entry). z.distance) (same_value g f.1.0) in omega (arith, f.1.1, o.1.1.0, s))
           | inr q ↦ (let s = h.strict x r e q.0 l g q.1.0 in omega (arith, q.1.1, o.1.1.0, s))
         ];
   }

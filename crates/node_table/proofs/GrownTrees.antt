@@ -1,27 +1,27 @@
 -- The tree that members grow into is the one that the tables' parents give.
-use Rattle.std.proofs.Common.{◌≡◌, ℕ, zero, suc, ◌+◌, ◌≤◌, ◌<◌, ◌==◌, ◌⊎◌, inl, inr, Bool, true, false, cond, nat_le, max, sym, refl, ap, subst, ◌∙◌, arith, List, [], ◌∷◌, ◌++◌, map, length, take, drop, get_or, append_assoc, add-one}
+use Rattle.std.proofs.Common.{◌≡◌, ℕ, zero, suc, ◌+◌, ◌<◌, ◌==◌, inl, inr, Bool, true, false, cond, nat_le, max, sym, refl, ap, subst, ◌∙◌, arith, List, [], ◌∷◌, ◌++◌, map, length, take, drop, get_or, append_assoc}
 use Rattle.std.specs.Prelude.{Option, Some, None}
 use Rattle.std.proofs.lemmas.Bool.Decides.{nat_tests}
 use Rattle.std.proofs.lemmas.Bool.{eqb-true, eq-eqb}
-use Rattle.std.proofs.Math.Nat.{le-max_left, le-max_right}
+use Rattle.std.proofs.Math.Nat.{le-max_right}
 use Rattle.graph_edits.specs.Edges.{Network, below as up_to}
 use Rattle.route_tree.specs.Rose.{Tree, tree, tree_size, of_list}
 use Rattle.route_tree.specs.Order.{ascending, heaviest, fronted}
-use Rattle.route_tree.specs.Front.{heavy_at, fronted_at, heavy_to_front}
+use Rattle.route_tree.specs.Front.{heavy_at, heavy_to_front}
 use Rattle.route_tree.specs.Growth.{is_parent, trees_on, subtrees, first_or}
 use Rattle.route_tree.specs.declared.member.Member.{Member}
 use Rattle.route_tree.proofs.Ascending.{Has, Above, Rising, Fresh, Differ, rising_same, has_ascending, ascending_has, rising_ascending}
 use Rattle.route_tree.proofs.Heaviest.{heavy_here, heavy_size, from_part}
 use Rattle.node_table.specs.declared.parts.Entry.{Entry}
-use Rattle.node_table.specs.Ports.{filtered}
 use Rattle.node_table.specs.Tables.{Tables}
 use Rattle.node_table.specs.Checks.{parent_is, children, up_port, down_port, tree_to_depth, farthest, tree_at}
 use Rattle.node_table.specs.Columns.{HasMember, LacksMember, AreDistinct, BeginsWith, FitsEntry, IsLaid}
 use Rattle.node_table.proofs.Exact.{Distances}
-use Rattle.node_table.proofs.Lists.{Each, Any, each_filtered, any_filtered, within_up_to}
+use Rattle.node_table.proofs.Lists.{Each, each_filtered, any_filtered, within_up_to}
 use Rattle.node_table.proofs.Rows.{Ascends, ascends_filtered, ascends_up_to}
-use Rattle.node_table.proofs.LocalRecords.{Every, IsDeep, child_farther, child_deep, tree_to_depth-up, tree_to_depth-down}
-use Rattle.node_table.proofs.TreeOfTables.{IsChildOf, child_of, tree_to_depth-node, same_entry, node_inside, far_enough, parent_is_from}
+use Rattle.node_table.proofs.LocalRecords.{Every, IsDeep, child_farther, child_deep}
+use Rattle.node_table.proofs.Options.{same_value}
+use Rattle.node_table.proofs.TreeOfTables.{child_of, tree_to_depth-node, node_inside, far_enough, parent_is_from}
 
 -- ---- the heavy tree in front, said in two ways
 
@@ -121,7 +121,7 @@ module _ (m : Network) (t : Tables) (r : ℕ) where
   by_child : (n : ℕ) (a : Member) → FitsEntry m (λ x. t.entry x r) a → parent_is n (t.entry a.node r) ≡ true → is_parent n a.parent ≡ true
   by_child n a fit g =
       let c = child_of m t r n a.node (t.entry a.node r) refl g in
-      parent_is_of n a.parent (sym fit.parent ∙ ap (λ (z : Entry). z.parent) (same_entry fit.is c.is) ∙ c.parent)
+      parent_is_of n a.parent (sym fit.parent ∙ ap (λ (z : Entry). z.parent) (same_value fit.is c.is) ∙ c.parent)
 
   -- what hangs on n are trees of its children
   hanging_child : (k n : ℕ) (ms : List Member) (ss : List Tree) → IsLaid m (λ x. t.entry x r) ms → HaveTrees m t r ms ss → ((y : ℕ) → parent_is n (t.entry y r) ≡ true → IsDeep m t r k y)

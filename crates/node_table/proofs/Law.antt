@@ -8,18 +8,18 @@ use Rattle.node_table.specs.declared.parts.Entry.{Entry}
 use Rattle.node_table.specs.declared.parts.Listed.{Listed}
 use Rattle.distances.specs.declared.nearest.Near.{Near}
 use Rattle.graph_edits.specs.Edges.{Network, IsSound}
-use Rattle.node_table.proofs.Walks.{walk_from, walk_of, Walk, stay, go, IsShortest, symmetric, edge_inside}
+use Rattle.node_table.proofs.Walks.{walk_from, walk_of, Walk, stay, go, symmetric, edge_inside}
 use Rattle.node_table.specs.Tables.{Tables, tables, directory_at, first_listed}
 use Rattle.node_table.specs.Checks.{Fault, Holds, IsShaped, number_of, IsChecked, HasRecords, IsLabelIn, IsListed, k1, k2, k3, k4, k5, k6, k7, k8}
 use Rattle.graph_edits.specs.Walks.{IsWalk, walk_length}
 use Rattle.node_table.specs.declared.packet.Packet.{Packet}
 use Rattle.node_table.specs.declared.packet.Refused.TheVariants.{Unreachable}
-use Rattle.node_table.specs.Service.{Serves, Arrives, Carries, IsGoodTrip, address, packet_by, decide}
+use Rattle.node_table.specs.Service.{Serves, Carries, IsGoodTrip, address, packet_by, decide}
 use Rattle.node_table.specs.Trails.{AreMeasured}
 use Rattle.node_table.proofs.Carry.{Ports}
 use Rattle.node_table.proofs.Exact.{Distances, exact, real, reach, close, nearest_least}
 use Rattle.node_table.proofs.Trees.{trip_in_tree}
-use Rattle.node_table.proofs.Options.{is_there, some_is}
+use Rattle.node_table.proofs.Options.{is_there, some_is, not_none}
 
 -- the rules on distances, out of the first five checks
 pub distances_from : (m : Network) → IsSound m → (p : Parts) → ((k : Fault) → number_of k ≤ 5 → Holds m p k) → Distances m (tables p)
@@ -47,9 +47,6 @@ distances_from m s p h = record {
 pub distances_of : (m : Network) → IsSound m → (p : Parts) → IsChecked m p → Distances m (tables p)
 distances_of m s p h = distances_from m s p (λ k _. h k)
 
-pub checked_exact : (m : Network) → IsSound m → (p : Parts) → IsChecked m p → (x r : ℕ) (e : Entry) → (tables p).entry x r ≡ Some e → IsShortest m r x e.distance
-checked_exact m s p h x r e g = exact m (tables p) (distances_of m s p h) x r e ((tables p).landmark r) refl g
-
 ports_of : (m : Network) (p : Parts) → IsChecked m p → Ports m (tables p)
 ports_of m p h = record { nodes = (h k1).nodes; over = λ x k i. ap (λ z. slice_get z k) ((h k1).neighbours_are x i) }
 
@@ -73,9 +70,6 @@ pub record TableLaws (m : Network) (t : Tables) : Type 0 where
   pub listed_entry : (u v : ℕ) (l : Label) → u < m.nodes → t.listed u v ≡ Some l → (e : Entry) × (t.entry v u ≡ Some e)
   pub entry_listed : (u v : ℕ) (e : Entry) → u < m.nodes → t.landmark u ≡ false → t.entry v u ≡ Some e → (l : Label) × (t.listed u v ≡ Some l)
   pub homes : (v : ℕ) (q : Near) → v < m.nodes → t.nearest v ≡ Some q → (l : Label) × (t.home v ≡ Some l)
-
-clash : {X : Type 0} {x : X} {o : Option X} → o ≡ None → o ≡ Some x → ⊥
-clash e f = cc
 
 same : {X : Type 0} {x y : X} {o : Option X} → o ≡ Some x → o ≡ Some y → x ≡ y
 same e f = cc
@@ -119,7 +113,7 @@ module _ (m : Network) (t : Tables) (h : TableLaws m t) where
   near u v y i g false b w =
       let o = h.distances.own u i in
       elim (close m t h.distances u v u y o.0 o.1.0 w) [
-        | inl f ↦ absurd (clash g (h.entry_listed u v f.0 i b f.1.0).1)
+        | inl f ↦ absurd (not_none (h.entry_listed u v f.0 i b f.1.0).1 g)
         | inr q ↦ (q.0, (q.1.0, omega (arith, q.1.1, o.1.1.0)))
       ]
 
@@ -192,10 +186,10 @@ module _ (m : Network) (t : Tables) (h : TableLaws m t) where
 
 -- a landmark lists none
 none_listed : (p : Parts) (u v : ℕ) (l : Label) → directory_at p u ≡ [] → (tables p).listed u v ≡ Some l → ⊥
-none_listed p u v l e g = clash (ap (first_listed v) e) g
+none_listed p u v l e g = not_none g (ap (first_listed v) e)
 
 pub first_is_listed : (v : ℕ) (es : List Listed) (l : Label) → first_listed v es ≡ Some l → (e : Listed) × (IsListed e es × ((e.node ≡ v) × (e.label ≡ l)))
-first_is_listed v [] l g = absurd (clash refl g)
+first_is_listed v [] l g = absurd (not_none g refl)
 first_is_listed v (e ∷ es) l g = go (λ k. first_is_listed v es l k) (e.node == v) refl g
   where
     go : (first_listed v es ≡ Some l → (f : Listed) × (IsListed f es × ((f.node ≡ v) × (f.label ≡ l)))) → (b : Bool) → (e.node == v) ≡ b

@@ -1,16 +1,15 @@
 -- The local forms of Records and Labels are those two checks, once the checks before them hold.
-use Rattle.std.proofs.Common.{◌<◌, ◌≤◌, arith, ◌≡◌, ℕ, Bool, true, false, cond, sym, refl, ap, ◌∙◌, List, [], ◌∷◌}
-use Rattle.std.specs.Prelude.{Option, Some, None, IsSome, is_some, ◌↔◌}
+use Rattle.std.proofs.Common.{◌≡◌, ℕ, Bool, true, false, cond, sym, refl, ap, ◌∙◌, List, [], ◌∷◌}
+use Rattle.std.specs.Prelude.{is_some, ◌↔◌}
 use Rattle.node_table.specs.declared.parts.Parts.{Parts}
-use Rattle.graph_edits.specs.Edges.{Network, IsSound, below as up_to, weight_in}
+use Rattle.graph_edits.specs.Edges.{Network, below as up_to, weight_in}
 use Rattle.node_table.specs.Ports.{filtered, neighbours}
 use Rattle.node_table.proofs.Walks.{neighbours_are}
 use Rattle.node_table.specs.Tables.{Tables, tables}
-use Rattle.node_table.specs.Checks.{Fault, k1, k2, k3, k4, k5, k6, k7, k8, Holds, number_of, IsChecked, IsShaped, IsFirstFault, parent_is, children, HasRecords, HasLabels}
+use Rattle.node_table.specs.Checks.{parent_is, children, HasRecords, HasLabels}
 use Rattle.node_table.specs.Local.{HasLocalRecords, HasLocalLabels}
 use Rattle.node_table.proofs.Exact.{Distances}
 use Rattle.node_table.proofs.TreeOfTables.{child_of}
-use Rattle.node_table.proofs.Law.{distances_from}
 use Rattle.node_table.proofs.LocalRecords.{local_records}
 use Rattle.node_table.proofs.RecordsLocal.{records_local}
 use Rattle.node_table.proofs.LocalLabels.{local_label, label_local}
@@ -59,42 +58,3 @@ children_near m t d nodes r x =
         let a = child_of m t r x y (t.entry y r) refl g in
         let c = (d.tight y x r a.entry a.is a.parent).0 in
         ap is_some c.1.1.0
-
--- the first five checks
-abbrev pub FirstFive : Network → Parts → Type 0
-FirstFive m p = (k : Fault) → number_of k ≤ 5 → Holds m p k
-
-shape_of : (m : Network) (p : Parts) → FirstFive m p → IsShaped m p
-shape_of m p first = first k1 (omega arith)
-
--- What a checker without memory tests gives all eight, and each fault that it finds is one.
-pub local_checked : (m : Network) → IsSound m → (p : Parts) → FirstFive m p → HasLocalRecords m (tables p) → HasLocalLabels m p → Holds m p k8 → IsChecked m p
-local_checked m s p first records labels last k1 = first k1 (omega arith)
-local_checked m s p first records labels last k2 = first k2 (omega arith)
-local_checked m s p first records labels last k3 = first k3 (omega arith)
-local_checked m s p first records labels last k4 = first k4 (omega arith)
-local_checked m s p first records labels last k5 = first k5 (omega arith)
-local_checked m s p first records labels last k6 = local_records m (tables p) (distances_from m s p first) records
-local_checked m s p first records labels last k7 =
-    let d = distances_from m s p first in
-    (labels_check m p d (local_records m (tables p) d records) (shape_of m p first).nodes).1 labels
-local_checked m s p first records labels last k8 = last
-
-pub records_fault : (m : Network) → IsSound m → (p : Parts) → FirstFive m p → (HasLocalRecords m (tables p) → ⊥) → IsFirstFault m p k6
-records_fault m s p first fails = (λ h. fails (records_local m (tables p) (distances_from m s p first) (shape_of m p first).nodes h), λ j l. first j (omega arith))
-
-pub labels_fault : (m : Network) → IsSound m → (p : Parts) → FirstFive m p → HasLocalRecords m (tables p) → (HasLocalLabels m p → ⊥) → IsFirstFault m p k7
-labels_fault m s p first local fails =
-    let d = distances_from m s p first in
-    let records = local_records m (tables p) d local in
-    (λ h. fails ((labels_check m p d records (shape_of m p first).nodes).0 h), before records)
-  where
-    before : HasRecords m (tables p) → (j : Fault) → number_of j < 7 → Holds m p j
-    before records k1 l = first k1 (omega arith)
-    before records k2 l = first k2 (omega arith)
-    before records k3 l = first k3 (omega arith)
-    before records k4 l = first k4 (omega arith)
-    before records k5 l = first k5 (omega arith)
-    before records k6 l = records
-    before records k7 l = absurd (omega arith)
-    before records k8 l = absurd (omega arith)

@@ -14,7 +14,8 @@ use Rattle.node_table.specs.Tables.{Tables}
 use Rattle.node_table.specs.Checks.{parent_is, children, up_port, down_port, tree_to_depth, farthest, tree_at, HasRecords}
 use Rattle.node_table.specs.Local.{record_or, record_at, span, widest_span, fronted_by, in_row, IsRow, IsHeavyOf, IsLocal}
 use Rattle.node_table.proofs.Exact.{Distances}
-use Rattle.node_table.proofs.TreeOfTables.{IsChildOf, child_of, tree_to_depth-node, same_entry, HasItsRecord, node_inside, far_enough}
+use Rattle.node_table.proofs.Options.{same_value}
+use Rattle.node_table.proofs.TreeOfTables.{IsChildOf, child_of, tree_to_depth-node, HasItsRecord, node_inside, far_enough}
 
 abbrev pub Every : (ℕ → Type 0) → List ℕ → Type 0
 Every P [] = Unit {0}
@@ -124,7 +125,7 @@ module _ (m : Network) (t : Tables) (r : ℕ) (d : Distances m t) where
   pub child_farther : (x y : ℕ) (e : Entry) (u : Option ℕ) (v : Option ℕ) → t.entry x r ≡ Some e → (g : IsChildOf m t r x y u v) → e.distance < g.entry.distance
   child_farther x y e u v i g =
       let c = (d.tight y x r g.entry g.is g.parent).0 in
-      let s = ap (λ (z : Entry). z.distance) (same_entry i c.1.1.1.0) in
+      let s = ap (λ (z : Entry). z.distance) (same_value i c.1.1.1.0) in
       let pos = edge_inside m d.sound x y c.0 c.1.1.0 in
       omega (arith, c.1.1.1.1, pos.1.1, s)
 

@@ -1,24 +1,20 @@
 -- Rows are the tree of their root: from what was reached and what was numbered to all that is known of the tree.
-use Rattle.std.proofs.Common.{◌≡◌, ◌≢◌, ℕ, zero, suc, ◌+◌, ◌≤◌, ◌<◌, ◌==◌, ◌⊎◌, inl, inr, Bool, true, false, cond, nat_lt, sym, refl, ap, subst, ◌∙◌, arith, List, [], ◌∷◌, ◌++◌, length, map, get_or, IsPermutation}
+use Rattle.std.proofs.Common.{◌≡◌, ℕ, ◌+◌, ◌≤◌, ◌<◌, ◌==◌, inl, inr, Bool, true, false, cond, sym, refl, ap, subst, ◌∙◌, arith, List, [], ◌∷◌, ◌++◌, length, map, get_or, IsPermutation}
 use Rattle.std.specs.Prelude.{Option, Some, None, IsSome, ◌↔◌, nat_eq}
 use Rattle.std.specs.Option.{option_map}
-use Rattle.std.specs.List.{All, AllByRecursion, Contains, IsDistinct}
-use Rattle.std.specs.List.Sorted.{IsStrictlyIncreasing}
+use Rattle.std.specs.List.{All, AllByRecursion, IsDistinct}
 use Rattle.std.proofs.lemmas.List.Sorted.{Contains-permutation, IsPermutation-map, IsPermutation-sym}
 use Rattle.std.proofs.lemmas.Map.Keys.{IsDistinct-IsPermutation, IsDistinct-head, IsDistinct-tail}
-use Rattle.std.proofs.lemmas.Bool.Decides.{nat_tests}
 use Rattle.std.proofs.lemmas.Bool.{eqb-true, eq-eqb}
-use Rattle.graph_edits.specs.Edges.{Network, IsSound, weight_in}
+use Rattle.graph_edits.specs.Edges.{Network, IsSound}
 use Rattle.graph_edits.specs.Walks.{IsLeast}
-use Rattle.distances.specs.Search.{is_below, IsAscending}
+use Rattle.distances.specs.Search.{is_below}
 use Rattle.distances.specs.Reach.{IsTree, IsParent, IsTight}
 use Rattle.distances.specs.declared.reach.Reached.{Reached}
 use Rattle.route_tree.specs.Rose.{Forest, no_trees, twig, count, Tree}
 use Rattle.route_tree.specs.Growth.{subtrees, first_or}
 use Rattle.route_tree.specs.Members.{listed, members_of, AreMembers}
-use Rattle.route_tree.specs.declared.member.TheConstants.{MOST_MEMBERS}
 use Rattle.route_tree.specs.declared.member.Member.{Member}
-use Rattle.heavy_labels.specs.Label.{Label}
 use Rattle.heavy_labels.specs.Numbered.{Brief, seen, head_brief}
 use Rattle.heavy_labels.specs.Numbering.{Line, Place, place, lights_at, lines, tree_lines, Among}
 use Rattle.heavy_labels.specs.Stepped.{record_of}
@@ -29,13 +25,10 @@ use Rattle.node_table.specs.Checks.{up_port, down_port}
 use Rattle.node_table.specs.Columns.{up_by, down_by, member_of, LacksMember, AreDistinct, FitsEntry, IsTightFrom, IsParentIn, IsColumn}
 use Rattle.node_table.specs.RowLists.{IsRowOf, IsRowFrom, IsRowList, row_at, entry_in, label_in}
 use Rattle.node_table.proofs.TreeMembers.{IsIn, is_in_of, contains_of, all_in, distinct_members, laid_members, ChildrenReached, same_distance, parent_reached, farther, begins_with_root, at_in, in_at, one_place, exact_in, parent_in, reached_inside, reached_members, first_member}
-use Rattle.node_table.proofs.Options.{is_there, some_is}
+use Rattle.node_table.proofs.Options.{some_is, same_value}
 
 none_some : {X : Type 0} {x : X} {o : Option X} → o ≡ None → o ≡ Some x → ⊥
 none_some e f = cc
-
-same_some : {X : Type 0} {x y : X} {o : Option X} → o ≡ Some x → o ≡ Some y → x ≡ y
-same_some e f = cc
 
 -- ---- the nodes of a tree, in preorder
 
@@ -145,7 +138,7 @@ row_found [] x w e = absurd (none_some refl e)
 row_found (a ∷ ws) x w e = go (a.node == x) refl (λ q. row_found ws x w q) e
   where
     go : (b : Bool) → (a.node == x) ≡ b → (row_at ws x ≡ Some w → IsIn w ws × (w.node ≡ x)) → cond b (Some a) (row_at ws x) ≡ Some w → IsIn w (a ∷ ws) × (w.node ≡ x)
-    go true t ih q = (let s : a ≡ w = same_some refl q in (inl (sym s), ap (λ (z : Row). z.node) (sym s) ∙ eqb-true a.node x t))
+    go true t ih q = (let s : a ≡ w = same_value refl q in (inl (sym s), ap (λ (z : Row). z.node) (sym s) ∙ eqb-true a.node x t))
     go false t ih q = (let k = ih q in (inr k.0, k.1))
 
 pub row_there : (ws : List Row) (x : ℕ) (w : Row) → IsIn w ws → w.node ≡ x → (v : Row) × (row_at ws x ≡ Some v)
@@ -196,7 +189,7 @@ module _ (m : Network) (sound : IsSound m) (r : ℕ) (r_in : r < m.nodes) (limit
     where
       go : (o : Option Row) → row_at ws x ≡ o → option_map (λ w. w.entry) o ≡ Some e → (w : Row) × ((row_at ws x ≡ Some w) × (w.entry ≡ e))
       go None q k = absurd (none_some refl k)
-      go (Some w) q k = (w, (q, same_some refl k))
+      go (Some w) q k = (w, (q, same_value refl k))
 
   -- a node with an entry was reached
   reached_of : (x : ℕ) (e : Entry) → entry_in ws x ≡ Some e → (k : Reached) × (IsIn k ks × ((k.node ≡ x) × ((e.distance ≡ k.distance) × (e.parent ≡ k.parent))))

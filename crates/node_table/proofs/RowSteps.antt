@@ -1,24 +1,24 @@
 -- Rows, as they are made: ports, places of nodes in lists, and the rows of the first nodes.
-use Rattle.std.proofs.Common.{◌≡◌, ◌≢◌, ℕ, zero, suc, ◌+◌, ◌≤◌, ◌<◌, ◌==◌, ◌⊎◌, inl, inr, Bool, true, false, cond, nat_lt, sym, refl, ap, subst, ◌∙◌, arith, List, [], ◌∷◌, ◌++◌, length, length-append, map, get_or}
+use Rattle.std.proofs.Common.{◌≡◌, ℕ, zero, suc, ◌+◌, ◌≤◌, ◌<◌, ◌⊎◌, inl, inr, Bool, true, false, nat_lt, sym, refl, ap, subst, ◌∙◌, arith, List, [], ◌∷◌, ◌++◌, length, map, get_or}
 use Rattle.std.specs.Prelude.{Option, Some, None, IsSome, ◌↔◌, slice_get, slice_index, slice_index_or}
-use Rattle.std.specs.Option.{option_map}
 use Rattle.std.specs.List.{All, Contains}
 use Rattle.std.specs.List.Sorted.{IsStrictlyIncreasing}
 use Rattle.std.proofs.lemmas.List.{get_or-map}
-use Rattle.std.proofs.lemmas.List.Elements.{All-push, All-nil, Contains-push, Contains-append_left}
+use Rattle.std.proofs.lemmas.List.Elements.{All-push, Contains-push, Contains-append_left}
 use Rattle.std.proofs.lemmas.Bool.Decides.{nat_tests}
-use Rattle.std.proofs.Math.ListN.{set, length-set}
+use Rattle.std.proofs.Math.ListN.{set}
 use Rattle.graph_edits.specs.Edges.{Network, over_port, neighbours_of}
 use Rattle.distances.specs.declared.reach.Reached.{Reached}
 use Rattle.heavy_labels.specs.declared.numbered_member.NumberedMember.{NumberedMember}
+use Rattle.node_table.proofs.Options.{some_is}
 use Rattle.node_table.specs.declared.columns.Row.{Row}
-use Rattle.node_table.specs.Ports.{neighbours, index_of, port_to}
+use Rattle.node_table.specs.Ports.{neighbours, port_to}
 use Rattle.node_table.specs.Columns.{AreBelow}
 use Rattle.node_table.specs.RowLists.{ArePlaces, IsRowOf, IsRowFrom, IsRowless, IsRowList}
 use Rattle.node_table.proofs.Lists.{Within, index_found}
 use Rattle.node_table.proofs.Carry.{index_get}
 use Rattle.node_table.proofs.Carriage.{get_map}
-use Rattle.node_table.proofs.TreeMembers.{at_in, in_at, is_in_of}
+use Rattle.node_table.proofs.TreeMembers.{at_in, is_in_of}
 
 none_some : {X : Type 0} {x : X} {o : Option X} → o ≡ None → o ≡ Some x → ⊥
 none_some e f = cc
@@ -74,20 +74,6 @@ eq_cases a b = go (nat_lt a b) (nat_lt b a) refl refl
     go false true p q = inr (λ e. (let l : b < a = grind (arith, nat_tests) in omega (arith, l, e)))
     go false false p q = inl (grind (arith, nat_tests))
 
-some_of : {X : Type 0} {x : X} {o : Option X} → o ≡ Some x → IsSome o
-some_of e = rw e refl
-
-pub places_first : (list : List ℕ) (table : List (Option ℕ)) → All (λ o. o ≡ None) table → ArePlacesTo list 0 table
-places_first list table h = record {
-  right = λ x i e. absurd (none_some (none table x h) e);
-  has = λ i l. absurd (omega (arith, l));
-}
-  where
-    none : (xs : List (Option ℕ)) (x : ℕ) → All (λ o. o ≡ None) xs → slice_index_or xs x None ≡ None
-    none [] x a = refl
-    none (y ∷ ys) zero a = a 0 None (omega arith)
-    none (y ∷ ys) (suc x) a = none ys x (λ k d l. a (suc k) d (omega (arith, l)))
-
 pub places_more : (list : List ℕ) (n x : ℕ) (table : List (Option ℕ)) → ArePlacesTo list n table → n < length list → slice_index list n ≡ x → x < length table → ArePlacesTo list (n + 1) (set table x (Some n))
 places_more list n x table h l e i = record { right = right; has = has }
   where
@@ -100,7 +86,7 @@ places_more list n x table h l e i = record { right = right; has = has }
 
     has : (j : ℕ) → j < n + 1 → IsSome (slice_index_or (set table x (Some n)) (slice_index list j) None)
     has j k = elim (eq_cases x (slice_index list j)) [
-      | inl s ↦ some_of (ap (λ z. slice_index_or (set table x (Some n)) z None) (sym s) ∙ set_same table x (Some n) i)
+      | inl s ↦ some_is (ap (λ z. slice_index_or (set table x (Some n)) z None) (sym s) ∙ set_same table x (Some n) i)
       | inr d ↦ subst IsSome (sym (set_other table x (slice_index list j) (Some n) d)) (h.has j (before j k d))
     ]
       where
@@ -203,9 +189,6 @@ pub record AreRowsTo (r : ℕ) (ks : List Reached) (ns : List NumberedMember) (x
   pub ascend : IsStrictlyIncreasing (row_nodes ws)
   pub below : AreBelow x (row_nodes ws)
   pub has : (k : Reached) (n : NumberedMember) → Contains ks k → Contains ns n → k.node ≡ n.node → k.node < x → (w : Row) × (Contains ws w × (w.node ≡ k.node))
-
-pub rows_first : (r : ℕ) (ks : List Reached) (ns : List NumberedMember) → AreRowsTo r ks ns 0 []
-rows_first r ks ns = record { each = All-nil (IsRowFrom r ks ns); ascend = λ k l. absurd (omega (arith, l)); below = tt; has = λ k n ck cn e l. absurd (omega (arith, l)) }
 
 pub rows_none : (r : ℕ) (ks : List Reached) (ns : List NumberedMember) (x : ℕ) (ws : List Row) → AreRowsTo r ks ns x ws → IsRowless ks ns x → AreRowsTo r ks ns (x + 1) ws
 rows_none r ks ns x ws h none = record {

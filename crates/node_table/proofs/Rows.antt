@@ -8,6 +8,7 @@ use Rattle.node_table.specs.Ports.{filtered}
 use Rattle.node_table.specs.Tables.{Tables}
 use Rattle.node_table.specs.Checks.{parent_is, children}
 use Rattle.node_table.specs.Local.{record_at, span, widest_span, fronted_by, in_row, first_with, all_but, row_by}
+use Rattle.node_table.proofs.Options.{not_none}
 use Rattle.node_table.proofs.LocalRecords.{Every, every_append}
 
 abbrev pub Ascends : List ℕ → Type 0
@@ -56,14 +57,11 @@ all_above x (y ∷ ys) e = ap (λ b. cond b (y ∷ all_but x ys) (all_but x ys))
 not_both : {b : Bool} → b ≡ true → b ≡ false → ⊥
 not_both p q = cc
 
-clash : {X : Type 0} {x : X} → None ≡ Some x → ⊥
-clash e = cc
-
 same : {X : Type 0} {x y : X} → Some x ≡ Some y → x ≡ y
 same e = cc
 
 first_has : (t : Tables) (r s h : ℕ) (xs : List ℕ) → first_with t r s xs ≡ Some h → (span (record_at t r h) == s) ≡ true
-first_has t r s h [] e = absurd (clash e)
+first_has t r s h [] e = absurd (not_none e refl)
 first_has t r s h (x ∷ xs) e = go (λ k. first_has t r s h xs k) (span (record_at t r x) == s) refl e
   where
     go : (first_with t r s xs ≡ Some h → (span (record_at t r h) == s) ≡ true) → (b : Bool) → (span (record_at t r x) == s) ≡ b → cond b (Some x) (first_with t r s xs) ≡ Some h → (span (record_at t r h) == s) ≡ true

@@ -1,14 +1,11 @@
 -- The laws of schemes, over the edge map's walks.
-use Rattle.std.proofs.Common.{◌≡◌, ℕ, ◌+◌, ◌≤◌, ◌<◌, ◌⊎◌, inl, inr, Bool, true, false, refl, sym, ap, subst, ◌∙◌, arith, List}
-use Rattle.std.specs.Prelude.{Option, Some, None, IsSome, ◌↔◌}
+use Rattle.std.proofs.Common.{◌≡◌, ℕ, ◌<◌, inl, inr, Bool, true, false, refl, sym, ap, subst, ◌∙◌, arith}
+use Rattle.std.specs.Prelude.{Option, Some, None, IsSome}
 use Rattle.graph_edits.specs.Edges.{Network, IsSound}
 use Rattle.graph_edits.specs.Walks.{IsWalk, walk_length, IsLeast}
 use Rattle.distances.specs.declared.nearest.Near.{Near}
-use Rattle.node_table.specs.declared.parts.Parts.{Parts}
-use Rattle.node_table.specs.declared.parts.Entry.{Entry}
 use Rattle.node_table.specs.Tables.{Tables, tables}
-use Rattle.node_table.specs.Checks.{IsChecked}
-use Rattle.node_table.specs.Laws.{CheckedServes, EntriesAreExact, EntriesAreTrees, NearestAreRight, NearestIsRight, IsInTree, IsNearer}
+use Rattle.node_table.specs.Laws.{CheckedServes, EntriesAreExact, EntriesAreTrees, NearestAreRight, NearestIsRight, IsInTree}
 use Rattle.node_table.proofs.Walks.{Walk, IsShortest, walk_from, walk_of}
 use Rattle.node_table.proofs.Exact.{Distances, exact}
 use Rattle.node_table.proofs.Clusters.{landmark_tree, cluster, nearest_right, nearest_none}
@@ -45,10 +42,6 @@ exact_law m p s h x r e g =
     least_of m s r x e.distance (d.inside x r e g) (exact m (tables p) d x r e ((tables p).landmark r) refl g)
 
 module _ (m : Network) (t : Tables) (d : Distances m t) where
-  -- in the tree of r by its own length
-  walk_with : (r x l : ℕ) → Walk m r x l → (xs : List ℕ) × (IsWalk m.edges r xs x × (walk_length m.edges r xs ≡ l))
-  walk_with r x l w = walk_of m r x l w
-
   there : (r x : ℕ) (b : Bool) → t.landmark r ≡ b → IsSome (t.entry x r) → IsInTree m t.landmark r x
   there r x true l g =
       let e = is_there (t.entry x r) g in

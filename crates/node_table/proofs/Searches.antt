@@ -1,11 +1,11 @@
 -- The place of a number in a list, as a search has narrowed it down.
-use Rattle.std.proofs.Common.{◌≡◌, ◌≢◌, ◌⊎◌, inl, inr, ℕ, zero, suc, ◌+◌, ◌-◌, ◌*◌, ◌/◌, ◌^◌, ◌≤◌, ◌<◌, ◌==◌, Bool, true, false, cond, sym, refl, ap, subst, ◌∙◌, arith, add-one, List, [], ◌∷◌, length, map, nat_lt}
-use Rattle.std.specs.Prelude.{Option, Some, None, slice_index, slice_get, get_or}
-use Rattle.std.specs.Option.{option_map}
+use Rattle.std.proofs.Common.{◌≡◌, ◌≢◌, ◌⊎◌, inl, inr, ℕ, zero, suc, ◌+◌, ◌-◌, ◌/◌, ◌^◌, ◌≤◌, ◌<◌, ◌==◌, Bool, true, false, cond, sym, refl, ap, subst, ◌∙◌, arith, add-one, List, [], ◌∷◌, length, map, nat_lt}
+use Rattle.std.specs.Prelude.{Option, Some, None, IsTrue, ◌↔◌, slice_index, get_or}
+use Rattle.std.specs.List.{IsAllAdjacentAnswer}
 use Rattle.std.specs.List.Sorted.{IsStrictlyIncreasing}
 use Rattle.std.proofs.lemmas.Bool.Decides.{nat_tests}
-use Rattle.std.proofs.lemmas.Bool.{eqb-true, eq-eqb}
-use Rattle.std.proofs.lemmas.List.{get_or-map}
+use Rattle.std.proofs.lemmas.Bool.{eq-eqb}
+use Rattle.std.proofs.lemmas.List.{get_or-map, length-map}
 use Rattle.node_table.specs.declared.parts.Entry.{Entry}
 use Rattle.node_table.specs.declared.parts.Listed.{Listed}
 use Rattle.node_table.specs.Ports.{index_of, one_more}
@@ -29,27 +29,38 @@ nodes_length (e ∷ es) = omega (arith, nodes_length es)
 
 -- ---- ascending lists
 
-abbrev pub AscendsBelow : List ℕ → ℕ → Type 0
-AscendsBelow ks n = (k : ℕ) → k + 1 < n → slice_index ks k < slice_index ks (k + 1)
+one_of : {X : Type 0} (xs : List X) → 0 < length xs → X
+one_of [] l = absurd (omega (arith, l))
+one_of (x ∷ xs) l = x
 
-pub ascends_more : (ks : List ℕ) (n a b : ℕ) → AscendsBelow ks n → 1 ≤ n → slice_index ks (n - 1) ≡ a → slice_index ks n ≡ b → a < b → AscendsBelow ks (n + 1)
-ascends_more ks n a b h pos p q l k lt = go (nat_lt (k + 1) n) refl
+-- what `is_sorted_by` answers of keys that have to rise
+pub ascending_answer : {X : Type 0} (key : X → ℕ) (xs : List X) (r : Bool) → IsAllAdjacentAnswer (λ x y b. b ≡ nat_lt (key x) (key y)) xs r → IsTrue r ↔ IsStrictlyIncreasing (map key xs)
+ascending_answer {X} key xs true all = (λ t k lt. rises k lt, λ h. refl)
   where
-    go : (c : Bool) → nat_lt (k + 1) n ≡ c → slice_index ks k < slice_index ks (k + 1)
-    go true t = h k (grind (arith, nat_tests))
-    go false t =
-        let s : k ≡ n - 1 = grind (arith, nat_tests) in
-        let s2 : k + 1 ≡ n = grind (arith, nat_tests) in
-        let u : slice_index ks k ≡ a = ap (λ z. slice_index ks z) s ∙ p in
-        let v : slice_index ks (k + 1) ≡ b = ap (λ z. slice_index ks z) s2 ∙ q in
-        omega (arith, u, v, l)
+    rises : (k : ℕ) → k + 1 < length (map key xs) → slice_index (map key xs) k < slice_index (map key xs) (k + 1)
+    rises k lt =
+        let n = length-map xs key in
+        let d = one_of xs (omega (arith, n, lt)) in
+        let here = get_or-map key xs k d 0 (omega (arith, n, lt)) in
+        let next = get_or-map key xs (k + 1) d 0 (omega (arith, n, lt)) in
+        let less = all k d (omega (arith, n, lt)) in
+        grind (arith, nat_tests, here, next, less)
+ascending_answer {X} key xs false fall = (λ t. absurd (wrong t), λ h. absurd (back h))
+  where
+    wrong : false ≡ true → ⊥
+    wrong e = cc
 
-pub falls_back : (ks : List ℕ) (n a b : ℕ) → 1 ≤ n → n < length ks → slice_index ks (n - 1) ≡ a → slice_index ks n ≡ b → b ≤ a → IsStrictlyIncreasing ks → ⊥
-falls_back ks n a b pos l p q le h =
-    let s : n - 1 + 1 ≡ n = omega arith in
-    let g = h (n - 1) (omega (arith, s, l)) in
-    let v : slice_index ks (n - 1 + 1) ≡ b = ap (λ z. slice_index ks z) s ∙ q in
-    omega (arith, g, p, v, le)
+    back : IsStrictlyIncreasing (map key xs) → ⊥
+    back h =
+        let n = length-map xs key in
+        let k = fall.0 in
+        let lt : k + 1 < length xs = fall.1 in
+        let d = one_of xs (omega (arith, lt)) in
+        let here = get_or-map key xs k d 0 (omega (arith, lt)) in
+        let next = get_or-map key xs (k + 1) d 0 (omega (arith, lt)) in
+        let less = fall.2 d in
+        let up = h k (omega (arith, n, lt)) in
+        grind (arith, nat_tests, here, next, less, up)
 
 pub far_apart : (ks : List ℕ) → IsStrictlyIncreasing ks → (i d : ℕ) → i + suc d < length ks → slice_index ks i < slice_index ks (i + suc d)
 far_apart ks h i zero l = subst (λ z. slice_index ks i < slice_index ks z) (let e : i + 1 ≡ i + suc zero = omega arith in e) (h i (omega arith))
@@ -100,9 +111,6 @@ past_more ks r n a p e ne i l = go (nat_lt i n) refl
 abbrev pub IsHalved : ℕ → ℕ → ℕ → Type 0
 IsHalved n looks left = (k : ℕ) → n < 2 ^ k → (j : ℕ) × ((looks + j ≡ k) × (left < 2 ^ j))
 
-pub halved_first : (n : ℕ) → IsHalved n 0 n
-halved_first n k h = (k, (omega arith, h))
-
 pub halved_more : (n looks left rest : ℕ) → IsHalved n looks left → 0 < left → rest + rest ≤ left → IsHalved n (looks + 1) rest
 halved_more n looks left rest h pos le k lt = go (h k lt).0 (h k lt).1.0 (h k lt).1.1
   where
@@ -122,17 +130,6 @@ pub record IsNarrowed (ks : List ℕ) (r low high looks : ℕ) : Type 0 where
   pub halved : IsHalved (length ks) looks (high - low)
   pub begun : looks ≡ 0 → high - low ≡ length ks
   pub fits : length ks < 2 ^ 64
-
-pub narrowed_first : (ks : List ℕ) (r n : ℕ) → n ≡ length ks → n < 2 ^ 64 → IsNarrowed ks r 0 n 0
-narrowed_first ks r n e f = record {
-  fits = omega (arith, e, f);
-  ordered = omega arith;
-  within = omega (arith, e);
-  below = λ i l. absurd (omega (arith, l));
-  above = λ i l m. absurd (omega (arith, l, m, e));
-  halved = subst (λ z. IsHalved (length ks) 0 z) (let s : length ks ≡ n - 0 = omega (arith, e) in s) (halved_first (length ks));
-  begun = λ _. omega (arith, e);
-}
 
 abbrev pub middle : ℕ → ℕ → ℕ
 middle low high = low + (high - low) / 2

@@ -1,20 +1,18 @@
 -- The nodes that are reached from a root are the members of one tree.
-use Rattle.std.proofs.Common.{◌≡◌, ◌≢◌, ℕ, zero, suc, ◌+◌, ◌≤◌, ◌<◌, ◌==◌, ◌⊎◌, inl, inr, Bool, true, false, cond, nat_lt, sym, refl, ap, subst, ◌∙◌, arith, List, [], ◌∷◌, ◌++◌, length, map, get_or}
+use Rattle.std.proofs.Common.{◌≡◌, ℕ, zero, suc, ◌+◌, ◌≤◌, ◌<◌, ◌⊎◌, inl, inr, Bool, true, false, nat_lt, sym, refl, ap, subst, ◌∙◌, arith, List, [], ◌∷◌, length, map, get_or}
 use Rattle.std.specs.Prelude.{Option, Some, None, IsSome, slice_index_or, slice_index}
 use Rattle.std.specs.Option.{unwrap_or}
 use Rattle.std.specs.List.{All, AllByRecursion, Contains}
 use Rattle.std.proofs.lemmas.List.{get_or-map}
 use Rattle.std.proofs.lemmas.List.Elements.{recursion_from_All}
 use Rattle.std.proofs.lemmas.Bool.Decides.{nat_tests}
-use Rattle.graph_edits.specs.Edges.{Network, IsSound, weight_in, most_nodes}
-use Rattle.graph_edits.specs.Walks.{IsWalk, walk_length, IsLeast}
+use Rattle.graph_edits.specs.Edges.{Network, IsSound, weight_in}
+use Rattle.graph_edits.specs.Walks.{IsWalk, IsLeast}
 use Rattle.graph_edits.specs.Laws.{IsLeast-unique}
 use Rattle.distances.specs.Search.{is_below, Precedes, PrecedesAll, IsAscending}
-use Rattle.distances.specs.Reach.{IsTree, IsParent, IsTight, settled_of}
+use Rattle.distances.specs.Reach.{IsTree, IsParent, settled_of}
 use Rattle.distances.specs.declared.reach.Reached.{Reached}
-use Rattle.route_tree.specs.Growth.{IsEachOnce}
 use Rattle.route_tree.specs.Members.{AreMembers, IsRoot, HasBoth, HasParentBefore}
-use Rattle.route_tree.specs.declared.member.TheConstants.{MOST_MEMBERS}
 use Rattle.route_tree.specs.declared.member.Member.{Member}
 use Rattle.node_table.specs.declared.parts.Entry.{Entry}
 use Rattle.node_table.specs.Ports.{index_of}

@@ -17,15 +17,10 @@ use Rattle.node_table.proofs.Walks.{symmetric, edge_inside}
 use Rattle.node_table.specs.Tables.{Tables}
 use Rattle.node_table.specs.Checks.{parent_is, children, up_port, down_port, tree_to_depth, distance_of, farthest, tree_at}
 use Rattle.node_table.proofs.Carry.{IsAtPlace, AreAtPlaces}
+use Rattle.node_table.proofs.Options.{same_value}
 use Rattle.node_table.proofs.Trips.{Chained}
 use Rattle.node_table.proofs.Exact.{Distances}
 use Rattle.node_table.proofs.Lists.{Each, Any, Covers, each_fronted, any_fronted, each_filtered, any_filtered, within_up_to, port_found, at_most}
-
-clash : {X : Type 0} {x : X} → None ≡ Some x → ⊥
-clash e = cc
-
-pub same_entry : {e f : Entry} {o : Option Entry} → o ≡ Some e → o ≡ Some f → e ≡ f
-same_entry p q = cc
 
 not_true : {X : Type 0} → false ≡ true → X
 not_true e = absurd (bad e)
@@ -227,7 +222,7 @@ at_place : (m : Network) (t : Tables) (r y n : ℕ) (u d : Option ℕ) (p : Plac
 at_place m t r y n u d p g e1 e2 e3 e4 k i = record {
   entry = g.entry;
   is = ap (λ z. t.entry z r) e1 ∙ g.is;
-  tree_record = ap (λ (z : Entry). record_of z.tree_record) (same_entry (ap (λ z. t.entry z r) e1 ∙ g.is) k.1.0) ∙ k.1.1;
+  tree_record = ap (λ (z : Entry). record_of z.tree_record) (same_value (ap (λ z. t.entry z r) e1 ∙ g.is) k.1.0) ∙ k.1.1;
   parent = g.parent ∙ sym e2;
   up = e3 ∙ g.up ∙ ap (λ z. up_port m z (Some g.entry)) (sym e1);
   down = e4 ∙ g.down ∙ ap (λ z. down_port m z (Some g.entry)) (sym e1);
@@ -271,7 +266,7 @@ placed_tree m t r inside s root o own none fits have l a =
     let at : IsAtPlace m t r p = record {
       entry = o;
       is = is;
-      tree_record = ap (λ (z : Entry). record_of z.tree_record) (same_entry is k.1.0) ∙ k.1.1;
+      tree_record = ap (λ (z : Entry). record_of z.tree_record) (same_value is k.1.0) ∙ k.1.1;
       parent = none;
       up = no_up s.node;
       down = no_down s.node;

@@ -1,10 +1,9 @@
 -- Walks by their edges, one after the other, and trails by their nodes: the forms in which the laws are proved, joined to the edge map's walks.
-use Rattle.std.proofs.Common.{◌≡◌, ℕ, zero, suc, ◌+◌, ◌≤◌, ◌<◌, Bool, true, false, cond, sym, refl, ap, subst, ◌∙◌, arith, List, [], ◌∷◌, ◌++◌, map}
+use Rattle.std.proofs.Common.{◌≡◌, ℕ, ◌+◌, ◌≤◌, ◌<◌, true, false, cond, sym, refl, ap, subst, arith, List, [], ◌∷◌, map}
 use Rattle.std.specs.Prelude.{Option, Some, None, is_some, IsSome}
 use Rattle.std.specs.Option.{unwrap_or, option_map}
 use Rattle.std.specs.List.{filter_map, cons_option}
-use Rattle.std.proofs.lemmas.List.Elements.{filter_map-append}
-use Rattle.graph_edits.specs.Edges.{Network, IsSound, weight_in, weight_between, below, neighbours_of}
+use Rattle.graph_edits.specs.Edges.{Network, IsSound, weight_in, below}
 use Rattle.graph_edits.specs.Walks.{IsWalk, walk_length}
 use Rattle.graph_edits.specs.Laws.{weight_between-sym}
 use Rattle.node_table.specs.Ports.{neighbours, filtered}

@@ -1,5 +1,5 @@
 -- What is known of the tree of one root: its entries and labels, node by node, and the members that it was grown of.
-use Rattle.std.specs.Prelude.{◌≡◌, ◌⊎◌, ◌↔◌, ℕ, ◌+◌, ◌<◌, ◌≤◌, true, cond, Bool, Option, Some, None, IsSome, List, [], ◌∷◌, length, false}
+use Rattle.std.specs.Prelude.{◌≡◌, ◌⊎◌, ◌↔◌, ℕ, ◌+◌, ◌<◌, ◌≤◌, true, cond, Option, Some, None, IsSome, List, [], ◌∷◌, length, false}
 use Rattle.std.specs.Option.{option_map}
 use Rattle.std.specs.List.Sorted.{IsStrictlyIncreasing}
 use Rattle.graph_edits.specs.Edges.{Network, weight_in}

@@ -1,5 +1,5 @@
 -- What holds of every scheme that keeps the rules: statements that `scheme_laws` proves.
-use Rattle.std.specs.Prelude.{◌≡◌, ◌↔◌, ◌⊎◌, ℕ, ◌≤◌, ◌<◌, Bool, true, false, Option, Some, None, IsSome, List, length}
+use Rattle.std.specs.Prelude.{◌≡◌, ◌↔◌, ◌⊎◌, ℕ, ◌≤◌, ◌<◌, Bool, true, Option, Some, None, IsSome, List, length}
 use Rattle.std.specs.List.{Contains}
 use Rattle.std.specs.List.Sorted.{IsStrictlyIncreasing}
 use Rattle.graph_edits.specs.Edges.{Network, IsSound}
@@ -7,7 +7,7 @@ use Rattle.graph_edits.specs.Walks.{IsWalk, walk_length, IsLeast}
 use Rattle.distances.specs.declared.nearest.Near.{Near}
 use Rattle.node_table.specs.declared.parts.Parts.{Parts}
 use Rattle.node_table.specs.declared.parts.Entry.{Entry}
-use Rattle.node_table.specs.Tables.{Tables, tables}
+use Rattle.node_table.specs.Tables.{tables}
 use Rattle.node_table.specs.Checks.{IsChecked}
 use Rattle.node_table.specs.Service.{Serves}
 

@@ -1,5 +1,5 @@
 -- Ports: the k-th neighbour of a node, in ascending order, stands behind its port k.
-use Rattle.std.specs.Prelude.{ℕ, zero, suc, ◌+◌, ◌==◌, Bool, cond, Option, Some, None, List, [], ◌∷◌, map}
+use Rattle.std.specs.Prelude.{ℕ, ◌+◌, ◌==◌, Bool, cond, Option, Some, None, List, [], ◌∷◌, map}
 use Rattle.graph_edits.specs.Edges.{Network, neighbours_of}
 
 -- the neighbours of a node in ascending order

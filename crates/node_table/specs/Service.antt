@@ -1,5 +1,5 @@
 -- What a scheme answers, and good service.
-use Rattle.std.specs.Prelude.{◌≡◌, ℕ, ◌+◌, ◌-◌, ◌*◌, ◌≤◌, ◌<◌, ◌==◌, nat_lt, cond, ◌&&◌, is_some, Option, Some, None, Result, Ok, Err, List, [], ◌∷◌, length}
+use Rattle.std.specs.Prelude.{◌≡◌, ℕ, ◌-◌, ◌*◌, ◌≤◌, ◌<◌, ◌==◌, nat_lt, cond, ◌&&◌, is_some, Option, Some, None, Result, Ok, Err, List, [], ◌∷◌, length}
 use Rattle.graph_edits.specs.Edges.{Network}
 use Rattle.graph_edits.specs.Walks.{IsWalk, walk_length}
 use Rattle.heavy_labels.specs.Label.{Label}

@@ -1,5 +1,5 @@
 -- What a scheme's lists say: the first place of a list counts, and a place that is not there is empty.
-use Rattle.std.specs.Prelude.{◌≡◌, ℕ, ◌<◌, ◌==◌, Bool, false, cond, Option, Some, None, List, [], ◌∷◌, map, slice_get}
+use Rattle.std.specs.Prelude.{ℕ, ◌==◌, Bool, false, cond, Option, Some, None, List, [], ◌∷◌, map, slice_get}
 use Rattle.std.specs.List.{All}
 use Rattle.std.specs.List.Sorted.{IsStrictlyIncreasing}
 use Rattle.heavy_labels.specs.Label.{Label}

@@ -1,5 +1,5 @@
 -- The trail of a packet: the nodes that it visits, the ports by which it goes, and how long its way is.
-use Rattle.std.specs.Prelude.{◌≡◌, ℕ, ◌+◌, ◌-◌, ◌^◌, ◌⊎◌, ◌<◌, min, Result, MatchResult, Option, Some, None, Ok, Err, List, [], ◌∷◌}
+use Rattle.std.specs.Prelude.{◌≡◌, ℕ, ◌+◌, ◌-◌, ◌^◌, ◌⊎◌, ◌<◌, min, Result, MatchResult, Some, Ok, Err, List, [], ◌∷◌}
 use Rattle.graph_edits.specs.Edges.{Network, IsSound, weight_in, over_port}
 use Rattle.graph_edits.specs.Walks.{IsWalk, walk_length}
 use Rattle.node_table.specs.declared.packet.Address.{Address}

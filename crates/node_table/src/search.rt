@@ -11,24 +11,14 @@ use crate::parts::{Entry, Listed};
 fn roots_ascend(entries: &[Entry]) -> bool
     ensures { IsTrue result ↔ IsStrictlyIncreasing (roots_of entries.now) }
 {
-    for i in 1..entries.len() {
-        if entries[i - 1].root >= entries[i].root {
-            return false;
-        }
-    }
-    true
+    entries.is_sorted_by(|before, after| before.root < after.root)
 }
 
 /// Whether the nodes of a directory strictly ascend.
 fn nodes_ascend(directory: &[Listed]) -> bool
     ensures { IsTrue result ↔ IsStrictlyIncreasing (nodes_of directory.now) }
 {
-    for i in 1..directory.len() {
-        if directory[i - 1].node >= directory[i].node {
-            return false;
-        }
-    }
-    true
+    directory.is_sorted_by(|before, after| before.node < after.node)
 }
 
 /// Whether all lists of entries strictly ascend.

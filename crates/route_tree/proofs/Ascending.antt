@@ -70,10 +70,6 @@ rising_same (x ∷ xs) (y ∷ ys) r s f g =
     tail t z zs l e (inl q) = absurd (let w = ap (λ v. v.node) q in omega (arith, l, e, w))
     tail t z zs l e (inr h) = h
 
--- the definition's list
-at_front : (t u : Tree) (us : List Tree) → t.node < u.node → insert t (u ∷ us) ≡ t ∷ u ∷ us
-at_front t u us h = rw (lt-ltb t.node u.node h)
-
 further : (t u : Tree) (us : List Tree) → u.node ≤ t.node → insert t (u ∷ us) ≡ u ∷ insert t us
 further t u us h = rw (le-ltb t.node u.node h)
 

@@ -1,5 +1,5 @@
 -- Reading edges one after the other.
-use Rattle.std.proofs.Common.{◌≡◌, inl, inr, ℕ, ◌<◌, ◌≤◌, Bool, true, false, cond, T, List, [], ◌∷◌, ◌++◌, length, take, drop, Option, None, Some, Ordering, Less, Equal, Greater, ltb, nat_cmp, refl, sym, ◌∙◌, ap, subst, arith, length-append, append_assoc}
+use Rattle.std.proofs.Common.{◌≡◌, inl, inr, ℕ, ◌<◌, ◌≤◌, Bool, false, T, List, [], ◌∷◌, ◌++◌, length, take, drop, Option, None, Some, Ordering, Less, Equal, Greater, nat_cmp, refl, sym, ◌∙◌, ap, subst, arith, length-append, append_assoc}
 use Rattle.std.specs.Prelude.{Result, Ok, Err, is_some}
 use Rattle.std.specs.List.{flat_map, AllByRecursion}
 use Rattle.std.specs.Ordering.{ordering_then}
@@ -13,6 +13,7 @@ use Rattle.graph_edits.specs.declared.edits.Code.{Code}
 use Rattle.graph_edits.specs.Changes.{after, refusal, refusal_at, or_refused_at}
 use Rattle.graph_edits.specs.Edges.{EdgeMap, Network, pair_cmp, pair_of, weight_between, most_edges, most_nodes}
 use Rattle.graph_edits.proofs.EdgesOfRows.{pair_total}
+use Rattle.graph_edits.proofs.EdgeRows.{pair_in_order}
 use Rattle.standing.specs.Ascending.{AllBelow, IsBefore, IsAfterLast, last_key}
 use Rattle.standing.specs.State.{edge_text, edges_text, IsEdge}
 use Rattle.standing.proofs.Codes.{FitsEdge, edge, Continues, continues}
@@ -20,9 +21,6 @@ use Rattle.standing.proofs.Entries.{put_last, find_none, above_last, below_sorte
 use Rattle.standing.proofs.Maps.{edges_fit}
 
 -- ---- adding one
-
-pub pair_in_order : (a b : ℕ) → a < b → pair_of a b ≡ (a, b)
-pair_in_order a b lt = let t : ltb a b ≡ true = grind (arith, nat_tests) in ap (λ s. cond s (a, b) (b, a)) t
 
 not_refused : (nodes edges a b w : ℕ) (there : Bool) → IsEdge nodes ((a, b), w) → edges < most_edges → there ≡ false → refusal nodes edges there (Add a b w) ≡ None
 not_refused nodes edges a b w there is few none =

@@ -12,13 +12,6 @@ Less-only Less h = refl
 Less-only Equal h = absurd h
 Less-only Greater h = absurd h
 
-is_less : (r : Ordering) → r ≡ Less → T (is_lt r)
-is_less r e = subst (λ o. T (is_lt o)) (sym e) tt
-
-both : (a b : Bool) → T a → T b → T (a && b)
-both true b p q = q
-both false b p q = p
-
 first : (a b : Bool) → T (a && b) → T a
 first true b p = tt
 first false b p = p
@@ -46,14 +39,6 @@ module _ {K : Type 0} {R : K → K → Ordering} (o : IsTotalOrder R) where
       by Greater e = absurd cc
 
 module _ {K X : Type 0} (R : K → K → Ordering) where
-  below_push : (x k : K) (v : X) (es : List (K × X)) → R x k ≡ Less → T (below_all R x es) → T (below_all R x (es ++ (k, v) ∷ []))
-  below_push x k v [] lt h = both _ _ (is_less _ lt) tt
-  below_push x k v (e ∷ es) lt h = both _ _ (first _ _ h) (below_push x k v es lt (second _ _ h))
-
-  pub sorted_push : (k : K) (v : X) (es : List (K × X)) → AllBelow R k es → T (is_sorted R es) → T (is_sorted R (es ++ (k, v) ∷ []))
-  sorted_push k v [] lt s = tt
-  sorted_push k v (e ∷ es) lt s = both _ _ (below_push e.0 k v es lt.0 (first _ _ s)) (sorted_push k v es lt.1 (second _ _ s))
-
   below_there : (x k : K) (v : X) (es fs : List (K × X)) → T (below_all R x (es ++ (k, v) ∷ fs)) → R x k ≡ Less
   below_there x k v [] fs h = Less-only _ (first _ _ h)
   below_there x k v (e ∷ es) fs h = below_there x k v es fs (second _ _ h)

@@ -1,4 +1,3 @@
-use Rattle.std.proofs.Common.{◌≡◌, map, IsPermutation, sym, ap, ◌∙◌, subst}
 use Rattle.std.specs.Prelude.{Result, Ok, Err, IfOk}
 use Rattle.node_table.proofs.RowColumns.{numbered_members}
 use Rattle.node_table.proofs.columns.numbered.Goals as goal

@@ -1,5 +1,4 @@
-use Rattle.std.proofs.Common.{◌≡◌, ◌∙◌, sym, ap, refl}
-use Rattle.distances.specs.declared.reach.Reached.{Reached}
+use Rattle.std.proofs.Common.{◌∙◌, sym, ap}
 use Rattle.heavy_labels.specs.declared.numbered_member.NumberedMember.{NumberedMember}
 use Rattle.node_table.proofs.RowSteps.{unreached, unnumbered, reached_at, numbered_at, row_from, same_default}
 use Rattle.node_table.proofs.columns.row_of.Goals as goal

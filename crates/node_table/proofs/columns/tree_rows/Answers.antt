@@ -1,10 +1,9 @@
-use Rattle.std.proofs.Common.{◌≡◌, ◌<◌, ◌≤◌, sym, ap, ◌∙◌, subst, arith, length, map, get_or, ℕ, List, IsPermutation}
-use Rattle.std.specs.Prelude.{Result, Ok, Err, IfOk, All, Option}
+use Rattle.std.proofs.Common.{◌≡◌, ◌<◌, sym, ap, ◌∙◌, subst, arith, length, map, get_or, List, IsPermutation}
+use Rattle.std.specs.Prelude.{Result, Ok, Err, IfOk, All}
 use Rattle.route_tree.specs.Members.{AreMembers}
 use Rattle.route_tree.specs.declared.member.Member.{Member}
 use Rattle.heavy_labels.specs.declared.numbered_member.NumberedMember.{NumberedMember}
 use Rattle.node_table.specs.Columns.{member_of}
-use Rattle.node_table.specs.RowLists.{IsRowList}
 use Rattle.node_table.proofs.RowColumns.{all_inside, parents_inside, are_members, root_first, few_members, nodes_inside, numbers_inside, rows_are_inside, rows_root, column_of, few_numbered}
 use Rattle.node_table.proofs.columns.tree_rows.Goals as goal
 

@@ -1,4 +1,4 @@
-use Rattle.std.proofs.Common.{List, arith, ◌≡◌, ◌<◌, ◌≤◌, ℕ, length, sym, ◌∙◌}
+use Rattle.std.proofs.Common.{List, arith, ◌<◌, ◌≤◌, ℕ, length, sym, ◌∙◌}
 use Rattle.node_table.specs.declared.parts.Listed.{Listed}
 use Rattle.node_table.specs.Tables.{nodes_of}
 use Rattle.node_table.proofs.Searches.{nodes_length, node_at, middle, narrowed_found, narrowed_up, narrowed_down, narrowed_none, narrowed_few}

@@ -1,7 +1,7 @@
-use Rattle.std.proofs.Common.{arith, ◌≡◌, ◌<◌, ◌≤◌, ℕ, length, sym, ap, ◌∙◌, subst}
+use Rattle.std.proofs.Common.{arith, sym, ap, ◌∙◌}
 use Rattle.node_table.specs.declared.parts.Listed.{Listed}
 use Rattle.node_table.specs.Tables.{nodes_of}
-use Rattle.node_table.proofs.Searches.{nodes_length, node_at, index_at, index_none, past_more, IsPast}
+use Rattle.node_table.proofs.Searches.{nodes_length, node_at, index_at, index_none, past_more}
 use Rattle.node_table.proofs.search.node_from_front.Goals as goal
 
 pub returns-then-listed-node : goal.returns-then-listed-node

@@ -1,4 +1,3 @@
-use Rattle.std.proofs.Common.{◌≡◌}
 use Rattle.node_table.specs.Tables.{nodes_of}
 use Rattle.node_table.proofs.Searches.{IsPast}
 use Rattle.node_table.proofs.search.node_from_front.Given as goal

@@ -1,4 +1,4 @@
-use Rattle.std.proofs.Common.{List, arith, ◌≡◌, ◌<◌, ◌≤◌, ℕ, length, sym, ◌∙◌}
+use Rattle.std.proofs.Common.{List, arith, ◌<◌, ◌≤◌, ℕ, length, sym, ◌∙◌}
 use Rattle.node_table.specs.declared.parts.Entry.{Entry}
 use Rattle.node_table.specs.Tables.{roots_of}
 use Rattle.node_table.proofs.Searches.{roots_length, root_at, middle, narrowed_found, narrowed_up, narrowed_down, narrowed_none, narrowed_few}

@@ -1,7 +1,7 @@
-use Rattle.std.proofs.Common.{arith, ◌≡◌, ◌<◌, ◌≤◌, ℕ, length, sym, ap, ◌∙◌, subst}
+use Rattle.std.proofs.Common.{arith, sym, ap, ◌∙◌}
 use Rattle.node_table.specs.declared.parts.Entry.{Entry}
 use Rattle.node_table.specs.Tables.{roots_of}
-use Rattle.node_table.proofs.Searches.{roots_length, root_at, index_at, index_none, past_more, IsPast}
+use Rattle.node_table.proofs.Searches.{roots_length, root_at, index_at, index_none, past_more}
 use Rattle.node_table.proofs.search.root_from_front.Goals as goal
 
 pub returns-then-entry-root : goal.returns-then-entry-root

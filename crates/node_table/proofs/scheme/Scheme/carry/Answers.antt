@@ -1,9 +1,8 @@
-use Rattle.std.proofs.Common.{arith, ◌≡◌, ◌⊎◌, inl, inr, ◌<◌, sym, ap, subst, ◌∙◌, min, ◌+◌, ◌++◌, ◌∷◌, []}
+use Rattle.std.proofs.Common.{arith, inl, inr, sym, ap, subst, ◌∙◌}
 use Rattle.std.specs.Prelude.{Ok, Err}
 use Rattle.node_table.specs.declared.packet.Packet.{Packet}
 use Rattle.node_table.specs.Tables.{tables}
-use Rattle.node_table.specs.Service.{one_less}
-use Rattle.node_table.specs.Trails.{IsCarriedWhereConnected, IsUnreachableWhereApart, IsUnderWay, as_carried}
+use Rattle.node_table.specs.Trails.{IsCarriedWhereConnected, IsUnreachableWhereApart}
 use Rattle.node_table.proofs.Carriage.{forward_is, under_way_next, connected_ok, connected_refused, apart_ok, apart_refused}
 use Rattle.node_table.proofs.scheme.Scheme.carry.Goals as goal
 

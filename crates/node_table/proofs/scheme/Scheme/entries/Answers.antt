@@ -1,4 +1,4 @@
-use Rattle.std.proofs.Common.{subst, sym, ap, length, ◌≡◌}
+use Rattle.std.proofs.Common.{subst, sym, length}
 use Rattle.node_table.specs.Laws.{AreTreesOf}
 use Rattle.node_table.proofs.EntryCounts.{trees_of}
 use Rattle.node_table.proofs.scheme.Scheme.entries.Goals as goal
