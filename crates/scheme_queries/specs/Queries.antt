@@ -1,12 +1,14 @@
 -- What a query of a graph under landmark words answers.
-use Rattle.std.specs.Prelude.{◌≡◌, ℕ, List, Result, Err, None, IfOk, count_by}
+use Rattle.std.specs.Prelude.{◌≡◌, ℕ, List, Result, Err, Option, Some, None, IfOk, count_by}
 use Rattle.std.specs.declared.alloc.AllocError.{AllocError}
 use Rattle.graph_edits.specs.Edges.{Network}
 use Rattle.graph_edits.specs.Walks.{IsWalk}
 use Rattle.landmarks.specs.Chosen.{IsBound, chosen}
 use Rattle.node_table.specs.declared.packet.Refused.TheVariants.{Unreachable as NotReached}
 use Rattle.node_table.specs.declared.parts.Parts.{Parts}
-use Rattle.node_table.specs.Checks.{IsChecked}
+use Rattle.node_table.specs.Checks.{IsChecked, IsFirstFault}
+use Rattle.certificate.specs.declared.fault.Fault.{Fault}
+use Rattle.certificate.specs.Faults.{rule_of}
 use Rattle.node_table.specs.Service.{address, decide}
 use Rattle.node_table.specs.Tables.{tables}
 use Rattle.node_table.specs.Trails.{IsGoodTrail, IsTrailOf}
@@ -39,7 +41,13 @@ IsRouteIn p u v Unreachable = decide (tables p) u (address (tables p) v) ≡ Err
 abbrev pub IsLandmarkCount : Network → List ℕ → ℕ → Type 0
 IsLandmarkCount m words count = (bound : ℕ) × (IsBound m.nodes bound × (count ≡ count_by (λ flag. flag) (chosen bound words)))
 
--- no check fails, and the landmarks are those that the words choose
-pub record IsCheckAnswer (m : Network) (words : List ℕ) (answer : Result Checked AllocError) : Type 0 where
+-- what the checks say of a scheme: nothing where all rules hold, else the first that fails
+abbrev pub IsFaultIn : Network → Parts → Option Fault → Type 0
+IsFaultIn m p None = IsChecked m p
+IsFaultIn m p (Some fault) = IsFirstFault m p (rule_of fault)
+
+-- no check fails, the landmarks are those that the words choose, and it is a scheme of this generation that was checked
+pub record IsCheckAnswer (m : Network) (words : List ℕ) (generation : ℕ) (answer : Result Checked AllocError) : Type 0 where
   pub passes : IfOk answer (λ checked. checked.fault ≡ None)
   pub count : IfOk answer (λ checked. IsLandmarkCount m words checked.landmarks)
+  pub scheme : IfOk answer (λ checked. (p : Parts) × (IsSchemeOf m words generation p × IsFaultIn m p checked.fault))

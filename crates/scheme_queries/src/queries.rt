@@ -99,7 +99,7 @@ pub fn carry_packet(
     }
 }
 
-/// Checks the scheme of the graph that has these landmark words.
+/// Checks the scheme of the graph that has these landmark words, under this generation.
 pub fn check_scheme(
     alloc: Global,
     graph: &Graph,
@@ -107,7 +107,7 @@ pub fn check_scheme(
     generation: u64,
 ) -> Result<Checked, AllocError>
     requires { length words.now ≡ graph.now.nodes }
-    ensures answer { IsCheckAnswer graph.now words.now result }
+    ensures { IsCheckAnswer graph.now words.now generation result }
 {
     let (scheme, landmarks) = built(alloc, graph, words, generation)?;
     let fault = certificate::check(graph, &scheme).err();

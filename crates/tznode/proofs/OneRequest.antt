@@ -1,17 +1,11 @@
 -- One request alone: its mark, and the state after it.
-use Rattle.std.proofs.Common.{refl, ap, sym, ◌∙◌, ◌≡◌, ◌+◌, ◌⊎◌, inl, inr, ℕ, List, [], ◌∷◌, Option, Some, None, Result, Ok, Err, IsTrue, OnOk, false, subst}
+use Rattle.std.proofs.Common.{refl, ap, sym, ◌∙◌, ◌≡◌, ◌+◌, ◌⊎◌, inl, List, [], ◌∷◌, Result, Ok, Err, IsTrue, OnOk, false, subst}
 use Rattle.disk_trait.specs.Disk.{LeavesOnly, OnlyRead, joined, reading_leaves}
 use Rattle.graph_edits.specs.declared.edits.Op.{Op}
-use Rattle.graph_edits.specs.Edges.{Network}
 use Rattle.graph_edits.specs.Changes.{after as graph_after}
 use Rattle.standing.specs.State.{State}
 use Rattle.group_commit.specs.declared.request.Request.{Request}
-use Rattle.group_commit.specs.declared.request.Mark.{Mark}
 use Rattle.group_commit.specs.declared.request.Verdict.{Verdict}
-use Rattle.group_commit.specs.declared.request.Verdict.TheVariants.{Accepted, Refused}
-use Rattle.group_commit.specs.declared.posting.Posting.{Posting}
-use Rattle.group_commit.specs.declared.posting.Posting.TheVariants.{Marks, Down}
-use Rattle.group_commit.specs.Postings.{MarksAreDue}
 use Rattle.group_commit.specs.Settling.{Settled, settle, accept, refuse, one_more}
 use Rattle.checkpoint.specs.declared.store.Store.{Store}
 use Rattle.standing.specs.Standing.{StandsFor}
@@ -19,25 +13,13 @@ use Rattle.checkpoint.specs.StoreWords.{state_of, view_of, disk_of, is_down, sta
 use Rattle.group_commit.specs.declared.desk.Desk.{Desk}
 use Rattle.group_commit.specs.DeskWords.{store_of, held_of, settled_of}
 use Rattle.tznode.specs.declared.fault.Fault.{Fault}
-use Rattle.tznode.specs.Answer.{KeepsThrough, verdict_of, state_after, first_verdict, verdict_due}
-
-pub one_verdict : (s : State) (r : Request) → first_verdict (settle s (r ∷ [])).marks ≡ Some (verdict_of s r.change)
-one_verdict s r = elim (graph_after s.graph r.change) as (λ o. first_verdict (elim o as (λ _. Settled) [ Ok graph ↦ accept r (s.count + 1) (settle (one_more s graph) []) | Err at ↦ refuse r at (settle s []) ]).marks ≡ Some (elim o as (λ _. Verdict) [ Ok graph ↦ Accepted (s.count + 1) | Err at ↦ Refused at.0 at.1 ])) [
-  | Ok graph ↦ refl
-  | Err at ↦ refl
-]
+use Rattle.tznode.specs.Answer.{KeepsThrough, state_after}
 
 pub one_state : (s : State) (r : Request) → (settle s (r ∷ [])).state ≡ state_after s r.change
 one_state s r = elim (graph_after s.graph r.change) as (λ o. (elim o as (λ _. Settled) [ Ok graph ↦ accept r (s.count + 1) (settle (one_more s graph) []) | Err at ↦ refuse r at (settle s []) ]).state ≡ elim o as (λ _. State) [ Ok graph ↦ record { count = s.count + 1; graph = graph } | Err at ↦ s ]) [
   | Ok graph ↦ refl
   | Err at ↦ refl
 ]
-
--- where marks are due, the first verdict of theirs is
-pub due_verdict : (due : Option Posting) (marks : List Mark) → MarksAreDue due marks → verdict_due due ≡ first_verdict marks
-due_verdict None marks is = absurd is
-due_verdict (Some (Marks told)) marks is = ap first_verdict is
-due_verdict (Some Down) marks is = absurd is
 
 -- ---- what a desk's commit of one request leaves, said of the store that the desk was given
 

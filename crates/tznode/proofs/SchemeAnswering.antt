@@ -1,5 +1,5 @@
 -- What `route` and `check` answer of a graph.
-use Rattle.std.proofs.Common.{refl, ap, sym, subst, ◌≡◌, ◌∙◌, inl, inr, ℕ, ◌<◌, List, Option, Result, Ok, Err, IfOk, OnOk, IsErrAnd}
+use Rattle.std.proofs.Common.{refl, sym, subst, ◌≡◌, inl, inr, ℕ, ◌<◌, List, Option, Result, Ok, Err, IfOk, OnOk, IsErrAnd}
 use Rattle.std.specs.declared.alloc.AllocError.{AllocError}
 use Rattle.std.specs.Io.KnownBytes.{Appends}
 use Rattle.standing.specs.State.{State}
@@ -35,12 +35,12 @@ route_of graph own generation asked words u v (Ok route) same within are from to
 route_of graph own generation asked words u v (Err e) same within are from to by = tt
 
 -- a check by the words is one for what was asked
-pub check_of : (graph own : Network) (asked : LandmarkWords) (words : List ℕ) (answer : Result Checked AllocError) → own ≡ graph → IsWithin asked graph.nodes
-    → AreWords asked graph.nodes words → IsCheckAnswer own words answer → IfOk answer (λ checked. IsCheckOf graph asked checked)
-check_of graph own asked words (Ok checked) same within are by =
-    let is : IsCheckAnswer graph words (Ok checked) = subst (λ g. IsCheckAnswer g words (Ok checked)) same by in
-    record { within = within; passes = is.passes; count = (words, (are, is.count)) }
-check_of graph own asked words (Err e) same within are by = tt
+pub check_of : (graph own : Network) (generation : ℕ) (asked : LandmarkWords) (words : List ℕ) (answer : Result Checked AllocError) → own ≡ graph → IsWithin asked graph.nodes
+    → AreWords asked graph.nodes words → IsCheckAnswer own words generation answer → IfOk answer (λ checked. IsCheckOf graph generation asked checked)
+check_of graph own generation asked words (Ok checked) same within are by =
+    let is : IsCheckAnswer graph words generation (Ok checked) = subst (λ g. IsCheckAnswer g words generation (Ok checked)) same by in
+    record { within = within; passes = is.passes; count = (words, (are, is.count)); scheme = (words, (are, is.scheme)) }
+check_of graph own generation asked words (Err e) same within are by = tt
 
 -- a route's line is that of what becomes of the packet in a state
 pub route_line : (r : Result Ended Fault) (old new : Option (List ℕ)) (asked : LandmarkWords) (u v generation : ℕ) (route : Route)
@@ -53,9 +53,9 @@ route_line (Err fault) old new asked u v generation route one ends printed = tt
 
 -- a check's line is that of what the checks say in a state
 pub check_line : (r : Result Ended Fault) (old new : Option (List ℕ)) (asked : LandmarkWords) (generation : ℕ) (checked : Checked)
-    → (state : State) × (generation ≡ state.count) × IsCheckOf state.graph asked checked
+    → (state : State) × (generation ≡ state.count) × IsCheckOf state.graph state.count asked checked
     → IfOk r (λ ended. ended ≡ ended_at checked.fault) → OnOk r (Appends old new (line (checks_text generation checked.landmarks checked.fault)))
-    → IfOk r (λ ended. (state : State) × (checked : Checked) × IsCheckOf state.graph asked checked × (ended ≡ ended_at checked.fault) × Appends old new (line (checks_text state.count checked.landmarks checked.fault)))
+    → IfOk r (λ ended. (state : State) × (checked : Checked) × IsCheckOf state.graph state.count asked checked × (ended ≡ ended_at checked.fault) × Appends old new (line (checks_text state.count checked.landmarks checked.fault)))
 check_line (Ok ended) old new asked generation checked one ends printed =
     (one.0, checked, one.2, ends, subst (λ n. Appends old new (line (checks_text n checked.landmarks checked.fault))) one.1 printed)
 check_line (Err fault) old new asked generation checked one ends printed = tt
@@ -82,7 +82,7 @@ route_printed (Err fault) old new asked u v printed = tt
 
 -- what `check` prints is an answer
 pub check_printed : (r : Result Ended Fault) (old new : Option (List ℕ)) (asked : LandmarkWords)
-    → IfOk r (λ ended. (state : State) × (checked : Checked) × IsCheckOf state.graph asked checked × (ended ≡ ended_at checked.fault) × Appends old new (line (checks_text state.count checked.landmarks checked.fault)))
+    → IfOk r (λ ended. (state : State) × (checked : Checked) × IsCheckOf state.graph state.count asked checked × (ended ≡ ended_at checked.fault) × Appends old new (line (checks_text state.count checked.landmarks checked.fault)))
     → IfOk r (λ ended. Printed ended old new)
 check_printed (Ok ended) old new asked printed = (
   line (checks_text printed.0.count printed.1.landmarks printed.1.fault),

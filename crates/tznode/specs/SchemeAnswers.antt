@@ -1,5 +1,5 @@
 -- What `route` and `check` answer of a device.
-use Rattle.std.specs.Prelude.{◌≡◌, ℕ, ◌<◌, List, Result, Ok, Option, Some, None, IfOk}
+use Rattle.std.specs.Prelude.{◌≡◌, ℕ, ◌<◌, List, Result, Option, Some, None, IfOk}
 use Rattle.std.specs.declared.alloc.AllocError.{AllocError}
 use Rattle.certificate.specs.declared.fault.Fault.{Fault}
 use Rattle.standing.specs.State.{State}
@@ -11,7 +11,7 @@ use Rattle.node_table.specs.declared.parts.Parts.{Parts}
 use Rattle.scheme_queries.specs.declared.queries.Checked.{Checked}
 use Rattle.scheme_queries.specs.declared.queries.Route.{Route}
 use Rattle.scheme_queries.specs.declared.queries.Route.TheVariants.{Along, Unreachable}
-use Rattle.scheme_queries.specs.Queries.{IsCheckAnswer, IsGoodRoute, IsLandmarkCount, IsRouteAnswer, IsRouteIn, IsSchemeOf}
+use Rattle.scheme_queries.specs.Queries.{IsFaultIn, IsGoodRoute, IsLandmarkCount, IsRouteAnswer, IsRouteIn, IsSchemeOf}
 use Rattle.tznode.specs.declared.run.Ended.{Ended}
 use Rattle.tznode.specs.declared.run.Ended.TheVariants.{Done, Refused}
 use Rattle.tznode.specs.Lines.{line}
@@ -34,10 +34,11 @@ pub record IsRouteOf (graph : Network) (generation : ℕ) (asked : LandmarkWords
 
 -- What the checks say of the scheme of a graph by the words that were asked for: none fails, and the landmarks are those that the
 -- words choose.
-pub record IsCheckOf (graph : Network) (asked : LandmarkWords) (checked : Checked) : Type 0 where
+pub record IsCheckOf (graph : Network) (generation : ℕ) (asked : LandmarkWords) (checked : Checked) : Type 0 where
   pub within : IsWithin asked graph.nodes
   pub passes : checked.fault ≡ None
   pub count : (words : List ℕ) × (AreWords asked graph.nodes words × IsLandmarkCount graph words checked.landmarks)
+  pub scheme : (words : List ℕ) × (AreWords asked graph.nodes words × ((p : Parts) × (IsSchemeOf graph words generation p × IsFaultIn graph p checked.fault)))
 
 -- how a command ends that answers this route
 abbrev pub ended_along : Route → Ended
@@ -75,6 +76,6 @@ pub record IsCheckText (ended : Ended) (text : List ℕ) : Type 0 where
   pub state : State
   pub asked : LandmarkWords
   pub checked : Checked
-  pub is_check : IsCheckOf state.graph asked checked
+  pub is_check : IsCheckOf state.graph state.count asked checked
   pub ends : ended ≡ ended_at checked.fault
   pub is : text ≡ line (checks_text state.count checked.landmarks checked.fault)

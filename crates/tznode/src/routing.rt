@@ -33,12 +33,13 @@ impl Promise<Result<Route, AllocError>> for RoutePromise {
 struct CheckPromise {
     graph: Snapshot<Graph>,
     words: Snapshot<Vec<u64>>,
+    generation: u64,
 }
 
 impl Promise<Result<Checked, AllocError>> for CheckPromise {
     ghost use Rattle.scheme_queries.specs.Queries.{IsCheckAnswer};
 
-    ghost kept_by = { λ p r. IsCheckAnswer p.graph.value p.words.value.items r };
+    ghost kept_by = { λ p r. IsCheckAnswer p.graph.value p.words.value.items p.generation r };
 }
 
 /// Carries a packet in a graph, in a thread of its own. Where no thread can be made, memory has run out.
@@ -87,15 +88,16 @@ pub fn check_in_thread<R: Threads>(
     generation: u64,
 ) -> Result<Checked, AllocError>
     requires { length words.items ≡ graph.nodes }
-    ensures { IsCheckAnswer graph words.items result }
+    ensures { IsCheckAnswer graph words.items generation result }
 {
     let promise = CheckPromise {
         graph: Snapshot::of(&graph),
         words: Snapshot::of(&words),
+        generation,
     };
     let job = move || -> Result<Checked, AllocError>
         requires { length words.items ≡ graph.nodes }
-        ensures { IsCheckAnswer graph words.items result }
+        ensures { IsCheckAnswer graph words.items generation result }
     { check_scheme(alloc, &graph, &words, generation) };
     match Builder::new()
         .stack_size(STACK_LEN)

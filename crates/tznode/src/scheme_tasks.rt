@@ -71,7 +71,7 @@ fn check_in_graph<R: Threads + AllocGlobal>(
     generation: u64,
     asked: &LandmarkWords,
 ) -> Result<Checked, Fault>
-    ensures check { IfOk result (λ checked. IsCheckOf graph.now asked.now checked) }
+    ensures check { IfOk result (λ checked. IsCheckOf graph.now generation asked.now checked) }
     ensures not_within { IsErrOf result Fault.Words → ¬ IsWithin asked.now graph.now.nodes }
     ensures status { IfErr result (λ fault. fault ≢ Fault.Words → status_of fault ≡ 1) }
 {
@@ -118,10 +118,10 @@ pub fn check_device<R: Threads + AllocGlobal, D: Disk + Drop>(
     asked: &LandmarkWords,
 ) -> Result<(u64, Checked), Fault>
     ensures generation { IsTrue (D.view disk).keeps_model → (state : State) → StandsFor state (D.view disk).content → IfOk result (λ answer. answer.0 ≡ state.count) }
-    ensures check { IsTrue (D.view disk).keeps_model → (state : State) → StandsFor state (D.view disk).content → IfOk result (λ answer. IsCheckOf state.graph asked.now answer.1) }
+    ensures check { IsTrue (D.view disk).keeps_model → (state : State) → StandsFor state (D.view disk).content → IfOk result (λ answer. IsCheckOf state.graph state.count asked.now answer.1) }
     ensures not_within { IsTrue (D.view disk).keeps_model → (state : State) → StandsFor state (D.view disk).content → IsErrOf result Fault.Words → ¬ IsWithin asked.now state.graph.nodes }
     // Also of a disk that doesn't keep the model the answer is that of a state.
-    ensures of_one { IfOk result (λ answer. (state : State) × (answer.0 ≡ state.count) × IsCheckOf state.graph asked.now answer.1) }
+    ensures of_one { IfOk result (λ answer. (state : State) × (answer.0 ≡ state.count) × IsCheckOf state.graph state.count asked.now answer.1) }
     ensures status { IfErr result (λ fault. fault ≢ Fault.Words → status_of fault ≡ 1) }
 {
     standing_law();
@@ -188,7 +188,7 @@ pub fn run_check<R, O>(
 where
     R: Files<File = File> + AllocGlobal + Threads,
     O: Write,
-    ensures printed { IfOk result (λ ended. (state : State) × (checked : Checked) × IsCheckOf state.graph asked.now checked × (ended ≡ ended_at checked.fault) × Appends (O.contents out.old) (O.contents out.new) (line (checks_text state.count checked.landmarks checked.fault))) }
+    ensures printed { IfOk result (λ ended. (state : State) × (checked : Checked) × IsCheckOf state.graph state.count asked.now checked × (ended ≡ ended_at checked.fault) × Appends (O.contents out.old) (O.contents out.new) (line (checks_text state.count checked.landmarks checked.fault))) }
     ensures untouched { IfErr result (λ fault. status_of fault ≡ 2 → out.new ≡ out.old) }
 {
     let (generation, checked) = check_device(rt, open_device(rt, device)?, asked)?;

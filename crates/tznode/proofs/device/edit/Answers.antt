@@ -1,5 +1,4 @@
 use Rattle.std.proofs.Common.{sym, ◌≡◌, ◌∙◌, subst, IsTrue, IfOk, OnOk}
-use Rattle.standing.specs.State.{State}
 use Rattle.checkpoint.specs.StoreWords.{state_of, view_of}
 use Rattle.tznode.specs.Answer.{KeepsThrough, verdict_of, state_after}
 use Rattle.tznode.proofs.OneRequest.{edit_leaves, edit_keeps}

@@ -1,6 +1,5 @@
-use Rattle.std.proofs.Common.{rules, sym, ◌∙◌, ◌≡◌, false, List, [], ◌∷◌, ◌++◌, ap}
-use Rattle.checkpoint.specs.StoreWords.{is_down}
-use Rattle.group_commit.specs.DeskWords.{store_of, held_of}
+use Rattle.std.proofs.Common.{◌∙◌, ◌≡◌, [], ◌∷◌, ◌++◌, ap}
+use Rattle.group_commit.specs.DeskWords.{store_of}
 use Rattle.tznode.proofs.OneRequest.{one_request_leaves}
 use Rattle.tznode.proofs.device.settle_one.Goals as goal
 

@@ -1,4 +1,4 @@
-use Rattle.std.proofs.Common.{◌≡◌, subst}
+use Rattle.std.proofs.Common.{subst}
 use Rattle.tznode.specs.Printed.{Printed}
 use Rattle.tznode.proofs.run.run_words.Goals as goal
 

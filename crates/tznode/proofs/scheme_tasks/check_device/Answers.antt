@@ -1,4 +1,4 @@
-use Rattle.std.proofs.Common.{rules, ◌≡◌, ◌∙◌, ◌<◌, ap, subst, ℕ, Err}
+use Rattle.std.proofs.Common.{◌≡◌, ◌∙◌, ap, subst, Err}
 use Rattle.standing.specs.State.{State}
 use Rattle.checkpoint.specs.StoreWords.{state_of}
 use Rattle.given_words.specs.Words.{IsWithin}
@@ -26,8 +26,12 @@ pub returns-in-Ok-clause-check : goal.returns-in-Ok-clause-check
 returns-in-Ok-clause-check g c model state stands =
     let same : state_of c.in-Ok.store ≡ state = c.standing_law.ensures (state_of c.in-Ok.store) state _ (c.in-Ok.ensures.stands model) stands in
     let graph : c.graph.result.now ≡ state.graph = c.graph.ensures ∙ ap (λ (s : State). s.graph) same in
-    subst (λ (m : Network). IsCheckOf m c.args.asked.now c.in_ok-checked-in-Ok.checked) graph c.in_ok-checked-in-Ok.ensures.check
+    let generation : c.count-generation.result ≡ state.count = c.count-generation.ensures.same ∙ ap (λ (s : State). s.count) same in
+    let there = subst (λ (m : Network). IsCheckOf m c.count-generation.result c.args.asked.now c.in_ok-checked-in-Ok.checked) graph c.in_ok-checked-in-Ok.ensures.check in
+    subst (λ n. IsCheckOf state.graph n c.args.asked.now c.in_ok-checked-in-Ok.checked) generation there
 
 pub returns-in-Ok-clause-of_one : goal.returns-in-Ok-clause-of_one
 returns-in-Ok-clause-of_one g c =
-    (state_of c.in-Ok.store, c.count-generation.ensures.same, subst (λ (m : Network). IsCheckOf m c.args.asked.now c.in_ok-checked-in-Ok.checked) c.graph.ensures c.in_ok-checked-in-Ok.ensures.check)
+    let state = state_of c.in-Ok.store in
+    let there = subst (λ (m : Network). IsCheckOf m c.count-generation.result c.args.asked.now c.in_ok-checked-in-Ok.checked) c.graph.ensures c.in_ok-checked-in-Ok.ensures.check in
+    (state, c.count-generation.ensures.same, subst (λ n. IsCheckOf state.graph n c.args.asked.now c.in_ok-checked-in-Ok.checked) c.count-generation.ensures.same there)

@@ -1,4 +1,4 @@
-use Rattle.std.proofs.Common.{rules, ◌≡◌, ◌∙◌, ◌<◌, ap, subst, ℕ, Err}
+use Rattle.std.proofs.Common.{◌≡◌, ◌∙◌, ◌<◌, ap, subst, Err}
 use Rattle.standing.specs.State.{State}
 use Rattle.checkpoint.specs.StoreWords.{state_of}
 use Rattle.given_words.specs.Words.{IsWithin}

@@ -1,4 +1,4 @@
-use Rattle.std.proofs.Common.{rules, arith, ◌≡◌, ◌<◌, Ok}
+use Rattle.std.proofs.Common.{rules, ◌<◌, Ok}
 use Rattle.tznode.proofs.SchemeAnswering.{route_of}
 use Rattle.tznode.proofs.scheme_tasks.route_in_graph.Goals as goal
 

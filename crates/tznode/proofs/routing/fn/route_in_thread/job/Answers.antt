@@ -1,4 +1,4 @@
-use Rattle.std.proofs.Common.{rules, ◌≡◌, subst, List, ℕ}
+use Rattle.std.proofs.Common.{rules, ◌≡◌, subst}
 use Rattle.tznode.specs.SchemeAnswers.{IsRouteBy}
 use Rattle.tznode.proofs.routing.fn.route_in_thread.job.Goals as goal
 
