@@ -57,14 +57,6 @@ impl Nearest {
         self.distances.as_slice()
     }
 
-    /// These limits in a list of their own.
-    pub fn limits(&self, alloc: Global) -> Result<Vec<Option<u64>>, AllocError>
-        ensures { IfOk result (λ limits.
-            limits.items ≡ map (λ o. option_map (λ n. n.distance) o) self.now.nearest) }
-    {
-        distances_of(alloc, &self.of)
-    }
-
     /// How many entries the search popped.
     pub fn pops(&self) -> u64
         ensures { result ≡ self.now.pops }

@@ -1,0 +1,131 @@
+// Clusters of drawn graphs by the definition, and those of the longest path.
+ghost use Rattle.std.specs.Prelude.{◌≡◌, ◌≢◌, ◌<◌, true, Some, None, length, slice_index_or};
+ghost use Rattle.distances.specs.Nearest.{AreNearest};
+
+use crate::drawn::{drawn_edges, drawn_flags, graph_of, longest_path, nearest_of};
+use crate::slow::{at, bellman_ford, distances_from};
+use clusters::{Cluster, cluster};
+use distances::Nearest;
+use graph_edits::Graph;
+use rand_core::SeedableRng;
+use rand_xoshiro::Xoshiro256PlusPlus;
+use std::alloc::Global;
+use std::process::Abort;
+use std::test::Fail;
+
+/// Whether a node is no landmark.
+fn is_no_landmark(nearest: &Nearest, node: u16) -> bool
+    requires { node < length nearest.now.nearest }
+    ensures { result ≡ true
+        → slice_index_or nearest.now.nearest node None ≢ Some (record { landmark = node; distance = 0 }) }
+{
+    match nearest.of(node) {
+        Some(near) => near.landmark != node || near.distance != 0,
+        None => true,
+    }
+}
+
+/// The cluster of a node that is no landmark.
+fn cluster_of(
+    rt: &impl Abort,
+    alloc: Global,
+    graph: &Graph,
+    nearest: &Nearest,
+    center: u16,
+) -> Cluster
+    requires nodes { length nearest.now.nearest ≡ graph.now.nodes }
+    requires nearest { AreNearest graph.now.edges nearest.now.nearest }
+{
+    let nodes = graph.nodes();
+    assert!(rt; center < nodes);
+    let free = is_no_landmark(nearest, center);
+    assert!(rt; free);
+    cluster(alloc, graph, nearest, center).expect(rt, "memory")
+}
+
+/// The definition: a node's distance from the centre, if that is less than the one from the landmarks, where none is the farthest.
+fn member_distance(from_center: Option<u64>, from_landmarks: Option<u64>) -> Option<u64> {
+    match (from_center, from_landmarks) {
+        (Some(d), Some(e)) if d >= e => None,
+        _ => from_center,
+    }
+}
+
+/// The distance of a member of a cluster, if the node is one.
+fn found_distance(cluster: &Cluster, node: u16) -> Option<u64> {
+    let member = cluster.members().iter().find(|r| r.node == node).copied();
+    member.map(|r| r.distance)
+}
+
+#[test]
+fn agrees_with_the_definition_on_drawn_graphs(rt: HostRuntime) -> Result<(), Fail> {
+    let alloc = rt.alloc();
+    let mut rng = Xoshiro256PlusPlus::seed_from_u64(3);
+    for round in 0..200u32 {
+        let edges = drawn_edges(alloc, &mut rng, 10)?;
+        let flags = drawn_flags(alloc, &mut rng, 10, 4)?;
+        let graph = graph_of(&rt, alloc, 10, &edges);
+        let nearest = nearest_of(&rt, alloc, &graph, &flags);
+        let from_landmarks = bellman_ford(alloc, &edges, &flags)?;
+        for center in 0..10u16 {
+            if flags.get(center as usize).copied() != Some(false) {
+                continue;
+            }
+            let from_center = distances_from(alloc, &edges, 10, center)?;
+            let found = cluster_of(&rt, alloc, &graph, &nearest, center);
+            let mut members: usize = 0;
+            for node in 0..10u16 {
+                let want = member_distance(at(&from_center, node), at(&from_landmarks, node));
+                assert_eq!(rt; found_distance(&found, node), want, "in round {round}");
+                members = members.saturating_add(if want.is_some() { 1 } else { 0 });
+            }
+            assert_eq!(rt; found.members().len(), members, "in round {round}");
+        }
+    }
+    Ok(())
+}
+
+/// How many nodes a cluster of the longest path has, counted by the distances on a line: each 64th node is a landmark, the first is 63.
+fn members_on_the_line(center: u16) -> usize {
+    let mut members: usize = 0;
+    for node in 0..4096u16 {
+        let behind = if node < 63 {
+            4096
+        } else {
+            node.saturating_sub(63) % 64
+        };
+        let ahead = 63 - node % 64;
+        if node.abs_diff(center) < behind.min(ahead) {
+            members = members.saturating_add(1);
+        }
+    }
+    members
+}
+
+#[test]
+fn finds_all_clusters_of_the_longest_path(rt: HostRuntime) -> Result<(), Fail> {
+    let alloc = rt.alloc();
+    let graph = graph_of(&rt, alloc, 4096, &longest_path(alloc)?);
+    let mut flags = Vec::new(alloc);
+    for node in 0..4096u16 {
+        flags.push(node % 64 == 63)?;
+    }
+    let nearest = nearest_of(&rt, alloc, &graph, &flags);
+    for center in (0..4096u16).filter(|w| w % 64 != 63) {
+        let found = cluster_of(&rt, alloc, &graph, &nearest, center);
+        assert_eq!(rt;
+            found.members().len(),
+            members_on_the_line(center),
+            "at {center}"
+        );
+        // strictly between the landmarks
+        for r in found.members() {
+            assert!(rt;
+                r.node / 64 == center / 64 && r.node % 64 != 63,
+                "at {center}"
+            );
+        }
+        assert!(rt; found.pops() <= 127, "at {center}");
+    }
+    Ok(())
+}

@@ -1,0 +1,96 @@
+// Graphs of edges, the longest path, and drawn edges and flags.
+ghost use Rattle.std.specs.Prelude.{◌≡◌, length};
+ghost use Rattle.distances.specs.Nearest.{AreNearest};
+
+use distances::{Nearest, from_landmarks};
+use graph_edits::{Change, GREATEST_WEIGHT, Graph, MOST_NODES, Op};
+use landmarks::Landmarks;
+use rand_core::Rng;
+use rand_xoshiro::Xoshiro256PlusPlus;
+use std::alloc::{AllocError, Global};
+use std::process::Abort;
+
+/// Two nodes and the weight of the edge between them.
+pub(crate) type Edge = (u16, u16, u32);
+
+/// The graph of these edges.
+pub(crate) fn graph_of(rt: &impl Abort, alloc: Global, nodes: u16, edges: &[Edge]) -> Graph {
+    assert!(rt; 1 <= nodes && nodes <= MOST_NODES);
+    let mut graph = Graph::empty(alloc, nodes).expect(rt, "memory");
+    for (a, b, weight) in edges {
+        let change = Change::new(&[Op::Add(*a, *b, *weight)]).expect(rt, "a change");
+        graph.apply(&change).expect(rt, "an edge");
+    }
+    graph
+}
+
+/// The nearest landmarks of a graph, where the nodes with a flag are the landmarks.
+pub(crate) fn nearest_of(rt: &impl Abort, alloc: Global, graph: &Graph, flags: &[bool]) -> Nearest
+    ensures nodes { length result.nearest ≡ graph.now.nodes }
+    ensures nearest { AreNearest graph.now.edges result.nearest }
+{
+    let mut words = Vec::new(alloc);
+    for flag in flags {
+        words
+            .push(if *flag { 0u64 } else { u64::MAX })
+            .expect(rt, "memory");
+    }
+    assert!(rt; 1 <= words.len());
+    let landmarks = Landmarks::choose(alloc, words.len(), &words).expect(rt, "memory");
+    let nodes = graph.nodes();
+    let marked = landmarks.flags().len();
+    assert!(rt; marked == nodes as usize);
+    from_landmarks(alloc, graph, &landmarks).expect(rt, "memory")
+}
+
+/// The edges of the longest path, each of the greatest weight.
+pub(crate) fn longest_path(alloc: Global) -> Result<Vec<Edge>, AllocError> {
+    let mut edges = Vec::new(alloc);
+    for node in 1..MOST_NODES {
+        edges.push((node - 1, node, GREATEST_WEIGHT))?;
+    }
+    Ok(edges)
+}
+
+/// A number below another one, or 0 where there is none.
+pub(crate) fn below(rng: &mut Xoshiro256PlusPlus, limit: u16) -> u16 {
+    let word = rng.next_u64();
+    u16::try_from(word.checked_rem(limit as u64).unwrap_or(0)).unwrap_or(0)
+}
+
+/// Up to 23 edges between so many nodes, at most one a pair, with weights from 1 to 5.
+pub(crate) fn drawn_edges(
+    alloc: Global,
+    rng: &mut Xoshiro256PlusPlus,
+    nodes: u16,
+) -> Result<Vec<Edge>, AllocError> {
+    let mut edges: Vec<Edge> = Vec::new(alloc);
+    for _ in 0..below(rng, 24) {
+        let a = below(rng, nodes);
+        let b = below(rng, nodes);
+        let weight = below(rng, 5).saturating_add(1) as u32;
+        if a != b && !edges.iter().any(|(x, y, _)| joins(a, b, *x, *y)) {
+            edges.push((a, b, weight))?;
+        }
+    }
+    Ok(edges)
+}
+
+/// Whether an edge between x and y is one between a and b.
+fn joins(a: u16, b: u16, x: u16, y: u16) -> bool {
+    (x == a && y == b) || (x == b && y == a)
+}
+
+/// A flag for each of so many nodes, which stands with a chance of one in `among`.
+pub(crate) fn drawn_flags(
+    alloc: Global,
+    rng: &mut Xoshiro256PlusPlus,
+    nodes: u16,
+    among: u16,
+) -> Result<Vec<bool>, AllocError> {
+    let mut flags = Vec::new(alloc);
+    for _ in 0..nodes {
+        flags.push(below(rng, among) == 0)?;
+    }
+    Ok(flags)
+}

@@ -1,0 +1,16 @@
+//! Tests of the searches for least distances, nearest landmarks and clusters.
+//!
+//! There is nothing here but tests. The answers of [`distances`] and [`clusters`] on drawn graphs are compared with those of slow
+//! searches that stand here: Bellman and Ford's over every edge, a scan over all nodes, and the definition of a cluster. These are plain,
+//! know a graph by its edges alone, and share no code with what they judge. The longest path of the heaviest edges is searched too:
+//! there the distances are those on a line.
+#![tactic(auto)]
+
+#[cfg(test)]
+mod cluster_searches;
+#[cfg(test)]
+mod drawn;
+#[cfg(test)]
+mod searches;
+#[cfg(test)]
+mod slow;
