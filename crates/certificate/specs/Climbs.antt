@@ -18,6 +18,7 @@ HoldsFirst m p = IsSound m × ((k : Fault) → number_of k ≤ 5 → Holds m p k
 abbrev pub lights_up : Network → Tables → ℕ → ℕ → List ℕ
 lights_up m t r x = lights_to m t r (distance_of (t.entry x r)) x
 
+-- these are the light ports on the way from the root of r's tree to x
 unfoldable pub HasLights : Network → Tables → ℕ → ℕ → List ℕ → Type 0
 HasLights m t r x ls = ls ≡ lights_to m t r (farthest t r m.nodes) x
 
@@ -29,5 +30,6 @@ IsLabelRight m t u e = IsSome (t.entry e.node u) → IsLocalLabel m t u e.node e
 unfoldable pub IsHomeRight : Network → Parts → ℕ → Type 0
 IsHomeRight m p v = (q : Near) (l : Label) → (tables p).home v ≡ Some l → (tables p).nearest v ≡ Some q → IsLocalLabel m (tables p) q.landmark v l
 
+-- the labels of u's directory are right, and its home label is
 unfoldable pub HasLabelsAt : Network → Parts → ℕ → Type 0
 HasLabelsAt m p u = All (IsLabelRight m (tables p) u) (directory_at p u) × IsHomeRight m p u

@@ -25,6 +25,7 @@ HasPlaces n p =
 unfoldable pub HasParentAt : Network → Tables → ℕ → Entry → Type 0
 HasParentAt m t x e = (y : ℕ) × ((e.parent ≡ Some y) × (IsSome (weight_in m x y) × IsSome (t.entry y e.root)))
 
+-- the entry's root is a node, and its parent is one where the node isn't the root itself
 unfoldable pub IsEntryShaped : Network → Tables → ℕ → Entry → Type 0
 IsEntryShaped m t x e = (e.root < m.nodes) × (x ≢ e.root → HasParentAt m t x e)
 
@@ -32,6 +33,7 @@ IsEntryShaped m t x e = (e.root < m.nodes) × (x ≢ e.root → HasParentAt m t 
 unfoldable pub HasOwn : Tables → ℕ → Type 0
 HasOwn t x = (e : Entry) × ((t.entry x x ≡ Some e) × ((e.distance ≡ 0) × (e.parent ≡ None)))
 
+-- a node's ports are its neighbours, its entries ascend by root, it has one for itself, and each is shaped
 unfoldable pub IsNodeShaped : Network → Parts → ℕ → Type 0
 IsNodeShaped m p x =
     (ports_at p x ≡ neighbours m x) × (IsStrictlyIncreasing (roots_of (entries_at p x)) × (HasOwn (tables p) x × All (IsEntryShaped m (tables p) x) (entries_at p x)))
@@ -44,6 +46,7 @@ IsClosedOver t e f =
     ((g : Entry) × ((t.entry f.0 e.root ≡ Some g) × (g.distance ≤ e.distance + f.1)))
     ⊎ ((t.entry f.0 e.root ≡ None) × ((t.landmark e.root ≡ false) × ((q : Near) × ((t.nearest f.0 ≡ Some q) × (q.distance ≤ e.distance + f.1)))))
 
+-- the same over each edge of x
 unfoldable pub IsClosedAt : Network → Tables → ℕ → Entry → Type 0
 IsClosedAt m t x e = All (IsClosedOver t e) (neighbours_of m x)
 
@@ -57,6 +60,7 @@ IsTightBy m t x e y = (w : ℕ) × ((g : Entry) × ((weight_in m x y ≡ Some w)
 unfoldable pub IsNoEarlier : Tables → Entry → ℕ → ℕ × ℕ → Type 0
 IsNoEarlier t e y f = (g : Entry) → f.0 < y → t.entry f.0 e.root ≡ Some g → e.distance ≢ g.distance + f.1
 
+-- the entry's parent gives its distance, and no smaller neighbour does
 unfoldable pub IsTightAt : Network → Tables → ℕ → Entry → Type 0
 IsTightAt m t x e = (y : ℕ) → e.parent ≡ Some y → IsTightBy m t x e y × All (IsNoEarlier t e y) (neighbours_of m x)
 
@@ -76,6 +80,7 @@ IsThere t x q = (t.landmark q.landmark ≡ true) × ((e : Entry) × ((t.entry x 
 unfoldable pub IsNoNearer : Tables → Near → Entry → Type 0
 IsNoNearer t q e = t.landmark e.root ≡ true → (q.distance < e.distance) ⊎ ((q.distance ≡ e.distance) × (q.landmark ≤ e.root))
 
+-- what a node has as its nearest landmark is one by its entries; it has none only where no entry is for a landmark
 unfoldable pub IsNearestAt : Parts → ℕ → Type 0
 IsNearestAt p x = MatchOption ((tables p).nearest x) (All (λ e. (tables p).landmark e.root ≡ false) (entries_at p x)) (λ q. IsThere (tables p) x q × All (IsNoNearer (tables p) q) (entries_at p x))
 
@@ -89,5 +94,6 @@ IsListedBack t x e = t.landmark e.root ≡ false → IsSome (t.listed e.root x)
 unfoldable pub IsListedRight : Parts → ℕ → Type 0
 IsListedRight p u = ((tables p).landmark u ≡ true → directory_at p u ≡ []) × ((tables p).landmark u ≡ false → All (λ e. IsSome ((tables p).entry e.node u)) (directory_at p u))
 
+-- a node's directory ascends and lists whom it should, and the node has a home label exactly where it has a nearest landmark
 unfoldable pub HasDirectoryAt : Parts → ℕ → Type 0
 HasDirectoryAt p u = IsStrictlyIncreasing (nodes_of (directory_at p u)) × (IsListedRight p u × ((IsSome ((tables p).home u) ↔ IsSome ((tables p).nearest u)) × All (IsListedBack (tables p) u) (entries_at p u)))

@@ -6,6 +6,7 @@ use Rattle.node_table.specs.Checks.{Fault as Rule, k1, k2, k3, k4, k5, k6, k7, k
 use Rattle.certificate.specs.declared.fault.Fault.{Fault}
 use Rattle.certificate.specs.declared.fault.Fault.TheVariants.{Shape, Edges, Parents, Strict, Nearest, Records, Labels, Directories}
 
+-- the rule that a fault names
 abbrev pub rule_of : Fault → Rule
 rule_of Shape = k1
 rule_of Edges = k2

@@ -20,6 +20,7 @@ abbrev pub by_span : Tables → ℕ → Option ℕ → ℕ → Option ℕ
 by_span t r None y = Some y
 by_span t r (Some h) y = cond (nat_lt (span (record_at t r h)) (span (record_at t r y))) (Some y) (Some h)
 
+-- the same where y may be no child of x
 abbrev pub wider : Tables → ℕ → ℕ → Option ℕ → ℕ → Option ℕ
 wider t r x o y = cond (parent_is x (t.entry y r)) (by_span t r o y) o
 
@@ -42,6 +43,7 @@ abbrev pub row_after : Network → Tables → ℕ → ℕ → Option ℕ → Lis
 row_after m t r x None = []
 row_after m t r x (Some h) = h ∷ others t r x h (neighbours m x)
 
+-- the heavy child of x and its others, as found among the neighbours
 abbrev pub row_at : Network → Tables → ℕ → ℕ → List ℕ
 row_at m t r x = row_after m t r x (widest_from t r x None (neighbours m x))
 
@@ -49,6 +51,7 @@ row_at m t r x = row_after m t r x (widest_from t r x None (neighbours m x))
 unfoldable pub FitsRow : Network → Tables → ℕ → Record → List ℕ → Type 0
 FitsRow m t r k row = IsRow m t r true (k.first + 1) k.light_depth (k.last + 1) row × IsHeavyOf m t r k row
 
+-- an entry's record fits those of the children of its node in the tree of its root
 unfoldable pub FitsAt : Network → Tables → ℕ → Entry → Type 0
 FitsAt m t x e = FitsRow m t e.root (record_of e.tree_record) (row_at m t e.root x)
 

@@ -3,7 +3,7 @@ use Rattle.std.proofs.Common.{◌≡◌, ◌⊎◌, inl, inr, ⊎_elim, ℕ, ◌
 use Rattle.journal.specs.Entry.{Entry}
 use Rattle.disk_trait.specs.Disk.{DiskView, MayLeave}
 use Rattle.journal.specs.Records.{AllSpell, IsBeforeOrAfter, entries_of}
-use Rattle.standing.specs.Layout.{worn_limit, slot_start, other, journal_of}
+use Rattle.standing.specs.Layout.{worn_limit, slot_start, other, journal_of, journal_room, journal_start}
 use Rattle.standing.specs.State.{State, after}
 use Rattle.standing.specs.Standing.{StandsBy, StandsFor}
 use Rattle.checkpoint.specs.Kept.{IsKept}
@@ -30,8 +30,8 @@ module _ (v0 : DiskView) (slot epoch other_gate : ℕ) (base state next : State)
         let before = kept.each was.before was.was in
         record {
           stands = moved slot epoch base groups (groups ++ group ∷ []) was.before image is before.stands was.elsewhere (spells image left);
-          closed = λ shut is_open. before.closed shut (sym (byte_apart was.before image (slot_start slot + 135168) 1048576 (slot_start (other slot)) 0 was.elsewhere (away slot (slot_start (other slot)) 1 is (omega arith) (omega arith))) ∙ is_open);
-          whole = λ is_open. rw (apart was.before image (slot_start slot + 135168) 1048576 (slot_start (other slot) + 1) 8 was.elsewhere (away slot (slot_start (other slot) + 1) 8 is (omega arith) (omega arith))) (before.whole is_open);
+          closed = λ shut is_open. before.closed shut (sym (byte_apart was.before image (journal_start slot) journal_room (slot_start (other slot)) 0 was.elsewhere (away slot (slot_start (other slot)) 1 is (omega arith) (omega arith))) ∙ is_open);
+          whole = λ is_open. rw (apart was.before image (journal_start slot) journal_room (slot_start (other slot) + 1) 8 was.elsewhere (away slot (slot_start (other slot) + 1) 8 is (omega arith) (omega arith))) (before.whole is_open);
         };
     folds = folds_next;
   }

@@ -1,10 +1,10 @@
 -- What a fresh device stands for.
-use Rattle.std.proofs.Common.{◌≡◌, ℕ, ◌≤◌, List, [], ◌∷◌, length, get_or, Some, None, refl, sym, ◌∙◌, ap, arith, lit<, lit≤}
+use Rattle.std.proofs.Common.{◌≡◌, ℕ, ◌+◌, ◌≤◌, List, [], ◌∷◌, length, get_or, Some, None, refl, sym, ◌∙◌, ap, arith, lit<, lit≤}
 use Rattle.std.specs.FinMap.{empty, get, get-empty}
 use Rattle.std.specs.List.{flat_map}
 use Rattle.disk_trait.specs.Disk.{bytes_at}
 use Rattle.graph_edits.specs.Edges.{pair_cmp, most_nodes}
-use Rattle.standing.specs.Layout.{device_len, header}
+use Rattle.standing.specs.Layout.{device_len, header, journal_start, slot_start}
 use Rattle.standing.specs.State.{first_state, edge_text, IsLawful}
 use Rattle.standing.specs.Slots.{head_text, HasCheckpoint}
 use Rattle.standing.specs.Standing.{StandsFor}
@@ -25,9 +25,9 @@ first_lawful nodes some few = record {
     none pair weight is = let clash : None ≡ Some weight = sym (get-empty pair_cmp pair) ∙ is in cc
 
 module _ (nodes : ℕ) (some : 1 ≤ nodes) (few : nodes ≤ most_nodes) (image : List ℕ) (long : length image ≡ device_len) (front : bytes_at image 0 10 ≡ header nodes)
-    (there : bytes_at image 4096 23 ≡ 1 ∷ head_text 1 0 nodes 0) (journal : get_or image 139264 1 ≡ 0) (closed : get_or image 1187840 0 ≡ 0) where
-  both_there : (get_or image 4096 0 ≡ 1) × (bytes_at image 4097 22 ≡ head_text 1 0 nodes 0)
-  both_there = let two = gate_and image (1 ∷ head_text 1 0 nodes 0) 4096 22 (sym there) in (two.0, two.1)
+    (there : bytes_at image (slot_start 0) 23 ≡ 1 ∷ head_text 1 0 nodes 0) (journal : get_or image (journal_start 0) 1 ≡ 0) (closed : get_or image (slot_start 1) 0 ≡ 0) where
+  both_there : (get_or image (slot_start 0) 0 ≡ 1) × (bytes_at image (slot_start 0 + 1) 22 ≡ head_text 1 0 nodes 0)
+  both_there = let two = gate_and image (1 ∷ head_text 1 0 nodes 0) (slot_start 0) 22 (sym there) in (two.0, two.1)
 
   text_there : HasCheckpoint 0 1 (first_state nodes) image
   text_there = has_text 0 1 1 (first_state nodes) 0 nodes image (record { gate_is = both_there.0; text = both_there.1 }) refl (sym (ap length no_entries)) (sym (ap (flat_map edge_text) no_entries))

@@ -13,7 +13,7 @@ use Rattle.disk_trait.specs.Disk.{DiskView, MayLeave, LeavesOnly, weaker, joined
 use Rattle.disk_trait.specs.Places.{above, byte_below, byte_of, below}
 use Rattle.checkpoint.specs.Kept.{IsKept}
 use Rattle.standing.specs.InUse.{IsInUse}
-use Rattle.standing.specs.Layout.{worn_limit, checkpoint_room, slot_start, other, epoch_at, header}
+use Rattle.standing.specs.Layout.{worn_limit, checkpoint_room, slot_start, other, epoch_at, header, journal_start}
 use Rattle.standing.specs.State.{State, checkpoint_text, after, IsLawful}
 use Rattle.standing.specs.Standing.{StandsBy, StandsFor}
 use Rattle.checkpoint.specs.Rolling.{area_text, padding, IsClosing}
@@ -107,7 +107,7 @@ module _ (slot epoch : ℕ) (base state : State) (groups : List (List Entry)) (t
         let back : slot ≡ other (other slot) = omega arith in
         subst (λ k. epoch_at k new < epoch + 1) back (rw epoch_there (omega (arith, from_be_bytes-to_be_bytes_8 epoch (omega (arith, epoch_fits)))))
 
-    last_byte : get_or new (slot_start (other slot) + 135168) 1 ≡ 0
+    last_byte : get_or new (journal_start (other slot)) 1 ≡ 0
     last_byte =
         ap (λ k. get_or new k 1) (omega arith)
         ∙ sym (byte_of new (gate + 1) (length text) 135167 1 (omega (arith, long)))
@@ -126,7 +126,7 @@ module _ (slot epoch : ℕ) (base state : State) (groups : List (List Entry)) (t
       records = record {
         each = tt;
         open_records = refl;
-        gate = λ one. let clash : 0 ≡ 1 = sym last_byte ∙ ap (λ k. get_or new k 1) (sym (add-zero (slot_start (other slot) + 135168))) ∙ one in omega arith;
+        gate = λ one. let clash : 0 ≡ 1 = sym last_byte ∙ ap (λ k. get_or new k 1) (sym (add-zero (journal_start (other slot)))) ∙ one in omega arith;
         within = lit< tt;
       };
     }

@@ -5,7 +5,7 @@ use Rattle.disk_trait.specs.Places.{below, above, byte_below, byte_above}
 use Rattle.journal.specs.Entry.{Entry}
 use Rattle.journal.specs.Elsewhere.{still_spells}
 use Rattle.journal.specs.Records.{Spells}
-use Rattle.standing.specs.Layout.{slot_start, other, journal_of, epoch_at}
+use Rattle.standing.specs.Layout.{slot_start, other, journal_of, epoch_at, journal_room, journal_start, slot_room}
 use Rattle.standing.specs.State.{State, checkpoint_text}
 use Rattle.standing.specs.Standing.{StandsBy}
 use Rattle.standing.proofs.Texts.{text_fits}
@@ -24,14 +24,14 @@ byte_apart old new at m i d torn (inr high) = byte_above old new at m i d torn h
 
 -- within a slot, and so apart from the other one's
 abbrev pub Within : ℕ → ℕ → ℕ → Type 0
-Within slot from k = (slot_start slot ≤ from) × (from + k ≤ slot_start slot + 1183744)
+Within slot from k = (slot_start slot ≤ from) × (from + k ≤ slot_start slot + slot_room)
 
 pub slots_apart : (slot at m from k : ℕ) → slot < 2 → Within (other slot) at m → Within slot from k → Apart at m from k
 slots_apart zero at m from k is there here = inl (omega arith)
 slots_apart (suc slot) at m from k is there here = inr (omega arith)
 
 -- the other slot lies apart from this one's journal
-pub away : (slot from k : ℕ) → slot < 2 → slot_start (other slot) ≤ from → from + k ≤ slot_start (other slot) + 1183744 → Apart (slot_start slot + 135168) 1048576 from k
+pub away : (slot from k : ℕ) → slot < 2 → slot_start (other slot) ≤ from → from + k ≤ slot_start (other slot) + slot_room → Apart (journal_start slot) journal_room from k
 away zero from k is low high = inr (omega arith)
 away (suc slot) from k is low high = inl (omega arith)
 
@@ -53,22 +53,22 @@ stays slot epoch base groups old new at m is stands torn there older =
       lawful = stands.lawful;
       epoch_fits = stands.epoch_fits;
       older = older;
-      records = still_spells (journal_of slot) groups old new at m torn (turned at m (slot_start slot + 135168) 1048576 (slots_apart slot at m (slot_start slot + 135168) 1048576 is there (omega arith, omega arith))) stands.records;
+      records = still_spells (journal_of slot) groups old new at m torn (turned at m (journal_start slot) journal_room (slots_apart slot at m (journal_start slot) journal_room is there (omega arith, omega arith))) stands.records;
     }
 
 -- what is torn in the journal alone leaves the rest of the device
-pub moved : (slot epoch : ℕ) (base : State) (groups later : List (List Entry)) (old new : List ℕ) → slot < 2 → StandsBy slot epoch base groups old → Torn (slot_start slot + 135168) 1048576 old new → Spells (journal_of slot) later new → StandsBy slot epoch base later new
+pub moved : (slot epoch : ℕ) (base : State) (groups later : List (List Entry)) (old new : List ℕ) → slot < 2 → StandsBy slot epoch base groups old → Torn (journal_start slot) journal_room old new → Spells (journal_of slot) later new → StandsBy slot epoch base later new
 moved slot epoch base groups later old new is stands torn spells =
-    let at = slot_start slot + 135168 in
+    let at = journal_start slot in
     let size = length (checkpoint_text epoch base) in
     record {
       as_long = torn.as_long ∙ stands.as_long;
-      head = below old new at 1048576 0 10 torn (omega arith) ∙ stands.head;
-      gate = byte_below old new at 1048576 (slot_start slot) 0 torn (omega arith) ∙ stands.gate;
-      text = below old new at 1048576 (slot_start slot + 1) size torn (omega (arith, text_fits epoch base stands.lawful)) ∙ stands.text;
+      head = below old new at journal_room 0 10 torn (omega arith) ∙ stands.head;
+      gate = byte_below old new at journal_room (slot_start slot) 0 torn (omega arith) ∙ stands.gate;
+      text = below old new at journal_room (slot_start slot + 1) size torn (omega (arith, text_fits epoch base stands.lawful)) ∙ stands.text;
       lawful = stands.lawful;
       epoch_fits = stands.epoch_fits;
-      older = λ is_open. rw (apart old new at 1048576 (slot_start (other slot) + 1) 8 torn (away slot (slot_start (other slot) + 1) 8 is (omega arith) (omega arith)))
-          (stands.older (sym (byte_apart old new at 1048576 (slot_start (other slot)) 0 torn (away slot (slot_start (other slot)) 1 is (omega arith) (omega arith))) ∙ is_open));
+      older = λ is_open. rw (apart old new at journal_room (slot_start (other slot) + 1) 8 torn (away slot (slot_start (other slot) + 1) 8 is (omega arith) (omega arith)))
+          (stands.older (sym (byte_apart old new at journal_room (slot_start (other slot)) 0 torn (away slot (slot_start (other slot)) 1 is (omega arith) (omega arith))) ∙ is_open));
       records = spells;
     }

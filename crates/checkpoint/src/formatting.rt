@@ -2,7 +2,7 @@
 ghost use Rattle.std.specs.Prelude.{◌≡◌, ◌≢◌, ◌≤◌, ◌<◌, ◌+◌, ◌↔◌, ◌∷◌, ℕ, List, length, get_or, IsTrue, OnOk, OnErr, IsErr, IsErrOf};
 ghost use Rattle.disk_trait.specs.Disk.{MayLeave, IsSameDevice, IsSettled, Torn, bytes_at};
 ghost use Rattle.graph_edits.specs.Edges.{most_nodes};
-ghost use Rattle.standing.specs.Layout.{device_len, header};
+ghost use Rattle.standing.specs.Layout.{device_len, head_len, header, header_len, journal_start, slot_start};
 ghost use Rattle.standing.specs.State.{first_state};
 ghost use Rattle.standing.specs.Standing.{StandsFor};
 ghost use Rattle.standing.specs.Slots.{head_text};
@@ -52,8 +52,8 @@ fn put<D: Disk>(disk: &mut D, at: usize, bytes: &[u8]) -> Result<(), DeviceFault
 // Puts the header, and an open slot.
 fn put_front<D: Disk>(disk: &mut D, nodes: u16) -> Result<(), DeviceFault>
     requires { length (D.view disk.old).content ≡ device_len }
-    ensures header { IsTrue (D.view disk.old).keeps_model → OnOk result (bytes_at (D.view disk.new).content 0 10 ≡ header nodes) }
-    ensures slot { IsTrue (D.view disk.old).keeps_model → OnOk result (bytes_at (D.view disk.new).content 4096 23 ≡ 1 ∷ head_text 1 0 nodes 0) }
+    ensures header { IsTrue (D.view disk.old).keeps_model → OnOk result (bytes_at (D.view disk.new).content 0 header_len ≡ header nodes) }
+    ensures slot { IsTrue (D.view disk.old).keeps_model → OnOk result (bytes_at (D.view disk.new).content (slot_start 0) head_len ≡ 1 ∷ head_text 1 0 nodes 0) }
     ensures fault { OnErr result ((D.view disk.old).failures < (D.view disk.new).failures) }
     ensures ran { IsSameDevice (D.view disk.old) (D.view disk.new) }
 {
@@ -70,9 +70,9 @@ fn put_front<D: Disk>(disk: &mut D, nodes: u16) -> Result<(), DeviceFault>
 // Closes the first gate of the open slot's journal, and the other slot.
 fn put_gates<D: Disk>(disk: &mut D) -> Result<(), DeviceFault>
     requires { length (D.view disk.old).content ≡ device_len }
-    ensures journal { IsTrue (D.view disk.old).keeps_model → OnOk result (get_or (D.view disk.new).content 139264 1 ≡ 0) }
-    ensures other { IsTrue (D.view disk.old).keeps_model → OnOk result (get_or (D.view disk.new).content 1187840 0 ≡ 0) }
-    ensures below { IsTrue (D.view disk.old).keeps_model → OnOk result ((from n : ℕ) → from + n ≤ 139264 → bytes_at (D.view disk.new).content from n ≡ bytes_at (D.view disk.old).content from n) }
+    ensures journal { IsTrue (D.view disk.old).keeps_model → OnOk result (get_or (D.view disk.new).content (journal_start 0) 1 ≡ 0) }
+    ensures other { IsTrue (D.view disk.old).keeps_model → OnOk result (get_or (D.view disk.new).content (slot_start 1) 0 ≡ 0) }
+    ensures below { IsTrue (D.view disk.old).keeps_model → OnOk result ((from n : ℕ) → from + n ≤ journal_start 0 → bytes_at (D.view disk.new).content from n ≡ bytes_at (D.view disk.old).content from n) }
     ensures fault { OnErr result ((D.view disk.old).failures < (D.view disk.new).failures) }
     ensures ran { IsSameDevice (D.view disk.old) (D.view disk.new) }
 {

@@ -4,7 +4,7 @@ ghost use Rattle.std.proofs.Props.{props};
 ghost use Rattle.disk_trait.specs.Disk.{IsSameDevice, MayLeave, LeavesOnly, OnlyRead};
 ghost use Rattle.graph_edits.specs.Changes.{fold};
 ghost use Rattle.journal.specs.Layout.{most_entries};
-ghost use Rattle.standing.specs.Layout.{worn_limit, device_len, slot_start};
+ghost use Rattle.standing.specs.Layout.{worn_limit, device_len, journal_room, journal_start, slot_start};
 ghost use Rattle.standing.specs.State.{State, after};
 ghost use Rattle.standing.specs.Standing.{StandsFor, StandsForNone};
 ghost use Rattle.standing.specs.Fronts.{LacksMagic, HasOtherVersion, HasThisVersion};
@@ -34,11 +34,11 @@ pub struct Store<D: Disk> {
     pub(crate) count: u64,
     pub(crate) graph: Graph,
     pub(crate) down: bool,
-    ghost fits: { count ≤ 9223372036854775807 },
+    ghost fits: { count ≤ worn_limit },
     ghost two_slots: { slot < 2 },
-    ghost at: { journal.area.start ≡ 4096 + 1183744 * slot + 135168 },
-    ghost room: { journal.area.room ≡ 1048576 },
-    ghost long: { length (D.view disk).content ≡ 2371584 },
+    ghost at: { journal.area.start ≡ journal_start slot },
+    ghost room: { journal.area.room ≡ journal_room },
+    ghost long: { length (D.view disk).content ≡ device_len },
     ghost kept: { IsTrue (D.view disk).keeps_model → down ≡ false → IsKept (D.view disk) slot epoch other_gate (record { count = base_count.value; graph = base.value }) (record { count = count; graph = graph }) journal.groups } by { Prim.hlevel props },
 }
 

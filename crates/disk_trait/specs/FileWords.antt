@@ -3,6 +3,7 @@ use Rattle.std.specs.Prelude.{length, replicate, false, IsTrue}
 use Rattle.disk_trait.specs.declared.file.FileDisk.{FileDisk}
 use Rattle.disk_trait.specs.Disk.{DiskView, MayLeave}
 
+-- what is known of a file: its length and how often a call failed; of its bytes nothing is claimed
 abbrev pub file_view : FileDisk → DiskView
 file_view disk = record {
   content = replicate disk.len 0;

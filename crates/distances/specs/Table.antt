@@ -19,6 +19,7 @@ pub record IsListing (number : ℕ → Option ℕ) (order : List Settled) : Type
 abbrev pub IsTightBy : EdgeMap → (ℕ → Option ℕ) → ℕ → ℕ → ℕ → Type 0
 IsTightBy m number x d y = (e : ℕ) × ((w : ℕ) × ((number y ≡ Some e) × (weight_between m x y ≡ Some w) × (e + w ≡ d)))
 
+-- the smallest node over an edge from which the distance d of x is attained, if there is one
 abbrev pub IsFirstTight : EdgeMap → (ℕ → Option ℕ) → ℕ → ℕ → Option ℕ → Type 0
 IsFirstTight m number x d None = (y : ℕ) → IsTightBy m number x d y → ⊥
 IsFirstTight m number x d (Some y) = IsTightBy m number x d y × ((z : ℕ) → IsTightBy m number x d z → y ≤ z)

@@ -8,6 +8,7 @@ use Rattle.graph_edits.specs.declared.edits.Op.TheVariants.{Add, Set, Cut}
 use Rattle.journal.specs.declared.group.ReadError.{ReadError}
 use Rattle.journal.specs.declared.group.ReadError.TheVariants.{Malformed, Memory}
 
+-- the first reading, and then the second on what it gave
 infixl 10 ◌>>=◌
 abbrev pub ◌>>=◌ : {A B : Type 0} → Option A → (A → Option B) → Option B
 (Some x) >>= f = f x
@@ -18,11 +19,12 @@ abbrev pub Gives : {X Y : Type 0} → (X → Y) → Option X → Option Y → Ty
 Gives view (Some x) read = read ≡ Some (view x)
 Gives view None read = read ≡ None
 
--- the same, unless memory ran out
+-- nothing can be read, unless memory ran out
 abbrev pub Fails : {Y : Type 0} → ReadError → Option Y → Type 0
 Fails Memory read = Unit {0}
 Fails Malformed read = read ≡ None
 
+-- what a function answered, seen by view, is what reading gives, or it failed so
 abbrev pub GivesOr : {X Y : Type 0} → (X → Y) → Result X ReadError → Option Y → Type 0
 GivesOr view (Ok x) read = read ≡ Some (view x)
 GivesOr view (Err e) read = Fails e read

@@ -8,6 +8,7 @@ use Rattle.journal.specs.Entry.{Op, Entry}
 use Rattle.graph_edits.specs.Edges.{most_ops}
 use Rattle.journal.specs.Layout.{add_kind, set_kind, cut_kind, most_entries}
 
+-- the number of an op's kind
 abbrev pub kind_of : Op → ℕ
 kind_of (Add a b w) = add_kind
 kind_of (Set a b w) = set_kind
@@ -23,12 +24,15 @@ written_weight (Cut a b) = 0
 abbrev pub fields : ℕ → ℕ → ℕ → List ℕ
 fields a b w = to_be_bytes w16 a ++ to_be_bytes w16 b ++ to_be_bytes w32 w
 
+-- an op: its kind and its fields
 abbrev pub op_text : Op → List ℕ
 op_text op = kind_of op ∷ fields (first_node op) (second_node op) (written_weight op)
 
+-- an entry: how many ops it has, and its ops
 abbrev pub entry_text : Entry → List ℕ
 entry_text ops = length ops ∷ flat_map op_text ops
 
+-- a group: how many entries it has, and its entries
 abbrev pub payload_of : List Entry → List ℕ
 payload_of group = to_be_bytes w16 (length group) ++ flat_map entry_text group
 

@@ -21,11 +21,12 @@ use Rattle.node_table.specs.Ports.{neighbours, port_to}
 use Rattle.node_table.specs.Tables.{tables, ports_at, entries_at, directory_at, first_entry, first_listed, roots_of, nodes_of}
 use Rattle.node_table.specs.Checks.{up_port, down_port, IsListed}
 
--- the ports between a node and its parent
+-- the port at a node to its parent
 abbrev pub up_by : Network → ℕ → Option ℕ → Option ℕ
 up_by m x None = None
 up_by m x (Some y) = port_to m x y
 
+-- the parent's port to a node
 abbrev pub down_by : Network → ℕ → Option ℕ → Option ℕ
 down_by m x None = None
 down_by m x (Some y) = port_to m y x
@@ -44,10 +45,12 @@ abbrev pub LacksMember : ℕ → List Member → Type 0
 LacksMember x [] = Unit {0}
 LacksMember x (a ∷ ms) = (x ≡ a.node → ⊥) × LacksMember x ms
 
+-- no two members have one node
 abbrev pub AreDistinct : List Member → Type 0
 AreDistinct [] = Unit {0}
 AreDistinct (a ∷ ms) = LacksMember a.node ms × AreDistinct ms
 
+-- the first member has the node r
 abbrev pub BeginsWith : ℕ → List Member → Type 0
 BeginsWith r [] = ⊥
 BeginsWith r (a ∷ ms) = a.node ≡ r

@@ -25,6 +25,7 @@ pub record IsNearestLandmark (m : Network) (landmark : ℕ → Bool) (x : ℕ) (
   pub distance : IsLeast m.edges (λ s. s ≡ q.landmark) x q.distance
   pub nearest : (a y : ℕ) → a < m.nodes → landmark a ≡ true → IsLeast m.edges (λ s. s ≡ a) x y → (q.distance < y) ⊎ ((q.distance ≡ y) × (q.landmark ≤ a))
 
+-- what x has is its nearest landmark, and it has none only where no landmark reaches it
 abbrev pub NearestIsRight : Network → (ℕ → Bool) → ℕ → Option Near → Type 0
 NearestIsRight m landmark x None = (a : ℕ) (ys : List ℕ) → a < m.nodes → landmark a ≡ true → IsWalk m.edges a ys x → ⊥
 NearestIsRight m landmark x (Some q) = IsNearestLandmark m landmark x q

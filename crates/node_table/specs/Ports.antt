@@ -6,6 +6,7 @@ use Rattle.graph_edits.specs.Edges.{Network, neighbours_of}
 abbrev pub neighbours : Network → ℕ → List ℕ
 neighbours m x = map (λ e. e.0) (neighbours_of m x)
 
+-- one place further
 abbrev pub one_more : Option ℕ → Option ℕ
 one_more None = None
 one_more (Some k) = Some (k + 1)

@@ -43,8 +43,10 @@ abbrev pub row_at : List Row → ℕ → Option Row
 row_at [] x = None
 row_at (w ∷ ws) x = cond (w.node == x) (Some w) (row_at ws x)
 
+-- the entry of a node
 abbrev pub entry_in : List Row → ℕ → Option Entry
 entry_in ws x = option_map (λ w. w.entry) (row_at ws x)
 
+-- the label of a node
 abbrev pub label_in : List Row → ℕ → Option Label
 label_in ws x = option_map (λ w. w.label) (row_at ws x)

@@ -19,10 +19,12 @@ pub record Tables : Type 0 where
   pub listed : ℕ → ℕ → Option Label
   pub home : ℕ → Option Label
 
+-- what is at a place, where the place is there
 abbrev pub or_none : {X : Type 0} → Option (Option X) → Option X
 or_none None = None
 or_none (Some o) = o
 
+-- the flag at a place, and false where the place isn't there
 abbrev pub or_false : Option Bool → Bool
 or_false None = false
 or_false (Some b) = b
@@ -41,19 +43,23 @@ first_listed v (e ∷ es) = cond (e.node == v) (Some e.label) (first_listed v es
 abbrev pub ports_at : Parts → ℕ → List ℕ
 ports_at p x = elim (slice_get p.ports.items x) [ None ↦ [] | Some v ↦ v.items ]
 
+-- the entries of x, in order
 abbrev pub entries_at : Parts → ℕ → List Entry
 entries_at p x = elim (slice_get p.entries.items x) [ None ↦ [] | Some v ↦ v.items ]
 
+-- the directory of x, in order
 abbrev pub directory_at : Parts → ℕ → List Listed
 directory_at p x = elim (slice_get p.directories.items x) [ None ↦ [] | Some v ↦ v.items ]
 
--- the roots of entries, and the nodes of a directory
+-- the roots of entries
 abbrev pub roots_of : List Entry → List ℕ
 roots_of es = map (λ e. e.root) es
 
+-- the nodes of a directory
 abbrev pub nodes_of : List Listed → List ℕ
 nodes_of es = map (λ e. e.node) es
 
+-- what a scheme's lists say
 abbrev pub tables : Parts → Tables
 tables p = record {
   nodes = p.nodes;

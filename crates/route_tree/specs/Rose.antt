@@ -21,15 +21,17 @@ pub record Tree : Type 0 where
 abbrev pub tree : ℕ → Option ℕ → Option ℕ → Forest → Tree
 tree n u d b = record { node = n; up = u; down = d; below = b }
 
--- the forest of a list of trees, and the list of a forest
+-- the forest of a list of trees
 abbrev pub of_list : List Tree → Forest
 of_list [] = no_trees
 of_list (t ∷ ts) = twig t.node t.up t.down t.below (of_list ts)
 
+-- the list of a forest
 abbrev pub to_list : Forest → List Tree
 to_list no_trees = []
 to_list (twig n u d below beside) = tree n u d below ∷ to_list beside
 
+-- the list of the forest of a list is that list
 abbrev pub to_list-of_list : (ts : List Tree) → to_list (of_list ts) ≡ ts
 to_list-of_list [] = refl
 to_list-of_list (t ∷ ts) = ap (λ us. t ∷ us) (to_list-of_list ts)

@@ -11,7 +11,7 @@ use Rattle.std.proofs.lemmas.Bool.Decides.{nat_tests}
 use Rattle.graph_edits.specs.declared.edits.Op.TheVariants.{Add}
 use Rattle.graph_edits.specs.declared.edits.Code.{Code}
 use Rattle.graph_edits.specs.Changes.{after, refusal, refusal_at, or_refused_at}
-use Rattle.graph_edits.specs.Edges.{EdgeMap, Network, pair_cmp, pair_of, weight_between, most_edges, most_nodes}
+use Rattle.graph_edits.specs.Edges.{EdgeMap, Network, pair_cmp, pair_of, weight_between, greatest_weight, most_edges, most_nodes}
 use Rattle.graph_edits.proofs.EdgesOfRows.{pair_total}
 use Rattle.graph_edits.proofs.EdgeRows.{pair_in_order}
 use Rattle.standing.specs.Ascending.{AllBelow, IsBefore, IsAfterLast, last_key}
@@ -27,8 +27,8 @@ not_refused nodes edges a b w there is few none =
     let lt : a < b = is.0 in
     let high : b < nodes = is.1 in
     let low : 1 ≤ w = is.2 in
-    let top : w ≤ 1000000 = is.3 in
-    let room : edges < 16384 = few in
+    let top : w ≤ greatest_weight = is.3 in
+    let room : edges < most_edges = few in
     grind (arith, nat_tests, none)
 
 pub added : (g : Network) (a b w : ℕ) → IsEdge g.nodes ((a, b), w) → AllBelow pair_cmp (a, b) (entries g.edges) → length (entries g.edges) < most_edges

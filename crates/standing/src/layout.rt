@@ -3,9 +3,6 @@
 /// The greatest count of accepted changes, and the greatest epoch: 2^63 - 1.
 pub const WORN_LIMIT: u64 = 9_223_372_036_854_775_807;
 
-/// The number of bytes of a device.
-pub const DEVICE_LEN: usize = 2_371_584;
-
 /// Magic, version and number of nodes.
 pub const HEADER_LEN: usize = 10;
 
@@ -41,3 +38,6 @@ pub const JOURNAL_ROOM: usize = 1_048_576;
 
 /// The size of a slot.
 pub const SLOT_ROOM: usize = CHECKPOINT_ROOM + JOURNAL_ROOM;
+
+/// The number of bytes of a device.
+pub const DEVICE_LEN: usize = SLOTS_START + 2 * SLOT_ROOM;

@@ -1,6 +1,6 @@
 use Rattle.std.proofs.Common.{sym, List, ℕ, ◌≡◌, length, subst, ◌∙◌, arith}
 use Rattle.disk_trait.specs.Disk.{only_read}
-use Rattle.standing.specs.Layout.{device_len}
+use Rattle.standing.specs.Layout.{device_len, slot_start}
 use Rattle.standing.specs.State.{first_state}
 use Rattle.standing.specs.Standing.{StandsFor}
 use Rattle.standing.proofs.ReadLemmas.{still}
@@ -20,4 +20,4 @@ returns-in-Ok-sync-clause-ok g c model =
     let same = (only_read v2 v3 c.sync.result c.sync.ensures.call m2).content in
     let long : length v2.content ≡ device_len = c.put_gates.ensures.ran.as_long ∙ c.put_front.ensures.ran.as_long ∙ c.requires.long in
     subst (λ (l : List ℕ). StandsFor (first_state c.args.nodes) l) (sym same)
-    (fresh_stands c.args.nodes c.requires.some c.requires.few v2.content long (gates.below m1 0 10 (omega arith) ∙ front.header model) (gates.below m1 4096 23 (omega arith) ∙ front.slot model) (gates.journal m1) (gates.other m1))
+    (fresh_stands c.args.nodes c.requires.some c.requires.few v2.content long (gates.below m1 0 10 (omega arith) ∙ front.header model) (gates.below m1 (slot_start 0) 23 (omega arith) ∙ front.slot model) (gates.journal m1) (gates.other m1))
