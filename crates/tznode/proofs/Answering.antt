@@ -1,14 +1,15 @@
 -- What commands print, as answers.
-use Rattle.std.proofs.Common.{refl, ◌≡◌, inl, inr, ℕ, List, Option, Result, Ok, Err, IfOk, OnOk}
-use Rattle.std.specs.Io.KnownBytes.{Appends}
-use Rattle.standing.specs.State.{State}
+use Rattle.std.proofs.Common.{◌≡◌, subst, ℕ, List, Option, Result, IfOk}
+use Rattle.std.proofs.lemmas.Result.{IfOk-weaker}
 use Rattle.tznode.specs.declared.fault.Fault.{Fault}
 use Rattle.tznode.specs.declared.run.Ended.{Ended}
-use Rattle.tznode.specs.declared.run.Ended.TheVariants.{Done}
-use Rattle.tznode.specs.Lines.{listing_text}
-use Rattle.tznode.specs.Printed.{Printed}
+use Rattle.tznode.specs.declared.task.Task.{Task}
+use Rattle.tznode.specs.Asked.{IsAskedFor}
+use Rattle.tznode.specs.Printed.{AnswersWords, PrintedFor}
 
--- a listing is an answer
-pub listing_printed : (r : Result Ended Fault) (old new : Option (List ℕ)) → IfOk r (λ ended. ended ≡ Done) → OnOk r ((state : State) × Appends old new (listing_text state)) → IfOk r (λ ended. Printed ended old new)
-listing_printed (Ok ended) old new done printed = (listing_text printed.0, inr (inl (done, printed.0, refl)), printed.1)
-listing_printed (Err fault) old new done printed = tt
+-- what is printed for the task that the words ask for answers them
+pub answers : (r : Result Ended Fault) (old new : Option (List ℕ)) (words : List (List ℕ)) (understood task : Task) → IsAskedFor words understood → understood ≡ task
+    → IfOk r (λ ended. PrintedFor task ended old new) → IfOk r (λ ended. AnswersWords words ended old new)
+answers r old new words understood task asked is printed =
+    let same : IsAskedFor words task = subst (λ (t : Task). IsAskedFor words t) is asked in
+    IfOk-weaker r _ _ (λ ended answered. (task, same, answered)) printed

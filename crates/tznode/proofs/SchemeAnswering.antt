@@ -1,5 +1,5 @@
 -- What `route` and `check` answer of a graph.
-use Rattle.std.proofs.Common.{refl, sym, subst, ◌≡◌, inl, inr, ℕ, ◌<◌, List, Option, Result, Ok, Err, IfOk, OnOk, IsErrAnd}
+use Rattle.std.proofs.Common.{sym, subst, ◌≡◌, ℕ, ◌<◌, List, Option, Result, Ok, Err, IfOk, OnOk, IsErrAnd}
 use Rattle.std.specs.declared.alloc.AllocError.{AllocError}
 use Rattle.std.specs.Io.KnownBytes.{Appends}
 use Rattle.standing.specs.State.{State}
@@ -12,7 +12,6 @@ use Rattle.scheme_queries.specs.Queries.{IsCheckAnswer}
 use Rattle.tznode.specs.declared.fault.Fault.{Fault}
 use Rattle.tznode.specs.declared.run.Ended.{Ended}
 use Rattle.tznode.specs.Lines.{line}
-use Rattle.tznode.specs.Printed.{Printed}
 use Rattle.tznode.specs.SchemeAnswers.{IsRouteBy, IsRouteOf, IsCheckOf, answered_text, checks_text, ended_along, ended_at}
 
 -- the fault that is handed up is the one that came
@@ -59,41 +58,3 @@ pub check_line : (r : Result Ended Fault) (old new : Option (List ℕ)) (asked :
 check_line (Ok ended) old new asked generation checked one ends printed =
     (one.0, checked, one.2, ends, subst (λ n. Appends old new (line (checks_text n checked.landmarks checked.fault))) one.1 printed)
 check_line (Err fault) old new asked generation checked one ends printed = tt
-
--- what `route` prints is an answer
-pub route_printed : (r : Result Ended Fault) (old new : Option (List ℕ)) (asked : LandmarkWords) (u v : ℕ)
-    → IfOk r (λ ended. (state : State) × (route : Route) × IsRouteOf state.graph state.count asked u v route × (ended ≡ ended_along route) × Appends old new (line (answered_text state.count route)))
-    → IfOk r (λ ended. Printed ended old new)
-route_printed (Ok ended) old new asked u v printed = (
-  line (answered_text printed.0.count printed.1),
-  inr (inr (inr (inl (record {
-    state = printed.0;
-    asked = asked;
-    from = u;
-    to = v;
-    route = printed.1;
-    is_route = printed.2;
-    ends = printed.3;
-    is = refl;
-  })))),
-  printed.4,
-)
-route_printed (Err fault) old new asked u v printed = tt
-
--- what `check` prints is an answer
-pub check_printed : (r : Result Ended Fault) (old new : Option (List ℕ)) (asked : LandmarkWords)
-    → IfOk r (λ ended. (state : State) × (checked : Checked) × IsCheckOf state.graph state.count asked checked × (ended ≡ ended_at checked.fault) × Appends old new (line (checks_text state.count checked.landmarks checked.fault)))
-    → IfOk r (λ ended. Printed ended old new)
-check_printed (Ok ended) old new asked printed = (
-  line (checks_text printed.0.count printed.1.landmarks printed.1.fault),
-  inr (inr (inr (inr (record {
-    state = printed.0;
-    asked = asked;
-    checked = printed.1;
-    is_check = printed.2;
-    ends = printed.3;
-    is = refl;
-  })))),
-  printed.4,
-)
-check_printed (Err fault) old new asked printed = tt

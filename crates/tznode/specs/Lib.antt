@@ -4,3 +4,4 @@ pub mod Answer
 pub mod RouteLines
 pub mod SchemeAnswers
 pub mod Printed
+pub mod Asked

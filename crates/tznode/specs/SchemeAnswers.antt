@@ -2,7 +2,6 @@
 use Rattle.std.specs.Prelude.{◌≡◌, ℕ, ◌<◌, List, Result, Option, Some, None, IfOk}
 use Rattle.std.specs.declared.alloc.AllocError.{AllocError}
 use Rattle.certificate.specs.declared.fault.Fault.{Fault}
-use Rattle.standing.specs.State.{State}
 use Rattle.given_words.specs.declared.words.LandmarkWords.{LandmarkWords}
 use Rattle.given_words.specs.Words.{AreWords, IsWithin}
 use Rattle.graph_edits.specs.Edges.{Network}
@@ -14,7 +13,6 @@ use Rattle.scheme_queries.specs.declared.queries.Route.TheVariants.{Along, Unrea
 use Rattle.scheme_queries.specs.Queries.{IsFaultIn, IsGoodRoute, IsLandmarkCount, IsRouteAnswer, IsRouteIn, IsSchemeOf}
 use Rattle.tznode.specs.declared.run.Ended.{Ended}
 use Rattle.tznode.specs.declared.run.Ended.TheVariants.{Done, Refused}
-use Rattle.tznode.specs.Lines.{line}
 use Rattle.tznode.specs.RouteLines.{route_text, unreachable_text, checked_text, broken_text}
 
 -- the answer for a packet from u to v is right, and is that of a scheme by these words
@@ -59,23 +57,3 @@ ended_at (Some fault) = Refused
 abbrev pub checks_text : ℕ → ℕ → Option Fault → List ℕ
 checks_text generation landmarks None = checked_text generation landmarks
 checks_text generation landmarks (Some fault) = broken_text fault
-
--- a command that ends so prints this text, wholly: what `route` answers
-pub record IsRouteText (ended : Ended) (text : List ℕ) : Type 0 where
-  pub state : State
-  pub asked : LandmarkWords
-  pub from : ℕ
-  pub to : ℕ
-  pub route : Route
-  pub is_route : IsRouteOf state.graph state.count asked from to route
-  pub ends : ended ≡ ended_along route
-  pub is : text ≡ line (answered_text state.count route)
-
--- a command that ends so prints this text, wholly: what `check` answers
-pub record IsCheckText (ended : Ended) (text : List ℕ) : Type 0 where
-  pub state : State
-  pub asked : LandmarkWords
-  pub checked : Checked
-  pub is_check : IsCheckOf state.graph state.count asked checked
-  pub ends : ended ≡ ended_at checked.fault
-  pub is : text ≡ line (checks_text state.count checked.landmarks checked.fault)

@@ -58,6 +58,8 @@ fn listing_of_store<D: Disk>(alloc: Global, store: &Store<D>) -> Result<String, 
 /// Makes one change, as the first request of session 0, and answers what became of it.
 pub fn edit<D: Disk>(alloc: Global, disk: D, change: Change) -> (Result<Verdict, Fault>, D)
     ensures verdict { IsTrue (D.view disk).keeps_model → (state : State) → StandsFor state (D.view disk).content → IfOk result.0 (λ verdict. verdict ≡ verdict_of state change) }
+    // Also of a disk that doesn't keep the model the verdict is that of a state.
+    ensures of_one { IfOk result.0 (λ verdict. (state : State) × (verdict ≡ verdict_of state change)) }
     ensures left { IsTrue (D.view disk).keeps_model → (state : State) → StandsFor state (D.view disk).content → OnOk result.0 (KeepsThrough (D.view result.1) (state_after state change)) }
     ensures any_moment { IsTrue (D.view disk).keeps_model → (state : State) → StandsFor state (D.view disk).content → KeepsThrough (D.view disk) state
         → LeavesOnly (D.view disk) (D.view result.1) (λ image. StandsFor state image ⊎ StandsFor (state_after state change) image) }

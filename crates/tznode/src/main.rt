@@ -13,8 +13,10 @@
 //! the arguments and the standard streams. What ends a command is a [`fault::Fault`], told on standard error as `tznode: TEXT`.
 //!
 //! Of a device that keeps the disk model it is proved what `show` prints, what `edit` answers and leaves ([`device`]), and what
-//! `route` and `check` answer ([`scheme_tasks`]); of words what number, OP or landmark words they are ([`given_words`]); and of a
-//! line its bytes ([`lines`], [`route_lines`]). What a file of the system holds is tested.
+//! `route` and `check` answer ([`scheme_tasks`]); of words which command they are, by the grammar that clap is given, and what number,
+//! OP or landmark words its texts are ([`task::understood`], [`given_words`]); of a run that ends with status 0 that what it printed is
+//! the answer to what its words ask for; and of a line its bytes ([`lines`], [`route_lines`]). What a file of the system holds is
+//! tested.
 #![tactic(auto)]
 
 mod device;

@@ -1,10 +1,12 @@
 //! The program, on any words, reader and writers.
 ghost use Rattle.std.specs.Prelude.{◌≡◌, ◌≤◌, ◌++◌, ◌∷◌, [], ℕ, IfOk, IfErr, IfSome, OnOk};
+ghost use Rattle.clap.specs.Walk.{texts};
 ghost use Rattle.std.specs.Io.KnownBytes.{Appends, Keeps};
 ghost use Rattle.standing.specs.State.{State};
+ghost use Rattle.tznode.specs.Answer.{verdict_of};
 ghost use Rattle.tznode.specs.Faults.{status_of};
 ghost use Rattle.tznode.specs.Lines.{formatted_text, verdict_text, listing_text, line};
-ghost use Rattle.tznode.specs.Printed.{Printed, ended_by};
+ghost use Rattle.tznode.specs.Printed.{AnswersWords, ended_by, status_at};
 
 use crate::device;
 use crate::fault::Fault;
@@ -37,7 +39,7 @@ where
     O: Write,
     E: Write,
     ensures status { result ≤ 2 }
-    ensures done { result ≡ 0 → Printed Ended.Done (O.contents out.old) (O.contents out.new) }
+    ensures done { result ≡ 0 → AnswersWords (texts words.now) Ended.Done (O.contents out.old) (O.contents out.new) }
     // Words that aren't understood print nothing.
     ensures not_understood { result ≡ 2 → out.new ≡ out.old }
 {
@@ -50,6 +52,7 @@ where
 
 impl Ended {
     fn status(self) -> u8
+        ensures value { result ≡ status_at self }
         ensures done { result ≡ 0 → self ≡ Ended.Done }
         ensures few { result ≤ 1 }
     {
@@ -73,7 +76,7 @@ fn run_task<R, O>(rt: &R, words: &[&str], out: &mut O) -> Result<Ended, Fault>
 where
     R: Files<File = File> + AllocGlobal + Threads,
     O: Write,
-    ensures printed { IfOk result (λ ended. Printed ended (O.contents out.old) (O.contents out.new)) }
+    ensures printed { IfOk result (λ ended. AnswersWords (texts words.now) ended (O.contents out.old) (O.contents out.new)) }
     ensures untouched { IfErr result (λ fault. status_of fault ≡ 2 → out.new ≡ out.old) }
 {
     match understood(rt.alloc(), words)? {
@@ -94,8 +97,7 @@ fn run_format<R, O>(rt: &R, device: &str, nodes: u16, out: &mut O) -> Result<End
 where
     R: Files<File = File> + AllocGlobal,
     O: Write,
-    ensures done { IfOk result (λ ended. ended ≡ Ended.Done) }
-    ensures printed { OnOk result (Appends (O.contents out.old) (O.contents out.new) (line (formatted_text nodes))) }
+    ensures printed { IfOk result (λ ended. (ended ≡ Ended.Done) × Appends (O.contents out.old) (O.contents out.new) (line (formatted_text nodes))) }
     ensures status { IfErr result (λ fault. status_of fault ≡ 1) }
 {
     format_device(rt, device, nodes)?;
@@ -107,8 +109,7 @@ fn run_show<R, O>(rt: &R, device: &str, out: &mut O) -> Result<Ended, Fault>
 where
     R: Files<File = File> + AllocGlobal,
     O: Write,
-    ensures done { IfOk result (λ ended. ended ≡ Ended.Done) }
-    ensures printed { OnOk result ((state : State) × Appends (O.contents out.old) (O.contents out.new) (listing_text state)) }
+    ensures printed { IfOk result (λ ended. (ended ≡ Ended.Done) × (state : State) × Appends (O.contents out.old) (O.contents out.new) (listing_text state)) }
     ensures status { IfErr result (λ fault. status_of fault ≡ 1) }
 {
     let text = device::listing(rt.alloc(), open_device(rt, device)?)?;
@@ -120,7 +121,7 @@ fn run_edit<R, O>(rt: &R, device: &str, change: Change, out: &mut O) -> Result<E
 where
     R: Files<File = File> + AllocGlobal,
     O: Write,
-    ensures printed { IfOk result (λ ended. (verdict : Verdict) × (ended ≡ ended_by verdict) × Appends (O.contents out.old) (O.contents out.new) (line (verdict_text verdict))) }
+    ensures printed { IfOk result (λ ended. (state : State) × (ended ≡ ended_by (verdict_of state change)) × Appends (O.contents out.old) (O.contents out.new) (line (verdict_text (verdict_of state change)))) }
     ensures status { IfErr result (λ fault. status_of fault ≡ 1) }
 {
     let (answer, _) = device::edit(rt.alloc(), open_device(rt, device)?, change);

@@ -1,4 +1,5 @@
 use Rattle.std.proofs.Common.{sym, ◌≡◌, ◌∙◌, subst, IsTrue, IfOk, OnOk}
+use Rattle.std.proofs.lemmas.Result.{IfOk-weaker}
 use Rattle.checkpoint.specs.StoreWords.{state_of, view_of}
 use Rattle.tznode.specs.Answer.{KeepsThrough, verdict_of, state_after}
 use Rattle.tznode.proofs.OneRequest.{edit_leaves, edit_keeps}
@@ -8,6 +9,9 @@ pub returns-in-Ok-clause-verdict : goal.returns-in-Ok-clause-verdict
 returns-in-Ok-clause-verdict g c model state stands =
     let same : state_of c.in-Ok.store ≡ state = c.standing_law.ensures (state_of c.in-Ok.store) state _ (c.in-Ok.ensures.stands model) stands in
     subst (λ s. IfOk c.settle_one-answer.result.0 (λ verdict. verdict ≡ verdict_of s c.args.change)) same c.settle_one-answer.ensures.verdict
+
+pub returns-in-Ok-clause-of_one : goal.returns-in-Ok-clause-of_one
+returns-in-Ok-clause-of_one g c = IfOk-weaker c.settle_one-answer.result.0 _ _ (λ verdict is. (state_of c.in-Ok.store, is)) c.settle_one-answer.ensures.verdict
 
 pub returns-in-Ok-clause-left : goal.returns-in-Ok-clause-left
 returns-in-Ok-clause-left g c model state stands =
