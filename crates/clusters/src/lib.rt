@@ -21,6 +21,3 @@ mod search;
 
 pub use members::Cluster;
 pub use search::cluster;
-
-#[cfg(test)]
-mod tests;

@@ -27,6 +27,3 @@ mod search;
 pub use nearest::{Near, Nearest, from_landmarks};
 pub use reach::{Reach, Reached, from_root, tree_within};
 pub use search::Settled;
-
-#[cfg(test)]
-mod tests;

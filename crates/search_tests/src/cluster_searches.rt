@@ -1,47 +1,11 @@
 // Clusters of drawn graphs by the definition, and those of the longest path.
-ghost use Rattle.std.specs.Prelude.{◌≡◌, ◌≢◌, ◌<◌, true, Some, None, length, slice_index_or};
-ghost use Rattle.distances.specs.Nearest.{AreNearest};
-
+use crate::calls::cluster_of;
 use crate::drawn::{drawn_edges, drawn_flags, graph_of, longest_path, nearest_of};
 use crate::slow::{at, bellman_ford, distances_from};
-use clusters::{Cluster, cluster};
-use distances::Nearest;
-use graph_edits::Graph;
+use clusters::Cluster;
 use rand_core::SeedableRng;
 use rand_xoshiro::Xoshiro256PlusPlus;
-use std::alloc::Global;
-use std::process::Abort;
 use std::test::Fail;
-
-/// Whether a node is no landmark.
-fn is_no_landmark(nearest: &Nearest, node: u16) -> bool
-    requires { node < length nearest.now.nearest }
-    ensures { result ≡ true
-        → slice_index_or nearest.now.nearest node None ≢ Some (record { landmark = node; distance = 0 }) }
-{
-    match nearest.of(node) {
-        Some(near) => near.landmark != node || near.distance != 0,
-        None => true,
-    }
-}
-
-/// The cluster of a node that is no landmark.
-fn cluster_of(
-    rt: &impl Abort,
-    alloc: Global,
-    graph: &Graph,
-    nearest: &Nearest,
-    center: u16,
-) -> Cluster
-    requires nodes { length nearest.now.nearest ≡ graph.now.nodes }
-    requires nearest { AreNearest graph.now.edges nearest.now.nearest }
-{
-    let nodes = graph.nodes();
-    assert!(rt; center < nodes);
-    let free = is_no_landmark(nearest, center);
-    assert!(rt; free);
-    cluster(alloc, graph, nearest, center).expect(rt, "memory")
-}
 
 /// The definition: a node's distance from the centre, if that is less than the one from the landmarks, where none is the farthest.
 fn member_distance(from_center: Option<u64>, from_landmarks: Option<u64>) -> Option<u64> {

@@ -1,27 +1,13 @@
 // Trees and nearest landmarks beside the slow searches, and the longest path.
+use crate::calls::{near_of, reach_of};
 use crate::drawn::{Edge, below, drawn_edges, drawn_flags, graph_of, longest_path, nearest_of};
 use crate::slow::{at, distances_from, nearest_by_each, parent_by_edges, scanned};
-use distances::{Near, Nearest, Reach, Reached, from_root};
-use graph_edits::Graph;
+use distances::Reached;
 use rand_core::SeedableRng;
 use rand_xoshiro::Xoshiro256PlusPlus;
 use std::alloc::{AllocError, Global};
 use std::process::Abort;
 use std::test::Fail;
-
-/// The tree of least distances from a root.
-fn reach_of(rt: &impl Abort, alloc: Global, graph: &Graph, root: u16) -> Reach {
-    let nodes = graph.nodes();
-    assert!(rt; root < nodes);
-    from_root(alloc, graph, root).expect(rt, "memory")
-}
-
-/// The nearest landmark of a node.
-fn near_of(rt: &impl Abort, nearest: &Nearest, node: u16) -> Option<Near> {
-    let nodes = nearest.distances().len();
-    assert!(rt; (node as usize) < nodes);
-    nearest.of(node)
-}
 
 /// The tree of least distances from a root, as both slow searches find it.
 fn slow_tree(

@@ -1,56 +1,7 @@
-// The searches on graphs whose distances are known.
-use crate::{Near, Nearest, Reach, Reached, from_landmarks, from_root};
-use graph_edits::{Change, Graph, MOST_NODES, Op};
-use landmarks::Landmarks;
-use std::alloc::Global;
-use std::process::Abort;
-
-type Edge = (u16, u16, u32);
-
-fn graph_of(rt: &impl Abort, alloc: Global, nodes: u16, edges: &[Edge]) -> Graph {
-    assert!(rt; 1 <= nodes && nodes <= MOST_NODES);
-    let mut graph = Graph::empty(alloc, nodes).expect(rt, "memory");
-    for (a, b, weight) in edges {
-        let change = Change::new(&[Op::Add(*a, *b, *weight)]).expect(rt, "a change");
-        graph.apply(&change).expect(rt, "an edge");
-    }
-    graph
-}
-
-fn reach_of(rt: &impl Abort, alloc: Global, graph: &Graph, root: u16) -> Reach {
-    let nodes = graph.nodes();
-    assert!(rt; root < nodes);
-    from_root(alloc, graph, root).expect(rt, "memory")
-}
-
-fn nearest_of(rt: &impl Abort, alloc: Global, graph: &Graph, flags: &[bool]) -> Nearest {
-    let mut words = Vec::new(alloc);
-    for flag in flags {
-        words
-            .push(if *flag { 0u64 } else { u64::MAX })
-            .expect(rt, "memory");
-    }
-    assert!(rt; 1 <= words.len());
-    let landmarks = Landmarks::choose(alloc, words.len(), &words).expect(rt, "memory");
-    let nodes = graph.nodes();
-    let marked = landmarks.flags().len();
-    assert!(rt; marked == nodes as usize);
-    from_landmarks(alloc, graph, &landmarks).expect(rt, "memory")
-}
-
-fn near_of(rt: &impl Abort, nearest: &Nearest, node: u16) -> Option<Near> {
-    let nodes = nearest.distances().len();
-    assert!(rt; (node as usize) < nodes);
-    nearest.of(node)
-}
-
-fn member(node: u16, distance: u64, parent: Option<u16>) -> Reached {
-    Reached {
-        node,
-        distance,
-        parent,
-    }
-}
+// Trees and nearest landmarks of graphs whose distances are known.
+use crate::calls::{member, near_of, reach_of};
+use crate::drawn::{Edge, graph_of, nearest_of};
+use distances::Near;
 
 const PATH: [Edge; 4] = [(0, 1, 1), (1, 2, 1), (2, 3, 1), (3, 4, 1)];
 
@@ -153,6 +104,8 @@ fn takes_the_smaller_of_two_landmarks(rt: HostRuntime) {
         let near = near_of(&rt, &nearest, node);
         assert!(&rt; near == Some(Near { landmark, distance }), "at {node}");
     }
+    let distances = [Some(0u64), Some(1), Some(2), Some(1), Some(0)];
+    assert!(&rt; nearest.distances() == distances.as_slice());
     assert!(&rt; 5 <= nearest.pops() && nearest.pops() <= 10);
     let none = nearest_of(&rt, alloc, &graph, &[false, false, false, false, false]);
     for node in 0..5u16 {
