@@ -9,9 +9,9 @@ use Rattle.node_table.specs.Ports.{port_to}
 use Rattle.node_table.specs.Tables.{Tables, tables}
 use Rattle.node_table.specs.Checks.{k1, IsShaped, distance_of, farthest}
 use Rattle.node_table.specs.Local.{record_at, parent_of, lights_from, lights_to}
-use Rattle.node_table.proofs.Exact.{Distances}
-use Rattle.node_table.proofs.Law.{distances_from}
-use Rattle.node_table.proofs.TreeOfTables.{far_enough}
+use Rattle.node_table.proofs.Serving.Exact.{Distances}
+use Rattle.node_table.proofs.Serving.CheckedLaw.{distances_from}
+use Rattle.node_table.proofs.LocalForms.TreeOfTables.{far_enough}
 use Rattle.certificate.specs.Climbs.{HoldsFirst, lights_up}
 use Rattle.certificate.proofs.LookUps.{inside}
 

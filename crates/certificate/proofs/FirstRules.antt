@@ -13,9 +13,9 @@ use Rattle.graph_edits.specs.Edges.{Network, IsSound, weight_in, neighbours_of}
 use Rattle.graph_edits.specs.Laws.{All-neighbours_of, Contains-neighbours_of}
 use Rattle.node_table.specs.Tables.{tables, entries_at, directory_at, or_none, nodes_of}
 use Rattle.node_table.specs.Checks.{IsShaped, IsClosed, HasParents, IsStrict, IsNearestThere, HasDirectories}
-use Rattle.node_table.proofs.Walks.{symmetric}
+use Rattle.node_table.proofs.Basics.Walks.{symmetric}
 use Rattle.certificate.specs.Entries.{EachEntry, HasPlaces, IsNodeShaped, IsEntryShaped, HasOwn, HasParentAt, IsClosedAt, IsClosedOver, IsTightAt, IsTightBy, IsNoEarlier, IsStrictAt, IsNearestAt, IsThere, IsNoNearer, HasDirectoryAt, IsListedRight, IsListedBack}
-use Rattle.node_table.proofs.Options.{is_there, not_none}
+use Rattle.node_table.proofs.Basics.Options.{is_there, not_none}
 use Rattle.certificate.proofs.LookUps.{found_has, found_at, listed_has, listed_at, no_directory, looked_up, inside, each_one}
 
 -- ---- Shape

@@ -6,4 +6,3 @@ pub mod LocalRules
 pub mod LabelLemmas
 pub mod ClimbLemmas
 pub mod RowLemmas
-pub mod PortLemmas

@@ -4,7 +4,7 @@ use Rattle.node_table.specs.declared.parts.Parts.{Parts}
 use Rattle.graph_edits.specs.Edges.{Network}
 use Rattle.node_table.specs.Tables.{tables}
 use Rattle.node_table.specs.Checks.{HasRecords, HasLabels}
-use Rattle.node_table.proofs.LocalChecks.{records_check, labels_check}
+use Rattle.node_table.proofs.LocalForms.LocalChecks.{records_check, labels_check}
 use Rattle.certificate.specs.Rows.{IsLocalAt}
 use Rattle.certificate.specs.Climbs.{HoldsFirst, HasLabelsAt}
 use Rattle.certificate.proofs.ClimbLemmas.{distances_first, shaped_first}

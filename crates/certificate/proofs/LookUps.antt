@@ -13,7 +13,7 @@ use Rattle.node_table.specs.declared.parts.Listed.{Listed}
 use Rattle.heavy_labels.specs.Label.{Label}
 use Rattle.graph_edits.specs.Edges.{Network}
 use Rattle.node_table.specs.Tables.{tables, entries_at, directory_at, first_entry, first_listed, roots_of}
-use Rattle.node_table.proofs.Searches.{IsPast, index_at, entry_found, root_at, rises, roots_length}
+use Rattle.node_table.proofs.Basics.Searches.{IsPast, index_at, entry_found, key_at, rises, keys_length}
 use Rattle.certificate.specs.Entries.{EachEntry}
 
 -- what a look-up finds has the root that was asked for, and what all entries have
@@ -34,8 +34,8 @@ found_has P r (f ∷ es) e a h = go (f.root == r) refl h (λ k. found_has P r es
 -- an entry of ascending entries is found by its root
 pub found_at : (es : List Entry) → IsStrictlyIncreasing (roots_of es) → (i : ℕ) (d : Entry) → i < length es → first_entry (get_or es i d).root es ≡ Some (get_or es i d)
 found_at es up i d l =
-    let n = roots_length es in
-    let e = root_at es i d l in
+    let n = keys_length (λ (e : Entry). e.root) es in
+    let e = key_at (λ (e : Entry). e.root) es i d l in
     entry_found (get_or es i d).root es i d (sym (index_at (roots_of es) (get_or es i d).root i (omega (arith, n, l)) e (past e n)))
   where
     past : slice_index (roots_of es) i ≡ (get_or es i d).root → length (roots_of es) ≡ length es → IsPast (roots_of es) (get_or es i d).root i

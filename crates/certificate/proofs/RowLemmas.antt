@@ -10,9 +10,9 @@ use Rattle.node_table.specs.Ports.{neighbours}
 use Rattle.node_table.specs.Tables.{Tables, tables}
 use Rattle.node_table.specs.Checks.{IsShaped, parent_is, children}
 use Rattle.node_table.specs.Local.{record_at, record_or, span, widest_span, first_with, all_but, row_by, in_row, IsRow, IsHeavyOf, FitsBelow, HasLocalRecords}
-use Rattle.node_table.proofs.Exact.{Distances}
-use Rattle.node_table.proofs.LocalChecks.{children_near}
-use Rattle.node_table.proofs.Rows.{row_scan}
+use Rattle.node_table.proofs.Serving.Exact.{Distances}
+use Rattle.node_table.proofs.LocalForms.LocalChecks.{children_near}
+use Rattle.node_table.proofs.LocalForms.ChildRows.{row_scan}
 use Rattle.certificate.specs.Rows.{children_among, by_span, widest_from, others, row_after, row_at, FitsRow, FitsAt, IsLocalAt}
 use Rattle.certificate.proofs.LookUps.{looked_up, each_one}
 

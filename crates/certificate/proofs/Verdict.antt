@@ -7,7 +7,7 @@ use Rattle.graph_edits.specs.Edges.{Network, IsSound}
 use Rattle.node_table.specs.Checks.{Fault as Rule, k1, k2, k3, k4, k5, k6, k7, k8, Holds, number_of, IsChecked, IsFirstFault}
 use Rattle.node_table.specs.Tables.{tables}
 use Rattle.node_table.specs.Service.{Serves}
-use Rattle.node_table.proofs.Law.{checked_serves}
+use Rattle.node_table.proofs.Serving.CheckedLaw.{checked_serves}
 use Rattle.certificate.specs.declared.fault.Fault.{Fault}
 use Rattle.certificate.specs.declared.fault.Fault.TheVariants.{Shape, Edges, Parents, Strict, Nearest, Records, Labels, Directories}
 use Rattle.certificate.specs.Faults.{rule_of, IsExact}

@@ -6,22 +6,15 @@ ghost use Rattle.certificate.specs.Entries.{HasDirectoryAt, IsListedBack, IsList
 ghost use Rattle.node_table.specs.Tables.{directory_at, entries_at, nodes_of, or_none, tables};
 ghost use Rattle.node_table.specs.Checks.{Holds, IsShaped, k8};
 
-use crate::reading::{directory, entries, is_landmark, nearest};
 use graph_edits::Graph;
 use heavy_labels::Label;
 use node_table::{Entry, Listed, Scheme};
 
-/// Whether the nodes of a directory strictly ascend.
-fn nodes_ascend(directory: &[Listed]) -> bool
-    ensures { IsTrue result ↔ IsStrictlyIncreasing (nodes_of directory.now) }
-{
-    directory.is_sorted_by(|before, after| before.node < after.node)
-}
-
 fn all_have_entries(scheme: &Scheme, u: u16) -> bool
     ensures { IsTrue result ↔ All (λ e. IsSome ((tables scheme.now).entry e.node u)) (directory_at scheme.now u) }
 {
-    directory(scheme, u)
+    scheme
+        .directory_of(u)
         .iter()
         .all(|listed| scheme.entry(listed.node, u).is_some())
 }
@@ -30,8 +23,8 @@ fn all_have_entries(scheme: &Scheme, u: u16) -> bool
 fn is_listed_right(scheme: &Scheme, u: u16) -> bool
     ensures { IsTrue result ↔ IsListedRight scheme.now u }
 {
-    if is_landmark(scheme, u) {
-        directory(scheme, u).is_empty()
+    if scheme.is_landmark(u) {
+        scheme.directory_of(u).is_empty()
     } else {
         all_have_entries(scheme, u)
     }
@@ -41,35 +34,35 @@ fn is_listed_right(scheme: &Scheme, u: u16) -> bool
 fn is_listed_back(scheme: &Scheme, x: u16, entry: &Entry) -> bool
     ensures { IsTrue result ↔ IsListedBack (tables scheme.now) x entry.now }
 {
-    is_landmark(scheme, entry.root) || scheme.listed(entry.root, x).is_some()
+    scheme.is_landmark(entry.root) || scheme.listed(entry.root, x).is_some()
 }
 
 fn are_listed_back(scheme: &Scheme, x: u16) -> bool
     ensures { IsTrue result ↔ All (IsListedBack (tables scheme.now) x) (entries_at scheme.now x) }
 {
-    entries(scheme, x)
+    scheme
+        .entries_of(x)
         .iter()
         .all(|entry| is_listed_back(scheme, x, entry))
 }
 
-fn is_label_at(homes: &[Option<Label>], v: u16) -> bool
-    ensures { result ≡ is_some (or_none (slice_get homes.now v)) }
+fn has_home(scheme: &Scheme, v: u16) -> bool
+    ensures { result ≡ is_some ((tables scheme.now).home v) }
 {
-    let i = v as usize;
-    i < homes.len() && homes[i].is_some()
+    scheme.home_label(v).is_some()
 }
 
 fn has_home_right(scheme: &Scheme, v: u16) -> bool
     ensures { IsTrue result ↔ (IsSome ((tables scheme.now).home v) ↔ IsSome ((tables scheme.now).nearest v)) }
 {
-    is_label_at(scheme.parts().homes.as_slice(), v) == nearest(scheme, v).is_some()
+    has_home(scheme, v) == scheme.nearest(v).is_some()
 }
 
 #[tactic(auto, unfolding(crate::specs::Entries::HasDirectoryAt))]
 fn has_directory(scheme: &Scheme, u: u16) -> bool
     ensures { IsTrue result ↔ HasDirectoryAt scheme.now u }
 {
-    nodes_ascend(directory(scheme, u))
+    scheme.has_ascending_directory(u)
         && is_listed_right(scheme, u)
         && has_home_right(scheme, u)
         && are_listed_back(scheme, u)

@@ -6,7 +6,7 @@ ghost use Rattle.distances.specs.declared.nearest.Near.{Near};
 ghost use Rattle.node_table.specs.Tables.{entries_at, tables};
 ghost use Rattle.node_table.specs.Checks.{Holds, IsShaped, k2};
 
-use crate::reading::{entries, is_at_most, is_landmark, nearest};
+use crate::sums::is_at_most;
 use graph_edits::Graph;
 use node_table::{Entry, Scheme};
 
@@ -14,7 +14,7 @@ use node_table::{Entry, Scheme};
 fn is_landmark_near(scheme: &Scheme, y: u16, distance: u64, weight: u32) -> bool
     ensures { IsTrue result ↔ ((q : Near) × (((tables scheme.now).nearest y ≡ Some q) × (q.distance ≤ distance + weight))) }
 {
-    match nearest(scheme, y) {
+    match scheme.nearest(y) {
         Some(near) => is_at_most(near.distance, distance, weight),
         None => false,
     }
@@ -27,7 +27,7 @@ fn is_closed_over(scheme: &Scheme, entry: &Entry, edge: (u16, u32)) -> bool
     let (y, weight) = edge;
     match scheme.entry(y, entry.root) {
         Some(there) => is_at_most(there.distance, entry.distance, weight),
-        None => !is_landmark(scheme, entry.root)
+        None => !scheme.is_landmark(entry.root)
             && is_landmark_near(scheme, y, entry.distance, weight),
     }
 }
@@ -47,7 +47,8 @@ fn are_closed(graph: &Graph, scheme: &Scheme, x: u16) -> bool
     requires { x < graph.now.nodes }
     ensures { IsTrue result ↔ All (IsClosedAt graph.now (tables scheme.now) x) (entries_at scheme.now x) }
 {
-    entries(scheme, x)
+    scheme
+        .entries_of(x)
         .iter()
         .all(|entry| is_closed(graph, scheme, x, entry))
 }

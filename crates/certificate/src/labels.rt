@@ -9,11 +9,9 @@ ghost use Rattle.node_table.specs.Local.{IsLocalLabel, parent_of, record_at};
 ghost use Rattle.node_table.specs.Ports.{port_to};
 ghost use Rattle.node_table.specs.Tables.{directory_at, or_none, tables};
 
-use crate::ports::port;
-use crate::reading::{directory, nearest};
 use graph_edits::Graph;
 use heavy_labels::Label;
-use node_table::{Listed, Scheme};
+use node_table::{Listed, Scheme, port};
 
 fn parent(scheme: &Scheme, root: u16, x: u16) -> Option<u16>
     ensures { result ≡ parent_of ((tables scheme.now).entry x root) }
@@ -112,22 +110,10 @@ fn are_labels_right(graph: &Graph, scheme: &Scheme, u: u16) -> bool
     requires { HoldsFirst graph.now scheme.now }
     ensures { IsTrue result ↔ All (IsLabelRight graph.now (tables scheme.now) u) (directory_at scheme.now u) }
 {
-    directory(scheme, u)
+    scheme
+        .directory_of(u)
         .iter()
         .all(|listed| is_label_right(graph, scheme, u, listed))
-}
-
-/// A node's home label.
-fn home(scheme: &Scheme, v: u16) -> Option<&Label>
-    ensures { MatchOption result ((tables scheme.now).home v ≡ None) (λ l. (tables scheme.now).home v ≡ Some l.now) }
-{
-    let homes = &scheme.parts().homes;
-    let i = v as usize;
-    if i < homes.len() {
-        homes[i].as_ref()
-    } else {
-        None
-    }
 }
 
 /// Whether a home label is right, or without a nearest landmark.
@@ -136,7 +122,7 @@ fn is_home_right(graph: &Graph, scheme: &Scheme, v: u16) -> bool
     requires { HoldsFirst graph.now scheme.now }
     ensures { IsTrue result ↔ IsHomeRight graph.now scheme.now v }
 {
-    match (home(scheme, v), nearest(scheme, v)) {
+    match (scheme.home_label(v), scheme.nearest(v)) {
         (Some(label), Some(near)) => is_label(graph, scheme, near.landmark, v, label),
         _ => true,
     }

@@ -40,10 +40,10 @@ mod labels;
 mod nearest;
 mod parents;
 mod ports;
-mod reading;
 mod records;
 mod shape;
 mod strict;
+mod sums;
 
 pub use checks::check;
 pub use fault::Fault;

@@ -5,7 +5,6 @@ ghost use Rattle.certificate.specs.Entries.{IsNearestAt, IsNoNearer, IsThere};
 ghost use Rattle.node_table.specs.Tables.{entries_at, tables};
 ghost use Rattle.node_table.specs.Checks.{Holds, IsShaped, k5};
 
-use crate::reading::{entries, is_landmark, nearest};
 use graph_edits::Graph;
 use node_table::{Entry, Near, Scheme};
 
@@ -13,7 +12,7 @@ use node_table::{Entry, Near, Scheme};
 fn is_there(scheme: &Scheme, x: u16, near: Near) -> bool
     ensures { IsTrue result ↔ IsThere (tables scheme.now) x near }
 {
-    if !is_landmark(scheme, near.landmark) {
+    if !scheme.is_landmark(near.landmark) {
         return false;
     }
     match scheme.entry(x, near.landmark) {
@@ -26,7 +25,7 @@ fn is_there(scheme: &Scheme, x: u16, near: Near) -> bool
 fn is_no_nearer(scheme: &Scheme, near: Near, entry: &Entry) -> bool
     ensures { IsTrue result ↔ IsNoNearer (tables scheme.now) near entry.now }
 {
-    !is_landmark(scheme, entry.root)
+    !scheme.is_landmark(entry.root)
         || near.distance < entry.distance
         || near.distance == entry.distance && near.landmark <= entry.root
 }
@@ -34,7 +33,8 @@ fn is_no_nearer(scheme: &Scheme, near: Near, entry: &Entry) -> bool
 fn none_nearer(scheme: &Scheme, x: u16, near: Near) -> bool
     ensures { IsTrue result ↔ All (IsNoNearer (tables scheme.now) near) (entries_at scheme.now x) }
 {
-    entries(scheme, x)
+    scheme
+        .entries_of(x)
         .iter()
         .all(|entry| is_no_nearer(scheme, near, entry))
 }
@@ -42,16 +42,17 @@ fn none_nearer(scheme: &Scheme, x: u16, near: Near) -> bool
 fn has_no_landmark(scheme: &Scheme, x: u16) -> bool
     ensures { IsTrue result ↔ All (λ e. (tables scheme.now).landmark e.root ≡ false) (entries_at scheme.now x) }
 {
-    entries(scheme, x)
+    scheme
+        .entries_of(x)
         .iter()
-        .all(|entry| !is_landmark(scheme, entry.root))
+        .all(|entry| !scheme.is_landmark(entry.root))
 }
 
 #[tactic(auto, unfolding(crate::specs::Entries::IsNearestAt))]
 fn is_nearest(scheme: &Scheme, x: u16) -> bool
     ensures { IsTrue result ↔ IsNearestAt scheme.now x }
 {
-    match nearest(scheme, x) {
+    match scheme.nearest(x) {
         Some(near) => is_there(scheme, x, near) && none_nearer(scheme, x, near),
         None => has_no_landmark(scheme, x),
     }

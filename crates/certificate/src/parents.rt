@@ -6,7 +6,7 @@ ghost use Rattle.graph_edits.specs.Edges.{neighbours_of};
 ghost use Rattle.node_table.specs.Tables.{entries_at, tables};
 ghost use Rattle.node_table.specs.Checks.{Holds, IsShaped, k3};
 
-use crate::reading::{entries, is_sum};
+use crate::sums::is_sum;
 use graph_edits::Graph;
 use node_table::{Entry, Scheme};
 
@@ -64,7 +64,8 @@ fn are_tight(graph: &Graph, scheme: &Scheme, x: u16) -> bool
     requires { x < graph.now.nodes }
     ensures { IsTrue result ↔ All (IsTightAt graph.now (tables scheme.now) x) (entries_at scheme.now x) }
 {
-    entries(scheme, x)
+    scheme
+        .entries_of(x)
         .iter()
         .all(|entry| is_tight(graph, scheme, x, entry))
 }

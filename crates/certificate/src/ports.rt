@@ -1,20 +1,9 @@
 // Ports of the graph.
 ghost use Rattle.std.specs.Prelude.{◌≡◌, Some};
 ghost use Rattle.node_table.specs.Checks.{down_port, up_port};
-ghost use Rattle.node_table.specs.Ports.{port_to};
 
 use graph_edits::Graph;
-use node_table::Entry;
-
-/// The port of a node to another, none where no edge joins them.
-pub(crate) fn port(graph: &Graph, x: u16, y: u16) -> Option<u16>
-    ensures { result ≡ port_to graph.now x y }
-{
-    if x >= graph.nodes() {
-        return None;
-    }
-    graph.port_to(x, y)
-}
+use node_table::{Entry, port};
 
 /// The port of a node to the parent that its entry names.
 pub(crate) fn port_up(graph: &Graph, x: u16, entry: &Entry) -> Option<u16>

@@ -11,7 +11,6 @@ ghost use Rattle.node_table.specs.Tables.{Tables, entries_at, tables};
 ghost use Rattle.graph_edits.specs.Edges.{Network};
 
 use crate::ports::{port_down, port_up};
-use crate::reading::entries;
 use graph_edits::Graph;
 use heavy_labels::Record;
 use node_table::{Entry, Scheme};
@@ -184,7 +183,8 @@ fn are_below_fit(graph: &Graph, scheme: &Scheme, x: u16) -> bool
     requires { x < graph.now.nodes }
     ensures { IsTrue result ↔ All (FitsAt graph.now (tables scheme.now) x) (entries_at scheme.now x) }
 {
-    entries(scheme, x)
+    scheme
+        .entries_of(x)
         .iter()
         .all(|entry| fits_below(graph, scheme, x, entry))
 }

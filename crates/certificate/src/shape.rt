@@ -7,7 +7,6 @@ ghost use Rattle.graph_edits.specs.Edges.{IsSound};
 ghost use Rattle.node_table.specs.Checks.{Holds, k1};
 ghost use Rattle.node_table.specs.Tables.{entries_at, roots_of, tables};
 
-use crate::reading::{entries, ports};
 use graph_edits::Graph;
 use node_table::{Entry, Scheme};
 
@@ -39,13 +38,6 @@ fn are_ports(ports: &[u16], row: &[(u16, u32)]) -> bool
     true
 }
 
-/// Whether the roots of entries strictly ascend.
-fn roots_ascend(entries: &[Entry]) -> bool
-    ensures { IsTrue result ↔ IsStrictlyIncreasing (roots_of entries.now) }
-{
-    entries.is_sorted_by(|before, after| before.root < after.root)
-}
-
 #[tactic(auto, unfolding(crate::specs::Entries::HasParentAt))]
 fn has_parent(graph: &Graph, scheme: &Scheme, x: u16, entry: &Entry) -> bool
     ensures { IsTrue result ↔ HasParentAt graph.now (tables scheme.now) x entry.now }
@@ -66,7 +58,8 @@ fn is_entry_shaped(graph: &Graph, scheme: &Scheme, x: u16, entry: &Entry) -> boo
 fn are_entries_shaped(graph: &Graph, scheme: &Scheme, x: u16) -> bool
     ensures { IsTrue result ↔ All (IsEntryShaped graph.now (tables scheme.now) x) (entries_at scheme.now x) }
 {
-    entries(scheme, x)
+    scheme
+        .entries_of(x)
         .iter()
         .all(|entry| is_entry_shaped(graph, scheme, x, entry))
 }
@@ -86,8 +79,8 @@ fn is_node_shaped(graph: &Graph, scheme: &Scheme, x: u16) -> bool
     requires { x < graph.now.nodes }
     ensures { IsTrue result ↔ IsNodeShaped graph.now scheme.now x }
 {
-    are_ports(ports(scheme, x), graph.neighbours(x))
-        && roots_ascend(entries(scheme, x))
+    are_ports(scheme.ports_of(x), graph.neighbours(x))
+        && scheme.has_ascending_roots(x)
         && has_own(scheme, x)
         && are_entries_shaped(graph, scheme, x)
 }

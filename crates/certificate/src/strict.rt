@@ -5,17 +5,16 @@ ghost use Rattle.certificate.specs.Entries.{EachEntry, IsStrictAt};
 ghost use Rattle.node_table.specs.Tables.{entries_at, tables};
 ghost use Rattle.node_table.specs.Checks.{Holds, IsShaped, k4};
 
-use crate::reading::{entries, is_landmark, nearest};
 use graph_edits::Graph;
 use node_table::{Entry, Scheme};
 
 fn is_strict_at(scheme: &Scheme, x: u16, entry: &Entry) -> bool
     ensures { IsTrue result ↔ IsStrictAt (tables scheme.now) x entry.now }
 {
-    if is_landmark(scheme, entry.root) {
+    if scheme.is_landmark(entry.root) {
         return true;
     }
-    match nearest(scheme, x) {
+    match scheme.nearest(x) {
         Some(near) => entry.distance < near.distance,
         None => true,
     }
@@ -24,7 +23,8 @@ fn is_strict_at(scheme: &Scheme, x: u16, entry: &Entry) -> bool
 fn are_strict(scheme: &Scheme, x: u16) -> bool
     ensures { IsTrue result ↔ All (IsStrictAt (tables scheme.now) x) (entries_at scheme.now x) }
 {
-    entries(scheme, x)
+    scheme
+        .entries_of(x)
         .iter()
         .all(|entry| is_strict_at(scheme, x, entry))
 }

@@ -1,13 +1,17 @@
 -- What an append leaves of a store.
-use Rattle.std.proofs.Common.{◌≡◌, ◌⊎◌, inl, inr, ⊎_elim, ℕ, ◌+◌, ◌<◌, ◌≤◌, List, [], ◌∷◌, ◌++◌, sym, ◌∙◌, arith, Some}
-use Rattle.journal.specs.Entry.{Entry}
+use Rattle.std.proofs.Common.{◌≡◌, ◌⊎◌, inl, inr, ⊎_elim, ℕ, ◌+◌, ◌<◌, ◌≤◌, List, [], ◌∷◌, ◌++◌, sym, ◌∙◌, subst, arith, Some}
+use Rattle.recovery_1.specs.Records.{Entry}
+use Rattle.journal.specs.declared.area.Area.{Area}
+use Rattle.journal.specs.JournalView.{JournalView}
 use Rattle.disk_trait.specs.Disk.{DiskView, MayLeave}
-use Rattle.journal.specs.Records.{AllSpell, IsBeforeOrAfter, entries_of}
-use Rattle.standing.specs.Layout.{worn_limit, slot_start, other, journal_of, journal_room, journal_start}
-use Rattle.standing.specs.State.{State, after}
-use Rattle.standing.specs.Standing.{StandsBy, StandsFor}
+use Rattle.recovery_1.specs.Records.{AllSpell, IsBeforeOrAfter}
+use Rattle.journal.specs.Records.{entries_of}
+use Rattle.recovery_1.specs.Layout.{worn_limit, slot_start, journal_of, journal_room, journal_start}
+use Rattle.recovery_parts.specs.Heads.{other}
+use Rattle.recovery_1.specs.State.{State, after}
+use Rattle.recovery_1.specs.Standing.{StandsBy, StandsFor}
 use Rattle.checkpoint.specs.Kept.{IsKept}
-use Rattle.standing.proofs.Folds.{after-push}
+use Rattle.recovery_1.proofs.Folds.{after-push}
 use Rattle.checkpoint.proofs.TornSlots.{apart, byte_apart, away, moved}
 
 module _ (v0 : DiskView) (slot epoch other_gate : ℕ) (base state next : State) (groups : List (List Entry)) (group : List Entry) (is : slot < 2) (kept : IsKept v0 slot epoch other_gate base state groups) (goes : after state group ≡ Some next) where
@@ -35,3 +39,16 @@ module _ (v0 : DiskView) (slot epoch other_gate : ℕ) (base state next : State)
         };
     folds = folds_next;
   }
+
+-- so a store is kept once its journal has appended
+pub kept_appended : (v0 v1 : DiskView) (old new : JournalView Entry) (slot epoch other_gate : ℕ) (base state next : State) (group : List Entry) → slot < 2 → old.area ≡ journal_of slot
+    → IsKept v0 slot epoch other_gate base state old.groups → after state group ≡ Some next → new.area ≡ old.area → new.groups ≡ old.groups ++ group ∷ []
+    → (AllSpell v0 old.area old.groups → (image : List ℕ) → MayLeave v1 image → IsBeforeOrAfter v0 old.area old.groups group image) → (AllSpell v0 old.area old.groups → AllSpell v1 new.area new.groups)
+    → IsKept v1 slot epoch other_gate base next new.groups
+kept_appended v0 v1 old new slot epoch other_gate base state next group is area kept goes same_area grows leaves appends =
+    let known : AllSpell v0 old.area old.groups = λ image left. rw area ((kept.each image left).stands.records) in
+    let spells : AllSpell v1 (journal_of slot) (old.groups ++ group ∷ []) =
+    subst (λ (a : Area). AllSpell v1 a (old.groups ++ group ∷ [])) (same_area ∙ area)
+    (subst (λ (gs : List (List Entry)). AllSpell v1 new.area gs) grows (appends known)) in
+    let from : (image : List ℕ) → MayLeave v1 image → IsBeforeOrAfter v0 (journal_of slot) old.groups group image = λ image left. rw area at (leaves known image left) in
+    subst (λ (gs : List (List Entry)). IsKept v1 slot epoch other_gate base next gs) (sym grows) (kept_next v0 slot epoch other_gate base state next old.groups group is kept goes v1 from spells)

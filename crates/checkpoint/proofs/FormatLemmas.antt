@@ -2,16 +2,24 @@
 use Rattle.std.proofs.Common.{◌≡◌, ℕ, ◌+◌, ◌≤◌, List, [], ◌∷◌, length, get_or, Some, None, refl, sym, ◌∙◌, ap, arith, lit<, lit≤}
 use Rattle.std.specs.FinMap.{empty, get, get-empty}
 use Rattle.std.specs.List.{flat_map}
-use Rattle.disk_trait.specs.Disk.{bytes_at}
+use Rattle.disk_trait.specs.Disk.{bytes_at, overwritten}
 use Rattle.graph_edits.specs.Edges.{pair_cmp, most_nodes}
-use Rattle.standing.specs.Layout.{device_len, header, journal_start, slot_start}
-use Rattle.standing.specs.State.{first_state, edge_text, IsLawful}
-use Rattle.standing.specs.Slots.{head_text, HasCheckpoint}
-use Rattle.standing.specs.Standing.{StandsFor}
-use Rattle.standing.proofs.EdgeLemmas.{no_entries}
-use Rattle.standing.proofs.BaseLemmas.{has_text}
-use Rattle.standing.proofs.Folds.{after-nil}
-use Rattle.standing.proofs.HeadLemmas.{gate_and}
+use Rattle.recovery_1.specs.Layout.{device_len, header, journal_start, slot_start}
+use Rattle.recovery_1.specs.State.{first_state, IsLawful}
+use Rattle.recovery_parts.specs.EdgeTexts.{edge_text}
+use Rattle.recovery_parts.specs.Heads.{head_text}
+use Rattle.recovery_1.specs.Slots.{HasCheckpoint}
+use Rattle.recovery_1.specs.Standing.{StandsFor}
+use Rattle.recovery_parts.proofs.EdgeLemmas.{no_entries}
+use Rattle.recovery_1.proofs.BaseLemmas.{has_text}
+use Rattle.recovery_1.proofs.Folds.{after-nil}
+use Rattle.recovery_parts.proofs.HeadLemmas.{gate_and}
+
+-- bytes written, and then others
+pub written_twice : (v0 v1 v2 : List ℕ) (a b : ℕ) (xs ys first second : List ℕ) → v1 ≡ overwritten v0 a xs → v2 ≡ overwritten v1 b ys → xs ≡ first → ys ≡ second
+    → v2 ≡ overwritten (overwritten v0 a first) b second
+written_twice v0 v1 v2 a b xs ys first second one two is_first is_second =
+    two ∙ ap (λ (l : List ℕ). overwritten v1 b l) is_second ∙ ap (λ (l : List ℕ). overwritten l b second) (one ∙ ap (λ (l : List ℕ). overwritten v0 a l) is_first)
 
 first_lawful : (nodes : ℕ) → 1 ≤ nodes → nodes ≤ most_nodes → IsLawful (first_state nodes).graph
 first_lawful nodes some few = record {

@@ -4,7 +4,7 @@ use Rattle.std.specs.Prelude.{Result, Ok, Err, is_some}
 use Rattle.std.specs.Option.{option_map}
 use Rattle.std.specs.FinMap.{get, insert, remove, len, len-entries, get-insert, get-remove}
 use Rattle.std.proofs.lemmas.Bool.Decides.{nat_tests}
-use Rattle.journal.specs.Entry.{Entry}
+use Rattle.recovery_1.specs.Records.{Entry}
 use Rattle.graph_edits.specs.declared.edits.Op.{Op}
 use Rattle.graph_edits.specs.declared.edits.Op.TheVariants.{Add, Set, Cut}
 use Rattle.graph_edits.specs.declared.edits.Code.{Code}
@@ -13,8 +13,9 @@ use Rattle.graph_edits.specs.Changes.{fold, edges_after, edges_after_op, refusal
 use Rattle.graph_edits.proofs.EdgesOfRows.{pair_total, pair_same}
 use Rattle.graph_edits.proofs.Ops.{HasEnds, add_passed, set_passed}
 use Rattle.graph_edits.proofs.Applied.{count_fits, count_step, count_few}
-use Rattle.standing.specs.State.{State, after, IsEdge, IsLawful}
-use Rattle.standing.proofs.Folds.{some_is, ok_is}
+use Rattle.recovery_1.specs.State.{State, counted, after, IsLawful}
+use Rattle.recovery_parts.specs.EdgeTexts.{IsEdge}
+use Rattle.recovery_parts.proofs.Results.{some_is, ok_is}
 
 -- the edges of a network of so many nodes
 abbrev Edges : ℕ → EdgeMap → Type 0
@@ -100,6 +101,6 @@ lawful_fold g h (x ∷ xs) is lawful = by (λ m e l. lawful_fold m h xs e l) (gr
 pub lawful_after : (base state : State) (changes : List Entry) → after base changes ≡ Some state → IsLawful base.graph → IsLawful state.graph
 lawful_after base state changes is lawful = by (fold base.graph changes) refl is
   where
-    by : (o : Option Network) → fold base.graph changes ≡ o → option_map (λ (graph : Network). record { count = base.count + length changes; graph = graph }) o ≡ Some state → IsLawful state.graph
+    by : (o : Option Network) → fold base.graph changes ≡ o → option_map (counted (base.count + length changes)) o ≡ Some state → IsLawful state.graph
     by None e f = absurd cc
-    by (Some h) e f = subst (λ (s : State). IsLawful s.graph) (some_is (record { count = base.count + length changes; graph = h }) state f) (lawful_fold base.graph h changes e lawful)
+    by (Some h) e f = subst (λ (s : State). IsLawful s.graph) (some_is (counted (base.count + length changes) h) state f) (lawful_fold base.graph h changes e lawful)

@@ -4,3 +4,4 @@ pub mod FormatLemmas
 pub mod LawfulEdits
 pub mod EdgeRows
 pub mod Rolls
+pub mod SameStore

@@ -7,28 +7,30 @@ use Rattle.std.proofs.lemmas.Bool.{cases_eq}
 use Rattle.std.specs.Option.{option_map}
 use Rattle.graph_edits.specs.Edges.{Network}
 use Rattle.graph_edits.specs.Changes.{fold}
-use Rattle.journal.specs.Entry.{Entry}
+use Rattle.recovery_1.specs.Records.{Entry}
 use Rattle.journal.specs.Records.{entries_of}
 use Rattle.disk_trait.specs.Disk.{DiskView, MayLeave, LeavesOnly, weaker, joined, Torn, HasTextBehind, IsPublishing, IsPublished, bytes_at}
 use Rattle.disk_trait.specs.Places.{above, byte_below, byte_of, below}
 use Rattle.checkpoint.specs.Kept.{IsKept}
-use Rattle.standing.specs.InUse.{IsInUse}
-use Rattle.standing.specs.Layout.{worn_limit, checkpoint_room, slot_start, other, epoch_at, header, journal_start}
-use Rattle.standing.specs.State.{State, checkpoint_text, after, IsLawful}
-use Rattle.standing.specs.Standing.{StandsBy, StandsFor}
+use Rattle.recovery_1.specs.InUse.{IsInUse}
+use Rattle.recovery_1.specs.Layout.{worn_limit, checkpoint_room, slot_start, epoch_at, header, journal_start}
+use Rattle.recovery_parts.specs.Heads.{other}
+use Rattle.recovery_1.specs.State.{State, counted, checkpoint_text, after, IsLawful}
+use Rattle.recovery_1.specs.Standing.{StandsBy, StandsFor}
 use Rattle.checkpoint.specs.Rolling.{area_text, padding, IsClosing}
 use Rattle.checkpoint.proofs.LawfulEdits.{lawful_after}
-use Rattle.standing.proofs.Texts.{text_fits, length_text}
-use Rattle.standing.proofs.Folds.{after-nil, nodes_fold, some_is}
+use Rattle.recovery_1.proofs.Texts.{text_fits, length_text}
+use Rattle.recovery_1.proofs.Folds.{after-nil, nodes_fold}
+use Rattle.recovery_parts.proofs.Results.{some_is}
 use Rattle.checkpoint.proofs.TornSlots.{apart, slots_apart, stays}
 
 -- changes keep the number of nodes
 pub after_nodes : (s t : State) (changes : List Entry) → after s changes ≡ Some t → t.graph.nodes ≡ s.graph.nodes
 after_nodes s t changes is = by (fold s.graph changes) refl is
   where
-    by : (o : Option Network) → fold s.graph changes ≡ o → option_map (λ (graph : Network). record { count = s.count + length changes; graph = graph }) o ≡ Some t → t.graph.nodes ≡ s.graph.nodes
+    by : (o : Option Network) → fold s.graph changes ≡ o → option_map (counted (s.count + length changes)) o ≡ Some t → t.graph.nodes ≡ s.graph.nodes
     by None e f = absurd cc
-    by (Some h) e f = ap (λ (u : State). u.graph.nodes) (sym (some_is (record { count = s.count + length changes; graph = h }) t f)) ∙ nodes_fold s.graph h changes e
+    by (Some h) e f = ap (λ (u : State). u.graph.nodes) (sym (some_is (counted (s.count + length changes) h) t f)) ∙ nodes_fold s.graph h changes e
 
 -- while the other gate is closed
 pub while_closing : (disk : DiskView) (slot epoch other_gate : ℕ) (base state : State) (groups : List (List Entry)) → slot < 2 → IsKept disk slot epoch other_gate base state groups

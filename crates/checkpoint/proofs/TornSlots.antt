@@ -2,13 +2,14 @@
 use Rattle.std.proofs.Common.{◌≡◌, ◌⊎◌, inl, inr, ℕ, zero, suc, ◌+◌, ◌<◌, ◌≤◌, List, length, get_or, sym, ◌∙◌, arith}
 use Rattle.disk_trait.specs.Disk.{Torn, bytes_at}
 use Rattle.disk_trait.specs.Places.{below, above, byte_below, byte_above}
-use Rattle.journal.specs.Entry.{Entry}
-use Rattle.journal.specs.Elsewhere.{still_spells}
-use Rattle.journal.specs.Records.{Spells}
-use Rattle.standing.specs.Layout.{slot_start, other, journal_of, epoch_at, journal_room, journal_start, slot_room}
-use Rattle.standing.specs.State.{State, checkpoint_text}
-use Rattle.standing.specs.Standing.{StandsBy}
-use Rattle.standing.proofs.Texts.{text_fits}
+use Rattle.recovery_1.specs.Records.{Entry}
+use Rattle.recovery_1.specs.Records.{still_spells}
+use Rattle.recovery_1.specs.Records.{Spells}
+use Rattle.recovery_1.specs.Layout.{slot_start, journal_of, epoch_at, journal_room, journal_start, slot_room}
+use Rattle.recovery_parts.specs.Heads.{other}
+use Rattle.recovery_1.specs.State.{State, checkpoint_text}
+use Rattle.recovery_1.specs.Standing.{StandsBy}
+use Rattle.recovery_1.proofs.Texts.{text_fits}
 
 -- a range that another leaves alone
 abbrev pub Apart : ℕ → ℕ → ℕ → ℕ → Type 0

@@ -1,3 +1,4 @@
 pub mod Kept
 pub mod StoreWords
 pub mod Rolling
+pub mod Formatting

@@ -1,16 +1,19 @@
 -- A store, as the crates above see it.
-use Rattle.std.specs.Prelude.{◌≡◌, ◌≤◌, ℕ, List, [], Bool, false, IsTrue}
+use Rattle.std.specs.Prelude.{◌≡◌, ◌≤◌, ◌+◌, ℕ, List, [], ◌∷◌, ◌++◌, Bool, false, IsTrue}
 use Rattle.disk_trait.specs.Disk.{DiskView, MayLeave}
-use Rattle.journal.specs.Entry.{Entry}
-use Rattle.journal.specs.JournalView.{LacksRoom}
+use Rattle.recovery_1.specs.Records.{Entry}
+use Rattle.recovery_1.specs.Records.{HasRoom}
+use Rattle.recovery_1.specs.Records.{LacksRoom}
 use Rattle.checkpoint.specs.declared.store.Store.{Store}
-use Rattle.standing.specs.Layout.{worn_limit}
-use Rattle.standing.specs.State.{State}
-use Rattle.standing.specs.Standing.{StandsFor}
+use Rattle.checkpoint.specs.Kept.{kept_stands}
+use Rattle.recovery_1.specs.Layout.{worn_limit}
+use Rattle.recovery_parts.specs.Heads.{other}
+use Rattle.recovery_1.specs.State.{State, counted}
+use Rattle.recovery_1.specs.Standing.{StandsFor}
 
 -- the state that a store has
 abbrev pub state_of : {D : Type 0} {V : _} → Store D V → State
-state_of store = record { count = store.count; graph = store.graph }
+state_of store = counted store.count store.graph
 
 -- how many nodes its network has
 abbrev pub nodes_of : {D : Type 0} {V : _} → Store D V → ℕ
@@ -32,6 +35,32 @@ is_down store = store.down
 abbrev pub IsRolled : {D : Type 0} {V : _} → Store D V → Type 0
 IsRolled store = store.journal.groups ≡ []
 
+-- its slot, its epoch and the groups of its journal are these
+pub record IsAt {D : Type 0} {V : _} (store : Store D V) (slot epoch : ℕ) (groups : List (List Entry)) : Type 0 where
+  pub slot_is : store.slot ≡ slot
+  pub epoch_is : store.epoch ≡ epoch
+  pub groups_are : store.journal.groups ≡ groups
+
+-- its slot, its epoch and the groups of its journal are those of before
+abbrev pub IsWhereItWas : {D : Type 0} {V : _} → Store D V → Store D V → Type 0
+IsWhereItWas old new = IsAt new old.slot old.epoch old.journal.groups
+
+-- the changes stand behind the groups of before as one more, in the same slot
+abbrev pub HasAppended : {D : Type 0} {V : _} → Store D V → Store D V → List Entry → Type 0
+HasAppended old new changes = IsAt new old.slot old.epoch (old.journal.groups ++ changes ∷ [])
+
+-- the other slot is in use by the next epoch, and nothing is in its journal yet
+abbrev pub HasRolled : {D : Type 0} {V : _} → Store D V → Store D V → Type 0
+HasRolled old new = IsAt new (other old.slot) (old.epoch + 1) []
+
+-- it has rolled, and then the changes were put down as the first group
+abbrev pub HasRolledAndAppended : {D : Type 0} {V : _} → Store D V → Store D V → List Entry → Type 0
+HasRolledAndAppended old new changes = IsAt new (other old.slot) (old.epoch + 1) (changes ∷ [])
+
+-- its journal has room for the record of these changes
+abbrev pub HasRoomFor : {D : Type 0} {V : _} → Store D V → List Entry → Type 0
+HasRoomFor store changes = HasRoom store.journal changes
+
 -- its journal has no room for the record of these changes
 abbrev pub LacksRoomFor : {D : Type 0} {V : _} → Store D V → List Entry → Type 0
 LacksRoomFor store changes = LacksRoom store.journal changes
@@ -40,17 +69,11 @@ LacksRoomFor store changes = LacksRoom store.journal changes
 abbrev pub IsWornOut : {D : Type 0} {V : _} → Store D V → Type 0
 IsWornOut store = worn_limit ≤ store.epoch
 
--- each image that a crash of a store that is up may leave stands for its state
-pub stands_now : {D : Type 0} {V : _} → (store : Store D V) → IsTrue (view_of store).keeps_model → is_down store ≡ false → (image : List ℕ) → MayLeave (view_of store) image → StandsFor (state_of store) image
-stands_now store model up image left =
-    let kept = store.kept model up in
-    record {
-      slot = store.slot;
-      epoch = store.epoch;
-      base = record { count = store.base_count.value; graph = store.base.value };
-      groups = store.journal.groups;
-      is_slot = store.two_slots;
-      by = (kept.each image left).stands;
-      folds = kept.folds;
-      count_fits = store.fits;
-    }
+-- each image that a crash now may leave stands for its state
+abbrev pub IsDurable : {D : Type 0} {V : _} → Store D V → Type 0
+IsDurable store = (image : List ℕ) → MayLeave (view_of store) image → StandsFor (state_of store) image
+
+-- so it is while the store is up
+pub stands_now : {D : Type 0} {V : _} → (store : Store D V) → IsTrue (view_of store).keeps_model → is_down store ≡ false → IsDurable store
+stands_now store model up =
+    kept_stands (view_of store) store.slot store.epoch store.other_gate (counted store.base_count.value store.base.value) (state_of store) store.journal.groups store.two_slots store.fits (store.kept model up)

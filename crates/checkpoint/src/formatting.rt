@@ -1,17 +1,18 @@
 //! Making a device ready.
 ghost use Rattle.std.specs.Prelude.{◌≡◌, ◌≢◌, ◌≤◌, ◌<◌, ◌+◌, ◌↔◌, ◌∷◌, ℕ, List, length, get_or, IsTrue, OnOk, OnErr, IsErr, IsErrOf};
-ghost use Rattle.disk_trait.specs.Disk.{MayLeave, IsSameDevice, IsSettled, Torn, bytes_at};
+ghost use Rattle.disk_trait.specs.Disk.{MayLeave, IsSameDevice, IsSettled, Torn, overwritten, bytes_at};
 ghost use Rattle.graph_edits.specs.Edges.{most_nodes};
-ghost use Rattle.standing.specs.Layout.{device_len, head_len, header, header_len, journal_start, slot_start};
-ghost use Rattle.standing.specs.State.{first_state};
-ghost use Rattle.standing.specs.Standing.{StandsFor};
-ghost use Rattle.standing.specs.Slots.{head_text};
+ghost use Rattle.recovery_1.specs.Layout.{device_len, head_len, header, journal_start, slot_start};
+ghost use Rattle.recovery_parts.specs.Refusals.{header_len};
+ghost use Rattle.recovery_1.specs.State.{first_state};
+ghost use Rattle.recovery_1.specs.Standing.{StandsFor};
+ghost use Rattle.checkpoint.specs.Formatting.{first_head, with_front, with_gates, formatted};
 
 use crate::refusals::FormatRefused;
 use byteorder::{BigEndian, ByteOrder};
 use disk_trait::{DeviceFault, Disk};
 use graph_edits::MOST_NODES;
-use standing::layout::{
+use recovery_1::layout::{
     CHECKPOINT_ROOM, CLOSED_GATE, DEVICE_LEN, FIRST_EPOCH, HEAD_LEN, HEADER_LEN, MAGIC, OPEN_GATE,
     SLOT_ROOM, SLOTS_START, VERSION,
 };
@@ -29,7 +30,7 @@ fn header_of(nodes: u16) -> [u8; HEADER_LEN]
 
 // An open gate and a checkpoint of no changes and no edges.
 fn first_checkpoint(nodes: u16) -> [u8; HEAD_LEN]
-    ensures { result ≡ 1 ∷ head_text 1 0 nodes 0 }
+    ensures { result ≡ first_head nodes }
 {
     let mut text = [0; HEAD_LEN];
     text[0] = OPEN_GATE;
@@ -41,8 +42,10 @@ fn first_checkpoint(nodes: u16) -> [u8; HEAD_LEN]
 // Puts bytes from `at` on.
 fn put<D: Disk>(disk: &mut D, at: usize, bytes: &[u8]) -> Result<(), DeviceFault>
     requires { at + length bytes.now ≤ length (D.view disk.old).content }
+    ensures written { IsTrue (D.view disk.old).keeps_model → OnOk result ((D.view disk.new).content ≡ overwritten (D.view disk.old).content at bytes.now) }
     ensures ran { IsSameDevice (D.view disk.old) (D.view disk.new) }
     ensures fault { OnErr result ((D.view disk.old).failures < (D.view disk.new).failures) }
+    ensures no_failure { OnOk result ((D.view disk.new).failures ≡ (D.view disk.old).failures) }
     ensures there { IsTrue (D.view disk.old).keeps_model → OnOk result (bytes_at (D.view disk.new).content at (length bytes.now) ≡ bytes.now) }
     ensures elsewhere { IsTrue (D.view disk.old).keeps_model → OnOk result (Torn at (length bytes.now) (D.view disk.old).content (D.view disk.new).content) }
 {
@@ -52,9 +55,11 @@ fn put<D: Disk>(disk: &mut D, at: usize, bytes: &[u8]) -> Result<(), DeviceFault
 // Puts the header, and an open slot.
 fn put_front<D: Disk>(disk: &mut D, nodes: u16) -> Result<(), DeviceFault>
     requires { length (D.view disk.old).content ≡ device_len }
+    ensures written { IsTrue (D.view disk.old).keeps_model → OnOk result ((D.view disk.new).content ≡ with_front nodes (D.view disk.old).content) }
     ensures header { IsTrue (D.view disk.old).keeps_model → OnOk result (bytes_at (D.view disk.new).content 0 header_len ≡ header nodes) }
-    ensures slot { IsTrue (D.view disk.old).keeps_model → OnOk result (bytes_at (D.view disk.new).content (slot_start 0) head_len ≡ 1 ∷ head_text 1 0 nodes 0) }
+    ensures slot { IsTrue (D.view disk.old).keeps_model → OnOk result (bytes_at (D.view disk.new).content (slot_start 0) head_len ≡ first_head nodes) }
     ensures fault { OnErr result ((D.view disk.old).failures < (D.view disk.new).failures) }
+    ensures no_failure { OnOk result ((D.view disk.new).failures ≡ (D.view disk.old).failures) }
     ensures ran { IsSameDevice (D.view disk.old) (D.view disk.new) }
 {
     match put(disk, 0, &header_of(nodes)) {
@@ -70,10 +75,12 @@ fn put_front<D: Disk>(disk: &mut D, nodes: u16) -> Result<(), DeviceFault>
 // Closes the first gate of the open slot's journal, and the other slot.
 fn put_gates<D: Disk>(disk: &mut D) -> Result<(), DeviceFault>
     requires { length (D.view disk.old).content ≡ device_len }
+    ensures written { IsTrue (D.view disk.old).keeps_model → OnOk result ((D.view disk.new).content ≡ with_gates (D.view disk.old).content) }
     ensures journal { IsTrue (D.view disk.old).keeps_model → OnOk result (get_or (D.view disk.new).content (journal_start 0) 1 ≡ 0) }
     ensures other { IsTrue (D.view disk.old).keeps_model → OnOk result (get_or (D.view disk.new).content (slot_start 1) 0 ≡ 0) }
     ensures below { IsTrue (D.view disk.old).keeps_model → OnOk result ((from n : ℕ) → from + n ≤ journal_start 0 → bytes_at (D.view disk.new).content from n ≡ bytes_at (D.view disk.old).content from n) }
     ensures fault { OnErr result ((D.view disk.old).failures < (D.view disk.new).failures) }
+    ensures no_failure { OnOk result ((D.view disk.new).failures ≡ (D.view disk.old).failures) }
     ensures ran { IsSameDevice (D.view disk.old) (D.view disk.new) }
 {
     match put(disk, SLOTS_START + CHECKPOINT_ROOM, &[CLOSED_GATE]) {
@@ -91,9 +98,11 @@ fn put_all<D: Disk>(disk: &mut D, nodes: u16) -> Result<(), DeviceFault>
     requires long { length (D.view disk.old).content ≡ device_len }
     requires some { 1 ≤ nodes }
     requires few { nodes ≤ most_nodes }
+    ensures written { IsTrue (D.view disk.old).keeps_model → OnOk result ((D.view disk.new).content ≡ formatted nodes (D.view disk.old).content) }
     ensures ok { IsTrue (D.view disk.old).keeps_model → OnOk result (StandsFor (first_state nodes) (D.view disk.new).content) }
     ensures settled { IsTrue (D.view disk.old).keeps_model → OnOk result (IsSettled (D.view disk.new)) }
     ensures fault { OnErr result ((D.view disk.old).failures < (D.view disk.new).failures) }
+    ensures no_failure { OnOk result ((D.view disk.new).failures ≡ (D.view disk.old).failures) }
     ensures ran { IsSameDevice (D.view disk.old) (D.view disk.new) }
 {
     match put_front(disk, nodes) {
@@ -110,15 +119,18 @@ fn put_all<D: Disk>(disk: &mut D, nodes: u16) -> Result<(), DeviceFault>
     }
 }
 
-/// Makes a device hold a network of so many nodes and no edges. It takes no memory. Where the device
-/// fails, it holds no store.
+/// Makes a device hold a network of so many nodes and no edges. It takes no memory. It writes the
+/// header, the head of slot 0, the gate of that slot's first record and the gate of slot 1; each other
+/// byte stays (`written`). Where the device fails, it holds no store.
 pub fn format<D: Disk>(disk: &mut D, n: u16) -> Result<(), FormatRefused>
+    ensures written { IsTrue (D.view disk.old).keeps_model → OnOk result ((D.view disk.new).content ≡ formatted n (D.view disk.old).content) }
     ensures ok { IsTrue (D.view disk.old).keeps_model → OnOk result (StandsFor (first_state n) (D.view disk.new).content) }
     ensures left { IsTrue (D.view disk.old).keeps_model → OnOk result ((image : List ℕ) → MayLeave (D.view disk.new) image → StandsFor (first_state n) image) }
     ensures bad_size { IsErrOf result FormatRefused.BadSize ↔ (¬ ((1 ≤ n) × (n ≤ most_nodes))) }
     ensures bad_length { IsErrOf result FormatRefused.BadLength ↔ ((1 ≤ n) × (n ≤ most_nodes) × (length (D.view disk.old).content ≢ device_len)) }
     ensures untouched { IsErr result → ¬ (IsErrOf result FormatRefused.Device) → disk.new ≡ disk.old }
     ensures device { IsErrOf result FormatRefused.Device → (D.view disk.old).failures < (D.view disk.new).failures }
+    ensures no_failure { OnOk result ((D.view disk.new).failures ≡ (D.view disk.old).failures) }
     ensures ran { IsSameDevice (D.view disk.old) (D.view disk.new) }
 {
     if n < 1 || n > MOST_NODES {

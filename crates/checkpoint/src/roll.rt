@@ -4,10 +4,11 @@ ghost use Rattle.std.specs.List.{flat_map};
 ghost use Rattle.std.specs.FinMap.{len};
 ghost use Rattle.graph_edits.specs.Edges.{most_edges};
 ghost use Rattle.disk_trait.specs.Disk.{IsSameDevice, MayLeave, LeavesOnly};
-ghost use Rattle.standing.specs.Layout.{checkpoint_room};
-ghost use Rattle.standing.specs.State.{IsLawful, edge_text, edges_text};
-ghost use Rattle.standing.specs.Slots.{head_text};
-ghost use Rattle.standing.specs.Standing.{StandsFor};
+ghost use Rattle.recovery_1.specs.Layout.{checkpoint_room};
+ghost use Rattle.recovery_1.specs.State.{counted, IsLawful};
+ghost use Rattle.recovery_parts.specs.EdgeTexts.{edge_text, edges_text};
+ghost use Rattle.recovery_parts.specs.Heads.{head_text};
+ghost use Rattle.recovery_1.specs.Standing.{StandsFor};
 ghost use Rattle.checkpoint.specs.Rolling.{up_text, padding, area_text, IsClosing};
 
 use crate::refusals::RollRefused;
@@ -16,8 +17,10 @@ use byteorder::{BigEndian, ByteOrder};
 use disk_trait::{DeviceFault, Disk, close, publish};
 use graph_edits::Graph;
 use journal::Journal;
-use standing::journal_area;
-use standing::layout::{CHECKPOINT_ROOM, HEAD_LEN, OPEN_GATE, SLOT_ROOM, SLOTS_START, WORN_LIMIT};
+use recovery_1::journal_area;
+use recovery_1::layout::{
+    CHECKPOINT_ROOM, HEAD_LEN, OPEN_GATE, SLOT_ROOM, SLOTS_START, WORN_LIMIT,
+};
 use std::alloc::{AllocError, Global};
 use std::snapshot::Snapshot;
 
@@ -85,7 +88,7 @@ fn pad(text: &mut Vec<u8>) -> Result<(), AllocError>
 // closed. One buffer, made once.
 fn text_of(alloc: Global, epoch: u64, count: u64, graph: &Graph) -> Result<Vec<u8>, AllocError>
     ensures long { IfOk result (λ text. length text.items ≡ checkpoint_room) }
-    ensures text { IsLawful graph.now → IfOk result (λ text. text.items ≡ area_text epoch (record { count = count; graph = graph.now })) }
+    ensures text { IsLawful graph.now → IfOk result (λ text. text.items ≡ area_text epoch (counted count graph.now)) }
 {
     let mut text = Vec::with_capacity(alloc, CHECKPOINT_ROOM)?;
     put_head(&mut text, epoch, count, graph)?;
@@ -100,6 +103,7 @@ fn close_open<D: Disk>(disk: &mut D, gate: usize, byte: u8) -> Result<(), Device
     requires { gate + 1 ≤ length (D.view disk.old).content }
     ensures ran { IsSameDevice (D.view disk.old) (D.view disk.new) }
     ensures fault { OnErr result ((D.view disk.old).failures < (D.view disk.new).failures) }
+    ensures no_failure { OnOk result ((D.view disk.new).failures ≡ (D.view disk.old).failures) }
     ensures any_moment { IsTrue (D.view disk.old).keeps_model → LeavesOnly (D.view disk.old) (D.view disk.new) (IsClosing (D.view disk.old) gate byte) }
     ensures ok { IsTrue (D.view disk.old).keeps_model → byte ≡ 1 → OnOk result ((image : List ℕ) → MayLeave (D.view disk.new) image → get_or image gate 0 ≡ 0) }
 {
@@ -110,24 +114,26 @@ fn close_open<D: Disk>(disk: &mut D, gate: usize, byte: u8) -> Result<(), Device
 }
 
 impl<D: Disk> Store<D> {
-    ghost use Rattle.checkpoint.specs.StoreWords.{state_of, disk_of, view_of, is_down, IsRolled, IsWornOut};
+    ghost use Rattle.checkpoint.specs.StoreWords.{state_of, view_of, is_down, IsDurable, HasRolled, IsWornOut};
 
     /// Writes the network as a new checkpoint, so that the journal is empty again: after it a commit
     /// isn't refused as `NeedsRoll`. It reads nothing. Count and network stay, whatever it answers.
     ///
     /// Errors, in the order in which they are tested: `Down`, `Worn`, exactly where the epoch stands at
-    /// `WORN_LIMIT`, and `Memory`, before any write; these leave the disk as it was. `Device`, where a
+    /// `WORN_LIMIT`, and `Memory`, before any write; these leave the store as it was. `Device`, where a
     /// call of the device failed: the store is down from then on.
     pub fn roll(&mut self, alloc: Global) -> Result<(), RollRefused>
         ensures same { state_of self.new ≡ state_of self.old }
-        ensures rolled { OnOk result (IsRolled self.new) }
+        ensures rolled { OnOk result (HasRolled self.old self.new) }
+        ensures durable { IsTrue (view_of self.old).keeps_model → OnOk result (IsDurable self.new) }
+        ensures no_failure { OnOk result ((view_of self.new).failures ≡ (view_of self.old).failures) }
         ensures down { IsErrOf result RollRefused.Down ↔ (is_down self.old ≡ true) }
         ensures worn { IsErrOf result RollRefused.Worn ↔ ((is_down self.old ≡ false) × IsWornOut self.old) }
         ensures device { IsErrOf result RollRefused.Device → (view_of self.old).failures < (view_of self.new).failures }
         ensures lost { IsErrOf result RollRefused.Device → is_down self.new ≡ true }
         ensures stays_up { is_down self.old ≡ false → ¬ (IsErrOf result RollRefused.Device) → is_down self.new ≡ false }
         ensures ran { IsSameDevice (view_of self.old) (view_of self.new) }
-        ensures untouched { IsErr result → ¬ (IsErrOf result RollRefused.Device) → disk_of self.new ≡ disk_of self.old }
+        ensures untouched { IsErr result → ¬ (IsErrOf result RollRefused.Device) → self.new ≡ self.old }
         ensures any_moment { IsTrue (view_of self.old).keeps_model → is_down self.old ≡ false → LeavesOnly (view_of self.old) (view_of self.new) (StandsFor (state_of self.old)) }
     {
         if self.down {

@@ -1,21 +1,22 @@
 //! The store.
 ghost use Rattle.std.specs.Prelude.{◌≡◌, ◌≢◌, ◌⊎◌, ◌≤◌, ◌<◌, ◌+◌, ◌*◌, ◌^◌, ◌↔◌, ◌++◌, [], ◌∷◌, ℕ, List, length, IsTrue, IfOk, IfErr, OnOk, OnErr, IsErrOf, IsErr, IsSome, Some, false, true, map};
 ghost use Rattle.std.proofs.Props.{props};
-ghost use Rattle.disk_trait.specs.Disk.{IsSameDevice, MayLeave, LeavesOnly, OnlyRead};
+ghost use Rattle.disk_trait.specs.Disk.{IsSameDevice, LeavesOnly, OnlyRead, Unchanged};
 ghost use Rattle.graph_edits.specs.Changes.{fold};
 ghost use Rattle.journal.specs.Layout.{most_entries};
-ghost use Rattle.standing.specs.Layout.{worn_limit, device_len, journal_room, journal_start, slot_start};
-ghost use Rattle.standing.specs.State.{State, after};
-ghost use Rattle.standing.specs.Standing.{StandsFor, StandsForNone};
-ghost use Rattle.standing.specs.Fronts.{LacksMagic, HasOtherVersion, HasThisVersion};
-ghost use Rattle.standing.specs.Refusals.{IsFormatFault};
+ghost use Rattle.recovery_1.specs.Layout.{worn_limit, device_len, journal_room, journal_start, slot_start};
+ghost use Rattle.recovery_1.specs.State.{State, counted, after};
+ghost use Rattle.recovery_1.specs.Standing.{StandsFor, StandsForNone};
+ghost use Rattle.recovery_parts.specs.Refusals.{LacksMagic};
+ghost use Rattle.recovery_1.specs.Fronts.{HasOtherVersion, HasThisVersion};
+ghost use Rattle.recovery_parts.specs.Refusals.{IsFormatFault};
 ghost use Rattle.checkpoint.specs.Kept.{IsKept};
 
 use crate::refusals::CommitRefused;
-use disk_trait::Disk;
-use graph_edits::Graph;
-use journal::{AppendRefused, Entry, Journal};
-use standing::{OpenRefused, WORN_LIMIT, load};
+use disk_trait::{CrashDisk, Disk, Plan};
+use graph_edits::{Change, Graph};
+use journal::{AppendRefused, Journal};
+use recovery_1::{OpenRefused, WORN_LIMIT, load};
 use std::alloc::Global;
 use std::snapshot::Snapshot;
 
@@ -23,7 +24,7 @@ use std::snapshot::Snapshot;
 #[derive(Drop)]
 pub struct Store<D: Disk> {
     pub(crate) disk: D,
-    pub(crate) journal: Journal,
+    pub(crate) journal: Journal<Change>,
     pub(crate) slot: usize,
     pub(crate) epoch: u64,
     // The other slot's gate byte, as it stands on the device.
@@ -39,16 +40,18 @@ pub struct Store<D: Disk> {
     ghost at: { journal.area.start ≡ journal_start slot },
     ghost room: { journal.area.room ≡ journal_room },
     ghost long: { length (D.view disk).content ≡ device_len },
-    ghost kept: { IsTrue (D.view disk).keeps_model → down ≡ false → IsKept (D.view disk) slot epoch other_gate (record { count = base_count.value; graph = base.value }) (record { count = count; graph = graph }) journal.groups } by { Prim.hlevel props },
+    ghost kept: { IsTrue (D.view disk).keeps_model → down ≡ false → IsKept (D.view disk) slot epoch other_gate (counted base_count.value base.value) (counted count graph) journal.groups } by { Prim.hlevel props },
 }
 
 impl<D: Disk> Store<D> {
-    ghost use Rattle.checkpoint.specs.StoreWords.{state_of, nodes_of, disk_of, view_of, is_down, IsRolled, LacksRoomFor, IsWornOut};
+    ghost use Rattle.checkpoint.specs.StoreWords.{state_of, nodes_of, disk_of, view_of, is_down, IsDurable, IsRolled, HasAppended, LacksRoomFor, IsWornOut};
 
     /// The store that a device holds. It syncs, and writes nothing; with a refusal the device comes back.
     pub fn open(alloc: Global, disk: D) -> Result<Store<D>, (OpenRefused, D)>
         ensures ok { IsTrue (D.view disk).keeps_model → IfOk result (λ store. StandsFor (state_of store) (D.view disk).content) }
+        ensures durable { IsTrue (D.view disk).keeps_model → IfOk result (λ store. IsDurable store) }
         ensures up { IfOk result (λ store. is_down store ≡ false) }
+        ensures no_failure { IfOk result (λ store. (view_of store).failures ≡ (D.view disk).failures) }
         ensures reads { IsTrue (D.view disk).keeps_model → IfOk result (λ store. OnlyRead (D.view disk) (view_of store)) }
         ensures ran { IfOk result (λ store. IsSameDevice (D.view disk) (view_of store)) }
         ensures opened { IsTrue (D.view disk).keeps_model → OnOk result (HasThisVersion (D.view disk).content) }
@@ -115,11 +118,14 @@ impl<D: Disk> Store<D> {
     }
 
     /// Adds changes: all of them, or none. They count from `Ok` on.
-    pub fn commit(&mut self, alloc: Global, changes: &[Entry]) -> Result<(), CommitRefused>
+    pub fn commit(&mut self, alloc: Global, changes: &[Change]) -> Result<(), CommitRefused>
         requires some { 1 ≤ length changes.now }
         requires few { length changes.now ≤ most_entries }
         requires accepted { IsSome (fold (state_of self.old).graph changes.now) }
         ensures ok { OnOk result (after (state_of self.old) changes.now ≡ Some (state_of self.new)) }
+        ensures appended { OnOk result (HasAppended self.old self.new changes.now) }
+        ensures durable { IsTrue (view_of self.old).keeps_model → OnOk result (IsDurable self.new) }
+        ensures no_failure { OnOk result ((view_of self.new).failures ≡ (view_of self.old).failures) }
         ensures err { OnErr result (state_of self.new ≡ state_of self.old) }
         ensures nodes { nodes_of self.new ≡ nodes_of self.old }
         ensures down { IsErrOf result CommitRefused.Down ↔ (is_down self.old ≡ true) }
@@ -132,7 +138,7 @@ impl<D: Disk> Store<D> {
         ensures stays_up { is_down self.old ≡ false → ¬ (IsErrOf result CommitRefused.Device) → is_down self.new ≡ false }
         ensures worn_out { IsWornOut self.new ↔ IsWornOut self.old }
         ensures ran { IsSameDevice (view_of self.old) (view_of self.new) }
-        ensures untouched { IsErr result → ¬ (IsErrOf result CommitRefused.Device) → disk_of self.new ≡ disk_of self.old }
+        ensures untouched { IsErr result → ¬ (IsErrOf result CommitRefused.Device) → self.new ≡ self.old }
         ensures any_moment { IsTrue (view_of self.old).keeps_model → is_down self.old ≡ false → (next : State) → after (state_of self.old) changes.now ≡ Some next
             → LeavesOnly (view_of self.old) (view_of self.new) (λ image. StandsFor (state_of self.old) image ⊎ StandsFor next image) }
     {
@@ -159,5 +165,20 @@ impl<D: Disk> Store<D> {
                 Ok(())
             }
         }
+    }
+}
+
+impl<D: CrashDisk> Store<D> {
+    ghost use Rattle.checkpoint.specs.StoreWords.{state_of, view_of, is_down, IsWhereItWas};
+
+    /// From now on calls of the device fail by this plan, in place of the one before: they are counted
+    /// from 1, from here on. All else stays, on the disk too. It takes no memory.
+    pub fn arm(&mut self, plan: Plan)
+        ensures state { state_of self.new ≡ state_of self.old }
+        ensures down { is_down self.new ≡ is_down self.old }
+        ensures at { IsWhereItWas self.old self.new }
+        ensures same { Unchanged (view_of self.old) (view_of self.new) }
+    {
+        self.disk.arm(plan);
     }
 }

@@ -8,6 +8,7 @@
 //! The contract that the layers above use is that of [`cluster`]: the answer has exactly these
 //! nodes, each with its distance from w and its parent, and the parent of a member is a member. The
 //! search goes no further than the cluster, and the contract bounds its pops by the members' degrees.
+//! [`cluster_in`] finds the same in a workspace that serves one search after another, with the ports of the tree.
 //!
 //! ```text
 //! // 0 -1- 1 -1- 2 -1- 3 -1- 4, where 2 is the landmark
@@ -20,4 +21,4 @@ mod members;
 mod search;
 
 pub use members::Cluster;
-pub use search::cluster;
+pub use search::{cluster, cluster_in};

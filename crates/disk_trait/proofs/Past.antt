@@ -1,5 +1,5 @@
 -- One call more of a disk in memory.
-use Rattle.std.proofs.Common.{Result, IsErr, ◌<◌, replicate, false, ◌≡◌, ◌⊎◌, inl, inr, ⊎_elim, ℕ, zero, suc, ◌+◌, ◌≤◌, List, [], ◌∷◌, ◌++◌, length, drop, refl, sym, subst, arith, length-append}
+use Rattle.std.proofs.Common.{Result, IsErr, OnOk, ◌<◌, replicate, false, ◌≡◌, ◌⊎◌, inl, inr, ⊎_elim, ℕ, zero, suc, ◌+◌, ◌≤◌, List, [], ◌∷◌, ◌++◌, length, drop, refl, sym, subst, arith, length-append}
 use Rattle.disk_trait.specs.declared.cells.Cells.{Cells}
 use Rattle.disk_trait.specs.Disk.{DiskView, MayLeave, Torn, WritesWithin, IsDeviceCall, overwritten}
 use Rattle.disk_trait.specs.Image.{marked}
@@ -54,26 +54,27 @@ module _ (past : List Cells) (before after : Cells) (f g at n : ℕ) where
       was t image (inl had) = inr had
       was t image (inr new) = inl new
 
-  pub called : (result : Result (Unit {0}) DeviceFault) → Torn at n before.bytes.items after.bytes.items → ((image : List ℕ) → IsImageOf after image → (was : List ℕ) × IsImageOf before was × Torn at n was image) → f ≤ g → (IsErr result → f < g) → IsDeviceCall at n old new result
-  called result content torn no_fewer fault = record {
+  pub called : (result : Result (Unit {0}) DeviceFault) → Torn at n before.bytes.items after.bytes.items → ((image : List ℕ) → IsImageOf after image → (was : List ℕ) × IsImageOf before was × Torn at n was image) → f ≤ g → (IsErr result → f < g) → OnOk result (g ≡ f) → IsDeviceCall at n old new result
+  called result content torn no_fewer fault served = record {
     ran = record { as_long = content.as_long; model = refl; no_fewer = no_fewer };
     fault = fault;
+    served = served;
     moves = λ _. moves content torn;
   }
 
 -- a call that leaves the bytes and the flags
-pub called_same : (past : List Cells) (before after : Cells) (f g : ℕ) (result : Result (Unit {0}) DeviceFault) → after ≡ before → f ≤ g → (IsErr result → f < g) → IsDeviceCall 0 0 (view_of past before f) (view_of (past ++ before ∷ []) after g) result
-called_same past before after f g result same no_fewer fault =
-    called past before after f g 0 0 result (rw same (torn_none before.bytes.items 0)) (λ image is. (image, rw same at is, torn_none image 0)) no_fewer fault
+pub called_same : (past : List Cells) (before after : Cells) (f g : ℕ) (result : Result (Unit {0}) DeviceFault) → after ≡ before → f ≤ g → (IsErr result → f < g) → OnOk result (g ≡ f) → IsDeviceCall 0 0 (view_of past before f) (view_of (past ++ before ∷ []) after g) result
+called_same past before after f g result same no_fewer fault served =
+    called past before after f g 0 0 result (rw same (torn_none before.bytes.items 0)) (λ image is. (image, rw same at is, torn_none image 0)) no_fewer fault served
 
 -- a write of some of the n bytes
 pub called_write : (past : List Cells) (before after : Cells) (f g at n : ℕ) (bytes : List ℕ) (result : Result (Unit {0}) DeviceFault) → length bytes ≤ n → at + n ≤ length before.bytes.items
-    → after.bytes.items ≡ overwritten before.bytes.items at bytes → after.unsettled.items ≡ marked before.unsettled.items at n → f ≤ g → (IsErr result → f < g) → IsDeviceCall at n (view_of past before f) (view_of (past ++ before ∷ []) after g) result
-called_write past before after f g at n bytes result some fits written flags no_fewer fault =
+    → after.bytes.items ≡ overwritten before.bytes.items at bytes → after.unsettled.items ≡ marked before.unsettled.items at n → f ≤ g → (IsErr result → f < g) → OnOk result (g ≡ f) → IsDeviceCall at n (view_of past before f) (view_of (past ++ before ∷ []) after g) result
+called_write past before after f g at n bytes result some fits written flags no_fewer fault served =
     let content : Torn at n before.bytes.items after.bytes.items = rw written (torn_written before.bytes.items bytes at n some fits) in
-    called past before after f g at n result content (λ image is. image_before before.bytes.items after.bytes.items before.unsettled.items at n fits before.flags content image (rw flags at is)) no_fewer fault
+    called past before after f g at n result content (λ image is. image_before before.bytes.items after.bytes.items before.unsettled.items at n fits before.flags content image (rw flags at is)) no_fewer fault served
 
 -- a sync
-pub called_sync : (past : List Cells) (before after : Cells) (f g : ℕ) (result : Result (Unit {0}) DeviceFault) → after.bytes.items ≡ before.bytes.items → after.unsettled.items ≡ replicate (length before.bytes.items) false → f ≤ g → (IsErr result → f < g) → IsDeviceCall 0 0 (view_of past before f) (view_of (past ++ before ∷ []) after g) result
-called_sync past before after f g result same settled no_fewer fault =
-    called past before after f g 0 0 result (rw same (torn_none before.bytes.items 0)) (λ image is. (image, settled_before before.bytes.items image before.unsettled.items (rw (same, settled) at is), torn_none image 0)) no_fewer fault
+pub called_sync : (past : List Cells) (before after : Cells) (f g : ℕ) (result : Result (Unit {0}) DeviceFault) → after.bytes.items ≡ before.bytes.items → after.unsettled.items ≡ replicate (length before.bytes.items) false → f ≤ g → (IsErr result → f < g) → OnOk result (g ≡ f) → IsDeviceCall 0 0 (view_of past before f) (view_of (past ++ before ∷ []) after g) result
+called_sync past before after f g result same settled no_fewer fault served =
+    called past before after f g 0 0 result (rw same (torn_none before.bytes.items 0)) (λ image is. (image, settled_before before.bytes.items image before.unsettled.items (rw (same, settled) at is), torn_none image 0)) no_fewer fault served

@@ -5,7 +5,7 @@
 -- progress, done, failed or cut. A sync that succeeds empties the ranges; one that fails promises nothing.
 --
 -- Contracts don't see the ranges. They see which images a crash may leave, and each call says how these come from those of before.
-use Rattle.std.specs.Prelude.{◌≡◌, ◌⊎◌, ◌<◌, ◌≤◌, ◌+◌, ℕ, List, ◌++◌, length, get_or, take, drop, Bool, IsTrue, Result, IsErr, refl}
+use Rattle.std.specs.Prelude.{◌≡◌, ◌⊎◌, ◌<◌, ◌≤◌, ◌+◌, ℕ, List, ◌++◌, length, get_or, take, drop, Bool, IsTrue, Result, IsErr, OnOk, refl}
 use Rattle.std.proofs.Common.{inl, inr, ⊎_elim, sym, ◌∙◌, subst}
 use Rattle.std.proofs.Math.Nat.{le_refl, le_trans}
 use Rattle.disk_trait.specs.declared.disk.DeviceFault.{DeviceFault}
@@ -67,10 +67,12 @@ pub record IsSameDevice (old new : DiskView) : Type 0 where
   pub model : new.keeps_model ≡ old.keeps_model
   pub no_fewer : old.failures ≤ new.failures
 
--- what every call does, where it writes the n places from at on; a fault is answered only where the disk has failed
+-- what every call does, where it writes the n places from at on; a fault is answered only where the disk has failed in the call, and
+-- Ok only where it hasn't
 pub record IsDeviceCall (at n : ℕ) (old new : DiskView) (result : Result (Unit {0}) DeviceFault) : Type 0 where
   pub ran : IsSameDevice old new
   pub fault : IsErr result → old.failures < new.failures
+  pub served : OnOk result (new.failures ≡ old.failures)
   pub moves : IsTrue old.keeps_model → WritesWithin at n old new
 
 -- what is seen stays

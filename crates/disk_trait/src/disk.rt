@@ -1,6 +1,8 @@
 //! A disk of fixed length, whose calls may fail, and one that can crash.
 ghost use Rattle.std.specs.Prelude.{◌≡◌, ◌≤◌, ◌+◌, length, OnOk, IsTrue};
-ghost use Rattle.disk_trait.specs.Disk.{DiskView, MayLeave, IsSameDevice, IsDeviceCall, IsSettled, overwritten, bytes_at};
+ghost use Rattle.disk_trait.specs.Disk.{DiskView, MayLeave, IsSameDevice, IsDeviceCall, IsSettled, Unchanged, overwritten, bytes_at};
+
+use crate::plan::Plan;
 
 /// A call of the device failed. After it nothing is known of what a write covered or of what a sync
 /// was to settle; the disk may be used again.
@@ -10,11 +12,12 @@ pub struct DeviceFault;
 /// A disk of fixed length.
 ///
 /// A range that a call is given lies inside the disk, as its `requires` says. `len` is no call of the
-/// device; each other call answers Ok, or a fault where the disk has failed in that call.
+/// device; each other call answers a fault only where the disk has failed in that call, and Ok only where
+/// it hasn't.
 ///
 /// Whoever writes an impl gives a `view` and proves the clauses. A disk that can't answer for its
 /// content, as a file, says that it doesn't keep the model, and then owes the clauses' other parts
-/// alone: the length stays and a fault is counted.
+/// alone: the length stays and a fault is counted, and nothing else is.
 pub trait Disk {
     /// What contracts see of the disk.
     ghost view: { Self → DiskView };
@@ -56,4 +59,9 @@ pub trait CrashDisk: Disk {
             MayLeave (Self.view self) (Self.view result).content }
         ensures settled { IsTrue (Self.view self).keeps_model → IsSettled (Self.view result) }
         ensures ran { IsSameDevice (Self.view self) (Self.view result) };
+
+    /// From now on calls fail by this plan, in place of the one before: they are counted from 1, from
+    /// here on. All that contracts see of the disk stays. It takes no memory.
+    fn arm(&mut self, plan: Plan)
+        ensures same { Unchanged (Self.view self.old) (Self.view self.new) };
 }

@@ -22,9 +22,10 @@
 //! `call` is one word, `IsDeviceCall at n`: after a call that writes the n places from `at` on (none,
 //! for a read or a sync) each image that a crash may leave is one of before, with any bytes in these
 //! places; a crash at an earlier moment, also one inside the call, may have left these and those of
-//! before, and nothing else; and a fault is answered only where the count of failures rose. It says the
-//! same whatever the call answers, since a write that is in progress, that failed or that was cut counts
-//! its whole range. What Ok adds is a clause of its own: `bytes`, `written`, `settled`.
+//! before, and nothing else; and a fault is answered only where the count of failures rose in the call,
+//! Ok only where it didn't. It says the same of the images whatever the call answers, since a write that
+//! is in progress, that failed or that was cut counts its whole range. What Ok adds is a clause of its
+//! own: `bytes`, `written`, `settled`.
 //!
 //! The ranges are no part of the view, and need not be: an image of now is one of before, torn in the
 //! call's range, so over many calls it is torn in any of their ranges, and a sync that succeeds leaves
@@ -64,8 +65,9 @@
 //! [`MemDisk`] keeps the model, and this is proved: its view says that a crash leaves an image which
 //! agrees with its bytes wherever they are settled. It fails and stops where a [`Plan`] says so, and
 //! nowhere else. [`CrashDisk::crash`] gives the disk after a crash, its content one of the images; for
-//! a `MemDisk` a word chooses which one. [`FileDisk`] is a file of the system and claims nothing of its
-//! content. [`Log`] is a list that contracts alone see.
+//! a `MemDisk` a word chooses which one, and [`CrashDisk::arm`] plans what is to fail from then on, also
+//! in the midst of a run. [`FileDisk`] is a file of the system and claims nothing of its content. [`Log`]
+//! is a list that contracts alone see.
 #![tactic(auto)]
 
 mod cells;

@@ -42,15 +42,6 @@ impl MemDisk {
         })
     }
 
-    /// From now on calls fail by this plan, in place of the one before.
-    pub fn arm(&mut self, plan: Plan)
-        ensures same { Unchanged (mem_view self.old) (mem_view self.new) }
-        ensures holds { HoldsTheSame self.old self.new }
-        ensures plan { plan_of self.new ≡ plan }
-    {
-        self.plan = plan;
-    }
-
     /// The n-th call from now on fails, counted from 1; if it is a write, it puts nothing.
     pub fn fail_at(&mut self, call: u64)
         ensures same { Unchanged (mem_view self.old) (mem_view self.new) }
@@ -109,7 +100,6 @@ impl Disk for MemDisk {
         ensures bytes { IsTrue (mem_view self.old).keeps_model →
             OnOk result (bytes.new ≡ bytes_at (mem_view self.old).content at (length bytes.old)) }
         ensures fails { IsErr result ↔ IsTrue (fails_now (plan_of self.old)) }
-        ensures counted { OnOk result ((mem_view self.new).failures ≡ (mem_view self.old).failures) }
         ensures plan { plan_of self.new ≡ next_plan (plan_of self.old) }
         ensures holds { HoldsTheSame self.old self.new }
     {
@@ -128,7 +118,6 @@ impl Disk for MemDisk {
         ensures written { IsTrue (mem_view self.old).keeps_model →
             OnOk result ((mem_view self.new).content ≡ overwritten (mem_view self.old).content at bytes.now) }
         ensures fails { IsErr result ↔ IsTrue (fails_now (plan_of self.old)) }
-        ensures counted { OnOk result ((mem_view self.new).failures ≡ (mem_view self.old).failures) }
         ensures plan { plan_of self.new ≡ next_plan (plan_of self.old) }
         ensures put { (mem_view self.new).content
             ≡ overwritten (mem_view self.old).content at (take (bytes_put (plan_of self.old) (length bytes.now)) bytes.now) }
@@ -153,7 +142,6 @@ impl Disk for MemDisk {
         ensures settled { IsTrue (mem_view self.old).keeps_model →
             OnOk result (IsSettled (mem_view self.new)) }
         ensures fails { IsErr result ↔ IsTrue (fails_now (plan_of self.old)) }
-        ensures counted { OnOk result ((mem_view self.new).failures ≡ (mem_view self.old).failures) }
         ensures plan { plan_of self.new ≡ next_plan (plan_of self.old) }
         ensures all_settled { OnOk result (unsettled_of self.new ≡ replicate (length (mem_view self.old).content) false) }
         ensures synced { OnOk result (synced_of self.new ≡ (mem_view self.new).content) }
@@ -171,7 +159,7 @@ impl Disk for MemDisk {
 }
 
 impl CrashDisk for MemDisk {
-    ghost use Rattle.disk_trait.specs.Memory.{mem_view, plan_of, unsettled_of, synced_of};
+    ghost use Rattle.disk_trait.specs.Memory.{mem_view, plan_of, unsettled_of, synced_of, HoldsTheSame};
 
     fn crash(self, word: u64) -> MemDisk
         ensures image { IsTrue (mem_view self).keeps_model →
@@ -194,5 +182,13 @@ impl CrashDisk for MemDisk {
             past,
             failures: self.failures,
         }
+    }
+
+    fn arm(&mut self, plan: Plan)
+        ensures same { Unchanged (mem_view self.old) (mem_view self.new) }
+        ensures holds { HoldsTheSame self.old self.new }
+        ensures plan { plan_of self.new ≡ plan }
+    {
+        self.plan = plan;
     }
 }

@@ -4,4 +4,5 @@ pub mod Queues
 pub mod OpenDegrees
 pub mod Tight
 pub mod Trees
+pub mod Arrived
 pub mod NearestLandmarks

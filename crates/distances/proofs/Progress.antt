@@ -53,10 +53,10 @@ module _ (m : EdgeMap) (Source : ℕ → Type 0) (limit : ℕ → Option ℕ) (n
     | inr h ↦ let lt = better_below d h.0 e (number y) is h.1.3 in absurd (omega arith)
   ]
 
-  settled_stays : (y e : ℕ) → done y ≡ true → number y ≡ Some e → number' y ≡ Some e
+  pub settled_stays : (y e : ℕ) → done y ≡ true → number y ≡ Some e → number' y ≡ Some e
   settled_stays y e t is = stays y e is (le_from e y d x (p.front y x e d t nearest.is_open is nearest.has))
 
-  here_stays : number' x ≡ Some d
+  pub here_stays : number' x ≡ Some d
   here_stays = stays x d nearest.has (omega arith)
 
   -- a number never rises
@@ -73,7 +73,7 @@ module _ (m : EdgeMap) (Source : ℕ → Type 0) (limit : ℕ → Option ℕ) (n
   was_open y t = let ne : y ≢ x = λ e. both_ways (done' y) (ap done' e ∙ now) t in (ne, sym (others y ne) ∙ t)
 
   -- a settled node, by its number before
-  number_before : (y e : ℕ) → done' y ≡ true → number' y ≡ Some e → (number y ≡ Some e) × (e ≤ d)
+  pub number_before : (y e : ℕ) → done' y ≡ true → number' y ≡ Some e → (number y ≡ Some e) × (e ≤ d)
   number_before y e t is = elim (was_done y t) [
     | inl same ↦ let k : d ≡ e = same_Some d e (sym here_stays ∙ ap number' (sym same) ∙ is) in (ap number same ∙ nearest.has ∙ ap Some k, omega arith)
     | inr before ↦ let n = p.numbered y before in let k : n.0 ≡ e = same_Some n.0 e (sym (settled_stays y n.0 before n.1) ∙ is) in

@@ -1,25 +1,27 @@
 -- The entries that wait in a heap.
-use Rattle.std.proofs.Common.{◌≡◌, ℕ, zero, suc, ◌+◌, ◌*◌, ◌<◌, ◌≤◌, Bool, true, false, cond, ◌&&◌, ◌≢◌, ◌⊎◌, inl, inr, List, [], ◌∷◌, ◌++◌, map, length, take, get_or, set, Option, Some, None, eqb, ltb, refl, sym, ap, ◌∙◌, subst, arith, length-append}
+use Rattle.std.proofs.Common.{◌≡◌, ℕ, zero, suc, ◌+◌, ◌*◌, ◌<◌, ◌≤◌, Bool, true, false, cond, ◌&&◌, ◌≢◌, ◌⊎◌, inl, inr, List, [], ◌∷◌, ◌++◌, map, length, take, get_or, set, Option, Some, None, eqb, ltb, refl, sym, ap, ◌∙◌, subst, arith, length-append, get_or-set_same, get_or-set_other}
 use Rattle.std.specs.List.{All, Contains, filter_map, cons_option, count_by}
 use Rattle.std.specs.List.Sorted.{IsPermutation}
 use Rattle.std.specs.Ordering.{nat_cmp, ordering_then, is_lt}
-use Rattle.std.specs.BinaryHeap.{IsUpperBound, lt_by_cmp}
+use Rattle.std.specs.BinaryHeap.{IsHeap, IsUpperBound, lt_by_cmp}
 use Rattle.std.proofs.lemmas.Bool.{cases_eq, cases_lt}
 use Rattle.std.proofs.lemmas.Bool.Decides.{nat_tests}
 use Rattle.std.proofs.lemmas.List.Elements.{All-cons, All-head, All-tail, All-same, All-weaker, All-contains, All-from_recursion, All-nil, All-from_get_or, Contains-append_right}
 use Rattle.std.proofs.lemmas.List.Sorted.{All-permutation, Contains-permutation, length_permutation}
-use Rattle.std.proofs.lemmas.List.Sums.{count_by_more_yes, count_by_more_no, sum_by-le, sum_by_push, count_by-le-length}
+use Rattle.std.proofs.lemmas.List.Sums.{count_by_more_yes, count_by_more_no, sum_by-le, sum_by_push}
 use Rattle.std.proofs.lemmas.Option.{same_Some, none-some}
 use Rattle.graph_edits.specs.Edges.{Network, neighbours_of, weight_in, below, most_nodes}
 use Rattle.std.specs.Option.{option_map}
 use Rattle.distances.specs.declared.search.Settled.{Settled}
-use Rattle.distances.specs.Search.{is_below, is_better, offered, flag_at, number_at, first_number, degrees}
-use Rattle.distances.specs.Waiting.{Entry, nearest_first, IsQueue, IsJoined}
+use Rattle.distances.specs.Search.{is_below, is_better, offered, flag_at, number_at, first_number, degrees, HasNode}
+use Rattle.distances.specs.Waiting.{Entry, nearest_first, IsQueue, IsJoined, IsTracked, IsClean, Waits}
 use Rattle.graph_edits.specs.Edges.{degree_of}
 use Rattle.distances.proofs.Progress.{IsNext}
 use Rattle.distances.proofs.Turns.{number_set, split_and, first_at, flag_set_same, flag_set_other}
 use Rattle.std.proofs.HeapSift.{at_most}
 use Rattle.std.proofs.lemmas.List.{get_or_past}
+use Rattle.std.proofs.Math.ListN.{get_or-append}
+use Rattle.std.proofs.Math.Seq.{get_or-append_seam}
 use Rattle.std.specs.declared.cmp.Ordering.{Ordering}
 use Rattle.std.specs.declared.cmp.Ordering.TheVariants.{Less, Equal, Greater}
 
@@ -240,9 +242,8 @@ degrees_push g order s = sum_by_push (λ s. degree_of g s.node) order s
 abbrev pub most_pops : ℕ
 most_pops = most_nodes + most_nodes * most_nodes
 
-pub pops_fit : (g : Network) (sources : List Bool) (order : List Settled) (pops waiting : ℕ) → g.nodes ≤ most_nodes → length sources ≡ g.nodes → length order ≤ g.nodes → pops + waiting ≤ count_by (λ s. s) sources + degrees g order → pops + waiting ≤ most_pops
-pops_fit g sources order pops waiting few all le h =
-    let a = count_by-le-length (λ s. s) sources in
+pub pops_fit : (g : Network) (order : List Settled) (first pops waiting : ℕ) → g.nodes ≤ most_nodes → first ≤ g.nodes → length order ≤ g.nodes → pops + waiting ≤ first + degrees g order → pops + waiting ≤ most_pops
+pops_fit g order first pops waiting few all le h =
     let b = degrees_few g most_nodes order few in
     omega arith
 
@@ -264,3 +265,135 @@ none_waits n number done waiting h none y o = elim (number y) as (λ r. number y
   | None ↦ λ is. is
   | Some e ↦ λ is. let w = h.waits y e o is in let lt = w.1.0.1 in absurd (omega arith)
 ] refl
+
+-- ---- what a search has touched
+
+-- the nodes of a settled list and those that wait, by the flags and the queue
+pub tracked_by : (n : ℕ) (number : ℕ → Option ℕ) (done : ℕ → Bool) (order : List Settled) (waiting : List Entry) → IsQueue n number done waiting → ((y : ℕ) → done y ≡ true → HasNode y order) → All (λ s. s.node < n) order
+    → IsTracked n number done order waiting
+tracked_by n number done order waiting queue complete within = record {
+  numbered = λ y e is. elim (done y) as (λ b. done y ≡ b → HasNode y order ⊎ Waits y waiting) [
+    | true ↦ λ t. inl (complete y t)
+    | false ↦ λ o. let w = queue.waits y e o is in inr (w.0, (w.1.0, w.1.1))
+  ] refl;
+  flagged = complete;
+  listed = within;
+  entries = All-weaker (IsEntry n number) (λ q. q.0.node < n) (λ q r. r.0) waiting queue.entries;
+}
+
+pub has_push : (y : ℕ) (order : List Settled) (s : Settled) → HasNode y order → HasNode y (order ++ s ∷ [])
+has_push y [] s h = absurd h
+has_push y (t ∷ ts) s (inl e) = inl e
+has_push y (t ∷ ts) s (inr h) = inr (has_push y ts s h)
+
+pub has_here : (y : ℕ) (order : List Settled) (s : Settled) → y ≡ s.node → HasNode y (order ++ s ∷ [])
+has_here y [] s e = inl (sym e)
+has_here y (t ∷ ts) s e = inr (has_here y ts s e)
+
+pub has_before : (y : ℕ) (order : List Settled) (s : Settled) → HasNode y (order ++ s ∷ []) → y ≢ s.node → HasNode y order
+has_before y [] s (inl e) ne = absurd (ne (sym e))
+has_before y [] s (inr h) ne = absurd h
+has_before y (t ∷ ts) s (inl e) ne = inl e
+has_before y (t ∷ ts) s (inr h) ne = inr (has_before y ts s h ne)
+
+-- each flagged node is listed, also after one more
+pub complete_push : (done : List Bool) (order : List Settled) (s : Settled) → s.node < length done → ((y : ℕ) → flag_at done y ≡ true → HasNode y order) → (y : ℕ) → flag_at (set done s.node true) y ≡ true → HasNode y (order ++ s ∷ [])
+complete_push done order s lt complete y t = elim (cases_eq y s.node) [
+  | inl e ↦ has_here y order s e
+  | inr ne ↦ has_push y order s (complete y (sym (flag_set_other done s.node y ne) ∙ t))
+]
+
+number_past : (numbers : List (Option ℕ)) (x y e : ℕ) → x < length numbers → number_at (set numbers x None) y ≡ Some e → (y ≢ x) × (number_at numbers y ≡ Some e)
+number_past numbers x y e lt is = elim (cases_eq y x) [
+  | inl at ↦
+      let t : eqb y x ≡ true = grind (arith, nat_tests) in
+      absurd (none-some e (sym (number_set numbers x y None lt ∙ ap (λ b. cond b None (number_at numbers y)) t) ∙ is))
+  | inr ne ↦
+      let f : eqb y x ≡ false = grind (arith, nat_tests) in
+      (ne, sym (number_set numbers x y None lt ∙ ap (λ b. cond b None (number_at numbers y)) f) ∙ is)
+]
+
+flag_past : (flags : List Bool) (x y : ℕ) → x < length flags → flag_at (set flags x false) y ≡ true → (y ≢ x) × (flag_at flags y ≡ true)
+flag_past flags x y lt t = elim (cases_eq y x) [
+  | inl at ↦ let u : true ≡ false = sym t ∙ ap (flag_at (set flags x false)) at ∙ get_or-set_same flags x false false lt in absurd (cc)
+  | inr ne ↦ (ne, sym (get_or-set_other flags x y false false ne) ∙ t)
+]
+
+waits_before : (y : ℕ) (xs ys : List Entry) (x : Entry) → IsPermutation xs (x ∷ ys) → Waits y xs → y ≢ x.0.node → Waits y ys
+waits_before y xs ys x moved w ne = elim (contains_cases x ys w.0 (Contains-permutation xs (x ∷ ys) w.0 moved w.1.0)) [
+  | inl same ↦ absurd (ne (sym (w.1.1) ∙ ap (λ (q : Entry). q.0.node) (sym same)))
+  | inr c ↦ (w.0, (c, w.1.1))
+]
+
+all_front : {X : Type 0} (P : X → Type 0) (xs ys : List X) → All P (xs ++ ys) → All P xs
+all_front P xs ys h = λ i d lt. subst P (get_or-append xs ys d i lt) (h i d (let e = length-append xs ys in omega arith))
+
+-- the last settled node is cleaned
+pub tracked_listed : (n : ℕ) (numbers : List (Option ℕ)) (flags : List Bool) (before after : List Settled) (s : Settled) (waiting : List Entry) → s.node < length numbers → s.node < length flags → before ≡ after ++ s ∷ []
+    → IsTracked n (number_at numbers) (flag_at flags) before waiting → IsTracked n (number_at (set numbers s.node None)) (flag_at (set flags s.node false)) after waiting
+tracked_listed n numbers flags before after s waiting lt within e h = record {
+  numbered = λ y d is.
+      let p = number_past numbers s.node y d lt is in
+      elim (h.numbered y d p.1) [ inl l ↦ inl (has_before y after s (subst (HasNode y) e l) p.0) | inr w ↦ inr w ];
+  flagged = λ y t. let p = flag_past flags s.node y within t in has_before y after s (subst (HasNode y) e (h.flagged y p.1)) p.0;
+  listed = all_front (λ s. s.node < n) after (s ∷ []) (subst (All (λ s. s.node < n)) e h.listed);
+  entries = h.entries;
+}
+
+-- a node that waits is cleaned
+pub tracked_entry : (n : ℕ) (numbers : List (Option ℕ)) (done : ℕ → Bool) (order : List Settled) (before after : List Entry) (x : Entry) → x.0.node < length numbers → IsPermutation before (x ∷ after)
+    → IsTracked n (number_at numbers) done order before → IsTracked n (number_at (set numbers x.0.node None)) done order after
+tracked_entry n numbers done order before after x lt moved h = record {
+  numbered = λ y d is.
+      let p = number_past numbers x.0.node y d lt is in
+      elim (h.numbered y d p.1) [ inl l ↦ inl l | inr w ↦ inr (waits_before y before after x moved w p.0) ];
+  flagged = h.flagged;
+  listed = h.listed;
+  entries = All-tail (λ q. q.0.node < n) x after (All-permutation (λ q. q.0.node < n) before (x ∷ after) moved h.entries);
+}
+
+-- the last of the order, and an entry that is popped, are nodes
+pub last_listed : (n : ℕ) (before after : List Settled) (s : Settled) → before ≡ after ++ s ∷ [] → All (λ s. s.node < n) before → s.node < n
+last_listed n before after s e h =
+    let len = length-append after (s ∷ []) in
+    let at : get_or (after ++ s ∷ []) (length after) s ≡ s = get_or-append_seam after s [] s in
+    subst (λ (t : Settled). t.node < n) at (subst (All (λ s. s.node < n)) e h (length after) s (omega arith))
+
+pub first_entry : (n : ℕ) (before after : List Entry) (x : Entry) → IsPermutation before (x ∷ after) → All (λ q. q.0.node < n) before → x.0.node < n
+first_entry n before after x moved h = All-head (λ q. q.0.node < n) x after (All-permutation (λ q. q.0.node < n) before (x ∷ after) moved h)
+
+-- where nothing is left, the lists are clean
+pub tracked_none : (n : ℕ) (numbers : List (Option ℕ)) (flags : List Bool) (order : List Settled) (waiting : List Entry) → length flags ≡ length numbers → order ≡ [] → waiting ≡ [] → IsTracked n (number_at numbers) (flag_at flags) order waiting
+    → IsClean numbers flags order waiting
+tracked_none n numbers flags order waiting lengths none empty h = record {
+  lengths = lengths;
+  none_numbered = λ y. elim (number_at numbers y) as (λ o. number_at numbers y ≡ o → number_at numbers y ≡ None) [
+    | None ↦ λ is. is
+    | Some e ↦ λ is. absurd (elim (h.numbered y e is) [ inl l ↦ subst (HasNode y) none l | inr w ↦ no_entry (subst (λ l. Contains l w.0) empty w.1.0) ])
+  ] refl;
+  none_flagged = λ y. elim (flag_at flags y) as (λ b. flag_at flags y ≡ b → flag_at flags y ≡ false) [
+    | true ↦ λ t. absurd (subst (HasNode y) none (h.flagged y t))
+    | false ↦ λ t. t
+  ] refl;
+  none_listed = none;
+  none_waits = empty;
+}
+  where
+    no_entry : {q : Entry} → Contains [] q → ⊥
+    no_entry (k, lt, e) = absurd (omega (arith, lt))
+
+-- an empty queue, where nothing has a number
+pub queue_empty : (n : ℕ) (number : ℕ → Option ℕ) (done : ℕ → Bool) (waiting : List Entry) → waiting ≡ [] → ((y : ℕ) → number y ≡ None) → IsQueue n number done waiting
+queue_empty n number done waiting empty none = record {
+  entries = subst (All (IsEntry n number)) (sym empty) (All-nil (IsEntry n number));
+  waits = λ y e o is. absurd (none-some e (sym (none y) ∙ is));
+}
+
+-- the same numbers and the same entries
+pub queue_same : (n : ℕ) (number : ℕ → Option ℕ) (done : ℕ → Bool) (xs ys : List Entry) → ys ≡ xs → IsQueue n number done xs → IsQueue n number done ys
+queue_same n number done xs ys e h = subst (IsQueue n number done) (sym e) h
+
+-- no entries make a heap
+pub heap_empty : (waiting : List Entry) → waiting ≡ [] → IsHeap nearest_first waiting
+unfolding IsHeap
+heap_empty waiting empty = subst (λ l. IsHeap nearest_first l) (sym empty) (λ p k d low from to below. absurd (omega (arith, below)))

@@ -1,21 +1,22 @@
 -- The tree that a search and its parents make.
-use Rattle.std.proofs.Common.{◌≡◌, ℕ, zero, suc, ◌+◌, ◌<◌, ◌≤◌, true, false, cond, inl, inr, List, [], ◌∷◌, map, set, replicate, length, get_or, Option, Some, None, refl, sym, ap, ◌∙◌, subst, arith}
-use Rattle.std.specs.List.{All, Contains, count_by}
+use Rattle.std.proofs.Common.{◌≡◌, ℕ, ◌+◌, ◌<◌, ◌≤◌, true, inl, inr, List, [], ◌∷◌, map, set, length, get_or, Option, Some, None, refl, sym, ap, ◌∙◌, subst, arith, get_or-set_same, get_or-set_other}
+use Rattle.std.specs.List.{All, Contains}
 use Rattle.std.proofs.lemmas.Bool.{cases_eq, cases_lt}
 use Rattle.std.proofs.lemmas.List.{get_or_past}
-use Rattle.std.proofs.lemmas.List.Elements.{All-nil, All-cons, All-contains, All-weaker, Contains-append_right}
-use Rattle.std.proofs.lemmas.List.Sums.{sum_by-set, sum_by-cons}
+use Rattle.distances.specs.declared.linked.Linked.{Linked}
+use Rattle.distances.specs.Workspace.{reached_of}
+use Rattle.std.proofs.lemmas.List.Elements.{All-nil, All-cons, All-head, All-tail, All-contains, All-weaker, Contains-append_right}
+use Rattle.std.proofs.lemmas.List.Sums.{sum_by-cons}
 use Rattle.std.proofs.lemmas.Option.{same_Some, none-some}
 use Rattle.graph_edits.specs.Edges.{EdgeMap, Network, IsSound}
 use Rattle.graph_edits.specs.Walks.{walk_length, IsLeast}
 use Rattle.graph_edits.specs.Laws.{weight_between-sym}
 use Rattle.distances.specs.declared.search.Settled.{Settled}
 use Rattle.distances.specs.declared.reach.Reached.{Reached}
-use Rattle.distances.specs.Search.{is_below, flag_at, number_at, IsSource, AreGentle, IsAscending, EachSettled, HasNode, degrees}
+use Rattle.distances.specs.Search.{is_below, number_at, IsAtZero, AreGentle, IsAscending, EachSettled, HasNode, degrees}
 use Rattle.distances.specs.Table.{IsTable, IsListing, IsTightBy, IsFirstTight}
 use Rattle.graph_edits.specs.Edges.{degree_of}
 use Rattle.distances.specs.Reach.{settled_of, IsTight, IsParent, IsTree, degrees_of}
-use Rattle.distances.proofs.Turns.{none_done, flag_set_same, flag_set_other}
 use Rattle.distances.proofs.Tight.{tight_exists}
 
 -- ---- other words for the sources
@@ -29,25 +30,19 @@ table_from m Source Other to back limit number h = record {
   complete = λ s x xs o walk below. h.complete s x xs (back s o) walk below;
 }
 
-pub only_root : (n root s : ℕ) → root < n → IsSource (set (replicate n false) root true) s → s ≡ root
-only_root n root s lt t = elim (cases_eq s root) [
+-- where no node has a number, the root alone stands at 0 once it is put there
+pub only_root : (numbers : List (Option ℕ)) (root s : ℕ) → ((y : ℕ) → number_at numbers y ≡ None) → IsAtZero (set numbers root (Some 0)) s → s ≡ root
+only_root numbers root s none t = elim (cases_eq s root) [
   | inl e ↦ e
-  | inr ne ↦ let u : true ≡ false = sym t ∙ flag_set_other (replicate n false) root s ne ∙ none_done n s in absurd (cc)
+  | inr ne ↦ absurd (none-some 0 (sym (get_or-set_other numbers root s (Some 0) None ne ∙ none s) ∙ t))
 ]
 
-pub root_is : (n root s : ℕ) → root < length (replicate n false) → s ≡ root → IsSource (set (replicate n false) root true) s
-root_is n root s lt e = ap (flag_at (set (replicate n false) root true)) e ∙ flag_set_same (replicate n false) root lt
-
-count_none : (n : ℕ) → count_by (λ s. s) (replicate n false) ≡ 0
-count_none zero = refl
-count_none (suc n) =
-    let a : count_by (λ s. s) (false ∷ replicate n false) ≡ 0 + count_by (λ s. s) (replicate n false) = sum_by-cons (λ s. cond s 1 0) false (replicate n false) in
-    let b = count_none n in
-    omega (arith, a, b)
+pub root_is : (numbers : List (Option ℕ)) (root s : ℕ) → root < length numbers → s ≡ root → IsAtZero (set numbers root (Some 0)) s
+root_is numbers root s lt e = ap (number_at (set numbers root (Some 0))) e ∙ get_or-set_same numbers root (Some 0) None lt
 
 -- ---- members
 
-listed_members : (number : ℕ → Option ℕ) (tree : List Reached) → EachSettled (λ x d. number x ≡ Some d) (map settled_of tree) → All (λ r. number r.node ≡ Some r.distance) tree
+pub listed_members : (number : ℕ → Option ℕ) (tree : List Reached) → EachSettled (λ x d. number x ≡ Some d) (map settled_of tree) → All (λ r. number r.node ≡ Some r.distance) tree
 listed_members number [] h = All-nil (λ r. number r.node ≡ Some r.distance)
 listed_members number (r ∷ rs) h = All-cons (λ r. number r.node ≡ Some r.distance) r rs h.0 (listed_members number rs h.1)
 
@@ -121,10 +116,10 @@ within_order n distances e (s ∷ ss) h = All-cons (λ s. s.node < n) s ss (elim
   | inr le ↦ absurd (none-some s.distance (sym (get_or_past distances s.node None le) ∙ h.0))
 ]) (within_order n distances e ss h.1)
 
-pub no_limit : (n x : ℕ) → number_at (replicate n None) x ≡ None
-no_limit zero x = refl
-no_limit (suc n) zero = refl
-no_limit (suc n) (suc x) = no_limit n x
+-- members with their ports, and without
+pub reached_each : (P : Reached → Type 0) (members : List Linked) → All (λ m. P m.reached) members → All P (reached_of members)
+reached_each P [] h = All-nil P
+reached_each P (m ∷ ms) h = All-cons P m.reached (reached_of ms) (All-head (λ m. P m.reached) m ms h) (reached_each P ms (All-tail (λ m. P m.reached) m ms h))
 
 -- a table by other words for the limits
 pub table_limits : (m : EdgeMap) (Source : ℕ → Type 0) (limit other number : ℕ → Option ℕ) → ((x : ℕ) → limit x ≡ other x) → IsTable m Source limit number → IsTable m Source other number

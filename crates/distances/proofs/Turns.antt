@@ -9,7 +9,7 @@ use Rattle.std.proofs.lemmas.Option.{same_Some, none-some}
 use Rattle.graph_edits.specs.Edges.{EdgeMap, Network, weight_between, weight_in, neighbours_of, IsSound}
 use Rattle.graph_edits.specs.Laws.{All-neighbours_of, Contains-neighbours_of}
 use Rattle.distances.specs.declared.search.Settled.{Settled}
-use Rattle.distances.specs.Search.{is_below, is_better, offered, flag_at, number_at, first_number, IsRelaxed, IsSource}
+use Rattle.distances.specs.Search.{is_below, is_better, offered, flag_at, number_at, first_number, IsRelaxed, IsAtZero}
 
 -- ---- what the offers keep
 
@@ -165,27 +165,48 @@ none_done zero y = refl
 none_done (suc n) zero = refl
 none_done (suc n) (suc y) = none_done n y
 
+pub none_numbered : (n y : ℕ) → number_at (replicate n None) y ≡ None
+none_numbered zero y = refl
+none_numbered (suc n) zero = refl
+none_numbered (suc n) (suc y) = none_numbered n y
+
 is_first : (b : Bool) (e : ℕ) → first_number b ≡ Some e → (b ≡ true) × (e ≡ 0)
 is_first true e is = (refl, sym (same_Some 0 e is))
 is_first false e is = absurd (none-some e is)
 
-not_done : (n : ℕ) (P : Type 0) (y : ℕ) → flag_at (replicate n false) y ≡ true → P
-not_done n P y t = let e : false ≡ true = sym (none_done n y) ∙ t in cc
+-- before a search from a list of flags, all numbers are 0
+pub zero_first : (sources : List Bool) (y e : ℕ) → number_at (map first_number sources) y ≡ Some e → e ≡ 0
+zero_first sources y e is = (is_first (flag_at sources y) e (sym (first_at sources y) ∙ is)).1
 
-pub progress_start : (m : EdgeMap) (sources : List Bool) (limit : ℕ → Option ℕ) (n : ℕ) → ((s : ℕ) → IsSource sources s → is_below 0 (limit s) ≡ true)
-    → Progress m (IsSource sources) limit (number_at (map first_number sources)) (flag_at (replicate n false)) []
-progress_start m sources limit n open_at = record {
-  sources = λ s t. first_at sources s ∙ ap first_number t;
-  attained = λ y e is. let f = is_first (flag_at sources y) e (sym (first_at sources y) ∙ is) in (y, (f.0, ([], (refl, sym f.1))));
-  within = λ y e is. let f = is_first (flag_at sources y) e (sym (first_at sources y) ∙ is) in subst (λ k. is_below k (limit y) ≡ true) (sym f.1) (open_at y f.0);
-  relaxed = λ x d y w t. not_done n _ x t;
-  numbered = λ x t. not_done n _ x t;
-  front = λ x y d e t. not_done n _ x t;
+-- and those that have one are the flagged ones
+pub flagged_zero : (sources : List Bool) (y : ℕ) → IsAtZero (map first_number sources) y → flag_at sources y ≡ true
+flagged_zero sources y is = (is_first (flag_at sources y) 0 (sym (first_at sources y) ∙ is)).0
+
+pub zero_flagged : (sources : List Bool) (y : ℕ) → flag_at sources y ≡ true → IsAtZero (map first_number sources) y
+zero_flagged sources y t = first_at sources y ∙ ap first_number t
+
+-- flags of which none stands
+pub no_flags : (done : List Bool) → ((y : ℕ) → flag_at done y ≡ false) → done ≡ replicate (length done) false
+no_flags [] none = refl
+no_flags (b ∷ bs) none = let rest = no_flags bs (λ y. none (suc y)) in let first : b ≡ false = none 0 in cc
+
+pub progress_start : (m : EdgeMap) (tentative : List (Option ℕ)) (done : List Bool) (limit : ℕ → Option ℕ) → ((y e : ℕ) → number_at tentative y ≡ Some e → e ≡ 0) → ((y : ℕ) → flag_at done y ≡ false)
+    → ((s : ℕ) → IsAtZero tentative s → is_below 0 (limit s) ≡ true) → Progress m (IsAtZero tentative) limit (number_at tentative) (flag_at done) []
+progress_start m tentative done limit zeros none open_at = record {
+  sources = λ s t. t;
+  attained = λ y e is. let z = zeros y e is in (y, (is ∙ ap Some z, ([], (refl, sym z))));
+  within = λ y e is. let z = zeros y e is in subst (λ k. is_below k (limit y) ≡ true) (sym z) (open_at y (is ∙ ap Some z));
+  relaxed = λ x d y w t. absurd (not_done x t);
+  numbered = λ x t. absurd (not_done x t);
+  front = λ x y d e t. absurd (not_done x t);
   ascending = tt;
   listed = tt;
-  complete = λ x t. not_done n _ x t;
-  bounded = λ y e is. let f = is_first (flag_at sources y) e (sym (first_at sources y) ∙ is) in omega (arith, f.1);
+  complete = λ x t. absurd (not_done x t);
+  bounded = λ y e is. let z = zeros y e is in omega (arith, z);
 }
+  where
+    not_done : (x : ℕ) → flag_at done x ≡ true → ⊥
+    not_done x t = let e : false ≡ true = sym (none x) ∙ t in cc
 
 -- a turn of the search, over the lists that it keeps
 pub progress_turn : (g : Network) (Source : ℕ → Type 0) (limit : ℕ → Option ℕ) (tentative after : List (Option ℕ)) (done : List Bool) (order : List Settled) (next : Settled) → IsSound g

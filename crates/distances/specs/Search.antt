@@ -1,5 +1,5 @@
 -- What a search from several sources finds, where each node has a limit on its distance.
-use Rattle.std.specs.Prelude.{◌≡◌, ℕ, ◌+◌, ◌<◌, ◌≤◌, Bool, true, false, cond, nat_lt, ◌&&◌, IsTrue, ◌⊎◌, ⊤, List, [], ◌∷◌, Option, Some, None, slice_index_or}
+use Rattle.std.specs.Prelude.{◌≡◌, ℕ, ◌+◌, ◌<◌, ◌≤◌, Bool, true, false, cond, nat_lt, ◌&&◌, ◌⊎◌, ⊤, List, [], ◌∷◌, Option, Some, None, slice_index_or}
 use Rattle.std.specs.List.{sum_by}
 use Rattle.graph_edits.specs.Edges.{EdgeMap, Network, weight_between, degree_of}
 use Rattle.graph_edits.specs.Walks.{IsWalk, walk_length, IsLeast}
@@ -18,9 +18,9 @@ flag_at flags x = slice_index_or flags x false
 abbrev pub number_at : List (Option ℕ) → ℕ → Option ℕ
 number_at numbers x = slice_index_or numbers x None
 
--- the flag of a node stands
-abbrev pub IsSource : List Bool → ℕ → Type 0
-IsSource sources s = IsTrue (flag_at sources s)
+-- the node stands at distance 0
+abbrev pub IsAtZero : List (Option ℕ) → ℕ → Type 0
+IsAtZero numbers s = number_at numbers s ≡ Some 0
 
 -- limits that rise along an edge by at most its weight
 abbrev pub AreGentle : EdgeMap → (ℕ → Option ℕ) → Type 0

@@ -1,10 +1,11 @@
 -- The entries that wait in a search.
-use Rattle.std.specs.Prelude.{◌≡◌, ℕ, ◌<◌, ◌≤◌, Bool, true, false, List, ◌∷◌, Option, Some, IsPermutation}
+use Rattle.std.specs.Prelude.{◌≡◌, ◌⊎◌, ℕ, ◌<◌, ◌≤◌, Bool, true, false, List, [], ◌∷◌, length, Option, Some, None, IsPermutation}
 use Rattle.std.specs.Ordering.{nat_cmp, ordering_then}
 use Rattle.std.specs.declared.cmp.Ordering.{Ordering}
 use Rattle.std.specs.declared.cmp.Reverse.{Reverse}
 use Rattle.std.specs.List.{All, Contains}
 use Rattle.distances.specs.declared.search.Settled.{Settled}
+use Rattle.distances.specs.Search.{HasNode, number_at, flag_at}
 
 -- a node that waits at a distance
 abbrev pub Entry : Type 0
@@ -23,3 +24,22 @@ pub record IsQueue (n : ℕ) (number : ℕ → Option ℕ) (done : ℕ → Bool)
 abbrev pub IsJoined : Bool → Settled → List Entry → List Entry → Type 0
 IsJoined true s before after = (q : Entry) × ((q.0 ≡ s) × IsPermutation (q ∷ before) after)
 IsJoined false s before after = after ≡ before
+
+-- an entry of the node waits
+abbrev pub Waits : ℕ → List Entry → Type 0
+Waits y waiting = (q : Entry) × (Contains waiting q × (q.0.node ≡ y))
+
+-- whatever a search has touched stands in the order or waits: each node with a number, and each whose flag stands
+pub record IsTracked (n : ℕ) (number : ℕ → Option ℕ) (done : ℕ → Bool) (order : List Settled) (waiting : List Entry) : Type 0 where
+  pub numbered : (y e : ℕ) → number y ≡ Some e → HasNode y order ⊎ Waits y waiting
+  pub flagged : (y : ℕ) → done y ≡ true → HasNode y order
+  pub listed : All (λ s. s.node < n) order
+  pub entries : All (λ q. q.0.node < n) waiting
+
+-- no search has left anything: no number, no flag, no node in the order and none that waits
+pub record IsClean (numbers : List (Option ℕ)) (flags : List Bool) (order : List Settled) (waiting : List Entry) : Type 0 where
+  pub lengths : length flags ≡ length numbers
+  pub none_numbered : (y : ℕ) → number_at numbers y ≡ None
+  pub none_flagged : (y : ℕ) → flag_at flags y ≡ false
+  pub none_listed : order ≡ []
+  pub none_waits : waiting ≡ []

@@ -10,8 +10,14 @@
 //! smallest-numbered where several are as near. [`tree_within`] is [`from_root`] cut off at a limit
 //! for each node; clusters are made of it.
 //!
-//! All three run one search: Dijkstra's, over a binary heap that pops by distance and then by node.
-//! Each counts the entries that it popped, and the contracts bound the count by the edges.
+//! Whoever searches many times makes one [`Workspace`], whose lists serve one search after another:
+//! [`Workspace::from_root`] and [`Workspace::tree_within`] cost what they touch, however many nodes the
+//! graph has, and give each member the ports between it and its parent too. The free functions make a
+//! workspace of their own.
+//!
+//! All run one search: Dijkstra's, over a binary heap that pops by distance and then by node. It notes the
+//! parent of a node while it offers distances. Each search counts the entries that it popped, and the
+//! contracts bound the count by the edges.
 //!
 //! ```text
 //! // 0 -1- 1 -1- 2, and 0 -2- 2
@@ -20,10 +26,14 @@
 //! ```
 #![tactic(auto)]
 
+mod linked;
 mod nearest;
 mod reach;
 mod search;
+mod workspace;
 
+pub use linked::Linked;
 pub use nearest::{Near, Nearest, from_landmarks};
 pub use reach::{Reach, Reached, from_root, tree_within};
 pub use search::Settled;
+pub use workspace::Workspace;

@@ -8,7 +8,7 @@ ghost use Rattle.distances.specs.Search.{number_at, flag_at, IsAscending, degree
 ghost use Rattle.distances.specs.Table.{IsTable, IsListing};
 ghost use Rattle.distances.specs.Nearest.{IsNearestOf, IsNearBy, IsLeastOver, near_at, landmark_over, lesser};
 
-use crate::search::{Search, Settled, search_from};
+use crate::search::{Settled, first_numbers, first_waiting, settle_all};
 use graph_edits::Graph;
 use landmarks::Landmarks;
 use std::alloc::{AllocError, Global};
@@ -96,15 +96,27 @@ pub fn from_landmarks(
     ensures edges { IfOk result (λ nearest.
         nearest.pops ≤ count_by (λ flag. flag) landmarks.now + 2 * len graph.now.edges) }
 {
-    let limits = vec![in alloc; None; graph.nodes() as usize]?;
     let flags = landmarks.flags();
-    let search = search_from(alloc, graph, flags, &limits)?;
-    let of = nearest_each(alloc, graph, flags, &search)?;
+    let mut numbers = first_numbers(alloc, flags)?;
+    let mut settled = vec![in alloc; false; graph.nodes() as usize]?;
+    let mut arrivals = vec![in alloc; None; graph.nodes() as usize]?;
+    let mut waiting = first_waiting(alloc, flags)?;
+    let mut order = Vec::with_capacity(alloc, graph.nodes() as usize)?;
+    let pops = settle_all(
+        graph,
+        &[],
+        &mut numbers,
+        &mut settled,
+        &mut arrivals,
+        &mut waiting,
+        &mut order,
+    )?;
+    let of = nearest_each(alloc, graph, flags, &order, &numbers)?;
     let distances = distances_of(alloc, &of)?;
     Ok(Nearest {
         of,
         distances,
-        pops: search.pops,
+        pops,
     })
 }
 
@@ -113,22 +125,24 @@ fn nearest_each(
     alloc: Global,
     graph: &Graph,
     flags: &[bool],
-    search: &Search,
+    order: &[Settled],
+    distances: &[Option<u64>],
 ) -> Result<Vec<Option<Near>>, AllocError>
     requires flags { length flags.now ≡ graph.now.nodes }
-    requires ascending { IsAscending search.now.order.items }
+    requires ascending { IsAscending order.now }
     requires distances { IsTable graph.now.edges (IsLandmark flags.now) (λ _. None)
-        (number_at search.now.distances.items) }
-    requires listing { IsListing (number_at search.now.distances.items) search.now.order.items }
-    requires nodes { length search.now.distances.items ≡ graph.now.nodes }
+        (number_at distances.now) }
+    requires listing { IsListing (number_at distances.now) order.now }
+    requires nodes { length distances.now ≡ graph.now.nodes }
     ensures nodes { IfOk result (λ of. length of.items ≡ graph.now.nodes) }
     ensures nearest { IfOk result (λ of.
         (v : ℕ) → IsNearestOf graph.now.edges flags.now v (slice_index_or of.items v None)) }
     ensures found { IfOk result (λ of.
-        count_by (λ near. is_some near) of.items ≤ length search.now.order.items) }
+        count_by (λ near. is_some near) of.items ≤ length order.now) }
 {
+    let _distances = distances;
     let mut of = vec![in alloc; None; graph.nodes() as usize]?;
-    for settled in &search.order {
+    for settled in order {
         of[settled.node as usize] = nearest_by(graph, flags, &of, *settled);
     }
     Ok(of)

@@ -1,11 +1,14 @@
 // The tree of least distances from a root.
-ghost use Rattle.std.specs.Prelude.{◌≡◌, ℕ, ◌+◌, ◌*◌, ◌<◌, ◌≤◌, ◌↔◌, true, Some, None, length, map, All, IfOk};
+ghost use Rattle.std.specs.Prelude.{◌≡◌, ℕ, ◌+◌, ◌*◌, ◌<◌, ◌≤◌, ◌↔◌, true, [], Some, None, length, map, All, IfOk, IfSome, OnOk};
 ghost use Rattle.std.specs.FinMap.{len};
 ghost use Rattle.distances.specs.Search.{is_below, number_at, AreGentle};
-ghost use Rattle.distances.specs.Table.{IsFirstTight};
+ghost use Rattle.distances.specs.Arrivals.{arrival_at, parent_by, IsOverPort};
 ghost use Rattle.distances.specs.Reach.{IsTree, degrees_of, settled_of};
+ghost use Rattle.distances.specs.Workspace.{reached_of, HasLinks, AreLinked};
 
-use crate::search::{Settled, search_from};
+use crate::linked::Linked;
+use crate::search::{Arrival, Settled};
+use crate::workspace::Workspace;
 use graph_edits::Graph;
 use std::alloc::{AllocError, Global};
 use std::marker::Model;
@@ -14,8 +17,8 @@ use std::marker::Model;
 /// the tree over which that distance is attained. The root has no parent.
 #[derive(Clone, Copy, Debug, PartialEq, Eq)]
 pub struct Reached {
-    pub node: u16,
     pub distance: u64,
+    pub node: u16,
     pub parent: Option<u16>,
 }
 
@@ -58,8 +61,10 @@ pub fn from_root(alloc: Global, graph: &Graph, root: u16) -> Result<Reach, Alloc
     ensures degrees { IfOk result (λ reach. reach.pops ≤ 1 + degrees_of graph.now reach.members) }
     ensures edges { IfOk result (λ reach. reach.pops ≤ 1 + 2 * len graph.now.edges) }
 {
-    let limits = vec![in alloc; None; graph.nodes() as usize]?;
-    tree_within(alloc, graph, root, &limits)
+    let mut workspace = Workspace::new(alloc, graph.nodes())?;
+    let pops = workspace.from_root(graph, root)?;
+    let members = without_ports(alloc, workspace.members())?;
+    Ok(Reach { members, pops })
 }
 
 /// The tree of the nodes whose distance from `root` is below their limit: one limit for each node,
@@ -81,61 +86,62 @@ pub fn tree_within(
     ensures degrees { IfOk result (λ reach. reach.pops ≤ 1 + degrees_of graph.now reach.members) }
     ensures edges { IfOk result (λ reach. reach.pops ≤ 1 + 2 * len graph.now.edges) }
 {
-    let mut sources = vec![in alloc; false; graph.nodes() as usize]?;
-    sources[root as usize] = true;
-    let search = search_from(alloc, graph, &sources, limits)?;
-    let members = with_parents(alloc, graph, &search.order, &search.distances)?;
-    Ok(Reach {
-        members,
-        pops: search.pops,
-    })
+    let mut workspace = Workspace::new(alloc, graph.nodes())?;
+    let pops = workspace.tree_within(graph, root, limits)?;
+    let members = without_ports(alloc, workspace.members())?;
+    Ok(Reach { members, pops })
 }
 
-/// The settled nodes with their parents.
-fn with_parents(
-    alloc: Global,
+fn without_ports(alloc: Global, members: &[Linked]) -> Result<Vec<Reached>, AllocError>
+    ensures { IfOk result (λ all. all.items ≡ reached_of members.now) }
+{
+    members.iter().map(|member| member.reached).collect(alloc)
+}
+
+/// Lists the settled nodes with their parents, and the ports between the two.
+pub(crate) fn link_all(
     graph: &Graph,
     order: &[Settled],
-    distances: &[Option<u64>],
-) -> Result<Vec<Reached>, AllocError>
-    requires within { All (λ s. s.node < graph.now.nodes) order.now }
-    requires nodes { length distances.now ≡ graph.now.nodes }
-    ensures order { IfOk result (λ members. map settled_of members.items ≡ order.now) }
-    ensures parents { IfOk result (λ members.
-        All (λ r. IsFirstTight graph.now.edges
-        (number_at distances.now) r.node r.distance r.parent) members.items) }
+    arrivals: &[Option<Arrival>],
+    members: &mut Vec<Linked>,
+) -> Result<(), AllocError>
+    requires none { members.old.items ≡ [] }
+    requires nodes { length arrivals.now ≡ graph.now.nodes }
+    requires ends { All (λ s. s.node < graph.now.nodes) order.now }
+    requires ports { All (λ s. IfSome (arrival_at arrivals.now s.node) (IsOverPort graph.now s.node)) order.now }
+    ensures order { OnOk result (map settled_of (reached_of members.new.items) ≡ order.now) }
+    ensures parents { OnOk result (
+        All (λ m. m.reached.parent ≡ parent_by (arrival_at arrivals.now m.reached.node)) members.new.items) }
+    ensures ports { OnOk result (AreLinked graph.now members.new.items) }
 {
-    let mut members = Vec::new(alloc);
     for settled in order {
-        members.push(Reached {
-            node: settled.node,
-            distance: settled.distance,
-            parent: parent_of(graph, distances, *settled),
-        })?;
+        members.push(linked(graph, *settled, arrivals[settled.node as usize]))?;
     }
-    Ok(members)
+    Ok(())
 }
 
-/// The first neighbour over which the distance of a node is attained.
-fn parent_of(graph: &Graph, distances: &[Option<u64>], of: Settled) -> Option<u16>
-    requires node { of.node < graph.now.nodes }
-    requires nodes { length distances.now ≡ graph.now.nodes }
-    ensures { IsFirstTight graph.now.edges (number_at distances.now) of.node of.distance result }
+/// A settled node with its parent and the ports between the two.
+fn linked(graph: &Graph, settled: Settled, arrival: Option<Arrival>) -> Linked
+    requires node { settled.node < graph.now.nodes }
+    requires port { IfSome arrival (IsOverPort graph.now settled.node) }
+    ensures order { settled_of result.reached ≡ settled }
+    ensures parent { result.reached.parent ≡ parent_by arrival }
+    ensures ports { HasLinks graph.now result.reached.node result.reached.parent result.up result.down }
 {
-    for (node, weight) in graph.neighbours(of.node) {
-        if is_tight(distances[*node as usize], *weight, of.distance) {
-            return Some(*node);
+    let (parent, up, down) = match arrival {
+        Some(Arrival { parent, down }) => {
+            (
+                Some(parent),
+                graph.port_to(settled.node, parent),
+                Some(down),
+            )
         }
-    }
-    None
-}
-
-/// Whether an edge leads from a distance to another.
-fn is_tight(from: Option<u64>, weight: u32, to: u64) -> bool
-    ensures { (result ≡ true) ↔ ((e : ℕ) × ((from ≡ Some e) × (e + weight ≡ to))) }
-{
-    match from {
-        Some(start) => start <= to && to - start == weight as u64,
-        _ => false,
-    }
+        None => (None, None, None),
+    };
+    let reached = Reached {
+        node: settled.node,
+        distance: settled.distance,
+        parent,
+    };
+    Linked { reached, up, down }
 }

@@ -1,11 +1,12 @@
 // The search: nodes are settled in ascending order of their distance from the sources.
-ghost use Rattle.std.specs.Prelude.{◌≡◌, ℕ, ◌+◌, ◌*◌, ◌<◌, ◌≤◌, ◌^◌, ◌&&◌, Bool, true, length, map, IfOk, OnOk};
+ghost use Rattle.std.specs.Prelude.{◌≡◌, ℕ, ◌+◌, ◌*◌, ◌<◌, ◌≤◌, ◌^◌, ◌&&◌, ◌++◌, ◌∷◌, [], Bool, Some, None, true, false, length, slice_set, map, vec_len, vec_capacity, IfOk, OnOk, OnErr};
 ghost use Rattle.std.specs.BinaryHeap.{IsHeap, KeepsHeap, heap_items};
 ghost use Rattle.std.specs.List.{count_by};
 ghost use Rattle.std.specs.FinMap.{len};
-ghost use Rattle.distances.specs.Search.{is_below, is_better, offered, number_at, first_number, IsSource, AreGentle, IsSearched, IsRelaxed, degrees};
+ghost use Rattle.distances.specs.Search.{is_below, is_better, offered, number_at, flag_at, first_number, IsAtZero, AreGentle, IsSearched, IsRelaxed, degrees};
 ghost use Rattle.distances.specs.Table.{IsTable, IsListing};
-ghost use Rattle.distances.specs.Waiting.{nearest_first, IsQueue, IsJoined};
+ghost use Rattle.distances.specs.Arrivals.{arrival_at, arrived, is_taken as taken, is_tied as tied, is_smaller as smaller, IsArriving, AreArrivals};
+ghost use Rattle.distances.specs.Waiting.{nearest_first, IsQueue, IsJoined, IsTracked};
 ghost use Rattle.graph_edits.specs.Edges.{degree_of};
 
 use graph_edits::{Graph, MOST_NODES};
@@ -20,67 +21,86 @@ pub struct Settled {
     pub node: u16,
 }
 
-/// What a search found: the settled nodes in order, the distance of each node, and the number of pops.
-#[derive(Drop)]
-pub struct Search {
-    pub order: Vec<Settled>,
-    pub distances: Vec<Option<u64>>,
-    pub pops: u64,
+/// The edge over which a node was reached: from a parent, by the parent's port.
+#[derive(Clone, Copy)]
+pub struct Arrival {
+    pub parent: u16,
+    pub down: u16,
 }
 
-/// Settles the nodes whose distance from the sources is below their limit.
+/// Settles the nodes whose distance from the sources is below their limit, and lists them in order. The sources are the
+/// nodes that stand at distance 0 when the search begins. A node without a limit may lie at any distance. Answers how many
+/// entries were popped. For each node it notes the edge over which the node was reached, the one from the smallest node
+/// where several are as good.
 ///
 /// A node may wait in the heap more than once. It is settled by the nearest of its entries, and a
 /// later one is popped and skipped. Every pop of an entry counts, the skipped ones too.
-pub fn search_from(
-    alloc: Global,
+pub fn settle_all(
     graph: &Graph,
-    sources: &[bool],
     limits: &[Option<u64>],
-) -> Result<Search, AllocError>
-    requires sources { length sources.now ≡ graph.now.nodes }
-    requires limits { length limits.now ≡ graph.now.nodes }
-    requires within_limits { (s : ℕ) → IsSource sources.now s → is_below 0 (number_at limits.now s) ≡ true }
+    tentative: &mut [Option<u64>],
+    settled: &mut [bool],
+    arrivals: &mut [Option<Arrival>],
+    waiting: &mut BinaryHeap<Reverse<Settled>>,
+    order: &mut Vec<Settled>,
+) -> Result<u64, AllocError>
+    requires tentative { length tentative.old ≡ graph.now.nodes }
+    requires settled { length settled.old ≡ graph.now.nodes }
+    requires arrivals { length arrivals.old ≡ graph.now.nodes }
+    requires none_arrived { (y : ℕ) → IsAtZero tentative.old y → arrival_at arrivals.old y ≡ None }
+    requires zero { (y e : ℕ) → number_at tentative.old y ≡ Some e → e ≡ 0 }
+    requires none_settled { (y : ℕ) → flag_at settled.old y ≡ false }
+    requires none_listed { order.old.items ≡ [] }
+    requires queue { IsQueue graph.now.nodes (number_at tentative.old) (flag_at settled.old)
+        (heap_items waiting.old) }
+    requires heap { IsHeap nearest_first (heap_items waiting.old) }
+    requires few { length (heap_items waiting.old) ≤ graph.now.nodes }
+    requires within_limits { (s : ℕ) → IsAtZero tentative.old s → is_below 0 (number_at limits.now s) ≡ true }
     requires gentle { AreGentle graph.now.edges (number_at limits.now) }
-    ensures order { IfOk result (λ search.
-        IsSearched graph.now.edges (IsSource sources.now)
-        (number_at limits.now) search.order.items) }
-    ensures distances { IfOk result (λ search.
-        IsTable graph.now.edges (IsSource sources.now) (number_at limits.now)
-        (number_at search.distances.items)) }
-    ensures listing { IfOk result (λ search.
-        IsListing (number_at search.distances.items) search.order.items) }
-    ensures nodes { IfOk result (λ search. length search.distances.items ≡ graph.now.nodes) }
-    ensures pops { IfOk result (λ search.
-        search.pops ≤ count_by (λ s. s) sources.now + degrees graph.now search.order.items) }
-    ensures edges { IfOk result (λ search.
-        degrees graph.now search.order.items ≤ 2 * len graph.now.edges) }
-    ensures no_fewer { IfOk result (λ search. length search.order.items ≤ search.pops) }
+    ensures order { OnOk result (
+        IsSearched graph.now.edges (IsAtZero tentative.old)
+        (number_at limits.now) order.new.items) }
+    ensures distances { OnOk result (
+        IsTable graph.now.edges (IsAtZero tentative.old) (number_at limits.now)
+        (number_at tentative.new)) }
+    ensures listing { OnOk result (IsListing (number_at tentative.new) order.new.items) }
+    ensures arrivals { OnOk result (
+        AreArrivals graph.now (number_at tentative.new) (λ _. true) (arrival_at arrivals.new)) }
+    ensures pops { IfOk result (λ pops.
+        pops ≤ length (heap_items waiting.old) + degrees graph.now order.new.items) }
+    ensures edges { OnOk result (degrees graph.now order.new.items ≤ 2 * len graph.now.edges) }
+    ensures no_fewer { IfOk result (λ pops. length order.new.items ≤ pops) }
+    ensures tracked { IsTracked graph.now.nodes (number_at tentative.new) (flag_at settled.new)
+        order.new.items (heap_items waiting.new) }
 {
-    let nodes = graph.nodes() as usize;
-    let mut tentative = first_numbers(alloc, sources)?;
-    let mut waiting = first_waiting(alloc, sources)?;
-    let mut settled = vec![in alloc; false; nodes]?;
-    let mut order = Vec::new(alloc);
+    let _sound = graph.nodes();
     let mut pops: u64 = 0;
+    order.reserve(1)?;
     while let Some(Reverse(next)) = waiting.pop() {
         pops += 1;
         if settled[next.node as usize] {
             continue;
         }
         settled[next.node as usize] = true;
-        order.push(next)?;
-        relax(graph, limits, &mut tentative, &mut waiting, next)?;
+        enlist(order, next);
+        relax(graph, limits, tentative, arrivals, waiting, next)?;
+        order.reserve(1)?;
     }
-    Ok(Search {
-        order,
-        distances: tentative,
-        pops,
-    })
+    Ok(pops)
+}
+
+/// Puts a node behind the settled ones, where there is room.
+fn enlist(order: &mut Vec<Settled>, next: Settled)
+    requires { vec_len order.old < vec_capacity order.old }
+    ensures { order.new.items ≡ order.old.items ++ next ∷ [] }
+{
+    if order.push(next).is_err() {
+        unreachable!()
+    }
 }
 
 /// Distance 0 for each source, and none for the other nodes.
-fn first_numbers(alloc: Global, sources: &[bool]) -> Result<Vec<Option<u64>>, AllocError>
+pub fn first_numbers(alloc: Global, sources: &[bool]) -> Result<Vec<Option<u64>>, AllocError>
     ensures { IfOk result (λ numbers. numbers.items ≡ map first_number sources.now) }
 {
     sources
@@ -90,7 +110,7 @@ fn first_numbers(alloc: Global, sources: &[bool]) -> Result<Vec<Option<u64>>, Al
 }
 
 /// Each source, at distance 0.
-fn first_waiting(
+pub fn first_waiting(
     alloc: Global,
     sources: &[bool],
 ) -> Result<BinaryHeap<Reverse<Settled>>, AllocError>
@@ -132,40 +152,109 @@ fn relax(
     graph: &Graph,
     limits: &[Option<u64>],
     tentative: &mut [Option<u64>],
+    arrivals: &mut [Option<Arrival>],
     waiting: &mut BinaryHeap<Reverse<Settled>>,
     from: Settled,
 ) -> Result<(), AllocError>
     requires from { from.node < graph.now.nodes }
-    requires limits { length limits.now ≡ graph.now.nodes }
     requires tentative { length tentative.old ≡ graph.now.nodes }
+    requires arrivals { length arrivals.old ≡ graph.now.nodes }
     requires fits { from.distance < 2 ^ 63 }
     ensures relaxed { OnOk result (
         IsRelaxed graph.now.edges (number_at limits.now) from.node from.distance
         (number_at tentative.old) (number_at tentative.new)) }
+    ensures arriving { OnOk result (
+        IsArriving graph.now (number_at limits.now) from.node from.distance
+        (number_at tentative.old) (arrival_at arrivals.old) (arrival_at arrivals.new)) }
     ensures order { OnOk result (
         KeepsHeap nearest_first (heap_items waiting.old) (heap_items waiting.new)) }
-    ensures queue { OnOk result (
-        (done : ℕ → Bool) → IsQueue graph.now.nodes (number_at tentative.old) done
+    // also where memory was refused
+    ensures queue { (done : ℕ → Bool) → IsQueue graph.now.nodes (number_at tentative.old) done
         (heap_items waiting.old)
-        → IsQueue graph.now.nodes (number_at tentative.new) done (heap_items waiting.new)) }
+        → IsQueue graph.now.nodes (number_at tentative.new) done (heap_items waiting.new) }
     ensures length { OnOk result (
         length (heap_items waiting.new)
         ≤ length (heap_items waiting.old) + degree_of graph.now from.node) }
 {
-    for (node, weight) in graph.neighbours(from.node) {
+    for (port, (node, weight)) in graph.neighbours(from.node).iter().enumerate() {
         let y = *node as usize;
         let nearer = Settled {
             distance: from.distance + *weight as u64,
             node: *node,
         };
+        let arrival = Arrival {
+            parent: from.node,
+            down: port as u16,
+        };
+        let limit = limit_of(limits, *node);
         let there = tentative[y];
-        tentative[y] = offer(limits[y], nearer, there, waiting)?;
+        note(arrivals, *node, limit, nearer.distance, there, arrival);
+        tentative[y] = offer(limit, nearer, there, waiting)?;
     }
     Ok(())
 }
 
+/// Notes an arrival at a node, where its distance is better and within the limit, or as good and from a smaller node.
+fn note(
+    arrivals: &mut [Option<Arrival>],
+    node: u16,
+    limit: Option<u64>,
+    distance: u64,
+    there: Option<u64>,
+    new: Arrival,
+)
+    requires { node < length arrivals.old }
+    ensures { arrivals.new ≡ slice_set arrivals.old node
+        (arrived limit distance there (arrival_at arrivals.old node) new) }
+{
+    if is_taken(limit, distance, there, arrivals[node as usize], new) {
+        arrivals[node as usize] = Some(new);
+    }
+}
+
+fn is_taken(
+    limit: Option<u64>,
+    distance: u64,
+    there: Option<u64>,
+    before: Option<Arrival>,
+    new: Arrival,
+) -> bool
+    ensures { result ≡ taken limit distance there before new }
+{
+    (is_within(distance, limit) && is_improved(distance, there))
+        || (is_tied(distance, there) && is_smaller(new.parent, before))
+}
+
+fn is_tied(distance: u64, there: Option<u64>) -> bool
+    ensures { result ≡ tied distance there }
+{
+    match there {
+        None => false,
+        Some(number) => number == distance,
+    }
+}
+
+fn is_smaller(node: u16, there: Option<Arrival>) -> bool
+    ensures { result ≡ smaller node there }
+{
+    match there {
+        None => false,
+        Some(arrival) => node < arrival.parent,
+    }
+}
+
+/// The limit of a node: none past the end of the list.
+fn limit_of(limits: &[Option<u64>], node: u16) -> Option<u64>
+    ensures { result ≡ number_at limits.now node }
+{
+    match limits.get(node as usize) {
+        Some(limit) => *limit,
+        None => None,
+    }
+}
+
 /// The distance of a node after an offer. If the offer is better than what is there, the node waits at it.
-fn offer(
+pub fn offer(
     limit: Option<u64>,
     nearer: Settled,
     there: Option<u64>,
@@ -177,6 +266,7 @@ fn offer(
         (heap_items waiting.old) (heap_items waiting.new)) }
     ensures order { OnOk result (
         KeepsHeap nearest_first (heap_items waiting.old) (heap_items waiting.new)) }
+    ensures refused { OnErr result (heap_items waiting.new ≡ heap_items waiting.old) }
 {
     if is_within(nearer.distance, limit) && is_improved(nearer.distance, there) {
         waiting.push(Reverse(nearer))?;

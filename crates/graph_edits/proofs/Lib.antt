@@ -8,3 +8,4 @@ pub mod Placing
 pub mod Making
 pub mod Preparing
 pub mod EdgeRows
+mod InPlace

@@ -1,5 +1,5 @@
 -- The network that rows stand for.
-use Rattle.std.proofs.Common.{◌≡◌, ℕ, zero, suc, ◌+◌, ◌<◌, ◌≤◌, Bool, true, false, cond, ◌&&◌, T, ◌≢◌, inl, inr, List, [], ◌∷◌, ◌++◌, length, get_or, Option, None, Some, Less, is_lt, nat_cmp, eqb, ltb, refl, sym, ap, ◌∙◌, subst, arith, Vec, Global, take, set, get_or-set_other}
+use Rattle.std.proofs.Common.{◌≡◌, ℕ, zero, suc, ◌+◌, ◌<◌, ◌≤◌, Bool, true, false, cond, ◌&&◌, T, inl, inr, List, [], ◌∷◌, ◌++◌, length, get_or, Option, None, Some, Less, is_lt, nat_cmp, eqb, ltb, refl, sym, ap, ◌∙◌, subst, arith, Vec, Global, take}
 use Rattle.std.specs.Cmp.{nat_cmp_total, nat_cmp_is, unsigned_tied}
 use Rattle.std.specs.FinMap.{find, get, len, empty, get-empty, len-empty, same_map, is_sorted, nat_cmp-IsAntisymmetric}
 use Rattle.std.specs.FinMap.Entries.{same_entries, find-append, below_all}
@@ -7,7 +7,7 @@ use Rattle.std.specs.List.{filter_map, cons_option, sum_by}
 use Rattle.std.proofs.lemmas.List.Sums.{sum_by-append, sum_by-cons}
 use Rattle.std.proofs.Math.Seq.{take-suc}
 use Rattle.std.specs.Option.{option_map}
-use Rattle.std.proofs.lemmas.List.{get_or_past, map-set}
+use Rattle.std.proofs.lemmas.List.{get_or_past}
 use Rattle.std.proofs.lemmas.List.Elements.{filter_map-append}
 use Rattle.std.proofs.lemmas.Bool.{cases_lt}
 use Rattle.std.proofs.lemmas.Bool.Decides.{nat_tests}

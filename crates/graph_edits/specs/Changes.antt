@@ -17,12 +17,16 @@ is_weight w = nat_le 1 w && nat_le w greatest_weight
 abbrev pub ends_refused : ℕ → ℕ → ℕ → Option Code → Option Code
 ends_refused nodes a b rest = cond (nat_lt a nodes && nat_lt b nodes) (cond (a == b) (Some Loop) rest) (Some NoNode)
 
--- why an op is refused: the first case that holds. `nodes` and `edges` are how many there are, `there` whether the pair has an edge
+-- why an op is refused where there may be `most` edges: the first case that holds. `nodes` and `edges` are how many there are, `there` whether the pair has an edge
+abbrev pub refusal_within : ℕ → ℕ → ℕ → Bool → Op → Option Code
+refusal_within most nodes edges there (Add a b w) =
+    ends_refused nodes a b (cond (is_weight w) (cond there (Some EdgeThere) (cond (nat_lt edges most) None (Some TooManyEdges))) (Some BadWeight))
+refusal_within most nodes edges there (Set a b w) = ends_refused nodes a b (cond (is_weight w) (cond there None (Some NoEdge)) (Some BadWeight))
+refusal_within most nodes edges there (Cut a b) = ends_refused nodes a b (cond there None (Some NoEdge))
+
+-- the same under the limit of a graph
 abbrev pub refusal : ℕ → ℕ → Bool → Op → Option Code
-refusal nodes edges there (Add a b w) =
-    ends_refused nodes a b (cond (is_weight w) (cond there (Some EdgeThere) (cond (nat_lt edges most_edges) None (Some TooManyEdges))) (Some BadWeight))
-refusal nodes edges there (Set a b w) = ends_refused nodes a b (cond (is_weight w) (cond there None (Some NoEdge)) (Some BadWeight))
-refusal nodes edges there (Cut a b) = ends_refused nodes a b (cond there None (Some NoEdge))
+refusal nodes edges there op = refusal_within most_edges nodes edges there op
 
 -- the edges after an op that is not refused
 abbrev pub edges_after_op : EdgeMap → Op → EdgeMap
@@ -42,28 +46,44 @@ second_node (Add a b w) = b
 second_node (Set a b w) = b
 second_node (Cut a b) = b
 
--- why an op is refused in the map m
+-- why an op is refused in the map m, where there may be `most` edges
+abbrev pub refusal_at_within : ℕ → ℕ → EdgeMap → Op → Option Code
+refusal_at_within most nodes m op = refusal_within most nodes (len m) (is_some (weight_between m (first_node op) (second_node op))) op
+
+-- the same under the limit of a graph
 abbrev pub refusal_at : ℕ → EdgeMap → Op → Option Code
-refusal_at nodes m op = refusal nodes (len m) (is_some (weight_between m (first_node op) (second_node op))) op
+refusal_at nodes m op = refusal_at_within most_edges nodes m op
 
 -- the result r, or the refusal of the op at a place
 abbrev pub or_refused_at : Option Code → ℕ → Result EdgeMap (ℕ × Code) → Result EdgeMap (ℕ × Code)
 or_refused_at None place r = r
 or_refused_at (Some c) place r = Err (place, c)
 
--- the edges after all ops in order, or the place and code of the first that is refused. `place` is the place of the first op
+-- the edges after all ops in order, or the place and code of the first that is refused, where there may be `most` edges. `place` is the place of the first op
+abbrev pub edges_after_within : ℕ → ℕ → EdgeMap → ℕ → List Op → Result EdgeMap (ℕ × Code)
+edges_after_within most nodes m place [] = Ok m
+edges_after_within most nodes m place (op ∷ ops) = or_refused_at (refusal_at_within most nodes m op) place (edges_after_within most nodes (edges_after_op m op) (place + 1) ops)
+
+-- the same under the limit of a graph
 abbrev pub edges_after : ℕ → EdgeMap → ℕ → List Op → Result EdgeMap (ℕ × Code)
-edges_after nodes m place [] = Ok m
-edges_after nodes m place (op ∷ ops) = or_refused_at (refusal_at nodes m op) place (edges_after nodes (edges_after_op m op) (place + 1) ops)
+edges_after nodes m place ops = edges_after_within most_edges nodes m place ops
 
--- the network after a change
+-- the network after a change, where there may be `most` edges
+abbrev pub after_within : ℕ → Network → List Op → Result Network (ℕ × Code)
+after_within most g ops = elim (edges_after_within most g.nodes g.edges 0 ops) [ Ok m ↦ Ok (record g { edges = m }) | Err e ↦ Err e ]
+
+-- the same under the limit of a graph
 abbrev pub after : Network → List Op → Result Network (ℕ × Code)
-after g ops = elim (edges_after g.nodes g.edges 0 ops) [ Ok m ↦ Ok (record g { edges = m }) | Err e ↦ Err e ]
+after g ops = after_within most_edges g ops
 
--- after changes in order, each accepted
+-- after changes in order, each accepted where there may be `most` edges
+abbrev pub fold_within : ℕ → Network → List (List Op) → Option Network
+fold_within most g [] = Some g
+fold_within most g (change ∷ changes) = elim (after_within most g change) [ Ok h ↦ fold_within most h changes | Err e ↦ None ]
+
+-- the same under the limit of a graph
 abbrev pub fold : Network → List (List Op) → Option Network
-fold g [] = Some g
-fold g (change ∷ changes) = elim (after g change) [ Ok h ↦ fold h changes | Err e ↦ None ]
+fold g changes = fold_within most_edges g changes
 
 -- the edges after ops of which none is refused
 abbrev pub edges_by : EdgeMap → List Op → EdgeMap

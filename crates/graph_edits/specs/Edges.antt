@@ -6,7 +6,7 @@ use Rattle.std.specs.FinMap.{FinMap, get, len, code}
 use Rattle.std.specs.Coded.{Coded, coded×, coded_ℕ, code_by}
 use Rattle.std.specs.List.{filter_map, slice_get, sum_by}
 use Rattle.std.specs.Option.{option_map}
-use Rattle.graph_edits.specs.declared.limits.TheConstants.{MOST_NODES, MOST_EDGES, GREATEST_WEIGHT, MOST_OPS}
+pub use Rattle.graph_edits.specs.Limits.{most_nodes, most_edges, greatest_weight, most_ops}
 
 -- the order of pairs: by the first node, and then by the second
 abbrev pub pair_cmp : ℕ × ℕ → ℕ × ℕ → Ordering
@@ -45,22 +45,6 @@ below (suc n) = below n ++ n ∷ []
 -- the neighbours of a node with the weights of the edges, in ascending order. The k-th has the port k
 abbrev pub neighbours_of : Network → ℕ → List (ℕ × ℕ)
 neighbours_of g x = filter_map (λ y. option_map (λ w. (y, w)) (weight_in g x y)) (below g.nodes)
-
--- the most nodes that a network may have; this limit and the next three are declared by the code
-abbrev pub most_nodes : ℕ
-most_nodes = MOST_NODES
-
--- the most edges
-abbrev pub most_edges : ℕ
-most_edges = MOST_EDGES
-
--- the greatest weight of an edge
-abbrev pub greatest_weight : ℕ
-greatest_weight = GREATEST_WEIGHT
-
--- the most ops in a change
-abbrev pub most_ops : ℕ
-most_ops = MOST_OPS
 
 -- how many neighbours a node has
 abbrev pub degree_of : Network → ℕ → ℕ

@@ -1,9 +1,9 @@
 // Ops on edges, and changes of several ops.
 ghost use Rattle.std.specs.Prelude.{◌≡◌, ℕ, ◌+◌, ◌<◌, ◌≤◌, ◌↔◌, List, length, IfOk, if◌then◌else◌};
-ghost use Rattle.graph_edits.specs.Changes.{first_node, second_node, op_weight, refusal};
+ghost use Rattle.graph_edits.specs.Changes.{first_node, second_node, op_weight, refusal_within};
 ghost use Rattle.graph_edits.specs.Rows.{joins};
 
-use crate::limits::{GREATEST_WEIGHT, MOST_EDGES, MOST_OPS};
+use crate::limits::{GREATEST_WEIGHT, MOST_OPS};
 use arrayvec::ArrayVec;
 use std::marker::Model;
 
@@ -64,9 +64,10 @@ impl Op {
         }
     }
 
-    /// Why it is refused in a graph of so many nodes and edges, `there` being whether its pair has an edge.
-    pub(crate) fn refusal(self, nodes: u16, edges: usize, there: bool) -> Option<Code>
-        ensures { result ≡ refusal nodes edges there self }
+    /// Why it is refused in a graph of so many nodes and edges that may have `limit` edges, `there` being whether its
+    /// pair has an edge.
+    pub(crate) fn refusal(self, limit: usize, nodes: u16, edges: usize, there: bool) -> Option<Code>
+        ensures { result ≡ refusal_within limit nodes edges there self }
     {
         let (a, b) = self.ends();
         if a >= nodes || b >= nodes {
@@ -82,7 +83,7 @@ impl Op {
         }
         match self {
             Op::Add(_, _, _) if there => Some(Code::EdgeThere),
-            Op::Add(_, _, _) if edges >= MOST_EDGES => Some(Code::TooManyEdges),
+            Op::Add(_, _, _) if edges >= limit => Some(Code::TooManyEdges),
             Op::Set(_, _, _) | Op::Cut(_, _) if !there => Some(Code::NoEdge),
             _ => None,
         }
@@ -170,5 +171,15 @@ impl Change {
         ensures few { length self.now ≤ MOST_OPS }
     {
         self.ops.as_slice()
+    }
+
+    /// An equal change. It takes no memory.
+    pub fn copy(&self) -> Change
+        ensures { result ≡ self.now }
+    {
+        match Change::new(self.ops()) {
+            Ok(copy) => copy,
+            Err(_) => unreachable!(),
+        }
     }
 }

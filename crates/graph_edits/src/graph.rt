@@ -1,13 +1,14 @@
 // A graph, kept as the row of each node.
 ghost use Rattle.std.specs.Prelude.{◌≡◌, ℕ, ◌+◌, ◌<◌, ◌≤◌, ◌≢◌, T, not, Option, None, length, vec_len, vec_capacity, IfOk, IfErr, IsOk, OnOk, OnErr, Ok, ◌↔◌, Some, IsSome};
-ghost use Rattle.std.specs.FinMap.{empty, len};
-ghost use Rattle.graph_edits.specs.Changes.{after, fold, edges_after, err_of, IsRefusedAs};
-ghost use Rattle.graph_edits.specs.Edges.{weight_in, neighbours_of, over_port, all_degrees, IsSound};
+ghost use Rattle.std.specs.FinMap.{empty, insert, len};
+ghost use Rattle.graph_edits.specs.declared.edits.Op.TheVariants.{Add};
+ghost use Rattle.graph_edits.specs.Changes.{after, after_within, fold, edges_after_within, err_of, IsRefusedAs, refusal_at};
+ghost use Rattle.graph_edits.specs.Edges.{weight_in, neighbours_of, over_port, all_degrees, IsSound, pair_of};
 
 use crate::edits::{Change, Code, EditRefused, Op};
 use crate::limits::{MOST_EDGES, MOST_NODES};
 use crate::overlay::Overlay;
-use crate::prepared::{Prepared, rewrite_all};
+use crate::prepared::Prepared;
 use crate::{rows, table};
 use std::alloc::{AllocError, Global};
 use std::marker::Model;
@@ -17,7 +18,7 @@ use std::snapshot::Snapshot;
 /// An undirected graph with weighted edges, at most one between two nodes and none from a node to itself.
 #[derive(Debug, Drop)]
 pub struct Graph {
-    rows: Vec<Vec<(u16, u32)>>,
+    pub(crate) rows: Vec<Vec<(u16, u32)>>,
     edges: usize,
 }
 
@@ -55,6 +56,13 @@ impl Graph {
         ensures degrees { all_degrees self.now ≡ len self.now.edges + len self.now.edges }
     {
         self.rows.len() as u16
+    }
+
+    /// Says for a proof that the graph is sound. It does nothing.
+    pub fn sound(&self)
+        ensures { IsSound self.now }
+    {
+        let _sound = self.nodes();
     }
 
     /// How many edges there are, in one step.
@@ -132,7 +140,19 @@ impl Graph {
         ensures refused { IfErr result (IsRefusedAs (after self.old change.now)) }
         ensures memory { result ≡ Err EditRefused.Memory → IsOk (after self.old change.now) }
     {
-        if let Some((index, code)) = self.first_refused(change.ops()) {
+        self.apply_within(change, MOST_EDGES)
+    }
+
+    /// The same where the graph may have `limit` edges: an op that would add one more is refused, also where a later op
+    /// of the change cuts an edge.
+    pub fn apply_within(&mut self, change: &Change, limit: usize) -> Result<(), EditRefused>
+        requires { limit ≤ MOST_EDGES }
+        ensures ok { OnOk result (after_within limit self.old change.now ≡ Ok self.new) }
+        ensures unchanged { OnErr result (self.new ≡ self.old) }
+        ensures refused { IfErr result (IsRefusedAs (after_within limit self.old change.now)) }
+        ensures memory { result ≡ Err EditRefused.Memory → IsOk (after_within limit self.old change.now) }
+    {
+        if let Some((index, code)) = self.first_refused(limit, change.ops()) {
             return Err(EditRefused::Op { index, code });
         }
         match self.prepare(self.allocator(), slice::from_ref(change)) {
@@ -144,6 +164,34 @@ impl Graph {
         }
     }
 
+    /// Adds an edge in the rows of its two nodes, where nothing stands against it. No row is copied, and where the edge comes
+    /// after all others nothing is moved: a graph is read back by its ascending edges in steps that don't grow with it.
+    ///
+    /// A refusal of memory leaves the graph as it was.
+    pub fn add(&mut self, a: u16, b: u16, weight: u32) -> Result<(), AllocError>
+        requires { refusal_at self.old.nodes self.old.edges (Add a b weight) ≡ None }
+        ensures ok { OnOk result (self.new ≡ record { nodes = self.old.nodes; edges = insert self.old.edges (pair_of a b) weight }) }
+        ensures unchanged { OnErr result (self.new ≡ self.old) }
+    {
+        rows::put_both(&mut self.rows, a, b, weight)?;
+        self.edges += 1;
+        Ok(())
+    }
+
+    /// What the graph needs to stay as it is, which is nothing. It takes no memory.
+    ///
+    /// `Prepared::take` adds changes to it, one at a time.
+    pub fn preparation(&self) -> Prepared
+        ensures before { result.before ≡ self.now }
+        ensures after { result.after ≡ self.now }
+    {
+        Prepared {
+            rows: Vec::new(self.allocator()),
+            edges: self.edges,
+            before: Snapshot::of(self),
+        }
+    }
+
     /// Makes what the graph needs to take changes that it accepts in order: new rows for the nodes that they name.
     ///
     /// The graph stays as it is. `Overlay::apply` says whether it accepts them.
@@ -152,16 +200,11 @@ impl Graph {
         ensures before { IfOk result (λ prepared. prepared.before ≡ self.now) }
         ensures after { IfOk result (λ prepared. Some prepared.after ≡ fold self.now changes.now) }
     {
-        let mut rows = Vec::new(alloc);
-        let mut edges = self.edges;
+        let mut prepared = self.preparation();
         for change in changes {
-            rewrite_all(alloc, &self.rows, &mut rows, &mut edges, change.ops())?;
+            prepared = prepared.take(alloc, self, change)?;
         }
-        Ok(Prepared {
-            rows,
-            edges,
-            before: Snapshot::of(self),
-        })
+        Ok(prepared)
     }
 
     /// Takes what was prepared for the graph as it stands. It takes no memory and can't be refused.
@@ -180,10 +223,11 @@ impl Graph {
         self.edges = edges;
     }
 
-    fn first_refused(&self, ops: &[Op]) -> Option<(usize, Code)>
-        ensures { result ≡ err_of (edges_after self.now.nodes self.now.edges 0 ops.now) }
+    fn first_refused(&self, limit: usize, ops: &[Op]) -> Option<(usize, Code)>
+        requires { limit ≤ MOST_EDGES }
+        ensures { result ≡ err_of (edges_after_within limit self.now.nodes self.now.edges 0 ops.now) }
     {
-        Overlay::over(self.allocator(), self).first_refused(ops)
+        Overlay::over(self.allocator(), self).first_refused(limit, ops)
     }
 
     fn allocator(&self) -> Global {

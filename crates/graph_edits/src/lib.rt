@@ -30,6 +30,9 @@
 
 mod edits;
 mod graph;
+#[cfg(test)]
+mod growing_tests;
+mod laws;
 mod limits;
 mod overlay;
 mod prepared;
@@ -40,6 +43,7 @@ mod tests;
 
 pub use edits::{Change, Code, EditRefused, Op, Shape};
 pub use graph::Graph;
+pub use laws::limit_laws;
 pub use limits::{GREATEST_WEIGHT, MOST_EDGES, MOST_NODES, MOST_OPS};
 pub use overlay::Overlay;
 pub use prepared::Prepared;

@@ -1,7 +1,7 @@
 // A graph as changes would leave it, which are not made.
 ghost use Rattle.std.specs.Prelude.{◌≡◌, ℕ, ◌+◌, ◌<◌, ◌≤◌, T, Option, Ok, IfErr, IsOk, OnOk, OnErr, vec_len, vec_capacity};
 ghost use Rattle.std.specs.FinMap.{len, put, is_sorted};
-ghost use Rattle.graph_edits.specs.Changes.{after, edges_after, edges_by, err_of, IsRefusedAs, CountFits, count_after, first_node, second_node, op_weight};
+ghost use Rattle.graph_edits.specs.Changes.{after, edges_after_within, edges_by, err_of, IsRefusedAs, CountFits, count_after, first_node, second_node, op_weight};
 ghost use Rattle.graph_edits.specs.Edges.{pair_cmp, pair_of, weight_between, weight_in};
 
 use crate::edits::{Change, Code, EditRefused, Op};
@@ -52,7 +52,7 @@ impl<'g> Overlay<'g> {
         ensures memory { result ≡ Err EditRefused.Memory → IsOk (after self.old change.now) }
     {
         let ops = change.ops();
-        if let Some((index, code)) = self.first_refused(ops) {
+        if let Some((index, code)) = self.first_refused(MOST_EDGES, ops) {
             return Err(EditRefused::Op { index, code });
         }
         if self.changed.reserve(MOST_OPS).is_err() {
@@ -98,16 +98,17 @@ impl<'g> Overlay<'g> {
         weight
     }
 
-    /// The first op that is refused, each judged after those before it.
-    pub(crate) fn first_refused(&self, ops: &[Op]) -> Option<(usize, Code)>
-        ensures { result ≡ err_of (edges_after self.now.nodes self.now.edges 0 ops.now) }
+    /// The first op that is refused where there may be `limit` edges, each judged after those before it.
+    pub(crate) fn first_refused(&self, limit: usize, ops: &[Op]) -> Option<(usize, Code)>
+        requires { limit ≤ MOST_EDGES }
+        ensures { result ≡ err_of (edges_after_within limit self.now.nodes self.now.edges 0 ops.now) }
     {
         let nodes = self.nodes();
         let mut edges = self.edges();
         for (i, op) in ops.iter().enumerate() {
             let (a, b) = op.ends();
             let there = self.weight_after(&ops[..i], a, b).is_some();
-            if let Some(code) = op.refusal(nodes, edges, there) {
+            if let Some(code) = op.refusal(limit, nodes, edges, there) {
                 return Some((i, code));
             }
             edges = edges_then(edges, *op);

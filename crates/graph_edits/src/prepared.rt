@@ -1,12 +1,12 @@
 // New rows for the nodes that changes touch, made beside the graph's own.
-ghost use Rattle.std.specs.Prelude.{◌≡◌, ◌≢◌, ℕ, ◌+◌, ◌<◌, ◌≤◌, T, None, Ok, IfOk, OnOk, length, slice_set};
+ghost use Rattle.std.specs.Prelude.{◌≡◌, ◌≢◌, ℕ, ◌+◌, ◌<◌, ◌≤◌, T, None, Ok, IfOk, IsOk, OnOk, length, slice_set};
 ghost use Rattle.std.specs.Ordering.{nat_cmp};
 ghost use Rattle.std.specs.FinMap.{put, is_sorted};
-ghost use Rattle.graph_edits.specs.Changes.{edges_after, err_of, first_node, second_node, op_weight, HasEndsIn};
+ghost use Rattle.graph_edits.specs.Changes.{after, edges_after, err_of, first_node, second_node, op_weight, HasEndsIn};
 ghost use Rattle.graph_edits.specs.Rows.{lists, row_of, edges_from, cut_row, HasAt, AreRows};
 ghost use Rattle.graph_edits.specs.Placed.{placed, rows_with, AreSlots};
 
-use crate::edits::Op;
+use crate::edits::{Change, Op};
 use crate::graph::Graph;
 use crate::overlay::edges_then;
 use crate::{rows, table};
@@ -35,8 +35,32 @@ impl Model for Prepared {
     ghost invariant = { λ p. IsPrepared p.before.value p.rows.items p.edges };
 }
 
+impl Prepared {
+    /// What the graph needs to take one more change, which it accepts after those before.
+    ///
+    /// It is made of what was prepared, which is gone where memory is short: then begin anew.
+    pub fn take(self, alloc: Global, graph: &Graph, change: &Change) -> Result<Prepared, AllocError>
+        requires of_this { self.before ≡ graph.now }
+        requires accepted { IsOk (after self.after change.now) }
+        ensures before { IfOk result (λ prepared. prepared.before ≡ self.before) }
+        ensures after { IfOk result (λ prepared. after self.after change.now ≡ Ok prepared.after) }
+    {
+        let Prepared {
+            mut rows,
+            mut edges,
+            before,
+        } = self;
+        rewrite_all(alloc, &graph.rows, &mut rows, &mut edges, change.ops())?;
+        Ok(Prepared {
+            rows,
+            edges,
+            before,
+        })
+    }
+}
+
 /// Makes ops of which none is refused in the new rows.
-pub(crate) fn rewrite_all(
+fn rewrite_all(
     alloc: Global,
     base: &[Vec<(u16, u32)>],
     rows: &mut Vec<(u16, Vec<(u16, u32)>)>,
@@ -139,7 +163,7 @@ fn slot_of(
     match table::find_place(rows, node) {
         Ok(i) => Ok(i),
         Err(i) => {
-            let row = rows::copy_of(alloc, &base[node as usize])?;
+            let row = rows::copy_with_room(alloc, &base[node as usize])?;
             rows.insert(i, (node, row))?;
             Ok(i)
         }

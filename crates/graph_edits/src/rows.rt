@@ -1,10 +1,11 @@
 // One node's row: its neighbours with the weights of the edges, in ascending order.
-ghost use Rattle.std.specs.Prelude.{◌≡◌, ℕ, ◌+◌, ◌<◌, ◌≤◌, T, not, Option, None, length, vec_len, vec_capacity, IfOk, IfErr, OnOk, Some, ◌↔◌};
+ghost use Rattle.std.specs.Prelude.{◌≡◌, ◌≢◌, ℕ, ◌+◌, ◌<◌, ◌≤◌, T, not, Option, None, length, vec_len, vec_capacity, IfOk, IfErr, OnOk, OnErr, Some, ◌↔◌};
 ghost use Rattle.std.specs.Ordering.{nat_cmp, eq_by_cmp};
 ghost use Rattle.std.specs.FinMap.{find, put, is_sorted};
 ghost use Rattle.std.specs.FinMap.Entries.{where_key};
 ghost use Rattle.std.specs.List.{slice_get};
 ghost use Rattle.std.specs.Option.{option_map};
+ghost use Rattle.graph_edits.specs.Rows.{lists, row_of, put_both};
 
 use crate::table::{self, find_place};
 use std::alloc::{AllocError, Global};
@@ -37,6 +38,18 @@ pub(crate) fn copy_of(alloc: Global, row: &[(u16, u32)]) -> Result<Vec<(u16, u32
     Ok(copy)
 }
 
+/// The same with room for one entry more.
+pub(crate) fn copy_with_room(
+    alloc: Global,
+    row: &[(u16, u32)],
+) -> Result<Vec<(u16, u32)>, AllocError>
+    ensures { IfOk result (λ copy. copy.items ≡ row.now) }
+{
+    let mut copy = Vec::with_capacity(alloc, row.len() + 1)?;
+    copy.extend_from_slice(row)?;
+    Ok(copy)
+}
+
 /// Gives the edge to a neighbour a weight.
 pub(crate) fn put_neighbour(
     row: &mut Vec<(u16, u32)>,
@@ -44,9 +57,30 @@ pub(crate) fn put_neighbour(
     weight: u32,
 ) -> Result<(), AllocError>
     requires { T (is_sorted nat_cmp row.old.items) }
-    ensures { OnOk result (row.new.items ≡ put nat_cmp neighbour weight row.old.items) }
+    ensures ok { OnOk result (row.new.items ≡ put nat_cmp neighbour weight row.old.items) }
+    ensures unchanged { OnErr result (row.new.items ≡ row.old.items) }
 {
     row.reserve(1)?;
     table::put_entry(row, neighbour, weight);
+    Ok(())
+}
+
+/// Gives the edge between two nodes a weight, in the rows of both.
+pub(crate) fn put_both(
+    rows: &mut Vec<Vec<(u16, u32)>>,
+    a: u16,
+    b: u16,
+    weight: u32,
+) -> Result<(), AllocError>
+    requires first { a < length rows.old.items }
+    requires second { b < length rows.old.items }
+    requires apart { a ≢ b }
+    requires sorted { (x : ℕ) → T (is_sorted nat_cmp (row_of (lists rows.old.items) x)) }
+    ensures ok { OnOk result (lists rows.new.items ≡ put_both (lists rows.old.items) a b weight) }
+    ensures unchanged { OnErr result (lists rows.new.items ≡ lists rows.old.items) }
+{
+    rows[b as usize].reserve(1)?;
+    put_neighbour(&mut rows[a as usize], b, weight)?;
+    table::put_entry(&mut rows[b as usize], a, weight);
     Ok(())
 }

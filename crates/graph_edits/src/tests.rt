@@ -184,69 +184,65 @@ fn clones_stand_alone(rt: HostRuntime) -> Result<(), Fail> {
     Ok(())
 }
 
+// Each node has an edge to each of the four behind it, round the end, so there are as many edges as may be.
 #[test]
 fn takes_as_many_edges_as_the_limit(rt: HostRuntime) -> Result<(), Fail> {
-    let mut graph = empty(rt.alloc(), 4096)?;
-    for step in 0..1024u16 {
+    let last = MOST_NODES - 1;
+    let mut graph = empty(rt.alloc(), MOST_NODES)?;
+    for step in 0..MOST_NODES / 4 {
         let mut ops = [Op::Cut(0, 0); 16];
         for (i, op) in ops.iter_mut().enumerate() {
             let from = step * 4 + (i / 4) as u16;
             let next = 1 + (i % 4) as u16;
-            *op = Op::Add(from, (from + next) % 4096, 7);
+            *op = Op::Add(from, (from + next) % MOST_NODES, 7);
         }
         apply(&rt, &mut graph, &change(&ops)?)?;
     }
-    assert_eq!(rt; graph.edges(), 16_384);
+    assert_eq!(rt; graph.edges(), MOST_EDGES);
     assert_eq!(rt;
-        graph.apply(&change(&[Op::Set(0, 1, 8), Op::Add(0, 2048, 1)])?),
+        graph.apply(&change(&[Op::Set(0, 1, 8), Op::Add(0, MOST_NODES / 2, 1)])?),
         Err(EditRefused::Op {
             index: 1,
             code: Code::TooManyEdges
         })
     );
+    let swap = change(&[Op::Cut(last, 3), Op::Add(MOST_NODES / 2, 0, 1)])?;
+    assert_eq!(rt; apply(&rt, &mut graph, &swap), Ok(()));
+    assert_eq!(rt; graph.weight(0, MOST_NODES / 2), Some(1));
+    assert!(rt; last < graph.nodes());
+    let nodes = [0, 1, 2, last - 4, last - 3, last - 2, last - 1];
     assert_eq!(rt;
-        apply(
-            &rt,
-            &mut graph,
-            &change(&[Op::Cut(4095, 3), Op::Add(2048, 0, 1)])?
-        ),
-        Ok(())
-    );
-    assert_eq!(rt; graph.weight(0, 2048), Some(1));
-    assert!(rt; 4095 < graph.nodes());
-    assert_eq!(rt;
-        graph.neighbours(4095),
-        [
-            (0, 7),
-            (1, 7),
-            (2, 7),
-            (4091, 7),
-            (4092, 7),
-            (4093, 7),
-            (4094, 7)
-        ]
-        .as_slice()
+        graph.neighbours(last),
+        nodes.map(|node| (node, 7)).as_slice()
     );
     Ok(())
 }
 
 #[test]
 fn finds_its_way_in_a_long_row(rt: HostRuntime) -> Result<(), Fail> {
-    let mut graph = empty(rt.alloc(), 4096)?;
-    for node in 0..4095u16 {
-        apply(
-            &rt,
-            &mut graph,
-            &change(&[Op::Add(4095, 4094 - node, 1 + node as u32)])?,
-        )?;
+    let last = MOST_NODES - 1;
+    let mut graph = empty(rt.alloc(), MOST_NODES)?;
+    for node in 0..last {
+        let edge = change(&[Op::Add(last, last - 1 - node, 1 + node as u32)])?;
+        apply(&rt, &mut graph, &edge)?;
     }
-    assert!(rt; 4095 < graph.nodes());
-    for node in [0u16, 1, 15, 16, 17, 2047, 2048, 4093, 4094] {
-        assert_eq!(rt; graph.port_to(4095, node), Some(node));
-        assert_eq!(rt; graph.over(4095, node), Some(node));
-        assert_eq!(rt; graph.weight(node, 4095), Some(4095 - node as u32));
+    assert!(rt; last < graph.nodes());
+    for node in [
+        0u16,
+        1,
+        15,
+        16,
+        17,
+        last / 2,
+        last / 2 + 1,
+        last - 2,
+        last - 1,
+    ] {
+        assert_eq!(rt; graph.port_to(last, node), Some(node));
+        assert_eq!(rt; graph.over(last, node), Some(node));
+        assert_eq!(rt; graph.weight(node, last), Some((last - node) as u32));
     }
-    assert_eq!(rt; graph.over(4095, 4095), None);
+    assert_eq!(rt; graph.over(last, last), None);
     Ok(())
 }
 

@@ -6,8 +6,8 @@ use Rattle.std.specs.List.{range_with_len}
 use Rattle.graph_edits.specs.declared.edits.Op.{Op}
 use Rattle.graph_edits.specs.declared.edits.Code.{Code}
 use Rattle.graph_edits.specs.Edges.{Network}
-use Rattle.graph_edits.specs.Changes.{after as graph_after, fold}
-use Rattle.standing.specs.State.{State, after}
+use Rattle.graph_edits.specs.Changes.{after as graph_after, fold, fold_within}
+use Rattle.recovery_1.specs.State.{State, counted, after}
 use Rattle.group_commit.specs.declared.request.Request.{Request}
 use Rattle.group_commit.specs.declared.request.Mark.{Mark}
 use Rattle.group_commit.specs.declared.request.Verdict.TheVariants.{Accepted, Refused}
@@ -39,7 +39,7 @@ pub graphs_lead : (s : State) (rs : List Request) → fold s.graph (settle s rs)
 graphs_lead s [] = refl
 graphs_lead s (r ∷ rs) =
     let by : (o : Result Network (ℕ × Code)) → graph_after s.graph r.change ≡ o → fold s.graph (settle_by s r rs o).accepted ≡ Some (settle_by s r rs o).state.graph = λ o. elim o as (λ o. graph_after s.graph r.change ≡ o → fold s.graph (settle_by s r rs o).accepted ≡ Some (settle_by s r rs o).state.graph) [
-      | Ok graph ↦ λ e. rw (e, fold) (graphs_lead (one_more s graph) rs)
+      | Ok graph ↦ λ e. rw (e, fold_within) (graphs_lead (one_more s graph) rs)
       | Err at ↦ λ e. graphs_lead s rs
     ] in
     rw (settle_step s r rs) (by (graph_after s.graph r.change) refl)
@@ -67,11 +67,11 @@ accepted_few s (r ∷ rs) =
 -- the accepted changes lead to the state
 pub accepted_lead : (s : State) (rs : List Request) → after s (settle s rs).accepted ≡ Some (settle s rs).state
 accepted_lead s rs =
-    rw (graphs_lead s rs) (ap (λ n. Some (record { count = n; graph = (settle s rs).state.graph })) (sym (settled_count s rs)))
+    rw (graphs_lead s rs) (ap (λ n. Some (counted n (settle s rs).state.graph)) (sym (settled_count s rs)))
 
 -- settlings that say the same are one
 same_settled : (t u : Settled) → t.marks ≡ u.marks → t.accepted ≡ u.accepted → t.state.count ≡ u.state.count → t.state.graph ≡ u.state.graph → t ≡ u
-same_settled t u marks accepted count graph = λ i. record { marks = marks i; accepted = accepted i; state = record { count = count i; graph = graph i } }
+same_settled t u marks accepted count graph = λ i. record { marks = marks i; accepted = accepted i; state = counted (count i) (graph i) }
 
 -- a request more at the end, which the graph takes
 pub accepts_last : (s : State) (rs : List Request) (r : Request) (t u : Settled) (mark : Mark) (change : List Op) → settle s rs ≡ t → graph_after t.state.graph r.change ≡ Ok u.state.graph

@@ -1,7 +1,8 @@
 -- A desk, as the crates above see it.
-use Rattle.std.specs.Prelude.{◌≡◌, ◌≤◌, List, [], length, Option, true}
+use Rattle.std.specs.Prelude.{◌≡◌, ◌≢◌, ◌⊎◌, ◌≤◌, ◌<◌, List, [], length, Option, true}
 use Rattle.checkpoint.specs.declared.store.Store.{Store}
-use Rattle.checkpoint.specs.StoreWords.{state_of, is_down}
+use Rattle.recovery_1.specs.Layout.{worn_limit}
+use Rattle.checkpoint.specs.StoreWords.{state_of, is_down, LacksRoomFor, IsWornOut}
 use Rattle.group_commit.specs.Limits.{most_held}
 use Rattle.group_commit.specs.declared.desk.Desk.{Desk}
 use Rattle.group_commit.specs.declared.request.Request.{Request}
@@ -24,6 +25,10 @@ due_of desk = desk.due
 -- what becomes of the requests that it holds, from where its store stands
 abbrev pub settled_of : {D : Type 0} {V : _} → Desk D V → Settled
 settled_of desk = settle (state_of desk.store) desk.held.items
+
+-- Its group is past a limit: something is accepted, and the count would pass the limit, or a roll is needed and the epoch stands there.
+abbrev pub IsPastLimits : {D : Type 0} {V : _} → Desk D V → Type 0
+IsPastLimits desk = ((settled_of desk).accepted ≢ []) × ((worn_limit < (settled_of desk).state.count) ⊎ (LacksRoomFor desk.store (settled_of desk).accepted × IsWornOut desk.store))
 
 -- it holds no more than there is room for
 pub few_held : {D : Type 0} {V : _} → (desk : Desk D V) → length (held_of desk) ≤ most_held

@@ -2,7 +2,7 @@
 use Rattle.std.specs.Prelude.{◌≡◌, ◌+◌, ◌++◌, ℕ, List, [], ◌∷◌, length, map, Some}
 use Rattle.std.specs.List.{range_with_len}
 use Rattle.graph_edits.specs.declared.edits.Op.{Op}
-use Rattle.standing.specs.State.{State, after}
+use Rattle.recovery_1.specs.State.{State, after}
 use Rattle.group_commit.specs.declared.request.Request.{Request}
 use Rattle.group_commit.specs.declared.request.Mark.{Mark}
 use Rattle.group_commit.specs.declared.request.Verdict.{Verdict}
@@ -20,6 +20,10 @@ SettlesInParts = (state : State) (first second : List Request) → settle state 
 -- the accepted changes, in order, lead to the state
 abbrev pub AcceptedLead : Type 0
 AcceptedLead = (state : State) (requests : List Request) → after state (settle state requests).accepted ≡ Some (settle state requests).state
+
+-- the count rises by one with each change that is accepted
+abbrev pub CountRises : Type 0
+CountRises = (state : State) (requests : List Request) → (settle state requests).state.count ≡ state.count + length (settle state requests).accepted
 
 -- the session and ticket of a request
 abbrev pub asked_by : Request → ℕ × ℕ

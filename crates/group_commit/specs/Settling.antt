@@ -4,7 +4,7 @@ use Rattle.graph_edits.specs.declared.edits.Op.{Op}
 use Rattle.graph_edits.specs.declared.edits.Code.{Code}
 use Rattle.graph_edits.specs.Edges.{Network}
 use Rattle.graph_edits.specs.Changes.{after as graph_after}
-use Rattle.standing.specs.State.{State}
+use Rattle.recovery_1.specs.State.{State, counted}
 use Rattle.group_commit.specs.declared.request.Request.{Request}
 use Rattle.group_commit.specs.declared.request.Mark.{Mark}
 use Rattle.group_commit.specs.declared.request.Verdict.TheVariants.{Accepted, Refused}
@@ -17,7 +17,7 @@ pub record Settled : Type 0 where
 
 -- the state with one change more, which made this graph
 abbrev pub one_more : State → Network → State
-one_more state graph = record { count = state.count + 1; graph = graph }
+one_more state graph = counted (state.count + 1) graph
 
 -- a request is accepted as the change of that count, and then others are settled
 abbrev pub accept : Request → ℕ → Settled → Settled

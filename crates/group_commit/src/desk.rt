@@ -1,9 +1,8 @@
 //! The desk: requests are held, settled in order, and committed as one group.
 ghost use Rattle.std.specs.Prelude.{◌≡◌, ◌≢◌, ◌⊎◌, ◌≤◌, ◌<◌, ◌↔◌, ◌++◌, [], ◌∷◌, length, option_copied, IsTrue, IfOk, OnOk, OnErr, IsErrOf, IsErr, None, false, true};
-ghost use Rattle.disk_trait.specs.Disk.{IsSameDevice, LeavesOnly};
-ghost use Rattle.standing.specs.Layout.{worn_limit};
-ghost use Rattle.standing.specs.Standing.{StandsFor};
-ghost use Rattle.checkpoint.specs.StoreWords.{state_of, nodes_of, view_of, is_down, LacksRoomFor, IsWornOut};
+ghost use Rattle.disk_trait.specs.Disk.{IsSameDevice, LeavesOnly, Unchanged};
+ghost use Rattle.recovery_1.specs.Standing.{StandsFor};
+ghost use Rattle.checkpoint.specs.StoreWords.{state_of, nodes_of, view_of, is_down, IsDurable, IsWhereItWas, HasAppended, HasRolled, HasRolledAndAppended, HasRoomFor, LacksRoomFor};
 ghost use Rattle.group_commit.specs.Limits.{most_held};
 ghost use Rattle.group_commit.specs.Postings.{MarksAreDue, AreMarksDue, IsDownDue};
 
@@ -14,7 +13,7 @@ use crate::rolling::commit_rolling;
 use crate::settling::settle_all;
 use arrayvec::ArrayVec;
 use checkpoint::Store;
-use disk_trait::Disk;
+use disk_trait::{CrashDisk, Disk, Plan};
 use std::alloc::Global;
 
 /// The one owner of a store. It holds up to [`MOST_HELD`] requests, and has at most one posting to tell.
@@ -30,7 +29,7 @@ pub struct Desk<D: Disk> {
 }
 
 impl<D: Disk> Desk<D> {
-    ghost use Rattle.group_commit.specs.DeskWords.{store_of, held_of, due_of, settled_of};
+    ghost use Rattle.group_commit.specs.DeskWords.{store_of, held_of, due_of, settled_of, IsPastLimits};
 
     /// A desk that holds nothing and has nothing to tell. No call of the store has met a failure of its device.
     pub fn new(store: Store<D>) -> Desk<D>
@@ -48,7 +47,7 @@ impl<D: Disk> Desk<D> {
 
     /// Takes a request in, behind those that are held.
     pub fn give(&mut self, request: Request)
-        requires room { length (held_of self.old) < MOST_HELD }
+        requires room { length (held_of self.old) < most_held }
         requires told { due_of self.old ≡ None }
         ensures held { held_of self.new ≡ held_of self.old ++ request ∷ [] }
         ensures store { store_of self.new ≡ store_of self.old }
@@ -60,7 +59,7 @@ impl<D: Disk> Desk<D> {
     /// How many requests are held.
     pub fn held(&self) -> usize
         ensures same { result ≡ length (held_of self.now) }
-        ensures few { result ≤ MOST_HELD }
+        ensures few { result ≤ most_held }
     {
         self.held.len()
     }
@@ -70,6 +69,10 @@ impl<D: Disk> Desk<D> {
     pub fn commit(&mut self, alloc: Global) -> Result<usize, DeskRefused>
         requires { held_of self.old ≢ [] }
         ensures ok { OnOk result (state_of (store_of self.new) ≡ (settled_of self.old).state) }
+        ensures appended { (settled_of self.old).accepted ≢ [] → HasRoomFor (store_of self.old) (settled_of self.old).accepted → OnOk result (HasAppended (store_of self.old) (store_of self.new) (settled_of self.old).accepted) }
+        ensures rolled { (settled_of self.old).accepted ≢ [] → LacksRoomFor (store_of self.old) (settled_of self.old).accepted → OnOk result (HasRolledAndAppended (store_of self.old) (store_of self.new) (settled_of self.old).accepted) }
+        ensures durable { IsTrue (view_of (store_of self.old)).keeps_model → OnOk result (IsDurable (store_of self.new)) }
+        ensures no_failure { OnOk result ((view_of (store_of self.new)).failures ≡ (view_of (store_of self.old)).failures) }
         ensures number { IfOk result (λ accepted. accepted ≡ length (settled_of self.old).accepted) }
         ensures marks { OnOk result (MarksAreDue (due_of self.new) (settled_of self.old).marks) }
         ensures none_held { OnOk result (held_of self.new ≡ []) }
@@ -84,8 +87,11 @@ impl<D: Disk> Desk<D> {
         ensures down_due { IsErrOf result DeskRefused.Device → IsDownDue (due_of self.new) }
         ensures down { IsErrOf result DeskRefused.Down ↔ (is_down (store_of self.old) ≡ true) }
         ensures down_leaves { IsErrOf result DeskRefused.Down → store_of self.new ≡ store_of self.old }
-        // The count would pass the limit, or the group needs a roll and the epoch stands there.
-        ensures worn { IsErrOf result DeskRefused.Worn → (worn_limit < (settled_of self.old).state.count) ⊎ (LacksRoomFor (store_of self.old) (settled_of self.old).accepted × IsWornOut (store_of self.old)) }
+        ensures worn { IsErrOf result DeskRefused.Worn → IsPastLimits self.old }
+        ensures past_limits { is_down (store_of self.old) ≡ false → IsPastLimits self.old → IsErrOf result DeskRefused.Worn ⊎ IsErrOf result DeskRefused.Memory }
+        ensures worn_leaves { IsErrOf result DeskRefused.Worn → store_of self.new ≡ store_of self.old }
+        // A roll may have been done before memory ran out.
+        ensures memory_leaves { IsErrOf result DeskRefused.Memory → (store_of self.new ≡ store_of self.old) ⊎ (LacksRoomFor (store_of self.old) (settled_of self.old).accepted × HasRolled (store_of self.old) (store_of self.new)) }
         ensures stays_up { is_down (store_of self.old) ≡ false → ¬ (IsErrOf result DeskRefused.Device) → is_down (store_of self.new) ≡ false }
         ensures ran { IsSameDevice (view_of (store_of self.old)) (view_of (store_of self.new)) }
         // A crash at any moment of the call leaves the old state, or the new one with the whole group.
@@ -125,13 +131,14 @@ impl<D: Disk> Desk<D> {
         self.due.as_ref()
     }
 
-    /// What was due is told.
-    pub fn paid(&mut self)
+    /// What was due is told. It is given out, for whoever posts it.
+    pub fn paid(&mut self) -> Option<Posting>
+        ensures given { result ≡ due_of self.old }
         ensures due { due_of self.new ≡ None }
         ensures store { store_of self.new ≡ store_of self.old }
         ensures held { held_of self.new ≡ held_of self.old }
     {
-        self.due = None;
+        self.due.take()
     }
 
     /// The store.
@@ -146,5 +153,22 @@ impl<D: Disk> Desk<D> {
         ensures { result ≡ store_of self }
     {
         self.store
+    }
+}
+
+impl<D: CrashDisk> Desk<D> {
+    ghost use Rattle.group_commit.specs.DeskWords.{store_of, held_of, due_of};
+
+    /// From now on calls of the device fail by this plan, in place of the one before: they are counted from 1, from here on. All else
+    /// stays, on the disk too. It takes no memory.
+    pub fn arm(&mut self, plan: Plan)
+        ensures state { state_of (store_of self.new) ≡ state_of (store_of self.old) }
+        ensures down { is_down (store_of self.new) ≡ is_down (store_of self.old) }
+        ensures at { IsWhereItWas (store_of self.old) (store_of self.new) }
+        ensures same { Unchanged (view_of (store_of self.old)) (view_of (store_of self.new)) }
+        ensures held { held_of self.new ≡ held_of self.old }
+        ensures due { due_of self.new ≡ due_of self.old }
+    {
+        self.store.arm(plan);
     }
 }

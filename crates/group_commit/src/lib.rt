@@ -23,7 +23,7 @@
 //!
 //! | Answer | What it says |
 //! |---|---|
-//! | `Ok(n)` | the store has the state of the settling, whose accepted changes are `n`; its marks are due; nothing is held |
+//! | `Ok(n)` | the store has the state of the settling, whose accepted changes are `n`, and each image that a crash may leave from then on stands for it; its marks are due; nothing is held; no call of the device failed |
 //! | `Device` | count, graph and held requests stay, that the device is down is due, and from now on the answer is `Down` |
 //! | `Down` | the same desk |
 //! | `Memory`, `Worn` | count, graph, held requests and what is due stay |
@@ -31,12 +31,16 @@
 //! On a device that keeps the disk model, a crash at any moment of the call leaves the state of before or
 //! that of the settling (clause `any_moment`), and at a refusal other than `Device` that of before alone
 //! (`refused`). These clauses join with those of the calls before and behind it. Where nothing is accepted,
-//! the store isn't touched (`idle`), so nothing is written. `Worn` comes only where the count would pass its
-//! limit, or where the group needs a roll and the epoch stands at its limit.
+//! the store isn't touched (`idle`), so nothing is written. Where something is, the group stands behind the
+//! groups of before if the journal has room for it (`appended`), and only else has the store rolled
+//! (`rolled`). `Worn` comes only where the count would pass its limit, or where the group needs a roll and
+//! the epoch stands at its limit; and there it is `Worn`, or `Memory` while the group is settled
+//! (`past_limits`).
 //!
 //! [`settling_law`] says what a settling is good for: it goes by parts; the accepted changes lead to its
-//! state; there is one mark for each request, under its session and ticket; the changes marked `Accepted`
-//! are those that are accepted; and their counts go on from the state's, one by one.
+//! state, whose count is up by their number; there is one mark for each request, under its session and
+//! ticket; the changes marked `Accepted` are those that are accepted; and their counts go on from the
+//! state's, one by one. [`limits_law`] says what [`MOST_HELD`] is.
 //!
 //! ```rust
 //! ghost use Rattle.std.specs.Prelude.{◌≡◌, false};
@@ -70,7 +74,7 @@ mod settling;
 mod tests;
 
 pub use desk::Desk;
-pub use laws::settling_law;
+pub use laws::{limits_law, settling_law};
 pub use posting::Posting;
 pub use refused::DeskRefused;
 pub use request::{MOST_HELD, Mark, Request, Verdict};

@@ -1,7 +1,7 @@
 //! Requests settled one after another, over a graph that isn't touched.
 ghost use Rattle.std.specs.Prelude.{◌≡◌, ◌+◌, ◌≤◌, ◌<◌, ◌^◌, ◌++◌, ◌∷◌, [], List, length, IfOk, OnOk, IsSome, Some};
 ghost use Rattle.graph_edits.specs.Changes.{fold};
-ghost use Rattle.standing.specs.State.{State, after};
+ghost use Rattle.recovery_1.specs.State.{State, after};
 ghost use Rattle.checkpoint.specs.StoreWords.{state_of};
 ghost use Rattle.group_commit.specs.Settling.{settle};
 ghost use Rattle.group_commit.specs.declared.request.Request.{Request};

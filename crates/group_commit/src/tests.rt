@@ -3,14 +3,18 @@ ghost use Rattle.std.specs.Prelude.{◌≡◌, None, IfOk};
 ghost use Rattle.group_commit.specs.DeskWords.{held_of, due_of};
 
 use super::*;
-use checkpoint::{DEVICE_LEN, Store, format};
-use disk_trait::{CrashDisk, Disk, MemDisk};
+use checkpoint::{DEVICE_LEN, Store, WORN_LIMIT, format};
+use disk_trait::{CrashDisk, Disk, MemDisk, Plan};
 use graph_edits::{Change, Code, Op};
 use std::alloc::Global;
 use std::process::Abort;
 use std::test::Fail;
 
-// Where the journal of slot 0 begins, and where slot 1 does.
+// Where slot 0 has its epoch and its count, where its journal begins, and where slot 1 does.
+const EPOCH: usize = 4097;
+
+const COUNT: usize = 4105;
+
 const JOURNAL: usize = 139_264;
 
 const SECOND_SLOT: usize = 1_187_840;
@@ -79,38 +83,49 @@ fn marks_are(rt: &impl Abort, desk: &Desk<MemDisk>, want: &[Mark]) {
     }
 }
 
-// The bytes from `at` on are these.
-fn bytes_are(rt: &impl Abort, disk: &mut MemDisk, at: usize, want: &[u8]) -> Result<(), Fail> {
-    let mut bytes = [9; 48];
-    assert!(rt; want.len() <= bytes.len() && at <= disk.len() && want.len() <= disk.len() - at);
-    disk.read(at, &mut bytes[..want.len()])?;
-    assert_eq!(rt; &bytes[..want.len()], want, "at {at}");
+// The bytes from `at` on are these, two hexadecimal digits each.
+fn bytes_are(rt: &impl Abort, disk: &mut MemDisk, at: usize, text: &str) -> Result<(), Fail> {
+    let mut at = at;
+    let mut high = None;
+    for digit in text.as_bytes() {
+        let low = match *digit {
+            b' ' => continue,
+            b'0'..=b'9' => *digit - b'0',
+            letter => letter.wrapping_sub(b'a').wrapping_add(10),
+        };
+        let Some(first) = high else {
+            high = Some(low);
+            continue;
+        };
+        let mut byte = [0];
+        assert!(rt; at < disk.len());
+        disk.read(at, &mut byte)?;
+        assert_eq!(rt;
+            byte[0],
+            u8::wrapping_mul(first, 16).wrapping_add(low),
+            "at {at}"
+        );
+        at += 1;
+        high = None;
+    }
     Ok(())
 }
 
-// The disk, which will fail at one of the calls after those of its opening.
-fn armed(alloc: Global, disk: MemDisk, opening: u64, call: u64) -> Result<Desk<MemDisk>, Fail> {
-    let mut disk = disk;
-    disk.fail_at(opening.saturating_add(call));
-    opened(alloc, disk)
+// Every byte of a disk; read once more where memory was refused.
+fn whole(alloc: Global, disk: &mut MemDisk) -> Result<Vec<u8>, Fail> {
+    let mut bytes = match vec![in alloc; 0; disk.len()] {
+        Ok(bytes) => bytes,
+        Err(_) => vec![in alloc; 0; disk.len()]?,
+    };
+    disk.read(0, bytes.as_mut_slice())?;
+    Ok(bytes)
 }
 
-// How many device calls the opening of a disk makes: the last at which a planned failure is met.
-fn opening_calls(alloc: Global, disk: MemDisk) -> u64 {
-    let mut disk = disk;
-    let mut calls = 0;
-    for step in [2048, 1024, 512, 256, 128, 64, 32, 16, 8, 4, 2, 1] {
-        let later = u64::saturating_add(calls, step);
-        disk.fail_at(later);
-        match Store::open(alloc, disk) {
-            Ok(store) => disk = store.into_disk(),
-            Err((_, back)) => {
-                disk = back;
-                calls = later;
-            }
-        }
-    }
-    calls
+#[test]
+fn refusals_have_their_numbers(rt: HostRuntime) {
+    use DeskRefused::{Device, Down, Memory, Worn};
+    let numbers = [Device as u8, Down as u8, Memory as u8, Worn as u8];
+    assert_eq!(rt; numbers, [1, 2, 3, 5]);
 }
 
 #[test]
@@ -134,7 +149,7 @@ fn refuses_the_second_of_two_sessions(rt: HostRuntime) -> Result<(), Fail> {
         &rt,
         &mut disk,
         JOURNAL,
-        &[1, 0, 0, 0, 12, 0, 1, 1, 1, 0, 0, 0, 1, 0, 0, 0, 1, 0],
+        "01 0000000c 0001 01 01 0000 0001 00000001 00",
     )
 }
 
@@ -157,18 +172,19 @@ fn commits_two_sessions_in_one_record(rt: HostRuntime) -> Result<(), Fail> {
         &rt,
         &mut disk,
         JOURNAL,
-        &[
-            1, 0, 0, 0, 40, 0, 2, 1, 1, 0, 0, 0, 1, 0, 0, 0, 7, 3, 2, 0, 1, 0, 0, 0, 0, 0, 9, 3, 0,
-            0, 0, 1, 0, 0, 0, 0, 1, 0, 3, 0, 2, 0, 0, 0, 5, 0,
-        ],
-    )
+        "01 00000028 0002 01 01 0000 0001 00000007",
+    )?;
+    let third = "03 02 0001 0000 00000009 03 0000 0001 00000000 01 0003 0002 00000005 00";
+    bytes_are(&rt, &mut disk, JOURNAL + 17, third)
 }
 
 #[test]
 fn writes_nothing_where_all_are_refused(rt: HostRuntime) -> Result<(), Fail> {
     // Any call of the device would fail.
-    let opening = opening_calls(rt.alloc(), formatted(rt.alloc())?);
-    let mut desk = armed(rt.alloc(), formatted(rt.alloc())?, opening, 1)?;
+    let mut disk = formatted(rt.alloc())?;
+    let before = whole(rt.alloc(), &mut disk)?;
+    let mut desk = opened(rt.alloc(), disk)?;
+    desk.arm(Plan::Stop(1, 0));
     let half = [Op::Add(0, 1, 7), Op::Cut(2, 3)];
     give_all(&rt, &mut desk, &[(0, 1, &half), (1, 1, &[Op::Cut(0, 1)])])?;
     assert_eq!(rt; commit(&rt, rt.alloc(), &mut desk), Ok(0));
@@ -182,8 +198,8 @@ fn writes_nothing_where_all_are_refused(rt: HostRuntime) -> Result<(), Fail> {
     );
     assert_eq!(rt; desk.store().count(), 0);
     assert_eq!(rt; desk.store().graph().weight(0, 1), None);
-    desk.paid();
-    assert!(rt; desk.due().is_none());
+    let told = desk.paid();
+    assert!(rt; matches!(told, Some(Posting::Marks(_))) && desk.due().is_none());
     // And the next group does call it.
     give_all(&rt, &mut desk, &[(0, 2, &[Op::Add(0, 1, 7)])])?;
     assert_eq!(rt;
@@ -191,7 +207,9 @@ fn writes_nothing_where_all_are_refused(rt: HostRuntime) -> Result<(), Fail> {
         Err(DeskRefused::Device)
     );
     let mut disk = desk.into_store().into_disk();
-    bytes_are(&rt, &mut disk, JOURNAL, &[0; 48])
+    disk.arm(Plan::None);
+    assert!(rt; whole(rt.alloc(), &mut disk)?.as_slice() == before.as_slice());
+    Ok(())
 }
 
 #[test]
@@ -258,62 +276,44 @@ fn commits_as_many_as_it_holds(rt: HostRuntime) -> Result<(), Fail> {
 
 #[test]
 fn is_down_after_a_failure_at_any_call(rt: HostRuntime) -> Result<(), Fail> {
-    // For each failing call, how many changes are there after a crash by the words 0, 1, 256 and 257.
+    // For each failing call, how many changes are there after a crash by the word. A commit makes four calls.
+    let words = [0, 1, 7, 256, 257];
     let table = [
-        (1, [0, 0, 0, 0]),
-        (2, [0, 0, 0, 0]),
-        (3, [0, 0, 0, 1]),
-        (4, [0, 1, 0, 1]),
+        (1, [0, 0, 0, 0, 0]),
+        (2, [0, 0, 0, 0, 0]),
+        (3, [0, 0, 0, 0, 2]),
+        (4, [0, 2, 0, 0, 2]),
+        (5, [2, 2, 2, 2, 2]),
     ];
-    let opening = opening_calls(rt.alloc(), formatted(rt.alloc())?);
     for (call, counts) in table {
-        for (word, want) in [0, 1, 256, 257].into_iter().zip(counts) {
-            let mut desk = armed(rt.alloc(), formatted(rt.alloc())?, opening, call)?;
-            give_all(&rt, &mut desk, &[(0, 1, &[Op::Add(0, 1, 1)])])?;
-            assert_eq!(rt;
-                commit(&rt, rt.alloc(), &mut desk),
-                Err(DeskRefused::Device)
-            );
-            assert!(rt; matches!(desk.due(), Some(Posting::Down)));
-            assert_eq!(rt; (desk.held(), desk.store().count()), (1, 0));
-            desk.paid();
-            assert_eq!(rt; commit(&rt, rt.alloc(), &mut desk), Err(DeskRefused::Down));
-            assert!(rt; desk.due().is_none());
-            assert_eq!(rt; (desk.held(), desk.store().count()), (1, 0));
-            let disk = desk.into_store().into_disk().crash(word);
-            let desk = opened(rt.alloc(), disk)?;
-            assert_eq!(rt; desk.store().count(), want, "call {call}, word {word}");
-        }
-    }
-    Ok(())
-}
-
-#[test]
-fn opens_to_the_old_or_the_new_state(rt: HostRuntime) -> Result<(), Fail> {
-    let opening = opening_calls(rt.alloc(), formatted(rt.alloc())?);
-    for call in 1..6 {
-        for word in [0, 1, 7, 256, 257] {
-            let mut desk = armed(rt.alloc(), formatted(rt.alloc())?, opening, call)?;
-            give_all(
-                &rt,
-                &mut desk,
-                &[(0, 1, &[Op::Add(0, 1, 1)]), (1, 1, &[Op::Add(1, 2, 3)])],
-            )?;
+        for (word, want) in words.into_iter().zip(counts) {
+            let mut desk = opened(rt.alloc(), formatted(rt.alloc())?)?;
+            desk.arm(Plan::Fail(call));
+            let asked: [Ask; 2] = [(0, 1, &[Op::Add(0, 1, 1)]), (1, 1, &[Op::Add(1, 2, 3)])];
+            give_all(&rt, &mut desk, &asked)?;
             let answer = commit(&rt, rt.alloc(), &mut desk);
+            if call < 5 {
+                assert_eq!(rt; answer, Err(DeskRefused::Device));
+                assert!(rt; matches!(desk.due(), Some(Posting::Down)));
+                assert_eq!(rt; (desk.held(), desk.store().count()), (2, 0));
+                let told = desk.paid();
+                assert!(rt; matches!(told, Some(Posting::Down)) && desk.due().is_none());
+                assert_eq!(rt; commit(&rt, rt.alloc(), &mut desk), Err(DeskRefused::Down));
+                assert!(rt; desk.due().is_none());
+                assert_eq!(rt; (desk.held(), desk.store().count()), (2, 0));
+            } else {
+                assert_eq!(rt; answer, Ok(2));
+            }
             let disk = desk.into_store().into_disk().crash(word);
             let desk = opened(rt.alloc(), disk)?;
             let graph = desk.store().graph();
             let found = (desk.store().count(), graph.weight(0, 1), graph.weight(1, 2));
-            // A commit makes four calls, so the fifth isn't one of it.
-            if call == 5 {
-                assert_eq!(rt; (answer, found), (Ok(2), (2, Some(1), Some(3))));
+            let edges = if want == 0 {
+                (None, None)
             } else {
-                assert_eq!(rt; answer, Err(DeskRefused::Device));
-                assert!(rt;
-                    found == (0, None, None) || found == (2, Some(1), Some(3)),
-                    "call {call}, word {word}"
-                );
-            }
+                (Some(1), Some(3))
+            };
+            assert_eq!(rt; found, (want, edges.0, edges.1), "call {call}, word {word}");
         }
     }
     Ok(())
@@ -375,13 +375,13 @@ fn full(rt: &impl Abort, alloc: Global) -> Result<Desk<MemDisk>, Fail> {
 #[test]
 fn rolls_where_the_journal_has_no_room(rt: HostRuntime) -> Result<(), Fail> {
     // 929 ops in 63 changes end the journal at its last byte but one, and in 64 changes they need one byte more.
-    for (changes, middle, count, gate) in [(63, 12, 7231, 0), (64, 11, 7232, 1)] {
+    for (changes, middle, count, gate) in [(63, 12, 7231, "00"), (64, 11, 7232, "01")] {
         let mut desk = full(&rt, rt.alloc())?;
         give_group(&rt, &mut desk, changes, 57, middle)?;
         assert_eq!(rt; commit(&rt, rt.alloc(), &mut desk), Ok(changes));
         assert_eq!(rt; desk.store().count(), count);
         let mut disk = desk.into_store().into_disk();
-        bytes_are(&rt, &mut disk, SECOND_SLOT, &[gate])?;
+        bytes_are(&rt, &mut disk, SECOND_SLOT, gate)?;
         let desk = opened(rt.alloc(), disk)?;
         assert_eq!(rt; desk.store().count(), count);
         assert_eq!(rt; desk.store().graph().weight(0, 1), Some(1));
@@ -391,7 +391,6 @@ fn rolls_where_the_journal_has_no_room(rt: HostRuntime) -> Result<(), Fail> {
 
 #[test]
 fn keeps_its_state_through_a_failure_in_a_roll(rt: HostRuntime) -> Result<(), Fail> {
-    let opening = opening_calls(rt.alloc(), full(&rt, rt.alloc())?.into_store().into_disk());
     // The roll makes four calls, and the commit behind it makes four. How many changes are there after a crash by the word.
     let table = [
         (1, 257, 7168),
@@ -402,8 +401,8 @@ fn keeps_its_state_through_a_failure_in_a_roll(rt: HostRuntime) -> Result<(), Fa
         (8, 0, 7168),
     ];
     for (call, word, want) in table {
-        let disk = full(&rt, rt.alloc())?.into_store().into_disk();
-        let mut desk = armed(rt.alloc(), disk, opening, call)?;
+        let mut desk = full(&rt, rt.alloc())?;
+        desk.arm(Plan::Fail(call));
         give_group(&rt, &mut desk, 64, 57, 11)?;
         assert_eq!(rt;
             commit(&rt, rt.alloc(), &mut desk),
@@ -415,6 +414,32 @@ fn keeps_its_state_through_a_failure_in_a_roll(rt: HostRuntime) -> Result<(), Fa
         assert_eq!(rt; commit(&rt, rt.alloc(), &mut desk), Err(DeskRefused::Down));
         let desk = opened(rt.alloc(), desk.into_store().into_disk().crash(word))?;
         assert_eq!(rt; desk.store().count(), want, "call {call}, word {word}");
+    }
+    Ok(())
+}
+
+#[test]
+fn wears_out_at_the_last_epoch_and_the_last_count(rt: HostRuntime) -> Result<(), Fail> {
+    // Where the first is written, the group needs a roll and has no epoch left; where the second is, the count stands at its limit.
+    for (at, number) in [(EPOCH, WORN_LIMIT), (COUNT, WORN_LIMIT - 7168)] {
+        let mut disk = full(&rt, rt.alloc())?.into_store().into_disk();
+        assert!(rt; disk.len() == DEVICE_LEN && at <= COUNT);
+        disk.write_at(at, &number.to_be_bytes())?;
+        let before = whole(rt.alloc(), &mut disk)?;
+        let mut desk = opened(rt.alloc(), disk)?;
+        let count = desk.store().count();
+        give_group(&rt, &mut desk, 64, 57, 11)?;
+        assert_eq!(rt;
+            commit_at_last(&rt, rt.alloc(), &mut desk),
+            Err(DeskRefused::Worn)
+        );
+        assert_eq!(rt; (desk.held(), desk.store().count()), (64, count), "at {at}");
+        assert!(rt; desk.due().is_none() && !desk.store().is_down());
+        let mut disk = desk.into_store().into_disk();
+        assert!(rt;
+            whole(rt.alloc(), &mut disk)?.as_slice() == before.as_slice(),
+            "at {at}"
+        );
     }
     Ok(())
 }

@@ -49,7 +49,7 @@ few_lights (twig n u d below beside) h f ls above s most r v b x (inr m) =
       | inr i ↦ few_lights beside false (f + 1 + count below) ls above s most (room_beside h s n u d below beside r) v.1.1 b x i
     ]
 
--- In a tree of fewer than 2 ^ k members no label has k light ports. So 4,096 members give at most 11, and 16,384 at most 13.
+-- In a tree of fewer than 2 ^ (k + 1) - 1 members no label has k light ports. So 16,384 members give at most 13.
 pub tree_lights : (t : Tree) (k : ℕ) → IsHeavyHead t.below → IsHeavyFirst t.below → 1 + count t.below + 1 < 2 ^ (k + 1) → (x : Line) → Among x (tree_lines t) → length (label_of x).lights < k
 tree_lights t k hd v few x m = from_power (length (label_of x).lights) (bound m)
   where

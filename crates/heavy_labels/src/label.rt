@@ -4,7 +4,7 @@ use arrayvec::ArrayVec;
 use std::marker::Model;
 
 /// The most light ports that a label has.
-pub const MOST_LIGHTS: usize = 11;
+pub const MOST_LIGHTS: usize = 13;
 
 /// A member's label in a tree: its number, and the ports of the light edges on the way from the root to it, the
 /// root's first. Contracts see the number and the list; two labels are equal exactly where both are.

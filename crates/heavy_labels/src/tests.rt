@@ -137,20 +137,29 @@ fn pairs(alloc: Global, nodes: u16) -> Result<Vec<Member>, AllocError> {
     Ok(all)
 }
 
+/// The label of the last of 16,383 has as many light ports as a label may have, under each allocator the same.
 #[test]
-fn the_last_of_4095_pairs_has_eleven_lights(rt: HostRuntime) -> Result<(), Fail> {
-    let all = numbered(&rt, rt.alloc(), &pairs(rt.alloc(), 4095)?)?;
-    let last = all.iter().find(|m| m.node == 4094).ok_or("node")?;
-    assert!(&rt; last.label == label(4094, &[1, 2, 2, 2, 2, 2, 2, 2, 2, 2, 2]));
-    assert_eq!(rt; last.label.lights().len(), 11);
-    assert_eq!(rt; last.tree_record.light_depth, 11);
+fn the_last_of_all_pairs_has_thirteen_lights(rt: HostRuntime) -> Result<(), Fail> {
+    let members = pairs(rt.alloc(), 16_383)?;
+    let all = numbered(&rt, rt.alloc(), &members)?;
+    let last = all.iter().find(|m| m.node == 16_382).ok_or("node")?;
+    assert!(&rt; last.label == label(16_382, &[1, 2, 2, 2, 2, 2, 2, 2, 2, 2, 2, 2, 2]));
+    assert_eq!(rt; last.label.lights().len(), 13);
+    assert_eq!(rt; last.tree_record.light_depth, 13);
+    let heap = LocalHeap::new(rt.alloc(), 67_108_864)?;
+    let held = numbered_over(&rt, rt.alloc(), &heap, &members)?;
+    let bump = Bump::new(&heap);
+    let bumped = numbered_over(&rt, rt.alloc(), &bump, &members)?;
+    assert_eq!(rt; all.len(), 16_383);
+    assert!(&rt; all == held);
+    assert!(&rt; all == bumped);
     Ok(())
 }
 
-/// The members of a path of 4,096 nodes from its end 0, in order.
+/// The members of a path of 16,384 nodes from its end 0, in order.
 fn path(alloc: Global) -> Result<Vec<Member>, AllocError> {
     let mut all = vec![in alloc; root(0)]?;
-    for node in 1..4096u16 {
+    for node in 1..16_384u16 {
         all.push(member(node, node - 1, 0, if node == 1 { 0 } else { 1 }))?;
     }
     Ok(all)
@@ -162,7 +171,7 @@ fn plain_members(all: &Numbered) -> usize {
         .enumerate()
         .filter(|(i, m)| m.node as usize == *i
             && m.tree_record.first == m.node
-            && m.tree_record.last == 4095
+            && m.tree_record.last == 16_383
             && m.tree_record.light_depth == 0
             && m.label.lights().is_empty())
         .count()
@@ -178,27 +187,13 @@ fn counted_plain(alloc: Global, members: &[Member]) -> Result<usize, AllocError>
 }
 
 #[test]
-fn a_path_of_4096_has_no_light_port(rt: HostRuntime) -> Result<(), Fail> {
+fn a_path_of_all_nodes_has_no_light_port(rt: HostRuntime) -> Result<(), Fail> {
     let members = path(rt.alloc())?;
     let alloc = rt.alloc();
     let worker = thread::Builder::new()
         .stack_size(67_108_864)
         .spawn(&rt, move || counted_plain(alloc, &members).unwrap_or(0))?;
-    assert_eq!(rt; worker.join(&rt), 4096);
-    Ok(())
-}
-
-#[test]
-fn the_same_from_each_allocator(rt: HostRuntime) -> Result<(), Fail> {
-    let members = pairs(rt.alloc(), 1023)?;
-    let plain = numbered(&rt, rt.alloc(), &members)?;
-    let heap = LocalHeap::new(rt.alloc(), 16_777_216)?;
-    let held = numbered_over(&rt, rt.alloc(), &heap, &members)?;
-    let bump = Bump::new(&heap);
-    let bumped = numbered_over(&rt, rt.alloc(), &bump, &members)?;
-    assert_eq!(rt; plain.len(), 1023);
-    assert!(&rt; plain == held);
-    assert!(&rt; plain == bumped);
+    assert_eq!(rt; worker.join(&rt), 16_384);
     Ok(())
 }
 

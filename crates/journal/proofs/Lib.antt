@@ -1,5 +1,4 @@
 mod AreaLemmas
-mod Readers
 mod Groups
 mod JournalLemmas
 mod Loop

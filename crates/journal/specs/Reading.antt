@@ -1,10 +1,8 @@
 -- Reading a payload from left to right.
 use Rattle.std.specs.Prelude.{◌≡◌, ℕ, zero, suc, ◌&&◌, List, [], ◌∷◌, length, take, drop, Option, Some, None, Result, Ok, Err, nat_lt, nat_le, ◌==◌, if◌then◌else◌}
-use Rattle.std.specs.Int.{Width, w16, w32, byte_len, from_be_bytes}
-use Rattle.journal.specs.Entry.{Op, Entry}
-use Rattle.graph_edits.specs.Edges.{most_ops}
-use Rattle.journal.specs.Layout.{add_kind, set_kind, cut_kind, most_entries}
-use Rattle.graph_edits.specs.declared.edits.Op.TheVariants.{Add, Set, Cut}
+use Rattle.std.specs.Int.{Width, w16, byte_len, from_be_bytes}
+use Rattle.journal.specs.Forms.{EntryForm}
+use Rattle.journal.specs.Layout.{most_entries}
 use Rattle.journal.specs.declared.group.ReadError.{ReadError}
 use Rattle.journal.specs.declared.group.ReadError.TheVariants.{Malformed, Memory}
 
@@ -33,23 +31,6 @@ GivesOr view (Err e) read = Fails e read
 abbrev pub number_at : Width → List ℕ → Option (ℕ × List ℕ)
 number_at w bytes = if nat_lt (length bytes) (byte_len w) then None else Some (from_be_bytes w (take (byte_len w) bytes), drop (byte_len w) bytes)
 
--- the op of these four numbers
-abbrev pub op_of : ℕ → ℕ → ℕ → ℕ → Option Op
-op_of kind a b w =
-    if kind == add_kind then Some (Add a b w) else
-    if kind == set_kind then Some (Set a b w) else
-    if kind == cut_kind && w == 0 then Some (Cut a b) else None
-
--- an op, and the bytes after it
-unfoldable pub op_at : List ℕ → Option (Op × List ℕ)
-op_at [] = None
-op_at (kind ∷ rest) = do
-  a ← number_at w16 rest
-  b ← number_at w16 a.1
-  w ← number_at w32 b.1
-  op ← op_of kind a.0 b.0 w.0
-  Some (op, w.1)
-
 -- n items, one after the other
 unfoldable pub items_at : {A : Type 0} → (List ℕ → Option (A × List ℕ)) → ℕ → List ℕ → Option (List A × List ℕ)
 items_at read zero bytes = Some ([], bytes)
@@ -58,14 +39,9 @@ items_at read (suc n) bytes = do
   others ← items_at read n first.1
   Some (first.0 ∷ others.0, others.1)
 
--- an entry, and the bytes after it
-unfoldable pub entry_at : List ℕ → Option (Entry × List ℕ)
-entry_at [] = None
-entry_at (count ∷ rest) = if nat_le 1 count && nat_le count most_ops then items_at op_at count rest else None
-
 -- the group that the bytes are the payload of
-unfoldable pub group_of : List ℕ → Option (List Entry)
-group_of bytes = do
+unfoldable pub group_of : {E : Type 0} → EntryForm E → List ℕ → Option (List E)
+group_of form bytes = do
   count ← number_at w16 bytes
-  entries ← if nat_le 1 count.0 && nat_le count.0 most_entries then items_at entry_at count.0 count.1 else None
+  entries ← if nat_le 1 count.0 && nat_le count.0 most_entries then items_at form.at count.0 count.1 else None
   if length entries.1 == 0 then Some entries.0 else None

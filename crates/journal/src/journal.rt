@@ -59,32 +59,32 @@ const WINDOW: usize = 65_536;
 
 /// The journal of an area: contracts see the area, and the groups whose records it has scanned or appended.
 #[derive(Drop)]
-pub struct Journal {
+pub struct Journal<E: Entry> {
     area: Area,
     // Where the gate of the next record stands in the area.
     end: usize,
     // The groups that were scanned, and the texts that were appended: for contracts alone.
-    scanned: Log<Vec<Entry>>,
+    scanned: Log<Vec<E>>,
     appended: Log<Vec<u8>>,
 }
 
-impl Model for Journal {
+impl<E: Entry> Model for Journal<E> {
     ghost use Rattle.std.specs.Prelude.{◌≡◌, ◌<◌, ◌+◌, ◌^◌, length};
     ghost use Rattle.journal.specs.Records.{records};
     ghost use Rattle.journal.specs.JournalView.{JournalView, groups_in};
 
-    ghost Value = { JournalView };
+    ghost Value = { JournalView E };
 
-    ghost view = { λ j. record { area = j.area; groups = groups_in j.scanned.items j.appended.items } };
+    ghost view = { λ j. record { area = j.area; groups = groups_in E.form j.scanned.items j.appended.items } };
 
-    ghost invariant = { λ j. (length (records (groups_in j.scanned.items j.appended.items)) ≡ j.end)
+    ghost invariant = { λ j. (length (records E.form (groups_in E.form j.scanned.items j.appended.items)) ≡ j.end)
         × (j.end < j.area.room) × (j.area.start + j.area.room < 2 ^ 64) };
 }
 
-impl Journal {
+impl<E: Entry> Journal<E> {
     // The journal of an area that begins with the records of these groups.
-    fn of_scanned(area: Area, end: usize, scanned: Log<Vec<Entry>>) -> Journal
-        requires ends { length (records (map (λ group. group.items) scanned.items)) ≡ end }
+    fn of_scanned(area: Area, end: usize, scanned: Log<Vec<E>>) -> Journal<E>
+        requires ends { length (records E.form (map (λ group. group.items) scanned.items)) ≡ end }
         requires fits { end < area.room }
         requires small { area.start + area.room < 2 ^ 64 }
         ensures area { result.area ≡ area }
@@ -99,7 +99,7 @@ impl Journal {
     }
 
     /// The journal of an area whose first gate is closed: it reads nothing.
-    pub fn fresh(area: Area) -> Journal
+    pub fn fresh(area: Area) -> Journal<E>
         requires some { 1 ≤ area.room }
         requires small { area.start + area.room < 2 ^ 64 }
         ensures { result ≡ record { area = area; groups = [] } }
@@ -122,11 +122,11 @@ impl Journal {
 
     /// Whether the record of a group and the next gate fit in what is left of the area. Where they don't,
     /// `append` answers `NoRoom`.
-    pub fn has_room(&self, entries: &[Entry]) -> bool
+    pub fn has_room(&self, entries: &[E]) -> bool
         requires few { length entries.now ≤ MOST_ENTRIES }
-        ensures yes { OnTrue result (HasRoom self.now entries.now) }
-        ensures no { OnFalse result (LacksRoom self.now entries.now) }
-        ensures most { length (record_of entries.now) ≤ MOST_RECORD }
+        ensures yes { OnTrue result (HasRoom E.form self.now entries.now) }
+        ensures no { OnFalse result (LacksRoom E.form self.now entries.now) }
+        ensures most { length (record_of E.form entries.now) ≤ MOST_RECORD }
     {
         RECORD_HEAD + payload_len(entries) < self.area.room - self.end
     }
@@ -144,7 +144,7 @@ impl Journal {
         &mut self,
         alloc: Global,
         disk: &mut D,
-        entries: &[Entry],
+        entries: &[E],
     ) -> Result<(), AppendRefused>
         requires within { self.old.area.start + self.old.area.room ≤ length (D.view disk.old).content }
         requires some { 1 ≤ length entries.now }
@@ -153,15 +153,16 @@ impl Journal {
         ensures grows { OnOk result (self.new.groups ≡ self.old.groups ++ entries.now ∷ []) }
         ensures err { OnErr result (self.new ≡ self.old) }
         ensures ran { IsSameDevice (D.view disk.old) (D.view disk.new) }
-        ensures no_room { IsErrOf result AppendRefused.NoRoom ↔ LacksRoom self.old entries.now }
+        ensures no_failure { OnOk result ((D.view disk.new).failures ≡ (D.view disk.old).failures) }
+        ensures no_room { IsErrOf result AppendRefused.NoRoom ↔ LacksRoom E.form self.old entries.now }
         ensures no_room_same { IsErrOf result AppendRefused.NoRoom → disk.new ≡ disk.old }
         ensures device { IsErrOf result AppendRefused.Device → (D.view disk.old).failures < (D.view disk.new).failures }
         ensures memory_same { IsErrOf result AppendRefused.Memory → disk.new ≡ disk.old }
-        ensures any_moment { IsTrue (D.view disk.old).keeps_model → AllSpell (D.view disk.old) self.old.area self.old.groups
+        ensures any_moment { IsTrue (D.view disk.old).keeps_model → AllSpell E.form (D.view disk.old) self.old.area self.old.groups
             → LeavesOnly (D.view disk.old) (D.view disk.new)
-            (IsBeforeOrAfter (D.view disk.old) self.old.area self.old.groups entries.now) }
-        ensures ok { IsTrue (D.view disk.old).keeps_model → AllSpell (D.view disk.old) self.old.area self.old.groups
-            → OnOk result (AllSpell (D.view disk.new) self.new.area self.new.groups) }
+            (IsBeforeOrAfter E.form (D.view disk.old) self.old.area self.old.groups entries.now) }
+        ensures ok { IsTrue (D.view disk.old).keeps_model → AllSpell E.form (D.view disk.old) self.old.area self.old.groups
+            → OnOk result (AllSpell E.form (D.view disk.new) self.new.area self.new.groups) }
     {
         if !self.has_room(entries) {
             return Err(AppendRefused::NoRoom);
@@ -188,18 +189,19 @@ impl Journal {
         alloc: Global,
         disk: &mut D,
         area: Area,
-    ) -> Result<(Journal, Vec<Entry>), ScanRefused>
+    ) -> Result<(Journal<E>, Vec<E>), ScanRefused>
         requires some { 1 ≤ area.room }
         requires within { area.start + area.room ≤ length (D.view disk.old).content }
         requires small { area.start + area.room < 2 ^ 64 }
         ensures ran { IsSameDevice (D.view disk.old) (D.view disk.new) }
+        ensures no_failure { OnOk result ((D.view disk.new).failures ≡ (D.view disk.old).failures) }
         ensures reads { IsTrue (D.view disk.old).keeps_model → OnlyRead (D.view disk.old) (D.view disk.new) }
         ensures area { IfOk result (λ r. r.0.area ≡ area) }
         ensures entries { IfOk result (λ r. r.1.items ≡ entries_of r.0.groups) }
         ensures ok { IsTrue (D.view disk.old).keeps_model
-            → IfOk result (λ r. Spells area r.0.groups (D.view disk.old).content) }
+            → IfOk result (λ r. Spells E.form area r.0.groups (D.view disk.old).content) }
         ensures damaged { IsTrue (D.view disk.old).keeps_model → IsErrOf result ScanRefused.Damaged
-            → SpellsNothing area (D.view disk.old).content }
+            → SpellsNothing E.form area (D.view disk.old).content }
         ensures device { IsErrOf result ScanRefused.Device → (D.view disk.old).failures < (D.view disk.new).failures }
     {
         let Ok(mut window) = Window::new(alloc, WINDOW.min(area.room)) else {

@@ -26,8 +26,8 @@ pub const RECORD_HEAD: usize = GATE_SIZE + LENGTH_SIZE;
 /// The number of entries of a payload, a `u16`.
 pub const COUNT_SIZE: usize = 2;
 
-/// The number of ops of an entry, one byte.
-pub const ENTRY_HEAD: usize = 1;
+/// The number of ops of a change, one byte.
+pub const CHANGE_HEAD: usize = 1;
 
 /// Where an op's fields begin behind its kind: two nodes, each a `u16`, and the weight, a `u32`.
 pub const OP_FIRST: usize = 1;
@@ -42,13 +42,25 @@ pub const OP_SIZE: usize = 9;
 /// The most entries of a group. The fewest are 1.
 pub const MOST_ENTRIES: usize = 64;
 
-/// An entry of the most ops.
-pub const MOST_ENTRY: usize = ENTRY_HEAD + MOST_OPS * OP_SIZE;
+/// A change of one op.
+pub const LEAST_CHANGE: usize = CHANGE_HEAD + OP_SIZE;
 
-/// The payload of one entry of one op.
-pub const LEAST_PAYLOAD: usize = COUNT_SIZE + ENTRY_HEAD + OP_SIZE;
+/// A change of the most ops.
+pub const MOST_CHANGE: usize = CHANGE_HEAD + MOST_OPS * OP_SIZE;
 
-/// The payload of the most entries of the most ops.
+/// What stands before an accepted request's ops: session, ticket (`u64`) and the number of ops.
+pub const REQUEST_HEAD: usize = 1 + 8 + CHANGE_HEAD;
+
+/// A request of one op.
+pub const LEAST_REQUEST: usize = REQUEST_HEAD + OP_SIZE;
+
+/// A request of the most ops.
+pub const MOST_REQUEST: usize = REQUEST_HEAD + MOST_OPS * OP_SIZE;
+
+/// The longest entry of any form.
+pub const MOST_ENTRY: usize = MOST_REQUEST;
+
+/// The payload of the most entries of that length.
 pub const MOST_PAYLOAD: usize = COUNT_SIZE + MOST_ENTRIES * MOST_ENTRY;
 
 /// The record of such a payload.

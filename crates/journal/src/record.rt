@@ -11,14 +11,14 @@ use std::alloc::Global;
 
 /// The group whose record the bytes begin with and the record's size; none where the gate is closed. A record counts
 /// only if the next gate stands behind it.
-pub(crate) fn next_record(
+pub(crate) fn next_record<E: Entry>(
     alloc: Global,
     bytes: &[u8],
-) -> Result<Option<(Vec<Entry>, usize)>, ReadError>
+) -> Result<Option<(Vec<E>, usize)>, ReadError>
     requires { 1 ≤ length bytes.now }
     ensures last { IfOk result (λ o. o ≡ None → get_or bytes.now 0 open_gate ≢ open_gate) }
-    ensures next { IfOk result (λ o. IfSome o (λ x. IsNextRecord bytes.now x.0.items x.1)) }
-    ensures malformed { IsErrOf result ReadError.Malformed → HasNoRecord bytes.now }
+    ensures next { IfOk result (λ o. IfSome o (λ x. IsNextRecord E.form bytes.now x.0.items x.1)) }
+    ensures malformed { IsErrOf result ReadError.Malformed → HasNoRecord E.form bytes.now }
     ensures gate { IsErrOf result ReadError.Malformed → get_or bytes.now 0 open_gate ≡ open_gate }
 {
     if bytes[0] != OPEN_GATE {

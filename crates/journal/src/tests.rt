@@ -4,56 +4,89 @@ ghost use Rattle.std.specs.Prelude.{◌≡◌, length};
 use super::*;
 use disk_trait::{CrashDisk, Disk, MemDisk, Plan};
 use graph_edits::{Change, Op};
+use requests::Request;
 use std::alloc::Global;
 use std::process::Abort;
 use std::test::Fail;
 
-#[test]
-fn bytes_of_one_add(rt: HostRuntime) -> Result<(), Fail> {
-    let mut disk = MemDisk::new(rt.alloc(), 40)?;
-    let mut journal = Journal::fresh(Area {
-        start: 10,
-        room: 30,
-    });
-    let group = [Change::new(&[Op::Add(0, 1, 1)])?];
-    assert!(rt; journal.append(rt.alloc(), &mut disk, &group).is_ok());
-    let mut bytes = [9; 18];
-    disk.read(10, &mut bytes)?;
-    assert_eq!(rt;
-        bytes,
-        [1, 0, 0, 0, 12, 0, 1, 1, 1, 0, 0, 0, 1, 0, 0, 0, 1, 0]
-    );
+// Appends a group to a fresh journal, and compares the bytes of the record and the next gate; then scans them.
+fn spells<E: Entry + PartialEq>(
+    rt: &impl Abort,
+    alloc: Global,
+    group: &[E],
+    bytes: &[u8],
+) -> Result<(), Fail> {
+    let area = Area { start: 2, room: 80 };
+    let mut disk = MemDisk::new(alloc, 90)?;
+    let mut journal = Journal::fresh(area);
+    assert!(rt; append_to(rt, alloc, &mut journal, &mut disk, group).is_ok());
+    let mut found = [9; 80];
+    assert!(rt; disk.len() == 90);
+    disk.read(2, &mut found)?;
+    assert!(rt; found.starts_with(bytes), "{found:?}");
+    let Ok((_, entries)) = scan_of::<E>(rt, alloc, &mut disk, area) else {
+        return Err("what was written")?;
+    };
+    assert!(rt; entries.as_slice() == group);
     Ok(())
 }
 
+fn request(session: u8, ticket: u64, ops: &[Op]) -> Result<Request, Fail> {
+    Ok(Request {
+        session,
+        ticket,
+        change: Change::new(ops)?,
+    })
+}
+
 #[test]
-fn bytes_of_two_editors_changes_in_one_record(rt: HostRuntime) -> Result<(), Fail> {
-    let mut disk = MemDisk::new(rt.alloc(), 46)?;
-    let mut journal = Journal::fresh(Area { start: 0, room: 46 });
-    let group = [
-        Change::new(&[Op::Add(0, 1, 7)])?,
-        Change::new(&[Op::Set(1, 0, 9), Op::Cut(0, 1), Op::Add(3, 2, 5)])?,
-    ];
-    assert!(rt; journal.append(rt.alloc(), &mut disk, &group).is_ok());
-    let mut bytes = [9; 46];
-    disk.read(0, &mut bytes)?;
-    assert_eq!(rt;
-        bytes,
-        [
+fn bytes_of_changes_and_of_requests(rt: HostRuntime) -> Result<(), Fail> {
+    let one = [Op::Add(0, 1, 1)];
+    let add = [Op::Add(0, 1, 7)];
+    let three = [Op::Set(1, 0, 9), Op::Cut(0, 1), Op::Add(3, 2, 5)];
+    spells(
+        &rt,
+        rt.alloc(),
+        &[Change::new(&one)?],
+        &[1, 0, 0, 0, 12, 0, 1, 1, 1, 0, 0, 0, 1, 0, 0, 0, 1, 0],
+    )?;
+    spells(
+        &rt,
+        rt.alloc(),
+        &[Change::new(&add)?, Change::new(&three)?],
+        &[
             1, 0, 0, 0, 40, 0, 2, 1, 1, 0, 0, 0, 1, 0, 0, 0, 7, 3, 2, 0, 1, 0, 0, 0, 0, 0, 9, 3, 0,
-            0, 0, 1, 0, 0, 0, 0, 1, 0, 3, 0, 2, 0, 0, 0, 5, 0
-        ]
-    );
-    Ok(())
+            0, 0, 1, 0, 0, 0, 0, 1, 0, 3, 0, 2, 0, 0, 0, 5, 0,
+        ],
+    )?;
+    spells(
+        &rt,
+        rt.alloc(),
+        &[request(0, 1, &one)?],
+        &[
+            1, 0, 0, 0, 0x15, 0, 1, 0, 0, 0, 0, 0, 0, 0, 0, 1, 1, 1, 0, 0, 0, 1, 0, 0, 0, 1, 0,
+        ],
+    )?;
+    // 64 bytes, with the next gate
+    spells(
+        &rt,
+        rt.alloc(),
+        &[request(1, 1, &add)?, request(63, 258, &three)?],
+        &[
+            1, 0, 0, 0, 0x3a, 0, 2, 1, 0, 0, 0, 0, 0, 0, 0, 1, 1, 1, 0, 0, 0, 1, 0, 0, 0, 7, 63, 0,
+            0, 0, 0, 0, 0, 1, 2, 3, 2, 0, 1, 0, 0, 0, 0, 0, 9, 3, 0, 0, 0, 1, 0, 0, 0, 0, 1, 0, 3,
+            0, 2, 0, 0, 0, 5, 0,
+        ],
+    )
 }
 
 // Appends to a journal whose area lies on the disk.
-fn append_to(
+fn append_to<E: Entry>(
     rt: &impl Abort,
     alloc: Global,
-    journal: &mut Journal,
+    journal: &mut Journal<E>,
     disk: &mut MemDisk,
-    group: &[Entry],
+    group: &[E],
 ) -> Result<(), AppendRefused> {
     let area = journal.area();
     assert!(rt; area.start + area.room <= disk.len());
@@ -62,19 +95,19 @@ fn append_to(
 }
 
 // Scans an area of the disk.
-fn scan_of(
+fn scan_of<E: Entry>(
     rt: &impl Abort,
     alloc: Global,
     disk: &mut MemDisk,
     area: Area,
-) -> Result<(Journal, Vec<Entry>), ScanRefused> {
+) -> Result<(Journal<E>, Vec<E>), ScanRefused> {
     let len = disk.len();
     assert!(rt; area.room >= 1 && area.start <= len && area.room <= len - area.start);
     Journal::scan(alloc, disk, area)
 }
 
 // A group of so many changes of so many ops each.
-fn group_of(alloc: Global, parts: &[(usize, usize)]) -> Result<Vec<Entry>, Fail> {
+fn group_of(alloc: Global, parts: &[(usize, usize)]) -> Result<Vec<Change>, Fail> {
     let ops = [Op::Set(0, 1, 1); 16];
     let mut group = Vec::new(alloc);
     for (changes, len) in parts {
@@ -117,7 +150,7 @@ fn room_on_both_sides_of_the_last_byte(rt: HostRuntime) -> Result<(), Fail> {
             append_to(&rt, rt.alloc(), &mut journal, &mut disk, &group),
             want
         );
-        let Ok((_, entries)) = scan_of(&rt, rt.alloc(), &mut disk, area) else {
+        let Ok((_, entries)) = scan_of::<Change>(&rt, rt.alloc(), &mut disk, area) else {
             return Err("a scan of what was written")?;
         };
         assert_eq!(&rt; entries.len(), if fits { 7_231 } else { 7_168 });
@@ -202,7 +235,7 @@ fn read_plainly(rt: &impl Abort, alloc: Global, area: &[u8]) -> Option<Vec<(usiz
 }
 
 // The same of what a scan found.
-fn in_order(rt: &impl Abort, alloc: Global, entries: &[Entry]) -> Vec<(usize, Op)> {
+fn in_order(rt: &impl Abort, alloc: Global, entries: &[Change]) -> Vec<(usize, Op)> {
     let mut ops = Vec::new(alloc);
     for (change, entry) in entries.iter().enumerate() {
         for op in entry.ops() {
@@ -241,7 +274,7 @@ fn each_byte_of_two_records_changed_to_each_other(rt: HostRuntime) -> Result<(),
             spoilt[place] = byte;
             assert!(&rt; disk.len() == 70);
             disk.write_at(3, &spoilt)?;
-            match scan_of(&rt, rt.alloc(), &mut disk, area) {
+            match scan_of::<Change>(&rt, rt.alloc(), &mut disk, area) {
                 Ok((_, entries)) => {
                     read = read.wrapping_add(1);
                     let found = in_order(&rt, rt.alloc(), &entries);
@@ -271,7 +304,7 @@ fn survivors(
     alloc: Global,
     plan: Plan,
     word: u64,
-) -> Result<(Result<(), AppendRefused>, Vec<Entry>), Fail> {
+) -> Result<(Result<(), AppendRefused>, Vec<Change>), Fail> {
     let area = Area { start: 5, room: 80 };
     let mut disk = MemDisk::new(alloc, 90)?;
     let mut journal = Journal::fresh(area);
@@ -284,7 +317,7 @@ fn survivors(
     disk.arm(plan);
     let answer = append_to(rt, alloc, &mut journal, &mut disk, &group);
     let mut left = disk.crash(word);
-    let Ok((_, entries)) = scan_of(rt, alloc, &mut left, area) else {
+    let Ok((_, entries)) = scan_of::<Change>(rt, alloc, &mut left, area) else {
         return Err("a crash image is always read")?;
     };
     assert!(rt; entries.len() == 1 || entries.len() == 3);
@@ -383,11 +416,11 @@ fn a_refused_allocation_changes_nothing(rt: HostRuntime) -> Result<(), Fail> {
             Ok(())
         );
     }
-    let entries = match scan_of(&rt, rt.alloc(), &mut disk, area) {
+    let entries = match scan_of::<Change>(&rt, rt.alloc(), &mut disk, area) {
         Ok((_, entries)) => entries,
         Err(refused) => {
             assert_eq!(&rt; refused, ScanRefused::Memory);
-            let Ok((_, entries)) = scan_of(&rt, rt.alloc(), &mut disk, area) else {
+            let Ok((_, entries)) = scan_of::<Change>(&rt, rt.alloc(), &mut disk, area) else {
                 return Err("scanned again")?;
             };
             entries
@@ -404,15 +437,17 @@ fn a_scan_whose_read_fails(rt: HostRuntime) -> Result<(), Fail> {
     disk.fail_at(1);
     assert!(&rt;
         matches!(
-            scan_of(&rt, rt.alloc(), &mut disk, area),
+            scan_of::<Change>(&rt, rt.alloc(), &mut disk, area),
             Err(ScanRefused::Device)
         )
     );
-    let Ok((journal, entries)) = scan_of(&rt, rt.alloc(), &mut disk, area) else {
+    let Ok((journal, entries)) = scan_of::<Change>(&rt, rt.alloc(), &mut disk, area) else {
         return Err("an empty area")?;
     };
     assert!(&rt; entries.is_empty());
     assert_eq!(&rt; journal.area(), area);
-    spelling_laws();
+    spelling_laws::<Change>();
+    spelling_laws::<Request>();
+    record_law();
     Ok(())
 }

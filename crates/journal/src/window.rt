@@ -59,6 +59,7 @@ impl Window {
         requires holds { IsTrue (D.view disk.old).keeps_model → Holds self.old (D.view disk.old).content }
         ensures size { length self.new.bytes.items ≡ length self.old.bytes.items }
         ensures ran { IsSameDevice (D.view disk.old) (D.view disk.new) }
+        ensures no_failure { OnOk result ((D.view disk.new).failures ≡ (D.view disk.old).failures) }
         ensures reads { IsTrue (D.view disk.old).keeps_model → OnlyRead (D.view disk.old) (D.view disk.new) }
         ensures fault { OnErr result ((D.view disk.old).failures < (D.view disk.new).failures) }
         ensures there { OnOk result ((self.new.from ≤ at) × (at + n ≤ self.new.from + self.new.len)) }

@@ -12,6 +12,7 @@ fn bounds_of_small_and_large_graphs(rt: HostRuntime) {
         (10, 4611686018427387903),
         (4096, 288230376151711743),
         (4097, 283796062672454640),
+        (16_384, 144115188075855871),
     ] {
         assert_eq!(rt; bound(nodes), want, "at {nodes}");
     }

@@ -8,3 +8,4 @@ pub mod Laws
 pub mod Columns
 pub mod RowLists
 pub mod Building
+pub mod Ways

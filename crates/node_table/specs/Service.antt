@@ -1,6 +1,6 @@
 -- What a scheme answers, and good service.
 use Rattle.std.specs.Prelude.{◌≡◌, ℕ, ◌-◌, ◌*◌, ◌≤◌, ◌<◌, ◌==◌, nat_lt, cond, ◌&&◌, is_some, Option, Some, None, Result, Ok, Err, List, [], ◌∷◌, length}
-use Rattle.graph_edits.specs.Edges.{Network}
+use Rattle.graph_edits.specs.Edges.{Network, over_port}
 use Rattle.graph_edits.specs.Walks.{IsWalk, walk_length}
 use Rattle.heavy_labels.specs.Label.{Label}
 use Rattle.heavy_labels.specs.Numbering.{Step, arrived, port, no_parent, no_light, step}
@@ -73,10 +73,24 @@ move_at t x k (Some e) = move_by t x k (step (record_of e.tree_record) k.label)
 abbrev pub node_step : Tables → ℕ → Packet → Result Move Refused
 node_step t x k = cond (nat_lt x t.nodes) (cond (nat_lt k.hops_left t.nodes) (move_at t x k (t.entry x k.root)) (Err Stray)) (Err NoNode)
 
--- x and the nodes of the list pass a packet on, each to the next, and the last one says that it is delivered
-abbrev pub Carries : Tables → ℕ → List ℕ → Packet → Type 0
-Carries t x [] k = node_step t x k ≡ Ok Delivered
-Carries t x (y ∷ rest) k = ((q : ℕ) × (node_step t x k ≡ Ok (Forward q y (one_less k)))) × Carries t y rest (one_less k)
+-- a packet that goes on is of this generation
+abbrev pub IsOfGeneration : ℕ → Move → Type 0
+IsOfGeneration generation Delivered = Unit {0}
+IsOfGeneration generation (Forward q y k) = k.generation ≡ generation
+
+-- x and the nodes of the first list pass a packet on, each to the next by a port of the second, and the last one says that it is delivered
+abbrev pub Carries : Tables → ℕ → List ℕ → List ℕ → Packet → Type 0
+Carries t x [] [] k = node_step t x k ≡ Ok Delivered
+Carries t x [] (q ∷ qs) k = ⊥
+Carries t x (y ∷ ys) [] k = ⊥
+Carries t x (y ∷ ys) (q ∷ qs) k = (node_step t x k ≡ Ok (Forward q y (one_less k))) × Carries t y ys qs (one_less k)
+
+-- behind each port the next node of the list stands in the network
+abbrev pub LeadAlong : Network → ℕ → List ℕ → List ℕ → Type 0
+LeadAlong m x [] [] = Unit {0}
+LeadAlong m x [] (q ∷ qs) = ⊥
+LeadAlong m x (y ∷ ys) [] = ⊥
+LeadAlong m x (y ∷ ys) (q ∷ qs) = (over_port m x q ≡ Some y) × LeadAlong m y ys qs
 
 -- A good trip from u over the nodes of the list to v: a walk, at most three times as long as any from u to v, and with no
 -- more edges than there are other nodes.
@@ -85,15 +99,20 @@ pub record IsGoodTrip (m : Network) (u v : ℕ) (trip : List ℕ) : Type 0 where
   pub short : (xs : List ℕ) → IsWalk m.edges u xs v → walk_length m.edges u trip ≤ 3 * walk_length m.edges u xs
   pub few : length trip < m.nodes
 
--- a packet from u to the scheme's own address of v is carried there over a good trip
+-- a packet from u to the scheme's own address of v is carried there over a good trip, by ports that lead along it in the network
 pub record Arrives (m : Network) (t : Tables) (u v : ℕ) : Type 0 where
   pub sent : Packet
   pub trip : List ℕ
+  pub ports : List ℕ
   pub decided : decide t u (address t v) ≡ Ok sent
-  pub carried : Carries t u trip sent
+  pub carried : Carries t u trip ports sent
+  pub lead : LeadAlong m u trip ports
   pub good : IsGoodTrip m u v trip
 
--- Good service: a packet arrives wherever a walk leads, and where none does its destination is refused as not to be reached.
+-- Good service: the scheme's nodes are the network's; a packet arrives wherever a walk leads, and where none does its
+-- destination is refused as not to be reached; and each packet that is sent arrives.
 pub record Serves (m : Network) (t : Tables) : Type 0 where
+  pub nodes : t.nodes ≡ m.nodes
   pub connected : (u v : ℕ) (xs : List ℕ) → u < m.nodes → v < m.nodes → IsWalk m.edges u xs v → Arrives m t u v
   pub apart : (u v : ℕ) → u < m.nodes → v < m.nodes → ((xs : List ℕ) → IsWalk m.edges u xs v → ⊥) → decide t u (address t v) ≡ Err Unreachable
+  pub sent : (u v : ℕ) (k : Packet) → u < m.nodes → v < m.nodes → decide t u (address t v) ≡ Ok k → Arrives m t u v

@@ -12,6 +12,7 @@ ghost use Rattle.node_table.specs.Service.{Serves};
 ghost use Rattle.node_table.specs.Tables.{tables, or_none};
 
 use crate::columns::{Row, tree_rows};
+use crate::laws::graph_is_sound;
 use crate::parts::{Entry, Listed, Near, Parts};
 use crate::scheme::Scheme;
 use clusters::cluster;
@@ -163,7 +164,7 @@ fn root_rows<A: Allocator>(
     ensures root { IfOk result (λ rows. All (λ w. w.entry.root ≡ root) rows.items) }
     ensures column { IfOk result (λ rows. IsColumn graph.now (limit_by (slice_index_or landmarks.now root false) nearest.now.nearest) root (entry_in rows.items) (label_in rows.items)) }
 {
-    let _sound = graph.nodes();
+    graph_is_sound(graph);
     if landmarks.holds(root) {
         let reach = from_root(alloc, graph, root)?;
         return tree_rows(alloc, graph, root, reach.members(), scratch);
@@ -344,7 +345,7 @@ pub fn build<A: Allocator + Clone>(
 {
     let nearest = from_landmarks(alloc, graph, landmarks)?;
     let mut parts = empty_parts(alloc, graph, landmarks, &nearest, generation)?;
-    let _sound = graph.nodes();
+    graph_is_sound(graph);
     add_roots(alloc, graph, landmarks, &nearest, &mut parts, scratch)?;
     Ok(Scheme::assemble(parts))
 }

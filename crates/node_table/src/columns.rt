@@ -9,15 +9,15 @@ ghost use Rattle.route_tree.specs.Growth.{subtrees, first_or};
 ghost use Rattle.route_tree.specs.Members.{AreMembers};
 ghost use Rattle.route_tree.specs.Rose.{Tree};
 ghost use Rattle.node_table.specs.Columns.{member_of, IsColumn};
-ghost use Rattle.node_table.specs.Ports.{port_to};
 ghost use Rattle.node_table.specs.RowLists.{ArePlaces, IsRowOf, IsRowFrom, IsRowless, IsRowList, entry_in, label_in};
 
 use crate::parts::Entry;
+use crate::ports::port;
 use bumpalo::Bump;
 use distances::Reached;
-use graph_edits::Graph;
+use graph_edits::{Graph, MOST_NODES};
 use heavy_labels::{Label, Numbered, NumberedMember, number};
-use route_tree::{Member, RouteTree};
+use route_tree::{MOST_MEMBERS, Member, RouteTree};
 use std::alloc::{AllocError, Allocator, Global};
 
 /// A member of a root's tree.
@@ -28,13 +28,9 @@ pub(crate) struct Row {
     pub label: Label,
 }
 
-/// The port of x that leads to y.
-fn port(graph: &Graph, x: u16, y: u16) -> Option<u16>
-    requires { x < graph.now.nodes }
-    ensures { result ≡ port_to graph.now x y }
-{
-    graph.port_to(x, y)
-}
+const _: () = prove!(MOST_NODES as usize <= MOST_MEMBERS);
+
+const _: () = prove!(MOST_MEMBERS <= u16::MAX as usize + 1);
 
 /// What is reached, as a member of the tree.
 fn member(graph: &Graph, reached: &Reached) -> Member
@@ -90,7 +86,7 @@ fn numbered<A: Allocator>(
 
 /// For each node its place in a list of nodes, or none.
 fn places(alloc: Global, nodes: u16, list: &[u16]) -> Result<Vec<Option<u16>>, AllocError>
-    requires few { length list.now ≤ 65536 }
+    requires few { length list.now ≤ MOST_MEMBERS }
     requires nodes { All (λ x. x < nodes) list.now }
     ensures length { IfOk result (λ table. length table.items ≡ nodes) }
     ensures places { IfOk result (λ table. ArePlaces list.now table.items) }
@@ -163,9 +159,9 @@ fn row_list(
     numbered: &[NumberedMember],
 ) -> Result<Vec<Row>, AllocError>
     requires reached_inside { All (λ x. x < nodes) (map (λ k. k.node) reached.now) }
-    requires reached_few { length reached.now ≤ 65536 }
+    requires reached_few { length reached.now ≤ MOST_MEMBERS }
     requires numbered_inside { All (λ x. x < nodes) (map (λ n. n.node) numbered.now) }
-    requires numbered_few { length numbered.now ≤ 65536 }
+    requires numbered_few { length numbered.now ≤ MOST_MEMBERS }
     ensures { IfOk result (λ rows. IsRowList root reached.now numbered.now rows.items) }
 {
     let by_distance = places(alloc, nodes, &reached_nodes(alloc, reached)?)?;

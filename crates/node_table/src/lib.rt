@@ -8,8 +8,9 @@
 //!
 //! The contract that the layers above use is that of [`build`]: all eight rules (`IsChecked` of
 //! `specs/Checks`) hold of the scheme, so it serves the graph (`Serves` of `specs/Service`, which names
-//! no tree, landmark or label), with exactly the landmarks and the generation that were handed in. That
-//! the rules give good service is a law, proved once: [`scheme_laws`].
+//! no tree, landmark or label, and whose trips go by ports of the graph), with exactly the landmarks and
+//! the generation that were handed in. That the rules give good service is a law, proved once, as is what
+//! holds of a packet on its way: [`scheme_laws`].
 //!
 //! [`Scheme::assemble`] takes any tables. All its calls are total for any of them and take no memory, but
 //! for [`Scheme::carry`], which takes that of its trail.
@@ -27,15 +28,16 @@ mod columns;
 mod laws;
 mod packet;
 mod parts;
+mod ports;
+mod readers;
 mod scheme;
 mod search;
-#[cfg(test)]
-mod tests;
 mod trail;
 
 pub use building::build;
-pub use laws::scheme_laws;
+pub use laws::{graph_is_sound, scheme_laws};
 pub use packet::{Address, Home, Move, Packet, Refused};
 pub use parts::{Entry, Listed, Near, Parts};
+pub use ports::port;
 pub use scheme::Scheme;
 pub use trail::{CarryRefused, Trail};

@@ -1,24 +1,55 @@
 // What goes from node to node.
+ghost use Rattle.std.specs.Prelude.{◌≡◌};
+
 use heavy_labels::Label;
 
 /// Where a node is to be found: its nearest landmark and its label in that landmark's tree, or the node alone where no
 /// landmark reaches it.
-#[derive(Drop)]
+#[derive(PartialEq, Eq, Debug, Drop)]
 pub struct Address {
     pub generation: u64,
     pub node: u16,
     pub home: Option<Home>,
 }
 
+impl Address {
+    /// An equal address. It takes no memory.
+    pub fn copy(&self) -> Address
+        ensures { result ≡ self.now }
+    {
+        let home = match &self.home {
+            Some(home) => Some(home.copy()),
+            None => None,
+        };
+        Address {
+            generation: self.generation,
+            node: self.node,
+            home,
+        }
+    }
+}
+
 /// A landmark, and a label in its tree.
-#[derive(Drop)]
+#[derive(PartialEq, Eq, Debug, Drop)]
 pub struct Home {
     pub landmark: u16,
     pub label: Label,
 }
 
+impl Home {
+    /// An equal home. It takes no memory.
+    pub fn copy(&self) -> Home
+        ensures { result ≡ self.now }
+    {
+        Home {
+            landmark: self.landmark,
+            label: self.label.copy(),
+        }
+    }
+}
+
 /// A packet on its way in the tree of `root`.
-#[derive(Drop)]
+#[derive(PartialEq, Eq, Debug, Drop)]
 pub struct Packet {
     pub generation: u64,
     pub destination: u16,
@@ -29,8 +60,23 @@ pub struct Packet {
     pub hops_left: u16,
 }
 
+impl Packet {
+    /// An equal packet. It takes no memory.
+    pub fn copy(&self) -> Packet
+        ensures { result ≡ self.now }
+    {
+        Packet {
+            generation: self.generation,
+            destination: self.destination,
+            root: self.root,
+            label: self.label.copy(),
+            hops_left: self.hops_left,
+        }
+    }
+}
+
 /// What a node does with a packet.
-#[derive(Drop)]
+#[derive(PartialEq, Eq, Debug, Drop)]
 pub enum Move {
     /// The node is the destination.
     Delivered,
@@ -40,6 +86,22 @@ pub enum Move {
         next: u16,
         packet: Packet,
     },
+}
+
+impl Move {
+    /// An equal move. It takes no memory.
+    pub fn copy(&self) -> Move
+        ensures { result ≡ self.now }
+    {
+        match self {
+            Move::Delivered => Move::Delivered,
+            Move::Forward { port, next, packet } => Move::Forward {
+                port: *port,
+                next: *next,
+                packet: packet.copy(),
+            },
+        }
+    }
 }
 
 /// Why a scheme gives no address, no packet or no move.

@@ -3,7 +3,7 @@ pub use distances::Near;
 use heavy_labels::{Label, Record};
 
 /// A node's place in the tree of a root.
-#[derive(Clone, Copy)]
+#[derive(Clone, Copy, PartialEq, Eq, Debug)]
 pub struct Entry {
     pub root: u16,
     /// The distance of the node from the root.
@@ -14,7 +14,7 @@ pub struct Entry {
 }
 
 /// A member of a root's tree, in the directory of that root.
-#[derive(Drop)]
+#[derive(PartialEq, Eq, Debug, Drop)]
 pub struct Listed {
     pub node: u16,
     /// The member's label in the tree of the directory's node.
@@ -22,7 +22,7 @@ pub struct Listed {
 }
 
 /// All that a scheme holds. A list of nodes has the place of each node at its number.
-#[derive(Drop)]
+#[derive(PartialEq, Eq, Debug, Drop)]
 pub struct Parts {
     /// The number of nodes.
     pub nodes: u16,

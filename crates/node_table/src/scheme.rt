@@ -1,16 +1,16 @@
-ghost use Rattle.std.specs.Prelude.{◌≡◌, ◌<◌, ◌≤◌, ◌^◌, ◌==◌, ℕ, cond, is_some, None, Some, Ok, Err, length, MatchOption, slice_get};
+ghost use Rattle.std.specs.Prelude.{◌≡◌, ◌<◌, ◌≤◌, ◌^◌, ◌==◌, ℕ, cond, is_some, None, Some, Ok, Err, IfOk, length, MatchOption, slice_get};
 ghost use Rattle.node_table.specs.declared.packet.Move.TheVariants.{Delivered};
 ghost use Rattle.node_table.specs.declared.packet.Refused.TheVariants.{Stray, Unreachable};
 ghost use Rattle.node_table.specs.Checks.{distance_of};
 ghost use Rattle.node_table.specs.Laws.{AreTreesOf};
 ghost use Rattle.node_table.specs.Ports.{index_of};
 ghost use Rattle.node_table.specs.Trails.{gap};
-ghost use Rattle.node_table.specs.Service.{address_given, decide as packet_given, forward_over, home_of, node_step as move_given, one_less, packet_by};
+ghost use Rattle.node_table.specs.Service.{address_given, decide as packet_given, forward_over, home_of, node_step as move_given, one_less, packet_by, IsOfGeneration};
 ghost use Rattle.node_table.specs.Tables.{AreAscending, entries_at, first_entry, first_listed, directory_at, or_none, roots_of, tables, ports_at};
 
 use crate::packet::{Address, Home, Move, Packet, Refused};
 use crate::parts::{Entry, Listed, Near, Parts};
-use crate::search::{directories_ascend, entries_ascend, node_place, root_place};
+use crate::search::{directories_ascend, entries_ascend, first_place};
 use heavy_labels::{Label, TreeStep, step};
 use std::marker::Model;
 
@@ -59,26 +59,6 @@ impl Scheme {
         self.entries_of(x).len()
     }
 
-    /// The entries of a node.
-    fn entries_of(&self, x: u16) -> &[Entry]
-        ensures { result.now ≡ entries_at self.now x }
-    {
-        match self.parts.entries.get(x as usize) {
-            Some(entries) => entries.as_slice(),
-            None => &[],
-        }
-    }
-
-    /// The directory of a node.
-    fn directory_of(&self, x: u16) -> &[Listed]
-        ensures { result.now ≡ directory_at self.now x }
-    {
-        match self.parts.directories.get(x as usize) {
-            Some(directory) => directory.as_slice(),
-            None => &[],
-        }
-    }
-
     /// The place of a node's first entry for a root, and how many entries were looked at.
     pub fn find(&self, x: u16, root: u16) -> (Option<usize>, u32)
         requires { x < self.now.nodes }
@@ -86,16 +66,16 @@ impl Scheme {
         ensures some { AreAscending self.now → 0 < length (entries_at self.now x) → 0 < result.1 }
         ensures few { AreAscending self.now → (k : ℕ) → length (entries_at self.now x) < 2 ^ k → result.1 ≤ k }
     {
-        root_place(self.entries_of(x), root, self.ascending)
+        first_place(self.entries_of(x), root, self.ascending)
     }
 
     /// A node's first entry for a root.
-    #[tactic(auto, using(crate::proofs::Searches::root_within, crate::proofs::Searches::entry_found, crate::proofs::Searches::entry_missing))]
+    #[tactic(auto, using(crate::proofs::Basics::Searches::root_within, crate::proofs::Basics::Searches::entry_found, crate::proofs::Basics::Searches::entry_missing))]
     pub fn entry(&self, x: u16, root: u16) -> Option<&Entry>
         ensures { MatchOption result (first_entry root (entries_at self.now x) ≡ None) (λ e. first_entry root (entries_at self.now x) ≡ Some e.now) }
     {
         let entries = self.entries_of(x);
-        let (place, _) = root_place(entries, root, self.ascending);
+        let (place, _) = first_place(entries, root, self.ascending);
         match place {
             Some(i) => Some(&entries[i]),
             None => None,
@@ -126,12 +106,13 @@ impl Scheme {
     }
 
     /// A node's first label in a directory.
-    #[tactic(auto, using(crate::proofs::Searches::node_within, crate::proofs::Searches::listed_found, crate::proofs::Searches::listed_missing))]
+    #[tactic(auto, using(crate::proofs::Basics::Searches::node_within, crate::proofs::Basics::Searches::listed_found, crate::proofs::Basics::Searches::listed_missing))]
     pub fn listed(&self, u: u16, v: u16) -> Option<&Label>
         ensures { MatchOption result (first_listed v (directory_at self.now u) ≡ None) (λ l. first_listed v (directory_at self.now u) ≡ Some l.now) }
     {
         let directory = self.directory_of(u);
-        match node_place(directory, v, self.ascending) {
+        let (place, _) = first_place(directory, v, self.ascending);
+        match place {
             Some(i) => Some(&directory[i].label),
             None => None,
         }
@@ -155,18 +136,20 @@ impl Scheme {
     fn home(&self, v: u16) -> Option<Home>
         ensures { result ≡ home_of ((tables self.now).nearest v) ((tables self.now).home v) }
     {
-        let near = nearest_at(self.parts.nearest.as_slice(), v)?;
-        let label = label_at(self.parts.homes.as_slice(), v)?;
+        let near = self.nearest(v)?;
+        let label = self.home_label(v)?;
         Some(Home {
             landmark: near.landmark,
-            label,
+            label: label.copy(),
         })
     }
 
     /// The packet that a node sends to an address: in its own tree where its directory lists the destination, else in
-    /// the tree of the landmark that the address names. The address's generation isn't looked at.
+    /// the tree of the landmark that the address names. The address's generation isn't looked at: a packet has the scheme's.
+    #[tactic(auto, using(crate::proofs::OnTheWay::Generations::decide_generation))]
     pub fn decide(&self, u: u16, address: &Address) -> Result<Packet, Refused>
-        ensures { result ≡ packet_given (tables self.now) u address.now }
+        ensures packet { result ≡ packet_given (tables self.now) u address.now }
+        ensures generation { IfOk result (λ packet. packet.generation ≡ self.now.generation) }
     {
         let nodes = self.parts.nodes;
         if u >= nodes || address.node >= nodes {
@@ -233,9 +216,11 @@ impl Scheme {
         })
     }
 
-    /// What a node does with a packet. The packet's generation isn't looked at.
+    /// What a node does with a packet. The packet's generation isn't looked at, and a packet that goes on keeps it.
+    #[tactic(auto, using(crate::proofs::OnTheWay::Generations::node_step_generation))]
     pub fn node_step(&self, x: u16, packet: &Packet) -> Result<Move, Refused>
-        ensures { result ≡ move_given (tables self.now) x packet.now }
+        ensures moved { result ≡ move_given (tables self.now) x packet.now }
+        ensures generation { IfOk result (IsOfGeneration packet.now.generation) }
     {
         let nodes = self.parts.nodes;
         if x >= nodes {
@@ -289,25 +274,5 @@ fn port_at(ports: &[u16], port: u16) -> Option<u16>
         Some(ports[i])
     } else {
         None
-    }
-}
-
-fn nearest_at(nearest: &[Option<Near>], v: u16) -> Option<Near>
-    ensures { result ≡ or_none (slice_get nearest.now v) }
-{
-    let i = v as usize;
-    if i < nearest.len() { nearest[i] } else { None }
-}
-
-fn label_at(homes: &[Option<Label>], v: u16) -> Option<Label>
-    ensures { result ≡ or_none (slice_get homes.now v) }
-{
-    let i = v as usize;
-    if i >= homes.len() {
-        return None;
-    }
-    match &homes[i] {
-        Some(label) => Some(label.copy()),
-        None => None,
     }
 }

@@ -6,7 +6,7 @@ use crate::places::Places;
 use std::alloc::{AllocError, Allocator};
 
 /// The most members that a tree may have: as many as there may be nodes. This project's profile.
-pub const MOST_MEMBERS: usize = 4096;
+pub const MOST_MEMBERS: usize = 16_384;
 
 /// A member of a tree. The root has no parent and no ports, each other member has all three.
 #[derive(Clone, Copy)]

@@ -36,45 +36,43 @@ fn tree_of<A: Allocator + Clone>(
     Ok(Some(tree))
 }
 
-/// Member i below 2,047 has the children 2i + 1 and 2i + 2; ports by ascending neighbours.
-fn pairs(alloc: Global, n: u16) -> Result<Vec<Member>, AllocError> {
-    let mut all = Vec::new(alloc);
-    for i in 0..n {
-        let member = if i == 0 {
-            root(0)
-        } else if i < 3 {
-            below(0, i, 0, i - 1)
-        } else {
-            below((i - 1) / 2, i, 0, 2 - i % 2)
-        };
-        all.push(member)?;
+/// So many members, each by its place.
+fn listed<F: Fn(u16) -> Member>(
+    alloc: Global,
+    n: u16,
+    member_at: F,
+) -> Result<Vec<Member>, AllocError>
+    requires { F.IsAlwaysCallable member_at }
+{
+    (0..n).map(|i| member_at(i)).collect(alloc)
+}
+
+/// Node i has the children 2i + 1 and 2i + 2; ports by ascending neighbours.
+fn in_pairs(i: u16) -> Member {
+    match i {
+        0 => root(0),
+        1 | 2 => below(0, i, 0, i - 1),
+        _ => below((i - 1) / 2, i, 0, 2 - i % 2),
     }
-    Ok(all)
 }
 
 /// 0 - 1 - 2 - .., the root at its end.
-fn path(alloc: Global, n: u16) -> Result<Vec<Member>, AllocError> {
-    let mut all = Vec::new(alloc);
-    for i in 0..n {
-        let member = match i {
-            0 => root(0),
-            1 => below(0, 1, 0, 0),
-            _ => below(i - 1, i, 0, 1),
-        };
-        all.push(member)?;
+fn on_path(i: u16) -> Member {
+    match i {
+        0 => root(0),
+        1 => below(0, 1, 0, 0),
+        _ => below(i - 1, i, 0, 1),
     }
-    Ok(all)
 }
 
 /// A star round the greatest node, its leaves from the greatest down.
-fn star(alloc: Global, leaves: u16) -> Result<Vec<Member>, AllocError> {
-    let mut all = Vec::new(alloc);
-    all.push(root(leaves))?;
-    for i in 0..leaves {
-        let leaf = leaves - 1 - i;
-        all.push(below(leaves, leaf, 0, leaf))?;
+fn on_star(i: u16) -> Member {
+    let leaf = 16_383u16.saturating_sub(i);
+    if i == 0 {
+        root(leaf)
+    } else {
+        below(16_383, leaf, 0, leaf)
     }
-    Ok(all)
 }
 
 /// The path 0 - 1 - 2 - 3 - 4 seen from node 2: node 1 is heavy by the tie.
@@ -115,17 +113,17 @@ fn path_of_five(rt: HostRuntime) -> Result<(), Fail> {
 
 /// Each member i has the children 2i + 1 and 2i + 2, the smaller first.
 fn expect_pairs<A: Allocator>(rt: &impl Abort, tree: &RouteTree<A>) {
-    assert_eq!(rt; tree.size(), 4095);
+    assert_eq!(rt; tree.size(), 16_383);
     let mut twig = tree.root();
-    for depth in 0..11u32 {
+    for depth in 0..13u32 {
         let children = twig.children();
         assert_eq!(rt; children.len(), 2);
         let node = twig.node();
-        assert!(rt; node < 2047);
+        assert!(rt; node < 8191);
         for i in 0..2 {
             let child = &children[i];
             assert_eq!(rt; child.node() as usize, 2 * node as usize + 1 + i);
-            assert_eq!(rt; child.size(), (1 << (11 - depth)) - 1);
+            assert_eq!(rt; child.size(), (1 << (13 - depth)) - 1);
             let base = if depth == 0 { 0 } else { 1 };
             assert_eq!(rt;
                 (child.up(), child.down()),
@@ -134,7 +132,7 @@ fn expect_pairs<A: Allocator>(rt: &impl Abort, tree: &RouteTree<A>) {
         }
         twig = &children[1];
     }
-    assert_eq!(rt; (twig.node(), twig.size()), (4094, 1));
+    assert_eq!(rt; (twig.node(), twig.size()), (16_382, 1));
 }
 
 /// Grows the pairs under an allocator; false where they are no members of one tree.
@@ -154,9 +152,9 @@ fn grows_pairs<A: Allocator + Clone>(
 
 #[test]
 fn same_tree_under_each_allocator(rt: HostRuntime) -> Result<(), Fail> {
-    let members = pairs(rt.alloc(), 4095)?;
+    let members = listed(rt.alloc(), 16_383, in_pairs)?;
     assert!(rt; grows_pairs(&rt, rt.alloc(), &members)?);
-    let heap = LocalHeap::new(rt.alloc(), 16_777_216)?;
+    let heap = LocalHeap::new(rt.alloc(), 67_108_864)?;
     assert!(rt; grows_pairs(&rt, &heap, &members)?);
     assert_eq!(rt; heap.used(), 0);
     let bump = Bump::new(&heap);
@@ -166,11 +164,11 @@ fn same_tree_under_each_allocator(rt: HostRuntime) -> Result<(), Fail> {
 
 #[test]
 fn star_of_leaves(rt: HostRuntime) -> Result<(), Fail> {
-    let members = star(rt.alloc(), 4095)?;
+    let members = listed(rt.alloc(), 16_384, on_star)?;
     let tree = tree_of(rt.alloc(), &members)?.ok_or("no members")?;
-    assert_eq!(rt; tree.size(), 4096);
+    assert_eq!(rt; tree.size(), 16_384);
     let leaves = tree.root().children();
-    assert_eq!(rt; leaves.len(), 4095);
+    assert_eq!(rt; leaves.len(), 16_383);
     for (i, leaf) in leaves.iter().enumerate() {
         assert_eq!(rt; (leaf.node() as usize, leaf.size()), (i, 1));
         assert!(rt; leaf.down() == Some(leaf.node()));
@@ -190,58 +188,73 @@ fn length_of_path<A: Allocator>(tree: &RouteTree<A>) -> usize {
     0
 }
 
+/// The size and the depth of a path.
+fn measured<A: Allocator + Clone>(
+    alloc: A,
+    members: &[Member],
+) -> Result<(usize, usize), AllocError> {
+    match tree_of(alloc, members)? {
+        Some(tree) => Ok((tree.size(), length_of_path(&tree))),
+        None => Ok((0, 0)),
+    }
+}
+
+/// The same under each allocator.
+fn measured_under_each(
+    alloc: Global,
+    members: &[Member],
+) -> Result<[(usize, usize); 3], AllocError> {
+    let heap = LocalHeap::new(alloc, 67_108_864)?;
+    let bump = Bump::new(&heap);
+    let in_bump = measured(&bump, members)?;
+    Ok([
+        measured(alloc, members)?,
+        measured(&heap, members)?,
+        in_bump,
+    ])
+}
+
 /// A tree as deep as may be, grown, walked and dropped on a stack of 64 MiB.
 #[test]
 fn deepest_path(rt: HostRuntime) -> Result<(), Fail> {
-    let members = path(rt.alloc(), 4096)?;
+    let members = listed(rt.alloc(), 16_384, on_path)?;
     let alloc = rt.alloc();
-    let worker = thread::Builder::new()
-        .stack_size(67_108_864)
-        .spawn(&rt, move || match tree_of(alloc, &members) {
-            Ok(Some(tree)) => (tree.size(), length_of_path(&tree)),
-            _ => (0, 0),
-        })?;
+    let worker = thread::Builder::new().stack_size(67_108_864).spawn(
+        &rt,
+        move || measured_under_each(alloc, &members).unwrap_or([(0, 0); 3]),
+    )?;
     let found = worker.join(&rt);
-    assert_eq!(rt; found, (4096, 4096));
+    assert_eq!(rt; found, [(16_384, 16_384); 3]);
     Ok(())
 }
 
 /// Heaps from too small to large enough: what is refused leaves nothing behind.
 #[test]
 fn each_growth_refused(rt: HostRuntime) -> Result<(), Fail> {
-    let members = pairs(rt.alloc(), 15)?;
-    assert!(rt; are_members(rt.alloc(), &members)?);
-    assert_eq!(rt; members.len(), 15);
-    let mut last_refused = 0;
-    let mut first_grown = 0;
-    for step in 1..256 {
-        let heap = LocalHeap::new(rt.alloc(), 64 * step)?;
-        match RouteTree::grow(&heap, members[0].node, &members) {
-            Ok(tree) => {
-                assert_eq!(rt; tree.size(), 15);
-                if first_grown == 0 {
-                    first_grown = step;
+    for (n, step, least) in [(15u16, 64usize, 10usize), (4095, 8_192, 8)] {
+        let members = listed(rt.alloc(), n, in_pairs)?;
+        assert!(rt; are_members(rt.alloc(), &members)?);
+        assert_eq!(rt; members.len(), n as usize);
+        let mut last_refused = 0;
+        let mut first_grown = 0;
+        for count in 1..128 {
+            let heap = LocalHeap::new(rt.alloc(), step * count)?;
+            match RouteTree::grow(&heap, members[0].node, &members) {
+                Ok(tree) => {
+                    assert_eq!(rt; tree.size(), n as usize);
+                    if first_grown == 0 {
+                        first_grown = count;
+                    }
+                }
+                Err(_) => {
+                    assert_eq!(rt; first_grown, 0);
+                    last_refused = count;
                 }
             }
-            Err(_) => {
-                assert_eq!(rt; first_grown, 0);
-                last_refused = step;
-            }
+            assert_eq!(rt; heap.used(), 0);
         }
-        assert_eq!(rt; heap.used(), 0);
+        assert!(rt; last_refused > least && first_grown > last_refused);
     }
-    assert!(rt; last_refused > 10 && first_grown > last_refused);
-    Ok(())
-}
-
-#[test]
-fn heap_too_small(rt: HostRuntime) -> Result<(), Fail> {
-    let members = pairs(rt.alloc(), 4095)?;
-    assert!(rt; are_members(rt.alloc(), &members)?);
-    assert_eq!(rt; members.len(), 4095);
-    let heap = LocalHeap::new(rt.alloc(), 65_536)?;
-    assert!(rt; RouteTree::grow(&heap, members[0].node, &members).is_err());
-    assert_eq!(rt; heap.used(), 0);
     Ok(())
 }
 
@@ -267,8 +280,10 @@ fn no_members_of_a_tree(rt: HostRuntime) -> Result<(), Fail> {
         assert!(rt; !are_members(rt.alloc(), row)?, "row {i}");
     }
     assert!(rt; are_members(rt.alloc(), &[root(65_535), below(65_535, 7, 3, 4)])?);
-    assert!(rt; are_members(rt.alloc(), &path(rt.alloc(), 4096)?)?);
-    assert!(rt; !are_members(rt.alloc(), &path(rt.alloc(), 4097)?)?);
+    for (n, fit) in [(16_384, true), (16_385, false)] {
+        let members = listed(rt.alloc(), n, on_path)?;
+        assert_eq!(rt; are_members(rt.alloc(), &members)?, fit, "{n} members");
+    }
     Ok(())
 }
 

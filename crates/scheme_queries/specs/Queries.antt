@@ -1,9 +1,9 @@
 -- What a query of a graph under landmark words answers.
-use Rattle.std.specs.Prelude.{◌≡◌, ℕ, List, Result, Err, Option, Some, None, IfOk, count_by}
+use Rattle.std.specs.Prelude.{◌≡◌, ℕ, List, Result, Err, Option, Some, None, IfOk}
 use Rattle.std.specs.declared.alloc.AllocError.{AllocError}
 use Rattle.graph_edits.specs.Edges.{Network}
 use Rattle.graph_edits.specs.Walks.{IsWalk}
-use Rattle.landmarks.specs.Chosen.{IsBound, chosen}
+pub use Rattle.built_schemes.specs.Schemes.{IsSchemeOf, IsLandmarkCount}
 use Rattle.node_table.specs.declared.packet.Refused.TheVariants.{Unreachable as NotReached}
 use Rattle.node_table.specs.declared.parts.Parts.{Parts}
 use Rattle.node_table.specs.Checks.{IsChecked, IsFirstFault}
@@ -26,27 +26,17 @@ pub record IsRouteAnswer (m : Network) (u v : ℕ) (answer : Result Route AllocE
   pub connected : (xs : List ℕ) → IsWalk m.edges u xs v → IfOk answer (λ route. IsGoodRoute m u v route)
   pub apart : ((xs : List ℕ) → IsWalk m.edges u xs v → ⊥) → IfOk answer (λ route. route ≡ Unreachable)
 
--- a scheme of the network: all rules hold, the words choose its landmarks, and it has the generation
-pub record IsSchemeOf (m : Network) (words : List ℕ) (generation : ℕ) (p : Parts) : Type 0 where
-  pub checked : IsChecked m p
-  pub landmarks : (bound : ℕ) × (IsBound m.nodes bound × (p.landmarks.items ≡ chosen bound words))
-  pub given : p.generation ≡ generation
-
 -- what the scheme does with a packet from u to v's own address: its trail, or that u has no tree to send it in
 abbrev pub IsRouteIn : Parts → ℕ → ℕ → Route → Type 0
 IsRouteIn p u v (Along trail) = IsTrailOf (tables p) u (address (tables p) v) trail
 IsRouteIn p u v Unreachable = decide (tables p) u (address (tables p) v) ≡ Err NotReached
-
--- so many landmarks are chosen by the words
-abbrev pub IsLandmarkCount : Network → List ℕ → ℕ → Type 0
-IsLandmarkCount m words count = (bound : ℕ) × (IsBound m.nodes bound × (count ≡ count_by (λ flag. flag) (chosen bound words)))
 
 -- what the checks say of a scheme: nothing where all rules hold, else the first that fails
 abbrev pub IsFaultIn : Network → Parts → Option Fault → Type 0
 IsFaultIn m p None = IsChecked m p
 IsFaultIn m p (Some fault) = IsFirstFault m p (rule_of fault)
 
--- no check fails, the landmarks are those that the words choose, and it is a scheme of this generation that was checked
+-- no check fails, the landmarks are those that the words give, and it is a scheme of this generation that was checked
 pub record IsCheckAnswer (m : Network) (words : List ℕ) (generation : ℕ) (answer : Result Checked AllocError) : Type 0 where
   pub passes : IfOk answer (λ checked. checked.fault ≡ None)
   pub count : IfOk answer (λ checked. IsLandmarkCount m words checked.landmarks)

@@ -7,7 +7,7 @@
 //!
 //! The contract that the layer above uses: [`carry_packet`] answers a trail at most three times as long as any walk where a
 //! walk is there, and that there is none where none is, each by the scheme of exactly these words (`IsRouteAnswer` and
-//! `IsSchemeOf` of `specs/Queries`); [`check_scheme`] finds no fault, and counts exactly the landmarks that the words choose
+//! `IsSchemeOf` of `built_schemes`); [`check_scheme`] finds no fault, and counts exactly the landmarks that the words choose
 //! (`IsCheckAnswer`).
 //!
 //! ```text
@@ -20,7 +20,5 @@
 #![tactic(auto)]
 
 mod queries;
-#[cfg(test)]
-mod tests;
 
 pub use queries::{Checked, Route, SCRATCH_LEN, carry_packet, check_scheme};

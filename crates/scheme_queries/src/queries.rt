@@ -1,16 +1,15 @@
 // A scheme for each query, and what is asked of it.
-ghost use Rattle.std.specs.Prelude.{◌≡◌, ◌<◌, IfOk, length};
+ghost use Rattle.std.specs.Prelude.{◌≡◌, ◌<◌, IfOk, count_by};
 ghost use Rattle.node_table.specs.declared.parts.Parts.{Parts};
 ghost use Rattle.node_table.specs.Checks.{IsChecked};
-ghost use Rattle.node_table.specs.Service.{Serves};
-ghost use Rattle.node_table.specs.Tables.{tables};
 ghost use Rattle.scheme_queries.specs.Carrying.{IsCarried};
-ghost use Rattle.scheme_queries.specs.Queries.{IsCheckAnswer, IsLandmarkCount, IsRouteAnswer, IsRouteIn, IsSchemeOf};
+ghost use Rattle.built_schemes.specs.Schemes.{IsSchemeOf};
+ghost use Rattle.scheme_queries.specs.Queries.{IsCheckAnswer, IsRouteAnswer, IsRouteIn};
 
+use built_schemes::scheme_of;
 use graph_edits::Graph;
-use landmarks::Landmarks;
 use linked_list_allocator::LocalHeap;
-use node_table::{CarryRefused, Scheme, Trail, build};
+use node_table::{CarryRefused, Scheme, Trail, graph_is_sound};
 use std::alloc::{AllocError, Global};
 
 /// How many bytes the trees of a scheme that is being built may take.
@@ -34,24 +33,24 @@ pub struct Checked {
     pub fault: Option<certificate::Fault>,
 }
 
-/// The scheme of the graph that has these landmark words, with how many landmarks there are. Its trees lie in a heap of
-/// this call's own.
-fn built(
-    alloc: Global,
-    graph: &Graph,
-    words: &[u64],
-    generation: u64,
-) -> Result<(Scheme, usize), AllocError>
-    requires { length words.now ≡ graph.now.nodes }
-    ensures scheme { IfOk result (λ b. IsSchemeOf graph.now words.now generation b.0) }
-    ensures serves { IfOk result (λ b. Serves graph.now (tables b.0)) }
-    ensures count { IfOk result (λ b. IsLandmarkCount graph.now words.now b.1) }
+/// The scheme of the graph by these landmark words. Its trees lie in a heap of this call's own.
+fn built(alloc: Global, graph: &Graph, words: &[u64], generation: u64) -> Result<Scheme, AllocError>
+    ensures { IfOk result (λ scheme. IsSchemeOf graph.now words.now generation scheme) }
 {
-    let nodes = graph.nodes();
     let heap = LocalHeap::new(alloc, SCRATCH_LEN)?;
-    let landmarks = Landmarks::choose(alloc, nodes as usize, words)?;
-    let scheme = build(alloc, graph, &landmarks, generation, &heap)?;
-    Ok((scheme, landmarks.count()))
+    scheme_of(alloc, graph, words, generation, &heap)
+}
+
+/// How many landmarks a scheme has.
+fn landmark_count(scheme: &Scheme) -> usize
+    ensures { result ≡ count_by (λ flag. flag) scheme.now.landmarks.items }
+{
+    scheme
+        .parts()
+        .landmarks
+        .iter()
+        .filter(|flag| **flag)
+        .count()
 }
 
 /// Carries a packet to a node's own address in a scheme that keeps all rules for the graph.
@@ -67,15 +66,15 @@ fn carried(
     requires to { to < graph.now.nodes }
     ensures { IsCarried graph.now scheme.now from to result }
 {
-    let _sound = graph.nodes();
+    graph_is_sound(graph);
     let Ok(address) = scheme.address(to) else {
         unreachable!()
     };
     scheme.carry(alloc, from, &address)
 }
 
-/// Carries a packet from a node to a node, in the scheme of the graph that has these landmark words. Its trees lie in a
-/// heap of this call's own.
+/// Carries a packet from a node to a node, in the scheme of the graph by these landmark words. Of the words the first count,
+/// one for each node, and for each that is missing the greatest. The trees lie in a heap of this call's own.
 pub fn carry_packet(
     alloc: Global,
     graph: &Graph,
@@ -84,13 +83,12 @@ pub fn carry_packet(
     from: u16,
     to: u16,
 ) -> Result<Route, AllocError>
-    requires words { length words.now ≡ graph.now.nodes }
     requires from { from < graph.now.nodes }
     requires to { to < graph.now.nodes }
     ensures answer { IsRouteAnswer graph.now from to result }
     ensures scheme { IfOk result (λ route. (p : Parts) × (IsSchemeOf graph.now words.now generation p × IsRouteIn p from to route)) }
 {
-    let (scheme, _) = built(alloc, graph, words, generation)?;
+    let scheme = built(alloc, graph, words, generation)?;
     match carried(alloc, graph, &scheme, from, to) {
         Ok(trail) => Ok(Route::Along(trail)),
         Err(CarryRefused::Unreachable) => Ok(Route::Unreachable),
@@ -99,17 +97,18 @@ pub fn carry_packet(
     }
 }
 
-/// Checks the scheme of the graph that has these landmark words, under this generation.
+/// Checks the scheme of the graph by these landmark words, under this generation. Of the words the first count, one for
+/// each node, and for each that is missing the greatest.
 pub fn check_scheme(
     alloc: Global,
     graph: &Graph,
     words: &[u64],
     generation: u64,
 ) -> Result<Checked, AllocError>
-    requires { length words.now ≡ graph.now.nodes }
     ensures { IsCheckAnswer graph.now words.now generation result }
 {
-    let (scheme, landmarks) = built(alloc, graph, words, generation)?;
-    let fault = certificate::check(graph, &scheme).err();
+    let judged = built(alloc, graph, words, generation)?;
+    let fault = certificate::check(graph, &judged).err();
+    let landmarks = landmark_count(&judged);
     Ok(Checked { landmarks, fault })
 }

@@ -1,7 +1,6 @@
 // Drawn graphs with drawn landmarks.
 use crate::plain_graph::{Edge, PlainGraph};
 use graph_edits::{Change, Graph, MOST_NODES, Op};
-use landmarks::Landmarks;
 use rand_core::Rng;
 use rand_xoshiro::Xoshiro256PlusPlus;
 use std::alloc::{AllocError, Global};
@@ -18,12 +17,18 @@ pub(crate) fn number(rng: &mut Xoshiro256PlusPlus, limit: u16) -> u16 {
     u16::try_from(below(rng, limit as usize)).unwrap_or(0)
 }
 
-/// A graph of 2 to 14 nodes with weights from 1 to 6. In some no edge is there, in some nearly all are.
+/// A graph of 2 to `most` nodes with weights from 1 to 6. In some no edge is there, in some nearly all are.
 pub(crate) fn drawn_graph(
     alloc: Global,
     rng: &mut Xoshiro256PlusPlus,
+    most: u64,
 ) -> Result<PlainGraph, AllocError> {
-    let nodes = 2 + rng.next_u64() % 13;
+    let nodes = 2
+        + rng
+            .next_u64()
+            .checked_rem(most.saturating_sub(1))
+            .unwrap_or(0)
+            % 64;
     let chance = rng.next_u64() % 10;
     let mut edges: Vec<Edge> = Vec::new(alloc);
     for a in 0..nodes as u16 {
@@ -49,13 +54,12 @@ pub(crate) fn graph_of(rt: &impl Abort, alloc: Global, plain: &PlainGraph) -> Gr
     graph
 }
 
-/// Landmarks among so many nodes: none, all, or each with a chance of one in three.
-pub(crate) fn drawn_landmarks(
-    rt: &impl Abort,
+/// Landmark words of so many nodes: of none, of all, or of each with a chance of one in three.
+pub(crate) fn landmark_words(
     alloc: Global,
     rng: &mut Xoshiro256PlusPlus,
     nodes: u16,
-) -> Result<Landmarks, AllocError> {
+) -> Result<Vec<u64>, AllocError> {
     let manner = rng.next_u64() % 8;
     let mut words = Vec::new(alloc);
     for _ in 0..nodes {
@@ -66,6 +70,5 @@ pub(crate) fn drawn_landmarks(
         };
         words.push(if chosen { 0u64 } else { u64::MAX })?;
     }
-    assert!(rt; 1 <= words.len());
-    Landmarks::choose(alloc, words.len(), &words)
+    Ok(words)
 }

@@ -3,7 +3,8 @@
 //! There is nothing here but tests. Schemes are built on drawn graphs, one drawn part of each is changed, and every
 //! scheme is judged twice: by [`certificate::check`], and by a second checker that stands here. That one is slow and
 //! plain. It reads the tables by going through them, makes the tree of every root as the parents give it, and goes
-//! over all roots, nodes and edges. It shares no code with the first, and both must name the same fault.
+//! over all roots, nodes and edges. It shares no code with the first, and both must name the same fault. The trees of
+//! drawn graphs are compared with plain distances too.
 #![tactic(auto)]
 
 #[cfg(test)]
@@ -20,3 +21,5 @@ mod second_checker;
 mod tables;
 #[cfg(test)]
 mod tests;
+#[cfg(test)]
+mod trees;

@@ -1,12 +1,11 @@
 // Both checkers, over drawn graphs and drawn changes.
 use crate::changes::{PARTS, change, copied};
-use crate::drawn::{below, drawn_graph, drawn_landmarks, graph_of};
+use crate::drawn::{below, drawn_graph, graph_of, landmark_words};
 use crate::plain_graph::PlainGraph;
 use crate::second_checker::first_fault;
+use built_schemes::scheme_of;
 use certificate::{Fault, check};
-use graph_edits::Graph;
-use landmarks::Landmarks;
-use node_table::{Scheme, build};
+use node_table::Scheme;
 use rand_core::SeedableRng;
 use rand_xoshiro::Xoshiro256PlusPlus;
 use std::alloc::{AllocError, Global};
@@ -16,6 +15,9 @@ use std::test::Fail;
 const GRAPHS: u32 = 100;
 
 const CHANGES: u32 = 10;
+
+/// How many nodes a drawn graph has at most.
+const MOST: u64 = 14;
 
 /// How many changed schemes broke each rule first, at the number of the fault. At 0 stand those that kept all rules.
 #[derive(Clone, Copy, PartialEq, Eq, Debug)]
@@ -35,18 +37,6 @@ impl Tally {
     }
 }
 
-fn built(
-    rt: &impl Abort,
-    alloc: Global,
-    graph: &Graph,
-    landmarks: &Landmarks,
-) -> Result<Scheme, AllocError> {
-    let nodes = graph.nodes() as usize;
-    let marked = landmarks.flags().len();
-    assert!(rt; marked == nodes);
-    build(alloc, graph, landmarks, 1, alloc)
-}
-
 /// What both checkers answer on a built scheme after one change; all rules hold of it before.
 fn judge_changes(
     rt: &impl Abort,
@@ -56,8 +46,8 @@ fn judge_changes(
     tally: &mut Tally,
 ) -> Result<(), AllocError> {
     let graph = graph_of(rt, alloc, plain);
-    let landmarks = drawn_landmarks(rt, alloc, rng, plain.nodes)?;
-    let scheme = built(rt, alloc, &graph, &landmarks)?;
+    let words = landmark_words(alloc, rng, plain.nodes)?;
+    let scheme = scheme_of(alloc, &graph, &words, 1, alloc)?;
     assert_eq!(rt; check(&graph, &scheme).err(), None);
     assert_eq!(rt; first_fault(alloc, plain, scheme.parts())?, None);
     for turn in 0..CHANGES {
@@ -80,7 +70,7 @@ fn both_checkers_find_the_same_fault(rt: HostRuntime) -> Result<(), Fail> {
     let mut rng = Xoshiro256PlusPlus::seed_from_u64(29);
     let mut tally = Tally { times: [0; 9] };
     for _ in 0..GRAPHS {
-        let plain = drawn_graph(alloc, &mut rng)?;
+        let plain = drawn_graph(alloc, &mut rng, MOST)?;
         judge_changes(&rt, alloc, &mut rng, &plain, &mut tally)?;
     }
     let mut all: u32 = 0;

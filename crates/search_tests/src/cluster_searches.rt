@@ -3,6 +3,7 @@ use crate::calls::cluster_of;
 use crate::drawn::{drawn_edges, drawn_flags, graph_of, longest_path, nearest_of};
 use crate::slow::{at, bellman_ford, distances_from};
 use clusters::Cluster;
+use graph_edits::MOST_NODES;
 use rand_core::SeedableRng;
 use rand_xoshiro::Xoshiro256PlusPlus;
 use std::test::Fail;
@@ -52,9 +53,9 @@ fn agrees_with_the_definition_on_drawn_graphs(rt: HostRuntime) -> Result<(), Fai
 /// How many nodes a cluster of the longest path has, counted by the distances on a line: each 64th node is a landmark, the first is 63.
 fn members_on_the_line(center: u16) -> usize {
     let mut members: usize = 0;
-    for node in 0..4096u16 {
+    for node in 0..MOST_NODES {
         let behind = if node < 63 {
-            4096
+            MOST_NODES
         } else {
             node.saturating_sub(63) % 64
         };
@@ -69,13 +70,13 @@ fn members_on_the_line(center: u16) -> usize {
 #[test]
 fn finds_all_clusters_of_the_longest_path(rt: HostRuntime) -> Result<(), Fail> {
     let alloc = rt.alloc();
-    let graph = graph_of(&rt, alloc, 4096, &longest_path(alloc)?);
+    let graph = graph_of(&rt, alloc, MOST_NODES, &longest_path(alloc)?);
     let mut flags = Vec::new(alloc);
-    for node in 0..4096u16 {
+    for node in 0..MOST_NODES {
         flags.push(node % 64 == 63)?;
     }
     let nearest = nearest_of(&rt, alloc, &graph, &flags);
-    for center in (0..4096u16).filter(|w| w % 64 != 63) {
+    for center in (0..MOST_NODES).filter(|w| w % 64 != 63) {
         let found = cluster_of(&rt, alloc, &graph, &nearest, center);
         assert_eq!(rt;
             found.members().len(),

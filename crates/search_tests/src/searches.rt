@@ -3,6 +3,7 @@ use crate::calls::{near_of, reach_of};
 use crate::drawn::{Edge, below, drawn_edges, drawn_flags, graph_of, longest_path, nearest_of};
 use crate::slow::{at, distances_from, nearest_by_each, parent_by_edges, scanned};
 use distances::Reached;
+use graph_edits::MOST_NODES;
 use rand_core::SeedableRng;
 use rand_xoshiro::Xoshiro256PlusPlus;
 use std::alloc::{AllocError, Global};
@@ -73,15 +74,16 @@ fn agrees_with_a_search_from_each_landmark(rt: HostRuntime) -> Result<(), Fail> 
 #[test]
 fn measures_the_longest_path(rt: HostRuntime) -> Result<(), Fail> {
     let alloc = rt.alloc();
-    let graph = graph_of(&rt, alloc, 4096, &longest_path(alloc)?);
+    let graph = graph_of(&rt, alloc, MOST_NODES, &longest_path(alloc)?);
     let reach = reach_of(&rt, alloc, &graph, 0);
     let last = Reached {
-        node: 4095,
-        distance: 4_095_000_000,
-        parent: Some(4094),
+        node: MOST_NODES - 1,
+        distance: (MOST_NODES as u64 - 1) * 1_000_000,
+        parent: Some(MOST_NODES - 2),
     };
-    assert!(rt; reach.members().len() == 4096);
+    let nodes = MOST_NODES as u64;
+    assert!(rt; reach.members().len() == MOST_NODES as usize);
     assert!(rt; reach.members().last().copied() == Some(last));
-    assert!(rt; 4096 <= reach.pops() && reach.pops() <= 8191);
+    assert!(rt; nodes <= reach.pops() && reach.pops() < 2 * nodes);
     Ok(())
 }

@@ -1,7 +1,7 @@
 // Clusters of graphs whose distances are known.
-use crate::calls::{cluster_of, member};
+use crate::calls::{cluster_of, expect_members, found_in, member};
 use crate::drawn::{graph_of, nearest_of};
-use distances::from_root;
+use distances::{Workspace, from_root};
 
 #[test]
 fn clusters_of_a_path(rt: HostRuntime) {
@@ -17,6 +17,11 @@ fn clusters_of_a_path(rt: HostRuntime) {
     assert!(&rt; 2 <= of_3.pops() && of_3.pops() <= 4);
     let of_4 = cluster_of(&rt, alloc, &graph, &nearest, 4);
     assert!(&rt; of_4.members() == [member(4, 0, None)].as_slice());
+    let mut workspace = Workspace::new(alloc, graph.nodes()).expect(&rt, "memory");
+    found_in(&rt, &mut workspace, &graph, &nearest, 3);
+    expect_members(&rt, &workspace, &graph, of_3.members());
+    found_in(&rt, &mut workspace, &graph, &nearest, 1);
+    expect_members(&rt, &workspace, &graph, of_1.members());
 }
 
 #[test]

@@ -1,7 +1,8 @@
 // Trees and nearest landmarks of graphs whose distances are known.
-use crate::calls::{member, near_of, reach_of};
+use crate::calls::{expect_tree_in, member, near_of, reach_of};
 use crate::drawn::{Edge, graph_of, nearest_of};
-use distances::Near;
+use distances::{Near, Workspace};
+use std::test::Fail;
 
 const PATH: [Edge; 4] = [(0, 1, 1), (1, 2, 1), (2, 3, 1), (3, 4, 1)];
 
@@ -111,4 +112,29 @@ fn takes_the_smaller_of_two_landmarks(rt: HostRuntime) {
     for node in 0..5u16 {
         assert!(&rt; near_of(&rt, &none, node) == None, "at {node}");
     }
+}
+
+/// Between any two of eight nodes an edge that is ten times as long as they are apart, or 1 between neighbours: from 0 each
+/// node is offered ever better distances, so more entries wait than there are nodes.
+#[test]
+fn one_workspace_serves_each_root_in_turn(rt: HostRuntime) -> Result<(), Fail> {
+    let alloc = rt.alloc();
+    let mut edges: Vec<Edge> = Vec::new(alloc);
+    for b in 1..8u16 {
+        for a in 0..b {
+            let apart = (b - a) as u32;
+            edges.push((a, b, if apart == 1 { 1 } else { 10 * apart }))?;
+        }
+    }
+    let graph = graph_of(&rt, alloc, 8, &edges);
+    let mut workspace = Workspace::new(alloc, graph.nodes())?;
+    expect_tree_in(&rt, alloc, &mut workspace, &graph, 0);
+    expect_tree_in(&rt, alloc, &mut workspace, &graph, 7);
+    expect_tree_in(&rt, alloc, &mut workspace, &graph, 3);
+    expect_tree_in(&rt, alloc, &mut workspace, &graph, 0);
+    for there in workspace.members() {
+        assert!(rt; there.reached.distance == there.reached.node as u64);
+    }
+    assert!(rt; workspace.members().len() == 8);
+    Ok(())
 }

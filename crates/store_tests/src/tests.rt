@@ -1,14 +1,9 @@
 // Bytes, refusals, damaged devices, and every failure of the device inside a call.
-ghost use Rattle.std.specs.Prelude.{◌≡◌, ◌≤◌, ◌+◌, length, IsTrue, IfOk, IsSome};
-ghost use Rattle.graph_edits.specs.Changes.{fold};
-ghost use Rattle.journal.specs.Layout.{most_entries};
-
 use checkpoint::{
     CommitRefused, DEVICE_LEN, FormatRefused, OpenRefused, RollRefused, Store, WORN_LIMIT, format,
 };
 use disk_trait::{CrashDisk, Disk, MemDisk, Plan};
 use graph_edits::{Change, EditRefused, Graph, Op, Overlay};
-use journal::Entry;
 use std::alloc::{AllocError, Global};
 use std::process::Abort;
 use std::test::*;
@@ -16,146 +11,13 @@ use std::test::*;
 mod damage;
 mod formats;
 mod groups;
+mod helpers;
 mod memory;
 mod openings;
 mod records;
 mod rolls;
 
-const WORDS: [u64; 5] = [0, 1, 7, 256, 257];
-
-fn formatted(alloc: Global, nodes: u16) -> Result<MemDisk, Fail> {
-    let mut disk = match MemDisk::new(alloc, DEVICE_LEN) {
-        Ok(disk) => disk,
-        Err(_) => MemDisk::new(alloc, DEVICE_LEN)?,
-    };
-    match format(&mut disk, nodes) {
-        Ok(()) => Ok(disk),
-        Err(refused) => Err(Fail::new(format_args!("not formatted: {refused:?}"))),
-    }
-}
-
-// The store of a device, asked for again where memory was short.
-fn open_again(alloc: Global, disk: MemDisk) -> Result<Store<MemDisk>, (OpenRefused, MemDisk)> {
-    match Store::open(alloc, disk) {
-        Err((OpenRefused::Memory, disk)) => Store::open(alloc, disk),
-        answer => answer,
-    }
-}
-
-fn opened(alloc: Global, disk: MemDisk) -> Result<Store<MemDisk>, Fail> {
-    match open_again(alloc, disk) {
-        Ok(store) => Ok(store),
-        Err((refused, _)) => Err(Fail::new(format_args!("not opened: {refused:?}"))),
-    }
-}
-
-// Why a device can't be opened.
-fn refusal(alloc: Global, disk: MemDisk) -> Option<OpenRefused> {
-    match open_again(alloc, disk) {
-        Ok(_) => None,
-        Err((refused, _)) => Some(refused),
-    }
-}
-
-fn is_accepted(alloc: Global, graph: &Graph, changes: &[Entry]) -> Result<bool, AllocError>
-    ensures { IfOk result (λ yes. IsTrue yes → IsSome (fold graph.now changes.now)) }
-{
-    let mut after = Overlay::over(alloc, graph);
-    for change in changes {
-        match after.apply(change) {
-            Ok(()) => {}
-            Err(EditRefused::Op { .. }) => return Ok(false),
-            Err(EditRefused::Memory) => return Err(AllocError),
-        }
-    }
-    Ok(true)
-}
-
-// The same, asked again where memory was short.
-fn accepts(alloc: Global, graph: &Graph, changes: &[Entry]) -> bool
-    ensures { IsTrue result → IsSome (fold graph.now changes.now) }
-{
-    match is_accepted(alloc, graph, changes) {
-        Ok(accepted) => accepted,
-        Err(_) => is_accepted(alloc, graph, changes).unwrap_or(false),
-    }
-}
-
-// Commits changes that the graph accepts, again where memory was short.
-fn commit(
-    rt: &impl Abort,
-    alloc: Global,
-    store: &mut Store<MemDisk>,
-    changes: &[Entry],
-) -> Result<(), CommitRefused>
-    requires some { 1 ≤ length changes.now }
-    requires few { length changes.now ≤ most_entries }
-{
-    assert!(rt; accepts(alloc, store.graph(), changes));
-    match store.commit(alloc, changes) {
-        Err(CommitRefused::Memory) => {
-            assert!(rt; accepts(alloc, store.graph(), changes));
-            store.commit(alloc, changes)
-        }
-        answer => answer,
-    }
-}
-
-fn change(ops: &[Op]) -> Result<Change, Fail> {
-    match Change::new(ops) {
-        Ok(change) => Ok(change),
-        Err(shape) => Err(Fail::new(format_args!("no change: {shape:?}"))),
-    }
-}
-
-fn bytes<const N: usize>(disk: &mut MemDisk, at: usize) -> Result<[u8; N], Fail> {
-    let mut bytes = [0; N];
-    if disk.len() < N || disk.len() - N < at {
-        return Err(Fail::new(format_args!("no bytes there")));
-    }
-    match disk.read(at, &mut bytes) {
-        Ok(()) => Ok(bytes),
-        Err(_) => Err(Fail::new(format_args!("not read"))),
-    }
-}
-
-// A device with one byte changed.
-fn spoilt(disk: MemDisk, at: usize, byte: u8) -> Result<MemDisk, Fail> {
-    let mut disk = disk;
-    if disk.len() <= at {
-        return Err(Fail::new(format_args!("no byte there")));
-    }
-    match disk.write_at(at, &[byte]) {
-        Ok(()) => Ok(disk),
-        Err(_) => Err(Fail::new(format_args!("not written"))),
-    }
-}
-
-// A device for five nodes with one committed edge.
-fn with_edge(rt: &impl Abort, alloc: Global) -> Result<MemDisk, Fail> {
-    let mut store = opened(alloc, formatted(alloc, 5)?)?;
-    let first = [change(&[Op::Add(0, 1, 1)])?];
-    assert_eq!(rt; commit(rt, alloc, &mut store, &first), Ok(()));
-    assert_eq!(rt; store.count(), 1);
-    Ok(store.into_disk())
-}
-
-// The first bytes of a device, as a device of its own.
-fn cut_to(alloc: Global, disk: MemDisk, len: usize) -> Result<MemDisk, Fail> {
-    let mut disk = disk;
-    let mut bytes = vec![in alloc; 0; len]?;
-    if disk.len() < len {
-        return Err(Fail::new(format_args!("too short")));
-    }
-    if disk.read(0, bytes.as_mut_slice()).is_err() {
-        return Err(Fail::new(format_args!("not read")));
-    }
-    let mut front = MemDisk::new(alloc, len)?;
-    if front.write_at(0, bytes.as_slice()).is_err() {
-        return Err(Fail::new(format_args!("not written")));
-    }
-    Ok(front)
-}
+use helpers::*;
 
 #[test]
 fn refusals_have_their_numbers(rt: HostRuntime) {
@@ -199,28 +61,29 @@ fn refusals_have_their_numbers(rt: HostRuntime) {
 }
 
 #[test]
-fn formats_one_node(rt: HostRuntime) -> Result<(), Fail> {
-    let mut disk = formatted(rt.alloc(), 1)?;
-    assert_eq!(rt;
-        bytes::<10>(&mut disk, 0)?,
-        [0x54, 0x5a, 0x4e, 0x4f, 0x44, 0x45, 0x30, 0x31, 0, 1]
-    );
-    assert_eq!(rt;
-        bytes::<23>(&mut disk, 4096)?,
-        [
-            1, 0, 0, 0, 0, 0, 0, 0, 1, 0, 0, 0, 0, 0, 0, 0, 0, 0, 1, 0, 0, 0, 0
-        ]
-    );
+fn formats_one_node_and_leaves_other_bytes(rt: HostRuntime) -> Result<(), Fail> {
+    let mut disk = MemDisk::new(rt.alloc(), DEVICE_LEN)?;
+    for at in (0..DEVICE_LEN).step_by(4096) {
+        put(&mut disk, at, &[0xa5; 4096])?;
+    }
+    let before = digest(&mut disk)?;
+    assert_eq!(rt; format(&mut disk, 1), Ok(()));
+    shows(&rt, &mut disk, 0, "545a4e4f4445 3031 0001");
+    let head = "01 0000000000000001 0000000000000000 0001 00000000";
+    shows(&rt, &mut disk, FIRST_SLOT, head);
+    shows(&rt, &mut disk, FIRST_AREA, "00");
+    shows(&rt, &mut disk, SECOND_SLOT, "00");
     let store = opened(rt.alloc(), disk)?;
-    assert_eq!(rt;
-        (
-            store.count(),
-            store.nodes(),
-            store.graph().edges(),
-            store.is_down()
-        ),
-        (0, 1, 0, false)
-    );
+    assert_eq!(rt; shown(&store, 0, 0), (0, 0, None));
+    assert_eq!(rt; (store.nodes(), store.is_down()), (1, false));
+    // all but what it shows is as before
+    let mut disk = store.into_disk();
+    for (at, len) in [(0, 10), (FIRST_SLOT, 23), (FIRST_AREA, 1), (SECOND_SLOT, 1)] {
+        let old = [0xa5; 23];
+        assert!(rt; len <= old.len());
+        put(&mut disk, at, &old[..len])?;
+    }
+    assert_eq!(rt; digest(&mut disk)?, before);
     Ok(())
 }
 
@@ -229,7 +92,7 @@ fn formats_within_the_limits(rt: HostRuntime) -> Result<(), Fail> {
     let mut disk = MemDisk::new(rt.alloc(), DEVICE_LEN)?;
     assert_eq!(rt; format(&mut disk, 0), Err(FormatRefused::BadSize));
     assert_eq!(rt; format(&mut disk, 4097), Err(FormatRefused::BadSize));
-    assert_eq!(rt; bytes::<10>(&mut disk, 0)?, [0; 10]);
+    shows(&rt, &mut disk, 0, "00000000000000000000");
     assert_eq!(rt; format(&mut disk, 4096), Ok(()));
     assert_eq!(rt; opened(rt.alloc(), disk)?.nodes(), 4096);
     let mut short = MemDisk::new(rt.alloc(), DEVICE_LEN - 1)?;
@@ -241,19 +104,10 @@ fn formats_within_the_limits(rt: HostRuntime) -> Result<(), Fail> {
 #[test]
 fn commits_one_edge(rt: HostRuntime) -> Result<(), Fail> {
     let mut disk = with_edge(&rt, rt.alloc())?;
-    assert_eq!(rt;
-        bytes::<18>(&mut disk, 139_264)?,
-        [1, 0, 0, 0, 0x0c, 0, 1, 1, 1, 0, 0, 0, 1, 0, 0, 0, 1, 0]
-    );
+    let record = "01 0000000c 0001 01 01 0000 0001 00000001 00";
+    shows(&rt, &mut disk, FIRST_AREA, record);
     let store = opened(rt.alloc(), disk)?;
-    assert_eq!(rt;
-        (
-            store.count(),
-            store.graph().edges(),
-            store.graph().weight(1, 0)
-        ),
-        (1, 1, Some(1))
-    );
+    assert_eq!(rt; shown(&store, 1, 0), (1, 1, Some(1)));
     Ok(())
 }
 
@@ -266,33 +120,18 @@ fn counts_each_change_of_a_group(rt: HostRuntime) -> Result<(), Fail> {
         change(&[Op::Cut(0, 1)])?,
     ];
     assert_eq!(rt; commit(&rt, rt.alloc(), &mut store, &group), Ok(()));
-    assert_eq!(rt;
-        (
-            store.count(),
-            store.graph().edges(),
-            store.graph().weight(1, 2)
-        ),
-        (3, 1, Some(7))
-    );
+    assert_eq!(rt; shown(&store, 1, 2), (3, 1, Some(7)));
     let store = opened(rt.alloc(), store.into_disk())?;
-    assert_eq!(rt;
-        (
-            store.count(),
-            store.graph().edges(),
-            store.graph().weight(1, 2)
-        ),
-        (3, 1, Some(7))
-    );
+    assert_eq!(rt; shown(&store, 1, 2), (3, 1, Some(7)));
     Ok(())
 }
 
 #[test]
 fn opens_after_each_gate_byte(rt: HostRuntime) -> Result<(), Fail> {
     for byte in 0..256u64 {
-        let mut disk = with_edge(&rt, rt.alloc())?;
-        // Opening one edge takes six calls: a sync and five reads. The third call after them is the gate's write.
-        disk.stop_at(9, 0);
-        let mut store = opened(rt.alloc(), disk)?;
+        let mut store = opened(rt.alloc(), with_edge(&rt, rt.alloc())?)?;
+        // The third call of a commit is the gate's write.
+        store.arm(Plan::Stop(3, 0));
         let second = [change(&[Op::Add(1, 2, 1)])?];
         assert_eq!(rt;
             commit(&rt, rt.alloc(), &mut store, &second),
@@ -369,9 +208,8 @@ fn tells_damage_by_one_byte(rt: HostRuntime) -> Result<(), Fail> {
 #[test]
 fn wears_out_at_the_limit(rt: HostRuntime) -> Result<(), Fail> {
     let mut disk = formatted(rt.alloc(), 5)?;
-    for at in 4105..4113 {
-        disk = spoilt(disk, at, if at == 4105 { 0x7f } else { 0xff })?;
-    }
+    put(&mut disk, 4105, &WORN_LIMIT.to_be_bytes())?;
+    let before = digest(&mut disk)?;
     let mut store = opened(rt.alloc(), disk)?;
     assert_eq!(rt; store.count(), WORN_LIMIT);
     let one = [change(&[Op::Add(0, 1, 1)])?];
@@ -381,7 +219,7 @@ fn wears_out_at_the_limit(rt: HostRuntime) -> Result<(), Fail> {
     );
     assert!(rt; !store.is_down());
     let mut disk = store.into_disk();
-    assert_eq!(rt; bytes::<18>(&mut disk, 139_264)?, [0; 18]);
+    assert_eq!(rt; digest(&mut disk)?, before);
     // one below the limit there is room for one change, and not for two
     let mut store = opened(rt.alloc(), spoilt(disk, 4112, 0xfe)?)?;
     let two = [change(&[Op::Add(0, 1, 1)])?, change(&[Op::Add(1, 2, 1)])?];
@@ -424,9 +262,7 @@ fn interrupted(
     word: u64,
 ) -> Result<(Result<(), CommitRefused>, u64), Fail> {
     let mut store = opened(alloc, with_edge(rt, alloc)?)?;
-    let mut disk = store.into_disk();
-    disk.arm(plan);
-    store = opened(alloc, disk)?;
+    store.arm(plan);
     let group = [
         change(&[Op::Add(1, 2, 1)])?,
         change(&[Op::Add(2, 3, 1), Op::Set(0, 1, 9)])?,
@@ -448,21 +284,23 @@ fn interrupted(
 
 #[test]
 fn each_call_of_a_commit_fails(rt: HostRuntime) -> Result<(), Fail> {
-    for word in WORDS {
-        for call in 7..11 {
-            let (answer, count) = interrupted(&rt, rt.alloc(), Plan::Fail(call), word)?;
-            assert_eq!(rt;
-                answer,
-                Err(CommitRefused::Device),
-                "call {call}, word {word}"
-            );
-            assert!(rt;
-                count == 1 || (count == 3 && call > 8),
-                "call {call}, word {word}: {count}"
-            );
+    // for each call of a commit, the count after a crash by each of the words; and no fifth call is made
+    for (call, counts) in [
+        (1, [1, 1, 1, 1, 1]),
+        (2, [1, 1, 1, 1, 1]),
+        (3, [1, 1, 1, 1, 3]),
+        (4, [1, 3, 1, 1, 3]),
+        (5, [3, 3, 3, 3, 3]),
+    ] {
+        for (word, count) in WORDS.iter().zip(counts.iter()) {
+            let found = interrupted(&rt, rt.alloc(), Plan::Fail(call), *word)?;
+            let answer = if call < 5 {
+                Err(CommitRefused::Device)
+            } else {
+                Ok(())
+            };
+            assert_eq!(rt; found, (answer, *count), "call {call}, word {word}");
         }
-        let (answer, count) = interrupted(&rt, rt.alloc(), Plan::Fail(11), word)?;
-        assert_eq!(rt; (answer, count), (Ok(()), 3));
     }
     Ok(())
 }
@@ -471,7 +309,7 @@ fn each_call_of_a_commit_fails(rt: HostRuntime) -> Result<(), Fail> {
 fn a_commit_stops_inside_each_write(rt: HostRuntime) -> Result<(), Fail> {
     for word in WORDS {
         // length, payload of two changes of three ops, and the next gate: 36 bytes; and the gate's one byte
-        for (call, size) in [(7, 36), (9, 1)] {
+        for (call, size) in [(1, 36), (3, 1)] {
             for put in 0..size + 1 {
                 let (answer, count) = interrupted(&rt, rt.alloc(), Plan::Stop(call, put), word)?;
                 assert_eq!(rt;
@@ -480,7 +318,7 @@ fn a_commit_stops_inside_each_write(rt: HostRuntime) -> Result<(), Fail> {
                     "call {call}, {put} bytes, word {word}"
                 );
                 assert!(rt;
-                    count == 1 || (count == 3 && call == 9),
+                    count == 1 || (count == 3 && call == 3),
                     "call {call}, {put} bytes, word {word}: {count}"
                 );
             }

@@ -1,15 +1,53 @@
--- What commands print, as answers.
-use Rattle.std.proofs.Common.{◌≡◌, subst, ℕ, List, Option, Result, IfOk}
-use Rattle.std.proofs.lemmas.Result.{IfOk-weaker}
-use Rattle.tznode.specs.declared.fault.Fault.{Fault}
-use Rattle.tznode.specs.declared.run.Ended.{Ended}
-use Rattle.tznode.specs.declared.task.Task.{Task}
-use Rattle.tznode.specs.Asked.{IsAskedFor}
-use Rattle.tznode.specs.Printed.{AnswersWords, PrintedFor}
+-- How runs end.
+use Rattle.std.proofs.Common.{◌≡◌, ◌∙◌, ◌⊎◌, ap, inl, inr, refl, subst, ℕ, List, Option, Result, Ok, Err, IfOk, OnOk}
+use Rattle.std.specs.Io.KnownBytes.{Appends}
+use Rattle.clap.specs.Walk.{Text}
+use Rattle.graph_edits.specs.declared.edits.Op.{Op}
+use Rattle.recovery_1.specs.State.{State}
+use Rattle.group_commit.specs.declared.request.Verdict.{Verdict}
+use Rattle.printed_lines.specs.declared.ended.Ended.{Ended}
+use Rattle.printed_lines.specs.declared.ended.Ended.TheVariants.{Done, Refused}
+use Rattle.printed_lines.specs.declared.fault.Fault.{Fault}
+use Rattle.printed_lines.specs.declared.fault.Fault.TheVariants as told
+use Rattle.printed_lines.specs.Faults.{IsNotUnderstood, status_of}
+use Rattle.printed_lines.specs.Lines.{line}
+use Rattle.device_commands.specs.Answer.{verdict_of}
+use Rattle.tznode.specs.declared.outcome.Outcome.{Outcome}
+use Rattle.tznode.specs.declared.outcome.Outcome.TheVariants.{Answered, Told, Untold}
+use Rattle.tznode.specs.Endings.{IsFaultFor}
+use Rattle.tznode.specs.Outcomes.{IsOutcome, status_in}
+use Rattle.tznode.specs.Printed.{ended_by, verdict_text}
 
--- what is printed for the task that the words ask for answers them
-pub answers : (r : Result Ended Fault) (old new : Option (List ℕ)) (words : List (List ℕ)) (understood task : Task) → IsAskedFor words understood → understood ≡ task
-    → IfOk r (λ ended. PrintedFor task ended old new) → IfOk r (λ ended. AnswersWords words ended old new)
-answers r old new words understood task asked is printed =
-    let same : IsAskedFor words task = subst (λ (t : Task). IsAskedFor words t) is asked in
-    IfOk-weaker r _ _ (λ ended answered. (task, same, answered)) printed
+-- a verdict's line is that of what becomes of the change in a state
+pub verdict_line : (r : Result Ended Fault) (old new : Option (List ℕ)) (verdict : Verdict) (change : List Op) → (state : State) × (verdict ≡ verdict_of state change)
+    → IfOk r (λ ended. ended ≡ ended_by verdict) → OnOk r (Appends old new (line (verdict_text verdict)))
+    → IfOk r (λ ended. (state : State) × (ended ≡ ended_by (verdict_of state change)) × Appends old new (line (verdict_text (verdict_of state change))))
+verdict_line (Ok ended) old new verdict change one ends printed =
+    (one.0, ends ∙ ap ended_by one.1, subst (λ (v : Verdict). Appends old new (line (verdict_text v))) one.1 printed)
+verdict_line (Err fault) old new verdict change one ends printed = tt
+
+-- the faults of status 2 are those by which words are not understood
+is_not_understood : (fault : Fault) → status_of fault ≡ 2 → IsNotUnderstood fault
+is_not_understood told.Usage is = tt
+is_not_understood told.Op is = tt
+is_not_understood told.Words is = tt
+is_not_understood told.ChangeTooLong is = absurd (cc)
+is_not_understood told.NodeCount is = absurd (cc)
+is_not_understood told.DeviceLength is = absurd (cc)
+is_not_understood told.DeviceFile is = absurd (cc)
+is_not_understood told.NotFormatted is = absurd (cc)
+is_not_understood told.LayoutNotKnown is = absurd (cc)
+is_not_understood told.Damaged is = absurd (cc)
+is_not_understood told.Device is = absurd (cc)
+is_not_understood told.Memory is = absurd (cc)
+is_not_understood told.Worn is = absurd (cc)
+is_not_understood told.NoNode is = absurd (cc)
+is_not_understood told.Output is = absurd (cc)
+
+-- a run of status 2 ends so by one of them
+pub not_understood : (words : List Text) (old new told_old told_new : Option (List ℕ)) (outcome : Outcome) → IsOutcome words old new told_old told_new outcome → status_in outcome ≡ 2
+    → (fault : Fault) × IsNotUnderstood fault × IsFaultFor words fault × ((outcome ≡ Told fault) ⊎ (outcome ≡ Untold fault))
+not_understood words old new told_old told_new (Answered Done) is two = absurd (cc)
+not_understood words old new told_old told_new (Answered Refused) is two = absurd (cc)
+not_understood words old new told_old told_new (Told fault) is two = (fault, is_not_understood fault two, is.0, inl refl)
+not_understood words old new told_old told_new (Untold fault) is two = (fault, is_not_understood fault two, is, inr refl)

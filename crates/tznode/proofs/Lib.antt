@@ -1,5 +1,3 @@
-pub mod OneRequest
-pub mod Listings
 pub mod Answering
 pub mod SchemeAnswering
-pub mod Asking
+pub mod Faults

@@ -2,16 +2,16 @@
 use Rattle.std.proofs.Common.{sym, subst, ◌≡◌, ℕ, ◌<◌, List, Option, Result, Ok, Err, IfOk, OnOk, IsErrAnd}
 use Rattle.std.specs.declared.alloc.AllocError.{AllocError}
 use Rattle.std.specs.Io.KnownBytes.{Appends}
-use Rattle.standing.specs.State.{State}
+use Rattle.recovery_1.specs.State.{State}
 use Rattle.given_words.specs.declared.words.LandmarkWords.{LandmarkWords}
 use Rattle.given_words.specs.Words.{AreWords, IsWithin}
 use Rattle.graph_edits.specs.Edges.{Network}
 use Rattle.scheme_queries.specs.declared.queries.Checked.{Checked}
 use Rattle.scheme_queries.specs.declared.queries.Route.{Route}
 use Rattle.scheme_queries.specs.Queries.{IsCheckAnswer}
-use Rattle.tznode.specs.declared.fault.Fault.{Fault}
-use Rattle.tznode.specs.declared.run.Ended.{Ended}
-use Rattle.tznode.specs.Lines.{line}
+use Rattle.printed_lines.specs.declared.fault.Fault.{Fault}
+use Rattle.printed_lines.specs.declared.ended.Ended.{Ended}
+use Rattle.printed_lines.specs.Lines.{line}
 use Rattle.tznode.specs.SchemeAnswers.{IsRouteBy, IsRouteOf, IsCheckOf, answered_text, checks_text, ended_along, ended_at}
 
 -- the fault that is handed up is the one that came

@@ -1,7 +1,4 @@
-pub mod Lines
-pub mod Faults
-pub mod Answer
-pub mod RouteLines
 pub mod SchemeAnswers
 pub mod Printed
-pub mod Asked
+pub mod Endings
+pub mod Outcomes

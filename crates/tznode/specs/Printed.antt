@@ -1,34 +1,35 @@
 -- What a command prints.
 use Rattle.std.specs.Prelude.{◌≡◌, ℕ, List, Option}
 use Rattle.std.specs.Io.KnownBytes.{Appends}
-use Rattle.standing.specs.State.{State}
+use Rattle.clap.specs.Walk.{Text}
+use Rattle.recovery_1.specs.State.{State}
 use Rattle.group_commit.specs.declared.request.Verdict.{Verdict}
 use Rattle.group_commit.specs.declared.request.Verdict.TheVariants.{Accepted, Refused}
 use Rattle.scheme_queries.specs.declared.queries.Checked.{Checked}
 use Rattle.scheme_queries.specs.declared.queries.Route.{Route as Found}
-use Rattle.tznode.specs.declared.run.Ended.{Ended}
-use Rattle.tznode.specs.declared.run.Ended.TheVariants.{Done, Refused as EndedRefused}
-use Rattle.tznode.specs.declared.task.Task.{Task}
-use Rattle.tznode.specs.declared.task.Task.TheVariants.{Format, Show, Edit, Route, Check}
-use Rattle.tznode.specs.Answer.{verdict_of}
-use Rattle.tznode.specs.Asked.{IsAskedFor}
-use Rattle.tznode.specs.Lines.{formatted_text, verdict_text, listing_text, line}
+use Rattle.printed_lines.specs.declared.ended.Ended.{Ended}
+use Rattle.printed_lines.specs.declared.ended.Ended.TheVariants.{Done, Refused as EndedRefused}
+use Rattle.printed_lines.specs.Lines.{accepted_text, formatted_text, line, listing_text, refused_text}
+use Rattle.asked_tasks.specs.Asked.{IsAskedFor}
+use Rattle.asked_tasks.specs.declared.task.Task.{Task}
+use Rattle.asked_tasks.specs.declared.task.Task.TheVariants.{Format, Show, Edit, Route, Check}
+use Rattle.device_commands.specs.Answer.{verdict_of}
 use Rattle.tznode.specs.SchemeAnswers.{IsRouteOf, IsCheckOf, answered_text, checks_text, ended_along, ended_at}
-
--- the exit status of a command that ends so
-abbrev pub status_at : Ended → ℕ
-status_at Done = 0
-status_at EndedRefused = 1
 
 -- how a command ends that answers this verdict
 abbrev pub ended_by : Verdict → Ended
 ended_by (Accepted count) = Done
 ended_by (Refused op code) = EndedRefused
 
+-- what became of a change
+abbrev pub verdict_text : Verdict → List ℕ
+verdict_text (Accepted count) = accepted_text count
+verdict_text (Refused op code) = refused_text op code
+
 -- a command that ends so has printed the answer to its task, and nothing else
 abbrev pub PrintedFor : Task → Ended → Option (List ℕ) → Option (List ℕ) → Type 0
 PrintedFor (Format device nodes) ended old new = (ended ≡ Done) × Appends old new (line (formatted_text nodes))
-PrintedFor (Show device) ended old new = (ended ≡ Done) × (state : State) × Appends old new (listing_text state)
+PrintedFor (Show device) ended old new = (ended ≡ Done) × (state : State) × Appends old new (listing_text state.count state.graph)
 PrintedFor (Edit device change) ended old new = (state : State) × (ended ≡ ended_by (verdict_of state change)) × Appends old new (line (verdict_text (verdict_of state change)))
 PrintedFor (Route device from to words) ended old new =
     (state : State) × (route : Found) × IsRouteOf state.graph state.count words from to route × (ended ≡ ended_along route) × Appends old new (line (answered_text state.count route))
@@ -36,5 +37,5 @@ PrintedFor (Check device words) ended old new =
     (state : State) × (checked : Checked) × IsCheckOf state.graph state.count words checked × (ended ≡ ended_at checked.fault) × Appends old new (line (checks_text state.count checked.landmarks checked.fault))
 
 -- the answer to a task that the words ask for was printed, and nothing else
-abbrev pub AnswersWords : List (List ℕ) → Ended → Option (List ℕ) → Option (List ℕ) → Type 0
+abbrev pub AnswersWords : List Text → Ended → Option (List ℕ) → Option (List ℕ) → Type 0
 AnswersWords words ended old new = (task : Task) × IsAskedFor words task × PrintedFor task ended old new

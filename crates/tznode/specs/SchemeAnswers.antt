@@ -11,9 +11,10 @@ use Rattle.scheme_queries.specs.declared.queries.Checked.{Checked}
 use Rattle.scheme_queries.specs.declared.queries.Route.{Route}
 use Rattle.scheme_queries.specs.declared.queries.Route.TheVariants.{Along, Unreachable}
 use Rattle.scheme_queries.specs.Queries.{IsFaultIn, IsGoodRoute, IsLandmarkCount, IsRouteAnswer, IsRouteIn, IsSchemeOf}
-use Rattle.tznode.specs.declared.run.Ended.{Ended}
-use Rattle.tznode.specs.declared.run.Ended.TheVariants.{Done, Refused}
-use Rattle.tznode.specs.RouteLines.{route_text, unreachable_text, checked_text, broken_text}
+use Rattle.printed_lines.specs.declared.ended.Ended.{Ended}
+use Rattle.printed_lines.specs.declared.ended.Ended.TheVariants.{Done, Refused}
+use Rattle.certificate.specs.Faults.{fault_text}
+use Rattle.printed_lines.specs.RouteLines.{route_text, unreachable_text, checked_text, broken_text}
 
 -- the answer for a packet from u to v is right, and is that of a scheme by these words
 abbrev pub IsRouteBy : Network → List ℕ → ℕ → ℕ → ℕ → Result Route AllocError → Type 0
@@ -56,4 +57,4 @@ ended_at (Some fault) = Refused
 -- the text of a check
 abbrev pub checks_text : ℕ → ℕ → Option Fault → List ℕ
 checks_text generation landmarks None = checked_text generation landmarks
-checks_text generation landmarks (Some fault) = broken_text fault
+checks_text generation landmarks (Some fault) = broken_text (fault_text fault)

@@ -10,30 +10,25 @@
 //!
 //! An OP is `add:A:B:W`, `set:A:B:W` or `cut:A:B`. W says which nodes are landmarks: `none`, those of `at:2,5`, or those that
 //! `draw:7` draws. The whole program is one call, [`run::run_words`], over the words, a reader and two writers; `main` makes it on
-//! the arguments and the standard streams. What ends a command is a [`fault::Fault`], told on standard error as `tznode: TEXT`.
+//! the arguments and the standard streams. What ends a command is a `Fault`, told on standard error as `tznode: TEXT`.
 //!
-//! Of a device that keeps the disk model it is proved what `show` prints, what `edit` answers and leaves ([`device`]), and what
-//! `route` and `check` answer ([`scheme_tasks`]); of words which command they are, by the grammar that clap is given, and what number,
-//! OP or landmark words its texts are ([`task::understood`], [`given_words`]); of a run that ends with status 0 that what it printed is
-//! the answer to what its words ask for; and of a line its bytes ([`lines`], [`route_lines`]). What a file of the system holds is
-//! tested.
+//! Here stand the files, the threads that build schemes, and the run. The words are read in `asked_tasks`, the lines and faults are
+//! spelt in `printed_lines`, and what `format`, `show` and `edit` do on a device is in `device_commands`. Proved here: of a device
+//! that keeps the disk model what `route` and `check` answer ([`scheme_tasks`]); of any run that what it printed is the answer to what
+//! its words ask for, or which fault ended it, and with which status ([`run::run`]). What a file of the system holds is tested.
 #![tactic(auto)]
 
-mod device;
-mod fault;
-mod lines;
-mod listing;
-mod route_lines;
+mod files;
+mod outcome;
 #[cfg(test)]
 mod route_tests;
 mod routing;
 mod run;
 mod scheme_tasks;
-mod task;
 #[cfg(test)]
 mod tests;
 
-use fault::Fault;
+use printed_lines::{Fault, tell};
 use std::alloc::AllocError;
 use std::env;
 use std::io::{self, ErrorKind};
@@ -42,11 +37,11 @@ use std::process::ExitCode;
 fn main(rt: HostRuntime) -> ExitCode {
     let given = match arguments(&rt) {
         Ok(given) => given,
-        Err(fault) => return ExitCode::from(run::tell(&mut rt.stderr(), fault)),
+        Err(fault) => return ended_by(&rt, fault),
     };
     let words = match borrowed(&rt, &given) {
         Ok(words) => words,
-        Err(error) => return ExitCode::from(run::tell(&mut rt.stderr(), Fault::from(error))),
+        Err(error) => return ended_by(&rt, Fault::from(error)),
     };
     ExitCode::from(run::run_words(
         &rt,
@@ -55,6 +50,11 @@ fn main(rt: HostRuntime) -> ExitCode {
         &mut rt.stdout(),
         &mut rt.stderr(),
     ))
+}
+
+fn ended_by(rt: &HostRuntime, fault: Fault) -> ExitCode {
+    let _told = tell(&mut rt.stderr(), fault);
+    ExitCode::from(fault.status())
 }
 
 // The program's words, without its name. A word that is no text is no word of a command.

@@ -1,23 +1,26 @@
 //! The commands `route` and `check`.
-ghost use Rattle.std.specs.Prelude.{◌≡◌, ◌≢◌, ◌<◌, List, ℕ, IsTrue, IfOk, IfErr, IsErrOf, OnOk};
+ghost use Rattle.std.specs.Prelude.{◌≡◌, ◌<◌, List, ℕ, IsTrue, IfOk, IfErr, IsErrOf, OnOk};
 ghost use Rattle.std.specs.Io.KnownBytes.{Appends};
 ghost use Rattle.disk_trait.specs.Disk.{DiskView};
-ghost use Rattle.standing.specs.State.{State};
-ghost use Rattle.standing.specs.Standing.{StandsFor};
+ghost use Rattle.recovery_1.specs.State.{State};
+ghost use Rattle.recovery_1.specs.Standing.{StandsFor};
 ghost use Rattle.given_words.specs.Words.{AreWords, IsWithin};
-ghost use Rattle.tznode.specs.Faults.{status_of};
-ghost use Rattle.tznode.specs.Lines.{line};
+ghost use Rattle.printed_lines.specs.Lines.{line};
+ghost use Rattle.printed_lines.specs.Faults.{IsNotUnderstood};
+ghost use Rattle.device_commands.specs.Openings.{TellsOf};
+ghost use Rattle.tznode.specs.Endings.{EndsCheck, EndsRoute, IsRouteFault, IsWordsOrMemory};
 ghost use Rattle.tznode.specs.SchemeAnswers.{IsRouteOf, IsCheckOf, answered_text, checks_text, ended_along, ended_at};
 
-use crate::device::open;
-use crate::fault::Fault;
-use crate::route_lines::{CheckedLine, FaultLine, RouteLine, UnreachableLine};
+use crate::files::open_file;
 use crate::routing::{check_in_thread, route_in_thread};
-use crate::run::{Ended, open_device, print_line};
 use checkpoint::standing_law;
+use device_commands::open;
 use disk_trait::Disk;
 use given_words::LandmarkWords;
 use graph_edits::Graph;
+use printed_lines::{
+    BrokenLine, CheckedLine, Ended, Fault, RouteLine, UnreachableLine, print_line,
+};
 use scheme_queries::{Checked, Route};
 use std::alloc::Global;
 use std::fs::File;
@@ -30,8 +33,7 @@ fn words_of(alloc: Global, graph: &Graph, asked: &LandmarkWords) -> Result<Vec<u
     ensures within { IfOk result (λ _. IsWithin asked.now graph.now.nodes) }
     ensures words { IfOk result (λ words. AreWords asked.now graph.now.nodes words.items) }
     ensures not_within { IsErrOf result Fault.Words → ¬ IsWithin asked.now graph.now.nodes }
-    ensures nodes { IfErr result (λ fault. fault ≢ Fault.NoNode) }
-    ensures status { IfErr result (λ fault. fault ≢ Fault.Words → status_of fault ≡ 1) }
+    ensures fault { IfErr result (λ fault. IsWordsOrMemory asked.now fault) }
 {
     let nodes = graph.nodes();
     if !asked.is_within(nodes) {
@@ -52,7 +54,7 @@ fn route_in_graph<R: Threads + AllocGlobal>(
     ensures route { IfOk result (λ route. IsRouteOf graph.now generation asked.now from to route) }
     ensures no_node { IsErrOf result Fault.NoNode → IsWithin asked.now graph.now.nodes × (from < graph.now.nodes → to < graph.now.nodes → ⊥) }
     ensures not_within { IsErrOf result Fault.Words → ¬ IsWithin asked.now graph.now.nodes }
-    ensures status { IfErr result (λ fault. fault ≢ Fault.Words → status_of fault ≡ 1) }
+    ensures fault { IfErr result (λ fault. IsRouteFault asked.now fault) }
 {
     let alloc = rt.alloc();
     let words = words_of(alloc, graph, asked)?;
@@ -73,7 +75,7 @@ fn check_in_graph<R: Threads + AllocGlobal>(
 ) -> Result<Checked, Fault>
     ensures check { IfOk result (λ checked. IsCheckOf graph.now generation asked.now checked) }
     ensures not_within { IsErrOf result Fault.Words → ¬ IsWithin asked.now graph.now.nodes }
-    ensures status { IfErr result (λ fault. fault ≢ Fault.Words → status_of fault ≡ 1) }
+    ensures fault { IfErr result (λ fault. IsWordsOrMemory asked.now fault) }
 {
     let alloc = rt.alloc();
     let words = words_of(alloc, graph, asked)?;
@@ -97,7 +99,8 @@ pub fn route_device<R: Threads + AllocGlobal, D: Disk + Drop>(
     ensures not_within { IsTrue (D.view disk).keeps_model → (state : State) → StandsFor state (D.view disk).content → IsErrOf result Fault.Words → ¬ IsWithin asked.now state.graph.nodes }
     // Also of a disk that doesn't keep the model the answer is that of a state.
     ensures of_one { IfOk result (λ answer. (state : State) × (answer.0 ≡ state.count) × IsRouteOf state.graph state.count asked.now from to answer.1) }
-    ensures status { IfErr result (λ fault. fault ≢ Fault.Words → status_of fault ≡ 1) }
+    ensures tells { IsTrue (D.view disk).keeps_model → IfErr result (λ fault. TellsOf fault (D.view disk).content) }
+    ensures fault { IfErr result (λ fault. EndsRoute asked.now fault) }
 {
     standing_law();
     match open(rt.alloc(), disk) {
@@ -122,7 +125,8 @@ pub fn check_device<R: Threads + AllocGlobal, D: Disk + Drop>(
     ensures not_within { IsTrue (D.view disk).keeps_model → (state : State) → StandsFor state (D.view disk).content → IsErrOf result Fault.Words → ¬ IsWithin asked.now state.graph.nodes }
     // Also of a disk that doesn't keep the model the answer is that of a state.
     ensures of_one { IfOk result (λ answer. (state : State) × (answer.0 ≡ state.count) × IsCheckOf state.graph state.count asked.now answer.1) }
-    ensures status { IfErr result (λ fault. fault ≢ Fault.Words → status_of fault ≡ 1) }
+    ensures tells { IsTrue (D.view disk).keeps_model → IfErr result (λ fault. TellsOf fault (D.view disk).content) }
+    ensures fault { IfErr result (λ fault. EndsCheck asked.now fault) }
 {
     standing_law();
     match open(rt.alloc(), disk) {
@@ -148,9 +152,10 @@ where
     R: Files<File = File> + AllocGlobal + Threads,
     O: Write,
     ensures printed { IfOk result (λ ended. (state : State) × (route : Route) × IsRouteOf state.graph state.count asked.now from to route × (ended ≡ ended_along route) × Appends (O.contents out.old) (O.contents out.new) (line (answered_text state.count route))) }
-    ensures untouched { IfErr result (λ fault. status_of fault ≡ 2 → out.new ≡ out.old) }
+    ensures fault { IfErr result (λ fault. EndsRoute asked.now fault) }
+    ensures untouched { IfErr result (λ fault. IsNotUnderstood fault → out.new ≡ out.old) }
 {
-    let (generation, route) = route_device(rt, open_device(rt, device)?, asked, from, to)?;
+    let (generation, route) = route_device(rt, open_file(rt, device)?, asked, from, to)?;
     print_route(out, generation, &route)
 }
 
@@ -189,9 +194,10 @@ where
     R: Files<File = File> + AllocGlobal + Threads,
     O: Write,
     ensures printed { IfOk result (λ ended. (state : State) × (checked : Checked) × IsCheckOf state.graph state.count asked.now checked × (ended ≡ ended_at checked.fault) × Appends (O.contents out.old) (O.contents out.new) (line (checks_text state.count checked.landmarks checked.fault))) }
-    ensures untouched { IfErr result (λ fault. status_of fault ≡ 2 → out.new ≡ out.old) }
+    ensures fault { IfErr result (λ fault. EndsCheck asked.now fault) }
+    ensures untouched { IfErr result (λ fault. IsNotUnderstood fault → out.new ≡ out.old) }
 {
-    let (generation, checked) = check_device(rt, open_device(rt, device)?, asked)?;
+    let (generation, checked) = check_device(rt, open_file(rt, device)?, asked)?;
     print_check(out, generation, checked.landmarks, checked.fault)
 }
 
@@ -215,7 +221,7 @@ fn print_check<O: Write>(
             Ok(Ended::Done)
         }
         Some(fault) => {
-            print_line(out, FaultLine { fault })?;
+            print_line(out, BrokenLine { check: fault })?;
             Ok(Ended::Refused)
         }
     }

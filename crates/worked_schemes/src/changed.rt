@@ -1,8 +1,7 @@
 // The scheme of a path of five nodes with the landmark in the middle, worked out by hand, and what one change does to it.
-use arrayvec::ArrayVec;
+use crate::helpers::{PATH, entry, graph_of, label};
 use certificate::{Fault, check};
-use graph_edits::{Change, Graph, MOST_NODES, Op};
-use heavy_labels::{Label, MOST_LIGHTS, Record};
+use heavy_labels::Label;
 use node_table::{Entry, Listed, Near, Parts, Scheme};
 use std::alloc::{AllocError, Global};
 use std::process::Abort;
@@ -25,49 +24,10 @@ enum Changed {
     ListedTwice,
 }
 
-fn graph_of(rt: &impl Abort, alloc: Global, nodes: u16, edges: &[(u16, u16, u32)]) -> Graph {
-    assert!(rt; 1 <= nodes && nodes <= MOST_NODES);
-    let mut graph = Graph::empty(alloc, nodes).expect(rt, "memory");
-    for (a, b, weight) in edges {
-        let change = Change::new(&[Op::Add(*a, *b, *weight)]).expect(rt, "a change");
-        graph.apply(&change).expect(rt, "an edge");
-    }
-    graph
-}
-
-fn label(first: u16, ports: &[u16]) -> Label {
-    let mut lights: ArrayVec<u16, MOST_LIGHTS> = ArrayVec::new();
-    for port in ports {
-        let _full = lights.try_push(*port);
-    }
-    Label::new(first, lights)
-}
-
 fn listed(node: u16, first: u16) -> Listed {
     Listed {
         node,
         label: label(first, &[]),
-    }
-}
-
-/// An entry for a root, at a distance, by a parent; the numbers and the ports of its record.
-fn entry(
-    rt: &impl Abort,
-    tree: (u16, u64, Option<u16>),
-    numbers: (u16, u16, u16, u16),
-    ports: (Option<u16>, Option<u16>),
-) -> Entry {
-    let (root, distance, parent) = tree;
-    let (first, last, heavy_last, light_depth) = numbers;
-    let Some(tree_record) = Record::new(first, last, heavy_last, light_depth, ports.0, ports.1)
-    else {
-        panic!(rt; "no record");
-    };
-    Entry {
-        root,
-        distance,
-        parent,
-        tree_record,
     }
 }
 
@@ -213,11 +173,9 @@ fn path_with(rt: &impl Abort, alloc: Global, changed: Changed) -> Result<Scheme,
     }))
 }
 
-const PATH: [(u16, u16, u32); 4] = [(0, 1, 1), (1, 2, 1), (2, 3, 1), (3, 4, 1)];
-
 #[test]
 fn each_change_breaks_its_rule(rt: HostRuntime) -> Result<(), Fail> {
-    let graph = graph_of(&rt, rt.alloc(), 5, &PATH);
+    let graph = graph_of(&rt, rt.alloc(), 5, &PATH)?;
     for (changed, want) in [
         (Changed::Nothing, Ok(())),
         (Changed::PortsSwapped, Err(Fault::Shape)),
@@ -248,7 +206,7 @@ fn the_path_is_no_scheme_for_other_graphs(rt: HostRuntime) -> Result<(), Fail> {
         (5, &shorter[..], Fault::Shape),
         (5, &longer[..], Fault::Parents),
     ] {
-        let graph = graph_of(&rt, rt.alloc(), nodes, edges);
+        let graph = graph_of(&rt, rt.alloc(), nodes, edges)?;
         assert_eq!(rt; check(&graph, &scheme), Err(want), "of {nodes} nodes");
     }
     Ok(())
@@ -257,7 +215,7 @@ fn the_path_is_no_scheme_for_other_graphs(rt: HostRuntime) -> Result<(), Fail> {
 #[test]
 fn an_empty_scheme_has_no_shape(rt: HostRuntime) -> Result<(), Fail> {
     let alloc = rt.alloc();
-    let graph = graph_of(&rt, alloc, 1, &[]);
+    let graph = graph_of(&rt, alloc, 1, &[])?;
     for nodes in [0u16, 1, 65535] {
         let scheme = Scheme::assemble(Parts {
             nodes,
@@ -304,7 +262,7 @@ fn single(
 
 #[test]
 fn a_single_node_lists_itself_or_is_a_landmark(rt: HostRuntime) -> Result<(), Fail> {
-    let graph = graph_of(&rt, rt.alloc(), 1, &[]);
+    let graph = graph_of(&rt, rt.alloc(), 1, &[])?;
     for (landmark, listed_too, want) in [
         (true, false, Ok(())),
         (true, true, Err(Fault::Directories)),

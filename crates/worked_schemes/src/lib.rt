@@ -1,13 +1,21 @@
 //! Tests of worked schemes.
 //!
 //! There is nothing here but tests: schemes that are built of worked graphs, of the longest path and of drawn graphs, under each
-//! allocator; the scheme of a path of five nodes with one change to its tables, each judged by [`certificate::check`]; and building and
-//! carrying made again where memory was refused.
+//! allocator; schemes of made-up tables; the scheme of a path of five nodes with one change to its tables, each judged by
+//! [`certificate::check`]; queries; and building and carrying made again where memory was refused.
 #![tactic(auto)]
 
 #[cfg(test)]
-mod built;
-#[cfg(test)]
 mod changed;
 #[cfg(test)]
+mod drawn;
+#[cfg(test)]
+mod helpers;
+#[cfg(test)]
+mod made_up;
+#[cfg(test)]
 mod memory;
+#[cfg(test)]
+mod queries;
+#[cfg(test)]
+mod worked;

@@ -1,203 +1,109 @@
 // Each case of damage in the header, the heads of the slots and the edges of a checkpoint, one at a time, beside what is still
 // allowed. The bytes are put by hand.
-use super::rolls::shown;
 use super::*;
 
 const PAST: u64 = 0x8000_0000_0000_0000;
 
-const FIRST_SLOT: usize = 4096;
-
-const SECOND_SLOT: usize = 1_187_840;
-
-// Puts bytes on a device.
-pub(super) fn put(disk: &mut MemDisk, at: usize, bytes: &[u8]) -> Result<(), Fail> {
-    if disk.len() < bytes.len() || disk.len() - bytes.len() < at {
-        return Err(Fail::new(format_args!("no place there")));
-    }
-    match disk.write_at(at, bytes) {
-        Ok(()) => Ok(()),
-        Err(_) => Err(Fail::new(format_args!("not written"))),
-    }
-}
-
-// What stands before the edges of a slot.
-#[derive(Clone, Copy, Debug)]
-pub(super) struct Head {
-    pub(super) gate: u8,
-    pub(super) epoch: u64,
-    pub(super) count: u64,
-    pub(super) nodes: u16,
-    pub(super) edges: u32,
-}
-
-// A head with no edges.
-fn bare(gate: u8, epoch: u64, count: u64, nodes: u16) -> Head {
-    Head {
-        gate,
-        epoch,
-        count,
-        nodes,
-        edges: 0,
-    }
-}
-
-// Puts the head of the slot that begins at `at`.
-pub(super) fn put_head(disk: &mut MemDisk, at: usize, head: Head) -> Result<(), Fail> {
-    let mut text = [head.gate; 23];
-    text[1..9].copy_from_slice(&head.epoch.to_be_bytes());
-    text[9..17].copy_from_slice(&head.count.to_be_bytes());
-    text[17..19].copy_from_slice(&head.nodes.to_be_bytes());
-    text[19..23].copy_from_slice(&head.edges.to_be_bytes());
-    put(disk, at, &text)
-}
-
-// Puts an edge, its nodes as they are given.
-pub(super) fn put_edge(disk: &mut MemDisk, at: usize, edge: (u16, u16, u32)) -> Result<(), Fail> {
-    let (a, b, weight) = edge;
-    let mut text = [0; 8];
-    text[..2].copy_from_slice(&a.to_be_bytes());
-    text[2..4].copy_from_slice(&b.to_be_bytes());
-    text[4..].copy_from_slice(&weight.to_be_bytes());
-    put(disk, at, &text)
-}
-
-// The store of a device, or none where it is damaged; no other refusal may be the answer.
-fn store_of(rt: &impl Abort, alloc: Global, disk: MemDisk, name: &str) -> Option<Store<MemDisk>> {
-    match open_again(alloc, disk) {
-        Ok(store) => Some(store),
-        Err((refused, _)) => {
-            assert_eq!(rt; refused, OpenRefused::Damaged, "{name}");
-            None
-        }
-    }
-}
-
-// Opens a device, and sees that it is damaged, or that it shows this count, this number of edges and this weight of 0-1.
-pub(super) fn assert_opens(
-    rt: &impl Abort,
-    alloc: Global,
-    disk: MemDisk,
-    want: Option<(u64, usize, Option<u32>)>,
-    name: &str,
-) {
-    let found = match store_of(rt, alloc, disk, name) {
-        Some(store) => Some(shown(&store, 0, 1)),
-        None => None,
-    };
-    assert_eq!(rt; found, want, "{name}");
-}
-
 #[test]
 fn tells_damaged_heads(rt: HostRuntime) -> Result<(), Fail> {
-    let closed = bare(0, 0, 0, 0);
-    // the header's nodes, the heads of the slots, and the count and the nodes that are opened
+    let closed = (0, 0, 0, 0);
+    // the header's nodes, gate, epoch, count and nodes of each slot, and the count and the nodes that are opened
     for (name, nodes, first, second, want) in [
-        ("no nodes", 0u16, bare(1, 1, 0, 0), closed, None),
-        ("one node", 1, bare(1, 1, 0, 1), closed, Some((0, 1))),
+        ("no nodes", 0u16, (1, 1, 0, 0), closed, None),
+        ("one node", 1, (1, 1, 0, 1), closed, Some((0, 1))),
         (
             "4,096 nodes",
             4096,
-            bare(1, 1, 0, 4096),
+            (1, 1, 0, 4096),
             closed,
             Some((0, 4096)),
         ),
-        ("4,097 nodes", 4097, bare(1, 1, 0, 4097), closed, None),
-        ("no open slot", 5, bare(0, 1, 0, 5), bare(0, 2, 0, 5), None),
-        (
-            "gates 2, 255",
-            5,
-            bare(2, 1, 0, 5),
-            bare(255, 2, 0, 5),
-            None,
-        ),
+        ("4,097 nodes", 4097, (1, 1, 0, 4097), closed, None),
+        ("no open slot", 5, (0, 1, 0, 5), (0, 2, 0, 5), None),
+        ("gates 2, 255", 5, (2, 1, 0, 5), (255, 2, 0, 5), None),
         (
             "the first open",
             5,
-            bare(1, 1, 3, 5),
-            bare(0, 2, 7, 5),
+            (1, 1, 3, 5),
+            (0, 2, 7, 5),
             Some((3, 5)),
         ),
         (
             "the second open",
             5,
-            bare(0, 2, 3, 5),
-            bare(1, 1, 7, 5),
+            (0, 2, 3, 5),
+            (1, 1, 7, 5),
             Some((7, 5)),
         ),
         (
             "the first newer",
             5,
-            bare(1, 2, 3, 5),
-            bare(1, 1, 7, 5),
+            (1, 2, 3, 5),
+            (1, 1, 7, 5),
             Some((3, 5)),
         ),
         (
             "the second newer",
             5,
-            bare(1, 1, 3, 5),
-            bare(1, 2, 7, 5),
+            (1, 1, 3, 5),
+            (1, 2, 7, 5),
             Some((7, 5)),
         ),
-        ("equal epochs", 5, bare(1, 1, 3, 5), bare(1, 1, 7, 5), None),
-        ("equal slots", 5, bare(1, 1, 3, 5), bare(1, 1, 3, 5), None),
+        ("equal epochs", 5, (1, 1, 3, 5), (1, 1, 7, 5), None),
+        ("equal slots", 5, (1, 1, 3, 5), (1, 1, 3, 5), None),
         (
             "equal, one closed",
             5,
-            bare(1, 1, 3, 5),
-            bare(0, 1, 3, 5),
+            (1, 1, 3, 5),
+            (0, 1, 3, 5),
             Some((3, 5)),
         ),
         (
             "the last epoch",
             5,
-            bare(1, WORN_LIMIT, 3, 5),
+            (1, WORN_LIMIT, 3, 5),
             closed,
             Some((3, 5)),
         ),
-        ("an epoch past it", 5, bare(1, PAST, 3, 5), closed, None),
-        (
-            "past it, the newer",
-            5,
-            bare(1, 1, 3, 5),
-            bare(1, PAST, 7, 5),
-            None,
-        ),
+        ("an epoch past it", 5, (1, PAST, 3, 5), closed, None),
+        ("past it, the newer", 5, (1, 1, 3, 5), (1, PAST, 7, 5), None),
         (
             "past it, closed",
             5,
-            bare(1, 1, 3, 5),
-            bare(0, PAST, 7, 5),
+            (1, 1, 3, 5),
+            (0, PAST, 7, 5),
             Some((3, 5)),
         ),
         (
             "the last count",
             5,
-            bare(1, 1, WORN_LIMIT, 5),
+            (1, 1, WORN_LIMIT, 5),
             closed,
             Some((WORN_LIMIT, 5)),
         ),
-        ("a count past it", 5, bare(1, 1, PAST, 5), closed, None),
+        ("a count past it", 5, (1, 1, PAST, 5), closed, None),
         (
             "past it, older",
             5,
-            bare(1, 2, 3, 5),
-            bare(1, 1, PAST, 5),
+            (1, 2, 3, 5),
+            (1, 1, PAST, 5),
             Some((3, 5)),
         ),
-        ("four nodes of five", 5, bare(1, 1, 3, 4), closed, None),
-        ("six nodes of five", 5, bare(1, 1, 3, 6), closed, None),
+        ("four nodes of five", 5, (1, 1, 3, 4), closed, None),
+        ("six nodes of five", 5, (1, 1, 3, 6), closed, None),
         (
             "six nodes, older",
             5,
-            bare(1, 1, 3, 6),
-            bare(1, 2, 7, 5),
+            (1, 1, 3, 6),
+            (1, 2, 7, 5),
             Some((7, 5)),
         ),
     ] {
         let mut disk = formatted(rt.alloc(), 5)?;
-        put(&mut disk, 8, &nodes.to_be_bytes())?;
-        put_head(&mut disk, FIRST_SLOT, first)?;
-        put_head(&mut disk, SECOND_SLOT, second)?;
+        put(&mut disk, NODES, &nodes.to_be_bytes())?;
+        for (at, slot) in [(FIRST_SLOT, first), (SECOND_SLOT, second)] {
+            put_head(&mut disk, at, bare(slot.0, slot.1, slot.2, slot.3))?;
+        }
         let found = match store_of(&rt, rt.alloc(), disk, name) {
             Some(store) => Some((store.count(), store.nodes())),
             None => None,
@@ -291,11 +197,7 @@ fn tells_an_edge_too_many(rt: HostRuntime) -> Result<(), Fail> {
 fn tells_a_device_of_another_length(rt: HostRuntime) -> Result<(), Fail> {
     for (len, want) in [(2_371_584, Some((0, 0, None))), (2_371_585, None)] {
         let mut disk = MemDisk::new(rt.alloc(), len)?;
-        put(
-            &mut disk,
-            0,
-            &[0x54, 0x5a, 0x4e, 0x4f, 0x44, 0x45, 0x30, 0x31, 0, 5],
-        )?;
+        put_text(&mut disk, 0, "545a4e4f4445 3031 0005")?;
         put_head(&mut disk, FIRST_SLOT, bare(1, 1, 0, 5))?;
         assert_opens(&rt, rt.alloc(), disk, want, "length");
     }

@@ -1,5 +1,4 @@
 // Formatting: stopped inside each write, and over an older store.
-use super::rolls::{roll, shown};
 use super::*;
 
 // Formats a device that is left by a crash, and sees a fresh store of seven nodes, which takes a change.
@@ -66,12 +65,8 @@ fn formats_over_an_older_store(rt: HostRuntime) -> Result<(), Fail> {
     let mut store = opened(rt.alloc(), disk)?;
     assert_eq!(rt; roll(rt.alloc(), &mut store), Ok(()));
     let mut disk = store.into_disk();
-    assert_eq!(rt;
-        bytes::<23>(&mut disk, 1_187_840)?,
-        [
-            1, 0, 0, 0, 0, 0, 0, 0, 2, 0, 0, 0, 0, 0, 0, 0, 0, 0, 5, 0, 0, 0, 0
-        ]
-    );
+    let head = "01 0000000000000002 0000000000000000 0005 00000000";
+    shows(&rt, &mut disk, SECOND_SLOT, head);
     assert_eq!(rt; shown(&opened(rt.alloc(), disk)?, 0, 1), (0, 0, None));
     Ok(())
 }

@@ -1,10 +1,8 @@
 // A commit of the largest group, 64 changes of 16 ops, stopped inside its writes.
-use super::damage::put;
-use super::rolls::{commit_group, roll, shown};
 use super::*;
 
 // The first change adds the edge 1-2, and the k-th sets 0-1 to the weight k.
-fn largest_group(alloc: Global) -> Result<Vec<Entry>, Fail> {
+fn largest_group(alloc: Global) -> Result<Vec<Change>, Fail> {
     let mut group = Vec::new(alloc);
     for weight in 1..65u32 {
         let mut ops = [Op::Set(0, 1, weight); 16];
@@ -22,13 +20,12 @@ fn stopped(
     rt: &impl Abort,
     alloc: Global,
     disk: MemDisk,
-    group: &[Entry],
+    group: &[Change],
     plan: Plan,
     word: u64,
 ) -> Result<Store<MemDisk>, Fail> {
-    let mut disk = disk;
-    disk.arm(plan);
     let mut store = opened(alloc, disk)?;
+    store.arm(plan);
     assert_eq!(rt;
         commit_group(rt, alloc, &mut store, group)?,
         Err(CommitRefused::Device),
@@ -63,18 +60,15 @@ fn stopped(
     Ok(store)
 }
 
-// Opening one edge takes six calls: a sync and five reads. The call behind them writes length, payload and the next gate.
-const BODY: u64 = 7;
-
 #[test]
 fn the_largest_body_stops_at_its_ends(rt: HostRuntime) -> Result<(), Fail> {
     let group = largest_group(rt.alloc())?;
     for word in WORDS {
         let mut disk = with_edge(&rt, rt.alloc())?;
-        // 4 bytes of length, 9,282 of payload, and the next gate: all or none of the first and of the last 64 of them
+        // The first call writes 4 bytes of length, 9,282 of payload, and the next gate: all or none of the first and of the last 64 of them
         for (from, to) in [(0usize, 65usize), (9223, 9288)] {
             for put_bytes in from..to {
-                let plan = Plan::Stop(BODY, put_bytes);
+                let plan = Plan::Stop(1, put_bytes);
                 let store = stopped(&rt, rt.alloc(), disk, &group, plan, word)?;
                 assert_eq!(rt; store.count(), 1, "{put_bytes} bytes, word {word}");
                 disk = store.into_disk();
@@ -94,10 +88,10 @@ fn the_largest_record_stops_behind_its_body(rt: HostRuntime) -> Result<(), Fail>
     let group = largest_group(rt.alloc())?;
     // the sync of the body, the gate's write before and behind its byte, the gate's sync; and the counts by the words
     for (plan, counts) in [
-        (Plan::Stop(8, 0), [1, 1, 1, 1, 1]),
-        (Plan::Stop(9, 0), [1, 1, 1, 1, 65]),
-        (Plan::Stop(9, 1), [1, 65, 1, 1, 65]),
-        (Plan::Stop(10, 0), [1, 65, 1, 1, 65]),
+        (Plan::Stop(2, 0), [1, 1, 1, 1, 1]),
+        (Plan::Stop(3, 0), [1, 1, 1, 1, 65]),
+        (Plan::Stop(3, 1), [1, 65, 1, 1, 65]),
+        (Plan::Stop(4, 0), [1, 65, 1, 1, 65]),
     ] {
         for (word, count) in WORDS.iter().zip(counts.iter()) {
             let disk = with_edge(&rt, rt.alloc())?;

@@ -1,43 +1,22 @@
 // What a want of memory leaves of an opening, a commit and a roll. Run by `./refuse-memory`, which refuses each allocation in
 // turn: the call in which it is refused answers Memory and leaves all as it was, and the same call made again gives the answer.
-use super::damage::put;
-use super::rolls::shown;
 use super::*;
-
-// A number that the bytes of a device give: another one where one byte is another.
-pub(super) fn digest(disk: &mut MemDisk) -> Result<u64, Fail> {
-    let mut digest = 0xcbf2_9ce4_8422_2325u64;
-    for at in (0..DEVICE_LEN).step_by(4096) {
-        for byte in bytes::<4096>(disk, at)? {
-            digest = (digest ^ byte as u64).wrapping_mul(0x100_0000_01b3);
-        }
-    }
-    Ok(digest)
-}
 
 // A device for nine nodes after one roll, its bytes by hand: a checkpoint of count 1 with three edges in the second slot, and
 // two records of two changes each behind it. It takes memory only for the device.
 fn used_device(alloc: Global) -> Result<MemDisk, Fail> {
     let mut disk = formatted(alloc, 9)?;
-    // an open gate, epoch 2, count 1, nodes 9, and the edges 0-1, 0-2 and 3-4 of weights 1, 2 and 3
-    put(
-        &mut disk,
-        1_187_840,
-        &[
-            1, 0, 0, 0, 0, 0, 0, 0, 2, 0, 0, 0, 0, 0, 0, 0, 1, 0, 9, 0, 0, 0, 3, 0, 0, 0, 1, 0, 0,
-            0, 1, 0, 0, 0, 2, 0, 0, 0, 2, 0, 3, 0, 4, 0, 0, 0, 3,
-        ],
-    )?;
+    // an open gate, epoch 2, count 1, nodes 9, three edges; and the edges 0-1, 0-2 and 3-4 of weights 1, 2 and 3
+    let head = "01 0000000000000002 0000000000000001 0009 00000003";
+    put_text(&mut disk, SECOND_SLOT, head)?;
+    let edges = "0000 0001 00000001 0000 0002 00000002 0003 0004 00000003";
+    put_text(&mut disk, SECOND_SLOT + 23, edges)?;
     // Add(0, 3, 4); Set(0, 1, 9), Cut(3, 4); and behind them Add(5, 6, 7); Add(4, 5, 6)
-    put(
-        &mut disk,
-        1_323_008,
-        &[
-            1, 0, 0, 0, 31, 0, 2, 1, 1, 0, 0, 0, 3, 0, 0, 0, 4, 2, 2, 0, 0, 0, 1, 0, 0, 0, 9, 3, 0,
-            3, 0, 4, 0, 0, 0, 0, 1, 0, 0, 0, 22, 0, 2, 1, 1, 0, 5, 0, 6, 0, 0, 0, 7, 1, 1, 0, 4, 0,
-            5, 0, 0, 0, 6, 0,
-        ],
-    )?;
+    let first =
+        "01 0000001f 0002 01 01 0000 0003 00000004 02 02 0000 0001 00000009 03 0003 0004 00000000";
+    put_text(&mut disk, SECOND_AREA, first)?;
+    let second = "01 00000016 0002 01 01 0005 0006 00000007 01 01 0004 0005 00000006 00";
+    put_text(&mut disk, SECOND_AREA + 36, second)?;
     Ok(disk)
 }
 
@@ -140,13 +119,8 @@ fn rolls_again(rt: &impl Abort, alloc: Global, reopens: bool) -> Result<(), Fail
     assert_used(rt, &store);
     let mut disk = store.into_disk();
     // an open gate, epoch 3, count 5, nodes 9, five edges, the first of them 0-1 of weight 9
-    assert_eq!(rt;
-        bytes::<31>(&mut disk, 4096)?,
-        [
-            1, 0, 0, 0, 0, 0, 0, 0, 3, 0, 0, 0, 0, 0, 0, 0, 5, 0, 9, 0, 0, 0, 5, 0, 0, 0, 1, 0, 0,
-            0, 9
-        ]
-    );
+    let front = "01 0000000000000003 0000000000000005 0009 00000005 0000 0001 00000009";
+    shows(rt, &mut disk, FIRST_SLOT, front);
     assert_used(rt, &opened(alloc, disk)?);
     Ok(())
 }
@@ -165,13 +139,6 @@ fn a_roll_without_memory_writes_nothing(rt: HostRuntime) -> Result<(), Fail> {
 #[test]
 fn answers_after_a_want_of_memory(rt: HostRuntime) -> Result<(), Fail> {
     let store = opened(rt.alloc(), with_edge(&rt, rt.alloc())?)?;
-    assert_eq!(rt;
-        (
-            store.count(),
-            store.graph().edges(),
-            store.graph().weight(0, 1)
-        ),
-        (1, 1, Some(1))
-    );
+    assert_eq!(rt; shown(&store, 0, 1), (1, 1, Some(1)));
     Ok(())
 }

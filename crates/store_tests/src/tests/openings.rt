@@ -1,6 +1,4 @@
 // Opening: every failure of the device, on a device with one edge and on one that has rolled.
-use super::memory::digest;
-use super::rolls::{commit_group, roll, shown};
 use super::*;
 
 #[test]

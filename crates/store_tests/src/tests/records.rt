@@ -1,11 +1,5 @@
 // Each case of damage in the records behind a checkpoint, one at a time, beside what is still allowed. The bytes are put by hand.
-use super::damage::{Head, assert_opens, put, put_edge, put_head};
 use super::*;
-
-// The journal of the first slot, and the bytes of its area.
-const AREA: usize = 139_264;
-
-const ROOM: usize = 1_048_576;
 
 // A device for five nodes whose checkpoint has a count and the edge 0-1 of weight 7.
 fn one_edge(alloc: Global, count: u64) -> Result<MemDisk, Fail> {
@@ -52,80 +46,70 @@ fn record(alloc: Global, runs: &[(u16, u8)]) -> Result<Vec<u8>, Fail> {
 #[test]
 fn tells_damaged_records(rt: HostRuntime) -> Result<(), Fail> {
     // bytes from the area's start on; an op is a kind, two nodes and a weight
-    let cases: [(&str, &[u8], Option<(u64, usize, Option<u32>)>); 15] = [
-        ("closed by 0", &[0, 9, 9, 9, 9], Some((3, 1, Some(7)))),
-        ("closed by 2", &[2, 9, 9, 9, 9], Some((3, 1, Some(7)))),
-        ("closed by 255", &[255, 9, 9, 9, 9], Some((3, 1, Some(7)))),
-        (
-            "length 11",
-            &[1, 0, 0, 0, 11, 0, 1, 1, 2, 0, 0, 0, 1, 0, 0, 0],
-            None,
-        ),
+    let cases = [
+        ("closed by 0", "00 09090909", Some((3, 1, Some(7)))),
+        ("closed by 2", "02 09090909", Some((3, 1, Some(7)))),
+        ("closed by 255", "ff 09090909", Some((3, 1, Some(7)))),
+        ("length 11", "01 0000000b 0001 01 02 0000 0001 000000", None),
         (
             "length 12",
-            &[1, 0, 0, 0, 12, 0, 1, 1, 2, 0, 0, 0, 1, 0, 0, 0, 8],
+            "01 0000000c 0001 01 02 0000 0001 00000008",
             Some((4, 1, Some(8))),
         ),
         (
             "one byte more",
-            &[1, 0, 0, 0, 13, 0, 1, 1, 2, 0, 0, 0, 1, 0, 0, 0, 8, 0],
+            "01 0000000d 0001 01 02 0000 0001 00000008 00",
             None,
         ),
         (
             "a length as great as the area",
-            &[1, 0, 16, 0, 0, 0, 1, 1, 2, 0, 0, 0, 1, 0, 0, 0, 8],
+            "01 00100000 0001 01 02 0000 0001 00000008",
             None,
         ),
         (
             "the greatest length",
-            &[1, 255, 255, 255, 255, 0, 1, 1, 2, 0, 0, 0, 1, 0, 0, 0, 8],
+            "01 ffffffff 0001 01 02 0000 0001 00000008",
             None,
         ),
         (
             "no change",
-            &[1, 0, 0, 0, 12, 0, 0, 1, 2, 0, 0, 0, 1, 0, 0, 0, 8],
+            "01 0000000c 0000 01 02 0000 0001 00000008",
             None,
         ),
         (
             "one change less than counted",
-            &[1, 0, 0, 0, 12, 0, 2, 1, 2, 0, 0, 0, 1, 0, 0, 0, 8],
+            "01 0000000c 0002 01 02 0000 0001 00000008",
             None,
         ),
         (
             "one change more than counted",
-            &[
-                1, 0, 0, 0, 22, 0, 1, 1, 2, 0, 0, 0, 1, 0, 0, 0, 8, 1, 2, 0, 0, 0, 1, 0, 0, 0, 9,
-            ],
+            "01 00000016 0001 01 02 0000 0001 00000008 01 02 0000 0001 00000009",
             None,
         ),
         (
             "two changes",
-            &[
-                1, 0, 0, 0, 22, 0, 2, 1, 2, 0, 0, 0, 1, 0, 0, 0, 8, 1, 2, 0, 0, 0, 1, 0, 0, 0, 9,
-            ],
+            "01 00000016 0002 01 02 0000 0001 00000008 01 02 0000 0001 00000009",
             Some((5, 1, Some(9))),
         ),
         (
             "a change of no op",
-            &[1, 0, 0, 0, 13, 0, 2, 0, 1, 2, 0, 0, 0, 1, 0, 0, 0, 8],
+            "01 0000000d 0002 00 01 02 0000 0001 00000008",
             None,
         ),
         (
             "one op less than counted",
-            &[1, 0, 0, 0, 12, 0, 1, 2, 2, 0, 0, 0, 1, 0, 0, 0, 8],
+            "01 0000000c 0001 02 02 0000 0001 00000008",
             None,
         ),
         (
             "one op more than counted",
-            &[
-                1, 0, 0, 0, 21, 0, 1, 1, 2, 0, 0, 0, 1, 0, 0, 0, 8, 2, 0, 0, 0, 1, 0, 0, 0, 9,
-            ],
+            "01 00000015 0001 01 02 0000 0001 00000008 02 0000 0001 00000009",
             None,
         ),
     ];
     for (name, text, want) in cases {
         let mut disk = one_edge(rt.alloc(), 3)?;
-        put(&mut disk, AREA, text)?;
+        put_text(&mut disk, FIRST_AREA, text)?;
         assert_opens(&rt, rt.alloc(), disk, want, name);
     }
     Ok(())
@@ -161,17 +145,15 @@ fn tells_damaged_ops(rt: HostRuntime) -> Result<(), Fail> {
         ("past the greatest weight", 2, 0, 1, 1_000_001, None),
     ] {
         let mut disk = one_edge(rt.alloc(), 3)?;
-        put(&mut disk, AREA, &[1, 0, 0, 0, 12, 0, 1, 1, kind])?;
-        put_edge(&mut disk, AREA + 9, (a, b, weight))?;
+        put_text(&mut disk, FIRST_AREA, "01 0000000c 0001 01")?;
+        put(&mut disk, FIRST_AREA + 8, &[kind])?;
+        put_edge(&mut disk, FIRST_AREA + 9, (a, b, weight))?;
         // the same behind another record, which by itself is sound
         let mut second = one_edge(rt.alloc(), 2)?;
-        put(
-            &mut second,
-            AREA,
-            &[1, 0, 0, 0, 12, 0, 1, 1, 2, 0, 0, 0, 1, 0, 0, 0, 7],
-        )?;
-        put(&mut second, AREA + 17, &[1, 0, 0, 0, 12, 0, 1, 1, kind])?;
-        put_edge(&mut second, AREA + 26, (a, b, weight))?;
+        let both = "01 0000000c 0001 01 02 0000 0001 00000007 01 0000000c 0001 01";
+        put_text(&mut second, FIRST_AREA, both)?;
+        put(&mut second, FIRST_AREA + 25, &[kind])?;
+        put_edge(&mut second, FIRST_AREA + 26, (a, b, weight))?;
         assert_opens(&rt, rt.alloc(), disk, want, name);
         assert_opens(&rt, rt.alloc(), second, want, name);
     }
@@ -193,9 +175,9 @@ fn tells_too_many_changes_and_ops(rt: HostRuntime) -> Result<(), Fail> {
     ] {
         let mut disk = one_edge(rt.alloc(), 3)?;
         let text = record(rt.alloc(), &[(changes, ops)])?;
-        put(&mut disk, AREA, &text)?;
-        let last = bytes::<1>(&mut disk, AREA + 4)?;
-        put(&mut disk, AREA + 4, &[last[0].wrapping_add(more)])?;
+        put(&mut disk, FIRST_AREA, &text)?;
+        let last = bytes::<1>(&mut disk, FIRST_AREA + 4)?;
+        put(&mut disk, FIRST_AREA + 4, &[last[0].wrapping_add(more)])?;
         let want = count.map(|count| (count, 1, Some(1)));
         assert_opens(&rt, rt.alloc(), disk, want, "changes and ops");
     }
@@ -219,7 +201,7 @@ fn tells_records_past_the_last_count(rt: HostRuntime) -> Result<(), Fail> {
         if second > 0 {
             text.extend_from_slice(&record(rt.alloc(), &[(second, 1)])?)?;
         }
-        put(&mut disk, AREA, &text)?;
+        put(&mut disk, FIRST_AREA, &text)?;
         let want = if is_sound {
             Some((WORN_LIMIT, 1, Some(1)))
         } else {
@@ -235,9 +217,9 @@ fn nearly_full(alloc: Global, runs: &[(u16, u8)]) -> Result<MemDisk, Fail> {
     let mut disk = one_edge(alloc, 0)?;
     let text = record(alloc, &[(64, 16)])?;
     for i in 0..112usize {
-        put(&mut disk, AREA + 9287 * i, &text)?;
+        put(&mut disk, FIRST_AREA + 9287 * i, &text)?;
     }
-    put(&mut disk, AREA + 1_040_144, &record(alloc, runs)?)?;
+    put(&mut disk, FIRST_AREA + 1_040_144, &record(alloc, runs)?)?;
     Ok(disk)
 }
 
@@ -254,7 +236,7 @@ fn tells_a_record_past_the_end(rt: HostRuntime) -> Result<(), Fail> {
         let mut store = opened(rt.alloc(), nearly_full(rt.alloc(), runs)?)?;
         assert_eq!(rt; store.count(), count, "a gate at {gate}");
         assert!(rt; gate < ROOM);
-        let disk = spoilt(store.into_disk(), AREA + gate, 1)?;
+        let disk = spoilt(store.into_disk(), FIRST_AREA + gate, 1)?;
         assert_eq!(rt;
             refusal(rt.alloc(), disk),
             Some(OpenRefused::Damaged),

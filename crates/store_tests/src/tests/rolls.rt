@@ -1,36 +1,6 @@
 // Rolling: its bytes, its refusals, a full journal, and every failure of the device inside a roll.
 use super::*;
 
-// Rolls, again where memory was short.
-pub(super) fn roll(alloc: Global, store: &mut Store<MemDisk>) -> Result<(), RollRefused> {
-    match store.roll(alloc) {
-        Err(RollRefused::Memory) => store.roll(alloc),
-        answer => answer,
-    }
-}
-
-// Commits 1 to 64 changes.
-pub(super) fn commit_group(
-    rt: &impl Abort,
-    alloc: Global,
-    store: &mut Store<MemDisk>,
-    group: &[Entry],
-) -> Result<Result<(), CommitRefused>, Fail> {
-    if group.is_empty() || group.len() > 64 {
-        return Err(Fail::new(format_args!("no group")));
-    }
-    Ok(commit(rt, alloc, store, group))
-}
-
-// Count, edges and the weight of an edge.
-pub(super) fn shown(store: &Store<MemDisk>, a: u16, b: u16) -> (u64, usize, Option<u32>) {
-    (
-        store.count(),
-        store.graph().edges(),
-        store.graph().weight(a, b),
-    )
-}
-
 #[test]
 fn rolls_into_the_other_slot(rt: HostRuntime) -> Result<(), Fail> {
     // what is left in the other slot from before counts for nothing
@@ -39,25 +9,21 @@ fn rolls_into_the_other_slot(rt: HostRuntime) -> Result<(), Fail> {
     assert_eq!(rt; roll(rt.alloc(), &mut store), Ok(()));
     assert_eq!(rt; shown(&store, 0, 1), (1, 1, Some(1)));
     let mut disk = store.into_disk();
-    assert_eq!(rt;
-        bytes::<31>(&mut disk, 1_187_840)?,
-        [
-            1, 0, 0, 0, 0, 0, 0, 0, 2, 0, 0, 0, 0, 0, 0, 0, 1, 0, 5, 0, 0, 0, 1, 0, 0, 0, 1, 0, 0,
-            0, 1
-        ]
-    );
-    assert_eq!(rt; bytes::<1>(&mut disk, 1_187_900)?, [0]);
-    assert_eq!(rt; bytes::<1>(&mut disk, 1_323_008)?, [0]);
-    assert_eq!(rt; bytes::<1>(&mut disk, 4096)?, [1]);
+    let front = "01 0000000000000002 0000000000000001 0005 00000001 0000 0001 00000001";
+    for (at, text) in [
+        (SECOND_SLOT, front),
+        (1_187_900, "00"),
+        (SECOND_AREA, "00"),
+        (FIRST_SLOT, "01"),
+    ] {
+        shows(&rt, &mut disk, at, text);
+    }
     let mut store = opened(rt.alloc(), disk)?;
     assert_eq!(rt; shown(&store, 0, 1), (1, 1, Some(1)));
     assert_eq!(rt; roll(rt.alloc(), &mut store), Ok(()));
     let mut disk = store.into_disk();
-    assert_eq!(rt; bytes::<9>(&mut disk, 4096)?, [1, 0, 0, 0, 0, 0, 0, 0, 3]);
-    assert_eq!(rt;
-        bytes::<9>(&mut disk, 1_187_840)?,
-        [1, 0, 0, 0, 0, 0, 0, 0, 2]
-    );
+    shows(&rt, &mut disk, FIRST_SLOT, "01 0000000000000003");
+    shows(&rt, &mut disk, SECOND_SLOT, "01 0000000000000002");
     assert_eq!(rt; shown(&opened(rt.alloc(), disk)?, 0, 1), (1, 1, Some(1)));
     Ok(())
 }
@@ -65,25 +31,24 @@ fn rolls_into_the_other_slot(rt: HostRuntime) -> Result<(), Fail> {
 #[test]
 fn rolls_to_the_last_epoch(rt: HostRuntime) -> Result<(), Fail> {
     let mut disk = formatted(rt.alloc(), 5)?;
-    for at in 4097..4105 {
-        disk = spoilt(disk, at, if at == 4097 { 0x7f } else { 0xff })?;
-    }
+    put(&mut disk, 4097, &WORN_LIMIT.to_be_bytes())?;
+    let before = digest(&mut disk)?;
     let mut store = opened(rt.alloc(), disk)?;
     assert_eq!(rt; roll(rt.alloc(), &mut store), Err(RollRefused::Worn));
     assert!(rt; !store.is_down());
+    let mut disk = store.into_disk();
+    assert_eq!(rt; digest(&mut disk)?, before);
+    let mut store = opened(rt.alloc(), disk)?;
     let one = [change(&[Op::Add(0, 1, 1)])?];
     assert_eq!(rt; commit(&rt, rt.alloc(), &mut store, &one), Ok(()));
     let mut disk = store.into_disk();
-    assert_eq!(rt; bytes::<31>(&mut disk, 1_187_840)?, [0; 31]);
+    assert_eq!(rt; bytes::<31>(&mut disk, SECOND_SLOT)?, [0; 31]);
     // one below the limit there is one roll, and no second
     let mut store = opened(rt.alloc(), spoilt(disk, 4104, 0xfe)?)?;
     assert_eq!(rt; roll(rt.alloc(), &mut store), Ok(()));
     assert_eq!(rt; roll(rt.alloc(), &mut store), Err(RollRefused::Worn));
     let mut disk = store.into_disk();
-    assert_eq!(rt;
-        bytes::<9>(&mut disk, 1_187_840)?,
-        [1, 0x7f, 0xff, 0xff, 0xff, 0xff, 0xff, 0xff, 0xff]
-    );
+    shows(&rt, &mut disk, SECOND_SLOT, "01 7fffffffffffffff");
     assert_eq!(rt; shown(&opened(rt.alloc(), disk)?, 0, 1), (1, 1, Some(1)));
     Ok(())
 }
@@ -97,9 +62,6 @@ fn rolled_once(rt: &impl Abort, alloc: Global) -> Result<MemDisk, Fail> {
     Ok(store.into_disk())
 }
 
-// Its opening takes so many calls: a sync and reads.
-const OPENING: u64 = 6;
-
 // A second roll by a plan that counts its calls, and what it answers. After a crash the count and the network are the same,
 // and a change that is committed then is there after another opening.
 fn second_roll(
@@ -108,18 +70,15 @@ fn second_roll(
     plan: Plan,
     word: u64,
 ) -> Result<Result<(), RollRefused>, Fail> {
-    let mut disk = rolled_once(rt, alloc)?;
-    disk.arm(plan);
-    let mut store = opened(alloc, disk)?;
+    let mut store = opened(alloc, rolled_once(rt, alloc)?)?;
+    store.arm(plan);
     let answer = roll(alloc, &mut store);
     assert_eq!(rt; shown(&store, 1, 2), (2, 2, Some(5)));
     assert_eq!(rt; store.is_down(), answer.is_err());
     if answer.is_err() {
         assert_eq!(rt; roll(alloc, &mut store), Err(RollRefused::Down));
     }
-    let mut disk = store.into_disk().crash(word);
-    disk.arm(Plan::None);
-    let mut store = opened(alloc, disk)?;
+    let mut store = opened(alloc, store.into_disk().crash(word))?;
     assert_eq!(rt; shown(&store, 0, 1), (2, 2, Some(1)));
     assert_eq!(rt; shown(&store, 1, 2), (2, 2, Some(5)));
     let third = [change(&[Op::Add(2, 3, 9)])?];
@@ -134,7 +93,7 @@ fn second_roll(
 fn each_call_of_a_roll_fails(rt: HostRuntime) -> Result<(), Fail> {
     for word in WORDS {
         for call in 1..7 {
-            let answer = second_roll(&rt, rt.alloc(), Plan::Fail(OPENING + call), word)?;
+            let answer = second_roll(&rt, rt.alloc(), Plan::Fail(call), word)?;
             assert_eq!(rt;
                 answer,
                 Err(RollRefused::Device),
@@ -142,7 +101,7 @@ fn each_call_of_a_roll_fails(rt: HostRuntime) -> Result<(), Fail> {
             );
         }
         // no call is left out, and none is made besides
-        let answer = second_roll(&rt, rt.alloc(), Plan::Fail(OPENING + 7), word)?;
+        let answer = second_roll(&rt, rt.alloc(), Plan::Fail(7), word)?;
         assert_eq!(rt; answer, Ok(()));
     }
     Ok(())
@@ -159,7 +118,7 @@ fn a_roll_stops_inside_each_write(rt: HostRuntime) -> Result<(), Fail> {
     for word in WORDS {
         for (call, sizes) in writes {
             for put in sizes {
-                let answer = second_roll(&rt, rt.alloc(), Plan::Stop(OPENING + call, *put), word)?;
+                let answer = second_roll(&rt, rt.alloc(), Plan::Stop(call, *put), word)?;
                 assert_eq!(rt;
                     answer,
                     Err(RollRefused::Device),
@@ -175,16 +134,15 @@ fn a_roll_stops_inside_each_write(rt: HostRuntime) -> Result<(), Fail> {
 #[test]
 fn a_first_roll_makes_four_calls(rt: HostRuntime) -> Result<(), Fail> {
     for (call, want) in [(4, Err(RollRefused::Device)), (5, Ok(()))] {
-        let mut disk = with_edge(&rt, rt.alloc())?;
-        disk.fail_at(OPENING + call);
-        let mut store = opened(rt.alloc(), disk)?;
+        let mut store = opened(rt.alloc(), with_edge(&rt, rt.alloc())?)?;
+        store.arm(Plan::Fail(call));
         assert_eq!(rt; roll(rt.alloc(), &mut store), want, "call {call}");
     }
     Ok(())
 }
 
 // So many changes of so many ops, each of which sets the weight of one edge.
-fn add_changes(group: &mut Vec<Entry>, changes: usize, ops: usize) -> Result<(), Fail> {
+fn add_changes(group: &mut Vec<Change>, changes: usize, ops: usize) -> Result<(), Fail> {
     let all = [Op::Set(0, 1, 1); 16];
     if ops > 16 {
         return Err(Fail::new(format_args!("too many ops")));
@@ -215,7 +173,9 @@ fn full_device(rt: &impl Abort, alloc: Global) -> Result<Store<MemDisk>, Fail> {
 
 #[test]
 fn a_full_journal_needs_a_roll(rt: HostRuntime) -> Result<(), Fail> {
-    let mut store = full_device(&rt, rt.alloc())?;
+    let mut disk = full_device(&rt, rt.alloc())?.into_disk();
+    let before = digest(&mut disk)?;
+    let mut store = opened(rt.alloc(), disk)?;
     let mut group = Vec::new(rt.alloc());
     add_changes(&mut group, 57, 16)?;
     add_changes(&mut group, 1, 11)?;
@@ -225,11 +185,14 @@ fn a_full_journal_needs_a_roll(rt: HostRuntime) -> Result<(), Fail> {
         Err(CommitRefused::NeedsRoll)
     );
     assert_eq!(rt; shown(&store, 0, 1), (7168, 1, Some(1)));
+    let mut disk = store.into_disk();
+    assert_eq!(rt; digest(&mut disk)?, before);
+    let mut store = opened(rt.alloc(), disk)?;
     assert_eq!(rt; roll(rt.alloc(), &mut store), Ok(()));
     assert_eq!(rt; commit_group(&rt, rt.alloc(), &mut store, &group)?, Ok(()));
     assert_eq!(rt; shown(&store, 0, 1), (7232, 1, Some(1)));
     let mut disk = store.into_disk();
-    assert_eq!(rt; bytes::<1>(&mut disk, 1_323_008)?, [1]);
+    shows(&rt, &mut disk, SECOND_AREA, "01");
     assert_eq!(rt; shown(&opened(rt.alloc(), disk)?, 0, 1), (7232, 1, Some(1)));
     Ok(())
 }
@@ -244,9 +207,8 @@ fn a_group_fits_by_one_byte(rt: HostRuntime) -> Result<(), Fail> {
     assert_eq!(rt; commit_group(&rt, rt.alloc(), &mut store, &group)?, Ok(()));
     let mut disk = store.into_disk();
     // the record's gate, and the next one in the last byte of the area
-    assert_eq!(rt; bytes::<1>(&mut disk, 1_179_408)?, [1]);
-    assert_eq!(rt; bytes::<1>(&mut disk, 1_187_839)?, [0]);
-    assert_eq!(rt; bytes::<1>(&mut disk, 1_187_840)?, [0]);
+    shows(&rt, &mut disk, 1_179_408, "01");
+    shows(&rt, &mut disk, 1_187_839, "00 00");
     assert_eq!(rt; shown(&opened(rt.alloc(), disk)?, 0, 1), (7231, 1, Some(1)));
     Ok(())
 }
@@ -270,18 +232,10 @@ fn rolls_the_most_edges(rt: HostRuntime) -> Result<(), Fail> {
     assert_eq!(rt; roll(rt.alloc(), &mut store), Ok(()));
     let mut disk = store.into_disk();
     // gate, epoch 2, count, nodes, number of edges, and the first edge
-    assert_eq!(rt;
-        bytes::<31>(&mut disk, 1_187_840)?,
-        [
-            1, 0, 0, 0, 0, 0, 0, 0, 2, 0, 0, 0, 0, 0, 0, 4, 0, 0x10, 0, 0, 0, 0x40, 0, 0, 0, 0x0f,
-            0xf0, 0, 0, 0, 1
-        ]
-    );
+    let front = "01 0000000000000002 0000000000000400 1000 00004000 0000 0ff0 00000001";
+    shows(&rt, &mut disk, SECOND_SLOT, front);
     // the last edge ends 131,095 bytes behind the slot's start
-    assert_eq!(rt;
-        bytes::<9>(&mut disk, 1_318_927)?,
-        [3, 0xff, 0x0f, 0xff, 0, 0, 0, 16, 0]
-    );
+    shows(&rt, &mut disk, 1_318_927, "03ff 0fff 00000010 00");
     let store = opened(rt.alloc(), disk)?;
     assert_eq!(rt; shown(&store, 0, 4080), (1024, 16_384, Some(1)));
     assert_eq!(rt; shown(&store, 1023, 4095), (1024, 16_384, Some(16)));

@@ -1,7 +1,9 @@
-use Rattle.std.proofs.Common.{◌∙◌, ap, sym, arith, List, ℕ, get_or}
+use Rattle.std.proofs.Common.{◌∙◌, ap, sym, refl, arith, List, [], ◌∷◌, ℕ, get_or}
 use Rattle.disk_trait.specs.Places.{below, byte_below, byte_of}
-use Rattle.standing.proofs.ReadLemmas.{still}
-use Rattle.standing.specs.Layout.{journal_start, slot_start}
+use Rattle.recovery_parts.proofs.ReadLemmas.{still}
+use Rattle.recovery_1.specs.Layout.{journal_start, slot_start}
+use Rattle.checkpoint.specs.Formatting.{with_gates}
+use Rattle.checkpoint.proofs.FormatLemmas.{written_twice}
 use Rattle.checkpoint.proofs.formatting.put_gates.Goals as goal
 
 pub returns-in-Ok-put-clause-journal : goal.returns-in-Ok-put-clause-journal
@@ -25,3 +27,12 @@ returns-in-Ok-put-clause-below g c model from n low =
     let v1 = g.D.Disk.view c.put.new.disk in
     let v2 = g.D.Disk.view c.put-2.new.disk in
     below v1.content v2.content (slot_start 1) 1 from n (c.in-Ok-put.ensures.elsewhere (still v0 v1 c.put.ensures.ran model)) (omega arith) ∙ below v0.content v1.content (journal_start 0) 1 from n (c.in-Ok.ensures.elsewhere model) low
+
+pub returns-in-Ok-put-clause-written : goal.returns-in-Ok-put-clause-written
+unfolding with_gates
+returns-in-Ok-put-clause-written g c model =
+    let v0 = g.D.Disk.view c.args.disk.now in
+    let v1 = g.D.Disk.view c.put.new.disk in
+    let v2 = g.D.Disk.view c.put-2.new.disk in
+    written_twice v0.content v1.content v2.content (journal_start 0) (slot_start 1) (0 ∷ []) (0 ∷ []) (0 ∷ []) (0 ∷ [])
+    (c.in-Ok.ensures.written model) (c.in-Ok-put.ensures.written (still v0 v1 c.put.ensures.ran model)) refl refl

@@ -8,6 +8,6 @@ use Rattle.distances.proofs.nearest.nearest_each.Given as goal
 abbrev pub invariant-loop-settled : goal.invariant-loop-settled
 invariant-loop-settled l = record {
   nodes : length l.of.items ≡ l.graph.nodes;
-  found : AreFound l.graph.edges l.flags (near_at l.of.items) l.search.order.items l.settled-index;
+  found : AreFound l.graph.edges l.flags (near_at l.of.items) l.order l.settled-index;
   counted : count_by (λ near. is_some near) l.of.items ≤ l.settled-index;
 }

@@ -19,4 +19,4 @@ pub returns-clause-rows : goal.returns-clause-rows
 returns-clause-rows c =
     let within : c.args.node < length (lists c.args.base.now) = omega (arith, length-map c.args.base.now (λ row. row.items)) in
     placed_written (lists c.args.base.now) (placed (lists c.args.base.now) c.args.rows.now.items) c.args.node c.slot_of.new.rows.items c.in_ok-i.i c.index_mut.result.now c.put_neighbour.new.row (put nat_cmp c.args.neighbour c.args.weight)
-    within c.in_ok-i.ensures.place c.index_mut.ensures.value c.in_ok-put_neighbour.ensures c.in_ok-i.ensures.rows
+    within c.in_ok-i.ensures.place c.index_mut.ensures.value c.in_ok-put_neighbour.ensures.ok c.in_ok-i.ensures.rows

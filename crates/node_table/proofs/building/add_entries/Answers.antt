@@ -1,5 +1,5 @@
 use Rattle.std.proofs.Common.{◌∙◌}
-use Rattle.node_table.proofs.BuildSteps.{added_more}
+use Rattle.node_table.proofs.Builds.BuildSteps.{added_more}
 use Rattle.node_table.proofs.building.add_entries.Goals as goal
 
 pub loop-row-preserved : goal.loop-row-preserved

@@ -1,5 +1,5 @@
 use Rattle.std.specs.Prelude.{Result, Ok, Err, OnOk}
-use Rattle.node_table.proofs.BuildTurns.{built_of_more, rows_of}
+use Rattle.node_table.proofs.Builds.OneRootMore.{built_of_more, rows_of}
 use Rattle.node_table.proofs.building.add_root.Goals as goal
 
 on_ok : {X E : Type 0} (P Q : Type 0) (r : Result X E) → (P → Q) → OnOk r P → OnOk r Q

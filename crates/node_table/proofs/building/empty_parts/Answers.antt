@@ -1,7 +1,7 @@
 use Rattle.std.proofs.Common.{◌∙◌, sym, ap, subst, length, refl}
 use Rattle.std.specs.Prelude.{slice_index_or, None}
 use Rattle.distances.specs.Nearest.{IsNearestOf}
-use Rattle.node_table.proofs.BuildTurns.{built_first}
+use Rattle.node_table.proofs.Builds.OneRootMore.{built_first}
 use Rattle.node_table.proofs.building.empty_parts.Goals as goal
 
 pub returns : goal.returns

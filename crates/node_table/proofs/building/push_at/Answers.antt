@@ -1,4 +1,4 @@
-use Rattle.node_table.proofs.BuildSteps.{pushed_at}
+use Rattle.node_table.proofs.Builds.BuildSteps.{pushed_at}
 use Rattle.node_table.proofs.building.push_at.Goals as goal
 
 pub returns-clause-items : goal.returns-clause-items

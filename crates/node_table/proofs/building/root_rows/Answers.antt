@@ -5,7 +5,7 @@ use Rattle.distances.specs.Nearest.{near_limit}
 use Rattle.node_table.specs.Building.{limit_by}
 use Rattle.node_table.specs.Columns.{IsColumn}
 use Rattle.node_table.specs.RowLists.{entry_in, label_in}
-use Rattle.node_table.proofs.BuildSteps.{cluster_within, flag_false}
+use Rattle.node_table.proofs.Builds.BuildSteps.{cluster_within, flag_false}
 use Rattle.node_table.proofs.building.root_rows.Goals as goal
 
 if_ok : {X E : Type 0} (P Q : X → Type 0) (r : Result X E) → ((x : X) → P x → Q x) → IfOk r P → IfOk r Q
@@ -23,7 +23,7 @@ tree_rows-requires-2-clause-tree g c = (
   near_limit c.args.nearest.now.nearest,
   (
     subst (IsTree c.args.graph.now.edges c.args.root (near_limit c.args.nearest.now.nearest)) (sym c.members-2.ensures) c.in_ok-near.ensures.tree,
-    cluster_within c.args.graph.now c.nodes-sound.ensures.sound c.args.landmarks.now c.args.nearest.now.nearest c.args.root c.requires.nearest (λ k. wrong (c.if-holds.ensures.1 k)),
+    cluster_within c.args.graph.now c.graph_is_sound.ensures c.args.landmarks.now c.args.nearest.now.nearest c.args.root c.requires.nearest (λ k. wrong (c.if-holds.ensures.1 k)),
   ),
 )
 
@@ -33,4 +33,4 @@ returns-clause-column g c = if_ok _ _ c.tree_rows-2.result (λ rows k.
     (ap (λ b. limit_by b c.args.nearest.now.nearest) (sym (flag_false c.args.landmarks.now c.args.root (λ k. wrong (c.if-holds.ensures.1 k)))))
     (k (near_limit c.args.nearest.now.nearest)
     (subst (IsTree c.args.graph.now.edges c.args.root (near_limit c.args.nearest.now.nearest)) (sym c.members-2.ensures) c.in_ok-near.ensures.tree)
-    (cluster_within c.args.graph.now c.nodes-sound.ensures.sound c.args.landmarks.now c.args.nearest.now.nearest c.args.root c.requires.nearest (λ k. wrong (c.if-holds.ensures.1 k))))) c.tree_rows-2.ensures.column
+    (cluster_within c.args.graph.now c.graph_is_sound.ensures c.args.landmarks.now c.args.nearest.now.nearest c.args.root c.requires.nearest (λ k. wrong (c.if-holds.ensures.1 k))))) c.tree_rows-2.ensures.column

@@ -1,5 +1,5 @@
 use Rattle.std.proofs.Common.{refl}
-use Rattle.node_table.proofs.BuildSteps.{homes_more}
+use Rattle.node_table.proofs.Builds.BuildSteps.{homes_more}
 use Rattle.node_table.proofs.building.set_homes.Goals as goal
 
 pub loop-row-preserved : goal.loop-row-preserved

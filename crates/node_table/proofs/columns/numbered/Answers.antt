@@ -1,5 +1,5 @@
 use Rattle.std.specs.Prelude.{Result, Ok, Err, IfOk}
-use Rattle.node_table.proofs.RowColumns.{numbered_members}
+use Rattle.node_table.proofs.Builds.RowColumns.{numbered_members}
 use Rattle.node_table.proofs.columns.numbered.Goals as goal
 
 if_ok : {X E : Type 0} (P Q : X → Type 0) (r : Result X E) → ((x : X) → P x → Q x) → IfOk r P → IfOk r Q

@@ -1,6 +1,6 @@
 use Rattle.std.proofs.Common.{◌∙◌, refl, arith, length-set}
 use Rattle.std.specs.Prelude.{Some, slice_index_or}
-use Rattle.node_table.proofs.RowSteps.{places_more}
+use Rattle.node_table.proofs.Builds.RowSteps.{places_more}
 use Rattle.node_table.proofs.columns.places.Goals as goal
 
 pub loop-place-preserved : goal.loop-place-preserved

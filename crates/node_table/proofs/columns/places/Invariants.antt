@@ -1,6 +1,6 @@
 use Rattle.std.proofs.Common.{◌≡◌, length, ℕ, List}
 use Rattle.std.specs.Prelude.{Option}
-use Rattle.node_table.proofs.RowSteps.{ArePlacesTo}
+use Rattle.node_table.proofs.Builds.RowSteps.{ArePlacesTo}
 use Rattle.node_table.proofs.columns.places.Given as goal
 
 pub record Placed (nodes place : ℕ) (list : List ℕ) (table : List (Option ℕ)) : Type 0 where

@@ -1,6 +1,6 @@
 use Rattle.std.proofs.Common.{◌≡◌, sym, ◌∙◌, subst, arith, ◌+◌, rules}
 use Rattle.std.specs.Prelude.{None, slice_index_or}
-use Rattle.node_table.proofs.RowSteps.{AreRowsTo, rows_none, rows_push, rows_all, unnumbered}
+use Rattle.node_table.proofs.Builds.RowSteps.{AreRowsTo, rows_none, rows_push, rows_all, unnumbered}
 use Rattle.node_table.proofs.columns.row_list.Goals as goal
 
 pub loop-x-preserved-in_default : goal.loop-x-preserved-in_default

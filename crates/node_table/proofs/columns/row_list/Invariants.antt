@@ -1,4 +1,4 @@
-use Rattle.node_table.proofs.RowSteps.{AreRowsTo}
+use Rattle.node_table.proofs.Builds.RowSteps.{AreRowsTo}
 use Rattle.node_table.proofs.columns.row_list.Given as goal
 
 abbrev pub invariant-loop-x : goal.invariant-loop-x

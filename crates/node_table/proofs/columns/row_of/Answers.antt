@@ -1,6 +1,6 @@
 use Rattle.std.proofs.Common.{◌∙◌, sym, ap}
 use Rattle.heavy_labels.specs.declared.numbered_member.NumberedMember.{NumberedMember}
-use Rattle.node_table.proofs.RowSteps.{unreached, unnumbered, reached_at, numbered_at, row_from, same_default}
+use Rattle.node_table.proofs.Builds.RowSteps.{unreached, unnumbered, reached_at, numbered_at, row_from, same_default}
 use Rattle.node_table.proofs.columns.row_of.Goals as goal
 
 pub returns-in_default : goal.returns-in_default

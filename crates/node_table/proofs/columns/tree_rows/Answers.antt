@@ -4,7 +4,7 @@ use Rattle.route_tree.specs.Members.{AreMembers}
 use Rattle.route_tree.specs.declared.member.Member.{Member}
 use Rattle.heavy_labels.specs.declared.numbered_member.NumberedMember.{NumberedMember}
 use Rattle.node_table.specs.Columns.{member_of}
-use Rattle.node_table.proofs.RowColumns.{all_inside, parents_inside, are_members, root_first, few_members, nodes_inside, numbers_inside, rows_are_inside, rows_root, column_of, few_numbered}
+use Rattle.node_table.proofs.Builds.RowColumns.{all_inside, parents_inside, are_members, root_first, few_members, nodes_inside, numbers_inside, rows_are_inside, rows_root, column_of, few_numbered}
 use Rattle.node_table.proofs.columns.tree_rows.Goals as goal
 
 if_ok : {X E : Type 0} (P Q : X → Type 0) (r : Result X E) → ((x : X) → P x → Q x) → IfOk r P → IfOk r Q

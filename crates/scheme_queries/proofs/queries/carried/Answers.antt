@@ -14,6 +14,6 @@ returns c =
     let own : c.in-Ok.address ≡ address (tables c.args.scheme.now) c.args.to = own_address c.args.graph.now c.args.scheme.now c.args.to c.address.result c.in-Ok.address c.requires.checked c.requires.to c.address.ensures c.in-Ok.is in
     record {
       trail = subst (λ a. IfOk c.carry.result (λ trail. IsTrailOf (tables c.args.scheme.now) c.args.from a trail)) own c.carry.ensures.trail;
-      connected = λ xs walk. c.carry.ensures.connected c.args.graph.now c.args.to xs c.nodes-sound.ensures.sound c.requires.checked c.requires.from c.requires.to own walk;
-      apart = λ none. c.carry.ensures.apart c.args.graph.now c.args.to c.nodes-sound.ensures.sound c.requires.checked c.requires.from c.requires.to own none;
+      connected = λ xs walk. c.carry.ensures.connected c.args.graph.now c.args.to xs c.graph_is_sound.ensures c.requires.checked c.requires.from c.requires.to own walk;
+      apart = λ none. c.carry.ensures.apart c.args.graph.now c.args.to c.graph_is_sound.ensures c.requires.checked c.requires.from c.requires.to own none;
     }

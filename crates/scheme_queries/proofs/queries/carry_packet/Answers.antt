@@ -9,9 +9,9 @@ returns-in-Ok-clause-answer c = along_answers c.args.graph.now c.in_ok-scheme.sc
 
 pub returns-in-Ok-clause-scheme : goal.returns-in-Ok-clause-scheme
 returns-in-Ok-clause-scheme c =
-    (c.in_ok-scheme.scheme, (c.in_ok-scheme.ensures.scheme, along_in_scheme c.args.graph.now c.in_ok-scheme.scheme c.args.from c.args.to c.carried.result c.in-Ok.trail c.carried.ensures c.in-Ok.is))
+    (c.in_ok-scheme.scheme, (c.in_ok-scheme.ensures, along_in_scheme c.args.graph.now c.in_ok-scheme.scheme c.args.from c.args.to c.carried.result c.in-Ok.trail c.carried.ensures c.in-Ok.is))
 
 pub returns-in-Err-Unreachable-clause-scheme : goal.returns-in-Err-Unreachable-clause-scheme
 returns-in-Err-Unreachable-clause-scheme c =
     let is : c.carried.result ≡ Err Unreachable = cc in
-    (c.in_ok-scheme.scheme, (c.in_ok-scheme.ensures.scheme, unreachable_in_scheme c.args.graph.now c.in_ok-scheme.scheme c.args.from c.args.to c.carried.result c.in_ok-scheme.ensures.serves c.requires.from c.requires.to c.carried.ensures is))
+    (c.in_ok-scheme.scheme, (c.in_ok-scheme.ensures, unreachable_in_scheme c.args.graph.now c.in_ok-scheme.scheme c.args.from c.args.to c.carried.result c.in_ok-scheme.ensures.serves c.requires.from c.requires.to c.carried.ensures is))

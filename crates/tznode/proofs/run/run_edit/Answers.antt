@@ -1,19 +1,14 @@
-use Rattle.std.proofs.Common.{◌≡◌, ◌∙◌, ap, subst, Result, IfOk}
-use Rattle.std.specs.Io.KnownBytes.{Appends}
-use Rattle.standing.specs.State.{State}
+use Rattle.std.proofs.Common.{◌≡◌, subst, Result, IfOk}
+use Rattle.recovery_1.specs.State.{State}
 use Rattle.group_commit.specs.declared.request.Verdict.{Verdict}
-use Rattle.tznode.specs.Answer.{verdict_of}
-use Rattle.tznode.specs.declared.fault.Fault.{Fault}
-use Rattle.tznode.specs.Lines.{verdict_text, line}
-use Rattle.tznode.specs.Printed.{ended_by}
+use Rattle.printed_lines.specs.declared.fault.Fault.{Fault}
+use Rattle.device_commands.specs.Answer.{verdict_of}
+use Rattle.tznode.proofs.Answering.{verdict_line}
 use Rattle.tznode.proofs.run.run_edit.Goals as goal
 
 pub returns-clause-printed : goal.returns-clause-printed
 returns-clause-printed g c =
     let change = c.args.change in
-    let one : (state : State) × (c.in_ok-verdict.verdict ≡ verdict_of state change) =
-    subst (λ (answer : Result Verdict Fault). IfOk answer (λ verdict. (state : State) × (verdict ≡ verdict_of state change))) c.in_ok-verdict.was c.edit-answer.ensures.of_one in (
-      one.0,
-      c.end_of.ensures ∙ ap ended_by one.1,
-      subst (λ (verdict : Verdict). Appends (g.O.Write.contents c.args.out.now) (g.O.Write.contents c.print_line.new.out) (line (verdict_text verdict))) one.1 c.in_ok-print_line.ensures.printed,
-    )
+    let one : (state : State) × (c.in_ok-answer.field-0 ≡ verdict_of state change) =
+    subst (λ (answer : Result Verdict Fault). IfOk answer (λ verdict. (state : State) × (verdict ≡ verdict_of state change))) c.in_ok-answer.was c.edit-answer.ensures.of_one in
+    verdict_line c.print_verdict.result (g.O.Write.contents c.args.out.now) (g.O.Write.contents c.print_verdict.new.out) c.in_ok-answer.field-0 change one c.print_verdict.ensures.ended c.print_verdict.ensures.printed

@@ -1,24 +1,27 @@
 use Rattle.clap.specs.Walk.{texts}
-use Rattle.tznode.specs.declared.task.Task.TheVariants.{Format, Show, Edit, Route, Check}
-use Rattle.tznode.proofs.Answering.{answers}
+use Rattle.asked_tasks.specs.declared.task.Task.TheVariants.{Format, Show, Edit, Route, Check}
+use Rattle.tznode.proofs.Faults.{ends_task, refused_for}
 use Rattle.tznode.proofs.run.run_task.Goals as goal
 
-pub returns-in-Format-clause-printed : goal.returns-in-Format-clause-printed
-returns-in-Format-clause-printed g c =
-    answers c.run_format.result (g.O.Write.contents c.args.out.now) (g.O.Write.contents c.run_format.new.out) (texts c.args.words.now) c.in_ok-device.field-0 (Format c.in-Format.device c.in-Format.nodes) c.in_ok-device.ensures c.in-Format.is c.run_format.ensures.printed
+pub returns-in-Ok-Format-clause-fault : goal.returns-in-Ok-Format-clause-fault
+returns-in-Ok-Format-clause-fault g c =
+    ends_task c.run_format.result (texts c.args.words.now) c.in-Ok-Format.field-0 (Format c.in-Ok-Format.device c.in-Ok-Format.nodes) c.in-Ok-Format.ensures.asked c.in-Ok-Format.field-0-is c.run_format.ensures.fault
 
-pub returns-in-Show-clause-printed : goal.returns-in-Show-clause-printed
-returns-in-Show-clause-printed g c =
-    answers c.run_show.result (g.O.Write.contents c.args.out.now) (g.O.Write.contents c.run_show.new.out) (texts c.args.words.now) c.in_ok-device.field-0 (Show c.in-Show.device) c.in_ok-device.ensures c.in-Show.is c.run_show.ensures.printed
+pub returns-in-Ok-Show-clause-fault : goal.returns-in-Ok-Show-clause-fault
+returns-in-Ok-Show-clause-fault g c =
+    ends_task c.run_show.result (texts c.args.words.now) c.in-Ok-Show.field-0 (Show c.in-Ok-Show.device) c.in-Ok-Show.ensures.asked c.in-Ok-Show.field-0-is c.run_show.ensures.fault
 
-pub returns-in-Edit-clause-printed : goal.returns-in-Edit-clause-printed
-returns-in-Edit-clause-printed g c =
-    answers c.run_edit.result (g.O.Write.contents c.args.out.now) (g.O.Write.contents c.run_edit.new.out) (texts c.args.words.now) c.in_ok-device.field-0 (Edit c.in-Edit.device c.in-Edit.change) c.in_ok-device.ensures c.in-Edit.is c.run_edit.ensures.printed
+pub returns-in-Ok-Edit-clause-fault : goal.returns-in-Ok-Edit-clause-fault
+returns-in-Ok-Edit-clause-fault g c =
+    ends_task c.run_edit.result (texts c.args.words.now) c.in-Ok-Edit.field-0 (Edit c.in-Ok-Edit.device c.in-Ok-Edit.change) c.in-Ok-Edit.ensures.asked c.in-Ok-Edit.field-0-is c.run_edit.ensures.fault
 
-pub returns-in-Route-clause-printed : goal.returns-in-Route-clause-printed
-returns-in-Route-clause-printed g c =
-    answers c.run_route.result (g.O.Write.contents c.args.out.now) (g.O.Write.contents c.run_route.new.out) (texts c.args.words.now) c.in_ok-device.field-0 (Route c.in-Route.device c.in-Route.from c.in-Route.to c.in-Route.words) c.in_ok-device.ensures c.in-Route.is c.run_route.ensures.printed
+pub returns-in-Ok-Route-clause-fault : goal.returns-in-Ok-Route-clause-fault
+returns-in-Ok-Route-clause-fault g c =
+    ends_task c.run_route.result (texts c.args.words.now) c.in-Ok-Route.field-0 (Route c.in-Ok-Route.device c.in-Ok-Route.from c.in-Ok-Route.to c.in-Ok-Route.words) c.in-Ok-Route.ensures.asked c.in-Ok-Route.field-0-is c.run_route.ensures.fault
 
-pub returns-in-Check-clause-printed : goal.returns-in-Check-clause-printed
-returns-in-Check-clause-printed g c =
-    answers c.run_check.result (g.O.Write.contents c.args.out.now) (g.O.Write.contents c.run_check.new.out) (texts c.args.words.now) c.in_ok-device.field-0 (Check c.in-Check.device c.in-Check.words) c.in_ok-device.ensures c.in-Check.is c.run_check.ensures.printed
+pub returns-in-Ok-Check-clause-fault : goal.returns-in-Ok-Check-clause-fault
+returns-in-Ok-Check-clause-fault g c =
+    ends_task c.run_check.result (texts c.args.words.now) c.in-Ok-Check.field-0 (Check c.in-Ok-Check.device c.in-Ok-Check.words) c.in-Ok-Check.ensures.asked c.in-Ok-Check.field-0-is c.run_check.ensures.fault
+
+pub returns-in-Err-clause-fault : goal.returns-in-Err-clause-fault
+returns-in-Err-clause-fault g c = refused_for (texts c.args.words.now) c.in-Err.refused c.fault_of.result c.fault_of.ensures c.in-Err.ensures.refused

@@ -1,11 +1,11 @@
 use Rattle.std.proofs.Common.{◌≡◌, ◌∙◌, ap, subst, Err}
-use Rattle.standing.specs.State.{State}
+use Rattle.recovery_1.specs.State.{State}
 use Rattle.checkpoint.specs.StoreWords.{state_of}
 use Rattle.given_words.specs.Words.{IsWithin}
 use Rattle.graph_edits.specs.Edges.{Network}
-use Rattle.tznode.specs.declared.fault.Fault.{Fault}
+use Rattle.printed_lines.specs.declared.fault.Fault.{Fault}
 use Rattle.tznode.proofs.SchemeAnswering.{passed_up}
-use Rattle.tznode.specs.declared.fault.Fault.TheVariants.{Words}
+use Rattle.printed_lines.specs.declared.fault.Fault.TheVariants.{Words}
 use Rattle.tznode.specs.SchemeAnswers.{IsCheckOf}
 use Rattle.tznode.proofs.scheme_tasks.check_device.Goals as goal
 

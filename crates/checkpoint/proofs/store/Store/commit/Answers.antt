@@ -2,15 +2,16 @@ use Rattle.std.proofs.Common.{arith, ◌≡◌, ◌⊎◌, inl, ◌+◌, ◌≤�
 use Rattle.std.specs.Prelude.{Err}
 use Rattle.disk_trait.specs.Disk.{LeavesOnly, started, weaker, MayLeave}
 use Rattle.journal.specs.declared.area.Area.{Area}
-use Rattle.journal.specs.Records.{AllSpell, IsBeforeOrAfter}
-use Rattle.journal.specs.Entry.{Entry}
-use Rattle.standing.specs.Layout.{worn_limit, journal_of}
-use Rattle.standing.specs.State.{State, after}
-use Rattle.standing.specs.Standing.{StandsFor}
-use Rattle.checkpoint.specs.Kept.{IsKept}
+use Rattle.recovery_1.specs.Records.{AllSpell, IsBeforeOrAfter}
+use Rattle.recovery_1.specs.Records.{Entry}
+use Rattle.recovery_1.specs.Layout.{worn_limit, journal_of}
+use Rattle.recovery_1.specs.State.{State, counted, after}
+use Rattle.recovery_1.specs.Standing.{StandsFor}
+use Rattle.checkpoint.specs.Kept.{kept_stands}
 use Rattle.checkpoint.specs.StoreWords.{state_of, view_of, stands_now}
-use Rattle.standing.proofs.Folds.{after_is, after_count, nodes_fold}
-use Rattle.checkpoint.proofs.Commits.{either, kept_next}
+use Rattle.recovery_1.proofs.Folds.{after_is, after_count, nodes_fold}
+use Rattle.checkpoint.proofs.Commits.{either, kept_appended}
+use Rattle.checkpoint.proofs.SameStore.{same_store}
 use Rattle.checkpoint.proofs.store.Store.commit.Goals as goal
 
 pub returns-then-self-changes-clause-any_moment : goal.returns-then-self-changes-clause-any_moment
@@ -55,20 +56,24 @@ pub invariant_of-self-in-Ok-clause-kept : goal.invariant_of-self-in-Ok-clause-ke
 invariant_of-self-in-Ok-clause-kept g c model_new up =
     let s = c.args.self.now in
     let v0 = view_of s in
-    let v1 = g.D.Disk.view c.append.new.disk in
-    let base : State = record { count = s.base_count.value; graph = s.base.value } in
     let model : IsTrue v0.keeps_model = subst IsTrue c.append.ensures.ran.model model_new in
-    let kept = s.kept model up in
-    let area : s.journal.area ≡ journal_of s.slot = rw (s.at, s.room) refl in
-    let known : AllSpell v0 (s.journal.area) (s.journal.groups) = λ image left. rw area ((kept.each image left).stands.records) in
-    let next : State = record { count = s.count + length c.args.changes.now; graph = c.install.new.self } in
+    let next : State = counted (s.count + length c.args.changes.now) c.install.new.self in
     let goes : after (state_of s) c.args.changes.now ≡ Some next = after_is (state_of s) c.args.changes.now c.install.new.self (sym c.in_ok-prepared.ensures.after ∙ ap Some (sym c.install.ensures)) in
-    let grows = c.in-Ok.ensures.grows in
-    let groups : List (List Entry) = s.journal.groups ++ c.args.changes.now ∷ [] in
-    let spells : AllSpell v1 (journal_of s.slot) groups =
-    subst (λ (a : Area). AllSpell v1 a groups) (c.append.ensures.area ∙ area)
-    (subst (λ (gs : List (List Entry)). AllSpell v1 c.append.new.self.area gs) grows (c.in-Ok.ensures.ok model known)) in
-    let from : (image : List ℕ) → MayLeave v1 image → IsBeforeOrAfter v0 (journal_of s.slot) s.journal.groups c.args.changes.now image =
-    λ image left. rw area at ((c.append.ensures.any_moment model known).now image left) in
-    subst (λ (gs : List (List Entry)). IsKept v1 s.slot s.epoch s.other_gate base next gs) (sym grows)
-    (kept_next v0 s.slot s.epoch s.other_gate base (state_of s) next s.journal.groups c.args.changes.now s.two_slots kept goes v1 from spells)
+    kept_appended v0 (g.D.Disk.view c.append.new.disk) s.journal c.append.new.self s.slot s.epoch s.other_gate _ (state_of s) next c.args.changes.now s.two_slots (rw (s.at, s.room) refl) (s.kept model up) goes
+    c.append.ensures.area c.in-Ok.ensures.grows (λ known. (c.append.ensures.any_moment model known).now) (c.in-Ok.ensures.ok model)
+
+pub returns-clause-durable : goal.returns-clause-durable
+returns-clause-durable g c model =
+    let s = c.args.self.now in
+    let v0 = view_of s in
+    let next : State = counted (s.count + length c.args.changes.now) c.install.new.self in
+    let goes : after (state_of s) c.args.changes.now ≡ Some next = after_is (state_of s) c.args.changes.now c.install.new.self (sym c.in_ok-prepared.ensures.after ∙ ap Some (sym c.install.ensures)) in
+    let v1 = g.D.Disk.view c.append.new.disk in
+    kept_stands v1 s.slot s.epoch s.other_gate (counted s.base_count.value s.base.value) next c.append.new.self.groups s.two_slots (omega (arith, c.if-self-changes.false))
+    (kept_appended v0 v1 s.journal c.append.new.self s.slot s.epoch s.other_gate _ (state_of s) next c.args.changes.now s.two_slots (rw (s.at, s.room) refl) (s.kept model c.if-self.false) goes
+    c.append.ensures.area c.in-Ok.ensures.grows (λ known. (c.append.ensures.any_moment model known).now) (c.in-Ok.ensures.ok model))
+
+pub returns-in-Err-Memory-clause-untouched : goal.returns-in-Err-Memory-clause-untouched
+returns-in-Err-Memory-clause-untouched g c _ _ =
+    let is = ap Err c.in-Err-Memory.field-0-is in
+    same_store _ c.args.self.now (c.in-Err-Memory.ensures.memory_same is) c.in-Err-Memory.ensures.err refl refl refl refl refl refl refl refl

@@ -1,9 +1,11 @@
-use Rattle.std.proofs.Common.{arith, ◌∙◌, IsTrue, subst}
+use Rattle.std.proofs.Common.{arith, ◌∙◌, ◌+◌, [], IsTrue, subst}
 use Rattle.disk_trait.specs.Disk.{started}
-use Rattle.standing.specs.State.{State}
-use Rattle.standing.specs.Standing.{StandsFor}
+use Rattle.recovery_1.specs.State.{State, counted}
+use Rattle.recovery_1.specs.Standing.{StandsFor}
+use Rattle.recovery_parts.specs.Heads.{other}
+use Rattle.checkpoint.specs.Kept.{kept_stands}
 use Rattle.checkpoint.specs.StoreWords.{state_of, view_of, stands_now}
-use Rattle.standing.proofs.ReadLemmas.{still}
+use Rattle.recovery_parts.proofs.ReadLemmas.{still}
 use Rattle.checkpoint.proofs.Rolls.{stands_closing, stands_publishing, kept_rolled}
 use Rattle.checkpoint.proofs.store.Store.roll.Goals as goal
 
@@ -16,13 +18,13 @@ returns-in-Err-clause-any_moment g c model up = started (view_of c.args.self.now
 pub returns-in-Err-close_open-clause-any_moment : goal.returns-in-Err-close_open-clause-any_moment
 returns-in-Err-close_open-clause-any_moment g c model up =
     let s = c.args.self.now in
-    let base : State = record { count = s.base_count.value; graph = s.base.value } in
+    let base : State = counted s.base_count.value s.base.value in
     stands_closing (view_of s) (g.D.Disk.view c.close_open.new.disk) s.slot s.epoch s.other_gate base (state_of s) s.journal.groups s.two_slots (s.kept model up) s.fits (c.close_open.ensures.any_moment model)
 
 pub returns-in-Err-publish-clause-any_moment : goal.returns-in-Err-publish-clause-any_moment
 returns-in-Err-publish-clause-any_moment g c model up =
     let s = c.args.self.now in
-    let base : State = record { count = s.base_count.value; graph = s.base.value } in
+    let base : State = counted s.base_count.value s.base.value in
     let v0 = view_of s in
     let v1 = g.D.Disk.view c.close_open.new.disk in
     stands_publishing v0 v1 s.slot s.epoch s.other_gate base (state_of s) s.journal.groups s.two_slots (s.kept model up) s.fits (c.close_open.ensures.any_moment model)
@@ -32,7 +34,7 @@ returns-in-Err-publish-clause-any_moment g c model up =
 pub returns-clause-any_moment : goal.returns-clause-any_moment
 returns-clause-any_moment g c model up =
     let s = c.args.self.now in
-    let base : State = record { count = s.base_count.value; graph = s.base.value } in
+    let base : State = counted s.base_count.value s.base.value in
     let v0 = view_of s in
     let v1 = g.D.Disk.view c.close_open.new.disk in
     stands_publishing v0 v1 s.slot s.epoch s.other_gate base (state_of s) s.journal.groups s.two_slots (s.kept model up) s.fits (c.close_open.ensures.any_moment model)
@@ -42,7 +44,7 @@ returns-clause-any_moment g c model up =
 pub invariant_of-self-2-clause-kept : goal.invariant_of-self-2-clause-kept
 invariant_of-self-2-clause-kept g c model_new up =
     let s = c.args.self.now in
-    let base : State = record { count = s.base_count.value; graph = s.base.value } in
+    let base : State = counted s.base_count.value s.base.value in
     let v0 = view_of s in
     let v1 = g.D.Disk.view c.close_open.new.disk in
     let v2 = g.D.Disk.view c.publish.new.disk in
@@ -52,3 +54,15 @@ invariant_of-self-2-clause-kept g c model_new up =
     c.deref.result.now (λ lawful. c.deref.ensures.value ∙ c.in-Ok.ensures.text lawful) (omega (arith, c.if-self-ge-WORN_LIMIT.false)) (c.in-Ok-close_open.ensures.ok model)
     v2 (c.in-Ok-publish.ensures.ok model1) in
     rw (c.of.ensures, c.of-2.ensures, c.fresh-self.ensures) kept
+
+pub returns-clause-durable : goal.returns-clause-durable
+returns-clause-durable g c model =
+    let s = c.args.self.now in
+    let base : State = counted s.base_count.value s.base.value in
+    let v0 = view_of s in
+    let v1 = g.D.Disk.view c.close_open.new.disk in
+    let v2 = g.D.Disk.view c.publish.new.disk in
+    kept_stands v2 (other s.slot) (s.epoch + 1) 1 (state_of s) (state_of s) [] (omega arith) s.fits
+    (kept_rolled v0 v1 s.slot s.epoch s.other_gate base (state_of s) s.journal.groups s.two_slots (s.kept model c.if-self.false) s.fits (c.close_open.ensures.any_moment model)
+    c.deref.result.now (λ lawful. c.deref.ensures.value ∙ c.in-Ok.ensures.text lawful) (omega (arith, c.if-self-ge-WORN_LIMIT.false)) (c.in-Ok-close_open.ensures.ok model)
+    v2 (c.in-Ok-publish.ensures.ok (still v0 v1 c.close_open.ensures.ran model)))

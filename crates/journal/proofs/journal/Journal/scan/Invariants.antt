@@ -9,9 +9,10 @@ abbrev pub invariant-loop : goal.invariant-loop
 invariant-loop g l = record {
   counter : l.counter ≤ l.at;
   inside : l.at < l.area.room;
-  at_is : length (records (map (λ group. group.items) l.scanned.items)) ≡ l.at;
+  at_is : length (records g.E.Entry.form (map (λ group. group.items) l.scanned.items)) ≡ l.at;
   entries : l.entries.items ≡ entries_of (map (λ group. group.items) l.scanned.items);
   wide : (n : ℕ) → n ≤ WINDOW → n ≤ l.area.room → n ≤ length l.window.bytes.items;
   ran : IsSameDevice (g.D.Disk.view l.fn.disk) (g.D.Disk.view l.disk);
-  found : IsTrue (g.D.Disk.view l.fn.disk).keeps_model → HasFound l.area (map (λ group. group.items) l.scanned.items) (g.D.Disk.view l.fn.disk) (g.D.Disk.view l.disk) l.window;
+  no_failure : (g.D.Disk.view l.disk).failures ≡ (g.D.Disk.view l.fn.disk).failures;
+  found : IsTrue (g.D.Disk.view l.fn.disk).keeps_model → HasFound g.E.Entry.form l.area (map (λ group. group.items) l.scanned.items) (g.D.Disk.view l.fn.disk) (g.D.Disk.view l.disk) l.window;
 }

@@ -3,21 +3,22 @@ use Rattle.std.specs.Prelude.{Ok, Err}
 use Rattle.node_table.specs.declared.packet.Packet.{Packet}
 use Rattle.node_table.specs.Tables.{tables}
 use Rattle.node_table.specs.Trails.{IsCarriedWhereConnected, IsUnreachableWhereApart}
-use Rattle.node_table.proofs.Carriage.{forward_is, under_way_next, connected_ok, connected_refused, apart_ok, apart_refused}
+use Rattle.node_table.proofs.Serving.Moves.{forward_is}
+use Rattle.node_table.proofs.OnTheWay.CarriedTrails.{under_way_next, connected_ok, connected_refused, apart_ok, apart_refused}
 use Rattle.node_table.proofs.scheme.Scheme.carry.Goals as goal
 
 pub returns-in-Err-clause-connected : goal.returns-in-Err-clause-connected
 returns-in-Err-clause-connected c =
     subst (λ e. IsCarriedWhereConnected c.args.self.now c.args.u c.args.to.now (Err e)) (sym c.carried.ensures)
-    (connected_refused c.args.self.now c.args.u c.args.to.now c.in-Err.refused (inl (sym c.in-Err.ensures)))
+    (connected_refused c.args.self.now c.args.u c.args.to.now c.in-Err.refused (inl (sym c.in-Err.ensures.packet)))
 
 pub returns-in-Err-clause-apart : goal.returns-in-Err-clause-apart
 returns-in-Err-clause-apart c =
     subst (λ e. IsUnreachableWhereApart c.args.self.now c.args.u c.args.to.now (Err e)) (sym c.carried.ensures)
-    (apart_refused c.args.self.now c.args.u c.args.to.now c.in-Err.refused (sym c.in-Err.ensures))
+    (apart_refused c.args.self.now c.args.u c.args.to.now c.in-Err.refused (sym c.in-Err.ensures.packet))
 
 pub returns-in_default-clause-apart : goal.returns-in_default-clause-apart
-returns-in_default-clause-apart c = apart_ok c.args.self.now c.args.u c.args.to.now c.in-Ok.packet _ (sym c.in-Ok.ensures)
+returns-in_default-clause-apart c = apart_ok c.args.self.now c.args.u c.args.to.now c.in-Ok.packet _ (sym c.in-Ok.ensures.packet)
 
 pub returns-in-Ok-Delivered-clause-connected : goal.returns-in-Ok-Delivered-clause-connected
 returns-in-Ok-Delivered-clause-connected c =
@@ -25,7 +26,7 @@ returns-in-Ok-Delivered-clause-connected c =
       at = c.loop-trail.at;
       left = c.loop-trail.packet;
       under_way = c.loop-trail.invariant;
-      delivered = sym c.in-Ok-Delivered.ensures ∙ ap (λ z. Ok z) c.in-Ok-Delivered.field-0-is;
+      delivered = sym c.in-Ok-Delivered.ensures.moved ∙ ap (λ z. Ok z) c.in-Ok-Delivered.field-0-is;
     })
 
 pub returns-in-Ok-Delivered-clause-apart : goal.returns-in-Ok-Delivered-clause-apart
@@ -36,7 +37,7 @@ returns-in_default-lengthen-clause-apart c = apart_ok c.args.self.now c.args.u c
 
 pub loop-trail-smaller : goal.loop-trail-smaller
 loop-trail-smaller c =
-    let f = forward_is (tables c.args.self.now) c.loop-trail.at c.loop-trail.packet c.in-Ok-Forward.port c.in-Ok-Forward.next c.in-Ok-Forward.left (sym c.in-Ok-Forward.ensures ∙ ap (λ z. Ok z) c.in-Ok-Forward.field-0-is) in
+    let f = forward_is (tables c.args.self.now) c.loop-trail.at c.loop-trail.packet c.in-Ok-Forward.port c.in-Ok-Forward.next c.in-Ok-Forward.left (sym c.in-Ok-Forward.ensures.moved ∙ ap (λ z. Ok z) c.in-Ok-Forward.field-0-is) in
     let less = ap (λ (z : Packet). z.hops_left) f.less in
     omega (arith, f.some, less)
 
@@ -44,16 +45,16 @@ pub loop-trail-preserved : goal.loop-trail-preserved
 loop-trail-preserved c =
     under_way_next (tables c.args.self.now) c.args.u c.args.to.now c.loop-trail.trail.nodes.items c.loop-trail.trail.ports.items c.loop-trail.trail.length c.loop-trail.at c.loop-trail.packet
     c.in-Ok-Forward.port c.in-Ok-Forward.next c.in-Ok-Forward.left c.lengthen.new.trail.nodes.items c.lengthen.new.trail.ports.items c.lengthen.new.trail.length c.gap-hop.result
-    c.loop-trail.invariant (sym c.in-Ok-Forward.ensures ∙ ap (λ z. Ok z) c.in-Ok-Forward.field-0-is)
+    c.loop-trail.invariant (sym c.in-Ok-Forward.ensures.moved ∙ ap (λ z. Ok z) c.in-Ok-Forward.field-0-is)
     c.in-Ok-lengthen.ensures.nodes c.in-Ok-lengthen.ensures.ports c.gap-hop.ensures c.in-Ok-lengthen.ensures.length
 
 pub returns-in-Err-node_step-clause-refused : goal.returns-in-Err-node_step-clause-refused
-returns-in-Err-node_step-clause-refused c = inr (c.in-Err-node_step.refused, (c.carried-in-Err-node_step.ensures, inr (_, (_, (_, (_, (_, (c.loop-trail.invariant, sym c.in-Err-node_step.ensures))))))))
+returns-in-Err-node_step-clause-refused c = inr (c.in-Err-node_step.refused, (c.carried-in-Err-node_step.ensures, inr (_, (_, (_, (_, (_, (c.loop-trail.invariant, sym c.in-Err-node_step.ensures.moved))))))))
 
 pub returns-in-Err-node_step-clause-connected : goal.returns-in-Err-node_step-clause-connected
 returns-in-Err-node_step-clause-connected c =
     subst (λ e. IsCarriedWhereConnected c.args.self.now c.args.u c.args.to.now (Err e)) (sym c.carried-in-Err-node_step.ensures)
-    (connected_refused c.args.self.now c.args.u c.args.to.now c.in-Err-node_step.refused (inr (_, (_, (_, (_, (_, (c.loop-trail.invariant, sym c.in-Err-node_step.ensures))))))))
+    (connected_refused c.args.self.now c.args.u c.args.to.now c.in-Err-node_step.refused (inr (_, (_, (_, (_, (_, (c.loop-trail.invariant, sym c.in-Err-node_step.ensures.moved))))))))
 
 pub returns-in-Err-node_step-clause-apart : goal.returns-in-Err-node_step-clause-apart
 returns-in-Err-node_step-clause-apart c = apart_ok c.args.self.now c.args.u c.args.to.now c.loop-trail.invariant.sent _ c.loop-trail.invariant.decided

@@ -1,6 +1,6 @@
 use Rattle.std.proofs.Common.{subst, sym, length}
 use Rattle.node_table.specs.Laws.{AreTreesOf}
-use Rattle.node_table.proofs.EntryCounts.{trees_of}
+use Rattle.node_table.proofs.Serving.EntryCounts.{trees_of}
 use Rattle.node_table.proofs.scheme.Scheme.entries.Goals as goal
 
 pub returns-clause-trees : goal.returns-clause-trees

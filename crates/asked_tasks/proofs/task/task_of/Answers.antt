@@ -1,0 +1,122 @@
+use Rattle.std.proofs.Common.{rules, codes, Some, ◌≡◌, ◌∙◌, ap, arith, get_or, List, ℕ}
+use Rattle.clap.specs.Words.{first_value, found_of}
+use Rattle.clap.specs.Walk.{rows_of}
+use Rattle.asked_tasks.proofs.Asking.{given, given_all, gives, gives_all}
+use Rattle.asked_tasks.proofs.OneTask.{edit_refused, format_refused, from_refused, handed_up, has_device, none_given, same_check, same_edit, same_format, same_route, same_show, to_refused, words_refused}
+use Rattle.asked_tasks.proofs.task.task_of.Goals as goal
+
+pub returns-in_default-clause-refused : goal.returns-in_default-clause-refused
+returns-in_default-clause-refused c task is fits =
+    let f = found_of c.args.found.now in
+    let device = has_device c.args.name.now (rows_of f) task is in
+    absurd (none_given c.get_str.result device.0 c.in_default.not-Some (c.get_str.ensures ∙ given f _ _ device.1))
+
+pub returns-in_ok-whole-clause-asked : goal.returns-in_ok-whole-clause-asked
+returns-in_ok-whole-clause-asked c =
+    let f = found_of c.args.found.now in
+    let device : first_value f (codes "device") ≡ Some c.in-Some.device.now = search rules in
+    (search rules, gives f _ _ device, gives f _ _ c.in_ok-whole.ensures.found)
+
+pub returns-in_ok-whole-clause-only : goal.returns-in_ok-whole-clause-only
+returns-in_ok-whole-clause-only c task is fits =
+    let f = found_of c.args.found.now in
+    let named : c.args.name.now ≡ codes "format" = search rules in
+    let device : first_value f (codes "device") ≡ Some c.in-Some.device.now = search rules in
+    same_format c.args.name.now (rows_of f) c.in-Some.device c.in_ok-whole.field-0 task named (gives f _ _ device) (λ n lt there. c.in_ok-whole.ensures.same n lt (given f _ _ there)) is fits
+
+pub returns-then-eq-2-clause-asked : goal.returns-then-eq-2-clause-asked
+returns-then-eq-2-clause-asked c =
+    let f = found_of c.args.found.now in
+    let device : first_value f (codes "device") ≡ Some c.in-Some.device.now = search rules in
+    (search rules, gives f _ _ device)
+
+pub returns-then-eq-2-clause-only : goal.returns-then-eq-2-clause-only
+returns-then-eq-2-clause-only c task is fits =
+    let f = found_of c.args.found.now in
+    let named : c.args.name.now ≡ codes "show" = search rules in
+    let device : first_value f (codes "device") ≡ Some c.in-Some.device.now = search rules in
+    same_show c.args.name.now (rows_of f) c.in-Some.device task named (gives f _ _ device) is
+
+pub returns-in_ok-change-clause-asked : goal.returns-in_ok-change-clause-asked
+returns-in_ok-change-clause-asked c =
+    let f = found_of c.args.found.now in
+    let device : first_value f (codes "device") ≡ Some c.in-Some.device.now = search rules in
+    (search rules, gives f _ _ device, gives_all f _ _ c.in_ok-change.ensures.found)
+
+pub returns-in_ok-change-clause-only : goal.returns-in_ok-change-clause-only
+returns-in_ok-change-clause-only c task is fits =
+    let f = found_of c.args.found.now in
+    let named : c.args.name.now ≡ codes "edit" = search rules in
+    let device : first_value f (codes "device") ≡ Some c.in-Some.device.now = search rules in
+    same_edit c.args.name.now (rows_of f) c.in-Some.device c.in_ok-change.field-0 task named (gives f _ _ device) (λ ops fit there. c.in_ok-change.ensures.same ops fit (given_all f _ _ there)) is fits
+
+pub returns-in_ok-words_asked-clause-asked : goal.returns-in_ok-words_asked-clause-asked
+returns-in_ok-words_asked-clause-asked c =
+    let f = found_of c.args.found.now in
+    let device : first_value f (codes "device") ≡ Some c.in-Some.device.now = search rules in
+    (search rules, gives f _ _ device, gives f _ _ c.in_ok-whole-2.ensures.found, gives f _ _ c.in_ok-whole-3.ensures.found, (gives f _ _ c.in_ok-words_asked.ensures.found, c.in_ok-words_asked.ensures.fits))
+
+pub returns-in_ok-words_asked-clause-only : goal.returns-in_ok-words_asked-clause-only
+returns-in_ok-words_asked-clause-only c task is fits =
+    let f = found_of c.args.found.now in
+    let named : c.args.name.now ≡ codes "route" = search rules in
+    let device : first_value f (codes "device") ≡ Some c.in-Some.device.now = search rules in
+    same_route c.args.name.now (rows_of f) c.in-Some.device c.in_ok-whole-2.field-0 c.in_ok-whole-3.field-0 c.in_ok-words_asked.field-0 task named (gives f _ _ device)
+    (λ n lt there. c.in_ok-whole-2.ensures.same n lt (given f _ _ there)) (λ n lt there. c.in_ok-whole-3.ensures.same n lt (given f _ _ there))
+    (λ words asked there. c.in_ok-words_asked.ensures.same words asked (given f _ _ there)) is fits
+
+pub returns-in_ok-words_asked-2-clause-asked : goal.returns-in_ok-words_asked-2-clause-asked
+returns-in_ok-words_asked-2-clause-asked c =
+    let f = found_of c.args.found.now in
+    let device : first_value f (codes "device") ≡ Some c.in-Some.device.now = search rules in
+    (search rules, gives f _ _ device, (gives f _ _ c.in_ok-words_asked-2.ensures.found, c.in_ok-words_asked-2.ensures.fits))
+
+pub returns-in_ok-words_asked-2-clause-only : goal.returns-in_ok-words_asked-2-clause-only
+returns-in_ok-words_asked-2-clause-only c task is fits =
+    let f = found_of c.args.found.now in
+    let named : c.args.name.now ≡ codes "check" = search rules in
+    let device : first_value f (codes "device") ≡ Some c.in-Some.device.now = search rules in
+    same_check c.args.name.now (rows_of f) c.in-Some.device c.in_ok-words_asked-2.field-0 task named (gives f _ _ device)
+    (λ words asked there. c.in_ok-words_asked-2.ensures.same words asked (given f _ _ there)) is
+
+pub returns-in_err-whole-clause-refused : goal.returns-in_err-whole-clause-refused
+returns-in_err-whole-clause-refused c task is fits =
+    let f = found_of c.args.found.now in
+    let named : c.args.name.now ≡ codes "format" = search rules in
+    handed_up c.from_residual.result c.in_err-whole.field-0.0 c.from_residual.ensures.1
+    (format_refused c.args.name.now (rows_of f) c.in_err-whole.field-0.0 task named (λ n lt there. c.in_err-whole.ensures.only n lt (given f _ _ there)) is fits)
+
+pub returns-in_err-change-clause-refused : goal.returns-in_err-change-clause-refused
+returns-in_err-change-clause-refused c task is fits =
+    let f = found_of c.args.found.now in
+    let named : c.args.name.now ≡ codes "edit" = search rules in
+    handed_up c.from_residual-in_err-change.result c.in_err-change.field-0.0 c.from_residual-in_err-change.ensures.1
+    (edit_refused c.args.name.now (rows_of f) c.in_err-change.field-0.0 task named (λ ops fit some few there. c.in_err-change.ensures.only ops fit some few (given_all f _ _ there)) is fits)
+
+pub returns-in_err-whole-2-clause-refused : goal.returns-in_err-whole-2-clause-refused
+returns-in_err-whole-2-clause-refused c task is fits =
+    let f = found_of c.args.found.now in
+    let named : c.args.name.now ≡ codes "route" = search rules in
+    handed_up c.from_residual-in_err-whole-2.result c.in_err-whole-2.field-0.0 c.from_residual-in_err-whole-2.ensures.1
+    (from_refused c.args.name.now (rows_of f) c.in_err-whole-2.field-0.0 task named (λ n lt there. c.in_err-whole-2.ensures.only n lt (given f _ _ there)) is fits)
+
+pub returns-in_err-whole-3-clause-refused : goal.returns-in_err-whole-3-clause-refused
+returns-in_err-whole-3-clause-refused c task is fits =
+    let f = found_of c.args.found.now in
+    let named : c.args.name.now ≡ codes "route" = search rules in
+    handed_up c.from_residual-in_err-whole-3.result c.in_err-whole-3.field-0.0 c.from_residual-in_err-whole-3.ensures.1
+    (to_refused c.args.name.now (rows_of f) c.in_err-whole-3.field-0.0 task named (λ n lt there. c.in_err-whole-3.ensures.only n lt (given f _ _ there)) is fits)
+
+pub returns-in_err-words_asked-clause-refused : goal.returns-in_err-words_asked-clause-refused
+returns-in_err-words_asked-clause-refused c task is fits =
+    let f = found_of c.args.found.now in
+    let named : c.args.name.now ≡ codes "route" = search rules in
+    handed_up c.from_residual-in_err-words_asked.result c.in_err-words_asked.field-0.0 c.from_residual-in_err-words_asked.ensures.1
+    (words_refused c.args.name.now (rows_of f) c.in_err-words_asked.field-0.0 task 114 (ap (λ (t : List ℕ). get_or t 0 0) named) (λ bad. omega (arith, bad)) (λ bad. omega (arith, bad)) (λ bad. omega (arith, bad)) (λ words asked there. c.in_err-words_asked.ensures.only words asked (given f _ _ there)) is)
+
+pub returns-in_err-words_asked-2-clause-refused : goal.returns-in_err-words_asked-2-clause-refused
+returns-in_err-words_asked-2-clause-refused c task is fits =
+    let f = found_of c.args.found.now in
+    let named : c.args.name.now ≡ codes "check" = search rules in
+    handed_up c.from_residual-in_err-words_asked-2.result c.in_err-words_asked-2.field-0.0 c.from_residual-in_err-words_asked-2.ensures.1
+    (words_refused c.args.name.now (rows_of f) c.in_err-words_asked-2.field-0.0 task 99 (ap (λ (t : List ℕ). get_or t 0 0) named) (λ bad. omega (arith, bad)) (λ bad. omega (arith, bad)) (λ bad. omega (arith, bad)) (λ words asked there. c.in_err-words_asked-2.ensures.only words asked (given f _ _ there)) is)

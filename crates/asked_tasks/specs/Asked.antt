@@ -1,0 +1,75 @@
+-- What the program's words ask for.
+use Rattle.std.specs.Prelude.{◌≡◌, ◌≤◌, ◌<◌, ◌^◌, ℕ, List, [], Some, codes, decimal, map, length, All}
+use Rattle.clap.specs.Walk.{Row, Text, first_of, all_of}
+use Rattle.clap.specs.Simple.{subcommand_of}
+use Rattle.clap.specs.Faults.{fault_of}
+use Rattle.graph_edits.specs.Edges.{most_ops}
+use Rattle.graph_edits.specs.declared.edits.Op.{Op}
+use Rattle.given_words.specs.declared.words.LandmarkWords.{LandmarkWords}
+use Rattle.given_words.specs.OpText.{Fits, op_text}
+use Rattle.given_words.specs.WordsText.{IsAsked, IsSame, words_text}
+use Rattle.asked_tasks.specs.declared.task.Task.{Task}
+use Rattle.asked_tasks.specs.declared.task.Task.TheVariants.{Format, Show, Edit, Route, Check}
+use Rattle.asked_tasks.specs.Grammar.{program}
+
+-- the argument has this text
+abbrev pub Gives : List Row → Text → Text → Type 0
+Gives rows id text = first_of id rows ≡ Some text
+
+-- `format DEVICE N`, with N a number in decimal
+abbrev pub IsFormat : Text → List Row → Text → ℕ → Type 0
+IsFormat name rows device nodes = (name ≡ codes "format") × Gives rows (codes "device") device × Gives rows (codes "nodes") (decimal nodes)
+
+-- `show DEVICE`
+abbrev pub IsShow : Text → List Row → Text → Type 0
+IsShow name rows device = (name ≡ codes "show") × Gives rows (codes "device") device
+
+-- `edit DEVICE OP..`, with each op of the change, in order, and no other
+abbrev pub IsEdit : Text → List Row → Text → List Op → Type 0
+IsEdit name rows device change = (name ≡ codes "edit") × Gives rows (codes "device") device × (all_of (codes "ops") rows ≡ Some (map op_text change))
+
+-- `--words W`, with W as landmark words are written
+abbrev pub AreWordsAsked : List Row → LandmarkWords → Type 0
+AreWordsAsked rows words = Gives rows (codes "words") (words_text words) × IsAsked words
+
+-- `route DEVICE FROM TO --words W`
+abbrev pub IsRoute : Text → List Row → Text → ℕ → ℕ → LandmarkWords → Type 0
+IsRoute name rows device from to words =
+    (name ≡ codes "route") × Gives rows (codes "device") device × Gives rows (codes "from") (decimal from) × Gives rows (codes "to") (decimal to) × AreWordsAsked rows words
+
+-- `check DEVICE --words W`
+abbrev pub IsCheck : Text → List Row → Text → LandmarkWords → Type 0
+IsCheck name rows device words = (name ≡ codes "check") × Gives rows (codes "device") device × AreWordsAsked rows words
+
+-- a command of this name, with these texts of its arguments, is this task
+abbrev pub IsTask : Text → List Row → Task → Type 0
+IsTask name rows (Format device nodes) = IsFormat name rows device.now nodes
+IsTask name rows (Show device) = IsShow name rows device.now
+IsTask name rows (Edit device change) = IsEdit name rows device.now change
+IsTask name rows (Route device from to words) = IsRoute name rows device.now from to words
+IsTask name rows (Check device words) = IsCheck name rows device.now words
+
+-- the grammar takes the words, and they name this command, with these texts of its arguments
+abbrev pub IsCommand : List Text → Text → List Row → Type 0
+IsCommand words name rows = (fault_of program words ≡ []) × (subcommand_of program words ≡ Some (name, rows))
+
+-- what the program's words ask for: the command that they name, by the grammar, is this task
+abbrev pub IsAskedFor : List Text → Task → Type 0
+IsAskedFor words task = (name : Text) × (rows : List Row) × IsCommand words name rows × IsTask name rows task
+
+-- the numbers of a task fit their types, and a change has from 1 op to the most
+abbrev pub IsInRange : Task → Type 0
+IsInRange (Format device nodes) = nodes < 2 ^ 16
+IsInRange (Show device) = Unit {0}
+IsInRange (Edit device change) = All Fits change × (1 ≤ length change) × (length change ≤ most_ops)
+IsInRange (Route device from to words) = (from < 2 ^ 16) × (to < 2 ^ 16)
+IsInRange (Check device words) = Unit {0}
+
+-- the same command, with the same texts and numbers
+abbrev pub IsSameTask : Task → Task → Type 0
+IsSameTask (Format device nodes) (Format other count) = (device.now ≡ other.now) × (nodes ≡ count)
+IsSameTask (Show device) (Show other) = device.now ≡ other.now
+IsSameTask (Edit device change) (Edit other ops) = (device.now ≡ other.now) × (change ≡ ops)
+IsSameTask (Route device from to words) (Route other u v asked) = (device.now ≡ other.now) × (from ≡ u) × (to ≡ v) × IsSame words asked
+IsSameTask (Check device words) (Check other asked) = (device.now ≡ other.now) × IsSame words asked
+IsSameTask task other = ⊥

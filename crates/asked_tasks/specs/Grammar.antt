@@ -1,0 +1,50 @@
+-- The program's grammar, as clap takes it.
+use Rattle.std.specs.Prelude.{Some, codes, true}
+use Rattle.clap.specs.Lexer.{usize_max}
+use Rattle.clap.specs.Walk.{Rule, Text}
+use Rattle.clap.specs.Simple.{App, new_app, new_rule, on_top, with_rule, with_subcommand}
+use Rattle.clap.specs.declared.builder.action.ArgAction.TheVariants.{Set}
+
+-- a text that has to be given
+abbrev pub text_rule : Text → Rule
+text_rule id = record (new_rule id) { required = true; action = Some Set }
+
+-- `OP..`: one text or more
+abbrev pub ops_rule : Rule
+ops_rule = record (text_rule (codes "ops")) { range = Some (record { start_inclusive = 1; end_inclusive = usize_max }) }
+
+-- `--words W`
+abbrev pub words_rule : Rule
+words_rule = record (text_rule (codes "words")) { long = Some (codes "words") }
+
+-- a command on a device: `NAME DEVICE`
+abbrev pub on_device_app : Text → App
+on_device_app name = with_rule (new_app name) (text_rule (codes "device"))
+
+-- `format DEVICE N`
+abbrev pub format_app : App
+format_app = with_rule (on_device_app (codes "format")) (text_rule (codes "nodes"))
+
+-- `show DEVICE`
+abbrev pub show_app : App
+show_app = on_device_app (codes "show")
+
+-- `edit DEVICE OP..`
+abbrev pub edit_app : App
+edit_app = with_rule (on_device_app (codes "edit")) ops_rule
+
+-- `route DEVICE FROM TO --words W`
+abbrev pub route_app : App
+route_app = with_rule (with_rule (with_rule (on_device_app (codes "route")) (text_rule (codes "from"))) (text_rule (codes "to"))) words_rule
+
+-- `check DEVICE --words W`
+abbrev pub check_app : App
+check_app = with_rule (on_device_app (codes "check")) words_rule
+
+-- one of the commands has to be given, and the program's name is not among the words
+abbrev pub bare_app : App
+bare_app = on_top (λ s. record s { no_binary_name = true; subcommand_required = true }) (new_app (codes "tznode"))
+
+-- the program's grammar
+unfoldable pub program : App
+program = with_subcommand (with_subcommand (with_subcommand (with_subcommand (with_subcommand bare_app format_app.top) show_app.top) edit_app.top) route_app.top) check_app.top

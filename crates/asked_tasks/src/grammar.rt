@@ -1,0 +1,53 @@
+//! The program's grammar.
+ghost use Rattle.std.specs.Prelude.{◌≡◌, IfOk, false};
+ghost use Rattle.clap.specs.Walk.{rule_of};
+ghost use Rattle.clap.specs.Words.{app_of, with_rule};
+ghost use Rattle.clap.specs.declared.builder.command.Command.TheViews.{out-Command};
+ghost use Rattle.asked_tasks.specs.Grammar.{on_device_app, program, text_rule, words_rule};
+
+use clap::{Arg, ArgAction, Command};
+use std::alloc::{AllocError, Global};
+
+fn text<'a>(alloc: Global, id: &'a str) -> Arg<'a>
+    ensures rule { rule_of result ≡ text_rule id.entry.now }
+    ensures local { result.global ≡ false }
+{
+    Arg::new(alloc, id).required(true).action(ArgAction::Set)
+}
+
+fn on_device<'a>(alloc: Global, name: &'a str) -> Result<Command<'a>, AllocError>
+    ensures app { IfOk result (λ command. app_of command ≡ on_device_app name.entry.now) }
+    ensures local { IfOk result (λ command. (out-Command command).has_globals ≡ false) }
+{
+    Command::new(alloc, name).arg(text(alloc, "device"))
+}
+
+fn with_words<'a>(alloc: Global, command: Command<'a>) -> Result<Command<'a>, AllocError>
+    ensures app { IfOk result (λ whole. app_of whole ≡ with_rule (app_of command.entry) words_rule) }
+    ensures local { (out-Command command.entry).has_globals ≡ false → IfOk result (λ whole. (out-Command whole).has_globals ≡ false) }
+{
+    command.arg(text(alloc, "words").long("words"))
+}
+
+/// The grammar, as clap takes it.
+pub(crate) fn grammar<'a>(alloc: Global) -> Result<Command<'a>, AllocError>
+    ensures { IfOk result (λ command. app_of command ≡ program) }
+{
+    let format = on_device(alloc, "format")?.arg(text(alloc, "nodes"))?;
+    let show = on_device(alloc, "show")?;
+    let ops = text(alloc, "ops").num_args(1..);
+    let edit = on_device(alloc, "edit")?.arg(ops)?;
+    let ends = on_device(alloc, "route")?
+        .arg(text(alloc, "from"))?
+        .arg(text(alloc, "to"))?;
+    let route = with_words(alloc, ends)?;
+    let check = with_words(alloc, on_device(alloc, "check")?)?;
+    Command::new(alloc, "tznode")
+        .no_binary_name(true)
+        .subcommand_required(true)
+        .subcommand(format)?
+        .subcommand(show)?
+        .subcommand(edit)?
+        .subcommand(route)?
+        .subcommand(check)
+}

@@ -1,0 +1,34 @@
+//! What the program's words ask for.
+//!
+//! | Words | Task |
+//! |---|---|
+//! | `format DEVICE N` | [`Task::Format`] |
+//! | `show DEVICE` | [`Task::Show`] |
+//! | `edit DEVICE OP..` | [`Task::Edit`], of 1 to 16 OPs |
+//! | `route DEVICE FROM TO --words W` | [`Task::Route`] |
+//! | `check DEVICE --words W` | [`Task::Check`] |
+//!
+//! The words are read with `clap`, one level of subcommands, each value as a text; numbers, OPs and W are read from these texts by
+//! [`given_words`]. No file is opened and nothing is printed.
+//!
+//! The contract that the layer above uses: [`understood`] answers a task that the words ask for by the program's grammar
+//! (`IsAskedFor` of `specs/Asked`, over clap's own account of a parse); the words ask for no other; and where they ask for one
+//! whose numbers are in range, no answer but that task and want of memory comes. A refusal is named by [`WordsRefused`].
+//!
+//! ```text
+//! match understood(alloc, &["show", "d"])? {
+//!     Task::Show { device } => ..          // device is "d"
+//!     ..
+//! }
+//! understood(alloc, &["show"])             // Err(WordsRefused::Usage)
+//! ```
+#![tactic(auto)]
+
+mod grammar;
+mod refused;
+mod task;
+#[cfg(test)]
+mod tests;
+
+pub use refused::WordsRefused;
+pub use task::{Task, understood};

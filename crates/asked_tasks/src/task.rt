@@ -1,0 +1,185 @@
+//! What the program's words ask for.
+ghost use Rattle.std.specs.Prelude.{◌≡◌, ◌≤◌, ◌<◌, ◌^◌, ◌⊎◌, ℕ, List, IfOk, IfErr, IsErrOf, Some, None, [], codes, decimal, map, option_map, All, length};
+ghost use Rattle.clap.specs.Walk.{rows_of, texts};
+ghost use Rattle.clap.specs.Words.{first_value, found_of, kind_of, matched_of, raw_values};
+ghost use Rattle.graph_edits.specs.declared.edits.Op.{Op};
+ghost use Rattle.given_words.specs.declared.words.LandmarkWords.{LandmarkWords};
+ghost use Rattle.given_words.specs.OpText.{Fits, op_text};
+ghost use Rattle.given_words.specs.WordsText.{IsAsked, IsSame, words_text};
+ghost use Rattle.asked_tasks.specs.Asked.{IsAskedFor, IsInRange, IsSameTask, IsTask};
+ghost use Rattle.asked_tasks.specs.declared.task.Task.{Task};
+
+use crate::grammar::grammar;
+use crate::refused::WordsRefused;
+use clap::error::ErrorKind;
+use clap::{ArgMatches, Error};
+use given_words::{LandmarkWords, landmark_words, node, op};
+use graph_edits::{Change, MOST_OPS, Op, Shape};
+use std::alloc::{AllocError, Global};
+
+/// One command with its words understood.
+#[derive(Debug, PartialEq, Eq, Drop)]
+pub enum Task<'a> {
+    /// Make the device file anew, with this many nodes.
+    Format {
+        device: &'a str,
+        nodes: u16,
+    },
+    /// Print the count and the edges.
+    Show {
+        device: &'a str,
+    },
+    /// Make one change.
+    Edit {
+        device: &'a str,
+        change: Change,
+    },
+    /// Carry a packet from a node to a node.
+    Route {
+        device: &'a str,
+        from: u16,
+        to: u16,
+        words: LandmarkWords,
+    },
+    /// Check the scheme that these words give.
+    Check {
+        device: &'a str,
+        words: LandmarkWords,
+    },
+}
+
+/// What the words ask for, or why they are no task.
+pub fn understood<'a>(alloc: Global, words: &'a [&'a str]) -> Result<Task<'a>, WordsRefused>
+    ensures asked { IfOk result (λ task. IsAskedFor (texts words.entry.now) task) }
+    // Where the words ask for a task whose numbers are in range, it is the answer, or memory ran out.
+    ensures only { (task : Task) → IsAskedFor (texts words.entry.now) task → IsInRange task → IfOk result (λ read. IsSameTask read task) }
+    ensures refused { (task : Task) → IsAskedFor (texts words.entry.now) task → IsInRange task → IfErr result (λ refused. refused ≡ WordsRefused.Memory) }
+{
+    let matches = match grammar(alloc)?.try_get_matches_from(words) {
+        Ok(matches) => matches,
+        Err(error) => return Err(refused_for(error)),
+    };
+    let Some((name, found)) = matches.subcommand() else {
+        return Err(WordsRefused::Usage);
+    };
+    task_of(alloc, name, found)
+}
+
+// What becomes of words that the grammar refuses.
+fn refused_for(error: Error) -> WordsRefused
+    ensures { kind_of error ≡ ErrorKind.OutOfMemory → result ≡ WordsRefused.Memory }
+{
+    match error.kind() {
+        ErrorKind::OutOfMemory => WordsRefused::Memory,
+        _ => WordsRefused::Usage,
+    }
+}
+
+// What a command asks for, of these matches.
+fn task_of<'a>(alloc: Global, name: &str, found: &ArgMatches<'a>) -> Result<Task<'a>, WordsRefused>
+    ensures asked { IfOk result (λ task. IsTask name.now (rows_of (found_of found.entry.now)) task) }
+    ensures only { (task : Task) → IsTask name.now (rows_of (found_of found.entry.now)) task → IsInRange task → IfOk result (λ read. IsSameTask read task) }
+    ensures refused { (task : Task) → IsTask name.now (rows_of (found_of found.entry.now)) task → IsInRange task → IfErr result (λ refused. refused ≡ WordsRefused.Memory) }
+{
+    let Some(device) = found.get_str("device") else {
+        return Err(WordsRefused::Usage);
+    };
+    if name == "format" {
+        Ok(Task::Format {
+            device,
+            nodes: whole(alloc, found, "nodes")?,
+        })
+    } else if name == "show" {
+        Ok(Task::Show { device })
+    } else if name == "edit" {
+        Ok(Task::Edit {
+            device,
+            change: change(alloc, found)?,
+        })
+    } else if name == "route" {
+        Ok(Task::Route {
+            device,
+            from: whole(alloc, found, "from")?,
+            to: whole(alloc, found, "to")?,
+            words: words_asked(alloc, found)?,
+        })
+    } else if name == "check" {
+        Ok(Task::Check {
+            device,
+            words: words_asked(alloc, found)?,
+        })
+    } else {
+        Err(WordsRefused::Usage)
+    }
+}
+
+// A whole number from 0 to 65,535.
+fn whole(alloc: Global, found: &ArgMatches<'_>, id: &str) -> Result<u16, WordsRefused>
+    ensures found { IfOk result (λ n. first_value (found_of found.entry.now) id.now ≡ Some (decimal n)) }
+    ensures same { (n : ℕ) → n < 2 ^ 16 → first_value (found_of found.entry.now) id.now ≡ Some (decimal n) → IfOk result (λ m. m ≡ n) }
+    ensures only { (n : ℕ) → n < 2 ^ 16 → first_value (found_of found.entry.now) id.now ≡ Some (decimal n) → IfErr result (λ refused. refused ≡ WordsRefused.Memory) }
+    ensures refusals { IfErr result (λ refused. (refused ≡ WordsRefused.Usage) ⊎ (refused ≡ WordsRefused.Memory)) }
+{
+    let Some(text) = found.get_str(id) else {
+        return Err(WordsRefused::Usage);
+    };
+    match node(alloc, text)? {
+        Some(number) => Ok(number),
+        None => Err(WordsRefused::Usage),
+    }
+}
+
+fn words_asked(alloc: Global, found: &ArgMatches<'_>) -> Result<LandmarkWords, WordsRefused>
+    ensures found { IfOk result (λ words. first_value (found_of found.entry.now) (codes "words") ≡ Some (words_text words)) }
+    ensures fits { IfOk result IsAsked }
+    ensures same { (words : LandmarkWords) → IsAsked words → first_value (found_of found.entry.now) (codes "words") ≡ Some (words_text words) → IfOk result (λ read. IsSame read words) }
+    ensures only { (words : LandmarkWords) → IsAsked words → first_value (found_of found.entry.now) (codes "words") ≡ Some (words_text words) → IfErr result (λ refused. refused ≡ WordsRefused.Memory) }
+    ensures usage { IsErrOf result WordsRefused.Usage → first_value (found_of found.entry.now) (codes "words") ≡ None }
+    ensures refusals { IfErr result (λ refused. (refused ≡ WordsRefused.Usage) ⊎ ((refused ≡ WordsRefused.Words) ⊎ (refused ≡ WordsRefused.Memory))) }
+{
+    let Some(text) = found.get_str("words") else {
+        return Err(WordsRefused::Usage);
+    };
+    match landmark_words(alloc, text)? {
+        Some(words) => Ok(words),
+        None => Err(WordsRefused::Words),
+    }
+}
+
+fn change(alloc: Global, found: &ArgMatches<'_>) -> Result<Change, WordsRefused>
+    ensures found { IfOk result (λ change. option_map raw_values (matched_of (found_of found.entry.now) (codes "ops")) ≡ Some (map op_text change)) }
+    ensures same { (ops : List Op) → All Fits ops → option_map raw_values (matched_of (found_of found.entry.now) (codes "ops")) ≡ Some (map op_text ops) → IfOk result (λ change. change ≡ ops) }
+    ensures only { (ops : List Op) → All Fits ops → 1 ≤ length ops → length ops ≤ MOST_OPS → option_map raw_values (matched_of (found_of found.entry.now) (codes "ops")) ≡ Some (map op_text ops) → IfErr result (λ refused. refused ≡ WordsRefused.Memory) }
+    ensures op { IsErrOf result WordsRefused.Op → (ops : List Op) → All Fits ops → option_map raw_values (matched_of (found_of found.entry.now) (codes "ops")) ≡ Some (map op_text ops) → ⊥ }
+    ensures too_long { IsErrOf result WordsRefused.TooLong → (ops : List Op) × (MOST_OPS < length ops) × (option_map raw_values (matched_of (found_of found.entry.now) (codes "ops")) ≡ Some (map op_text ops)) }
+    ensures usage { IsErrOf result WordsRefused.Usage → (option_map raw_values (matched_of (found_of found.entry.now) (codes "ops")) ≡ None) ⊎ (option_map raw_values (matched_of (found_of found.entry.now) (codes "ops")) ≡ Some []) }
+    ensures refusals { IfErr result (λ refused. (refused ≡ WordsRefused.Usage) ⊎ ((refused ≡ WordsRefused.Op) ⊎ ((refused ≡ WordsRefused.TooLong) ⊎ (refused ≡ WordsRefused.Memory)))) }
+{
+    let Some(texts) = found.get_strs("ops") else {
+        return Err(WordsRefused::Usage);
+    };
+    let ops = ops_of(alloc, texts)?;
+    match Change::new(&ops) {
+        Ok(change) => Ok(change),
+        Err(Shape::Empty) => Err(WordsRefused::Usage),
+        Err(Shape::TooLong) => Err(WordsRefused::TooLong),
+    }
+}
+
+// Each text as an op.
+fn ops_of(alloc: Global, given: &[&str]) -> Result<Vec<Op>, WordsRefused>
+    ensures ops { IfOk result (λ ops. map op_text ops.items ≡ texts given.now) }
+    ensures same { (ops : List Op) → All Fits ops → map op_text ops ≡ texts given.now → IfOk result (λ read. read.items ≡ ops) }
+    ensures only { (ops : List Op) → All Fits ops → map op_text ops ≡ texts given.now → IfErr result (λ refused. refused ≡ WordsRefused.Memory) }
+    ensures op { IsErrOf result WordsRefused.Op → (ops : List Op) → All Fits ops → map op_text ops ≡ texts given.now → ⊥ }
+    ensures refusals { IfErr result (λ refused. (refused ≡ WordsRefused.Op) ⊎ (refused ≡ WordsRefused.Memory)) }
+{
+    let mut ops = Vec::new(alloc);
+    for text in given {
+        let Some(op) = op(alloc, *text)? else {
+            return Err(WordsRefused::Op);
+        };
+        ops.push(op)?;
+    }
+    Ok(ops)
+}

@@ -1,0 +1,155 @@
+//! Words, and what they ask for. In a line of words a bar stands between each two.
+use crate::{Task, WordsRefused, understood};
+use given_words::LandmarkWords;
+use graph_edits::{Change, Op};
+use std::io;
+use std::process::Abort;
+
+fn words_of<'a, R: AllocGlobal>(rt: &R, line: &'a str) -> io::Result<Vec<&'a str>> {
+    let mut words = Vec::new(rt.alloc());
+    for word in line.split('|') {
+        words.push(word)?;
+    }
+    Ok(words)
+}
+
+fn expect_task<R: AllocGlobal + Abort>(rt: &R, line: &str, task: Task<'_>) -> io::Result<()> {
+    let words = words_of(rt, line)?;
+    assert_eq!(rt; understood(rt.alloc(), &words), Ok(task), "{line}");
+    Ok(())
+}
+
+// A line of words on each line.
+fn expect_refused<R: AllocGlobal + Abort>(
+    rt: &R,
+    lines: &str,
+    refused: WordsRefused,
+) -> io::Result<()> {
+    for line in lines.split('\n') {
+        let words = words_of(rt, line)?;
+        assert_eq!(rt;
+            understood(rt.alloc(), &words).err(),
+            Some(refused),
+            "{line}"
+        );
+    }
+    Ok(())
+}
+
+#[test]
+fn tasks(rt: HostRuntime) -> io::Result<()> {
+    let device = "d";
+    expect_task(
+        &rt,
+        "format|d|65535",
+        Task::Format {
+            device,
+            nodes: 65_535,
+        },
+    )?;
+    expect_task(&rt, "show|d", Task::Show { device })?;
+    let change = Change::new(&[Op::Add(0, 1, 7), Op::Cut(2, 3)]).expect(&rt, "two ops");
+    expect_task(
+        &rt,
+        "edit|d|add:0:1:7|cut:2:3",
+        Task::Edit { device, change },
+    )?;
+    let (from, to) = (3, 4);
+    let words = LandmarkWords::Drawn(7);
+    let route = Task::Route {
+        device,
+        from,
+        to,
+        words,
+    };
+    expect_task(&rt, "route|--words|draw:7|d|3|4", route)?;
+    let words = LandmarkWords::Greatest;
+    expect_task(&rt, "check|d|--words=none", Task::Check { device, words })
+}
+
+const USAGE: &str = "
+help
+help|format
+--help
+-h
+--version
+-V
+version
+Format|d|5
+format
+format|d
+format|d|5|5
+format|d|
+format|d|05
+format|d|+5
+format|d|-5
+format|d|5 
+format|d|65536
+format|d|18446744073709551621
+format|--help
+show
+show|d|5
+show|d|--words|none
+edit
+edit|d
+route|d|0|1
+route|d|0|--words|none
+route|d|0|1|2|--words|none
+route|d|0|1|--words
+route|d|0|1|--words|none|--words|none
+route|d|0|1|--words=none|--words|at:1
+route|d|0|1|none
+route|d|00|1|--words|none
+route|d|0|+1|--words|none
+route|d|0|65536|--words|none
+route|d|x|1|--words|none
+route|d|0||--words|at:
+route|d|0|1|--word|none
+route|d|0|1|--words|none|--editors|2
+route|--help
+check
+check|d
+check|d|--words
+check|d|0|--words|none
+check|d|--words|none|--words|none
+check|--words|none";
+
+#[test]
+fn words_that_ask_for_nothing(rt: HostRuntime) -> io::Result<()> {
+    assert_eq!(&rt;
+        understood(rt.alloc(), &[]).err(),
+        Some(WordsRefused::Usage)
+    );
+    expect_refused(&rt, USAGE, WordsRefused::Usage)
+}
+
+#[test]
+fn parts_of_another_form(rt: HostRuntime) -> io::Result<()> {
+    expect_refused(
+        &rt,
+        "route|d|0|1|--words|at:\ncheck|d|--words|",
+        WordsRefused::Words,
+    )?;
+    expect_refused(&rt, "edit|d|\nedit|d|add:0:1:1|add:0:1", WordsRefused::Op)
+}
+
+// The form of each op comes before their number.
+#[test]
+fn changes_of_up_to_16_ops(rt: HostRuntime) -> io::Result<()> {
+    let mut words = words_of(&rt, "edit|d|add:0:1:1")?;
+    for _ in 0..15 {
+        words.push("set:0:1:9")?;
+    }
+    assert_eq!(&rt; understood(rt.alloc(), &words).err(), None);
+    words.push("set:0:1:8")?;
+    assert_eq!(&rt;
+        understood(rt.alloc(), &words).err(),
+        Some(WordsRefused::TooLong)
+    );
+    words.push("set:0:1:08")?;
+    assert_eq!(&rt;
+        understood(rt.alloc(), &words).err(),
+        Some(WordsRefused::Op)
+    );
+    Ok(())
+}

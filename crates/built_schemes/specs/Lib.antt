@@ -1,0 +1,3 @@
+pub mod Words
+pub mod Schemes
+pub mod Lengths

@@ -1,0 +1,53 @@
+-- Why a device isn't formatted or opened, and a change isn't made.
+use Rattle.std.specs.Prelude.{◌≤◌, ℕ, List}
+use Rattle.graph_edits.specs.Edges.{most_nodes}
+use Rattle.recovery_parts.specs.declared.refusals.OpenRefused.{OpenRefused}
+use Rattle.recovery_parts.specs.declared.refusals.OpenRefused.TheVariants.{NotFormatted as OpenNotFormatted, BadVersion, Damaged as OpenDamaged, Device as OpenDevice, Memory as OpenMemory}
+use Rattle.recovery_parts.specs.Refusals.{LacksMagic}
+use Rattle.recovery_1.specs.Fronts.{HasOtherVersion, HasThisVersion}
+use Rattle.recovery_1.specs.Standing.{StandsForNone}
+use Rattle.printed_lines.specs.declared.fault.Fault.{Fault}
+use Rattle.printed_lines.specs.declared.fault.Fault.TheVariants.{NodeCount, DeviceLength, NotFormatted, LayoutNotKnown, Damaged, Device, Memory, Worn}
+
+-- the faults of formatting a device for so many nodes
+abbrev pub IsFormatFault : ℕ → Fault → Type 0
+IsFormatFault nodes NodeCount = ¬ ((1 ≤ nodes) × (nodes ≤ most_nodes))
+IsFormatFault nodes DeviceLength = Unit {0}
+IsFormatFault nodes Device = Unit {0}
+IsFormatFault nodes fault = ⊥
+
+-- what is told of an opening that is refused
+abbrev pub open_fault : OpenRefused → Fault
+open_fault OpenNotFormatted = NotFormatted
+open_fault BadVersion = LayoutNotKnown
+open_fault OpenDamaged = Damaged
+open_fault OpenDevice = Device
+open_fault OpenMemory = Memory
+
+-- what a fault tells of a device's content: by these three that it stands for no state, and which front it has
+abbrev pub TellsOf : Fault → List ℕ → Type 0
+TellsOf NotFormatted content = LacksMagic content × StandsForNone content
+TellsOf LayoutNotKnown content = HasOtherVersion content × StandsForNone content
+TellsOf Damaged content = HasThisVersion content × StandsForNone content
+TellsOf fault content = Unit {0}
+
+-- the faults of an opening
+abbrev pub IsOpenFault : Fault → Type 0
+IsOpenFault NotFormatted = Unit {0}
+IsOpenFault LayoutNotKnown = Unit {0}
+IsOpenFault Damaged = Unit {0}
+IsOpenFault Device = Unit {0}
+IsOpenFault Memory = Unit {0}
+IsOpenFault fault = ⊥
+
+-- the faults of a change on a device that is open
+abbrev pub IsDeskFault : Fault → Type 0
+IsDeskFault Device = Unit {0}
+IsDeskFault Memory = Unit {0}
+IsDeskFault Worn = Unit {0}
+IsDeskFault fault = ⊥
+
+-- the faults of a change
+abbrev pub IsEditFault : Fault → Type 0
+IsEditFault Worn = Unit {0}
+IsEditFault fault = IsOpenFault fault

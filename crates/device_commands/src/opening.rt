@@ -1,0 +1,84 @@
+//! Formatting a device, opening one, and listing what it holds.
+ghost use Rattle.std.specs.Prelude.{◌≡◌, ◌≢◌, ◌≤◌, ◌<◌, ◌↔◌, length, IsTrue, IfOk, IfErr, IsErrOf, OnOk, false};
+ghost use Rattle.std.specs.String.{string_bytes};
+ghost use Rattle.disk_trait.specs.Disk.{IsSameDevice, MayLeave, OnlyRead};
+ghost use Rattle.graph_edits.specs.Edges.{most_nodes};
+ghost use Rattle.recovery_1.specs.Layout.{device_len};
+ghost use Rattle.recovery_1.specs.State.{State, first_state};
+ghost use Rattle.recovery_1.specs.Standing.{StandsFor};
+ghost use Rattle.checkpoint.specs.StoreWords.{state_of, view_of, is_down};
+ghost use Rattle.printed_lines.specs.Lines.{listing_text};
+ghost use Rattle.device_commands.specs.Openings.{IsFormatFault, IsOpenFault, TellsOf, open_fault};
+
+use checkpoint::{FormatRefused, OpenRefused, Store, standing_law};
+use disk_trait::Disk;
+use printed_lines::{Fault, listing_of};
+use std::alloc::{AllocError, Global};
+
+/// Formats a device for so many nodes.
+pub fn format<D: Disk>(disk: &mut D, nodes: u16) -> Result<(), Fault>
+    ensures ok { IsTrue (D.view disk.old).keeps_model → OnOk result (StandsFor (first_state nodes) (D.view disk.new).content) }
+    ensures node_count { IsErrOf result Fault.NodeCount ↔ (¬ ((1 ≤ nodes) × (nodes ≤ most_nodes))) }
+    ensures device_length { IsErrOf result Fault.DeviceLength ↔ ((1 ≤ nodes) × (nodes ≤ most_nodes) × (length (D.view disk.old).content ≢ device_len)) }
+    ensures device { IsErrOf result Fault.Device → (D.view disk.old).failures < (D.view disk.new).failures }
+    ensures faults { IfErr result (λ fault. IsFormatFault nodes fault) }
+{
+    match checkpoint::format(disk, nodes) {
+        Ok(()) => Ok(()),
+        Err(FormatRefused::BadSize) => Err(Fault::NodeCount),
+        Err(FormatRefused::BadLength) => Err(Fault::DeviceLength),
+        Err(FormatRefused::Device) => Err(Fault::Device),
+    }
+}
+
+/// Opens a device. One that is refused is handed back.
+pub fn open<D: Disk>(alloc: Global, disk: D) -> Result<Store<D>, (Fault, D)>
+    ensures stands { IsTrue (D.view disk).keeps_model → IfOk result (λ store. StandsFor (state_of store) (D.view disk).content) }
+    ensures up { IfOk result (λ store. is_down store ≡ false) }
+    ensures reads { IsTrue (D.view disk).keeps_model → IfOk result (λ store. OnlyRead (D.view disk) (view_of store)) }
+    ensures ran { IfOk result (λ store. IsSameDevice (D.view disk) (view_of store)) }
+    ensures tells { IsTrue (D.view disk).keeps_model → IfErr result (λ e. TellsOf e.0 (D.view disk).content) }
+    ensures device { IfErr result (λ e. e.0 ≡ Fault.Device → (D.view disk).failures < (D.view e.1).failures) }
+    ensures faults { IfErr result (λ e. IsOpenFault e.0) }
+    ensures reads_err { IsTrue (D.view disk).keeps_model → IfErr result (λ e. OnlyRead (D.view disk) (D.view e.1)) }
+    ensures ran_err { IfErr result (λ e. IsSameDevice (D.view disk) (D.view e.1)) }
+{
+    match Store::open(alloc, disk) {
+        Ok(store) => Ok(store),
+        Err((refused, disk)) => Err((fault_of(refused), disk)),
+    }
+}
+
+// What is told of an opening that is refused.
+fn fault_of(refused: OpenRefused) -> Fault
+    ensures { result ≡ open_fault refused }
+{
+    match refused {
+        OpenRefused::NotFormatted => Fault::NotFormatted,
+        OpenRefused::BadVersion => Fault::LayoutNotKnown,
+        OpenRefused::Damaged => Fault::Damaged,
+        OpenRefused::Device => Fault::Device,
+        OpenRefused::Memory => Fault::Memory,
+    }
+}
+
+/// All that `show` prints of a device.
+pub fn listing<D: Disk + Drop>(alloc: Global, disk: D) -> Result<String, Fault>
+    ensures text { IsTrue (D.view disk).keeps_model → (state : State) → StandsFor state (D.view disk).content → IfOk result (λ text. string_bytes text ≡ listing_text state.count state.graph) }
+    // Also of a disk that doesn't keep the model the listing is that of a state.
+    ensures of_one { IfOk result (λ text. (state : State) × (string_bytes text ≡ listing_text state.count state.graph)) }
+    ensures tells { IsTrue (D.view disk).keeps_model → IfErr result (λ fault. TellsOf fault (D.view disk).content) }
+    ensures faults { IfErr result (λ fault. IsOpenFault fault) }
+{
+    standing_law();
+    match open(alloc, disk) {
+        Ok(store) => Ok(listing_of_store(alloc, &store)?),
+        Err((fault, _)) => Err(fault),
+    }
+}
+
+fn listing_of_store<D: Disk>(alloc: Global, store: &Store<D>) -> Result<String, AllocError>
+    ensures { IfOk result (λ text. string_bytes text ≡ listing_text (state_of store.now).count (state_of store.now).graph) }
+{
+    listing_of(alloc, store.count(), store.graph())
+}

@@ -1,0 +1,191 @@
+use Rattle.std.proofs.Common.{◌≡◌, ◌<◌, ◌+◌, ◌-◌, Some, length, set, replicate, true, false, arith, subst, sym, ap, ◌∙◌, length-set, [], ◌∷◌, ◌++◌}
+use Rattle.std.specs.BinaryHeap.{heap_items}
+use Rattle.std.proofs.lemmas.List.{length_push}
+use Rattle.std.proofs.lemmas.List.Elements.{All-nil, All-push, All-same}
+use Rattle.distances.specs.Search.{number_at, flag_at, IsAtZero, degrees}
+use Rattle.distances.specs.Arrivals.{arrival_at, IsArrival}
+use Rattle.distances.proofs.Arrived.{arrivals_turn, arrivals_done}
+use Rattle.distances.specs.Waiting.{IsTracked}
+use Rattle.graph_edits.specs.Edges.{all_degrees, degree_of}
+use Rattle.distances.proofs.OpenDegrees.{open_degrees, open_degrees_start, open_degrees_set}
+use Rattle.distances.proofs.Progress.{Progress, progress_done, table_done, listing_done}
+use Rattle.distances.proofs.Turns.{count_open, progress_start, progress_turn, count_set, count_replicate, no_flags, flag_set_same, flag_set_other}
+use Rattle.distances.proofs.Queues.{most_pops, popped_within, popped_nearest, popped_rest, popped_length, pops_fit, degrees_push, open_before, none_waits, tracked_by, complete_push}
+use Rattle.distances.proofs.search.settle_all.Goals as goal
+
+pub loop-next-init : goal.loop-next-init
+loop-next-init c =
+    let g = c.args.graph.now in
+    let none : c.reserve.new.self.items ≡ [] = c.in_ok-reserve.ensures.items ∙ c.requires.none_listed in
+    let flags : c.args.settled.now ≡ replicate c.args.graph.now.nodes false = no_flags c.args.settled.now c.requires.none_settled ∙ ap (λ k. replicate k false) c.requires.settled in
+    let empty : length c.reserve.new.self.items ≡ 0 = ap length none in
+    let listed : degrees c.args.graph.now c.reserve.new.self.items ≡ 0 = ap (degrees c.args.graph.now) none in
+    let left : open_degrees c.args.graph.now c.args.settled.now ≡ all_degrees c.args.graph.now = ap (open_degrees c.args.graph.now) flags ∙ open_degrees_start c.args.graph.now in
+    let opened : count_open c.args.settled.now ≡ c.args.graph.now.nodes = ap count_open flags ∙ count_replicate c.args.graph.now.nodes in
+    record {
+      progress = subst (λ l. Progress g.edges (IsAtZero c.args.tentative.now) (number_at c.args.limits.now) (number_at c.args.tentative.now) (flag_at c.args.settled.now) l) (sym none)
+          (progress_start g.edges c.args.tentative.now c.args.settled.now (number_at c.args.limits.now) c.requires.zero c.requires.none_settled c.requires.within_limits);
+      tentatives = c.requires.tentative;
+      flags = c.requires.settled;
+      few = c.nodes-sound.ensures.sound.nodes_fit.1;
+      counted = omega (arith, empty, opened);
+      listed = All-same (λ s. s.node < g.nodes) c.reserve.new.self.items [] none (All-nil (λ s. s.node < g.nodes));
+      room = omega (arith, c.in_ok-reserve.ensures.ok);
+      arrived = λ y e is.
+          let z = c.requires.zero y e is in
+          subst (IsArrival g (number_at c.args.tentative.now) (flag_at c.args.settled.now) y e) (sym (c.requires.none_arrived y (is ∙ ap Some z))) z;
+      places = c.requires.arrivals;
+      queue = c.requires.queue;
+      order = c.requires.heap;
+      pops = omega (arith, listed);
+      degrees_left = omega (arith, listed, left);
+      no_fewer = omega (arith, empty);
+    }
+
+pub overflow_add-pops : goal.overflow_add-pops
+overflow_add-pops c =
+    let i = c.loop-next.invariant in
+    let fits = pops_fit c.args.graph.now c.loop-next.order.items (length (heap_items c.args.waiting.now)) c.loop-next.pops (length (heap_items c.loop-next.waiting)) i.few c.requires.few (omega (arith, i.counted)) i.pops in
+    omega (arith, fits)
+
+pub loop-next-smaller-then-settled-next : goal.loop-next-smaller-then-settled-next
+loop-next-smaller-then-settled-next c =
+    let i = c.loop-next.invariant in
+    let fits = pops_fit c.args.graph.now c.loop-next.order.items (length (heap_items c.args.waiting.now)) c.loop-next.pops (length (heap_items c.loop-next.waiting)) i.few c.requires.few (omega (arith, i.counted)) i.pops in
+    let some = popped_length c.in-Some.field-0 (heap_items c.loop-next.waiting) (heap_items c.pop.new.self) c.in-Some.ensures.permutation in
+    let smaller : most_pops - (c.loop-next.pops + 1) < most_pops - c.loop-next.pops = omega (arith, fits, some) in
+    smaller
+
+pub loop-next-smaller : goal.loop-next-smaller
+loop-next-smaller c =
+    let i = c.loop-next.invariant in
+    let fits = pops_fit c.args.graph.now c.loop-next.order.items (length (heap_items c.args.waiting.now)) c.loop-next.pops (length (heap_items c.loop-next.waiting)) i.few c.requires.few (omega (arith, i.counted)) i.pops in
+    let some = popped_length c.in-Some.field-0 (heap_items c.loop-next.waiting) (heap_items c.pop.new.self) c.in-Some.ensures.permutation in
+    let smaller : most_pops - (c.loop-next.pops + 1) < most_pops - c.loop-next.pops = omega (arith, fits, some) in
+    smaller
+
+pub loop-next-preserved-then-settled-next : goal.loop-next-preserved-then-settled-next
+loop-next-preserved-then-settled-next c =
+    let i = c.loop-next.invariant in
+    let x = c.in-Some.field-0 in
+    let xs = heap_items c.loop-next.waiting in
+    let ys = heap_items c.pop.new.self in
+    let one = popped_length x xs ys c.in-Some.ensures.permutation in
+    record {
+      progress = i.progress;
+      tentatives = i.tentatives;
+      flags = i.flags;
+      few = i.few;
+      counted = i.counted;
+      listed = i.listed;
+      room = i.room;
+      arrived = i.arrived;
+      places = i.places;
+      queue = popped_rest c.args.graph.now.nodes (number_at c.loop-next.tentative) (flag_at c.loop-next.settled) xs ys x i.queue c.in-Some.ensures.permutation (flag_at c.loop-next.settled) c.if-settled-next.true (λ y o. o);
+      order = (c.in-Some.ensures.heap_order i.order).0;
+      pops = omega (arith, one, i.pops);
+      degrees_left = i.degrees_left;
+      no_fewer = omega (arith, i.no_fewer);
+    }
+
+pub relax-requires-clause-fits : goal.relax-requires-clause-fits
+relax-requires-clause-fits c =
+    let i = c.loop-next.invariant in
+    let x = c.in-Some.field-0 in
+    let xs = heap_items c.loop-next.waiting in
+    let ys = heap_items c.pop.new.self in
+    let nearest = popped_nearest c.args.graph.now.nodes (number_at c.loop-next.tentative) (flag_at c.loop-next.settled) xs ys x i.queue c.in-Some.ensures.permutation (c.in-Some.ensures.heap_order i.order).1 c.if-settled-next.false in
+    let le = i.progress.bounded x.0.node x.0.distance nearest.has in
+    omega (arith, le, i.counted, i.few)
+
+pub returns-in_err-relax-clause-tracked : goal.returns-in_err-relax-clause-tracked
+returns-in_err-relax-clause-tracked c =
+    let i = c.loop-next.invariant in
+    let g = c.args.graph.now in
+    let x = c.in-Some.field-0 in
+    let xs = heap_items c.loop-next.waiting in
+    let ys = heap_items c.pop.new.self in
+    let done = c.loop-next.settled in
+    let done_after = set c.loop-next.settled c.in-Some.field-0.0.node true in
+    let within = popped_within g.nodes (number_at c.loop-next.tentative) (flag_at done) xs ys x i.queue c.in-Some.ensures.permutation in
+    let lt : x.0.node < length c.loop-next.settled = omega (arith, within, i.flags) in
+    let rest = popped_rest g.nodes (number_at c.loop-next.tentative) (flag_at done) xs ys x i.queue c.in-Some.ensures.permutation (flag_at done_after) (flag_set_same done x.0.node lt) (λ y o. open_before done x.0.node y lt o) in
+    let queue = c.in_err-relax.ensures.queue (flag_at done_after) rest in
+    subst (λ l. IsTracked g.nodes (number_at c.relax.new.tentative) (flag_at done_after) l (heap_items c.relax.new.waiting)) (sym c.enlist.ensures)
+    (tracked_by g.nodes (number_at c.relax.new.tentative) (flag_at done_after) (c.loop-next.order.items ++ x.0 ∷ []) (heap_items c.relax.new.waiting) queue
+    (complete_push done c.loop-next.order.items x.0 lt i.progress.complete) (All-push (λ s. s.node < g.nodes) c.loop-next.order.items x.0 i.listed within))
+
+pub returns-in_err-reserve-2-clause-tracked : goal.returns-in_err-reserve-2-clause-tracked
+returns-in_err-reserve-2-clause-tracked c =
+    let i = c.loop-next.invariant in
+    let g = c.args.graph.now in
+    let x = c.in-Some.field-0 in
+    let xs = heap_items c.loop-next.waiting in
+    let ys = heap_items c.pop.new.self in
+    let done = c.loop-next.settled in
+    let done_after = set c.loop-next.settled c.in-Some.field-0.0.node true in
+    let within = popped_within g.nodes (number_at c.loop-next.tentative) (flag_at done) xs ys x i.queue c.in-Some.ensures.permutation in
+    let lt : x.0.node < length c.loop-next.settled = omega (arith, within, i.flags) in
+    let rest = popped_rest g.nodes (number_at c.loop-next.tentative) (flag_at done) xs ys x i.queue c.in-Some.ensures.permutation (flag_at done_after) (flag_set_same done x.0.node lt) (λ y o. open_before done x.0.node y lt o) in
+    let queue = c.in_ok-relax.ensures.queue (flag_at done_after) rest in
+    subst (λ l. IsTracked g.nodes (number_at c.relax.new.tentative) (flag_at done_after) l (heap_items c.relax.new.waiting)) (sym (c.in_err-reserve-2.ensures.items ∙ c.enlist.ensures))
+    (tracked_by g.nodes (number_at c.relax.new.tentative) (flag_at done_after) (c.loop-next.order.items ++ x.0 ∷ []) (heap_items c.relax.new.waiting) queue
+    (complete_push done c.loop-next.order.items x.0 lt i.progress.complete) (All-push (λ s. s.node < g.nodes) c.loop-next.order.items x.0 i.listed within))
+
+pub loop-next-preserved : goal.loop-next-preserved
+loop-next-preserved c =
+    let i = c.loop-next.invariant in
+    let g = c.args.graph.now in
+    let Source = IsAtZero c.args.tentative.now in
+    let limit = number_at c.args.limits.now in
+    let x = c.in-Some.field-0 in
+    let xs = heap_items c.loop-next.waiting in
+    let ys = heap_items c.pop.new.self in
+    let done = c.loop-next.settled in
+    let done_after = set c.loop-next.settled c.in-Some.field-0.0.node true in
+    let after = c.relax.new.tentative in
+    let within = popped_within g.nodes (number_at c.loop-next.tentative) (flag_at done) xs ys x i.queue c.in-Some.ensures.permutation in
+    let lt : x.0.node < length c.loop-next.settled = omega (arith, within, i.flags) in
+    let is_open : flag_at c.loop-next.settled x.0.node ≡ false = c.if-settled-next.false in
+    let nearest = popped_nearest g.nodes (number_at c.loop-next.tentative) (flag_at done) xs ys x i.queue c.in-Some.ensures.permutation (c.in-Some.ensures.heap_order i.order).1 is_open in
+    let count = count_set c.loop-next.settled x.0.node lt is_open in
+    let turn = progress_turn g Source limit c.loop-next.tentative after done c.loop-next.order.items x.0 c.nodes-sound.ensures.sound i.progress nearest lt c.in_ok-relax.ensures.relaxed in
+    let pushed : c.reserve-in-Some.new.self.items ≡ c.loop-next.order.items ++ x.0 ∷ [] = c.in_ok-reserve-2.ensures.items ∙ c.enlist.ensures in
+    let one : length (c.loop-next.order.items ++ x.0 ∷ []) ≡ length c.loop-next.order.items + 1 = length_push c.loop-next.order.items x.0 in
+    let len : length c.reserve-in-Some.new.self.items ≡ length c.loop-next.order.items + 1 = ap length pushed ∙ one in
+    let sum : degrees g c.reserve-in-Some.new.self.items ≡ degrees g c.loop-next.order.items + degree_of g x.0.node = ap (degrees g) pushed ∙ degrees_push g c.loop-next.order.items x.0 in
+    let rest = popped_rest g.nodes (number_at c.loop-next.tentative) (flag_at done) xs ys x i.queue c.in-Some.ensures.permutation (flag_at done_after) (flag_set_same done x.0.node lt) (λ y o. open_before done x.0.node y lt o) in
+    let popped = popped_length x xs ys c.in-Some.ensures.permutation in
+    record {
+      progress = subst (Progress g.edges Source limit (number_at after) (flag_at done_after)) (sym pushed) turn;
+      tentatives = c.relax.auto.tentative ∙ i.tentatives;
+      flags = length-set c.loop-next.settled x.0.node true ∙ i.flags;
+      few = i.few;
+      counted = omega (arith, len, count, i.counted);
+      listed = All-same (λ s. s.node < g.nodes) c.reserve-in-Some.new.self.items (c.loop-next.order.items ++ x.0 ∷ []) pushed (All-push (λ s. s.node < g.nodes) c.loop-next.order.items x.0 i.listed within);
+      room = omega (arith, c.in_ok-reserve-2.ensures.ok);
+      arrived = arrivals_turn g c.nodes-sound.ensures.sound Source limit (number_at c.loop-next.tentative) (number_at after) (flag_at done) (flag_at done_after) c.loop-next.order.items i.progress x.0.node x.0.distance nearest c.in_ok-relax.ensures.relaxed
+          (flag_set_same done x.0.node lt) (λ y ne. flag_set_other done x.0.node y ne) (arrival_at c.loop-next.arrivals) (arrival_at c.relax.new.arrivals) i.arrived c.in_ok-relax.ensures.arriving;
+      places = c.relax.auto.arrivals ∙ i.places;
+      queue = c.in_ok-relax.ensures.queue (flag_at done_after) rest;
+      order = c.in_ok-relax.ensures.order (c.in-Some.ensures.heap_order i.order).0;
+      pops = omega (arith, c.in_ok-relax.ensures.length, popped, sum, i.pops);
+      degrees_left = let left = open_degrees_set g done x.0.node lt is_open in omega (arith, sum, left, i.degrees_left);
+      no_fewer = omega (arith, len, i.no_fewer);
+    }
+
+pub returns-clause-order : goal.returns-clause-order
+returns-clause-order c = progress_done c.args.graph.now.edges (IsAtZero c.args.tentative.now) (number_at c.args.limits.now) (number_at c.loop-next.tentative) (flag_at c.loop-next.settled) c.loop-next.order.items c.requires.gentle c.loop-next.invariant.progress
+    (none_waits c.args.graph.now.nodes (number_at c.loop-next.tentative) (flag_at c.loop-next.settled) (heap_items c.loop-next.waiting) c.loop-next.invariant.queue (omega (arith, c.in_default.ensures.none, c.loop-next.waiting.data.ok.0)))
+
+pub returns-clause-distances : goal.returns-clause-distances
+returns-clause-distances c = table_done c.args.graph.now.edges (IsAtZero c.args.tentative.now) (number_at c.args.limits.now) (number_at c.loop-next.tentative) (flag_at c.loop-next.settled) c.loop-next.order.items c.requires.gentle c.loop-next.invariant.progress
+    (none_waits c.args.graph.now.nodes (number_at c.loop-next.tentative) (flag_at c.loop-next.settled) (heap_items c.loop-next.waiting) c.loop-next.invariant.queue (omega (arith, c.in_default.ensures.none, c.loop-next.waiting.data.ok.0)))
+
+pub returns-clause-listing : goal.returns-clause-listing
+returns-clause-listing c = listing_done c.args.graph.now.edges (IsAtZero c.args.tentative.now) (number_at c.args.limits.now) (number_at c.loop-next.tentative) (flag_at c.loop-next.settled) c.loop-next.order.items c.requires.gentle c.loop-next.invariant.progress
+    (none_waits c.args.graph.now.nodes (number_at c.loop-next.tentative) (flag_at c.loop-next.settled) (heap_items c.loop-next.waiting) c.loop-next.invariant.queue (omega (arith, c.in_default.ensures.none, c.loop-next.waiting.data.ok.0)))
+
+pub returns-clause-arrivals : goal.returns-clause-arrivals
+returns-clause-arrivals c = arrivals_done c.args.graph.now (number_at c.loop-next.tentative) (flag_at c.loop-next.settled) (arrival_at c.loop-next.arrivals)
+    (none_waits c.args.graph.now.nodes (number_at c.loop-next.tentative) (flag_at c.loop-next.settled) (heap_items c.loop-next.waiting) c.loop-next.invariant.queue (omega (arith, c.in_default.ensures.none, c.loop-next.waiting.data.ok.0))) c.loop-next.invariant.arrived

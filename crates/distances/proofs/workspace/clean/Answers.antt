@@ -1,0 +1,39 @@
+use Rattle.std.proofs.Common.{◌≡◌, ◌<◌, None, false, [], ◌∷◌, ◌++◌, length, arith, sym, ◌∙◌, length-set}
+use Rattle.std.specs.BinaryHeap.{heap_items}
+use Rattle.distances.specs.Search.{flag_at}
+use Rattle.distances.proofs.Queues.{tracked_listed, tracked_entry, last_listed, first_entry}
+use Rattle.distances.proofs.workspace.clean.Goals as goal
+
+pub loop-listed-preserved : goal.loop-listed-preserved
+loop-listed-preserved c =
+    let i = c.loop-listed.invariant in
+    let x = c.in-Some.listed in
+    let n = length c.args.numbers.now in
+    let last : c.loop-listed.order.items ≡ c.pop.new.self.items ++ c.in-Some.listed ∷ [] = c.in-Some.ensures.items in
+    let lt = last_listed n c.loop-listed.order.items c.pop.new.self.items x last i.tracked.listed in
+    let within : c.in-Some.listed.node < length c.loop-listed.numbers = omega (arith, lt, i.kept) in
+    let flagged : c.in-Some.listed.node < length c.loop-listed.settled = omega (arith, lt, i.kept, i.lengths) in
+    let numbers = length-set c.loop-listed.numbers x.node None in
+    let flags = length-set c.loop-listed.settled x.node false in
+    record {
+      lengths = flags ∙ i.lengths ∙ sym numbers;
+      kept = numbers ∙ i.kept;
+      tracked = tracked_listed n c.loop-listed.numbers c.loop-listed.settled c.loop-listed.order.items c.pop.new.self.items x (heap_items c.args.waiting.now) within flagged last i.tracked;
+    }
+
+pub loop-open-preserved : goal.loop-open-preserved
+loop-open-preserved c =
+    let i = c.loop-open.invariant in
+    let x = c.in-Some-pop.field-0 in
+    let before = heap_items c.loop-open.waiting in
+    let after = heap_items c.pop-in-loop-open.new.self in
+    let n = length c.args.numbers.now in
+    let lt = first_entry n before after x c.in-Some-pop.ensures.permutation i.tracked.entries in
+    let within : c.in-Some-pop.field-0.0.node < length c.loop-open.numbers = omega (arith, lt, i.kept) in
+    let same = length-set c.loop-open.numbers x.0.node None in
+    record {
+      lengths = i.lengths ∙ sym same;
+      kept = same ∙ i.kept;
+      none = i.none;
+      tracked = tracked_entry n c.loop-open.numbers (flag_at c.loop-listed.settled) c.pop.new.self.items before after x within c.in-Some-pop.ensures.permutation i.tracked;
+    }

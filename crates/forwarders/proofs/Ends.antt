@@ -1,0 +1,95 @@
+-- Every packet comes to an end.
+use Rattle.std.proofs.Common.{◌≡◌, ℕ, zero, suc, ◌-◌, ◌<◌, max, eqb, ltb, Option, Some, None, Result, Ok, Err, refl, sym, subst, arith}
+use Rattle.std.proofs.lemmas.Bool.{cond_both, ltb-true, eqb-false}
+use Rattle.heavy_labels.specs.Numbering.{Step, arrived, port, no_parent, no_light, step}
+use Rattle.heavy_labels.specs.Stepped.{record_of}
+use Rattle.node_table.specs.declared.parts.Entry.{Entry}
+use Rattle.node_table.specs.declared.parts.Parts.{Parts}
+use Rattle.node_table.specs.declared.packet.Packet.{Packet}
+use Rattle.node_table.specs.declared.packet.Move.{Move}
+use Rattle.node_table.specs.declared.packet.Move.TheVariants.{Delivered, Forward}
+use Rattle.node_table.specs.declared.packet.Refused as scheme
+use Rattle.node_table.specs.declared.packet.Refused.TheVariants.{NoNode, Stray, Spent}
+use Rattle.node_table.specs.Tables.{Tables, tables}
+use Rattle.node_table.specs.Service.{node_step, move_at, move_by, forward_over, one_less}
+use Rattle.generations.specs.Boards.{scheme_of}
+use Rattle.forwarders.specs.declared.refused.Refused.{Refused}
+use Rattle.forwarders.specs.Answers.{Shelf, by, by_name, hop_at}
+use Rattle.forwarders.specs.Laws.{EndsUnless, EndsWithin, EveryPacketEnds, nodes_of}
+
+-- ---- one hop less
+
+-- an answer by which a packet goes on with one hop less, if it goes on: some were left, and fewer than n
+abbrev pub HasOneLess : {E : Type 0} → ℕ → Packet → Result Move E → Type 0
+HasOneLess n k (Err e) = Unit {0}
+HasOneLess n k (Ok Delivered) = Unit {0}
+HasOneLess n k (Ok (Forward q y j)) = (j ≡ one_less k) × ((0 < k.hops_left) × (k.hops_left < n))
+
+over_port : (n : ℕ) (k : Packet) (q : ℕ) (o : Option ℕ) → k.hops_left < n → HasOneLess n k (forward_over k q o)
+over_port n k q None lt = tt
+over_port n k q (Some y) lt =
+    cond_both (eqb k.hops_left 0) (Err Spent) (Ok (Forward q y (one_less k))) (HasOneLess n k) (λ _. tt)
+    (λ e. (refl, (omega (arith, eqb-false _ _ e), lt)))
+
+by_step : (t : Tables) (x : ℕ) (k : Packet) (s : Step) → k.hops_left < t.nodes → HasOneLess t.nodes k (move_by t x k s)
+by_step t x k arrived lt = cond_both (eqb x k.destination) (Ok Delivered) (Err Stray) (HasOneLess t.nodes k) (λ _. tt) (λ _. tt)
+by_step t x k (port q) lt = over_port t.nodes k q (t.over x q) lt
+by_step t x k no_parent lt = tt
+by_step t x k no_light lt = tt
+
+by_entry : (t : Tables) (x : ℕ) (k : Packet) (o : Option Entry) → k.hops_left < t.nodes → HasOneLess t.nodes k (move_at t x k o)
+by_entry t x k None lt = tt
+by_entry t x k (Some e) lt = by_step t x k (step (record_of e.tree_record) k.label) lt
+
+stepped : (t : Tables) (x : ℕ) (k : Packet) → HasOneLess t.nodes k (node_step t x k)
+stepped t x k =
+    cond_both (ltb x t.nodes) _ (Err NoNode) (HasOneLess t.nodes k)
+    (λ _. cond_both (ltb k.hops_left t.nodes) (move_at t x k (t.entry x k.root)) (Err Stray) (HasOneLess t.nodes k) (λ e. by_entry t x k (t.entry x k.root) (ltb-true _ _ e)) (λ _. tt))
+    (λ _. tt)
+
+as_named : (n : ℕ) (k : Packet) (r : Result Move scheme.Refused) → HasOneLess n k r → HasOneLess n k (by_name r)
+as_named n k (Err e) h = tt
+as_named n k (Ok Delivered) h = tt
+as_named n k (Ok (Forward q y j)) h = h
+
+-- what a forwarder answers
+pub hop_has_one_less : (shelf : Shelf) (x : ℕ) (k : Packet) → HasOneLess (nodes_of (scheme_of k.generation shelf)) k (hop_at x k shelf)
+hop_has_one_less shelf x k = found (scheme_of k.generation shelf)
+  where
+    more : (n : ℕ) (r : Result Move Refused) → HasOneLess n k r → HasOneLess (max 1 n) k r
+    more n (Err e) h = tt
+    more n (Ok Delivered) h = tt
+    more n (Ok (Forward q y j)) h = (h.0, (h.1.0, omega (arith, h.1.1)))
+
+    found : (o : Option Parts) → HasOneLess (nodes_of o) k (by (λ t. node_step t x k) o)
+    found None = tt
+    found (Some p) = more p.nodes (by_name (node_step (tables p) x k)) (as_named p.nodes k (node_step (tables p) x k) (stepped (tables p) x k))
+
+-- ---- the end
+
+ends_by : (Next : ℕ → Packet → Type 0) (n : ℕ) (k : Packet) (r : Result Move Refused) → HasOneLess n k r
+    → ((y : ℕ) → 0 < k.hops_left → k.hops_left < n → Next y (one_less k)) → EndsUnless Next r
+ends_by Next n k (Err e) h next = tt
+ends_by Next n k (Ok Delivered) h next = tt
+ends_by Next n k (Ok (Forward q y j)) h next = subst (Next y) (sym h.0) (next y h.1.0 h.1.1)
+
+ends_left : (n : ℕ) (shelf : Shelf) (x : ℕ) (k : Packet) (p : Parts) → scheme_of k.generation shelf ≡ Some p → k.hops_left < n → EndsWithin n shelf x k
+ends_left zero shelf x k p e lt = absurd (omega (arith, lt))
+ends_left (suc n) shelf x k p e lt =
+    subst (λ (o : Option Parts). EndsUnless (EndsWithin n shelf) (by (λ t. node_step t x k) o)) (sym e)
+    (ends_by (EndsWithin n shelf) p.nodes k (by_name (node_step (tables p) x k)) (as_named p.nodes k (node_step (tables p) x k) (stepped (tables p) x k))
+    (λ y some few. ends_left n shelf y (one_less k) p e (omega (arith, some, lt))))
+
+ends : (shelf : Shelf) (x : ℕ) (k : Packet) (o : Option Parts) → scheme_of k.generation shelf ≡ o → EndsWithin (nodes_of o) shelf x k
+ends shelf x k None e = subst (λ (o : Option Parts). EndsUnless (EndsWithin 0 shelf) (by (λ t. node_step t x k) o)) (sym e) tt
+ends shelf x k (Some p) e =
+    let n = max 1 p.nodes - 1 in
+    let all : suc n ≡ max 1 p.nodes = omega arith in
+    subst (λ m. EndsWithin m shelf x k) all (
+    subst (λ (o : Option Parts). EndsUnless (EndsWithin n shelf) (by (λ t. node_step t x k) o)) (sym e)
+    (ends_by (EndsWithin n shelf) p.nodes k (by_name (node_step (tables p) x k)) (as_named p.nodes k (node_step (tables p) x k) (stepped (tables p) x k))
+    (λ y some few. ends_left n shelf y (one_less k) p e (omega (arith, some, few))))
+    )
+
+pub every_packet_ends : EveryPacketEnds
+every_packet_ends shelf x k = ends shelf x k (scheme_of k.generation shelf) refl

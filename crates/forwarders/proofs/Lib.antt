@@ -1,0 +1,4 @@
+pub mod Ends
+pub mod ByteEnds
+pub mod Gone
+pub mod Looks

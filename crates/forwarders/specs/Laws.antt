@@ -1,0 +1,69 @@
+-- Laws of forwarding at one board.
+use Rattle.std.specs.Prelude.{◌≡◌, ◌↔◌, ℕ, zero, suc, List, Option, Some, None, Result, Ok, Err, max}
+use Rattle.node_table.specs.declared.parts.Parts.{Parts}
+use Rattle.node_table.specs.declared.packet.Address.{Address}
+use Rattle.node_table.specs.declared.packet.Packet.{Packet}
+use Rattle.node_table.specs.declared.packet.Move.{Move}
+use Rattle.node_table.specs.declared.packet.Move.TheVariants as packets
+use Rattle.packet_bytes.specs.declared.wire.WireRefused.{WireRefused}
+use Rattle.packet_bytes.specs.Refusals.{packet_refusal}
+use Rattle.packet_bytes.specs.Spelling.{SpellsPacket}
+use Rattle.generations.specs.Boards.{scheme_of}
+use Rattle.forwarders.specs.declared.refused.Refused.{Refused}
+use Rattle.forwarders.specs.declared.refused.Refused.TheVariants.{GenerationGone}
+use Rattle.forwarders.specs.declared.refused.BytesRefused.{BytesRefused}
+use Rattle.forwarders.specs.declared.in_bytes.ByteMove.{ByteMove}
+use Rattle.forwarders.specs.declared.in_bytes.ByteMove.TheVariants.{Delivered, Forward}
+use Rattle.forwarders.specs.Answers.{Shelf, IsOnShelf, address_at, launch_at, hop_at}
+use Rattle.forwarders.specs.ByteAnswers.{IsByteHop}
+
+-- the number of nodes of a generation's scheme, and at least 1
+abbrev pub nodes_of : Option Parts → ℕ
+nodes_of None = 1
+nodes_of (Some p) = max 1 p.nodes
+
+-- an answer ends the packet's way, unless the packet goes on to a node where this holds
+abbrev pub EndsUnless : (ℕ → Packet → Type 0) → Result Move Refused → Type 0
+EndsUnless Next (Err e) = Unit {0}
+EndsUnless Next (Ok packets.Delivered) = Unit {0}
+EndsUnless Next (Ok (packets.Forward port y k)) = Next y k
+
+-- passed from node to node, the packet is delivered or refused by one of the next n calls
+abbrev pub EndsWithin : ℕ → Shelf → ℕ → Packet → Type 0
+EndsWithin zero shelf x k = ⊥
+EndsWithin (suc n) shelf x k = EndsUnless (EndsWithin n shelf) (hop_at x k shelf)
+
+-- the same of bytes
+abbrev pub BytesEndUnless : (ℕ → List ℕ → Type 0) → Result ByteMove BytesRefused → Type 0
+BytesEndUnless Next (Err e) = Unit {0}
+BytesEndUnless Next (Ok Delivered) = Unit {0}
+BytesEndUnless Next (Ok (Forward port y bytes)) = Next y bytes
+
+-- the same of bytes: passed from node to node, they are delivered or refused by one of the next n calls
+abbrev pub BytesEndWithin : ℕ → Shelf → ℕ → List ℕ → Type 0
+BytesEndWithin zero shelf x bytes = ⊥
+BytesEndWithin (suc n) shelf x bytes = (result : Result ByteMove BytesRefused) → IsByteHop shelf x bytes result → BytesEndUnless (BytesEndWithin n shelf) result
+
+-- every packet comes to an end within as many calls as its generation has nodes, whatever it holds
+abbrev pub EveryPacketEnds : Type 0
+EveryPacketEnds = (shelf : Shelf) (x : ℕ) (k : Packet) → EndsWithin (nodes_of (scheme_of k.generation shelf)) shelf x k
+
+-- bytes that are no packet are refused by the first call
+abbrev pub UnreadBytesEnd : Type 0
+UnreadBytesEnd = (shelf : Shelf) (x : ℕ) (bytes : List ℕ) (refused : WireRefused) → packet_refusal bytes ≡ Some refused → BytesEndWithin 1 shelf x bytes
+
+-- a packet's bytes come to an end within as many calls as its generation has nodes
+abbrev pub PacketBytesEnd : Type 0
+PacketBytesEnd = (shelf : Shelf) (x : ℕ) (bytes : List ℕ) (k : Packet) → SpellsPacket bytes k → BytesEndWithin (nodes_of (scheme_of k.generation shelf)) shelf x bytes
+
+-- a generation is gone exactly where no place of the shelf has its number
+abbrev pub HopGone : Type 0
+HopGone = (shelf : Shelf) (x : ℕ) (k : Packet) → (hop_at x k shelf ≡ Err GenerationGone) ↔ (¬ (IsOnShelf k.generation shelf))
+
+-- so it is at a launch
+abbrev pub LaunchGone : Type 0
+LaunchGone = (shelf : Shelf) (u : ℕ) (a : Address) → (launch_at u a shelf ≡ Err GenerationGone) ↔ (¬ (IsOnShelf a.generation shelf))
+
+-- and where an address is asked for
+abbrev pub AddressGone : Type 0
+AddressGone = (shelf : Shelf) (generation v : ℕ) → (address_at generation v shelf ≡ Err GenerationGone) ↔ (¬ (IsOnShelf generation shelf))

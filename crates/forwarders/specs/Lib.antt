@@ -1,0 +1,4 @@
+pub mod Answers
+pub mod ByteAnswers
+pub mod Forwarders
+pub mod Laws

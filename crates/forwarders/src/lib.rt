@@ -1,0 +1,35 @@
+//! Forwarders: what nodes do with packets, by the board that they look at.
+//!
+//! A [`Forwarder`] looks at the board by a reader of its own. What it answers is a function of the shelf that it looks
+//! at (`specs/Answers`), and a public function on a [`generations::Board`]: [`latest_on`], [`address_on`], [`launch_on`]
+//! and [`hop_on`]. An address is launched, and a packet is passed on, by the scheme of its own generation, or refused
+//! where that generation has left the shelf. A refused packet comes back as it was.
+//!
+//! The contract that the layers above use: each answer is that of the board after the beginning of its list that the
+//! forwarder then knows, which goes on from all that it saw or was told; or it is [`Refused::BoardShut`].
+//! [`Forwarder::hop_bytes`] does the same with packets in bytes: what it writes is the spelling of the packet that
+//! [`Forwarder::hop`] gives. No call takes memory or waits. That every packet comes to an end, whatever it holds, is the
+//! contract of [`forwarding_laws`].
+//!
+//! ```text
+//! let mut forwarder = Forwarder::new(reader);
+//! forwarder.learn(&told);
+//! let newest = forwarder.latest()?;                       // Some(1)
+//! let address = forwarder.address(1, 4)?;                 // where node 4 is to be found in generation 1
+//! let packet = forwarder.launch(0, &address)?;            // node 0 sends
+//! forwarder.hop(0, packet)                                // Forward { port: 0, next: 1, packet }
+//! forwarder.hop_bytes(1, &bytes)                          // the same in bytes
+//! ```
+#![tactic(auto)]
+
+mod answers;
+mod forwarder;
+mod in_bytes;
+mod laws;
+mod refused;
+
+pub use answers::{address_on, hop_on, latest_on, launch_on};
+pub use forwarder::Forwarder;
+pub use in_bytes::ByteMove;
+pub use laws::forwarding_laws;
+pub use refused::{BytesRefused, Refused};

@@ -1,0 +1,108 @@
+// Schemes, and a board with some posted.
+ghost use Rattle.std.specs.Prelude.{◌≡◌, ◌+◌, ◌<◌, ◌≤◌, [], length};
+ghost use Rattle.forwarding_tests.specs.InARow.{IsInARow};
+
+use forwarders::{ByteMove, BytesRefused, Forwarder};
+use generations::{BoardWriter, Posting};
+use graph_edits::{Change, Graph, MOST_NODES, Op};
+use landmarks::Landmarks;
+use node_table::{Scheme, build};
+use packet_bytes::PACKET_SIZE;
+use std::alloc::Global;
+use std::process::Abort;
+use std::sync::{Arc, Wait};
+
+/// The edges of a network, each of one weight.
+pub(crate) type Edge = (u16, u16, u32);
+
+pub(crate) const PATH_OF_FIVE: [Edge; 4] = [(0, 1, 1), (1, 2, 1), (2, 3, 1), (3, 4, 1)];
+
+/// The scheme of these edges with one landmark.
+pub(crate) fn scheme_of(
+    rt: &impl Abort,
+    alloc: Global,
+    nodes: u16,
+    edges: &[Edge],
+    landmark: u16,
+    generation: u64,
+) -> Scheme {
+    assert!(rt; 1 <= nodes && nodes <= MOST_NODES);
+    let mut graph = Graph::empty(alloc, nodes).expect(rt, "memory");
+    for (a, b, weight) in edges {
+        let change = Change::new(&[Op::Add(*a, *b, *weight)]).expect(rt, "a change");
+        let _taken = graph.apply(&change);
+    }
+    let mut words = Vec::new(alloc);
+    for v in 0..nodes {
+        let word = if v == landmark { 0u64 } else { u64::MAX };
+        words.push(word).expect(rt, "memory");
+    }
+    assert!(rt; 1 <= words.len());
+    let landmarks = Landmarks::choose(alloc, words.len(), &words).expect(rt, "memory");
+    let nodes = graph.nodes() as usize;
+    let marked = landmarks.flags().len();
+    assert!(rt; marked == nodes);
+    build(alloc, &graph, &landmarks, generation, alloc).expect(rt, "memory")
+}
+
+/// Posts the next generation of the path of five nodes.
+pub(crate) fn post_next<R: Wait + Drop>(
+    rt: &impl Abort,
+    alloc: Global,
+    writer: &mut BoardWriter<R>,
+    posted: u64,
+)
+    requires row { IsInARow writer.old posted }
+    requires few { posted < 1000 }
+    ensures opening { writer.new.opening ≡ writer.old.opening }
+    ensures row { IsInARow writer.new (posted + 1) }
+{
+    let number = posted + 1;
+    let scheme = scheme_of(rt, alloc, 5, &PATH_OF_FIVE, 2, number);
+    let scheme = Arc::new(alloc, scheme).expect(rt, "memory");
+    let _kept = writer.kept();
+    let Ok(()) = writer.post(Posting::Generation { number, scheme }) else {
+        panic!(rt; "no post");
+    };
+}
+
+/// Posts the generations of the path behind the one that was posted last, up to this one.
+pub(crate) fn post_up_to<R: Wait + Drop>(
+    rt: &impl Abort,
+    alloc: Global,
+    writer: &mut BoardWriter<R>,
+    posted: u64,
+    last: u64,
+)
+    requires row { IsInARow writer.old posted }
+    requires more { posted ≤ last }
+    requires few { last < 1000 }
+    ensures opening { writer.new.opening ≡ writer.old.opening }
+    ensures row { IsInARow writer.new last }
+{
+    for number in posted..last {
+        post_next(rt, alloc, writer, number);
+    }
+}
+
+/// The calls that a packet's way took, the node of the last one, and why it was refused there, if it wasn't delivered.
+pub(crate) fn way(
+    rt: &impl Abort,
+    forwarder: &mut Forwarder,
+    from: u16,
+    packet: [u8; PACKET_SIZE],
+) -> (usize, u16, Option<BytesRefused>) {
+    let mut at = from;
+    let mut spelled = packet;
+    for calls in 1..6usize {
+        match forwarder.hop_bytes(at, &spelled) {
+            Ok(ByteMove::Delivered) => return (calls, at, None),
+            Ok(ByteMove::Forward { next, bytes, .. }) => {
+                at = next;
+                spelled = bytes;
+            }
+            Err(refused) => return (calls, at, Some(refused)),
+        }
+    }
+    panic!(rt; "a way without an end");
+}

@@ -1,0 +1,86 @@
+// Two forwarders in threads while a writer posts.
+ghost use Rattle.std.specs.Prelude.{◌≡◌, []};
+
+use crate::posted::{post_next, post_up_to};
+use forwarders::{Forwarder, Refused};
+use generations::board;
+use node_table::Move;
+use requests::SESSIONS;
+use std::test::Fail;
+use std::thread;
+
+/// How many packets each forwarder carries.
+const TRIPS: usize = 200;
+
+/// One packet from node 0 to node 4 in the newest generation, all the way: whether it was delivered there.
+fn trip(forwarder: &mut Forwarder) -> Result<bool, Refused> {
+    let Some(newest) = forwarder.latest()? else {
+        return Ok(false);
+    };
+    let address = forwarder.address(newest, 4)?;
+    let mut packet = forwarder.launch(0, &address)?;
+    let mut at = 0;
+    for _ in 0..5 {
+        match forwarder.hop(at, packet) {
+            Ok(Move::Delivered) => return Ok(at == 4 && newest == address.generation),
+            Ok(
+                Move::Forward {
+                    next,
+                    packet: left,
+                    ..
+                },
+            ) => {
+                at = next;
+                packet = left;
+            }
+            Err((refused, _)) => return Err(refused),
+        }
+    }
+    Ok(false)
+}
+
+/// Whether a trip ended well. A trip whose generation left the shelf meanwhile is begun again.
+fn ends_well(forwarder: &mut Forwarder) -> bool {
+    for _ in 0..1000 {
+        match trip(forwarder) {
+            Ok(well) => return well,
+            Err(Refused::GenerationGone | Refused::BoardShut) => {}
+            Err(_) => return false,
+        }
+    }
+    false
+}
+
+/// How many trips ended well, up to the first that didn't.
+fn trips(mut forwarder: Forwarder) -> usize {
+    for done in 0..TRIPS {
+        if !ends_well(&mut forwarder) {
+            return done;
+        }
+    }
+    TRIPS
+}
+
+#[test]
+fn two_forwarders_while_a_writer_posts(rt: HostRuntime) -> Result<(), Fail> {
+    let alloc = rt.alloc();
+    let (mut writer, mut readers) = board(alloc, rt, 2, &[0; SESSIONS], 0)?;
+    post_next(&rt, alloc, &mut writer, 0);
+    let (Some(one), Some(two)) = (readers.pop(), readers.pop()) else {
+        panic!(&rt; "no readers");
+    };
+    let (mut one, mut two) = (Forwarder::new(one), Forwarder::new(two));
+    one.learn(&writer.tell());
+    two.learn(&writer.tell());
+    let Ok(first) = thread::spawn(&rt, move || trips(one)) else {
+        panic!(&rt; "no thread");
+    };
+    let Ok(second) = thread::spawn(&rt, move || trips(two)) else {
+        first.join(&rt);
+        panic!(&rt; "no thread");
+    };
+    post_up_to(&rt, alloc, &mut writer, 1, 60);
+    assert_eq!(&rt; first.join(&rt), TRIPS);
+    assert_eq!(&rt; second.join(&rt), TRIPS);
+    Ok(())
+}

@@ -1,0 +1,14 @@
+pub mod Notices
+pub mod Boards
+pub mod Shelves
+pub mod Beginnings
+pub mod Lawful
+pub mod Laws
+pub mod Rules
+pub mod Shares
+pub mod Knowledges
+pub mod Misses
+pub mod Posts
+pub mod Waits
+pub mod Writes
+pub mod Refusals

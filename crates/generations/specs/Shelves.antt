@@ -1,0 +1,19 @@
+-- The shelf of the newest generations.
+use Rattle.std.specs.Prelude.{ℕ, ◌-◌, List, length, drop, Option, Some, None}
+use Rattle.std.specs.Arc.{arc_value}
+use Rattle.node_table.specs.declared.parts.Parts.{Parts}
+use Rattle.generations.specs.declared.fold.TheConstants.{MOST_SHELVED}
+use Rattle.generations.specs.declared.fold.Shelved.{Shelved}
+
+-- how many generations stand on the shelf at most
+abbrev pub most_shelved : ℕ
+most_shelved = MOST_SHELVED
+
+-- a place of the shelf, as its number and its scheme's tables
+abbrev pub plain : Option Shelved → Option (ℕ × Parts)
+plain None = None
+plain (Some g) = Some (g.number, arc_value g.scheme)
+
+-- the newest of a list, as many as the shelf has room for
+abbrev pub newest : {A : Type 0} → List A → List A
+newest xs = drop (length xs - most_shelved) xs

@@ -1,0 +1,2 @@
+pub mod InTurns
+pub mod Refusals

@@ -1,0 +1,50 @@
+-- An editor, as contracts see it.
+use Rattle.std.specs.Prelude.{ℕ, ◌≡◌, ◌⊎◌, ◌+◌, List, [], ◌∷◌, Option, Some, None}
+use Rattle.atomic_table.specs.Seated.{TableId}
+use Rattle.requests.specs.Tickets.{last_of}
+use Rattle.requests.specs.declared.request.Request.{Request}
+use Rattle.generations.specs.Beginnings.{Beginning, board_after}
+use Rattle.generations.specs.Knowledges.{Knowledge}
+use Rattle.intake.specs.declared.editor.Editor.TheInside.{Inside}
+use Rattle.intake.specs.declared.outcome.SubmitRefused.{SubmitRefused}
+use Rattle.intake.specs.declared.outcome.SubmitRefused.TheVariants.{BoardShut, QueueFull}
+use Rattle.intake.specs.Turns.{last_asked}
+use Rattle.intake.specs.Outcomes.{refusal_on}
+
+-- what contracts see of an editor
+pub record Editing : Type 0 where
+  pub queue : TableId
+  pub session : ℕ
+  pub start : ℕ
+  -- the requests that it submitted in this opening
+  pub put : List Request
+  -- how often it found the queue full
+  pub fulls : ℕ
+  -- the postings that it saw or was told of
+  pub known : Beginning
+
+-- an editor, by its parts
+abbrev pub editing : Inside → Editing
+editing e = record { queue = e.sender.queue; session = e.sender.session; start = e.sender.start; put = e.sender.put; fulls = e.sender.fulls; known = e.known }
+
+-- the reader is there, and knows this
+abbrev pub HasReader : Beginning → Option Knowledge → Type 0
+HasReader known None = ⊥
+HasReader known (Some r) = r.all ≡ known
+
+-- the last ticket is that of what it put, and its reader is there between two calls
+abbrev pub IsEditing : Inside → Type 0
+IsEditing e = (e.last ≡ last_asked e.sender.put) × HasReader e.known e.reader
+
+-- an editor for each reader, of the sessions from n on, before any of them has submitted anything
+abbrev pub editors_from : TableId → List ℕ → ℕ → List Knowledge → List Editing
+editors_from q starts n [] = []
+editors_from q starts n (r ∷ rs) = record { queue = q; session = n; start = last_of starts n; put = []; fulls = 0; known = r.all } ∷ editors_from q starts (n + 1) rs
+
+-- what refuses a ticket of this editor, on the board after this beginning, the queue aside
+abbrev pub refusal_by : Beginning → Editing → ℕ → Option SubmitRefused
+refusal_by seen e ticket = refusal_on (board_after seen) e.session e.start (last_asked e.put) ticket
+
+-- why a change wasn't submitted: the board was shut; or the board as looked at refuses it; or that lets it in, and the queue was found full
+abbrev pub IsRefused : Beginning → Editing → ℕ → SubmitRefused → Type 0
+IsRefused seen e ticket refusal = (refusal ≡ BoardShut) ⊎ ((refusal_by seen e ticket ≡ Some refusal) ⊎ ((refusal ≡ QueueFull) × (refusal_by seen e ticket ≡ None)))

@@ -1,0 +1,26 @@
+-- What holds of the fields of the ends of the queue.
+use Rattle.std.specs.Prelude.{◌≡◌, true, length, map}
+use Rattle.std.specs.Arc.{arc_value}
+use Rattle.crossbeam_queue.specs.Passes.{view, IsPassOf}
+use Rattle.requests.specs.Tickets.{Rises}
+use Rattle.requests.specs.Requests.{asked_by}
+use Rattle.intake.specs.declared.queue.Sender.TheInside as ed
+use Rattle.intake.specs.declared.queue.Taker.TheInside as tk
+use Rattle.intake.specs.Turns.{editor}
+use Rattle.intake.specs.Ends.{Sending, Taking}
+
+-- an editor's end, by its seat in the queue
+abbrev pub sender : ed.Inside → Sending
+sender e = record { queue = e.pass.table_id; session = e.session; start = e.start; put = (view e.pass).put; fulls = length (view e.pass).misses }
+
+-- its seat is one of this queue, and knows what the editor put
+abbrev pub IsSender : ed.Inside → Type 0
+IsSender e = IsPassOf (arc_value e.queue) e.pass × (view e.pass ≡ editor e.session e.start (view e.pass).put (view e.pass).misses)
+
+-- the end that takes, by its seat in the queue
+abbrev pub receiver : tk.Inside → Taking
+receiver t = record { queue = t.pass.table_id; starts = (view t.pass).starts; made = (view t.pass).made; got = (view t.pass).got; empties = length (view t.pass).misses }
+
+-- its seat is the one of this queue that takes, and the tickets of what it took rise from the starts
+abbrev pub IsTaker : tk.Inside → Type 0
+IsTaker t = IsPassOf (arc_value t.queue) t.pass × ((view t.pass).takes ≡ true) × Rises (view t.pass).starts (map asked_by (view t.pass).got)

@@ -1,0 +1,5 @@
+pub mod Turns
+pub mod Ends
+pub mod Insides
+pub mod Outcomes
+pub mod Editors

@@ -1,0 +1,66 @@
+-- The rule of the intake: what was taken, followed by what waits, has each editor's requests, in that editor's order, each
+-- once, and no others; and each session's tickets rise above its start.
+use Rattle.std.specs.Prelude.{◌≡◌, ℕ, ◌+◌, ◌<◌, ◌≤◌, ◌==◌, Bool, true, false, List, [], ◌∷◌, ◌++◌, length, filter, map, Option as Optional, None}
+use Rattle.std.specs.List.{last_or}
+use Rattle.std.specs.Option.{unwrap_or}
+use mathlib.Core.Option.{Option, none, some}
+use lib.ListN.{get_elem?}
+use Rattle.requests.specs.Tickets.{sessions, last_of, Rises}
+use Rattle.requests.specs.Requests.{asked_by}
+use Rattle.requests.specs.declared.request.Request.{Request}
+use Rattle.intake.specs.declared.queue.View.{View}
+
+-- the requests of one session, in order
+abbrev pub of : ℕ → List Request → List Request
+of s rs = filter (λ r. r.session == s) rs
+
+-- the ticket of the last request, where there is one
+abbrev pub last_asked : List Request → Optional ℕ
+last_asked rs = last_or None (map (λ r. r.ticket) rs)
+
+-- the ticket of the last request, or the start
+abbrev pub last_or_start : ℕ → List Request → ℕ
+last_or_start start rs = unwrap_or (last_asked rs) start
+
+-- a pass that takes no part
+abbrev pub idle : View
+idle = record { sends = false; session = 0; start = 0; put = []; takes = false; made = 0; starts = []; next = 0; got = []; misses = [] }
+
+-- the taker
+abbrev pub taker : ℕ → List ℕ → List Request → List ℕ → View
+taker made starts got misses = record { sends = false; session = 0; start = 0; put = []; takes = true; made = made; starts = starts; next = 0; got = got; misses = misses }
+
+-- the taker before there is an editor, while the starts are told
+abbrev pub opener : List ℕ → ℕ → View
+opener starts next = record { sends = false; session = 0; start = 0; put = []; takes = true; made = 0; starts = starts; next = next; got = []; misses = [] }
+
+-- an editor
+abbrev pub editor : ℕ → ℕ → List Request → List ℕ → View
+editor session start put misses = record { sends = true; session = session; start = start; put = put; takes = false; made = 0; starts = []; next = 0; got = []; misses = misses }
+
+-- the queue was found full, or empty, once more
+abbrev pub missed : View → View
+missed v = record { sends = v.sends; session = v.session; start = v.start; put = v.put; takes = v.takes; made = v.made; starts = v.starts; next = v.next; got = v.got; misses = v.misses ++ 0 ∷ [] }
+
+-- the taker with what an editor knew that has ended
+abbrev pub both : View → View → View
+both v w = record { sends = true; session = w.session; start = w.start; put = w.put; takes = true; made = v.made; starts = v.starts; next = v.next; got = v.got; misses = v.misses }
+
+-- an editor's session is there, and starts where the starts say
+abbrev pub IsSeat : List ℕ → View → Type 0
+IsSeat starts v = (v.session < sessions) × ((v.session < length starts) × (v.start ≡ last_of starts v.session))
+
+-- each editor has one pass, which knows what it has put
+abbrev pub FitsEditor : List ℕ → (ℕ → Option ℕ) → List Request → ℕ → View → Type 0
+FitsEditor starts seat all pass v = v.sends ≡ true → (seat v.session ≡ some pass) × (v.put ≡ of v.session all) × IsSeat starts v
+
+-- the one taker knows the starts, what it has taken, and that no session from `made` on has put anything
+abbrev pub FitsTaker : ℕ → List ℕ → (ℕ → Option ℕ) → List Request → List Request → ℕ → View → Type 0
+FitsTaker reader starts seat got all pass v = v.takes ≡ true → (pass ≡ reader) × (v.got ≡ got) × (v.starts ≡ starts) × ((s : ℕ) → v.made ≤ s → (seat s ≡ none) × (of s all ≡ []))
+
+-- the rule of the queue: what was taken, followed by what waits, is of each session what its editor put, and its tickets rise from the starts
+abbrev pub Holds : List Request → List View → Type 0
+Holds items views =
+    (reader : ℕ) × (starts : List ℕ) × (seat : ℕ → Option ℕ) × (got : List Request)
+    × ((pass : ℕ) (v : View) → get_elem? views pass ≡ some v → FitsEditor starts seat (got ++ items) pass v × FitsTaker reader starts seat got (got ++ items) pass v)
+    × Rises starts (map asked_by (got ++ items))

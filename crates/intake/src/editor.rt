@@ -1,0 +1,201 @@
+// Editors: they put requests into the queue, and look at the board for what became of them.
+ghost use Rattle.std.specs.Prelude.{◌≡◌, ◌+◌, ◌++◌, ◌∷◌, [], IfOk, IfErr, OnOk, OnErr, None, List};
+ghost use Rattle.generations.specs.Beginnings.{GoesOn, board_after};
+ghost use Rattle.intake.specs.Turns.{last_asked, of};
+ghost use Rattle.requests.specs.declared.request.Request.{Request};
+ghost use Rattle.intake.specs.Outcomes.{outcome_on};
+ghost use Rattle.intake.specs.declared.outcome.SubmitRefused.TheVariants.{QueueFull};
+
+use crate::outcome::{Outcome, SubmitRefused, outcome_of, refusal_of};
+use crate::queue::{Sender, Taker};
+use generations::{BoardReader, History, Shut, Told};
+use graph_edits::Change;
+use requests::Request;
+use std::marker::Model;
+use std::sync::Wait;
+
+/// An editor of one session. Contracts see its session, where its tickets start, the requests that it submitted, and the postings
+/// that it saw or was told of.
+#[derive(Drop)]
+pub struct Editor {
+    sender: Sender,
+    /// Between two calls it is there.
+    reader: Option<BoardReader>,
+    known: History,
+    /// The last ticket that it submitted.
+    last: Option<u64>,
+}
+
+impl Model for Editor {
+    ghost use Rattle.intake.specs.Editors.{Editing, editing, IsEditing};
+
+    ghost Value = { Editing };
+
+    ghost view = { editing };
+
+    ghost invariant = { IsEditing };
+}
+
+impl Editor {
+    ghost use Rattle.intake.specs.Editors.{IsRefused, refusal_by};
+
+    // An editor that has submitted nothing.
+    pub(crate) fn new(sender: Sender, reader: BoardReader) -> Editor
+        requires { sender.put ≡ [] }
+        ensures { result ≡ record { queue = sender.queue; session = sender.session; start = sender.start; put = []; fulls = sender.fulls; known = reader.all } }
+    {
+        let known = reader.known();
+        Editor {
+            sender,
+            reader: Some(reader),
+            known,
+            last: None,
+        }
+    }
+
+    /// Its session.
+    pub fn session(&self) -> u8
+        ensures { result ≡ self.now.session }
+    {
+        self.sender.session()
+    }
+
+    /// The last ticket of its session that was in when the store was opened: the first one to submit is above it.
+    pub fn resume(&self) -> u64
+        ensures { result ≡ self.now.start }
+    {
+        self.sender.start()
+    }
+
+    /// From now on it sees no less than what was told. It takes no memory and waits for nobody.
+    pub fn learn(&mut self, told: &Told)
+        requires { told.now.opening ≡ self.old.known.opening }
+        ensures same { self.new ≡ record { queue = self.old.queue; session = self.old.session; start = self.old.start; put = self.old.put; fulls = self.old.fulls; known = self.new.known } }
+        ensures kept { GoesOn self.old.known self.new.known }
+        ensures learnt { GoesOn told.now self.new.known }
+    {
+        let Some(mut reader) = self.reader.take() else {
+            unreachable!()
+        };
+        reader.learn(told);
+        self.known = reader.known();
+        self.reader = Some(reader);
+    }
+
+    /// What became of the last change that it submitted. It takes no memory and waits for nobody.
+    pub fn outcome(&mut self) -> Result<Outcome, Shut>
+        ensures same { self.new ≡ record { queue = self.old.queue; session = self.old.session; start = self.old.start; put = self.old.put; fulls = self.old.fulls; known = self.new.known } }
+        ensures kept { GoesOn self.old.known self.new.known }
+        ensures outcome { IfOk result (λ o. o ≡ outcome_on (board_after self.new.known) self.new.session (last_asked self.new.put)) }
+    {
+        let Some(reader) = self.reader.take() else {
+            unreachable!()
+        };
+        match reader.look() {
+            Ok(look) => {
+                let outcome = outcome_of(look.board(), self.sender.session(), self.last);
+                let reader = look.leave();
+                self.known = reader.known();
+                self.reader = Some(reader);
+                Ok(outcome)
+            }
+            Err((shut, reader)) => {
+                self.reader = Some(reader);
+                Err(shut)
+            }
+        }
+    }
+
+    // What the board says of a ticket: why it isn't let in.
+    fn judge(&mut self, ticket: u64) -> Result<Option<SubmitRefused>, Shut>
+        ensures same { self.new ≡ record { queue = self.old.queue; session = self.old.session; start = self.old.start; put = self.old.put; fulls = self.old.fulls; known = self.new.known } }
+        ensures kept { GoesOn self.old.known self.new.known }
+        ensures refusal { IfOk result (λ o. o ≡ refusal_by self.new.known self.old ticket) }
+    {
+        let Some(reader) = self.reader.take() else {
+            unreachable!()
+        };
+        match reader.look() {
+            Ok(look) => {
+                let (session, start) = (self.sender.session(), self.sender.start());
+                let refusal = refusal_of(look.board(), session, start, self.last, ticket);
+                let reader = look.leave();
+                self.known = reader.known();
+                self.reader = Some(reader);
+                Ok(refusal)
+            }
+            Err((shut, reader)) => {
+                self.reader = Some(reader);
+                Err(shut)
+            }
+        }
+    }
+
+    /// Puts a change at the queue's end, under this ticket. A refusal gives it back, and adds nothing. It takes no memory.
+    pub fn submit<W: Wait>(
+        &mut self,
+        rt: &W,
+        ticket: u64,
+        change: Change,
+    ) -> Result<(), (SubmitRefused, Change)>
+        ensures same { (self.new.queue ≡ self.old.queue) × ((self.new.session ≡ self.old.session) × (self.new.start ≡ self.old.start)) }
+        ensures kept { GoesOn self.old.known self.new.known }
+        ensures put { OnOk result (self.new.put ≡ self.old.put ++ record { session = self.old.session; ticket = ticket; change = change } ∷ []) }
+        ensures adds_nothing { OnErr result (self.new.put ≡ self.old.put) }
+        ensures back { IfErr result (λ e. e.1 ≡ change) }
+        ensures let_in { OnOk result (refusal_by self.new.known self.old ticket ≡ None) }
+        ensures refusal { IfErr result (λ e. IsRefused self.new.known self.old ticket e.0) }
+        ensures full { IfErr result (λ e. e.0 ≡ QueueFull → self.new.fulls ≡ self.old.fulls + 1) }
+    {
+        match self.judge(ticket) {
+            Err(_) => Err((SubmitRefused::BoardShut, change)),
+            Ok(Some(refusal)) => Err((refusal, change)),
+            Ok(None) => self.put(rt, ticket, change),
+        }
+    }
+
+    // Puts a change that the board lets in.
+    fn put<W: Wait>(
+        &mut self,
+        rt: &W,
+        ticket: u64,
+        change: Change,
+    ) -> Result<(), (SubmitRefused, Change)>
+        requires { refusal_by self.old.known self.old ticket ≡ None }
+        ensures same { (self.new.queue ≡ self.old.queue) × ((self.new.session ≡ self.old.session) × ((self.new.start ≡ self.old.start) × (self.new.known ≡ self.old.known))) }
+        ensures put { OnOk result (self.new.put ≡ self.old.put ++ record { session = self.old.session; ticket = ticket; change = change } ∷ []) }
+        ensures adds_nothing { OnErr result (self.new.put ≡ self.old.put) }
+        ensures back { IfErr result (λ e. (e.0 ≡ QueueFull) × (e.1 ≡ change)) }
+        ensures full { OnErr result (self.new.fulls ≡ self.old.fulls + 1) }
+    {
+        let request = Request {
+            session: self.sender.session(),
+            ticket,
+            change,
+        };
+        match self.sender.put(rt, request) {
+            Ok(()) => {
+                self.last = Some(ticket);
+                Ok(())
+            }
+            Err(request) => Err((SubmitRefused::QueueFull, request.change)),
+        }
+    }
+}
+
+impl Taker {
+    /// Ends an editor: what was taken, followed by what waits, has just the requests that it submitted, each once, in its order.
+    pub fn end(&mut self, editor: Editor)
+        requires { editor.queue ≡ self.old.queue }
+        ensures same { self.new ≡ self.old }
+        ensures whole { (waits : List Request) × (editor.put ≡ of editor.session (self.new.got ++ waits)) }
+    {
+        let Editor {
+            sender,
+            reader: _,
+            known: _,
+            last: _,
+        } = editor;
+        self.close(sender);
+    }
+}

@@ -1,0 +1,100 @@
+// What a board says of a session's last change, and of its next one.
+ghost use Rattle.std.specs.Prelude.{◌≡◌};
+ghost use Rattle.intake.specs.Outcomes.{outcome_on, refusal_on, told};
+
+use generations::{Board, Mark, Verdict};
+use graph_edits::Code;
+use requests::WORN_LIMIT;
+
+/// What became of the last change that a session submitted, as far as a board says.
+#[derive(Clone, Copy, Debug, PartialEq, Eq, Drop)]
+pub enum Outcome {
+    /// None was submitted yet.
+    Nothing,
+    /// It is in the graph and on the device; with it, `count` changes are.
+    Accepted { ticket: u64, count: u64 },
+    /// Nothing of it is in the graph: its op at the place `op`, counted from 0, is the first that is refused.
+    Refused { ticket: u64, op: usize, code: Code },
+    /// It isn't settled, and the device has failed.
+    Down,
+    /// It isn't settled.
+    Waiting,
+}
+
+/// Why a change isn't submitted. The tests stand in the order of the board's, the session's and the queue's; the numbers are
+/// those of the calls' table.
+#[derive(Clone, Copy, Debug, PartialEq, Eq, Drop)]
+pub enum SubmitRefused {
+    /// The board can't be looked at.
+    BoardShut = 3,
+    /// The last change isn't settled on the board as looked at.
+    Busy = 1,
+    /// The ticket is at most the session's last accepted one on the board as looked at, or its start.
+    AlreadyIn = 5,
+    /// The ticket is at most the last one that was submitted in this opening.
+    OldTicket = 6,
+    /// The ticket is past the worn limit.
+    Worn = 4,
+    /// The queue was full at a moment of the call.
+    QueueFull = 2,
+}
+
+/// What a board says of the last ticket that a session submitted in this opening, none where it submitted nothing.
+pub fn outcome_of(board: &Board, session: u8, last: Option<u64>) -> Outcome
+    ensures { result ≡ outcome_on board.now session last }
+{
+    let Some(last) = last else {
+        return Outcome::Nothing;
+    };
+    match board.mark(session) {
+        Some(mark) if mark.ticket == last => told_by(&mark),
+        _ if board.is_down() => Outcome::Down,
+        _ => Outcome::Waiting,
+    }
+}
+
+// The outcome that a mark tells.
+fn told_by(mark: &Mark) -> Outcome
+    ensures { result ≡ told mark.now.ticket mark.now.verdict }
+{
+    match mark.verdict {
+        Verdict::Accepted { count } => Outcome::Accepted {
+            ticket: mark.ticket,
+            count,
+        },
+        Verdict::Refused { op, code } => Outcome::Refused {
+            ticket: mark.ticket,
+            op,
+            code,
+        },
+    }
+}
+
+/// Why a session may not submit a change under this ticket, by a board, the queue aside. `start` is where its tickets start, and
+/// `last` the last one that it submitted in this opening.
+pub fn refusal_of(
+    board: &Board,
+    session: u8,
+    start: u64,
+    last: Option<u64>,
+    ticket: u64,
+) -> Option<SubmitRefused>
+    ensures { result ≡ refusal_on board.now session start last ticket }
+{
+    if matches!(
+        outcome_of(board, session, last),
+        Outcome::Down | Outcome::Waiting
+    ) {
+        return Some(SubmitRefused::Busy);
+    }
+    if ticket <= board.accepted(session) {
+        return Some(SubmitRefused::AlreadyIn);
+    }
+    if ticket <= last.unwrap_or(start) {
+        return Some(SubmitRefused::OldTicket);
+    }
+    if ticket > WORN_LIMIT {
+        return Some(SubmitRefused::Worn);
+    }
+    None
+}

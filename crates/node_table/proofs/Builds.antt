@@ -1,0 +1,8 @@
+-- A scheme that is built keeps all rules.
+pub mod Built
+pub mod BuildSteps
+pub mod OneRootMore
+pub mod GrownTrees
+pub mod TreeMembers
+pub mod RowSteps
+pub mod RowColumns

@@ -1,0 +1,374 @@
+-- Rows are the tree of their root: from what was reached and what was numbered to all that is known of the tree.
+use Rattle.std.proofs.Common.{◌≡◌, ℕ, ◌+◌, ◌≤◌, ◌<◌, ◌==◌, inl, inr, Bool, true, false, cond, sym, refl, ap, subst, ◌∙◌, arith, List, [], ◌∷◌, ◌++◌, length, map, get_or, IsPermutation}
+use Rattle.std.specs.Prelude.{Option, Some, None, IsSome, ◌↔◌, nat_eq}
+use Rattle.std.specs.Option.{option_map}
+use Rattle.std.specs.List.{All, AllByRecursion, IsDistinct}
+use Rattle.std.proofs.lemmas.List.Sorted.{Contains-permutation, IsPermutation-map, IsPermutation-sym}
+use Rattle.std.proofs.lemmas.Map.Keys.{IsDistinct-IsPermutation, IsDistinct-head, IsDistinct-tail}
+use Rattle.std.proofs.lemmas.Bool.{eqb-true, eq-eqb}
+use Rattle.graph_edits.specs.Edges.{Network, IsSound}
+use Rattle.graph_edits.specs.Walks.{IsLeast}
+use Rattle.distances.specs.Search.{is_below}
+use Rattle.distances.specs.Reach.{IsTree, IsParent, IsTight}
+use Rattle.distances.specs.declared.reach.Reached.{Reached}
+use Rattle.route_tree.specs.declared.member.TheConstants.{MOST_MEMBERS}
+use Rattle.route_tree.specs.Rose.{Forest, no_trees, twig, count, Tree}
+use Rattle.route_tree.specs.Growth.{subtrees, first_or}
+use Rattle.route_tree.specs.Members.{listed, members_of, AreMembers}
+use Rattle.route_tree.specs.declared.member.Member.{Member}
+use Rattle.heavy_labels.specs.Numbered.{Brief, seen, head_brief}
+use Rattle.heavy_labels.specs.Numbering.{Line, Place, place, lights_at, lines, tree_lines, Among}
+use Rattle.heavy_labels.specs.Stepped.{record_of}
+use Rattle.heavy_labels.specs.declared.numbered_member.NumberedMember.{NumberedMember}
+use Rattle.node_table.specs.declared.parts.Entry.{Entry}
+use Rattle.node_table.specs.declared.columns.Row.{Row}
+use Rattle.node_table.specs.Checks.{up_port, down_port}
+use Rattle.node_table.specs.Columns.{up_by, down_by, member_of, LacksMember, AreDistinct, FitsEntry, IsTightFrom, IsParentIn, IsColumn}
+use Rattle.node_table.specs.RowLists.{IsRowOf, IsRowFrom, IsRowList, row_at, entry_in, label_in}
+use Rattle.node_table.proofs.Builds.TreeMembers.{IsIn, is_in_of, contains_of, all_in, distinct_members, laid_members, ChildrenReached, same_distance, parent_reached, farther, begins_with_root, at_in, in_at, one_place, exact_in, parent_in, reached_inside, reached_members, first_member}
+use Rattle.node_table.proofs.Basics.Options.{some_is, same_value}
+
+none_some : {X : Type 0} {x : X} {o : Option X} → o ≡ None → o ≡ Some x → ⊥
+none_some e f = cc
+
+-- ---- the nodes of a tree, in preorder
+
+abbrev node_in : Line → ℕ
+node_in l = (head_brief l).0
+
+map_append : {X : Type 0} (f : X → ℕ) (xs ys : List X) → map f (xs ++ ys) ≡ map f xs ++ map f ys
+map_append f [] ys = refl
+map_append f (x ∷ xs) ys = ap (λ z. f x ∷ z) (map_append f xs ys)
+
+lines_nodes : (fo : Forest) (h : Bool) (f : ℕ) (ls : List ℕ) (above : Line) (p : Option ℕ) → map node_in (lines fo h f ls above) ≡ map (λ (a : Member). a.node) (listed p fo)
+lines_nodes no_trees h f ls above p = refl
+lines_nodes (twig n u d below beside) h f ls above p =
+    let ls1 = lights_at h ls d in
+    let here = place n u d below f ls1 above ∷ above in
+    ap (λ z. n ∷ z)
+    (map_append node_in (lines below true (f + 1) ls1 here) (lines beside false (f + 1 + count below) ls above)
+    ∙ ap (λ z. z ++ map node_in (lines beside false (f + 1 + count below) ls above)) (lines_nodes below true (f + 1) ls1 here (Some n))
+    ∙ ap (λ z. map (λ (a : Member). a.node) (listed (Some n) below) ++ z) (lines_nodes beside false (f + 1 + count below) ls above p)
+    ∙ sym (map_append (λ (a : Member). a.node) (listed (Some n) below) (listed p beside)))
+
+tree_nodes : (t : Tree) → map node_in (tree_lines t) ≡ map (λ (a : Member). a.node) (members_of t)
+tree_nodes t = ap (λ z. t.node ∷ z) (lines_nodes t.below true 1 [] (place t.node None None t.below 0 [] [] ∷ []) (Some t.node))
+
+seen_nodes : (ns : List NumberedMember) → map (λ (n : NumberedMember). n.node) ns ≡ map (λ (b : Brief). b.0) (map seen ns)
+seen_nodes [] = refl
+seen_nodes (n ∷ ns) = ap (λ z. n.node ∷ z) (seen_nodes ns)
+
+head_nodes : (ls : List Line) → map (λ (b : Brief). b.0) (map head_brief ls) ≡ map node_in ls
+head_nodes [] = refl
+head_nodes (l ∷ ls) = ap (λ z. node_in l ∷ z) (head_nodes ls)
+
+-- what is numbered are the members, in another order
+pub numbered_members : (ms : List Member) (t : Tree) (ns : List NumberedMember) → IsPermutation ms (members_of t) → map seen ns ≡ map head_brief (tree_lines t)
+    → IsPermutation (map (λ (a : Member). a.node) ms) (map (λ (n : NumberedMember). n.node) ns)
+numbered_members ms t ns p e =
+    subst (IsPermutation (map (λ (a : Member). a.node) ms))
+    (sym (seen_nodes ns ∙ ap (λ z. map (λ (b : Brief). b.0) z) e ∙ head_nodes (tree_lines t) ∙ tree_nodes t))
+    (IsPermutation-map (λ (a : Member). a.node) ms (members_of t) p)
+
+-- ---- lists of nodes
+
+in_members : (m : Network) (ks : List Reached) (k : Reached) → IsIn k ks → IsIn k.node (map (λ (a : Member). a.node) (map (member_of m) ks))
+in_members m [] k i = absurd i
+in_members m (a ∷ ks) k (inl e) = inl (ap (λ (z : Reached). z.node) e)
+in_members m (a ∷ ks) k (inr i) = inr (in_members m ks k i)
+
+members_in : (m : Network) (ks : List Reached) (x : ℕ) → IsIn x (map (λ (a : Member). a.node) (map (member_of m) ks)) → (k : Reached) × (IsIn k ks × (k.node ≡ x))
+members_in m [] x i = absurd i
+members_in m (a ∷ ks) x (inl e) = (a, (inl refl, sym e))
+members_in m (a ∷ ks) x (inr i) = (let k = members_in m ks x i in (k.0, (inr k.1.0, k.1.1)))
+
+reached_named : (ks : List Reached) (x : ℕ) → IsIn x (map (λ (k : Reached). k.node) ks) → (k : Reached) × (IsIn k ks × (k.node ≡ x))
+reached_named [] x i = absurd i
+reached_named (a ∷ ks) x (inl e) = (a, (inl refl, sym e))
+reached_named (a ∷ ks) x (inr i) = (let k = reached_named ks x i in (k.0, (inr k.1.0, k.1.1)))
+
+in_numbers : (ns : List NumberedMember) (n : NumberedMember) → IsIn n ns → IsIn n.node (map (λ (a : NumberedMember). a.node) ns)
+in_numbers [] n i = absurd i
+in_numbers (a ∷ ns) n (inl e) = inl (ap (λ (z : NumberedMember). z.node) e)
+in_numbers (a ∷ ns) n (inr i) = inr (in_numbers ns n i)
+
+numbers_in : (ns : List NumberedMember) (x : ℕ) → IsIn x (map (λ (a : NumberedMember). a.node) ns) → (n : NumberedMember) × (IsIn n ns × (n.node ≡ x))
+numbers_in [] x i = absurd i
+numbers_in (a ∷ ns) x (inl e) = (a, (inl refl, sym e))
+numbers_in (a ∷ ns) x (inr i) = (let k = numbers_in ns x i in (k.0, (inr k.1.0, k.1.1)))
+
+not_equal : (a b : ℕ) → (a ≡ b → ⊥) → nat_eq a b ≡ false
+not_equal a b h = go (nat_eq a b) refl
+  where
+    go : (c : Bool) → nat_eq a b ≡ c → c ≡ false
+    go false e = refl
+    go true e = absurd (h (eqb-true a b e))
+
+lacks_all : (x : ℕ) (ms : List Member) → LacksMember x ms → AllByRecursion (λ y. nat_eq x y ≡ false) (map (λ (a : Member). a.node) ms)
+lacks_all x [] l = tt
+lacks_all x (a ∷ ms) l = (not_equal x a.node l.0, lacks_all x ms l.1)
+
+distinct_nodes : (ms : List Member) → AreDistinct ms → IsDistinct nat_eq (map (λ (a : Member). a.node) ms)
+unfolding IsDistinct
+distinct_nodes [] d = tt
+distinct_nodes (a ∷ ms) d = (lacks_all a.node ms d.0, distinct_nodes ms d.1)
+
+flips : (x y : ℕ) → nat_eq x y ≡ nat_eq y x
+flips x y = go (nat_eq x y) refl
+  where
+    go : (c : Bool) → nat_eq x y ≡ c → c ≡ nat_eq y x
+    go true e = sym (eq-eqb y x (sym (eqb-true x y e)))
+    go false e = sym (not_equal y x (λ q. (let b : nat_eq x y ≡ true = eq-eqb x y (sym q) in let z : true ≡ false = sym b ∙ e in cc)))
+
+apart_in : (x : ℕ) (ns : List NumberedMember) → AllByRecursion (λ y. nat_eq x y ≡ false) (map (λ (a : NumberedMember). a.node) ns) → (n : NumberedMember) → IsIn n ns → x ≡ n.node → ⊥
+apart_in x [] a n i e = i
+apart_in x (b ∷ ns) a n (inl s) e = (let k : nat_eq x b.node ≡ true = eq-eqb x b.node (e ∙ ap (λ (z : NumberedMember). z.node) s) in let z : true ≡ false = sym k ∙ a.0 in cc)
+apart_in x (b ∷ ns) a n (inr i) e = apart_in x ns a.1 n i e
+
+same_numbered : (ns : List NumberedMember) → IsDistinct nat_eq (map (λ (a : NumberedMember). a.node) ns) → (a b : NumberedMember) → IsIn a ns → IsIn b ns → a.node ≡ b.node → a ≡ b
+same_numbered [] d a b i j e = absurd i
+same_numbered (n ∷ ns) d a b (inl p) (inl q) e = p ∙ sym q
+same_numbered (n ∷ ns) d a b (inl p) (inr j) e = absurd (apart_in n.node ns (IsDistinct-head nat_eq n.node (map (λ (z : NumberedMember). z.node) ns) d) b j (ap (λ (z : NumberedMember). z.node) (sym p) ∙ e))
+same_numbered (n ∷ ns) d a b (inr i) (inl q) e = absurd (apart_in n.node ns (IsDistinct-head nat_eq n.node (map (λ (z : NumberedMember). z.node) ns) d) a i (ap (λ (z : NumberedMember). z.node) (sym q) ∙ sym e))
+same_numbered (n ∷ ns) d a b (inr i) (inr j) e = same_numbered ns (IsDistinct-tail nat_eq n.node (map (λ (z : NumberedMember). z.node) ns) d) a b i j e
+
+-- ---- rows
+
+pub row_found : (ws : List Row) (x : ℕ) (w : Row) → row_at ws x ≡ Some w → IsIn w ws × (w.node ≡ x)
+row_found [] x w e = absurd (none_some refl e)
+row_found (a ∷ ws) x w e = go (a.node == x) refl (λ q. row_found ws x w q) e
+  where
+    go : (b : Bool) → (a.node == x) ≡ b → (row_at ws x ≡ Some w → IsIn w ws × (w.node ≡ x)) → cond b (Some a) (row_at ws x) ≡ Some w → IsIn w (a ∷ ws) × (w.node ≡ x)
+    go true t ih q = (let s : a ≡ w = same_value refl q in (inl (sym s), ap (λ (z : Row). z.node) (sym s) ∙ eqb-true a.node x t))
+    go false t ih q = (let k = ih q in (inr k.0, k.1))
+
+pub row_there : (ws : List Row) (x : ℕ) (w : Row) → IsIn w ws → w.node ≡ x → (v : Row) × (row_at ws x ≡ Some v)
+row_there [] x w i e = absurd i
+row_there (a ∷ ws) x w i e = go (a.node == x) refl i (λ j. row_there ws x w j e)
+  where
+    go : (b : Bool) → (a.node == x) ≡ b → IsIn w (a ∷ ws) → (IsIn w ws → (v : Row) × (row_at ws x ≡ Some v)) → (v : Row) × (cond b (Some a) (row_at ws x) ≡ Some v)
+    go true t j ih = (a, refl)
+    go false t (inl s) ih = absurd (let k : (a.node == x) ≡ true = eq-eqb a.node x (ap (λ (z : Row). z.node) (sym s) ∙ e) in let z : true ≡ false = sym k ∙ t in cc)
+    go false t (inr j) ih = ih j
+
+-- the ports of a member are those of its entry
+up_is : (m : Network) (x : ℕ) (e : Entry) (o : Option ℕ) → e.parent ≡ o → up_by m x o ≡ up_port m x (Some e)
+up_is m x e None h = rw h refl
+up_is m x e (Some y) h = rw h refl
+
+down_is : (m : Network) (x : ℕ) (e : Entry) (o : Option ℕ) → e.parent ≡ o → down_by m x o ≡ down_port m x (Some e)
+down_is m x e None h = rw h refl
+down_is m x e (Some y) h = rw h refl
+
+head_among : (p : Place) (above : Line) (all : List Line) → Among (p ∷ above) all → IsIn (head_brief (p ∷ above)) (map head_brief all)
+head_among p above [] a = absurd a
+head_among p above (l ∷ all) (inl e) = inl (ap head_brief e)
+head_among p above (l ∷ all) (inr a) = inr (head_among p above all a)
+
+seen_in : (ns : List NumberedMember) (b : Brief) → IsIn b (map seen ns) → (n : NumberedMember) × (IsIn n ns × (b ≡ seen n))
+seen_in [] b i = absurd i
+seen_in (n ∷ ns) b (inl e) = (n, (inl refl, e))
+seen_in (n ∷ ns) b (inr i) = (let k = seen_in ns b i in (k.0, (inr k.1.0, k.1.1)))
+
+module _ (m : Network) (sound : IsSound m) (r : ℕ) (r_in : r < m.nodes) (limit : ℕ → Option ℕ) (ks : List Reached) (h : IsTree m.edges r limit ks) (root_within : is_below 0 (limit r) ≡ true)
+    (ns : List NumberedMember) (named : (d : Tree) → map seen ns ≡ map head_brief (tree_lines (first_or d (subtrees (map (member_of m) ks)))))
+    (same : IsPermutation (map (λ (a : Member). a.node) (map (member_of m) ks)) (map (λ (n : NumberedMember). n.node) ns))
+    (ws : List Row) (rows : IsRowList r ks ns ws) where
+  same_reached : (a b : Reached) → IsIn a ks → IsIn b ks → a.node ≡ b.node → a ≡ b
+  same_reached a b i j e =
+      let p = at_in ks a a i in
+      let q = at_in ks b a j in
+      let eq = one_place m sound r r_in limit ks h root_within p.0 q.0 a p.1.0 q.1.0 (ap (λ (z : Reached). z.node) p.1.1 ∙ e ∙ ap (λ (z : Reached). z.node) (sym q.1.1)) in
+      sym p.1.1 ∙ ap (λ i. get_or ks i a) eq ∙ q.1.1
+
+  -- what a row is made of
+  parts_of : (w : Row) → IsIn w ws → (k : Reached) × ((n : NumberedMember) × (IsIn k ks × (IsIn n ns × IsRowOf r k n w)))
+  parts_of w i = (let g = all_in (IsRowFrom r ks ns) ws rows.each w i in (g.0, (g.1, (is_in_of ks g.0 g.2.0, (is_in_of ns g.1 g.2.1, g.2.2)))))
+
+  row_of : (x : ℕ) (e : Entry) → entry_in ws x ≡ Some e → (w : Row) × ((row_at ws x ≡ Some w) × (w.entry ≡ e))
+  row_of x e g = go (row_at ws x) refl g
+    where
+      go : (o : Option Row) → row_at ws x ≡ o → option_map (λ w. w.entry) o ≡ Some e → (w : Row) × ((row_at ws x ≡ Some w) × (w.entry ≡ e))
+      go None q k = absurd (none_some refl k)
+      go (Some w) q k = (w, (q, same_value refl k))
+
+  -- a node with an entry was reached
+  reached_of : (x : ℕ) (e : Entry) → entry_in ws x ≡ Some e → (k : Reached) × (IsIn k ks × ((k.node ≡ x) × ((e.distance ≡ k.distance) × (e.parent ≡ k.parent))))
+  reached_of x e g =
+      let w = row_of x e g in
+      let f = row_found ws x w.0 w.1.0 in
+      let p = parts_of w.0 f.0 in
+      let o = p.1.1.1.1 in
+      (p.0, (p.1.1.0, (sym o.reached ∙ f.1, (ap (λ (z : Entry). z.distance) (sym w.1.1) ∙ o.distance, ap (λ (z : Entry). z.parent) (sym w.1.1) ∙ o.parent))))
+
+  -- and what was reached has an entry
+  entry_of : (k : Reached) → IsIn k ks → (e : Entry) × ((entry_in ws k.node ≡ Some e) × ((e.distance ≡ k.distance) × (e.parent ≡ k.parent)))
+  entry_of k i =
+      let among = Contains-permutation (map (λ (a : Member). a.node) (map (member_of m) ks)) (map (λ (n : NumberedMember). n.node) ns) k.node same
+      (contains_of (map (λ (a : Member). a.node) (map (member_of m) ks)) k.node (in_members m ks k i)) in
+      let n = numbers_in ns k.node (is_in_of (map (λ (n : NumberedMember). n.node) ns) k.node among) in
+      let w = rows.has k n.0 (contains_of ks k i) (contains_of ns n.0 n.1.0) (sym n.1.1) in
+      let v = row_there ws k.node w.0 (is_in_of ws w.0 w.1.0) w.1.1 in
+      let is : entry_in ws k.node ≡ Some v.0.entry = ap (λ o. option_map (λ z. z.entry) o) v.1 in
+      let back = reached_of k.node v.0.entry is in
+      let one = same_reached back.0 k back.1.0 i back.1.1.0 in
+      (v.0.entry, (is, (back.1.1.1.0 ∙ ap (λ (z : Reached). z.distance) one, back.1.1.1.1 ∙ ap (λ (z : Reached). z.parent) one)))
+
+  entry_exact : (x : ℕ) (e : Entry) → entry_in ws x ≡ Some e → IsLeast m.edges (λ s. s ≡ r) x e.distance × (is_below e.distance (limit x) ≡ true)
+  entry_exact x e g =
+      let k = reached_of x e g in
+      let P : ℕ → ℕ → Type 0 = λ y d. IsLeast m.edges (λ s. s ≡ r) y d × (is_below d (limit y) ≡ true) in
+      subst (P x) (sym k.1.1.1.0) (subst (λ y. P y k.0.distance) k.1.1.0 (exact_in m sound r r_in limit ks h root_within k.0 k.1.0))
+
+  entry_complete : (x d : ℕ) → IsLeast m.edges (λ s. s ≡ r) x d → is_below d (limit x) ≡ true → IsSome (entry_in ws x)
+  entry_complete x d l b =
+      let c = h.complete x d l b in
+      let e = entry_of c.0 (is_in_of ks c.0 c.1.0) in
+      subst (λ y. IsSome (entry_in ws y)) c.1.1 (some_is e.1.0)
+
+  tight_from : (x d y : ℕ) → IsTight m.edges ks x d y → IsTightFrom m (entry_in ws) x d y
+  tight_from x d y g =
+      let e = entry_of g.0 (is_in_of ks g.0 g.2.0) in
+      (e.0, (g.1, (ap (entry_in ws) (sym g.2.1) ∙ e.1.0, (g.2.2, ap (λ z. z + g.1) e.1.1.0 ∙ g.2.3))))
+
+  tight_in : (x d y : ℕ) → IsTightFrom m (entry_in ws) x d y → IsTight m.edges ks x d y
+  tight_in x d y g =
+      let k = reached_of y g.0 g.1.1.0 in
+      (k.0, g.1.0, (contains_of ks k.0 k.1.0, k.1.1.0, g.1.1.1.0, ap (λ z. z + g.1.0) (sym k.1.1.1.0) ∙ g.1.1.1.1))
+
+  parent_from : (x d : ℕ) (o : Option ℕ) → IsParent m.edges r ks x d o → IsParentIn m (entry_in ws) r x d o
+  parent_from x d None g = g
+  parent_from x d (Some y) g = (g.0, (tight_from x d y g.1, λ z t. g.2 z (tight_in x d z t)))
+
+  entry_parents : (x : ℕ) (e : Entry) → entry_in ws x ≡ Some e → IsParentIn m (entry_in ws) r x e.distance e.parent
+  entry_parents x e g =
+      let k = reached_of x e g in
+      let P : ℕ → ℕ → Option ℕ → Type 0 = λ y d o. IsParentIn m (entry_in ws) r y d o in
+      subst (P x e.distance) (sym k.1.1.1.1) (subst (λ d. P x d k.0.parent) (sym k.1.1.1.0) (subst (λ y. P y k.0.distance k.0.parent) k.1.1.0
+      (parent_from k.0.node k.0.distance k.0.parent (parent_in m sound r r_in limit ks h root_within k.0 k.1.0))))
+
+  entry_labelled : (x : ℕ) → IsSome (entry_in ws x) ↔ IsSome (label_in ws x)
+  entry_labelled x = go (row_at ws x)
+    where
+      go : (o : Option Row) → IsSome (option_map (λ w. w.entry) o) ↔ IsSome (option_map (λ w. w.label) o)
+      go None = (λ e. e, λ e. e)
+      go (Some w) = (λ e. refl, λ e. refl)
+
+  member_fits : (k : Reached) → IsIn k ks → FitsEntry m (entry_in ws) (member_of m k)
+  member_fits k i =
+      let e = entry_of k i in
+      record { entry = e.0; is = e.1.0; parent = e.1.1.1; up = up_is m k.node e.0 k.parent e.1.1.1; down = down_is m k.node e.0 k.parent e.1.1.1 }
+
+  children_reached : (y : Reached) → IsIn y ks → ChildrenReached (entry_in ws) y ks
+  children_reached y i x e g p =
+      let k = reached_of x e g in
+      let j = farther m sound r r_in limit ks h root_within k.0 y.node k.1.0 (sym k.1.1.1.1 ∙ p) in
+      let d = same_distance m sound r r_in limit ks h root_within j.0 y j.1.0 i j.1.1.0 in
+      (k.0, (k.1.0, (k.1.1.0, omega (arith, d, j.1.1.1))))
+
+  numbered_distinct : IsDistinct nat_eq (map (λ (n : NumberedMember). n.node) ns)
+  numbered_distinct =
+      IsDistinct-IsPermutation nat_eq flips (map (λ (a : Member). a.node) (map (member_of m) ks)) (map (λ (n : NumberedMember). n.node) ns) same
+      (distinct_nodes (map (member_of m) ks) (distinct_members m ks h.ascending (same_distance m sound r r_in limit ks h root_within)))
+
+  numbered_reached : (n : NumberedMember) → IsIn n ns → (k : Reached) × (IsIn k ks × (k.node ≡ n.node))
+  numbered_reached n i =
+      let among = Contains-permutation (map (λ (n : NumberedMember). n.node) ns) (map (λ (a : Member). a.node) (map (member_of m) ks)) n.node
+      (IsPermutation-sym (map (λ (a : Member). a.node) (map (member_of m) ks)) (map (λ (n : NumberedMember). n.node) ns) same)
+      (contains_of (map (λ (n : NumberedMember). n.node) ns) n.node (in_numbers ns n i)) in
+      members_in m ks n.node (is_in_of (map (λ (a : Member). a.node) (map (member_of m) ks)) n.node among)
+
+  line_entry : (d : Tree) (p : Place) (above : Line) → Among (p ∷ above) (tree_lines (first_or d (subtrees (map (member_of m) ks))))
+      → (e : Entry) × ((entry_in ws p.node ≡ Some e) × ((record_of e.tree_record ≡ p.tree_record) × (label_in ws p.node ≡ Some p.label)))
+  line_entry d p above a =
+      let listed = subst (IsIn (head_brief (p ∷ above))) (sym (named d)) (head_among p above (tree_lines (first_or d (subtrees (map (member_of m) ks)))) a) in
+      let n = seen_in ns (head_brief (p ∷ above)) listed in
+      let node_is : n.0.node ≡ p.node = ap (λ (b : Brief). b.0) (sym n.1.1) in
+      let k = numbered_reached n.0 n.1.0 in
+      let e = entry_of k.0 k.1.0 in
+      let is : entry_in ws p.node ≡ Some e.0 = ap (entry_in ws) (sym node_is ∙ sym k.1.1) ∙ e.1.0 in
+      let w = row_of p.node e.0 is in
+      let f = row_found ws p.node w.0 w.1.0 in
+      let g = parts_of w.0 f.0 in
+      let o = g.1.1.1.1 in
+      let one : g.1.0 ≡ n.0 = same_numbered ns numbered_distinct g.1.0 n.0 g.1.1.1.0 n.1.0 (sym o.numbered ∙ f.1 ∙ sym node_is) in (
+        e.0,
+        (
+          is,
+          (
+            ap (λ (z : Entry). record_of z.tree_record) (sym w.1.1) ∙ ap record_of o.tree_record ∙ ap (λ (z : NumberedMember). record_of z.tree_record) one ∙ ap (λ (b : Brief). b.1.0) (sym n.1.1),
+            ap (λ q. option_map (λ z. z.label) q) w.1.0 ∙ ap (λ z. Some z) (o.label ∙ ap (λ (z : NumberedMember). z.label) one ∙ ap (λ (b : Brief). b.1.1) (sym n.1.1)),
+          ),
+        ),
+      )
+
+  pub rows_column : IsColumn m limit r (entry_in ws) (label_in ws)
+  rows_column = record {
+    exact = entry_exact;
+    complete = entry_complete;
+    parents = entry_parents;
+    labelled = entry_labelled;
+    members = map (member_of m) ks;
+    distinct = distinct_members m ks h.ascending (same_distance m sound r r_in limit ks h root_within);
+    begins = begins_with_root m sound r r_in limit ks h root_within;
+    laid = laid_members m (entry_in ws) ks h.ascending member_fits children_reached;
+    lines = line_entry;
+  }
+
+-- the same, where members and numbered members stand in lists that are equal to these
+pub column_of : (m : Network) → IsSound m → (r : ℕ) → r < m.nodes → (limit : ℕ → Option ℕ) (ks : List Reached) → IsTree m.edges r limit ks → is_below 0 (limit r) ≡ true
+    → (all : List Member) → all ≡ map (λ k. member_of m k) ks → (nm ns : List NumberedMember) → ns ≡ nm
+    → ((d : Tree) → map seen nm ≡ map head_brief (tree_lines (first_or d (subtrees all)))) → IsPermutation (map (λ (a : Member). a.node) all) (map (λ (n : NumberedMember). n.node) nm)
+    → (ws : List Row) → IsRowList r ks ns ws → IsColumn m limit r (entry_in ws) (label_in ws)
+column_of m s r i limit ks tree below all e nm ns q lines perm ws rows =
+    rows_column m s r i limit ks tree below nm (λ d. lines d ∙ ap (λ z. map head_brief (tree_lines (first_or d (subtrees z)))) e)
+    (subst (λ z. IsPermutation (map (λ (a : Member). a.node) z) (map (λ (n : NumberedMember). n.node) nm)) e perm) ws (subst (λ z. IsRowList r ks z ws) q rows)
+
+-- every row's node is one of the network, and its entry is for the root
+pub rows_are_inside : (r n : ℕ) (ks : List Reached) (ns : List NumberedMember) (ws : List Row) → All (λ (k : Reached). k.node < n) ks → IsRowList r ks ns ws → All (λ (w : Row). w.node < n) ws
+rows_are_inside r n ks ns ws inside rows i d l =
+    let g = rows.each i d l in
+    subst (λ z. z < n) (sym g.2.2.reached) (all_in (λ (k : Reached). k.node < n) ks inside g.0 (is_in_of ks g.0 g.2.0))
+
+pub rows_root : (r : ℕ) (ks : List Reached) (ns : List NumberedMember) (ws : List Row) → IsRowList r ks ns ws → All (λ (w : Row). w.entry.root ≡ r) ws
+rows_root r ks ns ws rows i d l = (rows.each i d l).2.2.root
+
+module _ (m : Network) (sound : IsSound m) (r : ℕ) (r_in : r < m.nodes) (ks : List Reached) (h : (limit : ℕ → Option ℕ) × (IsTree m.edges r limit ks × (is_below 0 (limit r) ≡ true))) where
+  pub all_inside : All (λ (k : Reached). k.node < m.nodes) ks
+  all_inside i d l = reached_inside m sound r r_in h.0 ks h.1.0 h.1.1 (get_or ks i d) (in_at ks i d l)
+
+  pub parents_inside : All (λ (k : Reached). (y : ℕ) → k.parent ≡ Some y → y < m.nodes) ks
+  parents_inside i d l y e =
+      let j = parent_reached m sound r r_in h.0 ks h.1.0 h.1.1 (get_or ks i d) y (in_at ks i d l) e in
+      subst (λ z. z < m.nodes) j.1.1.1.0 (reached_inside m sound r r_in h.0 ks h.1.0 h.1.1 j.0 j.1.1.0)
+
+  pub are_members : AreMembers (map (member_of m) ks)
+  are_members = reached_members m sound r r_in h.0 ks h.1.0 h.1.1 (record { node = 0; distance = 0; parent = None })
+
+  pub root_first : (d : Member) → (get_or (map (member_of m) ks) 0 d).node ≡ r
+  root_first d = first_member m sound r r_in h.0 ks h.1.0 h.1.1 d
+
+  length_members : (xs : List Reached) → length (map (member_of m) xs) ≡ length xs
+  length_members [] = refl
+  length_members (x ∷ xs) = omega (arith, length_members xs)
+
+  pub few_members : length ks ≤ MOST_MEMBERS
+  few_members = (let n = length_members ks in let f = are_members.few in omega (arith, n, f))
+
+  pub few_numbered : length (map (member_of m) ks) ≤ MOST_MEMBERS
+  few_numbered = (let f = are_members.few in omega (arith, f))
+
+  pub nodes_inside : All (λ x. x < m.nodes) (map (λ (k : Reached). k.node) ks)
+  nodes_inside i d l = go (get_or (map (λ (k : Reached). k.node) ks) i d) (in_at (map (λ (k : Reached). k.node) ks) i d l)
+    where
+      go : (x : ℕ) → IsIn x (map (λ (k : Reached). k.node) ks) → x < m.nodes
+      go x i = (let k = reached_named ks x i in subst (λ z. z < m.nodes) k.1.1 (reached_inside m sound r r_in h.0 ks h.1.0 h.1.1 k.0 k.1.0))
+
+  pub numbers_inside : (ns : List NumberedMember) → IsPermutation (map (λ (a : Member). a.node) (map (member_of m) ks)) (map (λ (n : NumberedMember). n.node) ns) → All (λ x. x < m.nodes) (map (λ (n : NumberedMember). n.node) ns)
+  numbers_inside ns same i d l =
+      let x = get_or (map (λ (n : NumberedMember). n.node) ns) i d in
+      let among = Contains-permutation (map (λ (n : NumberedMember). n.node) ns) (map (λ (a : Member). a.node) (map (member_of m) ks)) x
+      (IsPermutation-sym (map (λ (a : Member). a.node) (map (member_of m) ks)) (map (λ (n : NumberedMember). n.node) ns) same)
+      (contains_of (map (λ (n : NumberedMember). n.node) ns) x (in_at (map (λ (n : NumberedMember). n.node) ns) i d l)) in
+      let k = members_in m ks x (is_in_of (map (λ (a : Member). a.node) (map (member_of m) ks)) x among) in
+      subst (λ z. z < m.nodes) k.1.1 (reached_inside m sound r r_in h.0 ks h.1.0 h.1.1 k.0 k.1.0)

@@ -1,0 +1,4 @@
+-- What holds of a packet on its way.
+pub mod CarriedTrails
+pub mod WayLaws
+pub mod Generations

@@ -1,0 +1,138 @@
+-- Spellings are read, each as the one value that it is of.
+use Rattle.std.proofs.Common.{◌≡◌, ℕ, ◌+◌, ◌-◌, ◌*◌, ◌^◌, ◌<◌, ◌≤◌, List, [], ◌∷◌, ◌++◌, length, take, drop, replicate, Option, Some, None, refl, sym, ap, ◌∙◌, arith}
+use Rattle.std.specs.Int.{w16, w64, from_be_bytes, to_be_bytes}
+use Rattle.std.specs.List.{flat_map, AllByRecursion}
+use Rattle.std.proofs.lemmas.List.{take_at, drop_at, drop-drop, length-append, length-replicate}
+use Rattle.std.proofs.lemmas.List.Elements.{recursion_from_All}
+use Rattle.std.proofs.lemmas.Nat.{from_be_bytes-to_be_bytes_2, from_be_bytes-to_be_bytes_8}
+use Rattle.node_table.specs.declared.packet.Address.{Address}
+use Rattle.node_table.specs.declared.packet.Home.{Home}
+use Rattle.node_table.specs.declared.packet.Packet.{Packet}
+use Rattle.packet_bytes.specs.Layout.{most_ports, home_size}
+use Rattle.packet_bytes.specs.Laws.{PacketsAreRead, OnePacket, AddressesAreRead, OneAddress}
+use Rattle.packet_bytes.specs.Refusals.{are_zeros, ports_refusal, home_refusal, packet_refusal, address_refusal}
+use Rattle.packet_bytes.specs.Spelling.{places_of, ports_text, packet_text, home_text, address_text, ArePorts, IsHome}
+use Rattle.packet_bytes.proofs.Places.{length_ports, places_are, zeros_pass, no_refusal}
+
+-- ---- ports
+
+length_text : (ports : List ℕ) → length ports ≤ most_ports → length (ports_text ports) ≡ 1 + 2 * most_ports
+length_text ports few =
+    let n = most_ports - length ports in
+    let zeros : List ℕ = replicate n 0 in
+    omega (arith, length_ports (ports ++ zeros), length-append ports zeros, length-replicate {A = ℕ} n 0, few)
+
+ports_read : (ports : List ℕ) → length ports ≤ most_ports → ports_refusal (ports_text ports) ≡ None
+ports_read ports few =
+    let n = 2 * length ports in
+    let m = 2 * (most_ports - length ports) in
+    let zeros : List ℕ = replicate m 0 in
+    let unused : drop (1 + n) (ports_text ports) ≡ zeros =
+    sym (drop-drop n 1 (ports_text ports)) ∙ ap (λ (l : List ℕ). drop n l) (places_are ports (most_ports - length ports))
+    ∙ drop_at (flat_map (to_be_bytes w16) ports) zeros n (length_ports ports) in
+    no_refusal (ports_text ports) few (ap are_zeros unused ∙ zeros_pass m)
+
+-- equal lists with fronts of one length
+same_parts : (a b x y : List ℕ) → length a ≡ length b → a ++ x ≡ b ++ y → (a ≡ b) × (x ≡ y)
+same_parts a b x y len e =
+    let n = length b in
+    (sym (take_at a x n len) ∙ ap (λ (l : List ℕ). take n l) e ∙ take_at b y n refl, sym (drop_at a x n len) ∙ ap (λ (l : List ℕ). drop n l) e ∙ drop_at b y n refl)
+
+same_u16 : (m n : ℕ) (x y : List ℕ) → m < 2 ^ 16 → n < 2 ^ 16 → to_be_bytes w16 m ++ x ≡ to_be_bytes w16 n ++ y → (m ≡ n) × (x ≡ y)
+same_u16 m n x y lm ln e =
+    let p = same_parts (to_be_bytes w16 m) (to_be_bytes w16 n) x y refl e in
+    (sym (from_be_bytes-to_be_bytes_2 m lm) ∙ ap (from_be_bytes w16) p.0 ∙ from_be_bytes-to_be_bytes_2 n ln, p.1)
+
+same_u64 : (m n : ℕ) (x y : List ℕ) → m < 2 ^ 64 → n < 2 ^ 64 → to_be_bytes w64 m ++ x ≡ to_be_bytes w64 n ++ y → (m ≡ n) × (x ≡ y)
+same_u64 m n x y lm ln e =
+    let p = same_parts (to_be_bytes w64 m) (to_be_bytes w64 n) x y refl e in
+    (sym (from_be_bytes-to_be_bytes_8 m lm) ∙ ap (from_be_bytes w64) p.0 ∙ from_be_bytes-to_be_bytes_8 n ln, p.1)
+
+same_flat : (a b : List ℕ) → AllByRecursion (λ port. port < 2 ^ 16) a → AllByRecursion (λ port. port < 2 ^ 16) b → length a ≡ length b
+    → flat_map (to_be_bytes w16) a ≡ flat_map (to_be_bytes w16) b → a ≡ b
+same_flat [] [] fa fb len e = refl
+same_flat [] (q ∷ b) fa fb len e = absurd cc
+same_flat (p ∷ a) [] fa fb len e = absurd cc
+same_flat (p ∷ a) (q ∷ b) fa fb len e =
+    let first = same_u16 p q (flat_map (to_be_bytes w16) a) (flat_map (to_be_bytes w16) b) fa.0 fb.0 e in
+    let rest : a ≡ b = same_flat a b fa.1 fb.1 (omega (arith, len)) first.1 in
+    ap (λ k. k ∷ a) first.0 ∙ ap (λ (l : List ℕ). q ∷ l) rest
+
+same_ports : (a b : List ℕ) → ArePorts a → ArePorts b → ports_text a ≡ ports_text b → a ≡ b
+same_ports a b fa fb e =
+    let len : length a ≡ length b = cc in
+    let tails : flat_map (to_be_bytes w16) (places_of a) ≡ flat_map (to_be_bytes w16) (places_of b) = cc in
+    let za : List ℕ = replicate (2 * (most_ports - length a)) 0 in
+    let zb : List ℕ = replicate (2 * (most_ports - length b)) 0 in
+    let split : flat_map (to_be_bytes w16) a ++ za ≡ flat_map (to_be_bytes w16) b ++ zb = sym (places_are a (most_ports - length a)) ∙ tails ∙ places_are b (most_ports - length b) in
+    let fronts = same_parts (flat_map (to_be_bytes w16) a) (flat_map (to_be_bytes w16) b) za zb (length_ports a ∙ ap (λ k. 2 * k) len ∙ sym (length_ports b)) split in
+    same_flat a b (recursion_from_All (λ port. port < 2 ^ 16) a fa.each) (recursion_from_All (λ port. port < 2 ^ 16) b fb.each) len fronts.0
+
+-- ---- packets
+
+abbrev packet : ℕ → ℕ → ℕ → ℕ → List ℕ → ℕ → Packet
+packet generation destination root first lights hops = record { generation = generation; destination = destination; root = root; label = record { first = first; lights = lights }; hops_left = hops }
+
+pub packets_are_read : PacketsAreRead
+packets_are_read bytes k spells =
+    let text = spells.text in
+    let few = spells.fits.label.1.few in
+    let size : length (packet_text k) ≡ 43 = omega (arith, length_text k.label.lights few) in
+    ap packet_refusal text ∙ (rw size (ports_read k.label.lights few))
+
+pub one_packet : OnePacket
+one_packet bytes j k sj sk =
+    let a = sj.fits in
+    let b = sk.fits in
+    let generation = same_u64 j.generation k.generation _ _ a.generation b.generation (sym sj.text ∙ sk.text) in
+    let destination = same_u16 j.destination k.destination _ _ a.destination b.destination generation.1 in
+    let root = same_u16 j.root k.root _ _ a.root b.root destination.1 in
+    let first = same_u16 j.label.first k.label.first _ _ a.label.0 b.label.0 root.1 in
+    let hops = same_u16 j.hops_left k.hops_left _ _ a.hops_left b.hops_left first.1 in
+    let lights = same_ports j.label.lights k.label.lights a.label.1 b.label.1 hops.1 in
+    let same : packet j.generation j.destination j.root j.label.first j.label.lights j.hops_left ≡ packet k.generation k.destination k.root k.label.first k.label.lights k.hops_left =
+    cc (generation.0, destination.0, root.0, first.0, hops.0, lights) in
+    same
+
+-- ---- addresses
+
+abbrev with_home : ℕ → ℕ → List ℕ → Option Home
+with_home landmark first lights = Some (record { landmark = landmark; label = record { first = first; lights = lights } })
+
+length_home : (o : Option Home) → IsHome o → length (home_text o) ≡ home_size
+length_home None fits = refl
+length_home (Some h) fits = omega (arith, length_text h.label.lights fits.1.1.few)
+
+home_read : (o : Option Home) → IsHome o → home_refusal (home_text o) ≡ None
+home_read None fits = refl
+home_read (Some h) fits = ports_read h.label.lights fits.1.1.few
+
+same_home : (o p : Option Home) → IsHome o → IsHome p → home_text o ≡ home_text p → o ≡ p
+same_home None None fo fp e = refl
+same_home None (Some h) fo fp e = absurd cc
+same_home (Some g) None fo fp e = absurd cc
+same_home (Some g) (Some h) fo fp e =
+    let rest : to_be_bytes w16 g.landmark ++ (to_be_bytes w16 g.label.first ++ ports_text g.label.lights) ≡ to_be_bytes w16 h.landmark ++ (to_be_bytes w16 h.label.first ++ ports_text h.label.lights) = ap (λ (l : List ℕ). drop 1 l) e in
+    let landmark = same_u16 g.landmark h.landmark _ _ fo.0 fp.0 rest in
+    let first = same_u16 g.label.first h.label.first _ _ fo.1.0 fp.1.0 landmark.1 in
+    let lights = same_ports g.label.lights h.label.lights fo.1.1 fp.1.1 first.1 in
+    let same : with_home g.landmark g.label.first g.label.lights ≡ with_home h.landmark h.label.first h.label.lights = cc (landmark.0, first.0, lights) in
+    same
+
+abbrev address : ℕ → ℕ → Option Home → Address
+address generation node home = record { generation = generation; node = node; home = home }
+
+pub addresses_are_read : AddressesAreRead
+addresses_are_read bytes a spells =
+    let size : length (address_text a) ≡ 42 = omega (arith, length_home a.home spells.fits.home) in
+    ap address_refusal spells.text ∙ (rw size (home_read a.home spells.fits.home))
+
+pub one_address : OneAddress
+one_address bytes a b sa sb =
+    let fa = sa.fits in
+    let fb = sb.fits in
+    let generation = same_u64 a.generation b.generation _ _ fa.generation fb.generation (sym sa.text ∙ sb.text) in
+    let node = same_u16 a.node b.node _ _ fa.node fb.node generation.1 in
+    let home = same_home a.home b.home fa.home fb.home node.1 in
+    let same : address a.generation a.node a.home ≡ address b.generation b.node b.home = cc (generation.0, node.0, home) in
+    same

@@ -1,0 +1,4 @@
+pub mod Layout
+pub mod Refusals
+pub mod Spelling
+pub mod Laws

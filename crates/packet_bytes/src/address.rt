@@ -1,0 +1,73 @@
+//! Addresses as bytes.
+ghost use Rattle.std.specs.Prelude.{◌≡◌, None, Some, length, MatchResult};
+ghost use Rattle.packet_bytes.specs.Refusals.{address_refusal, home_refusal};
+ghost use Rattle.packet_bytes.specs.Spelling.{IsHome, SpellsAddress, home_text};
+
+use crate::fields::{put_u16, put_u64, split_u16, split_u64};
+use crate::layout::{
+    ADDRESS_PORTS_AT, ADDRESS_SIZE, FLAG_AT, HOME_FIRST_AT, HOME_SIZE, LANDMARK_AT, LANDMARK_FLAG,
+    NODE_AT,
+};
+use crate::ports::{all_zero, put_ports, read_ports};
+use crate::wire::{Wire, WireRefused};
+use heavy_labels::Label;
+use node_table::{Address, Home};
+
+impl Wire for Address {
+    type Bytes = [u8; ADDRESS_SIZE];
+
+    ghost bytes_in = { λ bytes. bytes };
+
+    ghost Spells = { SpellsAddress };
+
+    ghost refusal = { address_refusal };
+
+    fn to_bytes(&self) -> [u8; ADDRESS_SIZE] {
+        let mut bytes = [0; ADDRESS_SIZE];
+        put_u64(&mut bytes, self.generation);
+        put_u16(&mut bytes[NODE_AT..], self.node);
+        if let Some(home) = &self.home {
+            bytes[FLAG_AT] = LANDMARK_FLAG;
+            put_u16(&mut bytes[LANDMARK_AT..], home.landmark);
+            put_u16(&mut bytes[HOME_FIRST_AT..], home.label.first());
+            put_ports(&mut bytes[ADDRESS_PORTS_AT..], home.label.lights());
+        }
+        bytes
+    }
+
+    fn from_bytes(bytes: &[u8]) -> Result<Address, WireRefused> {
+        if bytes.len() != ADDRESS_SIZE {
+            return Err(WireRefused::BadLength);
+        }
+        let (generation, rest) = split_u64(bytes);
+        let (node, rest) = split_u16(rest);
+        let home = read_home(rest)?;
+        Ok(Address {
+            generation,
+            node,
+            home,
+        })
+    }
+}
+
+// The landmark and label that bytes from the flag on spell, or why they spell none.
+fn read_home(bytes: &[u8]) -> Result<Option<Home>, WireRefused>
+    requires { length bytes.now ≡ HOME_SIZE }
+    ensures { MatchResult result (λ home. (home_refusal bytes.now ≡ None) × (IsHome home × (bytes.now ≡ home_text home))) (λ refused. home_refusal bytes.now ≡ Some refused) }
+{
+    let flag = bytes[0];
+    let rest = &bytes[1..];
+    if flag == 0 && all_zero(rest) {
+        return Ok(None);
+    }
+    if flag != LANDMARK_FLAG {
+        return Err(WireRefused::BadFlag);
+    }
+    let (landmark, rest) = split_u16(rest);
+    let (first, rest) = split_u16(rest);
+    let lights = read_ports(rest)?;
+    Ok(Some(Home {
+        landmark,
+        label: Label::new(first, lights),
+    }))
+}

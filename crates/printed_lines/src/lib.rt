@@ -1,0 +1,41 @@
+//! The lines that the program prints, and the faults that it tells.
+//!
+//! | Type | Its line |
+//! |---|---|
+//! | [`Formatted`] | `formatted nodes=N` |
+//! | [`Totals`], [`EdgeLine`] | `count=C edges=E`, `a b w` |
+//! | [`AcceptedLine`], [`RefusedLine`] | `accepted count=C`, `refused op=I code=K` |
+//! | [`RouteLine`], [`UnreachableLine`] | `generation=G route 0 1 2 length L`, `generation=G unreachable` |
+//! | [`CheckedLine`], [`BrokenLine`] | `ok generation=G landmarks=K`, `fault K4` |
+//!
+//! Each is shown by its `Display`, whose `output` is the text that `specs/` defines (`Lines`, `RouteLines`); [`listing_of`] is all
+//! that is printed of a graph. A command that ends without a fault ends in one of two ways ([`Ended`]), and a [`Fault`] has a text
+//! and an exit status (`specs/Faults`).
+//!
+//! The contract that the layer above uses: [`print_line`] and [`print_text`] append exactly the text to what a writer holds, or
+//! answer [`Fault::Output`]; [`tell`] appends `tznode: `, the fault's text and a line feed, or the write failed; and
+//! [`Fault::status`] is 2 exactly where the words are not understood.
+//!
+//! ```text
+//! print_line(&mut out, Formatted { nodes: 5 })?;     // formatted nodes=5
+//! tell(&mut err, Fault::NoNode)?;                    // tznode: no node
+//! ```
+//!
+//! The crate stands on the graph alone. It knows no device and no scheme: whoever knows one says what is printed of it.
+#![tactic(auto)]
+
+mod ended;
+mod fault;
+mod lines;
+mod listing;
+mod printing;
+mod route_lines;
+#[cfg(test)]
+mod tests;
+
+pub use ended::Ended;
+pub use fault::Fault;
+pub use lines::{AcceptedLine, EdgeLine, Formatted, RefusedLine, Totals};
+pub use listing::listing_of;
+pub use printing::{print_line, print_text, tell};
+pub use route_lines::{BrokenLine, CheckedLine, RouteLine, UnreachableLine};

@@ -1,0 +1,90 @@
+//! Lines and faults as texts. Expected texts are those of docs/FORMATS.md.
+use crate::{
+    AcceptedLine, BrokenLine, CheckedLine, Ended, Fault, Formatted, RefusedLine, RouteLine,
+    UnreachableLine, listing_of, print_line, print_text, tell,
+};
+use graph_edits::{Change, Code, Graph, Op};
+use std::alloc::AllocError;
+use std::fmt::Display;
+use std::io;
+use std::process::Abort;
+
+fn expect_line<R: AllocGlobal + Abort, L: Display + Drop>(rt: &R, line: L, text: &str) {
+    let mut out = Vec::new(rt.alloc());
+    assert_eq!(rt; print_line(&mut out, line), Ok(()), "{text}");
+    assert_eq!(rt; out.as_slice(), text.as_bytes());
+}
+
+#[test]
+fn texts_of_lines(rt: HostRuntime) {
+    expect_line(&rt, Formatted { nodes: 5 }, "formatted nodes=5\n");
+    expect_line(&rt, AcceptedLine { count: 2 }, "accepted count=2\n");
+    let refused = RefusedLine {
+        op: 1,
+        code: Code::NoEdge,
+    };
+    expect_line(&rt, refused, "refused op=1 code=5\n");
+    let route = RouteLine {
+        generation: 1,
+        nodes: &[0, 1, 2],
+        length: 2,
+    };
+    expect_line(&rt, route, "generation=1 route 0 1 2 length 2\n");
+    let unreachable = UnreachableLine { generation: 1 };
+    expect_line(&rt, unreachable, "generation=1 unreachable\n");
+    let checked = CheckedLine {
+        generation: 1,
+        landmarks: 0,
+    };
+    expect_line(&rt, checked, "ok generation=1 landmarks=0\n");
+    expect_line(&rt, BrokenLine { check: "K4" }, "fault K4\n");
+    assert_eq!(&rt; Ended::Done.status(), 0);
+    assert_eq!(&rt; Ended::Refused.status(), 1);
+}
+
+#[test]
+fn listing_of_a_graph(rt: HostRuntime) -> io::Result<()> {
+    let mut graph = Graph::empty(rt.alloc(), 3)?;
+    let change = Change::new(&[Op::Add(2, 1, 3), Op::Add(0, 2, 7)]).expect(&rt, "two ops");
+    assert_eq!(&rt; graph.apply(&change), Ok(()));
+    let text = listing_of(rt.alloc(), 1, &graph)?;
+    let mut out = Vec::new(rt.alloc());
+    assert_eq!(&rt; print_text(&mut out, text.as_str()), Ok(()));
+    assert_eq!(&rt;
+        out.as_slice(),
+        "count=1 edges=2\n0 2 7\n1 2 3\n".as_bytes()
+    );
+    Ok(())
+}
+
+#[test]
+fn texts_of_faults(rt: HostRuntime) -> io::Result<()> {
+    let faults = [
+        (Fault::Usage, "usage", 2),
+        (Fault::Op, "op not understood", 2),
+        (Fault::Words, "words not understood", 2),
+        (Fault::ChangeTooLong, "change too long", 1),
+        (Fault::NodeCount, "node count out of range", 1),
+        (Fault::DeviceLength, "device length is wrong", 1),
+        (Fault::DeviceFile, "device file cannot be used", 1),
+        (Fault::NotFormatted, "not formatted", 1),
+        (Fault::LayoutNotKnown, "layout not known", 1),
+        (Fault::Damaged, "damaged", 1),
+        (Fault::Device, "device failed", 1),
+        (Fault::Memory, "out of memory", 1),
+        (Fault::Worn, "worn out", 1),
+        (Fault::NoNode, "no node", 1),
+        (Fault::Output, "input or output failed", 1),
+    ];
+    for (fault, text, status) in faults {
+        let shown = format!(in rt.alloc(); "{fault}")?;
+        assert_eq!(&rt; shown.as_str(), text);
+        assert_eq!(&rt; fault.status(), status, "{text}");
+        let line = format!(in rt.alloc(); "tznode: {}\n", shown.as_str())?;
+        let mut err = Vec::new(rt.alloc());
+        tell(&mut err, fault)?;
+        assert_eq!(&rt; err.as_slice(), line.as_str().as_bytes());
+    }
+    assert_eq!(&rt; Fault::from(AllocError), Fault::Memory);
+    Ok(())
+}

@@ -1,0 +1,31 @@
+//! The laws of standing and of the layout.
+ghost use Rattle.std.specs.Prelude.{◌≡◌};
+ghost use Rattle.recovery.specs.Layout.{device_len, worn_limit, sessions, head_len, tickets_len, edges_start, checkpoint_room, journal_room, slot_room, version, slot_start, journal_start};
+ghost use Rattle.recovery.specs.Standing.{OneState};
+
+use crate::layout::{
+    CHECKPOINT_ROOM, DEVICE_LEN, EDGES_START, HEAD_LEN, JOURNAL_ROOM, SLOT_ROOM, TICKETS_LEN,
+    VERSION, WORN_LIMIT,
+};
+use requests::SESSIONS;
+
+/// An image stands for at most one state.
+pub fn standing_law()
+    ensures { OneState }
+{}
+
+/// The constants are the numbers of the format.
+pub fn layout_law()
+    ensures worn_limit { WORN_LIMIT ≡ worn_limit }
+    ensures sessions { SESSIONS ≡ sessions }
+    ensures version { VERSION ≡ version }
+    ensures head { HEAD_LEN ≡ head_len }
+    ensures tickets { TICKETS_LEN ≡ tickets_len }
+    ensures edges { EDGES_START ≡ edges_start }
+    ensures checkpoint { CHECKPOINT_ROOM ≡ checkpoint_room }
+    ensures journal { JOURNAL_ROOM ≡ journal_room }
+    ensures slot { SLOT_ROOM ≡ slot_room }
+    ensures device { DEVICE_LEN ≡ device_len }
+    ensures first_slot { (slot_start 0 ≡ 4096) × (journal_start 0 ≡ 532480) }
+    ensures second_slot { (slot_start 1 ≡ 1581056) × (journal_start 1 ≡ 2109440) }
+{}

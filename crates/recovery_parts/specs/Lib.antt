@@ -1,0 +1,4 @@
+pub mod Ascending
+pub mod EdgeTexts
+pub mod Refusals
+pub mod Heads

@@ -1,0 +1,3 @@
+pub mod Tickets
+pub mod Requests
+pub mod Laws

@@ -1,6 +1,0 @@
-use Rattle.std.proofs.Common.{◌≡◌, drop}
-use Rattle.graph_edits.specs.Changes.{fold}
-use Rattle.standing.proofs.opening.apply_all.Given as goal
-
-abbrev pub invariant-loop-change : goal.invariant-loop-change
-invariant-loop-change l = fold l.fn.graph l.changes ≡ fold l.graph (drop l.change-index l.changes)
