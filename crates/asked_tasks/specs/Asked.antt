@@ -1,15 +1,16 @@
 -- What the program's words ask for.
-use Rattle.std.specs.Prelude.{◌≡◌, ◌≤◌, ◌<◌, ◌^◌, ℕ, List, [], Some, codes, decimal, map, length, All}
+use Rattle.std.specs.Prelude.{◌≡◌, ◌≤◌, ◌<◌, ◌^◌, ℕ, List, [], Option, Some, None, codes, decimal, map, option_map, length, All}
 use Rattle.clap.specs.Walk.{Row, Text, first_of, all_of}
 use Rattle.clap.specs.Simple.{subcommand_of}
 use Rattle.clap.specs.Faults.{fault_of}
 use Rattle.graph_edits.specs.Edges.{most_ops}
 use Rattle.graph_edits.specs.declared.edits.Op.{Op}
+use Rattle.requests.specs.Tickets.{sessions, worn_limit}
 use Rattle.given_words.specs.declared.words.LandmarkWords.{LandmarkWords}
 use Rattle.given_words.specs.OpText.{Fits, op_text}
 use Rattle.given_words.specs.WordsText.{IsAsked, IsSame, words_text}
 use Rattle.asked_tasks.specs.declared.task.Task.{Task}
-use Rattle.asked_tasks.specs.declared.task.Task.TheVariants.{Format, Show, Edit, Route, Check}
+use Rattle.asked_tasks.specs.declared.task.Task.TheVariants.{Format, Show, Edit, Resume, Route, Check}
 use Rattle.asked_tasks.specs.Grammar.{program}
 
 -- the argument has this text
@@ -24,9 +25,23 @@ IsFormat name rows device nodes = (name ≡ codes "format") × Gives rows (codes
 abbrev pub IsShow : Text → List Row → Text → Type 0
 IsShow name rows device = (name ≡ codes "show") × Gives rows (codes "device") device
 
--- `edit DEVICE OP..`, with each op of the change, in order, and no other
-abbrev pub IsEdit : Text → List Row → Text → List Op → Type 0
-IsEdit name rows device change = (name ≡ codes "edit") × Gives rows (codes "device") device × (all_of (codes "ops") rows ≡ Some (map op_text change))
+-- a ticket that is named is at least 1, and no greater than the greatest
+abbrev pub IsTicket : Option ℕ → Type 0
+IsTicket None = Unit {0}
+IsTicket (Some ticket) = (1 ≤ ticket) × (ticket ≤ worn_limit)
+
+-- `--ticket T`, with T a ticket in decimal, or none of it
+abbrev pub IsTicketAsked : List Row → Option ℕ → Type 0
+IsTicketAsked rows ticket = (first_of (codes "ticket") rows ≡ option_map decimal ticket) × IsTicket ticket
+
+-- `edit DEVICE OP.. --ticket T`, with each op of the change, in order, and no other
+abbrev pub IsEdit : Text → List Row → Text → Option ℕ → List Op → Type 0
+IsEdit name rows device ticket change =
+    (name ≡ codes "edit") × Gives rows (codes "device") device × IsTicketAsked rows ticket × (all_of (codes "ops") rows ≡ Some (map op_text change))
+
+-- `resume DEVICE S`, with S a session in decimal
+abbrev pub IsResume : Text → List Row → Text → ℕ → Type 0
+IsResume name rows device session = (name ≡ codes "resume") × Gives rows (codes "device") device × Gives rows (codes "session") (decimal session) × (session < sessions)
 
 -- `--words W`, with W as landmark words are written
 abbrev pub AreWordsAsked : List Row → LandmarkWords → Type 0
@@ -45,7 +60,8 @@ IsCheck name rows device words = (name ≡ codes "check") × Gives rows (codes "
 abbrev pub IsTask : Text → List Row → Task → Type 0
 IsTask name rows (Format device nodes) = IsFormat name rows device.now nodes
 IsTask name rows (Show device) = IsShow name rows device.now
-IsTask name rows (Edit device change) = IsEdit name rows device.now change
+IsTask name rows (Edit device ticket change) = IsEdit name rows device.now ticket change
+IsTask name rows (Resume device session) = IsResume name rows device.now session
 IsTask name rows (Route device from to words) = IsRoute name rows device.now from to words
 IsTask name rows (Check device words) = IsCheck name rows device.now words
 
@@ -61,7 +77,8 @@ IsAskedFor words task = (name : Text) × (rows : List Row) × IsCommand words na
 abbrev pub IsInRange : Task → Type 0
 IsInRange (Format device nodes) = nodes < 2 ^ 16
 IsInRange (Show device) = Unit {0}
-IsInRange (Edit device change) = All Fits change × (1 ≤ length change) × (length change ≤ most_ops)
+IsInRange (Edit device ticket change) = All Fits change × (1 ≤ length change) × (length change ≤ most_ops)
+IsInRange (Resume device session) = Unit {0}
 IsInRange (Route device from to words) = (from < 2 ^ 16) × (to < 2 ^ 16)
 IsInRange (Check device words) = Unit {0}
 
@@ -69,7 +86,8 @@ IsInRange (Check device words) = Unit {0}
 abbrev pub IsSameTask : Task → Task → Type 0
 IsSameTask (Format device nodes) (Format other count) = (device.now ≡ other.now) × (nodes ≡ count)
 IsSameTask (Show device) (Show other) = device.now ≡ other.now
-IsSameTask (Edit device change) (Edit other ops) = (device.now ≡ other.now) × (change ≡ ops)
+IsSameTask (Edit device ticket change) (Edit other asked ops) = (device.now ≡ other.now) × (ticket ≡ asked) × (change ≡ ops)
+IsSameTask (Resume device session) (Resume other asked) = (device.now ≡ other.now) × (session ≡ asked)
 IsSameTask (Route device from to words) (Route other u v asked) = (device.now ≡ other.now) × (from ≡ u) × (to ≡ v) × IsSame words asked
 IsSameTask (Check device words) (Check other asked) = (device.now ≡ other.now) × IsSame words asked
 IsSameTask task other = ⊥

@@ -17,6 +17,10 @@ ops_rule = record (text_rule (codes "ops")) { range = Some (record { start_inclu
 abbrev pub words_rule : Rule
 words_rule = record (text_rule (codes "words")) { long = Some (codes "words") }
 
+-- `--ticket T`, which may be left out
+abbrev pub ticket_rule : Rule
+ticket_rule = record (new_rule (codes "ticket")) { long = Some (codes "ticket"); action = Some Set }
+
 -- a command on a device: `NAME DEVICE`
 abbrev pub on_device_app : Text → App
 on_device_app name = with_rule (new_app name) (text_rule (codes "device"))
@@ -29,9 +33,13 @@ format_app = with_rule (on_device_app (codes "format")) (text_rule (codes "nodes
 abbrev pub show_app : App
 show_app = on_device_app (codes "show")
 
--- `edit DEVICE OP..`
+-- `edit DEVICE OP.. --ticket T`
 abbrev pub edit_app : App
-edit_app = with_rule (on_device_app (codes "edit")) ops_rule
+edit_app = with_rule (with_rule (on_device_app (codes "edit")) ops_rule) ticket_rule
+
+-- `resume DEVICE S`
+abbrev pub resume_app : App
+resume_app = with_rule (on_device_app (codes "resume")) (text_rule (codes "session"))
 
 -- `route DEVICE FROM TO --words W`
 abbrev pub route_app : App
@@ -47,4 +55,7 @@ bare_app = on_top (λ s. record s { no_binary_name = true; subcommand_required =
 
 -- the program's grammar
 unfoldable pub program : App
-program = with_subcommand (with_subcommand (with_subcommand (with_subcommand (with_subcommand bare_app format_app.top) show_app.top) edit_app.top) route_app.top) check_app.top
+program =
+    with_subcommand
+    (with_subcommand (with_subcommand (with_subcommand (with_subcommand (with_subcommand bare_app format_app.top) show_app.top) edit_app.top) resume_app.top) route_app.top)
+    check_app.top

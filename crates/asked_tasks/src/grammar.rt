@@ -3,7 +3,7 @@ ghost use Rattle.std.specs.Prelude.{◌≡◌, IfOk, false};
 ghost use Rattle.clap.specs.Walk.{rule_of};
 ghost use Rattle.clap.specs.Words.{app_of, with_rule};
 ghost use Rattle.clap.specs.declared.builder.command.Command.TheViews.{out-Command};
-ghost use Rattle.asked_tasks.specs.Grammar.{on_device_app, program, text_rule, words_rule};
+ghost use Rattle.asked_tasks.specs.Grammar.{edit_app, on_device_app, program, text_rule, words_rule};
 
 use clap::{Arg, ArgAction, Command};
 use std::alloc::{AllocError, Global};
@@ -22,6 +22,24 @@ fn on_device<'a>(alloc: Global, name: &'a str) -> Result<Command<'a>, AllocError
     Command::new(alloc, name).arg(text(alloc, "device"))
 }
 
+fn on_device_with<'a>(alloc: Global, name: &'a str, id: &'a str) -> Result<Command<'a>, AllocError>
+    ensures app { IfOk result (λ command. app_of command ≡ with_rule (on_device_app name.entry.now) (text_rule id.entry.now)) }
+    ensures local { IfOk result (λ command. (out-Command command).has_globals ≡ false) }
+{
+    on_device(alloc, name)?.arg(text(alloc, id))
+}
+
+fn edit_command<'a>(alloc: Global) -> Result<Command<'a>, AllocError>
+    ensures app { IfOk result (λ command. app_of command ≡ edit_app) }
+    ensures local { IfOk result (λ command. (out-Command command).has_globals ≡ false) }
+{
+    let ops = text(alloc, "ops").num_args(1..);
+    let ticket = Arg::new(alloc, "ticket")
+        .long("ticket")
+        .action(ArgAction::Set);
+    on_device(alloc, "edit")?.arg(ops)?.arg(ticket)
+}
+
 fn with_words<'a>(alloc: Global, command: Command<'a>) -> Result<Command<'a>, AllocError>
     ensures app { IfOk result (λ whole. app_of whole ≡ with_rule (app_of command.entry) words_rule) }
     ensures local { (out-Command command.entry).has_globals ≡ false → IfOk result (λ whole. (out-Command whole).has_globals ≡ false) }
@@ -33,13 +51,11 @@ fn with_words<'a>(alloc: Global, command: Command<'a>) -> Result<Command<'a>, Al
 pub(crate) fn grammar<'a>(alloc: Global) -> Result<Command<'a>, AllocError>
     ensures { IfOk result (λ command. app_of command ≡ program) }
 {
-    let format = on_device(alloc, "format")?.arg(text(alloc, "nodes"))?;
+    let format = on_device_with(alloc, "format", "nodes")?;
     let show = on_device(alloc, "show")?;
-    let ops = text(alloc, "ops").num_args(1..);
-    let edit = on_device(alloc, "edit")?.arg(ops)?;
-    let ends = on_device(alloc, "route")?
-        .arg(text(alloc, "from"))?
-        .arg(text(alloc, "to"))?;
+    let edit = edit_command(alloc)?;
+    let resume = on_device_with(alloc, "resume", "session")?;
+    let ends = on_device_with(alloc, "route", "from")?.arg(text(alloc, "to"))?;
     let route = with_words(alloc, ends)?;
     let check = with_words(alloc, on_device(alloc, "check")?)?;
     Command::new(alloc, "tznode")
@@ -48,6 +64,7 @@ pub(crate) fn grammar<'a>(alloc: Global) -> Result<Command<'a>, AllocError>
         .subcommand(format)?
         .subcommand(show)?
         .subcommand(edit)?
+        .subcommand(resume)?
         .subcommand(route)?
         .subcommand(check)
 }

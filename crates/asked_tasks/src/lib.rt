@@ -4,7 +4,8 @@
 //! |---|---|
 //! | `format DEVICE N` | [`Task::Format`] |
 //! | `show DEVICE` | [`Task::Show`] |
-//! | `edit DEVICE OP..` | [`Task::Edit`], of 1 to 16 OPs |
+//! | `edit DEVICE OP.. --ticket T` | [`Task::Edit`], of 1 to 16 OPs; `--ticket T` may be left out |
+//! | `resume DEVICE S` | [`Task::Resume`] |
 //! | `route DEVICE FROM TO --words W` | [`Task::Route`] |
 //! | `check DEVICE --words W` | [`Task::Check`] |
 //!

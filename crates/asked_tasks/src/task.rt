@@ -1,20 +1,22 @@
 //! What the program's words ask for.
-ghost use Rattle.std.specs.Prelude.{◌≡◌, ◌≤◌, ◌<◌, ◌^◌, ◌⊎◌, ℕ, List, IfOk, IfErr, IsErrOf, Some, None, [], codes, decimal, map, option_map, All, length};
+ghost use Rattle.std.specs.Prelude.{◌≡◌, ◌≤◌, ◌<◌, ◌^◌, ◌⊎◌, ℕ, List, Option, IfOk, IfErr, IsErrOf, Some, None, [], codes, decimal, map, option_map, All, length};
 ghost use Rattle.clap.specs.Walk.{rows_of, texts};
 ghost use Rattle.clap.specs.Words.{first_value, found_of, kind_of, matched_of, raw_values};
 ghost use Rattle.graph_edits.specs.declared.edits.Op.{Op};
+ghost use Rattle.requests.specs.Tickets.{sessions};
 ghost use Rattle.given_words.specs.declared.words.LandmarkWords.{LandmarkWords};
 ghost use Rattle.given_words.specs.OpText.{Fits, op_text};
 ghost use Rattle.given_words.specs.WordsText.{IsAsked, IsSame, words_text};
-ghost use Rattle.asked_tasks.specs.Asked.{IsAskedFor, IsInRange, IsSameTask, IsTask};
+ghost use Rattle.asked_tasks.specs.Asked.{IsAskedFor, IsInRange, IsSameTask, IsTask, IsTicket};
 ghost use Rattle.asked_tasks.specs.declared.task.Task.{Task};
 
 use crate::grammar::grammar;
 use crate::refused::WordsRefused;
 use clap::error::ErrorKind;
 use clap::{ArgMatches, Error};
-use given_words::{LandmarkWords, landmark_words, node, op};
+use given_words::{LandmarkWords, landmark_words, node, number, op};
 use graph_edits::{Change, MOST_OPS, Op, Shape};
+use requests::{SESSIONS, WORN_LIMIT};
 use std::alloc::{AllocError, Global};
 
 /// One command with its words understood.
@@ -29,10 +31,18 @@ pub enum Task<'a> {
     Show {
         device: &'a str,
     },
-    /// Make one change.
+    /// Make one change, under a ticket of its own or under the next one.
     Edit {
         device: &'a str,
+        /// 1 to the greatest ticket, where one is named.
+        ticket: Option<u64>,
         change: Change,
+    },
+    /// Print the last ticket of a session.
+    Resume {
+        device: &'a str,
+        /// Below the number of sessions.
+        session: u8,
     },
     /// Carry a packet from a node to a node.
     Route {
@@ -94,7 +104,13 @@ fn task_of<'a>(alloc: Global, name: &str, found: &ArgMatches<'a>) -> Result<Task
     } else if name == "edit" {
         Ok(Task::Edit {
             device,
+            ticket: ticket(alloc, found)?,
             change: change(alloc, found)?,
+        })
+    } else if name == "resume" {
+        Ok(Task::Resume {
+            device,
+            session: session(alloc, found)?,
         })
     } else if name == "route" {
         Ok(Task::Route {
@@ -126,6 +142,39 @@ fn whole(alloc: Global, found: &ArgMatches<'_>, id: &str) -> Result<u16, WordsRe
     match node(alloc, text)? {
         Some(number) => Ok(number),
         None => Err(WordsRefused::Usage),
+    }
+}
+
+// A session's number.
+fn session(alloc: Global, found: &ArgMatches<'_>) -> Result<u8, WordsRefused>
+    ensures found { IfOk result (λ n. (first_value (found_of found.entry.now) (codes "session") ≡ Some (decimal n)) × (n < sessions)) }
+    ensures same { (n : ℕ) → n < sessions → first_value (found_of found.entry.now) (codes "session") ≡ Some (decimal n) → IfOk result (λ m. m ≡ n) }
+    ensures only { (n : ℕ) → n < sessions → first_value (found_of found.entry.now) (codes "session") ≡ Some (decimal n) → IfErr result (λ refused. refused ≡ WordsRefused.Memory) }
+    ensures refusals { IfErr result (λ refused. (refused ≡ WordsRefused.Usage) ⊎ (refused ≡ WordsRefused.Memory)) }
+{
+    let Some(text) = found.get_str("session") else {
+        return Err(WordsRefused::Usage);
+    };
+    match number(alloc, text, SESSIONS as u64 - 1)? {
+        Some(session) => Ok(session as u8),
+        None => Err(WordsRefused::Usage),
+    }
+}
+
+// A ticket, where one is named.
+fn ticket(alloc: Global, found: &ArgMatches<'_>) -> Result<Option<u64>, WordsRefused>
+    ensures found { IfOk result (λ ticket. first_value (found_of found.entry.now) (codes "ticket") ≡ option_map decimal ticket) }
+    ensures fits { IfOk result IsTicket }
+    ensures same { (ticket : Option ℕ) → IsTicket ticket → first_value (found_of found.entry.now) (codes "ticket") ≡ option_map decimal ticket → IfOk result (λ read. read ≡ ticket) }
+    ensures only { (ticket : Option ℕ) → IsTicket ticket → first_value (found_of found.entry.now) (codes "ticket") ≡ option_map decimal ticket → IfErr result (λ refused. refused ≡ WordsRefused.Memory) }
+    ensures refusals { IfErr result (λ refused. (refused ≡ WordsRefused.Usage) ⊎ (refused ≡ WordsRefused.Memory)) }
+{
+    let Some(text) = found.get_str("ticket") else {
+        return Ok(None);
+    };
+    match number(alloc, text, WORN_LIMIT)? {
+        Some(0) | None => Err(WordsRefused::Usage),
+        Some(ticket) => Ok(Some(ticket)),
     }
 }
 

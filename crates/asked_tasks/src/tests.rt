@@ -52,8 +52,30 @@ fn tasks(rt: HostRuntime) -> io::Result<()> {
     expect_task(
         &rt,
         "edit|d|add:0:1:7|cut:2:3",
-        Task::Edit { device, change },
+        Task::Edit {
+            device,
+            ticket: None,
+            change,
+        },
     )?;
+    for (line, ticket) in [
+        ("edit|d|cut:2:3|--ticket|1", 1),
+        (
+            "edit|--ticket=9223372036854775807|d|cut:2:3",
+            9_223_372_036_854_775_807,
+        ),
+    ] {
+        let change = Change::new(&[Op::Cut(2, 3)]).expect(&rt, "one op");
+        let edit = Task::Edit {
+            device,
+            ticket: Some(ticket),
+            change,
+        };
+        expect_task(&rt, line, edit)?;
+    }
+    for (line, session) in [("resume|d|0", 0), ("resume|d|63", 63)] {
+        expect_task(&rt, line, Task::Resume { device, session })?;
+    }
     let (from, to) = (3, 4);
     let words = LandmarkWords::Drawn(7);
     let route = Task::Route {
@@ -92,6 +114,26 @@ show|d|5
 show|d|--words|none
 edit
 edit|d
+edit|d|--ticket|1
+edit|d|cut:0:1|--ticket
+edit|d|cut:0:1|--ticket|
+edit|d|cut:0:1|--ticket|0
+edit|d|cut:0:1|--ticket|01
+edit|d|cut:0:1|--ticket|+1
+edit|d|cut:0:1|--ticket|x
+edit|d|cut:0:1|--ticket|9223372036854775808
+edit|d|cut:0:1|--ticket|18446744073709551617
+edit|d|cut:0:1|--ticket|1|--ticket|2
+edit|d|cut|--ticket|0
+resume
+resume|d
+resume|d|64
+resume|d|256
+resume|d|00
+resume|d|-1
+resume|d|x
+resume|d|0|0
+resume|d|0|--ticket|1
 route|d|0|1
 route|d|0|--words|none
 route|d|0|1|2|--words|none

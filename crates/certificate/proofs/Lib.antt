@@ -1,6 +1,7 @@
 pub mod Found
 pub mod LookUps
 pub mod FirstRules
+pub mod SideBySide
 pub mod Verdict
 pub mod LocalRules
 pub mod LabelLemmas

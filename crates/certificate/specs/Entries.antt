@@ -1,5 +1,5 @@
 -- What each rule says of one entry of a node, and of one node.
-use Rattle.std.specs.Prelude.{◌≡◌, ◌≢◌, ℕ, ◌+◌, ◌<◌, ◌≤◌, ◌⊎◌, ◌↔◌, true, false, Some, None, IsSome, MatchOption, [], length}
+use Rattle.std.specs.Prelude.{◌≡◌, ◌≢◌, ℕ, ◌+◌, ◌<◌, ◌≤◌, ◌⊎◌, ◌↔◌, true, false, Some, None, IsSome, MatchOption, List, [], length, slice_index}
 use Rattle.std.specs.List.{All}
 use Rattle.std.specs.List.Sorted.{IsStrictlyIncreasing}
 use Rattle.node_table.specs.declared.parts.Parts.{Parts}
@@ -12,6 +12,20 @@ use Rattle.node_table.specs.Tables.{Tables, tables, entries_at, directory_at, po
 -- each entry of each node
 abbrev pub EachEntry : Network → Parts → (ℕ → Entry → Type 0) → Type 0
 EachEntry m p P = (x : ℕ) → x < m.nodes → All (P x) (entries_at p x)
+
+-- every node's entries ascend by root
+abbrev pub AllAscend : Parts → Type 0
+AllAscend p = (x : ℕ) → IsStrictlyIncreasing (roots_of (entries_at p x))
+
+-- the first n of a list's roots are below r
+abbrev pub AreBelow : ℕ → ℕ → List Entry → Type 0
+AreBelow r n es = (k : ℕ) → k < n → slice_index (roots_of es) k < r
+
+-- n is the first place of a list whose root isn't below r
+pub record IsPlaceFor (r n : ℕ) (es : List Entry) : Type 0 where
+  pub within : n ≤ length es
+  pub below : AreBelow r n es
+  pub above : n < length es → r ≤ slice_index (roots_of es) n
 
 -- ---- Shape
 
@@ -59,6 +73,14 @@ IsTightBy m t x e y = (w : ℕ) × ((g : Entry) × ((weight_in m x y ≡ Some w)
 -- the neighbour f.0 is not before y, or does not give the distance
 unfoldable pub IsNoEarlier : Tables → Entry → ℕ → ℕ × ℕ → Type 0
 IsNoEarlier t e y f = (g : Entry) → f.0 < y → t.entry f.0 e.root ≡ Some g → e.distance ≢ g.distance + f.1
+
+-- the entry's parent gives its distance, where it has one
+unfoldable pub HasTightParent : Network → Tables → ℕ → Entry → Type 0
+HasTightParent m t x e = (y : ℕ) → e.parent ≡ Some y → IsTightBy m t x e y
+
+-- the neighbour f.0 is not before the entry's parent, or does not give the distance
+unfoldable pub IsLater : Tables → Entry → ℕ × ℕ → Type 0
+IsLater t e f = (y : ℕ) → e.parent ≡ Some y → IsNoEarlier t e y f
 
 -- the entry's parent gives its distance, and no smaller neighbour does
 unfoldable pub IsTightAt : Network → Tables → ℕ → Entry → Type 0

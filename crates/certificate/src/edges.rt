@@ -1,11 +1,12 @@
 // Edges: an entry leads over every edge to an entry no farther, or to where a landmark is as near.
-ghost use Rattle.std.specs.Prelude.{◌≡◌, ◌+◌, ◌<◌, ◌≤◌, ◌↔◌, ℕ, IsTrue, Some};
+ghost use Rattle.std.specs.Prelude.{◌≡◌, ◌+◌, ◌<◌, ◌≤◌, ◌↔◌, ℕ, IsTrue, MatchOption, None, Some};
 ghost use Rattle.std.specs.List.{All};
-ghost use Rattle.certificate.specs.Entries.{EachEntry, IsClosedAt, IsClosedOver};
+ghost use Rattle.certificate.specs.Entries.{AllAscend, EachEntry, IsClosedAt, IsClosedOver};
 ghost use Rattle.distances.specs.declared.nearest.Near.{Near};
 ghost use Rattle.node_table.specs.Tables.{entries_at, tables};
 ghost use Rattle.node_table.specs.Checks.{Holds, IsShaped, k2};
 
+use crate::pairs::{entry_at, place_from};
 use crate::sums::is_at_most;
 use graph_edits::Graph;
 use node_table::{Entry, Scheme};
@@ -20,37 +21,50 @@ fn is_landmark_near(scheme: &Scheme, y: u16, distance: u64, weight: u32) -> bool
     }
 }
 
+/// Whether an entry is closed over an edge, behind which this entry stands for the same root, if there is one.
 #[tactic(auto, unfolding(crate::specs::Entries::IsClosedOver))]
-fn is_closed_over(scheme: &Scheme, entry: &Entry, edge: (u16, u32)) -> bool
+fn is_closed_over(scheme: &Scheme, entry: &Entry, edge: (u16, u32), behind: Option<&Entry>) -> bool
+    requires { MatchOption behind ((tables scheme.now).entry edge.0 entry.now.root ≡ None) (λ f. (tables scheme.now).entry edge.0 entry.now.root ≡ Some f.now) }
     ensures { IsTrue result ↔ IsClosedOver (tables scheme.now) entry.now edge }
 {
     let (y, weight) = edge;
-    match scheme.entry(y, entry.root) {
+    match behind {
         Some(there) => is_at_most(there.distance, entry.distance, weight),
         None => !scheme.is_landmark(entry.root)
             && is_landmark_near(scheme, y, entry.distance, weight),
     }
 }
 
-#[tactic(auto, unfolding(crate::specs::Entries::IsClosedAt))]
-fn is_closed(graph: &Graph, scheme: &Scheme, x: u16, entry: &Entry) -> bool
-    requires { x < graph.now.nodes }
-    ensures { IsTrue result ↔ IsClosedAt graph.now (tables scheme.now) x entry.now }
+/// Whether every entry of a node is closed over one edge. The entries of both its ends are walked side by side.
+fn are_closed_over(scheme: &Scheme, x: u16, edge: (u16, u32)) -> bool
+    requires { AllAscend scheme.now }
+    ensures { IsTrue result ↔ All (λ e. IsClosedOver (tables scheme.now) e edge) (entries_at scheme.now x) }
 {
-    graph
-        .neighbours(x)
-        .iter()
-        .all(|edge| is_closed_over(scheme, entry, *edge))
+    let here = scheme.entries_of(x);
+    let there = scheme.entries_of(edge.0);
+    let mut at = 0;
+    for entry in here {
+        at = place_from(there, at, entry.root);
+        if !is_closed_over(scheme, entry, edge, entry_at(there, at, entry.root)) {
+            return false;
+        }
+    }
+    true
 }
 
+/// Whether every entry of a node is closed over each of its edges.
 fn are_closed(graph: &Graph, scheme: &Scheme, x: u16) -> bool
-    requires { x < graph.now.nodes }
+    requires inside { x < graph.now.nodes }
+    requires ascend { AllAscend scheme.now }
     ensures { IsTrue result ↔ All (IsClosedAt graph.now (tables scheme.now) x) (entries_at scheme.now x) }
 {
-    scheme
-        .entries_of(x)
-        .iter()
-        .all(|entry| is_closed(graph, scheme, x, entry))
+    let row = graph.neighbours(x);
+    for edge in row {
+        if !are_closed_over(scheme, x, *edge) {
+            return false;
+        }
+    }
+    true
 }
 
 /// Whether every entry is closed over every edge.

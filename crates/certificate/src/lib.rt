@@ -14,7 +14,8 @@
 //! | K7 Labels | every label is that of its tree |
 //! | K8 Directories | directories list exactly the members of their trees, homes go with nearest landmarks |
 //!
-//! The first five are tested entry by entry, over the edges of the entry's node. A record is tested against those of its
+//! Shape, Strict and Nearest are tested entry by entry. Edges and Parents are tested edge by edge: the entries of both its
+//! ends ascend, so they are walked side by side, and none is searched for. A record is tested against those of its
 //! children, which are neighbours: one pass over the ports finds the heavy child, a second one counts the others through.
 //! A label is tested by a climb from its node, which meets the label's light ports from the last to the first. That these
 //! tests are the rules is proved: the trees, records and labels are those of Thorup and Zwick, Compact Routing Schemes, in
@@ -38,6 +39,7 @@ mod edges;
 mod fault;
 mod labels;
 mod nearest;
+mod pairs;
 mod parents;
 mod ports;
 mod records;

@@ -1,11 +1,11 @@
 // Parents: an entry's distance is its parent's and the edge, and no smaller neighbour gives the same.
-ghost use Rattle.std.specs.Prelude.{◌≡◌, ◌<◌, ◌↔◌, ℕ, IsTrue};
+ghost use Rattle.std.specs.Prelude.{◌≡◌, ◌<◌, ◌↔◌, ℕ, IsTrue, MatchOption, None, Some};
 ghost use Rattle.std.specs.List.{All};
-ghost use Rattle.certificate.specs.Entries.{EachEntry, IsNoEarlier, IsTightAt, IsTightBy};
-ghost use Rattle.graph_edits.specs.Edges.{neighbours_of};
-ghost use Rattle.node_table.specs.Tables.{entries_at, tables};
+ghost use Rattle.certificate.specs.Entries.{AllAscend, EachEntry, HasTightParent, IsLater, IsNoEarlier, IsTightAt, IsTightBy};
+ghost use Rattle.node_table.specs.Tables.{Tables, entries_at, tables};
 ghost use Rattle.node_table.specs.Checks.{Holds, IsShaped, k3};
 
+use crate::pairs::{entry_at, place_from};
 use crate::sums::is_sum;
 use graph_edits::Graph;
 use node_table::{Entry, Scheme};
@@ -23,51 +23,86 @@ fn is_tight_by(graph: &Graph, scheme: &Scheme, x: u16, entry: &Entry, y: u16) ->
     }
 }
 
+/// Whether the parent that an entry names gives its distance.
+#[tactic(auto, unfolding(crate::specs::Entries::HasTightParent))]
+fn has_tight_parent(graph: &Graph, scheme: &Scheme, x: u16, entry: &Entry) -> bool
+    ensures { IsTrue result ↔ HasTightParent graph.now (tables scheme.now) x entry.now }
+{
+    match entry.parent {
+        Some(y) => is_tight_by(graph, scheme, x, entry, y),
+        None => true,
+    }
+}
+
+/// The same for every entry of a node.
+fn have_tight_parents(graph: &Graph, scheme: &Scheme, x: u16) -> bool
+    ensures { IsTrue result ↔ All (HasTightParent graph.now (tables scheme.now) x) (entries_at scheme.now x) }
+{
+    scheme
+        .entries_of(x)
+        .iter()
+        .all(|entry| has_tight_parent(graph, scheme, x, entry))
+}
+
+/// Whether the neighbour over an edge is not before y or does not give an entry's distance. Behind the edge this entry
+/// stands for the same root, if there is one.
 #[tactic(auto, unfolding(crate::specs::Entries::IsNoEarlier))]
-fn is_no_earlier(scheme: &Scheme, entry: &Entry, y: u16, edge: (u16, u32)) -> bool
-    ensures { IsTrue result ↔ IsNoEarlier (tables scheme.now) entry.now y edge }
+fn is_no_earlier(entry: &Entry, y: u16, edge: (u16, u32), behind: Option<&Entry>) -> bool
+    ensures { (t : Tables) → MatchOption behind.entry (t.entry edge.0 entry.now.root ≡ None) (λ f. t.entry edge.0 entry.now.root ≡ Some f.now)
+        → IsTrue result ↔ IsNoEarlier t entry.now y edge }
 {
     let (z, weight) = edge;
     if z >= y {
         return true;
     }
-    match scheme.entry(z, entry.root) {
+    match behind {
         Some(there) => !is_sum(entry.distance, there.distance, weight),
         None => true,
     }
 }
 
-fn none_earlier(graph: &Graph, scheme: &Scheme, x: u16, entry: &Entry, y: u16) -> bool
-    requires { x < graph.now.nodes }
-    ensures { IsTrue result ↔ All (IsNoEarlier (tables scheme.now) entry.now y) (neighbours_of graph.now x) }
-{
-    graph
-        .neighbours(x)
-        .iter()
-        .all(|edge| is_no_earlier(scheme, entry, y, *edge))
-}
-
-#[tactic(auto, unfolding(crate::specs::Entries::IsTightAt))]
-fn is_tight(graph: &Graph, scheme: &Scheme, x: u16, entry: &Entry) -> bool
-    requires { x < graph.now.nodes }
-    ensures { IsTrue result ↔ IsTightAt graph.now (tables scheme.now) x entry.now }
+/// The same for the parent that the entry names.
+#[tactic(auto, unfolding(crate::specs::Entries::IsLater))]
+fn is_later(entry: &Entry, edge: (u16, u32), behind: Option<&Entry>) -> bool
+    ensures { (t : Tables) → MatchOption behind.entry (t.entry edge.0 entry.now.root ≡ None) (λ f. t.entry edge.0 entry.now.root ≡ Some f.now)
+        → IsTrue result ↔ IsLater t entry.now edge }
 {
     match entry.parent {
-        Some(y) => {
-            is_tight_by(graph, scheme, x, entry, y) && none_earlier(graph, scheme, x, entry, y)
-        }
+        Some(y) => is_no_earlier(entry, y, edge, behind),
         None => true,
     }
 }
 
+/// The same for every entry of a node over one edge. The entries of both its ends are walked side by side.
+fn are_later(scheme: &Scheme, x: u16, edge: (u16, u32)) -> bool
+    requires { AllAscend scheme.now }
+    ensures { IsTrue result ↔ All (λ e. IsLater (tables scheme.now) e edge) (entries_at scheme.now x) }
+{
+    let here = scheme.entries_of(x);
+    let there = scheme.entries_of(edge.0);
+    let mut at = 0;
+    for entry in here {
+        at = place_from(there, at, entry.root);
+        if !is_later(entry, edge, entry_at(there, at, entry.root)) {
+            return false;
+        }
+    }
+    true
+}
+
+/// Whether the parent of every entry of a node gives its distance, first of all neighbours.
 fn are_tight(graph: &Graph, scheme: &Scheme, x: u16) -> bool
-    requires { x < graph.now.nodes }
+    requires inside { x < graph.now.nodes }
+    requires ascend { AllAscend scheme.now }
     ensures { IsTrue result ↔ All (IsTightAt graph.now (tables scheme.now) x) (entries_at scheme.now x) }
 {
-    scheme
-        .entries_of(x)
-        .iter()
-        .all(|entry| is_tight(graph, scheme, x, entry))
+    let row = graph.neighbours(x);
+    for edge in row {
+        if !are_later(scheme, x, *edge) {
+            return false;
+        }
+    }
+    have_tight_parents(graph, scheme, x)
 }
 
 /// Whether every entry's parent gives its distance, first of all neighbours.

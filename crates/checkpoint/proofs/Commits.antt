@@ -1,30 +1,34 @@
 -- What an append leaves of a store.
 use Rattle.std.proofs.Common.{◌≡◌, ◌⊎◌, inl, inr, ⊎_elim, ℕ, ◌+◌, ◌<◌, ◌≤◌, List, [], ◌∷◌, ◌++◌, sym, ◌∙◌, subst, arith, Some}
-use Rattle.recovery_1.specs.Records.{Entry}
+use Rattle.recovery.specs.Records.{Entry}
 use Rattle.journal.specs.declared.area.Area.{Area}
 use Rattle.journal.specs.JournalView.{JournalView}
 use Rattle.disk_trait.specs.Disk.{DiskView, MayLeave}
-use Rattle.recovery_1.specs.Records.{AllSpell, IsBeforeOrAfter}
+use Rattle.recovery.specs.Records.{AllSpell, IsBeforeOrAfter}
 use Rattle.journal.specs.Records.{entries_of}
-use Rattle.recovery_1.specs.Layout.{worn_limit, slot_start, journal_of, journal_room, journal_start}
+use Rattle.recovery.specs.Layout.{worn_limit, slot_start, journal_of, journal_room, journal_start}
 use Rattle.recovery_parts.specs.Heads.{other}
-use Rattle.recovery_1.specs.State.{State, after}
-use Rattle.recovery_1.specs.Standing.{StandsBy, StandsFor}
+use Rattle.recovery.specs.State.{State, after, AreInTurn}
+use Rattle.recovery.specs.Standing.{StandsBy, StandsFor}
 use Rattle.checkpoint.specs.Kept.{IsKept}
-use Rattle.recovery_1.proofs.Folds.{after-push}
+use Rattle.recovery.proofs.Folds.{after-push}
+use Rattle.checkpoint.proofs.Turns.{in_turn_push}
 use Rattle.checkpoint.proofs.TornSlots.{apart, byte_apart, away, moved}
 
-module _ (v0 : DiskView) (slot epoch other_gate : ℕ) (base state next : State) (groups : List (List Entry)) (group : List Entry) (is : slot < 2) (kept : IsKept v0 slot epoch other_gate base state groups) (goes : after state group ≡ Some next) where
-  stands : (t : State) (gs : List (List Entry)) (image : List ℕ) → after base (entries_of gs) ≡ Some t → t.count ≤ worn_limit → StandsBy slot epoch base gs image → StandsFor t image
-  stands t gs image folds fits by = record { slot = slot; epoch = epoch; base = base; groups = gs; is_slot = is; by = by; folds = folds; count_fits = fits }
+module _ (v0 : DiskView) (slot epoch other_gate : ℕ) (base state next : State) (groups : List (List Entry)) (group : List Entry) (is : slot < 2) (kept : IsKept v0 slot epoch other_gate base state groups) (goes : after state group ≡ Some next) (turns : AreInTurn state.tickets group) where
+  stands : (t : State) (gs : List (List Entry)) (image : List ℕ) → after base (entries_of gs) ≡ Some t → AreInTurn base.tickets (entries_of gs) → t.count ≤ worn_limit → StandsBy slot epoch base gs image → StandsFor t image
+  stands t gs image folds turn fits by = record { slot = slot; epoch = epoch; base = base; groups = gs; is_slot = is; by = by; folds = folds; in_turn = turn; count_fits = fits }
 
   folds_next : after base (entries_of (groups ++ group ∷ [])) ≡ Some next
   folds_next = after-push base state next groups group kept.folds goes
 
+  turn_next : AreInTurn base.tickets (entries_of (groups ++ group ∷ []))
+  turn_next = in_turn_push base state groups group kept.folds kept.in_turn turns
+
   pub either : state.count ≤ worn_limit → next.count ≤ worn_limit → (image : List ℕ) → IsBeforeOrAfter v0 (journal_of slot) groups group image → StandsFor state image ⊎ StandsFor next image
   either fits next_fits image left = ⊎_elim
-      (λ spells. inl (stands state groups image kept.folds fits (moved slot epoch base groups groups left.before image is (kept.each left.before left.was).stands left.elsewhere spells)))
-      (λ spells. inr (stands next (groups ++ group ∷ []) image folds_next next_fits (moved slot epoch base groups (groups ++ group ∷ []) left.before image is (kept.each left.before left.was).stands left.elsewhere spells)))
+      (λ spells. inl (stands state groups image kept.folds kept.in_turn fits (moved slot epoch base groups groups left.before image is (kept.each left.before left.was).stands left.elsewhere spells)))
+      (λ spells. inr (stands next (groups ++ group ∷ []) image folds_next turn_next next_fits (moved slot epoch base groups (groups ++ group ∷ []) left.before image is (kept.each left.before left.was).stands left.elsewhere spells)))
       left.spells
 
   pub kept_next : (v1 : DiskView) → ((image : List ℕ) → MayLeave v1 image → IsBeforeOrAfter v0 (journal_of slot) groups group image) → AllSpell v1 (journal_of slot) (groups ++ group ∷ []) → IsKept v1 slot epoch other_gate base next (groups ++ group ∷ [])
@@ -38,17 +42,18 @@ module _ (v0 : DiskView) (slot epoch other_gate : ℕ) (base state next : State)
           whole = λ is_open. rw (apart was.before image (journal_start slot) journal_room (slot_start (other slot) + 1) 8 was.elsewhere (away slot (slot_start (other slot) + 1) 8 is (omega arith) (omega arith))) (before.whole is_open);
         };
     folds = folds_next;
+    in_turn = turn_next;
   }
 
 -- so a store is kept once its journal has appended
 pub kept_appended : (v0 v1 : DiskView) (old new : JournalView Entry) (slot epoch other_gate : ℕ) (base state next : State) (group : List Entry) → slot < 2 → old.area ≡ journal_of slot
-    → IsKept v0 slot epoch other_gate base state old.groups → after state group ≡ Some next → new.area ≡ old.area → new.groups ≡ old.groups ++ group ∷ []
+    → IsKept v0 slot epoch other_gate base state old.groups → after state group ≡ Some next → AreInTurn state.tickets group → new.area ≡ old.area → new.groups ≡ old.groups ++ group ∷ []
     → (AllSpell v0 old.area old.groups → (image : List ℕ) → MayLeave v1 image → IsBeforeOrAfter v0 old.area old.groups group image) → (AllSpell v0 old.area old.groups → AllSpell v1 new.area new.groups)
     → IsKept v1 slot epoch other_gate base next new.groups
-kept_appended v0 v1 old new slot epoch other_gate base state next group is area kept goes same_area grows leaves appends =
+kept_appended v0 v1 old new slot epoch other_gate base state next group is area kept goes turns same_area grows leaves appends =
     let known : AllSpell v0 old.area old.groups = λ image left. rw area ((kept.each image left).stands.records) in
     let spells : AllSpell v1 (journal_of slot) (old.groups ++ group ∷ []) =
     subst (λ (a : Area). AllSpell v1 a (old.groups ++ group ∷ [])) (same_area ∙ area)
     (subst (λ (gs : List (List Entry)). AllSpell v1 new.area gs) grows (appends known)) in
     let from : (image : List ℕ) → MayLeave v1 image → IsBeforeOrAfter v0 (journal_of slot) old.groups group image = λ image left. rw area at (leaves known image left) in
-    subst (λ (gs : List (List Entry)). IsKept v1 slot epoch other_gate base next gs) (sym grows) (kept_next v0 slot epoch other_gate base state next old.groups group is kept goes v1 from spells)
+    subst (λ (gs : List (List Entry)). IsKept v1 slot epoch other_gate base next gs) (sym grows) (kept_next v0 slot epoch other_gate base state next old.groups group is kept goes turns v1 from spells)

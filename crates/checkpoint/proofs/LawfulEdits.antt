@@ -4,7 +4,8 @@ use Rattle.std.specs.Prelude.{Result, Ok, Err, is_some}
 use Rattle.std.specs.Option.{option_map}
 use Rattle.std.specs.FinMap.{get, insert, remove, len, len-entries, get-insert, get-remove}
 use Rattle.std.proofs.lemmas.Bool.Decides.{nat_tests}
-use Rattle.recovery_1.specs.Records.{Entry}
+use Rattle.recovery.specs.Records.{Entry}
+use Rattle.requests.specs.Tickets.{tickets_after}
 use Rattle.graph_edits.specs.declared.edits.Op.{Op}
 use Rattle.graph_edits.specs.declared.edits.Op.TheVariants.{Add, Set, Cut}
 use Rattle.graph_edits.specs.declared.edits.Code.{Code}
@@ -13,7 +14,7 @@ use Rattle.graph_edits.specs.Changes.{fold, edges_after, edges_after_op, refusal
 use Rattle.graph_edits.proofs.EdgesOfRows.{pair_total, pair_same}
 use Rattle.graph_edits.proofs.Ops.{HasEnds, add_passed, set_passed}
 use Rattle.graph_edits.proofs.Applied.{count_fits, count_step, count_few}
-use Rattle.recovery_1.specs.State.{State, counted, after, IsLawful}
+use Rattle.recovery.specs.State.{State, state_with, changes_of, asked, after, IsLawful}
 use Rattle.recovery_parts.specs.EdgeTexts.{IsEdge}
 use Rattle.recovery_parts.proofs.Results.{some_is, ok_is}
 
@@ -75,7 +76,7 @@ within_ops n m place (op ∷ ops) final is within = by (λ passed rest. within_o
 lawful_within : (g : Network) → IsLawful g → IsWithin g.nodes g.edges
 lawful_within g lawful = record { few = subst (λ k. k ≤ most_edges) (sym (len-entries g.edges)) lawful.few_edges; each = lawful.each }
 
-lawful_change : (g h : Network) (change : Entry) → graph_after g change ≡ Ok h → IsLawful g → IsLawful h
+lawful_change : (g h : Network) (change : List Op) → graph_after g change ≡ Ok h → IsLawful g → IsLawful h
 lawful_change g h change is lawful = by (edges_after g.nodes g.edges 0 change) refl is
   where
     by : (r : Result EdgeMap (ℕ × Code)) → edges_after g.nodes g.edges 0 change ≡ r → (elim r as (λ _. Result Network (ℕ × Code)) [ Ok m ↦ Ok (record g { edges = m }) | Err e ↦ Err e ]) ≡ Ok h → IsLawful h
@@ -89,7 +90,7 @@ lawful_change g h change is lawful = by (edges_after g.nodes g.edges 0 change) r
         })
     by (Err x) e f = absurd cc
 
-lawful_fold : (g h : Network) (changes : List Entry) → fold g changes ≡ Some h → IsLawful g → IsLawful h
+lawful_fold : (g h : Network) (changes : List (List Op)) → fold g changes ≡ Some h → IsLawful g → IsLawful h
 lawful_fold g h [] is lawful = subst IsLawful (some_is g h is) lawful
 lawful_fold g h (x ∷ xs) is lawful = by (λ m e l. lawful_fold m h xs e l) (graph_after g x) refl is
   where
@@ -98,9 +99,12 @@ lawful_fold g h (x ∷ xs) is lawful = by (λ m e l. lawful_fold m h xs e l) (gr
     by later (Err x) _ is = absurd cc
 
 -- the network of a state that comes after a lawful one
-pub lawful_after : (base state : State) (changes : List Entry) → after base changes ≡ Some state → IsLawful base.graph → IsLawful state.graph
-lawful_after base state changes is lawful = by (fold base.graph changes) refl is
+pub lawful_after : (base state : State) (requests : List Entry) → after base requests ≡ Some state → IsLawful base.graph → IsLawful state.graph
+lawful_after base state requests is lawful = by (fold base.graph (changes_of requests)) refl is
   where
-    by : (o : Option Network) → fold base.graph changes ≡ o → option_map (counted (base.count + length changes)) o ≡ Some state → IsLawful state.graph
+    made : Network → State
+    made graph = state_with (base.count + length requests) graph (tickets_after base.tickets (asked requests))
+
+    by : (o : Option Network) → fold base.graph (changes_of requests) ≡ o → option_map made o ≡ Some state → IsLawful state.graph
     by None e f = absurd cc
-    by (Some h) e f = subst (λ (s : State). IsLawful s.graph) (some_is (counted (base.count + length changes) h) state f) (lawful_fold base.graph h changes e lawful)
+    by (Some h) e f = subst (λ (s : State). IsLawful s.graph) (some_is (made h) state f) (lawful_fold base.graph h (changes_of requests) e lawful)

@@ -1,3 +1,4 @@
+pub mod Turns
 pub mod TornSlots
 pub mod Commits
 pub mod FormatLemmas
@@ -5,3 +6,4 @@ pub mod LawfulEdits
 pub mod EdgeRows
 pub mod Rolls
 pub mod SameStore
+pub mod Wholes

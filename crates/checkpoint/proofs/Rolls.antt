@@ -7,30 +7,35 @@ use Rattle.std.proofs.lemmas.Bool.{cases_eq}
 use Rattle.std.specs.Option.{option_map}
 use Rattle.graph_edits.specs.Edges.{Network}
 use Rattle.graph_edits.specs.Changes.{fold}
-use Rattle.recovery_1.specs.Records.{Entry}
+use Rattle.recovery.specs.Records.{Entry}
 use Rattle.journal.specs.Records.{entries_of}
 use Rattle.disk_trait.specs.Disk.{DiskView, MayLeave, LeavesOnly, weaker, joined, Torn, HasTextBehind, IsPublishing, IsPublished, bytes_at}
 use Rattle.disk_trait.specs.Places.{above, byte_below, byte_of, below}
 use Rattle.checkpoint.specs.Kept.{IsKept}
-use Rattle.recovery_1.specs.InUse.{IsInUse}
-use Rattle.recovery_1.specs.Layout.{worn_limit, checkpoint_room, slot_start, epoch_at, header, journal_start}
+use Rattle.recovery.specs.InUse.{IsInUse}
+use Rattle.recovery.specs.Layout.{worn_limit, checkpoint_room, slot_start, epoch_at, header, journal_start}
 use Rattle.recovery_parts.specs.Heads.{other}
-use Rattle.recovery_1.specs.State.{State, counted, checkpoint_text, after, IsLawful}
-use Rattle.recovery_1.specs.Standing.{StandsBy, StandsFor}
+use Rattle.requests.specs.Tickets.{sessions, tickets_after}
+use Rattle.recovery.specs.State.{State, state_with, changes_of, asked, checkpoint_text, after, IsLawful, AreInTurn, AreTickets}
+use Rattle.recovery.specs.Standing.{StandsBy, StandsFor}
 use Rattle.checkpoint.specs.Rolling.{area_text, padding, IsClosing}
 use Rattle.checkpoint.proofs.LawfulEdits.{lawful_after}
-use Rattle.recovery_1.proofs.Texts.{text_fits, length_text}
-use Rattle.recovery_1.proofs.Folds.{after-nil, nodes_fold}
+use Rattle.checkpoint.proofs.Turns.{sound_after}
+use Rattle.recovery.proofs.Texts.{text_fits, length_text}
+use Rattle.recovery.proofs.Folds.{after-nil, nodes_fold}
 use Rattle.recovery_parts.proofs.Results.{some_is}
 use Rattle.checkpoint.proofs.TornSlots.{apart, slots_apart, stays}
 
--- changes keep the number of nodes
-pub after_nodes : (s t : State) (changes : List Entry) → after s changes ≡ Some t → t.graph.nodes ≡ s.graph.nodes
-after_nodes s t changes is = by (fold s.graph changes) refl is
+-- requests keep the number of nodes
+pub after_nodes : (s t : State) (requests : List Entry) → after s requests ≡ Some t → t.graph.nodes ≡ s.graph.nodes
+after_nodes s t requests is = by (fold s.graph (changes_of requests)) refl is
   where
-    by : (o : Option Network) → fold s.graph changes ≡ o → option_map (counted (s.count + length changes)) o ≡ Some t → t.graph.nodes ≡ s.graph.nodes
+    made : Network → State
+    made graph = state_with (s.count + length requests) graph (tickets_after s.tickets (asked requests))
+
+    by : (o : Option Network) → fold s.graph (changes_of requests) ≡ o → option_map made o ≡ Some t → t.graph.nodes ≡ s.graph.nodes
     by None e f = absurd cc
-    by (Some h) e f = ap (λ (u : State). u.graph.nodes) (sym (some_is (counted (s.count + length changes) h) t f)) ∙ nodes_fold s.graph h changes e
+    by (Some h) e f = ap (λ (u : State). u.graph.nodes) (sym (some_is (made h) t f)) ∙ nodes_fold s.graph h (changes_of requests) e
 
 -- while the other gate is closed
 pub while_closing : (disk : DiskView) (slot epoch other_gate : ℕ) (base state : State) (groups : List (List Entry)) → slot < 2 → IsKept disk slot epoch other_gate base state groups
@@ -50,11 +55,11 @@ is_closed disk slot epoch other_gate base state groups kept image closing closed
     (λ one is_open. let clash : 0 ≡ 1 = sym (closed one) ∙ is_open in omega arith)
     (λ shut. (kept.each image (closing.1 shut)).closed shut) (cases_eq other_gate 1)
 
-pub by_old : (slot epoch : ℕ) (base state : State) (groups : List (List Entry)) → slot < 2 → after base (entries_of groups) ≡ Some state → state.count ≤ worn_limit → (image : List ℕ) → StandsBy slot epoch base groups image → StandsFor state image
-by_old slot epoch base state groups is folds fits image by = record { slot = slot; epoch = epoch; base = base; groups = groups; is_slot = is; by = by; folds = folds; count_fits = fits }
+pub by_old : (slot epoch : ℕ) (base state : State) (groups : List (List Entry)) → slot < 2 → after base (entries_of groups) ≡ Some state → AreInTurn base.tickets (entries_of groups) → state.count ≤ worn_limit → (image : List ℕ) → StandsBy slot epoch base groups image → StandsFor state image
+by_old slot epoch base state groups is folds turn fits image by = record { slot = slot; epoch = epoch; base = base; groups = groups; is_slot = is; by = by; folds = folds; in_turn = turn; count_fits = fits }
 
 module _ (slot epoch : ℕ) (base state : State) (groups : List (List Entry)) (text : List ℕ) (is : slot < 2) (body : text ≡ area_text (epoch + 1) state) (lawful : IsLawful state.graph)
-    (epoch_fits : epoch + 1 ≤ worn_limit) (folds : after base (entries_of groups) ≡ Some state) (count_fits : state.count ≤ worn_limit) where
+    (sound : AreTickets state.tickets) (epoch_fits : epoch + 1 ≤ worn_limit) (folds : after base (entries_of groups) ≡ Some state) (turn : AreInTurn base.tickets (entries_of groups)) (count_fits : state.count ≤ worn_limit) where
   abbrev gate : ℕ
   gate = slot_start (other slot)
 
@@ -62,7 +67,7 @@ module _ (slot epoch : ℕ) (base state : State) (groups : List (List Entry)) (t
   size = length (checkpoint_text (epoch + 1) state)
 
   room : size < checkpoint_room
-  room = text_fits (epoch + 1) state lawful
+  room = text_fits (epoch + 1) state sound.wide lawful
 
   long : length text ≡ checkpoint_room
   long = ap length body ∙ omega (arith, room, length-append (checkpoint_text (epoch + 1) state) (padding (checkpoint_text (epoch + 1) state)), length-replicate {A = ℕ} (checkpoint_room - size) 0)
@@ -70,13 +75,13 @@ module _ (slot epoch : ℕ) (base state : State) (groups : List (List Entry)) (t
   front : take size text ≡ checkpoint_text (epoch + 1) state
   front = ap (take size) body ∙ take_at (checkpoint_text (epoch + 1) state) (padding (checkpoint_text (epoch + 1) state)) size refl
 
-  last : get_or text 135167 1 ≡ 0
+  last : get_or text 528383 1 ≡ 0
   last =
-      ap (λ (l : List ℕ). get_or l 135167 1) body
-      ∙ ap (λ k. get_or (area_text (epoch + 1) state) k 1) (let e : 135167 ≡ size + (135167 - size) = omega (arith, room) in e)
-      ∙ sym (get_or-drop size (area_text (epoch + 1) state) (135167 - size) 1)
-      ∙ ap (λ (l : List ℕ). get_or l (135167 - size) 1) (drop_at (checkpoint_text (epoch + 1) state) (padding (checkpoint_text (epoch + 1) state)) size refl)
-      ∙ get_or-replicate (checkpoint_room - size) (135167 - size) 0 1 (omega (arith, room))
+      ap (λ (l : List ℕ). get_or l 528383 1) body
+      ∙ ap (λ k. get_or (area_text (epoch + 1) state) k 1) (let e : 528383 ≡ size + (528383 - size) = omega (arith, room) in e)
+      ∙ sym (get_or-drop size (area_text (epoch + 1) state) (528383 - size) 1)
+      ∙ ap (λ (l : List ℕ). get_or l (528383 - size) 1) (drop_at (checkpoint_text (epoch + 1) state) (padding (checkpoint_text (epoch + 1) state)) size refl)
+      ∙ get_or-replicate (checkpoint_room - size) (528383 - size) 0 1 (omega (arith, room))
 
   same_nodes : state.graph.nodes ≡ base.graph.nodes
   same_nodes = after_nodes base state (entries_of groups) folds
@@ -85,7 +90,7 @@ module _ (slot epoch : ℕ) (base state : State) (groups : List (List Entry)) (t
   IsOld image = StandsBy slot epoch base groups image × (get_or image gate 0 ≢ 1)
 
   old_stands : (image : List ℕ) → StandsBy slot epoch base groups image → StandsFor state image
-  old_stands = by_old slot epoch base state groups is folds count_fits
+  old_stands = by_old slot epoch base state groups is folds turn count_fits
 
   -- behind the closed gate nothing counts
   behind : (old new : List ℕ) → IsOld old → Torn (gate + 1) (length text) old new → StandsBy slot epoch base groups new
@@ -102,7 +107,7 @@ module _ (slot epoch : ℕ) (base state : State) (groups : List (List Entry)) (t
     epoch_there =
         let all = length (checkpoint_text epoch base) in
         apart old new gate (length text + 1) (slot_start slot + 1) 8 shows.torn (slots_apart slot gate (length text + 1) (slot_start slot + 1) 8 is (omega arith, omega (arith, long)) (omega arith, omega arith))
-        ∙ sym (take-take 8 all (drop (slot_start slot + 1) old) (omega (arith, length_text epoch base))) ∙ ap (take 8) stands.0.text
+        ∙ sym (take-take 8 all (drop (slot_start slot + 1) old) (omega (arith, length_text epoch base stands.0.tickets.wide))) ∙ ap (take 8) stands.0.text
 
     older : epoch_at (other (other slot)) new < epoch + 1
     older =
@@ -112,8 +117,8 @@ module _ (slot epoch : ℕ) (base state : State) (groups : List (List Entry)) (t
     last_byte : get_or new (journal_start (other slot)) 1 ≡ 0
     last_byte =
         ap (λ k. get_or new k 1) (omega arith)
-        ∙ sym (byte_of new (gate + 1) (length text) 135167 1 (omega (arith, long)))
-        ∙ ap (λ (l : List ℕ). get_or l 135167 1) shows.text ∙ last
+        ∙ sym (byte_of new (gate + 1) (length text) 528383 1 (omega (arith, long)))
+        ∙ ap (λ (l : List ℕ). get_or l 528383 1) shows.text ∙ last
 
     -- with the gate open the new slot counts
     opened : get_or new gate 0 ≡ 1 → StandsBy (other slot) (epoch + 1) state [] new
@@ -123,6 +128,7 @@ module _ (slot epoch : ℕ) (base state : State) (groups : List (List Entry)) (t
       gate = is_open;
       text = sym (take-take size (length text) (drop (gate + 1) new) (omega (arith, long, room))) ∙ ap (take size) shows.text ∙ front;
       lawful = lawful;
+      tickets = sound;
       epoch_fits = epoch_fits;
       older = λ _. older;
       records = record {
@@ -135,7 +141,7 @@ module _ (slot epoch : ℕ) (base state : State) (groups : List (List Entry)) (t
 
     published : StandsFor state new
     published = ⊎_elim
-        (λ is_open. record { slot = other slot; epoch = epoch + 1; base = state; groups = []; is_slot = omega arith; by = opened is_open; folds = after-nil state; count_fits = count_fits })
+        (λ is_open. record { slot = other slot; epoch = epoch + 1; base = state; groups = []; is_slot = omega arith; by = opened is_open; folds = after-nil state; in_turn = (tt, tt); count_fits = count_fits })
         (λ closed. old_stands new (shut closed)) (cases_eq (get_or new gate 0) 1)
 
   -- while the new slot is published
@@ -153,10 +159,10 @@ module _ (slot epoch : ℕ) (base state : State) (groups : List (List Entry)) (t
       }
 
 -- a checkpoint's text, padded
-pub padded : (epoch : ℕ) (state : State) (old new : List ℕ) → IsLawful state.graph → old ≡ checkpoint_text epoch state → new ≡ take checkpoint_room old ++ padding old → new ≡ area_text epoch state
-padded epoch state old new lawful is e =
+pub padded : (epoch : ℕ) (state : State) (old new : List ℕ) → length state.tickets ≡ sessions → IsLawful state.graph → old ≡ checkpoint_text epoch state → new ≡ take checkpoint_room old ++ padding old → new ≡ area_text epoch state
+padded epoch state old new wide lawful is e =
     e ∙ ap (λ (l : List ℕ). take checkpoint_room l ++ padding l) is
-    ∙ ap (λ (l : List ℕ). l ++ padding (checkpoint_text epoch state)) (take_all checkpoint_room (checkpoint_text epoch state) (omega (arith, text_fits epoch state lawful)))
+    ∙ ap (λ (l : List ℕ). l ++ padding (checkpoint_text epoch state)) (take_all checkpoint_room (checkpoint_text epoch state) (omega (arith, text_fits epoch state wide lawful)))
 
 -- a roll: the other gate is closed from v0 to v1, and then the text is published
 module _ (v0 v1 : DiskView) (slot epoch other_gate : ℕ) (base state : State) (groups : List (List Entry)) (is : slot < 2) (kept : IsKept v0 slot epoch other_gate base state groups) (fits : state.count ≤ worn_limit)
@@ -165,7 +171,7 @@ module _ (v0 v1 : DiskView) (slot epoch other_gate : ℕ) (base state : State) (
   still_old = while_closing v0 slot epoch other_gate base state groups is kept
 
   old_state : (image : List ℕ) → IsClosing v0 (slot_start (other slot)) other_gate image → StandsFor state image
-  old_state image now = by_old slot epoch base state groups is kept.folds fits image (still_old image now)
+  old_state image now = by_old slot epoch base state groups is kept.folds kept.in_turn fits image (still_old image now)
 
   pub stands_closing : LeavesOnly v0 v1 (StandsFor state)
   stands_closing = weaker v0 v1 (IsClosing v0 (slot_start (other slot)) other_gate) (StandsFor state) closing old_state
@@ -180,17 +186,21 @@ module _ (v0 v1 : DiskView) (slot epoch other_gate : ℕ) (base state : State) (
     still_lawful : (image : List ℕ) → MayLeave v1 image → IsLawful state.graph
     still_lawful image left = lawful_after base state (entries_of groups) kept.folds (known image left).0.lawful
 
+    still_sound : (image : List ℕ) → MayLeave v1 image → AreTickets state.tickets
+    still_sound image left = sound_after base state (entries_of groups) kept.folds kept.in_turn (known image left).0.tickets
+
     pub stands_publishing : (v2 : DiskView) → LeavesOnly v1 v2 (IsPublishing v1 (slot_start (other slot)) text) → LeavesOnly v0 v2 (StandsFor state)
     stands_publishing v2 run = joined v0 v1 v2 (IsClosing v0 (slot_start (other slot)) other_gate) (IsPublishing v1 (slot_start (other slot)) text) (StandsFor state) closing run old_state
         (λ image from.
         let lawful = still_lawful from.0 from.1 in
-        publishing slot epoch base state groups text is (body lawful) lawful epoch_fits kept.folds fits v1 known image from)
+        publishing slot epoch base state groups text is (body lawful) lawful (still_sound from.0 from.1) epoch_fits kept.folds kept.in_turn fits v1 known image from)
 
     pub kept_rolled : (v2 : DiskView) → ((image : List ℕ) → MayLeave v2 image → IsPublished v1 (slot_start (other slot)) text image) → IsKept v2 (other slot) (epoch + 1) 1 state state []
     kept_rolled v2 shown = record {
       each = λ image left.
           let from = shown image left in
           let lawful = still_lawful from.before from.was in
-          in_use slot epoch base state groups text is (body lawful) lawful epoch_fits kept.folds fits v1 known image from;
+          in_use slot epoch base state groups text is (body lawful) lawful (still_sound from.before from.was) epoch_fits kept.folds kept.in_turn fits v1 known image from;
       folds = after-nil state;
+      in_turn = (tt, tt);
     }

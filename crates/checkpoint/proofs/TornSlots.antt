@@ -2,14 +2,12 @@
 use Rattle.std.proofs.Common.{◌≡◌, ◌⊎◌, inl, inr, ℕ, zero, suc, ◌+◌, ◌<◌, ◌≤◌, List, length, get_or, sym, ◌∙◌, arith}
 use Rattle.disk_trait.specs.Disk.{Torn, bytes_at}
 use Rattle.disk_trait.specs.Places.{below, above, byte_below, byte_above}
-use Rattle.recovery_1.specs.Records.{Entry}
-use Rattle.recovery_1.specs.Records.{still_spells}
-use Rattle.recovery_1.specs.Records.{Spells}
-use Rattle.recovery_1.specs.Layout.{slot_start, journal_of, epoch_at, journal_room, journal_start, slot_room}
+use Rattle.recovery.specs.Records.{Entry, Spells, still_spells}
+use Rattle.recovery.specs.Layout.{slot_start, journal_of, epoch_at, journal_room, journal_start, slot_room}
 use Rattle.recovery_parts.specs.Heads.{other}
-use Rattle.recovery_1.specs.State.{State, checkpoint_text}
-use Rattle.recovery_1.specs.Standing.{StandsBy}
-use Rattle.recovery_1.proofs.Texts.{text_fits}
+use Rattle.recovery.specs.State.{State, checkpoint_text}
+use Rattle.recovery.specs.Standing.{StandsBy}
+use Rattle.recovery.proofs.Texts.{text_fits}
 
 -- a range that another leaves alone
 abbrev pub Apart : ℕ → ℕ → ℕ → ℕ → Type 0
@@ -45,13 +43,14 @@ pub stays : (slot epoch : ℕ) (base : State) (groups : List (List Entry)) (old 
     → (get_or new (slot_start (other slot)) 0 ≡ 1 → epoch_at (other slot) new < epoch) → StandsBy slot epoch base groups new
 stays slot epoch base groups old new at m is stands torn there older =
     let size = length (checkpoint_text epoch base) in
-    let room = text_fits epoch base stands.lawful in
+    let room = text_fits epoch base stands.tickets.wide stands.lawful in
     record {
       as_long = torn.as_long ∙ stands.as_long;
       head = below old new at m 0 10 torn (omega arith) ∙ stands.head;
       gate = byte_apart old new at m (slot_start slot) 0 torn (slots_apart slot at m (slot_start slot) 1 is there (omega arith, omega arith)) ∙ stands.gate;
       text = apart old new at m (slot_start slot + 1) size torn (slots_apart slot at m (slot_start slot + 1) size is there (omega arith, omega (arith, room))) ∙ stands.text;
       lawful = stands.lawful;
+      tickets = stands.tickets;
       epoch_fits = stands.epoch_fits;
       older = older;
       records = still_spells (journal_of slot) groups old new at m torn (turned at m (journal_start slot) journal_room (slots_apart slot at m (journal_start slot) journal_room is there (omega arith, omega arith))) stands.records;
@@ -66,8 +65,9 @@ moved slot epoch base groups later old new is stands torn spells =
       as_long = torn.as_long ∙ stands.as_long;
       head = below old new at journal_room 0 10 torn (omega arith) ∙ stands.head;
       gate = byte_below old new at journal_room (slot_start slot) 0 torn (omega arith) ∙ stands.gate;
-      text = below old new at journal_room (slot_start slot + 1) size torn (omega (arith, text_fits epoch base stands.lawful)) ∙ stands.text;
+      text = below old new at journal_room (slot_start slot + 1) size torn (omega (arith, text_fits epoch base stands.tickets.wide stands.lawful)) ∙ stands.text;
       lawful = stands.lawful;
+      tickets = stands.tickets;
       epoch_fits = stands.epoch_fits;
       older = λ is_open. rw (apart old new at journal_room (slot_start (other slot) + 1) 8 torn (away slot (slot_start (other slot) + 1) 8 is (omega arith) (omega arith)))
           (stands.older (sym (byte_apart old new at journal_room (slot_start (other slot)) 0 torn (away slot (slot_start (other slot)) 1 is (omega arith) (omega arith))) ∙ is_open));

@@ -1,16 +1,16 @@
 -- What a format writes.
 use Rattle.std.specs.Prelude.{ℕ, List, [], ◌∷◌}
 use Rattle.disk_trait.specs.Disk.{overwritten}
-use Rattle.recovery_1.specs.Layout.{header, journal_start, slot_start}
-use Rattle.recovery_parts.specs.Heads.{head_text}
+use Rattle.recovery.specs.Layout.{header, journal_start, slot_start}
+use Rattle.recovery.specs.State.{first_state, checkpoint_text}
 
--- the front of a device: an open gate, epoch 1, no changes, so many nodes and no edges
-abbrev pub first_head : ℕ → List ℕ
-first_head nodes = 1 ∷ head_text 1 0 nodes 0
+-- the front of a slot: an open gate, and the checkpoint of epoch 1 with no changes, so many nodes, no edges and all tickets 0
+abbrev pub first_slot : ℕ → List ℕ
+first_slot nodes = 1 ∷ checkpoint_text 1 (first_state nodes)
 
--- old with this header, and with this head of slot 0
+-- old with this header, and with this front of slot 0
 unfoldable pub with_front : ℕ → List ℕ → List ℕ
-with_front nodes old = overwritten (overwritten old 0 (header nodes)) (slot_start 0) (first_head nodes)
+with_front nodes old = overwritten (overwritten old 0 (header nodes)) (slot_start 0) (first_slot nodes)
 
 -- old with the gate of slot 0's first record closed, and that of slot 1
 unfoldable pub with_gates : List ℕ → List ℕ

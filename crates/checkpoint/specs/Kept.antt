@@ -1,18 +1,22 @@
 -- What a store knows of its disk.
-use Rattle.std.specs.Prelude.{◌≡◌, ◌<◌, ◌≤◌, ℕ, List, Some}
+use Rattle.std.specs.Prelude.{◌≡◌, ◌<◌, ◌≤◌, ℕ, List, [], ◌∷◌, Some}
+use Rattle.std.proofs.Props.{props}
+use Rattle.std.specs.Coded.{le_prop}
+use mathlib.Core.HLevel.{Unit-prop}
 use Rattle.disk_trait.specs.Disk.{DiskView, MayLeave}
-use Rattle.recovery_1.specs.Records.{Entry}
-use Rattle.journal.specs.Records.{entries_of}
-use Rattle.recovery_1.specs.InUse.{IsInUse}
-use Rattle.recovery_1.specs.Layout.{worn_limit}
-use Rattle.recovery_1.specs.Standing.{StandsFor}
-use Rattle.recovery_1.specs.State.{State, after}
+use Rattle.requests.specs.Tickets.{sessions, last_of, raise, Rises}
+use Rattle.recovery.specs.Records.{Entry, entries_of}
+use Rattle.recovery.specs.InUse.{IsInUse}
+use Rattle.recovery.specs.Layout.{worn_limit}
+use Rattle.recovery.specs.Standing.{StandsFor}
+use Rattle.recovery.specs.State.{State, after, AreInTurn}
 
 -- each image that a crash now may leave stands for the state, by this slot
 pub record IsKept (disk : DiskView) (slot epoch other_gate : ℕ) (base state : State) (groups : List (List Entry)) : Type 0 where
   pub each : (image : List ℕ) → MayLeave disk image → IsInUse slot epoch other_gate base groups image
-  -- the changes of its records lead to the state
+  -- the requests of its records lead to the state, each in turn
   pub folds : after base (entries_of groups) ≡ Some state
+  pub in_turn : AreInTurn base.tickets (entries_of groups)
 
 -- so each of them stands for the state
 pub kept_stands : (disk : DiskView) (slot epoch other_gate : ℕ) (base state : State) (groups : List (List Entry)) → slot < 2 → state.count ≤ worn_limit → IsKept disk slot epoch other_gate base state groups
@@ -25,5 +29,16 @@ kept_stands disk slot epoch other_gate base state groups is fits kept image left
   is_slot = is;
   by = (kept.each image left).stands;
   folds = kept.folds;
+  in_turn = kept.in_turn;
   count_fits = fits;
 }
+
+-- pairs rise in one way at most
+pub Rises-prop : (tickets : List ℕ) (pairs : List (ℕ × ℕ)) → IsProp (Rises tickets pairs)
+Rises-prop tickets [] = Unit-prop
+Rises-prop tickets (p ∷ ps) =
+    let there : IsProp (p.0 < sessions) = le_prop in
+    let above : IsProp (last_of tickets p.0 < p.1) = le_prop in
+    λ x y i. (there x.0 y.0 i, above x.1 y.1 i, Rises-prop (raise tickets p) ps x.2 y.2 i)
+
+pub ruleset kept_props = (props, Rises-prop)

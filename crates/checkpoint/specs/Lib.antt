@@ -2,3 +2,4 @@ pub mod Kept
 pub mod StoreWords
 pub mod Rolling
 pub mod Formatting
+pub mod Whole

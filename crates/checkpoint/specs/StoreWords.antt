@@ -1,19 +1,17 @@
 -- A store, as the crates above see it.
 use Rattle.std.specs.Prelude.{◌≡◌, ◌≤◌, ◌+◌, ℕ, List, [], ◌∷◌, ◌++◌, Bool, false, IsTrue}
 use Rattle.disk_trait.specs.Disk.{DiskView, MayLeave}
-use Rattle.recovery_1.specs.Records.{Entry}
-use Rattle.recovery_1.specs.Records.{HasRoom}
-use Rattle.recovery_1.specs.Records.{LacksRoom}
+use Rattle.recovery.specs.Records.{Entry, HasRoom, LacksRoom}
 use Rattle.checkpoint.specs.declared.store.Store.{Store}
 use Rattle.checkpoint.specs.Kept.{kept_stands}
-use Rattle.recovery_1.specs.Layout.{worn_limit}
+use Rattle.recovery.specs.Layout.{worn_limit}
 use Rattle.recovery_parts.specs.Heads.{other}
-use Rattle.recovery_1.specs.State.{State, counted}
-use Rattle.recovery_1.specs.Standing.{StandsFor}
+use Rattle.recovery.specs.State.{State, state_with}
+use Rattle.recovery.specs.Standing.{StandsFor}
 
 -- the state that a store has
 abbrev pub state_of : {D : Type 0} {V : _} → Store D V → State
-state_of store = counted store.count store.graph
+state_of store = state_with store.count store.graph store.tickets
 
 -- how many nodes its network has
 abbrev pub nodes_of : {D : Type 0} {V : _} → Store D V → ℕ
@@ -45,25 +43,25 @@ pub record IsAt {D : Type 0} {V : _} (store : Store D V) (slot epoch : ℕ) (gro
 abbrev pub IsWhereItWas : {D : Type 0} {V : _} → Store D V → Store D V → Type 0
 IsWhereItWas old new = IsAt new old.slot old.epoch old.journal.groups
 
--- the changes stand behind the groups of before as one more, in the same slot
+-- the requests stand behind the groups of before as one more, in the same slot
 abbrev pub HasAppended : {D : Type 0} {V : _} → Store D V → Store D V → List Entry → Type 0
-HasAppended old new changes = IsAt new old.slot old.epoch (old.journal.groups ++ changes ∷ [])
+HasAppended old new requests = IsAt new old.slot old.epoch (old.journal.groups ++ requests ∷ [])
 
 -- the other slot is in use by the next epoch, and nothing is in its journal yet
 abbrev pub HasRolled : {D : Type 0} {V : _} → Store D V → Store D V → Type 0
 HasRolled old new = IsAt new (other old.slot) (old.epoch + 1) []
 
--- it has rolled, and then the changes were put down as the first group
+-- it has rolled, and then the requests were put down as the first group
 abbrev pub HasRolledAndAppended : {D : Type 0} {V : _} → Store D V → Store D V → List Entry → Type 0
-HasRolledAndAppended old new changes = IsAt new (other old.slot) (old.epoch + 1) (changes ∷ [])
+HasRolledAndAppended old new requests = IsAt new (other old.slot) (old.epoch + 1) (requests ∷ [])
 
--- its journal has room for the record of these changes
+-- its journal has room for the record of these requests
 abbrev pub HasRoomFor : {D : Type 0} {V : _} → Store D V → List Entry → Type 0
-HasRoomFor store changes = HasRoom store.journal changes
+HasRoomFor store requests = HasRoom store.journal requests
 
--- its journal has no room for the record of these changes
+-- its journal has no room for the record of these requests
 abbrev pub LacksRoomFor : {D : Type 0} {V : _} → Store D V → List Entry → Type 0
-LacksRoomFor store changes = LacksRoom store.journal changes
+LacksRoomFor store requests = LacksRoom store.journal requests
 
 -- its epoch stands at the worn limit, so it can't roll
 abbrev pub IsWornOut : {D : Type 0} {V : _} → Store D V → Type 0
@@ -76,4 +74,4 @@ IsDurable store = (image : List ℕ) → MayLeave (view_of store) image → Stan
 -- so it is while the store is up
 pub stands_now : {D : Type 0} {V : _} → (store : Store D V) → IsTrue (view_of store).keeps_model → is_down store ≡ false → IsDurable store
 stands_now store model up =
-    kept_stands (view_of store) store.slot store.epoch store.other_gate (counted store.base_count.value store.base.value) (state_of store) store.journal.groups store.two_slots store.fits (store.kept model up)
+    kept_stands (view_of store) store.slot store.epoch store.other_gate (state_with store.base_count.value store.base.value store.base_tickets.value) (state_of store) store.journal.groups store.two_slots store.fits (store.kept model up)

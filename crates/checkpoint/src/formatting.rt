@@ -1,24 +1,23 @@
 //! Making a device ready.
 ghost use Rattle.std.specs.Prelude.{◌≡◌, ◌≢◌, ◌≤◌, ◌<◌, ◌+◌, ◌↔◌, ◌∷◌, ℕ, List, length, get_or, IsTrue, OnOk, OnErr, IsErr, IsErrOf};
 ghost use Rattle.disk_trait.specs.Disk.{MayLeave, IsSameDevice, IsSettled, Torn, overwritten, bytes_at};
-ghost use Rattle.graph_edits.specs.Edges.{most_nodes};
-ghost use Rattle.recovery_1.specs.Layout.{device_len, head_len, header, journal_start, slot_start};
+ghost use Rattle.recovery.specs.Layout.{device_len, most_nodes, edges_start, header, journal_start, slot_start};
+ghost use Rattle.recovery_parts.specs.Heads.{head_text};
 ghost use Rattle.recovery_parts.specs.Refusals.{header_len};
-ghost use Rattle.recovery_1.specs.State.{first_state};
-ghost use Rattle.recovery_1.specs.Standing.{StandsFor};
-ghost use Rattle.checkpoint.specs.Formatting.{first_head, with_front, with_gates, formatted};
+ghost use Rattle.recovery.specs.State.{first_state};
+ghost use Rattle.recovery.specs.Standing.{StandsFor};
+ghost use Rattle.checkpoint.specs.Formatting.{first_slot, with_front, with_gates, formatted};
 
 use crate::refusals::FormatRefused;
 use byteorder::{BigEndian, ByteOrder};
 use disk_trait::{DeviceFault, Disk};
-use graph_edits::MOST_NODES;
-use recovery_1::layout::{
-    CHECKPOINT_ROOM, CLOSED_GATE, DEVICE_LEN, FIRST_EPOCH, HEAD_LEN, HEADER_LEN, MAGIC, OPEN_GATE,
-    SLOT_ROOM, SLOTS_START, VERSION,
+use recovery::layout::{
+    CHECKPOINT_ROOM, CLOSED_GATE, DEVICE_LEN, EDGES_START, FIRST_EPOCH, HEAD_LEN, HEADER_LEN,
+    MAGIC, MOST_NODES, OPEN_GATE, SLOT_ROOM, SLOTS_START, VERSION,
 };
 
 // The front of a device.
-fn header_of(nodes: u16) -> [u8; HEADER_LEN]
+pub(crate) fn header_of(nodes: u16) -> [u8; HEADER_LEN]
     ensures { result ≡ header nodes }
 {
     let mut front = [0; HEADER_LEN];
@@ -28,14 +27,23 @@ fn header_of(nodes: u16) -> [u8; HEADER_LEN]
     front
 }
 
-// An open gate and a checkpoint of no changes and no edges.
-fn first_checkpoint(nodes: u16) -> [u8; HEAD_LEN]
-    ensures { result ≡ first_head nodes }
+// An open gate and the head of a checkpoint of no changes and no edges.
+fn first_head(nodes: u16) -> [u8; HEAD_LEN]
+    ensures { result ≡ 1 ∷ head_text 1 0 nodes 0 }
 {
-    let mut text = [0; HEAD_LEN];
-    text[0] = OPEN_GATE;
-    BigEndian::write_u64(&mut text[1..9], FIRST_EPOCH);
-    BigEndian::write_u16(&mut text[17..19], nodes);
+    let mut head = [0; HEAD_LEN];
+    head[0] = OPEN_GATE;
+    BigEndian::write_u64(&mut head[1..9], FIRST_EPOCH);
+    BigEndian::write_u16(&mut head[17..19], nodes);
+    head
+}
+
+// They, and tickets 0 behind them.
+fn first_checkpoint(nodes: u16) -> [u8; EDGES_START]
+    ensures { result ≡ first_slot nodes }
+{
+    let mut text = [0; EDGES_START];
+    text[..HEAD_LEN].copy_from_slice(&first_head(nodes));
     text
 }
 
@@ -57,7 +65,7 @@ fn put_front<D: Disk>(disk: &mut D, nodes: u16) -> Result<(), DeviceFault>
     requires { length (D.view disk.old).content ≡ device_len }
     ensures written { IsTrue (D.view disk.old).keeps_model → OnOk result ((D.view disk.new).content ≡ with_front nodes (D.view disk.old).content) }
     ensures header { IsTrue (D.view disk.old).keeps_model → OnOk result (bytes_at (D.view disk.new).content 0 header_len ≡ header nodes) }
-    ensures slot { IsTrue (D.view disk.old).keeps_model → OnOk result (bytes_at (D.view disk.new).content (slot_start 0) head_len ≡ first_head nodes) }
+    ensures slot { IsTrue (D.view disk.old).keeps_model → OnOk result (bytes_at (D.view disk.new).content (slot_start 0) edges_start ≡ first_slot nodes) }
     ensures fault { OnErr result ((D.view disk.old).failures < (D.view disk.new).failures) }
     ensures no_failure { OnOk result ((D.view disk.new).failures ≡ (D.view disk.old).failures) }
     ensures ran { IsSameDevice (D.view disk.old) (D.view disk.new) }
@@ -119,9 +127,9 @@ fn put_all<D: Disk>(disk: &mut D, nodes: u16) -> Result<(), DeviceFault>
     }
 }
 
-/// Makes a device hold a network of so many nodes and no edges. It takes no memory. It writes the
-/// header, the head of slot 0, the gate of that slot's first record and the gate of slot 1; each other
-/// byte stays (`written`). Where the device fails, it holds no store.
+/// Makes a device hold a network of so many nodes and no edges, and no session's ticket. It takes no
+/// memory. It writes the header, head and tickets of slot 0, the gate of that slot's first record and the
+/// gate of slot 1; each other byte stays (`written`). Where the device fails, it holds no store.
 pub fn format<D: Disk>(disk: &mut D, n: u16) -> Result<(), FormatRefused>
     ensures written { IsTrue (D.view disk.old).keeps_model → OnOk result ((D.view disk.new).content ≡ formatted n (D.view disk.old).content) }
     ensures ok { IsTrue (D.view disk.old).keeps_model → OnOk result (StandsFor (first_state n) (D.view disk.new).content) }

@@ -6,7 +6,7 @@ use std::alloc::AllocError;
 /// Why a device can't be formatted, in the order of the tests.
 #[derive(Clone, Copy, Debug, PartialEq, Eq, Drop)]
 pub enum FormatRefused {
-    /// The number of nodes isn't 1 to 4,096.
+    /// The number of nodes isn't 1 to 16,384.
     BadSize = 1,
     /// The device hasn't exactly `DEVICE_LEN` bytes.
     BadLength = 2,
@@ -14,10 +14,10 @@ pub enum FormatRefused {
     Device = 3,
 }
 
-/// Why changes aren't committed. Tested in the order Down, Worn, NeedsRoll, Memory, Device.
+/// Why requests aren't committed. Tested in the order Down, Worn, NeedsRoll, Memory, Device.
 #[derive(Clone, Copy, Debug, PartialEq, Eq, Drop)]
 pub enum CommitRefused {
-    /// The journal has no room for these changes before a roll.
+    /// The journal has no room for these requests before a roll.
     NeedsRoll = 1,
     /// A call of the device failed; the store is down from now on.
     Device = 2,

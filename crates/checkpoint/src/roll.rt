@@ -1,14 +1,13 @@
-//! Rolling: the network as a new checkpoint in the slot that isn't in use.
+//! Rolling: the network and the last tickets as a new checkpoint in the slot that isn't in use.
 ghost use Rattle.std.specs.Prelude.{◌≡◌, ◌≢◌, ◌≤◌, ◌<◌, ◌+◌, ◌^◌, ◌↔◌, ◌++◌, ℕ, List, length, get_or, take, IsTrue, IfOk, OnOk, OnErr, IsErr, IsErrOf, true, false};
 ghost use Rattle.std.specs.List.{flat_map};
 ghost use Rattle.std.specs.FinMap.{len};
-ghost use Rattle.graph_edits.specs.Edges.{most_edges};
 ghost use Rattle.disk_trait.specs.Disk.{IsSameDevice, MayLeave, LeavesOnly};
-ghost use Rattle.recovery_1.specs.Layout.{checkpoint_room};
-ghost use Rattle.recovery_1.specs.State.{counted, IsLawful};
+ghost use Rattle.recovery.specs.Layout.{checkpoint_room};
+ghost use Rattle.recovery.specs.State.{state_with, tickets_text, IsLawful};
 ghost use Rattle.recovery_parts.specs.EdgeTexts.{edge_text, edges_text};
 ghost use Rattle.recovery_parts.specs.Heads.{head_text};
-ghost use Rattle.recovery_1.specs.Standing.{StandsFor};
+ghost use Rattle.recovery.specs.Standing.{StandsFor};
 ghost use Rattle.checkpoint.specs.Rolling.{up_text, padding, area_text, IsClosing};
 
 use crate::refusals::RollRefused;
@@ -17,14 +16,13 @@ use byteorder::{BigEndian, ByteOrder};
 use disk_trait::{DeviceFault, Disk, close, publish};
 use graph_edits::Graph;
 use journal::Journal;
-use recovery_1::journal_area;
-use recovery_1::layout::{
-    CHECKPOINT_ROOM, HEAD_LEN, OPEN_GATE, SLOT_ROOM, SLOTS_START, WORN_LIMIT,
-};
+use recovery::journal_area;
+use recovery::layout::{CHECKPOINT_ROOM, HEAD_LEN, OPEN_GATE, SLOT_ROOM, SLOTS_START, WORN_LIMIT};
+use requests::SESSIONS;
 use std::alloc::{AllocError, Global};
 use std::snapshot::Snapshot;
 
-// What stands between a slot's gate and its edges.
+// What stands between a slot's gate and its tickets.
 fn head_of(epoch: u64, count: u64, nodes: u16, edges: u32) -> [u8; HEAD_LEN - 1]
     ensures { result ≡ head_text epoch count nodes edges }
 {
@@ -36,12 +34,22 @@ fn head_of(epoch: u64, count: u64, nodes: u16, edges: u32) -> [u8; HEAD_LEN - 1]
     head
 }
 
-// Adds a head: a checkpoint up to its edges.
+// Adds a head: a checkpoint up to its tickets.
 fn put_head(text: &mut Vec<u8>, epoch: u64, count: u64, graph: &Graph) -> Result<(), AllocError>
     ensures { OnOk result (text.new.items ≡ text.old.items ++ head_text epoch count graph.now.nodes (len graph.now.edges)) }
 {
     let nodes = graph.nodes();
     text.extend_from_slice(&head_of(epoch, count, nodes, graph.edges() as u32))?;
+    Ok(())
+}
+
+// Adds the last tickets of sessions 0 on.
+fn put_tickets(text: &mut Vec<u8>, tickets: &[u64; SESSIONS]) -> Result<(), AllocError>
+    ensures { OnOk result (text.new.items ≡ text.old.items ++ tickets_text tickets.now) }
+{
+    for ticket in tickets {
+        text.extend_from_slice(&ticket.to_be_bytes())?;
+    }
     Ok(())
 }
 
@@ -86,12 +94,19 @@ fn pad(text: &mut Vec<u8>) -> Result<(), AllocError>
 
 // What stands behind a gate in a checkpoint's area, and the first gate of the journal behind it,
 // closed. One buffer, made once.
-fn text_of(alloc: Global, epoch: u64, count: u64, graph: &Graph) -> Result<Vec<u8>, AllocError>
+pub(crate) fn text_of(
+    alloc: Global,
+    epoch: u64,
+    count: u64,
+    graph: &Graph,
+    tickets: &[u64; SESSIONS],
+) -> Result<Vec<u8>, AllocError>
     ensures long { IfOk result (λ text. length text.items ≡ checkpoint_room) }
-    ensures text { IsLawful graph.now → IfOk result (λ text. text.items ≡ area_text epoch (counted count graph.now)) }
+    ensures text { IsLawful graph.now → IfOk result (λ text. text.items ≡ area_text epoch (state_with count graph.now tickets.now)) }
 {
     let mut text = Vec::with_capacity(alloc, CHECKPOINT_ROOM)?;
     put_head(&mut text, epoch, count, graph)?;
+    put_tickets(&mut text, tickets)?;
     put_edges(&mut text, graph)?;
     pad(&mut text)?;
     Ok(text)
@@ -116,8 +131,9 @@ fn close_open<D: Disk>(disk: &mut D, gate: usize, byte: u8) -> Result<(), Device
 impl<D: Disk> Store<D> {
     ghost use Rattle.checkpoint.specs.StoreWords.{state_of, view_of, is_down, IsDurable, HasRolled, IsWornOut};
 
-    /// Writes the network as a new checkpoint, so that the journal is empty again: after it a commit
-    /// isn't refused as `NeedsRoll`. It reads nothing. Count and network stay, whatever it answers.
+    /// Writes the network and the last tickets as a new checkpoint, so that the journal is empty again:
+    /// after it a commit isn't refused as `NeedsRoll`. It reads nothing. Count, network and tickets stay,
+    /// whatever it answers.
     ///
     /// Errors, in the order in which they are tested: `Down`, `Worn`, exactly where the epoch stands at
     /// `WORN_LIMIT`, and `Memory`, before any write; these leave the store as it was. `Device`, where a
@@ -142,7 +158,13 @@ impl<D: Disk> Store<D> {
         if WORN_LIMIT <= self.epoch {
             return Err(RollRefused::Worn);
         }
-        let text = match text_of(alloc, self.epoch + 1, self.count, &self.graph) {
+        let text = match text_of(
+            alloc,
+            self.epoch + 1,
+            self.count,
+            &self.graph,
+            &self.tickets,
+        ) {
             Ok(text) => text,
             Err(_) => return Err(RollRefused::Memory),
         };
@@ -163,6 +185,7 @@ impl<D: Disk> Store<D> {
         self.journal = Journal::fresh(journal_area(other));
         self.base_count = Snapshot::of(&self.count);
         self.base = Snapshot::of(&self.graph);
+        self.base_tickets = Snapshot::of(&self.tickets);
         self.down = false;
         Ok(())
     }

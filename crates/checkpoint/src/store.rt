@@ -1,30 +1,31 @@
 //! The store.
 ghost use Rattle.std.specs.Prelude.{◌≡◌, ◌≢◌, ◌⊎◌, ◌≤◌, ◌<◌, ◌+◌, ◌*◌, ◌^◌, ◌↔◌, ◌++◌, [], ◌∷◌, ℕ, List, length, IsTrue, IfOk, IfErr, OnOk, OnErr, IsErrOf, IsErr, IsSome, Some, false, true, map};
-ghost use Rattle.std.proofs.Props.{props};
 ghost use Rattle.disk_trait.specs.Disk.{IsSameDevice, LeavesOnly, OnlyRead, Unchanged};
 ghost use Rattle.graph_edits.specs.Changes.{fold};
 ghost use Rattle.journal.specs.Layout.{most_entries};
-ghost use Rattle.recovery_1.specs.Layout.{worn_limit, device_len, journal_room, journal_start, slot_start};
-ghost use Rattle.recovery_1.specs.State.{State, counted, after};
-ghost use Rattle.recovery_1.specs.Standing.{StandsFor, StandsForNone};
+ghost use Rattle.requests.specs.Tickets.{sessions, last_of, tickets_after};
+ghost use Rattle.recovery.specs.Layout.{worn_limit, device_len, journal_room, journal_start, slot_start};
+ghost use Rattle.recovery.specs.State.{State, state_with, changes_of, asked, after, AreInTurn};
+ghost use Rattle.recovery.specs.Standing.{StandsFor, StandsForNone};
 ghost use Rattle.recovery_parts.specs.Refusals.{LacksMagic};
-ghost use Rattle.recovery_1.specs.Fronts.{HasOtherVersion, HasThisVersion};
+ghost use Rattle.recovery.specs.Fronts.{HasOtherVersion, HasThisVersion};
 ghost use Rattle.recovery_parts.specs.Refusals.{IsFormatFault};
-ghost use Rattle.checkpoint.specs.Kept.{IsKept};
+ghost use Rattle.checkpoint.specs.Kept.{IsKept, kept_props};
 
 use crate::refusals::CommitRefused;
 use disk_trait::{CrashDisk, Disk, Plan};
-use graph_edits::{Change, Graph};
+use graph_edits::{Graph, Prepared};
 use journal::{AppendRefused, Journal};
-use recovery_1::{OpenRefused, WORN_LIMIT, load};
-use std::alloc::Global;
+use recovery::{OpenRefused, WORN_LIMIT, load};
+use requests::{Request, SESSIONS};
+use std::alloc::{AllocError, Global};
 use std::snapshot::Snapshot;
 
-/// A network and a count on a disk, through crashes.
+/// A network, a count and the last ticket of each session on a disk, through crashes.
 #[derive(Drop)]
 pub struct Store<D: Disk> {
     pub(crate) disk: D,
-    pub(crate) journal: Journal<Change>,
+    pub(crate) journal: Journal<Request>,
     pub(crate) slot: usize,
     pub(crate) epoch: u64,
     // The other slot's gate byte, as it stands on the device.
@@ -32,15 +33,40 @@ pub struct Store<D: Disk> {
     // The checkpoint in use, for contracts alone.
     pub(crate) base_count: Snapshot<u64>,
     pub(crate) base: Snapshot<Graph>,
+    pub(crate) base_tickets: Snapshot<[u64; SESSIONS]>,
     pub(crate) count: u64,
     pub(crate) graph: Graph,
+    pub(crate) tickets: [u64; SESSIONS],
     pub(crate) down: bool,
     ghost fits: { count ≤ worn_limit },
     ghost two_slots: { slot < 2 },
     ghost at: { journal.area.start ≡ journal_start slot },
     ghost room: { journal.area.room ≡ journal_room },
     ghost long: { length (D.view disk).content ≡ device_len },
-    ghost kept: { IsTrue (D.view disk).keeps_model → down ≡ false → IsKept (D.view disk) slot epoch other_gate (counted base_count.value base.value) (counted count graph) journal.groups } by { Prim.hlevel props },
+    ghost kept: { IsTrue (D.view disk).keeps_model → down ≡ false → IsKept (D.view disk) slot epoch other_gate (state_with base_count.value base.value base_tickets.value) (state_with count graph tickets) journal.groups } by { Prim.hlevel kept_props },
+}
+
+// What the graph needs to take the changes of requests in order.
+fn prepare_all(alloc: Global, graph: &Graph, requests: &[Request]) -> Result<Prepared, AllocError>
+    requires accepted { IsSome (fold graph.now (changes_of requests.now)) }
+    ensures before { IfOk result (λ prepared. prepared.before ≡ graph.now) }
+    ensures after { IfOk result (λ prepared. Some prepared.after ≡ fold graph.now (changes_of requests.now)) }
+{
+    let mut prepared = graph.preparation();
+    for request in requests {
+        prepared = prepared.take(alloc, graph, &request.change)?;
+    }
+    Ok(prepared)
+}
+
+// Each request's ticket becomes the last one of its session.
+fn raise_all(tickets: &mut [u64; SESSIONS], requests: &[Request])
+    requires { AreInTurn tickets.old requests.now }
+    ensures { tickets.new ≡ tickets_after tickets.old (asked requests.now) }
+{
+    for request in requests {
+        tickets[request.session as usize] = request.ticket;
+    }
 }
 
 impl<D: Disk> Store<D> {
@@ -75,8 +101,10 @@ impl<D: Disk> Store<D> {
                 other_gate: loaded.other_gate,
                 base_count: Snapshot::of(&loaded.base_count),
                 base: loaded.base,
+                base_tickets: loaded.base_tickets,
                 count: loaded.count,
                 graph: loaded.graph,
+                tickets: loaded.tickets,
                 down: false,
             }),
         }
@@ -104,6 +132,21 @@ impl<D: Disk> Store<D> {
         self.graph.nodes()
     }
 
+    /// The last ticket that was taken of a session, 0 where there is none.
+    pub fn resume(&self, session: u8) -> u64
+        requires { session < sessions }
+        ensures { result ≡ last_of (state_of self.now).tickets session }
+    {
+        self.tickets[session as usize]
+    }
+
+    /// The last ticket of each session. It takes no memory.
+    pub fn starts(&self) -> [u64; SESSIONS]
+        ensures { result ≡ (state_of self.now).tickets }
+    {
+        self.tickets
+    }
+
     /// Whether the device has failed, so that the store takes no more.
     pub fn is_down(&self) -> bool
         ensures { result ≡ is_down self.now }
@@ -117,21 +160,22 @@ impl<D: Disk> Store<D> {
         self.disk
     }
 
-    /// Adds changes: all of them, or none. They count from `Ok` on.
-    pub fn commit(&mut self, alloc: Global, changes: &[Change]) -> Result<(), CommitRefused>
-        requires some { 1 ≤ length changes.now }
-        requires few { length changes.now ≤ most_entries }
-        requires accepted { IsSome (fold (state_of self.old).graph changes.now) }
-        ensures ok { OnOk result (after (state_of self.old) changes.now ≡ Some (state_of self.new)) }
-        ensures appended { OnOk result (HasAppended self.old self.new changes.now) }
+    /// Takes requests: all of them, or none. They count from `Ok` on.
+    pub fn commit(&mut self, alloc: Global, requests: &[Request]) -> Result<(), CommitRefused>
+        requires some { 1 ≤ length requests.now }
+        requires few { length requests.now ≤ most_entries }
+        requires accepted { IsSome (fold (state_of self.old).graph (changes_of requests.now)) }
+        requires in_turn { AreInTurn (state_of self.old).tickets requests.now }
+        ensures ok { OnOk result (after (state_of self.old) requests.now ≡ Some (state_of self.new)) }
+        ensures appended { OnOk result (HasAppended self.old self.new requests.now) }
         ensures durable { IsTrue (view_of self.old).keeps_model → OnOk result (IsDurable self.new) }
         ensures no_failure { OnOk result ((view_of self.new).failures ≡ (view_of self.old).failures) }
         ensures err { OnErr result (state_of self.new ≡ state_of self.old) }
         ensures nodes { nodes_of self.new ≡ nodes_of self.old }
         ensures down { IsErrOf result CommitRefused.Down ↔ (is_down self.old ≡ true) }
-        ensures worn { IsErrOf result CommitRefused.Worn ↔ ((is_down self.old ≡ false) × (worn_limit < (state_of self.old).count + length changes.now)) }
+        ensures worn { IsErrOf result CommitRefused.Worn ↔ ((is_down self.old ≡ false) × (worn_limit < (state_of self.old).count + length requests.now)) }
         ensures needs_roll { IsErrOf result CommitRefused.NeedsRoll
-            ↔ ((is_down self.old ≡ false) × ((state_of self.old).count + length changes.now ≤ worn_limit) × LacksRoomFor self.old changes.now) }
+            ↔ ((is_down self.old ≡ false) × ((state_of self.old).count + length requests.now ≤ worn_limit) × LacksRoomFor self.old requests.now) }
         ensures rolled_fits { IsRolled self.old → ¬ (IsErrOf result CommitRefused.NeedsRoll) }
         ensures device { IsErrOf result CommitRefused.Device → (view_of self.old).failures < (view_of self.new).failures }
         ensures lost { IsErrOf result CommitRefused.Device → is_down self.new ≡ true }
@@ -139,20 +183,20 @@ impl<D: Disk> Store<D> {
         ensures worn_out { IsWornOut self.new ↔ IsWornOut self.old }
         ensures ran { IsSameDevice (view_of self.old) (view_of self.new) }
         ensures untouched { IsErr result → ¬ (IsErrOf result CommitRefused.Device) → self.new ≡ self.old }
-        ensures any_moment { IsTrue (view_of self.old).keeps_model → is_down self.old ≡ false → (next : State) → after (state_of self.old) changes.now ≡ Some next
+        ensures any_moment { IsTrue (view_of self.old).keeps_model → is_down self.old ≡ false → (next : State) → after (state_of self.old) requests.now ≡ Some next
             → LeavesOnly (view_of self.old) (view_of self.new) (λ image. StandsFor (state_of self.old) image ⊎ StandsFor next image) }
     {
         if self.down {
             return Err(CommitRefused::Down);
         }
-        if WORN_LIMIT - self.count < changes.len() as u64 {
+        if WORN_LIMIT - self.count < requests.len() as u64 {
             return Err(CommitRefused::Worn);
         }
-        if !self.journal.has_room(changes) {
+        if !self.journal.has_room(requests) {
             return Err(CommitRefused::NeedsRoll);
         }
-        let prepared = self.graph.prepare(alloc, changes)?;
-        match self.journal.append(alloc, &mut self.disk, changes) {
+        let prepared = prepare_all(alloc, &self.graph, requests)?;
+        match self.journal.append(alloc, &mut self.disk, requests) {
             Err(AppendRefused::NoRoom) => Err(CommitRefused::NeedsRoll),
             Err(AppendRefused::Memory) => Err(CommitRefused::Memory),
             Err(AppendRefused::Device) => {
@@ -160,8 +204,9 @@ impl<D: Disk> Store<D> {
                 Err(CommitRefused::Device)
             }
             Ok(()) => {
-                self.count += changes.len() as u64;
+                self.count += requests.len() as u64;
                 self.graph.install(prepared);
+                raise_all(&mut self.tickets, requests);
                 Ok(())
             }
         }

@@ -1,50 +1,81 @@
 -- One request alone: its mark, and the state after it.
-use Rattle.std.proofs.Common.{refl, ap, sym, ◌∙◌, ◌≡◌, ◌+◌, ◌⊎◌, inl, List, [], ◌∷◌, Result, Ok, Err, IsTrue, OnOk, false, subst}
-use Rattle.disk_trait.specs.Disk.{LeavesOnly, OnlyRead, joined, reading_leaves}
+use Rattle.std.proofs.Common.{refl, ap, sym, ◌∙◌, ◌≡◌, ◌≢◌, ◌+◌, ◌⊎◌, inl, ℕ, List, [], ◌∷◌, Option, Result, Ok, Err, IsTrue, IfOk, OnOk, false, subst}
+use Rattle.std.specs.Result.{IsOk}
+use Rattle.disk_trait.specs.Disk.{LeavesOnly, OnlyRead, joined, reading_leaves, started}
 use Rattle.graph_edits.specs.declared.edits.Op.{Op}
 use Rattle.graph_edits.specs.Changes.{after as graph_after}
-use Rattle.recovery_1.specs.State.{State}
-use Rattle.group_commit.specs.declared.request.Request.{Request}
-use Rattle.group_commit.specs.declared.request.Verdict.{Verdict}
-use Rattle.group_commit.specs.Settling.{Settled, settle, accept, refuse, one_more}
+use Rattle.requests.specs.declared.request.Request.{Request}
+use Rattle.requests.specs.Tickets.{raise}
+use Rattle.recovery.specs.State.{State, state_with}
+use Rattle.recovery.specs.Standing.{StandsFor}
 use Rattle.checkpoint.specs.declared.store.Store.{Store}
-use Rattle.recovery_1.specs.Standing.{StandsFor}
 use Rattle.checkpoint.specs.StoreWords.{state_of, view_of, disk_of, is_down, stands_now}
+use Rattle.generations.specs.declared.posting.Verdict.{Verdict}
+use Rattle.group_commit.specs.Settling.{Settled, settle, accept, refuse, one_more}
 use Rattle.group_commit.specs.declared.desk.Desk.{Desk}
 use Rattle.group_commit.specs.DeskWords.{store_of, held_of, settled_of}
 use Rattle.printed_lines.specs.declared.fault.Fault.{Fault}
-use Rattle.device_commands.specs.Answer.{KeepsThrough, state_after}
+use Rattle.device_commands.specs.Answer.{KeepsThrough, IsNew, IsTaken, session, state_under, verdict_of}
 
-pub one_state : (s : State) (r : Request) → (settle s (r ∷ [])).state ≡ state_after s r.change
-one_state s r = elim (graph_after s.graph r.change) as (λ o. (elim o as (λ _. Settled) [ Ok graph ↦ accept r (s.count + 1) (settle (one_more s graph) []) | Err at ↦ refuse r at (settle s []) ]).state ≡ elim o as (λ _. State) [ Ok graph ↦ record { count = s.count + 1; graph = graph } | Err at ↦ s ]) [
+-- a change under a ticket, as a request
+abbrev pub request_of : ℕ → List Op → Request
+request_of ticket change = record { session = session; ticket = ticket; change = change }
+
+pub one_state : (s : State) (ticket : ℕ) (change : List Op) → (settle s (request_of ticket change ∷ [])).state ≡ state_under s ticket change
+one_state s ticket change = elim (graph_after s.graph change) as (λ o. (elim o as (λ _. Settled) [ Ok graph ↦ accept (request_of ticket change) (s.count + 1) (settle (one_more s (request_of ticket change) graph) []) | Err at ↦ refuse (request_of ticket change) at (settle s []) ]).state ≡ elim o as (λ _. State) [ Ok graph ↦ state_with (s.count + 1) graph (raise s.tickets (session, ticket)) | Err at ↦ s ]) [
   | Ok graph ↦ refl
   | Err at ↦ refl
 ]
 
+-- where something of it is accepted, the graph takes the change
+pub accepted_is_taken : (s : State) (ticket : ℕ) (change : List Op) → (settle s (request_of ticket change ∷ [])).accepted ≢ [] → IsTaken s change
+accepted_is_taken s ticket change = elim (graph_after s.graph change) as (λ o. (elim o as (λ _. Settled) [ Ok graph ↦ accept (request_of ticket change) (s.count + 1) (settle (one_more s (request_of ticket change) graph) []) | Err at ↦ refuse (request_of ticket change) at (settle s []) ]).accepted ≢ [] → IsOk o) [
+  | Ok graph ↦ λ some. refl
+  | Err at ↦ λ some. absurd (some refl)
+]
+
 -- ---- what a desk's commit of one request leaves, said of the store that the desk was given
 
-pub one_request_leaves : {D : Type 0} {V : _} → (desk done : Desk D V) (store result : Store D V) (r : Request) → store_of desk ≡ store → held_of desk ≡ r ∷ [] → result ≡ store_of done
+pub one_request_leaves : {D : Type 0} {V : _} → (desk done : Desk D V) (store result : Store D V) (ticket : ℕ) (change : List Op) → store_of desk ≡ store → held_of desk ≡ request_of ticket change ∷ [] → result ≡ store_of done
     → (IsTrue (view_of (store_of desk)).keeps_model → is_down (store_of desk) ≡ false → LeavesOnly (view_of (store_of desk)) (view_of (store_of done)) (λ image. StandsFor (state_of (store_of desk)) image ⊎ StandsFor (settled_of desk).state image))
     → IsTrue (view_of store).keeps_model → is_down store ≡ false
-    → LeavesOnly (view_of store) (view_of result) (λ image. StandsFor (state_of store) image ⊎ StandsFor (state_after (state_of store) r.change) image)
-one_request_leaves desk done store result r from held to run =
-    let settled : (settled_of desk).state ≡ state_after (state_of (store_of desk)) r.change = ap (λ rs. (settle (state_of (store_of desk)) rs).state) held ∙ one_state (state_of (store_of desk)) r in
-    subst (λ s. IsTrue (view_of s).keeps_model → is_down s ≡ false → LeavesOnly (view_of s) (view_of result) (λ image. StandsFor (state_of s) image ⊎ StandsFor (state_after (state_of s) r.change) image)) from
-    (subst (λ t. IsTrue (view_of (store_of desk)).keeps_model → is_down (store_of desk) ≡ false → LeavesOnly (view_of (store_of desk)) (view_of t) (λ image. StandsFor (state_of (store_of desk)) image ⊎ StandsFor (state_after (state_of (store_of desk)) r.change) image)) (sym to)
+    → LeavesOnly (view_of store) (view_of result) (λ image. StandsFor (state_of store) image ⊎ StandsFor (state_under (state_of store) ticket change) image)
+one_request_leaves desk done store result ticket change from held to run =
+    let settled : (settled_of desk).state ≡ state_under (state_of (store_of desk)) ticket change = ap (λ rs. (settle (state_of (store_of desk)) rs).state) held ∙ one_state (state_of (store_of desk)) ticket change in
+    subst (λ s. IsTrue (view_of s).keeps_model → is_down s ≡ false → LeavesOnly (view_of s) (view_of result) (λ image. StandsFor (state_of s) image ⊎ StandsFor (state_under (state_of s) ticket change) image)) from
+    (subst (λ t. IsTrue (view_of (store_of desk)).keeps_model → is_down (store_of desk) ≡ false → LeavesOnly (view_of (store_of desk)) (view_of t) (λ image. StandsFor (state_of (store_of desk)) image ⊎ StandsFor (state_under (state_of (store_of desk)) ticket change) image)) (sym to)
     (subst (λ next. IsTrue (view_of (store_of desk)).keeps_model → is_down (store_of desk) ≡ false → LeavesOnly (view_of (store_of desk)) (view_of (store_of done)) (λ image. StandsFor (state_of (store_of desk)) image ⊎ StandsFor next image)) settled run))
+
+-- a store that nothing was asked of leaves its state
+pub untouched_leaves : {D : Type 0} {V : _} → (store result : Store D V) (next : State) → result ≡ store → IsTrue (view_of store).keeps_model → is_down store ≡ false
+    → LeavesOnly (view_of store) (view_of result) (λ image. StandsFor (state_of store) image ⊎ StandsFor next image)
+untouched_leaves store result next same model up =
+    subst (λ s. LeavesOnly (view_of store) (view_of s) (λ image. StandsFor (state_of store) image ⊎ StandsFor next image)) (sym same)
+    (started (view_of store) (λ image. StandsFor (state_of store) image ⊎ StandsFor next image) (λ image left. inl (stands_now store model up image left)))
+
+-- a verdict that is that of a state, under a ticket that is new to it
+pub of_one_state : (r : Result Verdict Fault) (state : State) (named : Option ℕ) (change : List Op) → IfOk r (λ verdict. verdict ≡ verdict_of state change) → OnOk r (IsNew state named)
+    → IfOk r (λ verdict. (s : State) × IsNew s named × (verdict ≡ verdict_of s change))
+of_one_state (Ok verdict) state named change is new = (state, new, is)
+of_one_state (Err fault) state named change is new = tt
 
 -- ---- from an opened disk to the disk that is handed back
 
-pub edit_leaves : {D : Type 0} {V : _} → (disk back : D) (store done : Store D V) (state : State) (change : List Op) → state_of store ≡ state → back ≡ disk_of done
+pub edit_leaves : {D : Type 0} {V : _} → (disk back : D) (store done : Store D V) (state : State) (next : State → State) → state_of store ≡ state → back ≡ disk_of done
     → OnlyRead (V.view disk) (view_of store) → KeepsThrough (V.view disk) state
-    → LeavesOnly (view_of store) (view_of done) (λ image. StandsFor (state_of store) image ⊎ StandsFor (state_after (state_of store) change) image)
-    → LeavesOnly (V.view disk) (V.view back) (λ image. StandsFor state image ⊎ StandsFor (state_after state change) image)
-edit_leaves {V = V} disk back store done state change same is reads keeps run =
-    let moved : LeavesOnly (view_of store) (view_of done) (λ image. StandsFor state image ⊎ StandsFor (state_after state change) image)
-    = subst (λ s. LeavesOnly (view_of store) (view_of done) (λ image. StandsFor s image ⊎ StandsFor (state_after s change) image)) same run in
-    subst (λ d. LeavesOnly (V.view disk) (V.view d) (λ image. StandsFor state image ⊎ StandsFor (state_after state change) image)) (sym is)
-    (joined (V.view disk) (view_of store) (view_of done) (StandsFor state) (λ image. StandsFor state image ⊎ StandsFor (state_after state change) image) (λ image. StandsFor state image ⊎ StandsFor (state_after state change) image)
+    → LeavesOnly (view_of store) (view_of done) (λ image. StandsFor (state_of store) image ⊎ StandsFor (next (state_of store)) image)
+    → LeavesOnly (V.view disk) (V.view back) (λ image. StandsFor state image ⊎ StandsFor (next state) image)
+edit_leaves {V = V} disk back store done state next same is reads keeps run =
+    let moved : LeavesOnly (view_of store) (view_of done) (λ image. StandsFor state image ⊎ StandsFor (next state) image)
+    = subst (λ s. LeavesOnly (view_of store) (view_of done) (λ image. StandsFor s image ⊎ StandsFor (next s) image)) same run in
+    subst (λ d. LeavesOnly (V.view disk) (V.view d) (λ image. StandsFor state image ⊎ StandsFor (next state) image)) (sym is)
+    (joined (V.view disk) (view_of store) (view_of done) (StandsFor state) (λ image. StandsFor state image ⊎ StandsFor (next state) image) (λ image. StandsFor state image ⊎ StandsFor (next state) image)
     (reading_leaves (V.view disk) (view_of store) (StandsFor state) reads keeps) moved (λ image here. inl here) (λ image here. here))
+
+-- a store that nothing was asked of hands back a disk that was only read
+pub edit_reads : {D : Type 0} {V : _} → (disk back : D) (store done : Store D V) → done ≡ store → back ≡ disk_of done → OnlyRead (V.view disk) (view_of store) → OnlyRead (V.view disk) (V.view back)
+edit_reads {V = V} disk back store done same is reads =
+    subst (λ d. OnlyRead (V.view disk) (V.view d)) (sym is) (subst (λ s. OnlyRead (V.view disk) (view_of s)) (sym same) reads)
 
 pub edit_keeps : {D : Type 0} {V : _} → (back : D) (done : Store D V) (r : Result Verdict Fault) (state : State) → back ≡ disk_of done → IsTrue (view_of done).keeps_model
     → OnOk r (state_of done ≡ state) → OnOk r (is_down done ≡ false) → OnOk r (KeepsThrough (V.view back) state)

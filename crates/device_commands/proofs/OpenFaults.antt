@@ -3,12 +3,12 @@ use Rattle.std.proofs.Common.{◌≡◌, ℕ, List, refl}
 use Rattle.recovery_parts.specs.declared.refusals.OpenRefused.{OpenRefused}
 use Rattle.recovery_parts.specs.declared.refusals.OpenRefused.TheVariants.{NotFormatted, BadVersion, Damaged, Device, Memory}
 use Rattle.recovery_parts.specs.Refusals.{LacksMagic}
-use Rattle.recovery_1.specs.Fronts.{HasOtherVersion, HasThisVersion}
+use Rattle.recovery.specs.Fronts.{HasOtherVersion, HasThisVersion}
 use Rattle.recovery_parts.specs.Refusals.{IsFormatFault}
-use Rattle.recovery_1.specs.Standing.{StandsForNone}
+use Rattle.recovery.specs.Standing.{StandsForNone}
 use Rattle.printed_lines.specs.declared.fault.Fault.{Fault}
 use Rattle.printed_lines.specs.declared.fault.Fault.TheVariants as fault
-use Rattle.device_commands.specs.Openings.{IsDeskFault, IsEditFault, IsOpenFault, TellsOf, open_fault}
+use Rattle.device_commands.specs.Openings.{IsChangeFault, IsDeskFault, IsEditFault, IsOpenFault, TellsOf, open_fault}
 
 -- a refused opening's fault tells what the refusal does
 pub opening_tells : (refused : OpenRefused) (content : List ℕ) → (IsFormatFault refused → StandsForNone content) → (refused ≡ NotFormatted → LacksMagic content)
@@ -35,23 +35,33 @@ device_alone Damaged is = absurd (cc)
 device_alone Device is = refl
 device_alone Memory is = absurd (cc)
 
--- a desk's faults tell nothing of a content
-pub desk_tells : (fault : Fault) (content : List ℕ) → IsDeskFault fault → TellsOf fault content
-desk_tells fault.Device content is = tt
-desk_tells fault.Memory content is = tt
-desk_tells fault.Worn content is = tt
-desk_tells _ content is = absurd is
+-- a change's faults tell nothing of a content
+pub change_tells : (fault : Fault) (content : List ℕ) → IsChangeFault fault → TellsOf fault content
+change_tells fault.Device content is = tt
+change_tells fault.Memory content is = tt
+change_tells fault.Worn content is = tt
+change_tells fault.AlreadyIn content is = tt
+change_tells _ content is = absurd is
 
--- they are among those of a change
-pub desk_edits : (fault : Fault) → IsDeskFault fault → IsEditFault fault
-desk_edits fault.Device is = tt
-desk_edits fault.Memory is = tt
-desk_edits fault.Worn is = tt
-desk_edits _ is = absurd is
+-- they are among those of a change on a device
+pub change_edits : (fault : Fault) → IsChangeFault fault → IsEditFault fault
+change_edits fault.Device is = tt
+change_edits fault.Memory is = tt
+change_edits fault.Worn is = tt
+change_edits fault.AlreadyIn is = tt
+change_edits _ is = absurd is
+
+-- a desk's are among them
+pub desk_changes : (fault : Fault) → IsDeskFault fault → IsChangeFault fault
+desk_changes fault.Device is = tt
+desk_changes fault.Memory is = tt
+desk_changes fault.Worn is = tt
+desk_changes _ is = absurd is
 
 -- and so are those of an opening
 pub open_edits : (fault : Fault) → IsOpenFault fault → IsEditFault fault
 open_edits fault.Worn is = tt
+open_edits fault.AlreadyIn is = tt
 open_edits fault.NotFormatted is = tt
 open_edits fault.LayoutNotKnown is = tt
 open_edits fault.Damaged is = tt

@@ -1,23 +1,50 @@
 -- What one change does to a device, and what is answered.
-use Rattle.std.specs.Prelude.{◌+◌, ℕ, List, [], ◌∷◌, Option, Some, None, Ok, Err}
+use Rattle.std.specs.Prelude.{◌+◌, ◌<◌, ℕ, List, [], ◌∷◌, Option, Some, None, Ok, Err}
+use Rattle.std.specs.Result.{IsOk}
 use Rattle.disk_trait.specs.Disk.{DiskView, MayLeave}
 use Rattle.graph_edits.specs.declared.edits.Op.{Op}
 use Rattle.graph_edits.specs.Changes.{after as graph_after}
-use Rattle.recovery_1.specs.State.{State}
-use Rattle.recovery_1.specs.Standing.{StandsFor}
-use Rattle.group_commit.specs.declared.request.Mark.{Mark}
-use Rattle.group_commit.specs.declared.request.Verdict.{Verdict}
-use Rattle.group_commit.specs.declared.request.Verdict.TheVariants.{Accepted, Refused}
-use Rattle.group_commit.specs.declared.posting.Posting.{Posting}
-use Rattle.group_commit.specs.declared.posting.Posting.TheVariants.{Marks, Down}
+use Rattle.requests.specs.Tickets.{last_of, raise}
+use Rattle.recovery.specs.State.{State, state_with}
+use Rattle.recovery.specs.Standing.{StandsFor}
+use Rattle.generations.specs.declared.posting.Mark.{Mark}
+use Rattle.generations.specs.declared.posting.Verdict.{Verdict}
+use Rattle.generations.specs.declared.posting.Verdict.TheVariants.{Accepted, Refused}
+use Rattle.generations.specs.declared.posting.Posting.{Posting}
+use Rattle.generations.specs.declared.posting.Posting.TheVariants.{Marks, Down, Generation}
+
+-- the session that changes are made under
+abbrev pub session : ℕ
+session = 0
+
+-- its last ticket
+abbrev pub last_ticket : State → ℕ
+last_ticket state = last_of state.tickets session
+
+-- the ticket of a change: the one that is named, or else the next
+abbrev pub ticket_of : ℕ → Option ℕ → ℕ
+ticket_of last None = last + 1
+ticket_of last (Some ticket) = ticket
+
+-- the ticket of a change is above the last one, so it was never taken
+abbrev pub IsNew : State → Option ℕ → Type 0
+IsNew state named = last_ticket state < ticket_of (last_ticket state) named
 
 -- what becomes of a change: it counts, or its first refused op is named
 abbrev pub verdict_of : State → List Op → Verdict
 verdict_of state change = elim (graph_after state.graph change) [ Ok graph ↦ Accepted (state.count + 1) | Err at ↦ Refused at.0 at.1 ]
 
--- the state with the change, where it is accepted, else as it was
-abbrev pub state_after : State → List Op → State
-state_after state change = elim (graph_after state.graph change) [ Ok graph ↦ record { count = state.count + 1; graph = graph } | Err at ↦ state ]
+-- the graph takes the change
+abbrev pub IsTaken : State → List Op → Type 0
+IsTaken state change = IsOk (graph_after state.graph change)
+
+-- the state with the change under a ticket, where it is accepted, else as it was
+abbrev pub state_under : State → ℕ → List Op → State
+state_under state ticket change = elim (graph_after state.graph change) [ Ok graph ↦ state_with (state.count + 1) graph (raise state.tickets (session, ticket)) | Err at ↦ state ]
+
+-- so under the ticket of the change
+abbrev pub state_after : State → Option ℕ → List Op → State
+state_after state named change = state_under state (ticket_of (last_ticket state) named) change
 
 -- each image that a crash now may leave stands for the state
 abbrev pub KeepsThrough : DiskView → State → Type 0
@@ -33,3 +60,4 @@ abbrev pub verdict_due : Option Posting → Option Verdict
 verdict_due None = None
 verdict_due (Some (Marks told)) = first_verdict told.items
 verdict_due (Some Down) = None
+verdict_due (Some (Generation number scheme)) = None

@@ -4,10 +4,10 @@ use Rattle.graph_edits.specs.Edges.{most_nodes}
 use Rattle.recovery_parts.specs.declared.refusals.OpenRefused.{OpenRefused}
 use Rattle.recovery_parts.specs.declared.refusals.OpenRefused.TheVariants.{NotFormatted as OpenNotFormatted, BadVersion, Damaged as OpenDamaged, Device as OpenDevice, Memory as OpenMemory}
 use Rattle.recovery_parts.specs.Refusals.{LacksMagic}
-use Rattle.recovery_1.specs.Fronts.{HasOtherVersion, HasThisVersion}
-use Rattle.recovery_1.specs.Standing.{StandsForNone}
+use Rattle.recovery.specs.Fronts.{HasOtherVersion, HasThisVersion}
+use Rattle.recovery.specs.Standing.{StandsForNone}
 use Rattle.printed_lines.specs.declared.fault.Fault.{Fault}
-use Rattle.printed_lines.specs.declared.fault.Fault.TheVariants.{NodeCount, DeviceLength, NotFormatted, LayoutNotKnown, Damaged, Device, Memory, Worn}
+use Rattle.printed_lines.specs.declared.fault.Fault.TheVariants.{NodeCount, DeviceLength, NotFormatted, LayoutNotKnown, Damaged, Device, Memory, Worn, AlreadyIn}
 
 -- the faults of formatting a device for so many nodes
 abbrev pub IsFormatFault : ℕ → Fault → Type 0
@@ -47,7 +47,13 @@ IsDeskFault Memory = Unit {0}
 IsDeskFault Worn = Unit {0}
 IsDeskFault fault = ⊥
 
--- the faults of a change
+-- the faults of a change under a ticket
+abbrev pub IsChangeFault : Fault → Type 0
+IsChangeFault AlreadyIn = Unit {0}
+IsChangeFault fault = IsDeskFault fault
+
+-- the faults of a change on a device
 abbrev pub IsEditFault : Fault → Type 0
 IsEditFault Worn = Unit {0}
+IsEditFault AlreadyIn = Unit {0}
 IsEditFault fault = IsOpenFault fault

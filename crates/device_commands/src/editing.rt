@@ -1,29 +1,46 @@
 //! One change of a device.
-ghost use Rattle.std.specs.Prelude.{◌≡◌, ◌<◌, ◌⊎◌, IsTrue, IfOk, IfErr, IsErrOf, OnOk, false};
-ghost use Rattle.disk_trait.specs.Disk.{IsSameDevice, LeavesOnly};
-ghost use Rattle.recovery_1.specs.State.{State};
-ghost use Rattle.recovery_1.specs.Standing.{StandsFor};
+ghost use Rattle.std.specs.Prelude.{◌≡◌, ◌<◌, ◌≤◌, ◌⊎◌, ◌↔◌, IsTrue, IfOk, IfErr, IsErrOf, OnOk, false};
+ghost use Rattle.disk_trait.specs.Disk.{IsSameDevice, LeavesOnly, OnlyRead};
+ghost use Rattle.requests.specs.Tickets.{worn_limit};
+ghost use Rattle.recovery.specs.State.{State};
+ghost use Rattle.recovery.specs.Standing.{StandsFor};
 ghost use Rattle.checkpoint.specs.StoreWords.{state_of, view_of, is_down};
 ghost use Rattle.group_commit.specs.DeskWords.{due_of};
-ghost use Rattle.device_commands.specs.Answer.{verdict_of, state_after, verdict_due, KeepsThrough};
-ghost use Rattle.device_commands.specs.Openings.{IsEditFault, IsDeskFault, TellsOf};
+ghost use Rattle.device_commands.specs.Answer.{verdict_of, state_after, state_under, verdict_due, last_ticket, ticket_of, IsNew, IsTaken, KeepsThrough};
+ghost use Rattle.device_commands.specs.Openings.{IsChangeFault, IsEditFault, IsDeskFault, TellsOf};
 
 use crate::opening::open;
-use checkpoint::{Store, standing_law};
+use checkpoint::{Store, WORN_LIMIT, standing_law};
 use disk_trait::Disk;
+use generations::{Posting, Verdict};
 use graph_edits::Change;
-use group_commit::{Desk, DeskRefused, Posting, Request, Verdict};
+use group_commit::{Desk, DeskRefused};
 use printed_lines::Fault;
+use requests::Request;
 use std::alloc::Global;
 
-/// Makes one change, as the first request of session 0, and answers what became of it.
-pub fn edit<D: Disk>(alloc: Global, disk: D, change: Change) -> (Result<Verdict, Fault>, D)
+// The session that changes are made under.
+const SESSION: u8 = 0;
+
+/// Makes one change under a ticket of session 0, and answers what became of it. Where no ticket is named, it is the next one.
+pub fn edit<D: Disk>(
+    alloc: Global,
+    disk: D,
+    named: Option<u64>,
+    change: Change,
+) -> (Result<Verdict, Fault>, D)
     ensures verdict { IsTrue (D.view disk).keeps_model → (state : State) → StandsFor state (D.view disk).content → IfOk result.0 (λ verdict. verdict ≡ verdict_of state change) }
-    // Also of a disk that doesn't keep the model the verdict is that of a state.
-    ensures of_one { IfOk result.0 (λ verdict. (state : State) × (verdict ≡ verdict_of state change)) }
-    ensures left { IsTrue (D.view disk).keeps_model → (state : State) → StandsFor state (D.view disk).content → OnOk result.0 (KeepsThrough (D.view result.1) (state_after state change)) }
+    ensures new { IsTrue (D.view disk).keeps_model → (state : State) → StandsFor state (D.view disk).content → OnOk result.0 (IsNew state named) }
+    // Also of a disk that doesn't keep the model the verdict is that of a state to which the ticket is new.
+    ensures of_one { IfOk result.0 (λ verdict. (state : State) × IsNew state named × (verdict ≡ verdict_of state change)) }
+    // A ticket that was taken changes nothing.
+    ensures already_in { IsTrue (D.view disk).keeps_model → (state : State) → StandsFor state (D.view disk).content → IsErrOf result.0 Fault.AlreadyIn → ¬ (IsNew state named) }
+    ensures unwritten { IsTrue (D.view disk).keeps_model → IsErrOf result.0 Fault.AlreadyIn → OnlyRead (D.view disk) (D.view result.1) }
+    ensures worn { IsTrue (D.view disk).keeps_model → (state : State) → StandsFor state (D.view disk).content → IsErrOf result.0 Fault.Worn
+        → IsNew state named × ((worn_limit < ticket_of (last_ticket state) named) ⊎ IsTaken state change) }
+    ensures left { IsTrue (D.view disk).keeps_model → (state : State) → StandsFor state (D.view disk).content → OnOk result.0 (KeepsThrough (D.view result.1) (state_after state named change)) }
     ensures any_moment { IsTrue (D.view disk).keeps_model → (state : State) → StandsFor state (D.view disk).content → KeepsThrough (D.view disk) state
-        → LeavesOnly (D.view disk) (D.view result.1) (λ image. StandsFor state image ⊎ StandsFor (state_after state change) image) }
+        → LeavesOnly (D.view disk) (D.view result.1) (λ image. StandsFor state image ⊎ StandsFor (state_after state named change) image) }
     ensures tells { IsTrue (D.view disk).keeps_model → IfErr result.0 (λ fault. TellsOf fault (D.view disk).content) }
     ensures faults { IfErr result.0 (λ fault. IsEditFault fault) }
     ensures ran { IsSameDevice (D.view disk) (D.view result.1) }
@@ -31,31 +48,80 @@ pub fn edit<D: Disk>(alloc: Global, disk: D, change: Change) -> (Result<Verdict,
     standing_law();
     match open(alloc, disk) {
         Ok(store) => {
-            let (answer, store) = settle_one(alloc, store, change);
+            let (answer, store) = settle_one(alloc, store, named, change);
             (answer, store.into_disk())
         }
         Err((fault, disk)) => (Err(fault), disk),
     }
 }
 
+// Settles one change, if its ticket is new.
 fn settle_one<D: Disk>(
     alloc: Global,
     store: Store<D>,
+    named: Option<u64>,
     change: Change,
 ) -> (Result<Verdict, Fault>, Store<D>)
     requires { is_down store ≡ false }
     ensures verdict { IfOk result.0 (λ verdict. verdict ≡ verdict_of (state_of store) change) }
-    ensures state { OnOk result.0 (state_of result.1 ≡ state_after (state_of store) change) }
+    ensures new { OnOk result.0 (IsNew (state_of store) named) }
+    ensures already_in { IsErrOf result.0 Fault.AlreadyIn → ¬ (IsNew (state_of store) named) }
+    ensures unwritten { IsErrOf result.0 Fault.AlreadyIn → result.1 ≡ store }
+    ensures worn { IsErrOf result.0 Fault.Worn → IsNew (state_of store) named × ((worn_limit < ticket_of (last_ticket (state_of store)) named) ⊎ IsTaken (state_of store) change) }
+    ensures state { OnOk result.0 (state_of result.1 ≡ state_after (state_of store) named change) }
+    ensures up { OnOk result.0 (is_down result.1 ≡ false) }
+    ensures ran { IsSameDevice (view_of store) (view_of result.1) }
+    ensures faults { IfErr result.0 (λ fault. IsChangeFault fault) }
+    ensures any_moment { IsTrue (view_of store).keeps_model
+        → LeavesOnly (view_of store) (view_of result.1) (λ image. StandsFor (state_of store) image ⊎ StandsFor (state_after (state_of store) named change) image) }
+{
+    match ticket_for(named, store.resume(SESSION)) {
+        Ok(ticket) => commit_one(alloc, store, ticket, change),
+        Err(fault) => (Err(fault), store),
+    }
+}
+
+// The ticket of a change, where it is new and within the limit.
+fn ticket_for(named: Option<u64>, last: u64) -> Result<u64, Fault>
+    ensures ticket { IfOk result (λ ticket. ticket ≡ ticket_of last named) }
+    ensures new { IfOk result (λ ticket. last < ticket) }
+    ensures fits { IfOk result (λ ticket. ticket ≤ worn_limit) }
+    ensures already_in { IsErrOf result Fault.AlreadyIn ↔ (ticket_of last named ≤ last) }
+    ensures worn { IsErrOf result Fault.Worn ↔ ((last < ticket_of last named) × (worn_limit < ticket_of last named)) }
+    ensures faults { IfErr result (λ fault. (fault ≡ Fault.AlreadyIn) ⊎ (fault ≡ Fault.Worn)) }
+{
+    match named {
+        Some(ticket) if ticket <= last => Err(Fault::AlreadyIn),
+        Some(ticket) if ticket > WORN_LIMIT => Err(Fault::Worn),
+        Some(ticket) => Ok(ticket),
+        None if last >= WORN_LIMIT => Err(Fault::Worn),
+        None => Ok(last + 1),
+    }
+}
+
+// Commits one change under a ticket that is new.
+fn commit_one<D: Disk>(
+    alloc: Global,
+    store: Store<D>,
+    ticket: u64,
+    change: Change,
+) -> (Result<Verdict, Fault>, Store<D>)
+    requires up { is_down store ≡ false }
+    requires new { last_ticket (state_of store) < ticket }
+    requires fits { ticket ≤ worn_limit }
+    ensures verdict { IfOk result.0 (λ verdict. verdict ≡ verdict_of (state_of store) change) }
+    ensures worn { IsErrOf result.0 Fault.Worn → IsTaken (state_of store) change }
+    ensures state { OnOk result.0 (state_of result.1 ≡ state_under (state_of store) ticket change) }
     ensures up { OnOk result.0 (is_down result.1 ≡ false) }
     ensures ran { IsSameDevice (view_of store) (view_of result.1) }
     ensures faults { IfErr result.0 (λ fault. IsDeskFault fault) }
     ensures any_moment { IsTrue (view_of store).keeps_model
-        → LeavesOnly (view_of store) (view_of result.1) (λ image. StandsFor (state_of store) image ⊎ StandsFor (state_after (state_of store) change) image) }
+        → LeavesOnly (view_of store) (view_of result.1) (λ image. StandsFor (state_of store) image ⊎ StandsFor (state_under (state_of store) ticket change) image) }
 {
     let mut desk = Desk::new(store);
     desk.give(Request {
-        session: 0,
-        ticket: 1,
+        session: SESSION,
+        ticket,
         change,
     });
     let answer = match desk.commit(alloc) {
@@ -70,7 +136,8 @@ fn settle_one<D: Disk>(
 
 // What is told where a group isn't committed.
 fn fault_of(refused: DeskRefused) -> Fault
-    ensures { IsDeskFault result }
+    ensures desk { IsDeskFault result }
+    ensures worn { result ≡ Fault.Worn → refused ≡ DeskRefused.Worn }
 {
     match refused {
         DeskRefused::Device | DeskRefused::Down => Fault::Device,

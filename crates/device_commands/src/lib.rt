@@ -1,17 +1,19 @@
-//! What `format`, `show` and `edit` do on a device, and how each command opens it.
+//! What `format`, `show`, `edit` and `resume` do on a device, and how each command opens it.
 //!
 //! A device is any `Disk`; the caller brings it, and a call answers a [`Fault`] where it can't go on. [`listing`] is all that
-//! `show` prints of a device, [`edit`] makes one change, whole or not at all, and [`open`] is how they and the commands above
-//! open one.
+//! `show` prints of a device, [`edit`] makes one change, whole or not at all, [`resume`] answers the last ticket of a session, and
+//! [`open`] is how they and the commands above open one.
 //!
 //! The contract that the layer above uses, of a disk that keeps the disk model: [`listing`] is that of the state that the content
 //! stands for; [`edit`] answers what becomes of the change in that state, leaves a device of which each crash image stands for
-//! the state after it, and at any moment one for the state before it or after it. Not formatted, layout not known and damaged come
+//! the state after it, and at any moment one for the state before it or after it. Its ticket is new to the state: where it isn't, the
+//! answer is [`Fault::AlreadyIn`], and nothing is written. Not formatted, layout not known and damaged come
 //! only where the content stands for no state, each by the content's front (`TellsOf` of `specs/Openings`).
 //!
 //! ```text
 //! format(&mut disk, 5)?;
-//! let (answer, disk) = edit(alloc, disk, change);    // Ok(Verdict::Accepted { count: 1 })
+//! let (answer, disk) = edit(alloc, disk, None, change);   // Ok(Verdict::Accepted { count: 1 })
+//! let (answer, disk) = edit(alloc, disk, Some(1), other); // Err(Fault::AlreadyIn)
 //! listing(alloc, disk)?                              // count=1 edges=1, and a line for the edge
 //! ```
 #![tactic(auto)]
@@ -22,4 +24,4 @@ mod opening;
 mod tests;
 
 pub use editing::edit;
-pub use opening::{format, listing, open};
+pub use opening::{format, listing, open, resume};

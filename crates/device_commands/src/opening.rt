@@ -1,13 +1,15 @@
-//! Formatting a device, opening one, and listing what it holds.
+//! Formatting a device, opening one, and telling what it holds.
 ghost use Rattle.std.specs.Prelude.{◌≡◌, ◌≢◌, ◌≤◌, ◌<◌, ◌↔◌, length, IsTrue, IfOk, IfErr, IsErrOf, OnOk, false};
 ghost use Rattle.std.specs.String.{string_bytes};
 ghost use Rattle.disk_trait.specs.Disk.{IsSameDevice, MayLeave, OnlyRead};
 ghost use Rattle.graph_edits.specs.Edges.{most_nodes};
-ghost use Rattle.recovery_1.specs.Layout.{device_len};
-ghost use Rattle.recovery_1.specs.State.{State, first_state};
-ghost use Rattle.recovery_1.specs.Standing.{StandsFor};
+ghost use Rattle.requests.specs.Tickets.{last_of, sessions};
+ghost use Rattle.recovery.specs.Layout.{device_len};
+ghost use Rattle.recovery.specs.State.{State, first_state};
+ghost use Rattle.recovery.specs.Standing.{StandsFor};
 ghost use Rattle.checkpoint.specs.StoreWords.{state_of, view_of, is_down};
 ghost use Rattle.printed_lines.specs.Lines.{listing_text};
+ghost use Rattle.device_commands.specs.Answer.{KeepsThrough};
 ghost use Rattle.device_commands.specs.Openings.{IsFormatFault, IsOpenFault, TellsOf, open_fault};
 
 use checkpoint::{FormatRefused, OpenRefused, Store, standing_law};
@@ -18,6 +20,7 @@ use std::alloc::{AllocError, Global};
 /// Formats a device for so many nodes.
 pub fn format<D: Disk>(disk: &mut D, nodes: u16) -> Result<(), Fault>
     ensures ok { IsTrue (D.view disk.old).keeps_model → OnOk result (StandsFor (first_state nodes) (D.view disk.new).content) }
+    ensures left { IsTrue (D.view disk.old).keeps_model → OnOk result (KeepsThrough (D.view disk.new) (first_state nodes)) }
     ensures node_count { IsErrOf result Fault.NodeCount ↔ (¬ ((1 ≤ nodes) × (nodes ≤ most_nodes))) }
     ensures device_length { IsErrOf result Fault.DeviceLength ↔ ((1 ≤ nodes) × (nodes ≤ most_nodes) × (length (D.view disk.old).content ≢ device_len)) }
     ensures device { IsErrOf result Fault.Device → (D.view disk.old).failures < (D.view disk.new).failures }
@@ -81,4 +84,20 @@ fn listing_of_store<D: Disk>(alloc: Global, store: &Store<D>) -> Result<String, 
     ensures { IfOk result (λ text. string_bytes text ≡ listing_text (state_of store.now).count (state_of store.now).graph) }
 {
     listing_of(alloc, store.count(), store.graph())
+}
+
+/// The last ticket that was taken of a session, 0 where there is none.
+pub fn resume<D: Disk + Drop>(alloc: Global, disk: D, session: u8) -> Result<u64, Fault>
+    requires { session < sessions }
+    ensures ticket { IsTrue (D.view disk).keeps_model → (state : State) → StandsFor state (D.view disk).content → IfOk result (λ ticket. ticket ≡ last_of state.tickets session) }
+    // Also of a disk that doesn't keep the model the ticket is that of a state.
+    ensures of_one { IfOk result (λ ticket. (state : State) × (ticket ≡ last_of state.tickets session)) }
+    ensures tells { IsTrue (D.view disk).keeps_model → IfErr result (λ fault. TellsOf fault (D.view disk).content) }
+    ensures faults { IfErr result (λ fault. IsOpenFault fault) }
+{
+    standing_law();
+    match open(alloc, disk) {
+        Ok(store) => Ok(store.resume(session)),
+        Err((fault, _)) => Err(fault),
+    }
 }

@@ -1,9 +1,9 @@
 //! Commands on a disk in memory.
-use crate::{edit, format, listing, open};
+use crate::{edit, format, listing, open, resume};
 use checkpoint::DEVICE_LEN;
 use disk_trait::{Disk, MemDisk};
+use generations::Verdict;
 use graph_edits::{Change, Code, Op};
-use group_commit::Verdict;
 use printed_lines::Fault;
 use std::io;
 use std::process::Abort;
@@ -14,30 +14,78 @@ fn formatted<R: AllocGlobal + Abort>(rt: &R) -> io::Result<MemDisk> {
     Ok(disk)
 }
 
-#[test]
-fn edits_and_listings(rt: HostRuntime) -> io::Result<()> {
-    let mut disk = formatted(&rt)?;
-    let table = [
-        (Op::Add(0, 1, 1), Verdict::Accepted { count: 1 }),
-        (
-            Op::Add(1, 0, 2),
-            Verdict::Refused {
-                op: 0,
-                code: Code::EdgeThere,
-            },
-        ),
-    ];
-    for (op, verdict) in table {
-        let change = Change::new(&[op]).expect(&rt, "one op");
-        let (answer, left) = edit(rt.alloc(), disk, change);
-        assert_eq!(&rt; answer, Ok(verdict));
+// One op under a ticket or the next one, and what is answered.
+type Step = (Option<u64>, Op, Result<Verdict, Fault>);
+
+fn after_steps<R: AllocGlobal + Abort>(
+    rt: &R,
+    disk: MemDisk,
+    steps: &[Step],
+) -> io::Result<MemDisk> {
+    let mut disk = disk;
+    for (named, op, wanted) in steps {
+        let change = Change::new(&[*op]).expect(rt, "one op");
+        let (answer, left) = edit(rt.alloc(), disk, *named, change);
+        assert_eq!(rt; answer, *wanted);
         disk = left;
     }
+    Ok(disk)
+}
+
+#[test]
+fn edits_and_listings(rt: HostRuntime) -> io::Result<()> {
+    let there = Verdict::Refused {
+        op: 0,
+        code: Code::EdgeThere,
+    };
+    let steps = [
+        (None, Op::Add(0, 1, 1), Ok(Verdict::Accepted { count: 1 })),
+        (None, Op::Add(1, 0, 2), Ok(there)),
+    ];
+    let disk = after_steps(&rt, formatted(&rt)?, &steps)?;
     let text = listing(rt.alloc(), disk);
     assert_eq!(&rt;
         text.expect(&rt, "listed").as_str(),
         "count=1 edges=1\n0 1 1\n"
     );
+    Ok(())
+}
+
+// A ticket is taken once, and only where its change is accepted.
+#[test]
+fn tickets(rt: HostRuntime) -> io::Result<()> {
+    let most = 9_223_372_036_854_775_807;
+    let there = Verdict::Refused {
+        op: 0,
+        code: Code::EdgeThere,
+    };
+    let steps = [
+        (Some(0), Op::Add(0, 1, 1), Err(Fault::AlreadyIn)),
+        (
+            Some(5),
+            Op::Add(0, 1, 1),
+            Ok(Verdict::Accepted { count: 1 }),
+        ),
+        (Some(5), Op::Add(1, 2, 1), Err(Fault::AlreadyIn)),
+        (Some(6), Op::Add(0, 1, 1), Ok(there)),
+        (
+            Some(6),
+            Op::Set(0, 1, 2),
+            Ok(Verdict::Accepted { count: 2 }),
+        ),
+        (None, Op::Set(0, 1, 3), Ok(Verdict::Accepted { count: 3 })),
+        (Some(7), Op::Set(0, 1, 4), Err(Fault::AlreadyIn)),
+        (Some(most + 1), Op::Set(0, 1, 4), Err(Fault::Worn)),
+        (
+            Some(most),
+            Op::Set(0, 1, 4),
+            Ok(Verdict::Accepted { count: 4 }),
+        ),
+        (None, Op::Set(0, 1, 5), Err(Fault::Worn)),
+    ];
+    let disk = after_steps(&rt, formatted(&rt)?, &steps)?;
+    assert_eq!(&rt; resume(rt.alloc(), disk, 0), Ok(most));
+    assert_eq!(&rt; resume(rt.alloc(), formatted(&rt)?, 63), Ok(0));
     Ok(())
 }
 
@@ -63,7 +111,7 @@ fn contents_that_are_no_store(rt: HostRuntime) -> io::Result<()> {
     assert_eq!(&rt; format(&mut short, 0), Err(Fault::NodeCount));
     let table = [
         (0, b't', Fault::NotFormatted),
-        (7, b'9', Fault::LayoutNotKnown),
+        (7, b'1', Fault::LayoutNotKnown),
         (4_096, 0, Fault::Damaged),
     ];
     for (place, byte, fault) in table {

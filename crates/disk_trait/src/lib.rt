@@ -79,8 +79,6 @@ mod log;
 mod memory;
 mod plan;
 mod ranges;
-#[cfg(test)]
-mod tests;
 
 pub use disk::{CrashDisk, DeviceFault, Disk};
 pub use file::FileDisk;

@@ -1,1 +1,2 @@
 pub mod Posting
+mod Answering

@@ -6,11 +6,11 @@ use Rattle.node_table.specs.declared.parts.Parts.{Parts}
 use Rattle.requests.specs.Tickets.{Rises}
 use Rattle.generations.specs.declared.posting.Mark.{Mark}
 use Rattle.generations.specs.declared.posting.Notice.{Notice}
-use Rattle.generations.specs.declared.posting.Notice.TheVariants.{Marked, Failed, Built}
-use Rattle.generations.specs.Notices.{told_to, counts_of, marks_in, numbers_in, says_down, is_down}
+use Rattle.generations.specs.declared.posting.Notice.TheVariants.{Built}
+use Rattle.generations.specs.Notices.{told_to, counts_of, marks_in, numbers_in}
 use Rattle.generations.specs.Lawful.{AreCounted, IsLawful}
 use Rattle.generations.specs.Posts.{Posts, with_posted}
-use Rattle.generations.proofs.Lawfulness.{lawful_push, numbers_push, rising_push}
+use Rattle.generations.proofs.Lawfulness.{lawful_push, numbers_push, rising_push, still_up}
 use Rattle.forwarding_tests.specs.InARow.{IsInARow}
 
 pub next_lawful : (w : Posts) (n : ℕ) (p : Parts) → IsInARow w n → IsLawful w.opening.starts w.opening.count (w.posted ++ w.kept) → IsLawful w.opening.starts w.opening.count (w.posted ++ Built (n + 1) p ∷ [])
@@ -24,12 +24,6 @@ next_lawful w n p row lawful =
     (subst (λ (ms : List Mark). AreCounted w.opening.count (counts_of ms)) marks now.counts)
     (rising_push (numbers_in log) (n + 1) now.numbers (λ k lt. omega (arith, row.numbers k lt)))
 
-still_up : (log : List Notice) (n : ℕ) (p : Parts) → says_down log ≡ false → says_down (log ++ Built n p ∷ []) ≡ false
-still_up [] n p up = refl
-still_up (Marked marks ∷ log) n p up = still_up log n p up
-still_up (Failed ∷ log) n p up = absurd cc
-still_up (Built m q ∷ log) n p up = still_up log n p up
-
 one_above : (xs : List ℕ) (n k : ℕ) → ((j : ℕ) → j < length xs → slice_index xs j ≤ n) → k < length (xs ++ (n + 1) ∷ []) → slice_index (xs ++ (n + 1) ∷ []) k ≤ n + 1
 one_above xs n k below lt =
     elim (cases_lt k (length xs)) [
@@ -37,11 +31,12 @@ one_above xs n k below lt =
       | inr past ↦ let last : length xs ≡ k = omega (arith, length_push xs (n + 1)) in omega (arith, get_or_at xs (n + 1) [] 0 k last)
     ]
 
-pub next_row : (w : Posts) (n : ℕ) (p : Parts) → IsInARow w n → IsInARow (with_posted w (Built (n + 1) p)) (n + 1)
-next_row w n p row =
+pub next_row : (w v : Posts) (n : ℕ) (p : Parts) → IsInARow w n → v ≡ with_posted w (Built (n + 1) p) → IsInARow v (n + 1)
+next_row w v n p row is =
     let numbers = numbers_push w.posted (Built (n + 1) p) in
-    record {
+    let now : IsInARow (with_posted w (Built (n + 1) p)) (n + 1) = record {
       kept = refl;
-      up = still_up w.posted (n + 1) p row.up;
+      up = still_up w.posted (Built (n + 1) p) row.up refl;
       numbers = subst (λ (xs : List ℕ). (k : ℕ) → k < length xs → slice_index xs k ≤ n + 1) (sym numbers) (λ k lt. one_above (numbers_in w.posted) n k row.numbers lt);
-    }
+    } in
+    subst (λ (x : Posts). IsInARow x (n + 1)) (sym is) now

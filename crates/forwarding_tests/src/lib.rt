@@ -1,11 +1,18 @@
-//! Tests of forwarding, in packets and in bytes.
+//! Tests of the board, the intake and the forwarders.
 //!
-//! There is nothing here but tests: schemes of a path of five nodes are posted on a board, and forwarders pass on packets
-//! that were launched, made by hand, changed by a byte or drawn, alone and in threads while a writer posts.
+//! There is nothing here but tests. Schemes are posted on a board, which readers look at beside the writer and where an
+//! allocation is refused; editors submit changes, which are answered by hand, alone and in threads; and forwarders pass on
+//! packets that were launched, made by hand, changed by a byte or drawn, alone and while a writer posts.
 #![tactic(auto)]
 
 #[cfg(test)]
+mod answered;
+#[cfg(test)]
+mod boards;
+#[cfg(test)]
 mod drawn;
+#[cfg(test)]
+mod judged;
 #[cfg(test)]
 mod posted;
 #[cfg(test)]

@@ -1,14 +1,17 @@
 // Schemes, and a board with some posted.
-ghost use Rattle.std.specs.Prelude.{◌≡◌, ◌+◌, ◌<◌, ◌≤◌, [], length};
+ghost use Rattle.std.specs.Prelude.{◌≡◌, ◌+◌, ◌<◌, ◌≤◌, ◌++◌, ◌∷◌, []};
+ghost use Rattle.generations.specs.Notices.{notice_of};
+ghost use Rattle.generations.specs.Lawful.{IsLawful};
+ghost use Rattle.generations.specs.Posts.{with_posted};
 ghost use Rattle.forwarding_tests.specs.InARow.{IsInARow};
 
 use forwarders::{ByteMove, BytesRefused, Forwarder};
-use generations::{BoardWriter, Posting};
+use generations::{Board, BoardWriter, PostRefused, Posting};
 use graph_edits::{Change, Graph, MOST_NODES, Op};
 use landmarks::Landmarks;
-use node_table::{Scheme, build};
+use node_table::{Parts, Scheme, build};
 use packet_bytes::PACKET_SIZE;
-use std::alloc::Global;
+use std::alloc::{AllocError, Global};
 use std::process::Abort;
 use std::sync::{Arc, Wait};
 
@@ -45,6 +48,49 @@ pub(crate) fn scheme_of(
     build(alloc, &graph, &landmarks, generation, alloc).expect(rt, "memory")
 }
 
+/// A scheme with no node.
+pub(crate) fn empty_scheme(
+    alloc: Global,
+    generation: u64,
+) -> Result<Arc<Scheme, Global>, AllocError> {
+    let scheme = Scheme::assemble(Parts {
+        nodes: 0,
+        generation,
+        landmarks: Vec::new(alloc),
+        ports: Vec::new(alloc),
+        nearest: Vec::new(alloc),
+        entries: Vec::new(alloc),
+        directories: Vec::new(alloc),
+        homes: Vec::new(alloc),
+    });
+    Ok(Arc::new(alloc, scheme)?)
+}
+
+/// The number of the newest generation, 0 where there is none.
+pub(crate) fn newest(board: &Board) -> u64 {
+    match board.shelf().last() {
+        Some(Some(shelved)) => shelved.number,
+        _ => 0,
+    }
+}
+
+/// Posts one posting, once more where memory was refused.
+pub(crate) fn post_now<R: Wait + Drop>(
+    rt: &impl Abort,
+    writer: &mut BoardWriter<R>,
+    posting: Posting,
+)
+    requires nothing_kept { writer.old.kept ≡ [] }
+    requires lawful { IsLawful writer.old.opening.starts writer.old.opening.count (writer.old.posted ++ notice_of posting ∷ []) }
+    ensures { writer.new ≡ with_posted writer.old (notice_of posting) }
+{
+    match writer.post(posting) {
+        Ok(()) => {}
+        Err(PostRefused::Kept) => writer.retry().expect(rt, "memory"),
+        Err(PostRefused::Back(_)) => panic!(rt; "not taken"),
+    }
+}
+
 /// Posts the next generation of the path of five nodes.
 pub(crate) fn post_next<R: Wait + Drop>(
     rt: &impl Abort,
@@ -61,9 +107,7 @@ pub(crate) fn post_next<R: Wait + Drop>(
     let scheme = scheme_of(rt, alloc, 5, &PATH_OF_FIVE, 2, number);
     let scheme = Arc::new(alloc, scheme).expect(rt, "memory");
     let _kept = writer.kept();
-    let Ok(()) = writer.post(Posting::Generation { number, scheme }) else {
-        panic!(rt; "no post");
-    };
+    post_now(rt, writer, Posting::Generation { number, scheme });
 }
 
 /// Posts the generations of the path behind the one that was posted last, up to this one.

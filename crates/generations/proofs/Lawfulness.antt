@@ -18,7 +18,6 @@ use Rattle.generations.specs.declared.posting.Notice.TheVariants.{Marked, Failed
 use Rattle.generations.specs.Notices.{told_to, count_and, counts_of, marks_of, marks_in, generation_of, generations_in, numbers_in, is_down, says_down}
 use Rattle.generations.specs.Boards.{BoardState, accepting, counting, counted_by, after, fresh, board_of}
 use Rattle.generations.specs.Lawful.{AreCounted, IsLawful}
-use Rattle.generations.specs.Posts.{Posts, IsReady, with_posted}
 use Rattle.generations.proofs.Prefixes.{prefix_get}
 
 -- ---- the empty list, and one notice more
@@ -191,41 +190,6 @@ still_up (q ∷ log) p up here =
     let first : is_down q ≡ false = or_left (is_down q) (says_down log) up in
     let rest : says_down (log ++ p ∷ []) ≡ false = still_up log p (or_right (is_down q) (says_down log) up) here in
     ap (λ (b : Bool). b || says_down (log ++ p ∷ [])) first ∙ rest
-
--- ---- a writer that is ready for a generation
-
--- at the beginning
-pub ready_none : (w : Posts) (number : ℕ) → w.posted ≡ [] → w.kept ≡ [] → IsReady w number
-ready_none w number none kept = record {
-  kept = kept;
-  up = ap says_down none;
-  above = λ k within. absurd (let e : length (numbers_in w.posted) ≡ 0 = ap (λ (l : List Notice). length (numbers_in l)) none in omega (arith, e, within));
-}
-
--- its posting is lawful
-pub ready_lawful : (w : Posts) (number : ℕ) (scheme : Parts) → IsReady w number → IsLawful w.opening.starts w.opening.count (w.posted ++ w.kept) → IsLawful w.opening.starts w.opening.count (w.posted ++ Built number scheme ∷ [])
-ready_lawful w number scheme ready lawful = lawful_generation w.opening.starts w.opening.count w.posted number scheme
-    (subst (IsLawful w.opening.starts w.opening.count) (ap (λ (l : List Notice). w.posted ++ l) ready.kept ∙ append-nil w.posted) lawful) ready.up ready.above
-
-below_push : (xs : List ℕ) (n k : ℕ) → ((j : ℕ) → j < length xs → slice_index xs j < n) → k < length (xs ++ n ∷ []) → slice_index (xs ++ n ∷ []) k < n + 1
-below_push [] n zero below within = omega arith
-below_push [] n (suc k) below within = absurd (omega (arith, within))
-below_push (x ∷ xs) n zero below within = let h : x < n = below 0 (omega arith) in omega (arith, h)
-below_push (x ∷ xs) n (suc k) below within = below_push xs n k (λ j l. below (suc j) (omega (arith, l))) (omega (arith, within))
-
--- and then it is ready for the next
-pub ready_next : (w v : Posts) (number : ℕ) (scheme : Parts) → IsReady w number → v ≡ with_posted w (Built number scheme) → IsReady v (number + 1)
-ready_next w v number scheme ready is =
-    let log = w.posted ++ Built number scheme ∷ [] in
-    let after_it : IsReady (with_posted w (Built number scheme)) (number + 1) = record {
-      kept = refl;
-      up = still_up w.posted (Built number scheme) ready.up refl;
-      above = λ k within.
-          let e : numbers_in log ≡ numbers_in w.posted ++ number ∷ [] = numbers_push w.posted (Built number scheme) in
-          let P : List ℕ → Type 0 = λ l. k < length l → slice_index l k < number + 1 in
-          subst P (sym e) (λ h. below_push (numbers_in w.posted) number k ready.above h) within;
-    } in
-    subst (λ (u : Posts). IsReady u (number + 1)) (sym is) after_it
 
 -- ---- what a board says
 

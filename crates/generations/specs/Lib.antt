@@ -4,6 +4,7 @@ pub mod Shelves
 pub mod Beginnings
 pub mod Lawful
 pub mod Laws
+pub mod Entries
 pub mod Rules
 pub mod Shares
 pub mod Knowledges

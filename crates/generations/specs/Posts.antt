@@ -1,7 +1,6 @@
 -- What a writer has posted, and what it keeps.
-use Rattle.std.specs.Prelude.{◌≡◌, ℕ, ◌<◌, false, List, ◌++◌, ◌∷◌, [], length, slice_index}
+use Rattle.std.specs.Prelude.{List, ◌++◌, ◌∷◌, []}
 use Rattle.generations.specs.declared.posting.Notice.{Notice}
-use Rattle.generations.specs.Notices.{numbers_in, says_down}
 use Rattle.generations.specs.Beginnings.{Opening}
 
 -- what contracts see of a writer: its board, what it has posted, and what it keeps
@@ -22,9 +21,3 @@ with_kept w p = record { opening = w.opening; posted = w.posted; kept = p ∷ []
 -- the same with what was kept posted
 abbrev pub all_posted : Posts → Posts
 all_posted w = record { opening = w.opening; posted = w.posted ++ w.kept; kept = [] }
-
--- A generation of this number may be posted: nothing is kept, the device hasn't failed, and the numbers before it are smaller.
-pub record IsReady (w : Posts) (number : ℕ) : Type 0 where
-  pub kept : w.kept ≡ []
-  pub up : says_down w.posted ≡ false
-  pub above : (k : ℕ) → k < length (numbers_in w.posted) → slice_index (numbers_in w.posted) k < number

@@ -59,7 +59,8 @@ impl Board {
         }
     }
 
-    /// Takes in one posting more. Only a generation takes memory, and where there is none the board stays as it was.
+    /// Takes in one posting more. It allocates nothing: a generation alone is refused, where its scheme has as many owners as can
+    /// be counted, and then the board stays as it was.
     pub fn fold(&mut self, posting: &Posting) -> Result<(), AllocError>
         ensures { MatchResult result (λ _. self.new ≡ after self.old (notice_of posting.now)) (λ _. self.new ≡ self.old) }
     {

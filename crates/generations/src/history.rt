@@ -1,5 +1,5 @@
-// The one list of notices. It exists in the proofs alone: what is stored is its length, and a history is a beginning
-// of it that was seen.
+// The one list of notices. It exists in the proofs alone, behind how the board begins: what is stored is its length, and a
+// history is a beginning of it that was seen.
 ghost use Rattle.std.specs.Prelude.{◌≡◌, ◌++◌, ◌∷◌, ◌<◌, [], length, IfSome, MatchBool};
 ghost use mathlib.Core.List.{IsPrefix};
 ghost use Rattle.generations.specs.Notices.{notice_of};
@@ -7,8 +7,8 @@ ghost use Rattle.generations.specs.Rules.{head_of};
 ghost use Rattle.generations.specs.Beginnings.{Extends};
 ghost use Rattle.generations.specs.Lawful.{IsLawful};
 
-use crate::posting::{Notice, Posting};
-use logbook::{Gain, Offer, Plain, Play, Rule, Seen, Start, Word};
+use crate::posting::{Entry, Posting};
+use logbook::{Gain, Offer, Opening, Plain, Play, Rule, Seen, Start, Word};
 use requests::SESSIONS;
 use std::marker::Model;
 
@@ -18,7 +18,7 @@ pub(crate) const MOST_POSTINGS: u64 = 1 << 62;
 /// The rule of the book.
 pub struct OneList;
 
-impl Rule<Notice, u64> for OneList {
+impl Rule<Entry, u64> for OneList {
     ghost use Rattle.std.specs.Prelude.{[]};
     ghost use base.Fml.{ftrue};
     ghost use Rattle.generations.specs.Rules.{IsCounted};
@@ -39,7 +39,7 @@ impl Rule<Notice, u64> for OneList {
 /// Callers trade nothing.
 pub struct NoTrade;
 
-impl Gain<Notice, u64> for NoTrade {
+impl Gain<Entry, u64> for NoTrade {
     ghost use base.Fml.{ftrue};
 
     ghost after = { λ names about answer. ftrue };
@@ -48,48 +48,62 @@ impl Gain<Notice, u64> for NoTrade {
 /// A step that adds a notice.
 pub struct Append;
 
-impl Play<Notice, u64> for Append {
+impl Play<Entry, u64> for Append {
     ghost use Rattle.generations.specs.Rules.{Appends};
 
     ghost then = { Appends };
 }
 
 /// What the step asks for: what the posting says.
-impl Plain<Posting, Notice, u64> for Append {
+impl Plain<Posting, Entry, u64> for Append {
     ghost use Rattle.std.specs.Prelude.{None};
-    ghost use Rattle.generations.specs.Notices.{notice_of};
+    ghost use Rattle.generations.specs.Entries.{entry_of};
 
-    ghost ask = { notice_of };
+    ghost ask = { entry_of };
 
     ghost state = { λ posting. None };
+}
+
+/// Where the sessions' tickets begin, and the count.
+#[derive(Drop)]
+struct Terms {
+    starts: [u64; SESSIONS],
+    count: u64,
+}
+
+/// A book begins with them.
+struct Opens;
+
+impl Opening<Terms, Entry> for Opens {
+    ghost use Rattle.std.specs.Prelude.{◌∷◌, []};
+    ghost use Rattle.generations.specs.declared.posting.Entry.TheVariants.{Opened};
+
+    ghost log = { λ words terms. Opened terms.starts terms.count ∷ [] };
 }
 
 /// The word that holds the length of the list.
 #[derive(Drop)]
 pub struct Head {
-    pub word: Word<Notice, u64, OneList>,
+    pub word: Word<Entry, u64, OneList>,
     pub ghost head_is: { word ≡ head_of word.book },
 }
 
 /// A beginning of the list of notices that was seen.
 #[derive(Drop)]
 pub struct History {
-    starts: [u64; SESSIONS],
-    count: u64,
     postings: u64,
-    seen: Seen<Notice, u64, OneList>,
+    seen: Seen<Entry, u64, OneList>,
 }
 
 impl Model for History {
-    ghost use Rattle.std.specs.Prelude.{◌≡◌, length};
     ghost use Rattle.generations.specs.Beginnings.{Beginning};
-    ghost use Rattle.generations.specs.Lawful.{IsLawful};
+    ghost use Rattle.generations.specs.Entries.{beginning, IsReached};
 
     ghost Value = { Beginning };
 
-    ghost view = { λ h. record { opening = record { book = h.seen.book; starts = h.starts; count = h.count }; log = h.seen.log } };
+    ghost view = { λ h. beginning h.seen.book h.seen.log };
 
-    ghost invariant = { λ h. (h.postings ≡ length h.seen.log) × IsLawful h.starts h.count h.seen.log };
+    ghost invariant = { λ h. IsReached h.postings h.seen.log };
 }
 
 /// A new book, with no notice.
@@ -99,17 +113,13 @@ pub(crate) fn open(starts: &[u64; SESSIONS], count: u64) -> (Head, History)
     ensures count { result.1.opening.count ≡ count }
     ensures book { result.0.word.book ≡ result.1.opening.book }
 {
-    let (seen, mut first, _second) = Seen::open(Start::alone(), 0, 0);
-    let word = Word::tracked(0, &mut first);
-    (
-        Head { word },
-        History {
-            starts: *starts,
-            count,
-            postings: 0,
-            seen,
-        },
-    )
+    let terms = Terms {
+        starts: *starts,
+        count,
+    };
+    let (seen, mut pens) = Seen::open_row::<Terms, Opens>(&terms, Start::alone(), 1);
+    let word = Word::tracked(0, &mut pens.take());
+    (Head { word }, History { postings: 0, seen })
 }
 
 impl History {
@@ -126,8 +136,6 @@ impl History {
         ensures { result ≡ self.now }
     {
         History {
-            starts: self.starts,
-            count: self.count,
             postings: self.postings,
             seen: self.seen.again(),
         }
@@ -151,11 +159,9 @@ impl History {
         ensures { IfSome result (λ h. Extends self.now (notice_of posting.now) h) }
     {
         let mut seen = self.seen.again();
-        let mut offer: Offer<Notice, u64, OneList, NoTrade> = seen.plain::<
-            NoTrade,
-            Posting,
-            Append,
-        >(posting);
+        let mut offer: Offer<Entry, u64, OneList, NoTrade> = seen.plain::<NoTrade, Posting, Append>(
+            posting,
+        );
         let mut pen = seen.no_pen();
         let postings = self.postings;
         let found = head
@@ -171,8 +177,6 @@ impl History {
             return None;
         }
         Some(History {
-            starts: self.starts,
-            count: self.count,
             postings: postings + 1,
             seen,
         })

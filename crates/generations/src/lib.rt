@@ -47,8 +47,6 @@ mod posting;
 mod reader;
 mod replica;
 mod seats;
-#[cfg(test)]
-mod tests;
 mod writer;
 
 pub use fold::{Board, MOST_SHELVED, Shelved};

@@ -43,3 +43,10 @@ pub enum Notice {
     Failed,
     Built { number: u64, scheme: Parts },
 }
+
+/// What a board's book keeps: how the board begins, and then its notices. No value of it is made.
+pub enum Entry {
+    /// Where each session's tickets begin, and the count.
+    Opened { starts: LinkedList<u64>, count: u64 },
+    Told(Notice),
+}

@@ -6,24 +6,29 @@ use std::io;
 #[test]
 fn greatest_numbers(rt: HostRuntime) -> io::Result<()> {
     let alloc = rt.alloc();
-    assert_eq!(&rt;
-        op(alloc, "add:65535:0:4294967295")?,
-        Some(Op::Add(65_535, 0, 4_294_967_295))
-    );
-    assert_eq!(&rt; op(alloc, "set:0:65535:0")?, Some(Op::Set(0, 65_535, 0)));
-    assert_eq!(&rt; op(alloc, "cut:10:9")?, Some(Op::Cut(10, 9)));
-    assert_eq!(&rt; op(alloc, "add:0:65536:1")?, None);
-    assert_eq!(&rt; op(alloc, "add:0:1:4294967296")?, None);
-    assert_eq!(&rt;
-        number(alloc, "18446744073709551615", u64::MAX)?,
-        Some(u64::MAX)
-    );
-    assert_eq!(&rt; number(alloc, "18446744073709551616", u64::MAX)?, None);
-    assert_eq!(&rt; number(alloc, "7", 7)?, Some(7));
-    assert_eq!(&rt; number(alloc, "7", 6)?, None);
-    assert_eq!(&rt; node(alloc, "0")?, Some(0));
-    assert_eq!(&rt; node(alloc, "65535")?, Some(65_535));
-    assert_eq!(&rt; node(alloc, "65536")?, None);
+    for (text, want) in [
+        (
+            "add:65535:0:4294967295",
+            Some(Op::Add(65_535, 0, 4_294_967_295)),
+        ),
+        ("set:0:65535:0", Some(Op::Set(0, 65_535, 0))),
+        ("cut:10:9", Some(Op::Cut(10, 9))),
+        ("add:0:65536:1", None),
+        ("add:0:1:4294967296", None),
+    ] {
+        assert!(&rt; op(alloc, text)? == want, "{text}");
+    }
+    for (text, most, want) in [
+        ("18446744073709551615", u64::MAX, Some(u64::MAX)),
+        ("18446744073709551616", u64::MAX, None),
+        ("7", 7, Some(7)),
+        ("7", 6, None),
+    ] {
+        assert!(&rt; number(alloc, text, most)? == want, "{text}");
+    }
+    for (text, want) in [("0", Some(0)), ("65535", Some(65_535)), ("65536", None)] {
+        assert!(&rt; node(alloc, text)? == want, "{text}");
+    }
     Ok(())
 }
 

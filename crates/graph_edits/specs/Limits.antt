@@ -3,11 +3,11 @@ use Rattle.std.specs.Prelude.{ℕ}
 
 -- the most nodes that a network may have
 abbrev pub most_nodes : ℕ
-most_nodes = 4096
+most_nodes = 16384
 
 -- the most edges
 abbrev pub most_edges : ℕ
-most_edges = 16384
+most_edges = 65536
 
 -- the greatest weight of an edge
 abbrev pub greatest_weight : ℕ

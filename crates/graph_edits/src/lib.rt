@@ -30,16 +30,12 @@
 
 mod edits;
 mod graph;
-#[cfg(test)]
-mod growing_tests;
 mod laws;
 mod limits;
 mod overlay;
 mod prepared;
 mod rows;
 mod table;
-#[cfg(test)]
-mod tests;
 
 pub use edits::{Change, Code, EditRefused, Op, Shape};
 pub use graph::Graph;

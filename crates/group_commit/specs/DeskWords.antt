@@ -1,12 +1,14 @@
 -- A desk, as the crates above see it.
-use Rattle.std.specs.Prelude.{◌≡◌, ◌≢◌, ◌⊎◌, ◌≤◌, ◌<◌, List, [], length, Option, true}
+use Rattle.std.specs.Prelude.{◌≡◌, ◌≢◌, ◌⊎◌, ◌≤◌, ◌<◌, ℕ, List, [], length, Option, true}
+use Rattle.requests.specs.declared.request.Request.{Request}
+use Rattle.requests.specs.Tickets.{tickets_after}
 use Rattle.checkpoint.specs.declared.store.Store.{Store}
-use Rattle.recovery_1.specs.Layout.{worn_limit}
+use Rattle.recovery.specs.Layout.{worn_limit}
+use Rattle.recovery.specs.State.{asked, IsNext, AreInTurn}
 use Rattle.checkpoint.specs.StoreWords.{state_of, is_down, LacksRoomFor, IsWornOut}
+use Rattle.generations.specs.declared.posting.Posting.{Posting}
 use Rattle.group_commit.specs.Limits.{most_held}
 use Rattle.group_commit.specs.declared.desk.Desk.{Desk}
-use Rattle.group_commit.specs.declared.request.Request.{Request}
-use Rattle.group_commit.specs.declared.posting.Posting.{Posting}
 use Rattle.group_commit.specs.Postings.{AreMarksDue, IsDownDue}
 use Rattle.group_commit.specs.Settling.{Settled, settle}
 
@@ -22,6 +24,14 @@ held_of desk = desk.held.items
 abbrev pub due_of : {D : Type 0} {V : _} → Desk D V → Option Posting
 due_of desk = desk.due
 
+-- each session's last ticket, with those of the requests that it holds
+abbrev pub tickets_of : {D : Type 0} {V : _} → Desk D V → List ℕ
+tickets_of desk = tickets_after (state_of desk.store).tickets (asked desk.held.items)
+
+-- The request may be given: its session is there, and its ticket is above that session's last one, in the store or held, and within the limit.
+abbrev pub IsNextHere : {D : Type 0} {V : _} → Desk D V → Request → Type 0
+IsNextHere desk request = IsNext (tickets_of desk) request
+
 -- what becomes of the requests that it holds, from where its store stands
 abbrev pub settled_of : {D : Type 0} {V : _} → Desk D V → Settled
 settled_of desk = settle (state_of desk.store) desk.held.items
@@ -33,6 +43,10 @@ IsPastLimits desk = ((settled_of desk).accepted ≢ []) × ((worn_limit < (settl
 -- it holds no more than there is room for
 pub few_held : {D : Type 0} {V : _} → (desk : Desk D V) → length (held_of desk) ≤ most_held
 few_held desk = desk.few
+
+-- what it holds is in turn
+pub held_in_turn : {D : Type 0} {V : _} → (desk : Desk D V) → AreInTurn (state_of (store_of desk)).tickets (held_of desk)
+held_in_turn desk = desk.in_turn
 
 -- while marks are due, nothing is held
 pub none_held : {D : Type 0} {V : _} → (desk : Desk D V) → AreMarksDue (due_of desk) → held_of desk ≡ []

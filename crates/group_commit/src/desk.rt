@@ -1,19 +1,24 @@
 //! The desk: requests are held, settled in order, and committed as one group.
 ghost use Rattle.std.specs.Prelude.{◌≡◌, ◌≢◌, ◌⊎◌, ◌≤◌, ◌<◌, ◌↔◌, ◌++◌, [], ◌∷◌, length, option_copied, IsTrue, IfOk, OnOk, OnErr, IsErrOf, IsErr, None, false, true};
 ghost use Rattle.disk_trait.specs.Disk.{IsSameDevice, LeavesOnly, Unchanged};
-ghost use Rattle.recovery_1.specs.Standing.{StandsFor};
+ghost use Rattle.requests.specs.Tickets.{sessions, last_of};
+ghost use Rattle.recovery.specs.State.{AreInTurn};
+ghost use Rattle.recovery.specs.Standing.{StandsFor};
 ghost use Rattle.checkpoint.specs.StoreWords.{state_of, nodes_of, view_of, is_down, IsDurable, IsWhereItWas, HasAppended, HasRolled, HasRolledAndAppended, HasRoomFor, LacksRoomFor};
 ghost use Rattle.group_commit.specs.Limits.{most_held};
 ghost use Rattle.group_commit.specs.Postings.{MarksAreDue, AreMarksDue, IsDownDue};
+ghost use Rattle.group_commit.specs.Turns.{in_turn_prop};
 
-use crate::posting::Posting;
+use crate::limits::MOST_HELD;
 use crate::refused::DeskRefused;
-use crate::request::{MOST_HELD, Request};
 use crate::rolling::commit_rolling;
 use crate::settling::settle_all;
+use crate::turns::last_ticket;
 use arrayvec::ArrayVec;
-use checkpoint::Store;
+use checkpoint::{Store, WORN_LIMIT};
 use disk_trait::{CrashDisk, Disk, Plan};
+use generations::Posting;
+use requests::{Request, SESSIONS};
 use std::alloc::Global;
 
 /// The one owner of a store. It holds up to [`MOST_HELD`] requests, and has at most one posting to tell.
@@ -23,13 +28,15 @@ pub struct Desk<D: Disk> {
     held: ArrayVec<Request, MOST_HELD>,
     due: Option<Posting>,
     ghost few: { length held.items ≤ most_held },
+    // Each of the held requests may be taken after those before it.
+    ghost in_turn: { AreInTurn (state_of store).tickets held.items } by { in_turn_prop (state_of store).tickets held.items },
     // The marks of a group are told before another is held.
     ghost told_first: { AreMarksDue due → held.items ≡ [] },
     ghost lost: { IsDownDue due → is_down store ≡ true },
 }
 
 impl<D: Disk> Desk<D> {
-    ghost use Rattle.group_commit.specs.DeskWords.{store_of, held_of, due_of, settled_of, IsPastLimits};
+    ghost use Rattle.group_commit.specs.DeskWords.{store_of, held_of, due_of, settled_of, IsNextHere, IsPastLimits};
 
     /// A desk that holds nothing and has nothing to tell. No call of the store has met a failure of its device.
     pub fn new(store: Store<D>) -> Desk<D>
@@ -45,15 +52,43 @@ impl<D: Disk> Desk<D> {
         }
     }
 
-    /// Takes a request in, behind those that are held.
+    /// Takes a request in, behind those that are held. Its session is there, and its ticket is above that session's last one, in the
+    /// store or held, and within the limit: see [`Desk::is_next`].
     pub fn give(&mut self, request: Request)
         requires room { length (held_of self.old) < most_held }
         requires told { due_of self.old ≡ None }
+        requires next { IsNextHere self.old request }
         ensures held { held_of self.new ≡ held_of self.old ++ request ∷ [] }
         ensures store { store_of self.new ≡ store_of self.old }
         ensures due { due_of self.new ≡ None }
     {
         self.held.push(request);
+    }
+
+    /// Whether a request may be given: whether its session is there, and its ticket is above that session's last one, in the store or
+    /// held, and within the limit.
+    pub fn is_next(&self, request: &Request) -> bool
+        ensures { IsTrue result ↔ IsNextHere self.now request.now }
+    {
+        (request.session as usize) < SESSIONS
+            && last_ticket(&self.store.starts(), self.held.as_slice(), request.session)
+                < request.ticket
+            && request.ticket <= WORN_LIMIT
+    }
+
+    /// A session's last ticket in the store, 0 where it has none. Held requests aren't there yet, and refused ones never are.
+    pub fn resume(&self, session: u8) -> u64
+        requires { session < sessions }
+        ensures { result ≡ last_of (state_of (store_of self.now)).tickets session }
+    {
+        self.store.resume(session)
+    }
+
+    /// The last ticket of each session in the store. It takes no memory.
+    pub fn starts(&self) -> [u64; SESSIONS]
+        ensures { result ≡ (state_of (store_of self.now)).tickets }
+    {
+        self.store.starts()
     }
 
     /// How many requests are held.

@@ -2,31 +2,33 @@
 //!
 //! # What it is
 //!
-//! A [`Desk`] owns a store and decides what becomes of requests. A [`Request`] is a change under a session
-//! and a ticket. Requests are given one by one, up to [`MOST_HELD`]; then [`Desk::commit`] settles what is
+//! A [`Desk`] owns a store and decides what becomes of requests: changes, each under a session and a ticket
+//! (the crate `requests`). Requests are given one by one, up to [`MOST_HELD`], each under a ticket above all
+//! that the store or the desk has of its session ([`Desk::is_next`]); then [`Desk::commit`] settles what is
 //! held, in the order in which it was given. A change that the graph takes, after those accepted before it,
-//! is accepted, and the later ones are judged by the graph with it; any other is refused whole. The changes
-//! that are accepted are one group: they go to the store as one record, so that a crash leaves all of them
-//! or none. Where the journal has no room for the record, the store is rolled first.
+//! is accepted, and the later ones are judged by the graph with it; any other is refused whole, and its
+//! ticket doesn't stand in the store. The requests that are accepted are one group: they go to the store as
+//! one record, so that a crash leaves all of them or none. Where the journal has no room for the record, the
+//! store is rolled first.
 //!
-//! Each request gets one [`Mark`]: `Accepted`, with the count of changes that made the graph by then, or
-//! `Refused`, with the place and the code of the op. The marks are made due as one [`Posting`], after the
-//! commit and never before, and nothing more is given until they are told and [`Desk::paid`] is called. So
-//! whoever reads a mark reads of what is on the device already.
+//! Each request gets one mark: `Accepted`, with the count of changes that made the graph by then, or
+//! `Refused`, with the place and the code of the op. The marks are made due as one posting (the crate
+//! `generations` has both), after the commit and never before, and nothing more is given until they are told
+//! and [`Desk::paid`] is called. So whoever reads a mark reads of what is on the device already.
 //!
 //! # The contract
 //!
-//! Contracts see a desk by four words (specs/DeskWords.antt): its store, the requests that it holds, what it
-//! has to tell, and `settled_of`, the settling of what it holds from where its store stands. A settling
-//! (specs/Settling.antt) is the marks, the accepted changes and the state that they lead to. What the layer
-//! above uses is [`Desk::commit`]:
+//! Contracts see a desk by five words (specs/DeskWords.antt): its store, the requests that it holds, what it
+//! has to tell, `tickets_of`, each session's last ticket with the held ones, and `settled_of`, the settling of
+//! what it holds from where its store stands. A settling (specs/Settling.antt) is the marks, the accepted
+//! requests and the state that they lead to. What the layer above uses is [`Desk::commit`]:
 //!
 //! | Answer | What it says |
 //! |---|---|
-//! | `Ok(n)` | the store has the state of the settling, whose accepted changes are `n`, and each image that a crash may leave from then on stands for it; its marks are due; nothing is held; no call of the device failed |
-//! | `Device` | count, graph and held requests stay, that the device is down is due, and from now on the answer is `Down` |
+//! | `Ok(n)` | the store has the state of the settling, whose accepted requests are `n`, and each image that a crash may leave from then on stands for it; its marks are due; nothing is held; no call of the device failed |
+//! | `Device` | state and held requests stay, that the device is down is due, and from now on the answer is `Down` |
 //! | `Down` | the same desk |
-//! | `Memory`, `Worn` | count, graph, held requests and what is due stay |
+//! | `Memory`, `Worn` | state, held requests and what is due stay |
 //!
 //! On a device that keeps the disk model, a crash at any moment of the call leaves the state of before or
 //! that of the settling (clause `any_moment`), and at a refusal other than `Device` that of before alone
@@ -37,10 +39,11 @@
 //! the epoch stands at its limit; and there it is `Worn`, or `Memory` while the group is settled
 //! (`past_limits`).
 //!
-//! [`settling_law`] says what a settling is good for: it goes by parts; the accepted changes lead to its
-//! state, whose count is up by their number; there is one mark for each request, under its session and
-//! ticket; the changes marked `Accepted` are those that are accepted; and their counts go on from the
-//! state's, one by one. [`limits_law`] says what [`MOST_HELD`] is.
+//! [`settling_law`] says what a settling is good for: it goes by parts; the accepted requests lead to its
+//! state, whose count is up by their number, and whose last tickets go on by theirs; of requests in turn
+//! the accepted ones are in turn, and the last tickets stay behind those of all requests; there is one mark
+//! for each request, under its session and ticket; the requests marked `Accepted` are those that are
+//! accepted; and their counts go on from the state's, one by one. [`limits_law`] says what [`MOST_HELD`] is.
 //!
 //! ```rust
 //! ghost use Rattle.std.specs.Prelude.{◌≡◌, false};
@@ -49,32 +52,38 @@
 //! use checkpoint::Store;
 //! use disk_trait::Disk;
 //! use graph_edits::Change;
-//! use group_commit::{Desk, DeskRefused, Request};
+//! use group_commit::{Desk, DeskRefused};
+//! use requests::Request;
 //! use std::alloc::Global;
 //!
-//! /// Asks for one change. The answer is 1 where it is accepted, and then it is on the device.
-//! pub fn ask<D: Disk + Drop>(alloc: Global, store: Store<D>, change: Change) -> Result<usize, DeskRefused>
+//! /// Asks for one change. The answer is 1 where it is accepted, and then it is on the device; where the session is worn out, there
+//! /// is none.
+//! pub fn ask<D: Disk + Drop>(alloc: Global, store: Store<D>, change: Change) -> Option<Result<usize, DeskRefused>>
 //!     requires { is_down store ≡ false }
 //! {
 //!     let mut desk = Desk::new(store);
-//!     desk.give(Request { session: 0, ticket: 1, change });
-//!     desk.commit(alloc)
+//!     let ticket = desk.resume(0).saturating_add(1);
+//!     let request = Request { session: 0, ticket, change };
+//!     if !desk.is_next(&request) {
+//!         return None;
+//!     }
+//!     desk.give(request);
+//!     Some(desk.commit(alloc))
 //! }
 //! ```
 #![tactic(auto)]
 
 mod desk;
 mod laws;
-mod posting;
+mod limits;
 mod refused;
-mod request;
 mod rolling;
 mod settling;
 #[cfg(test)]
 mod tests;
+mod turns;
 
 pub use desk::Desk;
 pub use laws::{limits_law, settling_law};
-pub use posting::Posting;
+pub use limits::MOST_HELD;
 pub use refused::DeskRefused;
-pub use request::{MOST_HELD, Mark, Request, Verdict};

@@ -1,15 +1,17 @@
 //! Requests settled one after another, over a graph that isn't touched.
 ghost use Rattle.std.specs.Prelude.{◌≡◌, ◌+◌, ◌≤◌, ◌<◌, ◌^◌, ◌++◌, ◌∷◌, [], List, length, IfOk, OnOk, IsSome, Some};
 ghost use Rattle.graph_edits.specs.Changes.{fold};
-ghost use Rattle.recovery_1.specs.State.{State, after};
+ghost use Rattle.requests.specs.declared.request.Request.{Request};
+ghost use Rattle.recovery.specs.State.{State, after, changes_of, AreInTurn};
 ghost use Rattle.checkpoint.specs.StoreWords.{state_of};
+ghost use Rattle.group_commit.specs.Limits.{most_held};
 ghost use Rattle.group_commit.specs.Settling.{settle};
-ghost use Rattle.group_commit.specs.declared.request.Request.{Request};
 
-use crate::request::{MOST_HELD, Mark, Request, Verdict};
 use checkpoint::Store;
 use disk_trait::Disk;
-use graph_edits::{Change, EditRefused, Overlay};
+use generations::{Mark, Verdict};
+use graph_edits::{EditRefused, Overlay};
+use requests::Request;
 use std::alloc::{AllocError, Global};
 
 /// What became of the requests so far.
@@ -19,42 +21,45 @@ pub(crate) struct Settling {
     count: u64,
     /// A mark for each request.
     pub(crate) marks: Vec<Mark>,
-    /// The changes that are accepted.
-    pub(crate) accepted: Vec<Change>,
+    /// The requests that are accepted.
+    pub(crate) accepted: Vec<Request>,
 }
 
 impl Settling {
     ghost use Rattle.group_commit.specs.Seen.{seen};
 
-    fn new(alloc: Global, count: u64) -> Settling
-        ensures count { result.count ≡ count }
-        ensures marks { result.marks.items ≡ [] }
-        ensures accepted { result.accepted.items ≡ [] }
+    /// Nothing is settled yet; there is room for so many requests.
+    fn new(alloc: Global, count: u64, room: usize) -> Result<Settling, AllocError>
+        requires { room ≤ most_held }
+        ensures count { IfOk result (λ settling. settling.count ≡ count) }
+        ensures marks { IfOk result (λ settling. settling.marks.items ≡ []) }
+        ensures accepted { IfOk result (λ settling. settling.accepted.items ≡ []) }
     {
-        Settling {
+        Ok(Settling {
             count,
-            marks: Vec::new(alloc),
-            accepted: Vec::new(alloc),
-        }
+            marks: Vec::with_capacity(alloc, room)?,
+            accepted: Vec::with_capacity(alloc, room)?,
+        })
     }
 
     /// Settles one request more.
     fn add(&mut self, overlay: &mut Overlay<'_>, request: &Request) -> Result<(), AllocError>
         requires { self.old.count + 1 < 2 ^ 64 }
-        ensures settled { OnOk result ((s : State) (rs : List Request) → settle s rs ≡ seen self.old overlay.old → settle s (rs ++ request.now ∷ []) ≡ seen self.new overlay.new) }
+        ensures settled { OnOk result ((s : State) (rs : List Request) → settle s rs ≡ seen s.tickets self.old overlay.old → settle s (rs ++ request.now ∷ []) ≡ seen s.tickets self.new overlay.new) }
         ensures count { OnOk result (self.new.count ≤ self.old.count + 1) }
     {
         match overlay.apply(&request.change) {
             Ok(()) => {
                 self.count += 1;
                 let count = self.count;
-                self.marks.push(request.mark(Verdict::Accepted { count }))?;
-                self.accepted.push(copy_of(&request.change))?;
+                self.marks
+                    .push(mark_of(request, Verdict::Accepted { count }))?;
+                self.accepted.push(request.copy())?;
                 Ok(())
             }
             Err(EditRefused::Op { index, code }) => {
                 self.marks
-                    .push(request.mark(Verdict::Refused { op: index, code }))?;
+                    .push(mark_of(request, Verdict::Refused { op: index, code }))?;
                 Ok(())
             }
             Err(EditRefused::Memory) => Err(AllocError),
@@ -62,13 +67,14 @@ impl Settling {
     }
 }
 
-// The same change. It takes no memory.
-fn copy_of(change: &Change) -> Change
-    ensures { result ≡ change.now }
+// The mark of a request with this verdict.
+fn mark_of(request: &Request, verdict: Verdict) -> Mark
+    ensures { result ≡ record { session = request.now.session; ticket = request.now.ticket; verdict = verdict } }
 {
-    match Change::new(change.ops()) {
-        Ok(copy) => copy,
-        Err(_) => unreachable!(),
+    Mark {
+        session: request.session,
+        ticket: request.ticket,
+        verdict,
     }
 }
 
@@ -78,14 +84,16 @@ pub(crate) fn settle_all<D: Disk>(
     store: &Store<D>,
     requests: &[Request],
 ) -> Result<Settling, AllocError>
-    requires { length requests.now ≤ MOST_HELD }
+    requires few { length requests.now ≤ most_held }
+    requires in_turn { AreInTurn (state_of store.now).tickets requests.now }
     ensures marks { IfOk result (λ r. r.marks.items ≡ (settle (state_of store.now) requests.now).marks) }
     ensures accepted { IfOk result (λ r. r.accepted.items ≡ (settle (state_of store.now) requests.now).accepted) }
     ensures leads { IfOk result (λ r. after (state_of store.now) r.accepted.items ≡ Some (settle (state_of store.now) requests.now).state) }
-    ensures takes { IfOk result (λ r. IsSome (fold (state_of store.now).graph r.accepted.items)) }
+    ensures takes { IfOk result (λ r. IsSome (fold (state_of store.now).graph (changes_of r.accepted.items))) }
+    ensures in_turn { IfOk result (λ r. AreInTurn (state_of store.now).tickets r.accepted.items) }
     ensures few { IfOk result (λ r. length r.accepted.items ≤ length requests.now) }
 {
-    let mut settling = Settling::new(alloc, store.count());
+    let mut settling = Settling::new(alloc, store.count(), requests.len())?;
     let mut overlay = Overlay::over(alloc, store.graph());
     for request in requests {
         settling.add(&mut overlay, request)?;

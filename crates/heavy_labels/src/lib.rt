@@ -26,8 +26,6 @@
 mod label;
 mod numbered_member;
 mod preorder;
-#[cfg(test)]
-mod tests;
 mod tree_record;
 mod tree_step;
 

@@ -1,8 +1,5 @@
 -- Each move keeps the rule of the intake.
 use Rattle.std.proofs.Common.{◌≡◌, ◌≢◌, ◌⊎◌, ℕ, zero, suc, ◌+◌, ◌<◌, ◌≤◌, ◌==◌, Bool, true, false, true≢false, cond, List, [], ◌∷◌, ◌++◌, length, filter, map, set, sym, refl, ap, ◌∙◌, subst, inl, inr, ⊎_elim, append_assoc, arith, eq-eqb, le_refl}
-use Rattle.std.specs.List.{last_or}
-use Rattle.std.specs.Option.{unwrap_or}
-use Rattle.std.specs.Prelude.{Some as Present}
 use Rattle.std.proofs.lemmas.List.{append-nil, map-append}
 use Rattle.std.proofs.lemmas.List.Elements.{filter-append}
 use Rattle.std.proofs.lemmas.Bool.Decides.{nat_tests}
@@ -10,12 +7,12 @@ use mathlib.Core.Option.{Option, none, some, some-ne-none}
 use lib.ListN.{get_elem?}
 use Rattle.crossbeam_queue.specs.Fifo.{Pushes, Pops, Forks, Merges, Learns}
 use Rattle.crossbeam_queue.proofs.Lists.{at_set}
-use Rattle.requests.specs.Tickets.{sessions, last_of, raise, tickets_after, Rises}
+use Rattle.requests.specs.Tickets.{sessions, worn_limit, last_of, raise, tickets_after, Rises}
 use Rattle.requests.specs.Requests.{asked_by}
 use Rattle.requests.specs.declared.request.Request.{Request}
 use Rattle.requests.proofs.TicketLemmas.{same_at, other_at, set_wide, rises_first, rises_next, either_same}
 use Rattle.intake.specs.declared.queue.View.{View}
-use Rattle.intake.specs.Turns.{of, last_asked, last_or_start, idle, taker, opener, editor, missed, both, IsSeat, FitsEditor, FitsTaker, Holds}
+use Rattle.intake.specs.Turns.{of, last_or_start, idle, taker, opener, editor, taken, missed, both, IsSeat, FitsEditor, FitsTaker, AreWithin, Holds}
 
 ne_test : (a b : ℕ) → a ≢ b → (a == b) ≡ false
 ne_test a b n = grind (arith, nat_tests)
@@ -77,6 +74,16 @@ asks_next ts rs r rises there within above =
 pub asks_first : (ts : List ℕ) (xs ys : List Request) → Rises ts (map asked_by (xs ++ ys)) → Rises ts (map asked_by xs)
 asks_first ts xs ys rises = rises_first ts (map asked_by xs) (map asked_by ys) (subst (Rises ts) (map-append asked_by xs ys) rises)
 
+-- one request more within the limit
+within_more : (rs : List Request) (r : Request) → AreWithin rs → r.ticket ≤ worn_limit → AreWithin (rs ++ r ∷ [])
+within_more [] r all here = (here, tt)
+within_more (q ∷ rs) r all here = (all.0, within_more rs r all.1 here)
+
+-- the one behind some is within it too
+within_next : (rs : List Request) (r : Request) (items : List Request) → AreWithin (rs ++ r ∷ items) → r.ticket ≤ worn_limit
+within_next [] r items all = all.0
+within_next (q ∷ rs) r items all = within_next rs r items all.1
+
 -- where no session has a request there is none
 none_asked : (rs : List Request) → ((s : ℕ) → of s rs ≡ []) → rs ≡ []
 none_asked [] h = refl
@@ -101,8 +108,8 @@ all_set F views pass w mine others j u e = ⊎_elim (λ (x : (j ≡ pass) × (w 
 along : (reader : ℕ) (starts : List ℕ) (seat : ℕ → Option ℕ) (got xs ys : List Request) (pass : ℕ) (v : View) → xs ≡ ys → Fits reader starts seat got xs pass v → Fits reader starts seat got ys pass v
 along reader starts seat got xs ys pass v e f = subst (λ (l : List Request). Fits reader starts seat got l pass v) e f
 
-pub puts : (n pass : ℕ) (v : View) (r : Request) → v.sends ≡ true → r.session ≡ v.session → last_or_start v.start v.put < r.ticket → Pushes Holds n pass v r (λ w. w ≡ editor v.session v.start (v.put ++ r ∷ []) v.misses)
-puts n pass v r sends own ticket items views _ h at =
+pub puts : (n pass : ℕ) (v : View) (r : Request) → v.sends ≡ true → r.session ≡ v.session → last_or_start v.start v.put < r.ticket → r.ticket ≤ worn_limit → Pushes Holds n pass v r (λ w. w ≡ editor v.session v.start (v.put ++ r ∷ []) v.misses)
+puts n pass v r sends own ticket fits items views _ h at =
     let w : View = editor v.session v.start (v.put ++ r ∷ []) v.misses in
     let all = h.3 ++ items in
     let same : all ++ r ∷ [] ≡ h.3 ++ (items ++ r ∷ []) = append_assoc h.3 items (r ∷ []) in
@@ -126,17 +133,18 @@ puts n pass v r sends own ticket items views _ h at =
         all_set (Fits h.0 h.1 h.2 h.3 (h.3 ++ (items ++ r ∷ []))) views pass w (along h.0 h.1 h.2 h.3 (all ++ r ∷ []) (h.3 ++ (items ++ r ∷ [])) pass w same here)
             (λ j u away e. along h.0 h.1 h.2 h.3 (all ++ r ∷ []) (h.3 ++ (items ++ r ∷ [])) j u same (there j u away e)),
         subst (λ (l : List Request). Rises h.1 (map asked_by l)) same (asks_next h.1 all r h.5 (omega (arith, own, seat.0)) (omega (arith, own, seat.1.0)) (omega (arith, last, ticket))),
+        subst AreWithin same (within_more all r h.6 fits),
       ),
       refl,
     )
 
-pub takes : (pass : ℕ) (v : View) → v.takes ≡ true → Pops Holds pass v (λ r w. (w ≡ taker v.made v.starts (v.got ++ r ∷ []) v.misses) × Rises w.starts (map asked_by w.got))
+pub takes : (pass : ℕ) (v : View) → v.takes ≡ true → Pops Holds pass v (λ r w. (w ≡ taken v r) × Rises w.starts (map asked_by w.got) × (r.ticket ≤ worn_limit))
 takes pass v may r items views h at =
-    let w : View = taker v.made v.starts (v.got ++ r ∷ []) v.misses in
+    let w : View = taken v r in
     let got = h.3 ++ r ∷ [] in
     let same : h.3 ++ r ∷ items ≡ got ++ items = sym (append_assoc h.3 (r ∷ []) items) in
     let mine = (h.4 pass v at).1 may in
-    let here : Fits h.0 h.1 h.2 got (h.3 ++ r ∷ items) pass w = ((λ s. absurd (true≢false (sym s))), λ _. (mine.0, ap (λ l. l ++ r ∷ []) mine.1, mine.2, mine.3)) in
+    let here : Fits h.0 h.1 h.2 got (h.3 ++ r ∷ items) pass w = ((h.4 pass v at).0, λ _. (mine.0, ap (λ l. l ++ r ∷ []) mine.1, mine.2, mine.3)) in
     let there : (j : ℕ) (u : View) → j ≢ pass → get_elem? views j ≡ some u → Fits h.0 h.1 h.2 got (h.3 ++ r ∷ items) j u =
     λ j u away e. ((h.4 j u e).0, λ t. absurd (away (((h.4 j u e).1 t).0 ∙ sym mine.0))) in
     let rises : Rises h.1 (map asked_by (got ++ items)) = subst (λ (l : List Request). Rises h.1 (map asked_by l)) same h.5 in (
@@ -149,8 +157,13 @@ takes pass v may r items views h at =
         all_set (Fits h.0 h.1 h.2 got (got ++ items)) views pass w (along h.0 h.1 h.2 got (h.3 ++ r ∷ items) (got ++ items) pass w same here)
             (λ j u away e. along h.0 h.1 h.2 got (h.3 ++ r ∷ items) (got ++ items) j u same (there j u away e)),
         rises,
+        subst AreWithin same h.6,
       ),
-      (refl, subst (λ (l : List Request). Rises v.starts (map asked_by l)) (ap (λ l. l ++ r ∷ []) (sym mine.1)) (subst (λ (ts : List ℕ). Rises ts (map asked_by got)) (sym mine.2) (asks_first h.1 got items rises))),
+      (
+        refl,
+        subst (λ (l : List Request). Rises v.starts (map asked_by l)) (ap (λ l. l ++ r ∷ []) (sym mine.1)) (subst (λ (ts : List ℕ). Rises ts (map asked_by got)) (sym mine.2) (asks_first h.1 got items rises)),
+        within_next h.3 r items h.6,
+      ),
     )
 
 abbrev seated : (ℕ → Option ℕ) → ℕ → ℕ → ℕ → Option ℕ
@@ -190,6 +203,7 @@ seats pass v may there_is within items views h at =
           (λ (t : (j ≡ length vs) × (e' ≡ u)). subst (λ (y : ℕ × View). Fits h.0 h.1 seat h.3 all y.0 y.1) (λ i. (sym t.0 i, t.1 i)) ((λ _. (seated_new h.2 v.made n, sym free.1, sits)), λ x. absurd (true≢false (sym x))))
           (at_last vs e' u j e),
       h.5,
+      h.6,
     )
 
 begins_at : (pass : ℕ) (v : View) → get_elem? (opener [] 0 ∷ []) pass ≡ some v → Fits 0 [] (λ s. none) [] ([] ++ []) pass v
@@ -197,7 +211,7 @@ begins_at zero v at = let is : opener [] 0 ≡ v = cc in subst (λ (u : View). F
 begins_at (suc j) v at = absurd (some-ne-none v (sym at))
 
 pub begins : Holds [] (opener [] 0 ∷ [])
-begins = (0, [], (λ s. none), [], (λ pass v at. begins_at pass v at), tt)
+begins = (0, [], (λ s. none), [], (λ pass v at. begins_at pass v at), tt, tt)
 
 -- before there is an editor, the starts may still be told
 pub tells : (pass : ℕ) (v : View) (starts : List ℕ) (next : ℕ) → v.takes ≡ true → v.made ≡ 0 → v.got ≡ [] → Forks Holds pass v (opener starts next) idle
@@ -225,6 +239,7 @@ tells pass v starts next may none_made none_got items views h at =
           (λ (t : (j ≡ length vs) × (idle ≡ u)). subst (λ (y : View). Fits h.0 starts h.2 h.3 all j y) t.1 ((λ s. absurd (true≢false (sym s))), λ x. absurd (true≢false (sym x))))
           (at_last vs idle u j e)),
       subst (λ (l : List Request). Rises starts (map asked_by l)) (sym empty) tt,
+      subst AreWithin (sym empty) tt,
     )
 
 pub merges : (pass : ℕ) (v : View) (other : ℕ) (u : View) → v.takes ≡ true → u.sends ≡ true → Merges Holds pass v other u (both v u) idle
@@ -244,12 +259,16 @@ merges pass v other u may is items views h at two at' =
       (λ s. let f = (h.4 j y e).0 s in (seated_old h.2 u.session pass y.session (λ (x : y.session ≡ u.session). apart (let k : some j ≡ some other = sym f.0 ∙ (ap h.2 x ∙ theirs.0) in cc)) ∙ f.0, f.1, f.2)),
       λ t. absurd (away (((h.4 j y e).1 t).0 ∙ sym mine.0)),
     )) in
-    (h.0, h.1, seat, h.3, all_set (Fits h.0 h.1 seat h.3 all) (set views pass w) other idle ((λ s. absurd (true≢false (sym s))), λ t. absurd (true≢false (sym t))) (λ j y apart e. now j y e apart), h.5)
+    (h.0, h.1, seat, h.3, all_set (Fits h.0 h.1 seat h.3 all) (set views pass w) other idle ((λ s. absurd (true≢false (sym s))), λ t. absurd (true≢false (sym t))) (λ j y apart e. now j y e apart), h.5, h.6)
 
 pub compares : (pass : ℕ) (v : View) → v.sends ≡ true → v.takes ≡ true → Learns Holds pass v (λ items. v.put ≡ of v.session (v.got ++ items))
 compares pass v a b items views h at =
     let f = h.4 pass v at in
     (f.0 a).1 ∙ ap (λ l. of v.session (l ++ items)) (sym (f.1 b).1)
+
+-- the taker knows what an ended editor put, and what was taken and waits of it
+pub knows : (pass : ℕ) (v : View) → v.takes ≡ true → Learns Holds pass v (λ items. v.sends ≡ true → v.put ≡ of v.session (v.got ++ items))
+knows pass v may items views h at = λ sends. compares pass v sends may items views h at
 
 -- a pass notes that it found the queue full, or empty
 pub notes : (pass : ℕ) (v : View) → Forks Holds pass v (missed v) idle
@@ -267,4 +286,5 @@ notes pass v items views h at =
           (λ (t : (j ≡ length vs) × (idle ≡ u)). subst (λ (y : View). Fits h.0 h.1 h.2 h.3 all j y) t.1 ((λ s. absurd (true≢false (sym s))), λ x. absurd (true≢false (sym x))))
           (at_last vs idle u j e)),
       h.5,
+      h.6,
     )

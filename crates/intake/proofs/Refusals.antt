@@ -1,12 +1,11 @@
 -- What is left to say of a submit that was put, and of one that found the queue full.
-use Rattle.std.proofs.Common.{◌≡◌, ℕ, List, [], ◌∷◌, ◌++◌, map, Option, Some, None, Result, Ok, Err, IfErr, OnOk, refl, ap, inr}
+use Rattle.std.proofs.Common.{◌≡◌, ℕ, List, [], ◌∷◌, ◌++◌, map, Option, Some, None, Result, Ok, Err, IfErr, OnOk, refl, inr}
 use Rattle.std.specs.List.{last_or}
-use Rattle.std.specs.Option.{unwrap_or}
 use Rattle.generations.specs.Beginnings.{Beginning}
 use Rattle.requests.specs.declared.request.Request.{Request}
 use Rattle.intake.specs.declared.outcome.SubmitRefused.{SubmitRefused}
 use Rattle.intake.specs.declared.outcome.SubmitRefused.TheVariants.{QueueFull}
-use Rattle.intake.specs.Turns.{last_asked, last_or_start}
+use Rattle.intake.specs.Turns.{last_asked}
 use Rattle.intake.specs.Editors.{Editing, refusal_by, IsRefused}
 
 last_push : (o : Option ℕ) (rs : List Request) (r : Request) → last_or o (map (λ (x : Request). x.ticket) (rs ++ r ∷ [])) ≡ Some r.ticket
@@ -16,10 +15,6 @@ last_push o (q ∷ rs) r = last_push (Some q.ticket) rs r
 -- the last ticket is that of the request that was put last
 pub asked_push : (rs : List Request) (r : Request) → last_asked (rs ++ r ∷ []) ≡ Some r.ticket
 asked_push rs r = last_push None rs r
-
--- and no start is looked at then
-pub start_push : (start : ℕ) (rs : List Request) (r : Request) → last_or_start start (rs ++ r ∷ []) ≡ r.ticket
-start_push start rs r = ap (λ (o : Option ℕ). unwrap_or o start) (asked_push rs r)
 
 -- what holds anyway holds where the answer is Ok
 pub on_ok : {A E P : Type 0} (r : Result A E) → P → OnOk r P

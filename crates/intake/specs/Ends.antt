@@ -1,7 +1,8 @@
 -- What contracts see of the ends of the queue.
-use Rattle.std.specs.Prelude.{ℕ, List}
+use Rattle.std.specs.Prelude.{◌≡◌, ℕ, List, Option, Some, None}
 use Rattle.atomic_table.specs.Seated.{TableId}
 use Rattle.requests.specs.declared.request.Request.{Request}
+use Rattle.intake.specs.Turns.{of}
 
 -- what contracts see of the queue's end of one editor
 pub record Sending : Type 0 where
@@ -22,3 +23,10 @@ pub record Taking : Type 0 where
   pub got : List Request
   -- how often it found the queue empty
   pub empties : ℕ
+  -- the editor that was ended last: its session, and the requests that it submitted
+  pub ended : Option (ℕ × List Request)
+
+-- all that the ended editor submitted was taken
+abbrev pub HasAll : Option (ℕ × List Request) → List Request → Type 0
+HasAll None got = Unit {0}
+HasAll (Some editor) got = editor.1 ≡ of editor.0 got

@@ -1,11 +1,11 @@
 -- The rule of the intake: what was taken, followed by what waits, has each editor's requests, in that editor's order, each
--- once, and no others; and each session's tickets rise above its start.
-use Rattle.std.specs.Prelude.{◌≡◌, ℕ, ◌+◌, ◌<◌, ◌≤◌, ◌==◌, Bool, true, false, List, [], ◌∷◌, ◌++◌, length, filter, map, Option as Optional, None}
-use Rattle.std.specs.List.{last_or}
+-- once, and no others; and each session's tickets rise above its start, up to the limit.
+use Rattle.std.specs.Prelude.{◌≡◌, ℕ, ◌<◌, ◌≤◌, ◌==◌, true, false, List, [], ◌∷◌, ◌++◌, length, filter, map, Option as Optional, None}
+use Rattle.std.specs.List.{last_or, AllByRecursion}
 use Rattle.std.specs.Option.{unwrap_or}
 use mathlib.Core.Option.{Option, none, some}
 use lib.ListN.{get_elem?}
-use Rattle.requests.specs.Tickets.{sessions, last_of, Rises}
+use Rattle.requests.specs.Tickets.{sessions, worn_limit, last_of, Rises}
 use Rattle.requests.specs.Requests.{asked_by}
 use Rattle.requests.specs.declared.request.Request.{Request}
 use Rattle.intake.specs.declared.queue.View.{View}
@@ -38,6 +38,10 @@ opener starts next = record { sends = false; session = 0; start = 0; put = []; t
 abbrev pub editor : ℕ → ℕ → List Request → List ℕ → View
 editor session start put misses = record { sends = true; session = session; start = start; put = put; takes = false; made = 0; starts = []; next = 0; got = []; misses = misses }
 
+-- one request more was taken
+abbrev pub taken : View → Request → View
+taken v r = record { sends = v.sends; session = v.session; start = v.start; put = v.put; takes = v.takes; made = v.made; starts = v.starts; next = v.next; got = v.got ++ r ∷ []; misses = v.misses }
+
 -- the queue was found full, or empty, once more
 abbrev pub missed : View → View
 missed v = record { sends = v.sends; session = v.session; start = v.start; put = v.put; takes = v.takes; made = v.made; starts = v.starts; next = v.next; got = v.got; misses = v.misses ++ 0 ∷ [] }
@@ -58,9 +62,14 @@ FitsEditor starts seat all pass v = v.sends ≡ true → (seat v.session ≡ som
 abbrev pub FitsTaker : ℕ → List ℕ → (ℕ → Option ℕ) → List Request → List Request → ℕ → View → Type 0
 FitsTaker reader starts seat got all pass v = v.takes ≡ true → (pass ≡ reader) × (v.got ≡ got) × (v.starts ≡ starts) × ((s : ℕ) → v.made ≤ s → (seat s ≡ none) × (of s all ≡ []))
 
--- the rule of the queue: what was taken, followed by what waits, is of each session what its editor put, and its tickets rise from the starts
+-- no ticket is past the limit
+abbrev pub AreWithin : List Request → Type 0
+AreWithin rs = AllByRecursion (λ r. r.ticket ≤ worn_limit) rs
+
+-- the rule of the queue: what was taken, followed by what waits, is of each session what its editor put, and its tickets rise from the starts up to the limit
 abbrev pub Holds : List Request → List View → Type 0
 Holds items views =
     (reader : ℕ) × (starts : List ℕ) × (seat : ℕ → Option ℕ) × (got : List Request)
     × ((pass : ℕ) (v : View) → get_elem? views pass ≡ some v → FitsEditor starts seat (got ++ items) pass v × FitsTaker reader starts seat got (got ++ items) pass v)
     × Rises starts (map asked_by (got ++ items))
+    × AreWithin (got ++ items)

@@ -1,5 +1,5 @@
 // Editors: they put requests into the queue, and look at the board for what became of them.
-ghost use Rattle.std.specs.Prelude.{◌≡◌, ◌+◌, ◌++◌, ◌∷◌, [], IfOk, IfErr, OnOk, OnErr, None, List};
+ghost use Rattle.std.specs.Prelude.{◌≡◌, ◌+◌, ◌++◌, ◌∷◌, [], IfOk, IfErr, OnOk, OnErr, Some, None, List};
 ghost use Rattle.generations.specs.Beginnings.{GoesOn, board_after};
 ghost use Rattle.intake.specs.Turns.{last_asked, of};
 ghost use Rattle.requests.specs.declared.request.Request.{Request};
@@ -187,7 +187,7 @@ impl Taker {
     /// Ends an editor: what was taken, followed by what waits, has just the requests that it submitted, each once, in its order.
     pub fn end(&mut self, editor: Editor)
         requires { editor.queue ≡ self.old.queue }
-        ensures same { self.new ≡ self.old }
+        ensures same { self.new ≡ record { queue = self.old.queue; starts = self.old.starts; made = self.old.made; got = self.old.got; empties = self.old.empties; ended = Some (editor.session, editor.put) } }
         ensures whole { (waits : List Request) × (editor.put ≡ of editor.session (self.new.got ++ waits)) }
     {
         let Editor {

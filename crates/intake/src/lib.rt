@@ -11,7 +11,7 @@
 //!
 //! What was taken, followed by what waits, has each editor's submitted requests, in that editor's order, each once, with its ticket
 //! and change, and nothing else ([`Taker::end`] says it of one editor); and of all that was taken each session's tickets rise
-//! above its start ([`Taker::take`]).
+//! above its start ([`Taker::take`]). Where the taker finds nothing, all that the editor submitted that was ended last was taken.
 //!
 //! | Call | What it says |
 //! |---|---|
@@ -41,8 +41,6 @@ mod editor;
 mod open;
 mod outcome;
 mod queue;
-#[cfg(test)]
-mod tests;
 
 pub use editor::Editor;
 pub use open::open_intake;

@@ -1,11 +1,12 @@
 // The two ends of the intake queue.
-ghost use Rattle.std.specs.Prelude.{◌≡◌, List, ◌+◌, ◌<◌, ◌++◌, ◌∷◌, [], map, length, MatchResult, MatchOption, IfOk, OnOk};
+ghost use Rattle.std.specs.Prelude.{◌≡◌, List, ◌+◌, ◌<◌, ◌≤◌, ◌++◌, ◌∷◌, [], map, length, Some, MatchResult, MatchOption, IsNone, IfOk, IfSome, OnOk};
 ghost use Rattle.std.specs.Arc.{arc_value};
 ghost use Rattle.crossbeam_queue.specs.Passes.{view, IsPassOf};
-ghost use Rattle.requests.specs.Tickets.{last_of, Rises};
+ghost use Rattle.requests.specs.Tickets.{worn_limit, last_of, Rises};
 ghost use Rattle.requests.specs.Requests.{asked_by};
 ghost use Rattle.requests.specs.declared.request.Request.{Request};
 ghost use Rattle.intake.specs.Turns.{opener, of, last_or_start};
+ghost use Rattle.intake.specs.Ends.{HasAll};
 
 use crossbeam_queue::protocol::{Join, Lesson, Outcome, Protocol, Split};
 use crossbeam_queue::{Pass, RuledArrayQueue};
@@ -60,16 +61,20 @@ impl Lesson<Request, View> for Puts {
 struct Takes;
 
 impl Outcome<Request, View> for Takes {
-    ghost use Rattle.std.specs.Prelude.{◌≡◌, ◌++◌, ◌∷◌, [], map};
-    ghost use Rattle.requests.specs.Tickets.{Rises};
+    ghost use Rattle.std.specs.Prelude.{◌≡◌, ◌≤◌, map};
+    ghost use Rattle.requests.specs.Tickets.{worn_limit, Rises};
     ghost use Rattle.requests.specs.Requests.{asked_by};
-    ghost use Rattle.intake.specs.Turns.{taker};
+    ghost use Rattle.intake.specs.Turns.{taken};
 
-    ghost then = { λ v r w. (w ≡ taker v.made v.starts (v.got ++ r ∷ []) v.misses) × Rises w.starts (map asked_by w.got) };
+    ghost then = { λ v r w. (w ≡ taken v r) × Rises w.starts (map asked_by w.got) × (r.ticket ≤ worn_limit) };
 }
 
+// Where the taker knows what an ended editor put, it is what was taken and what waits of it.
 impl Lesson<Request, View> for Takes {
-    ghost fact = { λ v items. Unit {0} };
+    ghost use Rattle.std.specs.Prelude.{◌≡◌, ◌++◌, true};
+    ghost use Rattle.intake.specs.Turns.{of};
+
+    ghost fact = { λ v items. v.sends ≡ true → v.put ≡ of v.session (v.got ++ items) };
 }
 
 // A pass notes that it found the queue full, or empty.
@@ -190,6 +195,7 @@ impl Sender {
     pub(crate) fn put<R: Wait>(&mut self, rt: &R, request: Request) -> Result<(), Request>
         requires session { request.session ≡ self.old.session }
         requires ticket { last_or_start self.old.start self.old.put < request.ticket }
+        requires within { request.ticket ≤ worn_limit }
         ensures same { (self.new.queue ≡ self.old.queue) × ((self.new.session ≡ self.old.session) × (self.new.start ≡ self.old.start)) }
         ensures put { MatchResult result (λ _. self.new.put ≡ self.old.put ++ request ∷ []) (λ r. (r ≡ request) × (self.new.put ≡ self.old.put)) }
         ensures full { MatchResult result (λ _. self.new.fulls ≡ self.old.fulls) (λ _. self.new.fulls ≡ self.old.fulls + 1) }
@@ -203,14 +209,30 @@ impl Sender {
 }
 
 impl Taker {
-    /// Takes the request at the front. There is none only where the queue was empty at a moment of the call.
+    // Takes the request at the front, and notes nothing.
+    fn pop<R: Wait>(&mut self, rt: &R) -> Option<Request>
+        ensures same { (self.new.queue ≡ self.old.queue) × ((self.new.starts ≡ self.old.starts) × (self.new.empties ≡ self.old.empties)) }
+        ensures ended { self.new.ended ≡ self.old.ended }
+        ensures got { MatchOption result (self.new.got ≡ self.old.got) (λ r. self.new.got ≡ self.old.got ++ r ∷ []) }
+        ensures rises { Rises self.new.starts (map asked_by self.new.got) }
+        ensures none_left { IsNone result → HasAll self.new.ended self.new.got }
+        ensures within { IfSome result (λ r. r.ticket ≤ worn_limit) }
+    {
+        self.queue.pop_as::<Takes, R>(rt, &mut self.pass)
+    }
+
+    /// Takes the request at the front. There is none only where the queue was empty at a moment of the call: then all that the
+    /// editor submitted that was ended last has been taken.
     pub fn take<R: Wait>(&mut self, rt: &R) -> Option<Request>
         ensures same { (self.new.queue ≡ self.old.queue) × (self.new.starts ≡ self.old.starts) }
+        ensures ended { self.new.ended ≡ self.old.ended }
         ensures got { MatchOption result (self.new.got ≡ self.old.got) (λ r. self.new.got ≡ self.old.got ++ r ∷ []) }
         ensures empty { MatchOption result (self.new.empties ≡ self.old.empties + 1) (λ _. self.new.empties ≡ self.old.empties) }
         ensures rises { Rises self.new.starts (map asked_by self.new.got) }
+        ensures none_left { IsNone result → HasAll self.new.ended self.new.got }
+        ensures within { IfSome result (λ r. r.ticket ≤ worn_limit) }
     {
-        let taken = self.queue.pop_as::<Takes, R>(rt, &mut self.pass);
+        let taken = self.pop(rt);
         if taken.is_none() {
             let _noted = self.queue.another::<Misses>(&mut self.pass);
         }
@@ -309,7 +331,7 @@ impl Taker {
     // Ends an editor's end: what was taken, followed by what waits, has just the requests that it put, in its order.
     pub(crate) fn close(&mut self, sender: Sender)
         requires { sender.queue ≡ self.old.queue }
-        ensures same { self.new ≡ self.old }
+        ensures same { self.new ≡ record { queue = self.old.queue; starts = self.old.starts; made = self.old.made; got = self.old.got; empties = self.old.empties; ended = Some (sender.session, sender.put) } }
         ensures whole { (waits : List Request) × (sender.put ≡ of sender.session (self.new.got ++ waits)) }
     {
         let Sender {

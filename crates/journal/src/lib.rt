@@ -47,6 +47,3 @@ pub use entry::Entry;
 pub use journal::{AppendRefused, Journal, ScanRefused};
 pub use laws::{record_law, spelling_laws};
 pub use layout::{MOST_ENTRIES, MOST_RECORD};
-
-#[cfg(test)]
-mod tests;

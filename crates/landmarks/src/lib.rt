@@ -19,6 +19,3 @@
 mod landmarks;
 
 pub use landmarks::{Landmarks, bound};
-
-#[cfg(test)]
-mod tests;

@@ -1,6 +1,6 @@
 -- What each step of a build does to the tables.
-use Rattle.std.specs.Prelude.{◌≡◌, ℕ, ◌<◌, ◌==◌, Bool, true, false, cond, Option, Some, None, List, [], ◌∷◌, ◌++◌, length, map, slice_get}
-use Rattle.std.specs.List.{All}
+use Rattle.std.specs.Prelude.{◌≡◌, ℕ, ◌<◌, ◌==◌, Bool, true, false, cond, Option, Some, None, List, [], ◌∷◌, ◌++◌, length, map, nat_eq, slice_get, IsPermutation}
+use Rattle.std.specs.List.{All, IsDistinct}
 use Rattle.std.specs.List.Sorted.{IsStrictlyIncreasing}
 use Rattle.std.specs.declared.vec.Vec.{Vec}
 use Rattle.graph_edits.specs.Edges.{Network}
@@ -11,9 +11,9 @@ use Rattle.node_table.specs.declared.parts.Parts.{Parts}
 use Rattle.node_table.specs.declared.parts.Entry.{Entry}
 use Rattle.node_table.specs.declared.parts.Listed.{Listed}
 use Rattle.node_table.specs.declared.columns.Row.{Row}
-use Rattle.node_table.specs.Tables.{or_none, or_false}
+use Rattle.node_table.specs.Tables.{nodes_of, or_none, or_false}
 use Rattle.node_table.specs.Columns.{IsColumn, IsBuilt}
-use Rattle.node_table.specs.RowLists.{entry_in, label_in}
+use Rattle.node_table.specs.RowLists.{nodes_in, entry_in, label_in}
 
 -- the list at a place, empty where there is none
 abbrev pub items_at : {X A : Type 0} → List (Vec X A) → ℕ → List X
@@ -27,6 +27,16 @@ entries_for x (w ∷ ws) = cond (w.node == x) (w.entry ∷ entries_for x ws) (en
 -- a row in its root's directory
 abbrev pub listed_row : Row → Listed
 listed_row w = record { node = w.node; label = w.label }
+
+-- a root's directory lists its rows by ascending node
+pub record IsDirectoryOf (ws : List Row) (all : List Listed) : Type 0 where
+  pub same : IsPermutation (map listed_row ws) all
+  pub ascend : IsStrictlyIncreasing (nodes_of all)
+
+-- a landmark's directory stays, another root's lists its rows
+abbrev pub IsDirectoryAfter : Bool → List Row → List Listed → List Listed → Type 0
+IsDirectoryAfter true ws before after = after ≡ before
+IsDirectoryAfter false ws before after = IsDirectoryOf ws after
 
 -- whether the nearest landmark is r
 abbrev pub has_home : Option Near → ℕ → Bool
@@ -50,7 +60,7 @@ limit_by false nearest x = near_limit nearest x
 
 -- the rows of the tree of r
 pub record AreRowsOf (m : Network) (p : Parts) (r : ℕ) (ws : List Row) : Type 0 where
-  pub ascend : IsStrictlyIncreasing (map (λ w. w.node) ws)
+  pub apart : IsDistinct nat_eq (nodes_in ws)
   pub inside : All (λ w. w.node < m.nodes) ws
   pub root : All (λ w. w.entry.root ≡ r) ws
   pub column : IsColumn m (limit_by (or_false (slice_get p.landmarks.items r)) p.nearest.items) r (entry_in ws) (label_in ws)
@@ -65,7 +75,7 @@ pub record IsWith (p : Parts) (r : ℕ) (ws : List Row) (q : Parts) : Type 0 whe
   pub entries_length : length q.entries.items ≡ length p.entries.items
   pub entries : (x : ℕ) → items_at q.entries.items x ≡ items_at p.entries.items x ++ entries_for x ws
   pub directories_length : length q.directories.items ≡ length p.directories.items
-  pub directory : items_at q.directories.items r ≡ cond (or_false (slice_get p.landmarks.items r)) (items_at p.directories.items r) (map listed_row ws)
+  pub directory : IsDirectoryAfter (or_false (slice_get p.landmarks.items r)) ws (items_at p.directories.items r) (items_at q.directories.items r)
   pub other_directories : (x : ℕ) → (x ≡ r → ⊥) → items_at q.directories.items x ≡ items_at p.directories.items x
   pub homes_length : length q.homes.items ≡ length p.homes.items
   pub homes : (v : ℕ) → or_none (slice_get q.homes.items v) ≡ home_after (or_none (slice_get p.nearest.items v)) r ws v (or_none (slice_get p.homes.items v))

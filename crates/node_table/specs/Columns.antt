@@ -17,6 +17,7 @@ use Rattle.node_table.specs.declared.parts.Listed.{Listed}
 use Rattle.distances.specs.declared.nearest.Near.{Near}
 use Rattle.distances.specs.Nearest.{IsNearestOf}
 use Rattle.distances.specs.declared.reach.Reached.{Reached}
+use Rattle.distances.specs.declared.linked.Linked.{Linked}
 use Rattle.node_table.specs.Ports.{neighbours, port_to}
 use Rattle.node_table.specs.Tables.{tables, ports_at, entries_at, directory_at, first_entry, first_listed, roots_of, nodes_of}
 use Rattle.node_table.specs.Checks.{up_port, down_port, IsListed}
@@ -34,6 +35,10 @@ down_by m x (Some y) = port_to m y x
 -- what is reached, as a member of the tree
 abbrev pub member_of : Network → Reached → Member
 member_of m k = record { node = k.node; parent = k.parent; up = up_by m k.node k.parent; down = down_by m k.node k.parent }
+
+-- what is reached with its ports, as a member of the tree
+abbrev pub linked_member : Linked → Member
+linked_member k = record { node = k.reached.node; parent = k.reached.parent; up = k.up; down = k.down }
 
 -- a node of the members
 abbrev pub HasMember : ℕ → List Member → Type 0

@@ -1,18 +1,33 @@
--- Rows of one root's tree, in ascending order of their nodes.
-use Rattle.std.specs.Prelude.{◌≡◌, ℕ, ◌<◌, ◌==◌, cond, Option, Some, None, IsSome, List, [], ◌∷◌, length, map, slice_index, slice_index_or}
+-- Rows of one root's tree, a row for each member.
+use Rattle.std.specs.Prelude.{◌≡◌, ℕ, ◌<◌, ◌==◌, cond, Option, Some, None, List, [], ◌∷◌, length, map, slice_index}
 use Rattle.std.specs.List.{All, Contains}
-use Rattle.std.specs.List.Sorted.{IsStrictlyIncreasing}
 use Rattle.std.specs.Option.{option_map}
 use Rattle.distances.specs.declared.reach.Reached.{Reached}
+use Rattle.distances.specs.declared.linked.Linked.{Linked}
 use Rattle.heavy_labels.specs.Label.{Label}
 use Rattle.heavy_labels.specs.declared.numbered_member.NumberedMember.{NumberedMember}
 use Rattle.node_table.specs.declared.parts.Entry.{Entry}
 use Rattle.node_table.specs.declared.columns.Row.{Row}
 
--- a table has for each node of a list a place of it there
-pub record ArePlaces (list : List ℕ) (table : List (Option ℕ)) : Type 0 where
-  pub right : (x i : ℕ) → slice_index_or table x None ≡ Some i → (i < length list) × (slice_index list i ≡ x)
-  pub has : (i : ℕ) → i < length list → IsSome (slice_index_or table (slice_index list i) None)
+-- a table has for each of the first n nodes of a list a place at which the list has that node
+abbrev pub ArePlacesTo : List ℕ → ℕ → List ℕ → Type 0
+ArePlacesTo list n table = (i : ℕ) → i < n → (slice_index table (slice_index list i) < length list) × (slice_index list (slice_index table (slice_index list i)) ≡ slice_index list i)
+
+-- the same for each node of the list
+abbrev pub ArePlaces : List ℕ → List ℕ → Type 0
+ArePlaces list table = ArePlacesTo list (length list) table
+
+-- the nodes that were reached
+abbrev pub nodes_linked : List Linked → List ℕ
+nodes_linked ks = map (λ k. k.reached.node) ks
+
+-- the nodes that were numbered
+abbrev pub nodes_numbered : List NumberedMember → List ℕ
+nodes_numbered ns = map (λ n. n.node) ns
+
+-- the nodes of rows
+abbrev pub nodes_in : List Row → List ℕ
+nodes_in ws = map (λ w. w.node) ws
 
 -- the row of a member
 pub record IsRowOf (r : ℕ) (k : Reached) (n : NumberedMember) (w : Row) : Type 0 where
@@ -28,15 +43,10 @@ pub record IsRowOf (r : ℕ) (k : Reached) (n : NumberedMember) (w : Row) : Type
 abbrev pub IsRowFrom : ℕ → List Reached → List NumberedMember → Row → Type 0
 IsRowFrom r ks ns w = (k : Reached) × (n : NumberedMember) × (Contains ks k × Contains ns n × IsRowOf r k n w)
 
--- nothing that was both reached and numbered has the node x
-abbrev pub IsRowless : List Reached → List NumberedMember → ℕ → Type 0
-IsRowless ks ns x = (k : Reached) (n : NumberedMember) → Contains ks k → Contains ns n → k.node ≡ x → n.node ≡ x → ⊥
-
--- the rows of all nodes that were both reached and numbered
+-- the rows of what was numbered, in its order
 pub record IsRowList (r : ℕ) (ks : List Reached) (ns : List NumberedMember) (ws : List Row) : Type 0 where
   pub each : All (IsRowFrom r ks ns) ws
-  pub ascend : IsStrictlyIncreasing (map (λ w. w.node) ws)
-  pub has : (k : Reached) (n : NumberedMember) → Contains ks k → Contains ns n → k.node ≡ n.node → (w : Row) × (Contains ws w × (w.node ≡ k.node))
+  pub nodes : nodes_in ws ≡ nodes_numbered ns
 
 -- the row of a node
 abbrev pub row_at : List Row → ℕ → Option Row

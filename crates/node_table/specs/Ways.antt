@@ -1,5 +1,5 @@
 -- Packets on their way: what is left of a trip, and that every way ends.
-use Rattle.std.specs.Prelude.{◌≡◌, ◌≢◌, ◌⊎◌, ℕ, ◌+◌, ◌<◌, ◌≤◌, max, Result, Ok, Err, List, [], ◌∷◌, ◌++◌, length}
+use Rattle.std.specs.Prelude.{◌≡◌, ◌≢◌, ◌⊎◌, ℕ, ◌+◌, ◌<◌, ◌≤◌, max, Ok, Err, List, [], ◌∷◌, ◌++◌, length}
 use Rattle.graph_edits.specs.Edges.{Network}
 use Rattle.node_table.specs.declared.packet.Packet.{Packet}
 use Rattle.node_table.specs.declared.packet.Move.TheVariants.{Delivered, Forward}

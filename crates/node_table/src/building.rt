@@ -1,12 +1,13 @@
 // Schemes out of graphs.
-ghost use Rattle.std.specs.Prelude.{◌≡◌, ◌<◌, ◌≤◌, ◌+◌, ◌++◌, ◌∷◌, ◌↔◌, IsSome, ◌==◌, [], ℕ, None, Some, true, false, cond, All, IfOk, OnOk, length, map, slice_get, slice_index_or};
-ghost use Rattle.std.specs.List.Sorted.{IsStrictlyIncreasing};
+ghost use Rattle.std.specs.Prelude.{◌≡◌, ◌<◌, ◌≤◌, ◌+◌, ◌++◌, ◌∷◌, ◌↔◌, IsSome, ◌==◌, [], ℕ, None, Some, true, false, cond, All, IfOk, OnOk, length, map, nat_eq, slice_get, slice_index_or};
+ghost use Rattle.std.specs.List.{IsDistinct};
+ghost use Rattle.std.specs.List.Sorted.{IsNonDecreasingBy, IsPermutation};
 ghost use Rattle.distances.specs.Nearest.{IsNearestOf};
-ghost use Rattle.node_table.specs.Building.{IsWith, IsBuildOf, entries_for, has_home, home_after, home_by, items_at, limit_by, listed_row};
+ghost use Rattle.node_table.specs.Building.{IsDirectoryAfter, IsDirectoryOf, IsWith, IsBuildOf, entries_for, has_home, home_after, home_by, items_at, limit_by, listed_row};
 ghost use Rattle.node_table.specs.Checks.{IsChecked};
 ghost use Rattle.node_table.specs.Columns.{IsColumn};
 ghost use Rattle.node_table.specs.Laws.{IsInTree, NearestIsRight};
-ghost use Rattle.node_table.specs.RowLists.{entry_in, label_in};
+ghost use Rattle.node_table.specs.RowLists.{entry_in, label_in, nodes_in};
 ghost use Rattle.node_table.specs.Ports.{neighbours};
 ghost use Rattle.node_table.specs.Service.{Serves};
 ghost use Rattle.node_table.specs.Tables.{tables, or_none};
@@ -15,8 +16,8 @@ use crate::columns::{Row, tree_rows};
 use crate::laws::graph_is_sound;
 use crate::parts::{Entry, Listed, Near, Parts};
 use crate::scheme::Scheme;
-use clusters::cluster;
-use distances::{Nearest, from_landmarks, from_root};
+use clusters::cluster_in;
+use distances::{Nearest, Workspace, from_landmarks};
 use graph_edits::Graph;
 use heavy_labels::Label;
 use landmarks::Landmarks;
@@ -58,17 +59,40 @@ fn add_entries(entries: &mut Vec<Vec<Entry>>, rows: &[Row]) -> Result<(), AllocE
     Ok(())
 }
 
-/// The directory of a root out of its rows.
-fn directory(alloc: Global, rows: &[Row]) -> Result<Vec<Listed>, AllocError>
-    ensures { IfOk result (λ all. all.items ≡ map listed_row rows.now) }
+/// A row's node with its label.
+fn listed(row: Row) -> Listed
+    ensures { result ≡ listed_row row }
+{
+    let Row { node, label, .. } = row;
+    Listed { node, label }
+}
+
+/// The nodes of rows with their labels, in the same order.
+fn listed_rows(alloc: Global, rows: Vec<Row>) -> Result<Vec<Listed>, AllocError>
+    ensures { IfOk result (λ all. all.items ≡ map listed_row rows.items) }
 {
     let mut all = Vec::with_capacity(alloc, rows.len())?;
     for row in rows {
-        all.push(Listed {
-            node: row.node,
-            label: row.label.copy(),
-        })?;
+        all.push(listed(row))?;
     }
+    Ok(all)
+}
+
+/// Sorts a directory by node.
+fn sort_by_node(directory: &mut Vec<Listed>)
+    ensures same { IsPermutation directory.old.items directory.new.items }
+    ensures ascend { IsNonDecreasingBy (λ e. e.node) directory.new.items }
+{
+    directory.sort_unstable_by_key(|listed| listed.node);
+}
+
+/// The directory of a root out of its rows.
+fn directory(alloc: Global, rows: Vec<Row>) -> Result<Vec<Listed>, AllocError>
+    requires { IsDistinct nat_eq (nodes_in rows.items) }
+    ensures { IfOk result (λ all. IsDirectoryOf rows.items all.items) }
+{
+    let mut all = listed_rows(alloc, rows)?;
+    sort_by_node(&mut all);
     Ok(all)
 }
 
@@ -111,11 +135,12 @@ fn set_directory(
     directories: &mut Vec<Vec<Listed>>,
     root: u16,
     landmark: bool,
-    rows: &[Row],
+    rows: Vec<Row>,
 ) -> Result<(), AllocError>
-    requires { root < length directories.old.items }
+    requires root { root < length directories.old.items }
+    requires apart { IsDistinct nat_eq (nodes_in rows.items) }
     ensures length { OnOk result (length directories.new.items ≡ length directories.old.items) }
-    ensures here { OnOk result (items_at directories.new.items root ≡ cond landmark (items_at directories.old.items root) (map listed_row rows.now)) }
+    ensures here { OnOk result (IsDirectoryAfter landmark rows.items (items_at directories.old.items root) (items_at directories.new.items root)) }
     ensures others { OnOk result ((x : ℕ) → (x ≡ root → ⊥) → items_at directories.new.items x ≡ items_at directories.old.items x) }
 {
     if landmark {
@@ -126,24 +151,24 @@ fn set_directory(
 }
 
 /// The rows of a root's tree, in the tables.
-fn add_rows(alloc: Global, parts: &mut Parts, root: u16, rows: &[Row]) -> Result<(), AllocError>
+fn add_rows(alloc: Global, parts: &mut Parts, root: u16, rows: Vec<Row>) -> Result<(), AllocError>
     requires landmarks { root < length parts.old.landmarks.items }
     requires directories { root < length parts.old.directories.items }
-    requires entries { All (λ w. w.node < length parts.old.entries.items) rows.now }
-    requires homes { All (λ w. w.node < length parts.old.homes.items) rows.now }
-    requires nearest { All (λ w. w.node < length parts.old.nearest.items) rows.now }
-    ensures { OnOk result (IsWith parts.old root rows.now parts.new) }
+    requires entries { All (λ w. w.node < length parts.old.entries.items) rows.items }
+    requires homes { All (λ w. w.node < length parts.old.homes.items) rows.items }
+    requires nearest { All (λ w. w.node < length parts.old.nearest.items) rows.items }
+    requires apart { IsDistinct nat_eq (nodes_in rows.items) }
+    ensures { OnOk result (IsWith parts.old root rows.items parts.new) }
 {
-    add_entries(&mut parts.entries, rows)?;
+    add_entries(&mut parts.entries, rows.as_slice())?;
     let landmark = parts.landmarks[root as usize];
-    set_directory(alloc, &mut parts.directories, root, landmark, rows)?;
     set_homes(
         parts.homes.as_mut_slice(),
         parts.nearest.as_slice(),
         root,
-        rows,
+        rows.as_slice(),
     );
-    Ok(())
+    set_directory(alloc, &mut parts.directories, root, landmark, rows)
 }
 
 /// The rows of a root's tree: what a landmark reaches, or the cluster of another node.
@@ -152,6 +177,8 @@ fn root_rows<A: Allocator>(
     graph: &Graph,
     landmarks: &Landmarks,
     nearest: &Nearest,
+    workspace: &mut Workspace,
+    places: &mut [u16],
     root: u16,
     scratch: A,
 ) -> Result<Vec<Row>, AllocError>
@@ -159,18 +186,21 @@ fn root_rows<A: Allocator>(
     requires same_size { length landmarks.now ≡ graph.now.nodes }
     requires nodes { length nearest.now.nearest ≡ graph.now.nodes }
     requires nearest { (v : ℕ) → IsNearestOf graph.now.edges landmarks.now v (slice_index_or nearest.now.nearest v None) }
-    ensures ascend { IfOk result (λ rows. IsStrictlyIncreasing (map (λ w. w.node) rows.items)) }
+    requires workspace { workspace.old.nodes ≡ graph.now.nodes }
+    requires places { length places.old ≡ graph.now.nodes }
+    ensures workspace { workspace.new.nodes ≡ workspace.old.nodes }
+    ensures apart { IfOk result (λ rows. IsDistinct nat_eq (nodes_in rows.items)) }
     ensures inside { IfOk result (λ rows. All (λ w. w.node < graph.now.nodes) rows.items) }
     ensures root { IfOk result (λ rows. All (λ w. w.entry.root ≡ root) rows.items) }
     ensures column { IfOk result (λ rows. IsColumn graph.now (limit_by (slice_index_or landmarks.now root false) nearest.now.nearest) root (entry_in rows.items) (label_in rows.items)) }
 {
     graph_is_sound(graph);
     if landmarks.holds(root) {
-        let reach = from_root(alloc, graph, root)?;
-        return tree_rows(alloc, graph, root, reach.members(), scratch);
+        workspace.from_root(graph, root)?;
+        return tree_rows(alloc, graph, root, workspace.members(), places, scratch);
     }
-    let near = cluster(alloc, graph, nearest, root)?;
-    tree_rows(alloc, graph, root, near.members(), scratch)
+    cluster_in(workspace, graph, nearest, root)?;
+    tree_rows(alloc, graph, root, workspace.members(), places, scratch)
 }
 
 fn ports_of(alloc: Global, graph: &Graph, x: u16) -> Result<Vec<u16>, AllocError>
@@ -288,6 +318,8 @@ fn add_root<A: Allocator>(
     graph: &Graph,
     landmarks: &Landmarks,
     nearest: &Nearest,
+    workspace: &mut Workspace,
+    places: &mut [u16],
     parts: &mut Parts,
     root: u16,
     scratch: A,
@@ -296,14 +328,19 @@ fn add_root<A: Allocator>(
     requires same_size { length landmarks.now ≡ graph.now.nodes }
     requires nodes { length nearest.now.nearest ≡ graph.now.nodes }
     requires nearest { (v : ℕ) → IsNearestOf graph.now.edges landmarks.now v (slice_index_or nearest.now.nearest v None) }
+    requires workspace { workspace.old.nodes ≡ graph.now.nodes }
+    requires places { length places.old ≡ graph.now.nodes }
     requires built { IsBuildOf graph.now landmarks.now nearest.now.nearest parts.old.generation parts.old root }
-    ensures { OnOk result (IsBuildOf graph.now landmarks.now nearest.now.nearest parts.old.generation parts.new (root + 1)) }
+    ensures workspace { workspace.new.nodes ≡ workspace.old.nodes }
+    ensures built { OnOk result (IsBuildOf graph.now landmarks.now nearest.now.nearest parts.old.generation parts.new (root + 1)) }
 {
-    let rows = root_rows(alloc, graph, landmarks, nearest, root, scratch)?;
-    add_rows(alloc, parts, root, &rows)
+    let rows = root_rows(
+        alloc, graph, landmarks, nearest, workspace, places, root, scratch,
+    )?;
+    add_rows(alloc, parts, root, rows)
 }
 
-/// The trees of all roots, one after the other.
+/// The trees of all roots, one after the other, over one workspace.
 fn add_roots<A: Allocator + Clone>(
     alloc: Global,
     graph: &Graph,
@@ -318,9 +355,22 @@ fn add_roots<A: Allocator + Clone>(
     requires built { IsBuildOf graph.now landmarks.now nearest.now.nearest parts.old.generation parts.old 0 }
     ensures { OnOk result (IsBuildOf graph.now landmarks.now nearest.now.nearest parts.old.generation parts.new graph.now.nodes) }
 {
-    for root in 0..graph.nodes() {
+    let nodes = graph.nodes();
+    let mut workspace = Workspace::new(alloc, nodes)?;
+    let mut places = vec![in alloc; 0; nodes as usize]?;
+    for root in 0..nodes {
         let below = scratch.clone()?;
-        add_root(alloc, graph, landmarks, nearest, parts, root, below)?;
+        add_root(
+            alloc,
+            graph,
+            landmarks,
+            nearest,
+            &mut workspace,
+            places.as_mut_slice(),
+            parts,
+            root,
+            below,
+        )?;
     }
     Ok(())
 }

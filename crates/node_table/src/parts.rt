@@ -5,9 +5,9 @@ use heavy_labels::{Label, Record};
 /// A node's place in the tree of a root.
 #[derive(Clone, Copy, PartialEq, Eq, Debug)]
 pub struct Entry {
-    pub root: u16,
     /// The distance of the node from the root.
     pub distance: u64,
+    pub root: u16,
     /// The node's parent in the tree: none at the root.
     pub parent: Option<u16>,
     pub tree_record: Record,

@@ -3,7 +3,7 @@ use Rattle.std.specs.Prelude.{ℕ, List, [], ◌∷◌, ◌++◌, codes}
 use Rattle.printed_lines.specs.declared.ended.Ended.{Ended}
 use Rattle.printed_lines.specs.declared.ended.Ended.TheVariants.{Done, Refused}
 use Rattle.printed_lines.specs.declared.fault.Fault.{Fault}
-use Rattle.printed_lines.specs.declared.fault.Fault.TheVariants.{Usage, Op, Words, ChangeTooLong, NodeCount, DeviceLength, DeviceFile, NotFormatted, LayoutNotKnown, Damaged, Device, Memory, Worn, NoNode, Output}
+use Rattle.printed_lines.specs.declared.fault.Fault.TheVariants.{Usage, Op, Words, ChangeTooLong, NodeCount, DeviceLength, DeviceFile, NotFormatted, LayoutNotKnown, Damaged, Device, Memory, Worn, AlreadyIn, NoNode, Output}
 
 -- what is told of a fault
 abbrev pub fault_text : Fault → List ℕ
@@ -20,6 +20,7 @@ fault_text Damaged = codes "damaged"
 fault_text Device = codes "device failed"
 fault_text Memory = codes "out of memory"
 fault_text Worn = codes "worn out"
+fault_text AlreadyIn = codes "already in"
 fault_text NoNode = codes "no node"
 fault_text Output = codes "input or output failed"
 
@@ -49,6 +50,7 @@ status_of Damaged = 1
 status_of Device = 1
 status_of Memory = 1
 status_of Worn = 1
+status_of AlreadyIn = 1
 status_of NoNode = 1
 status_of Output = 1
 

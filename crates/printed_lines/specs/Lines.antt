@@ -1,4 +1,4 @@
--- The lines that `format`, `show` and `edit` print.
+-- The lines that `format`, `show`, `edit` and `resume` print.
 use Rattle.std.specs.Prelude.{ℕ, List, [], ◌∷◌, ◌++◌, codes, decimal, cond, nat_lt}
 use Rattle.std.specs.List.{flat_map}
 use Rattle.std.specs.FinMap.{len, entries}
@@ -34,6 +34,10 @@ code_number TooManyEdges = 6
 -- the op at this place is the first of a change that is refused, and why
 abbrev pub refused_text : ℕ → Code → List ℕ
 refused_text op code = codes "refused op=" ++ (decimal op ++ (codes " code=" ++ decimal (code_number code)))
+
+-- the last ticket of a session
+abbrev pub ticket_text : ℕ → ℕ → List ℕ
+ticket_text session ticket = codes "session=" ++ (decimal session ++ (codes " ticket=" ++ decimal ticket))
 
 -- a text as a line
 abbrev pub line : List ℕ → List ℕ

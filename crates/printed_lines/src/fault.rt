@@ -33,8 +33,10 @@ pub enum Fault {
     Device,
     /// Memory ran out.
     Memory,
-    /// The count or the epoch stands at its limit.
+    /// The count, the epoch or a session's ticket stands at its limit.
     Worn,
+    /// The session has taken this ticket, or a later one.
+    AlreadyIn,
     /// A node of a route isn't one of the device's.
     NoNode,
     /// What was to be printed couldn't be.
@@ -60,6 +62,7 @@ impl Fault {
             Fault::Device => "device failed",
             Fault::Memory => "out of memory",
             Fault::Worn => "worn out",
+            Fault::AlreadyIn => "already in",
             Fault::NoNode => "no node",
             Fault::Output => "input or output failed",
         }

@@ -5,6 +5,7 @@
 //! | [`Formatted`] | `formatted nodes=N` |
 //! | [`Totals`], [`EdgeLine`] | `count=C edges=E`, `a b w` |
 //! | [`AcceptedLine`], [`RefusedLine`] | `accepted count=C`, `refused op=I code=K` |
+//! | [`TicketLine`] | `session=S ticket=T` |
 //! | [`RouteLine`], [`UnreachableLine`] | `generation=G route 0 1 2 length L`, `generation=G unreachable` |
 //! | [`CheckedLine`], [`BrokenLine`] | `ok generation=G landmarks=K`, `fault K4` |
 //!
@@ -35,7 +36,7 @@ mod tests;
 
 pub use ended::Ended;
 pub use fault::Fault;
-pub use lines::{AcceptedLine, EdgeLine, Formatted, RefusedLine, Totals};
+pub use lines::{AcceptedLine, EdgeLine, Formatted, RefusedLine, TicketLine, Totals};
 pub use listing::listing_of;
 pub use printing::{print_line, print_text, tell};
 pub use route_lines::{BrokenLine, CheckedLine, RouteLine, UnreachableLine};

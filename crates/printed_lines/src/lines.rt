@@ -1,6 +1,6 @@
-//! The lines that `format`, `show` and `edit` print.
+//! The lines that `format`, `show`, `edit` and `resume` print.
 ghost use Rattle.std.specs.Prelude.{◌≡◌, Some};
-ghost use Rattle.printed_lines.specs.Lines.{accepted_text, code_number, edge_text, formatted_text, refused_text, totals_text};
+ghost use Rattle.printed_lines.specs.Lines.{accepted_text, code_number, edge_text, formatted_text, refused_text, ticket_text, totals_text};
 
 use graph_edits::Code;
 use std::fmt;
@@ -77,6 +77,21 @@ impl fmt::Display for RefusedLine {
 
     fn fmt<W: fmt::Write>(&self, f: &mut fmt::Formatter<W>) -> fmt::Result {
         write!(f, "refused op={} code={}", self.op, number_of(self.code))
+    }
+}
+
+/// The last ticket of a session: `session=S ticket=T`.
+#[derive(Drop)]
+pub struct TicketLine {
+    pub session: u8,
+    pub ticket: u64,
+}
+
+impl fmt::Display for TicketLine {
+    ghost output = { λ x. Some (ticket_text x.session x.ticket) };
+
+    fn fmt<W: fmt::Write>(&self, f: &mut fmt::Formatter<W>) -> fmt::Result {
+        write!(f, "session={} ticket={}", self.session, self.ticket)
     }
 }
 

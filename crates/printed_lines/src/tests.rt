@@ -1,7 +1,7 @@
 //! Lines and faults as texts. Expected texts are those of docs/FORMATS.md.
 use crate::{
     AcceptedLine, BrokenLine, CheckedLine, Ended, Fault, Formatted, RefusedLine, RouteLine,
-    UnreachableLine, listing_of, print_line, print_text, tell,
+    TicketLine, UnreachableLine, listing_of, print_line, print_text, tell,
 };
 use graph_edits::{Change, Code, Graph, Op};
 use std::alloc::AllocError;
@@ -24,6 +24,11 @@ fn texts_of_lines(rt: HostRuntime) {
         code: Code::NoEdge,
     };
     expect_line(&rt, refused, "refused op=1 code=5\n");
+    let ticket = TicketLine {
+        session: 63,
+        ticket: 9,
+    };
+    expect_line(&rt, ticket, "session=63 ticket=9\n");
     let route = RouteLine {
         generation: 1,
         nodes: &[0, 1, 2],
@@ -73,6 +78,7 @@ fn texts_of_faults(rt: HostRuntime) -> io::Result<()> {
         (Fault::Device, "device failed", 1),
         (Fault::Memory, "out of memory", 1),
         (Fault::Worn, "worn out", 1),
+        (Fault::AlreadyIn, "already in", 1),
         (Fault::NoNode, "no node", 1),
         (Fault::Output, "input or output failed", 1),
     ];

@@ -13,7 +13,7 @@ use Rattle.requests.specs.Tickets.{tickets_after}
 use Rattle.requests.specs.Requests.{asked_by}
 use Rattle.requests.proofs.TicketLemmas.{after_append}
 use Rattle.recovery.specs.Records.{Entry, entries_of}
-use Rattle.recovery.specs.State.{State, state_of, changes_of, asked, after}
+use Rattle.recovery.specs.State.{State, state_with, changes_of, asked, after}
 
 pub fold-append : (g : Network) (xs ys : List (List Op)) → fold g (xs ++ ys) ≡ option_and_then (λ h. fold h ys) (fold g xs)
 fold-append g [] ys = refl
@@ -23,23 +23,23 @@ fold-append g (x ∷ xs) ys = elim (graph_after g x) as (λ r. (elim r [ Ok h �
 ]
 
 pub after-nil : (s : State) → after s [] ≡ Some s
-after-nil s = ap (λ k. Some (state_of k s.graph s.tickets)) (omega arith)
+after-nil s = ap (λ k. Some (state_with k s.graph s.tickets)) (omega arith)
 
 pub after-append : (s : State) (xs ys : List Entry) → after s (xs ++ ys) ≡ option_and_then (λ t. after t ys) (after s xs)
 after-append s xs ys =
     ap (λ cs. option_map all (fold s.graph cs)) (map-append (λ r. r.change) xs ys) ∙ ap (option_map all) (fold-append s.graph (changes_of xs) (changes_of ys)) ∙ by (fold s.graph (changes_of xs))
   where
     all : Network → State
-    all graph = state_of (s.count + length (xs ++ ys)) graph (tickets_after s.tickets (asked (xs ++ ys)))
+    all graph = state_with (s.count + length (xs ++ ys)) graph (tickets_after s.tickets (asked (xs ++ ys)))
 
     tickets : tickets_after s.tickets (asked (xs ++ ys)) ≡ tickets_after (tickets_after s.tickets (asked xs)) (asked ys)
     tickets = ap (tickets_after s.tickets) (map-append asked_by xs ys) ∙ after_append s.tickets (asked xs) (asked ys)
 
-    by : (o : Option Network) → option_map all (option_and_then (λ h. fold h (changes_of ys)) o) ≡ option_and_then (λ t. after t ys) (option_map (λ graph. state_of (s.count + length xs) graph (tickets_after s.tickets (asked xs))) o)
+    by : (o : Option Network) → option_map all (option_and_then (λ h. fold h (changes_of ys)) o) ≡ option_and_then (λ t. after t ys) (option_map (λ graph. state_with (s.count + length xs) graph (tickets_after s.tickets (asked xs))) o)
     by None = refl
     by (Some h) =
-        ap (λ k. option_map (λ graph. state_of k graph (tickets_after s.tickets (asked (xs ++ ys)))) (fold h (changes_of ys))) (omega (arith, length-append xs ys))
-        ∙ ap (λ (ts : List ℕ). option_map (λ graph. state_of (s.count + length xs + length ys) graph ts) (fold h (changes_of ys))) tickets
+        ap (λ k. option_map (λ graph. state_with k graph (tickets_after s.tickets (asked (xs ++ ys)))) (fold h (changes_of ys))) (omega (arith, length-append xs ys))
+        ∙ ap (λ (ts : List ℕ). option_map (λ graph. state_with (s.count + length xs + length ys) graph ts) (fold h (changes_of ys))) tickets
 
 -- one group more
 pub after-push : (s t u : State) (groups : List (List Entry)) (group : List Entry) → after s (entries_of groups) ≡ Some t → after t group ≡ Some u → after s (entries_of (groups ++ group ∷ [])) ≡ Some u
@@ -48,14 +48,14 @@ after-push s t u groups group so_far more =
     ap (after s) all ∙ after-append s (entries_of groups) group ∙ ap (option_and_then (λ v. after v group)) so_far ∙ more
 
 -- the state after requests
-pub after_is : (s : State) (requests : List Entry) (graph : Network) → fold s.graph (changes_of requests) ≡ Some graph → after s requests ≡ Some (state_of (s.count + length requests) graph (tickets_after s.tickets (asked requests)))
-after_is s requests graph is = ap (option_map (λ graph. state_of (s.count + length requests) graph (tickets_after s.tickets (asked requests)))) is
+pub after_is : (s : State) (requests : List Entry) (graph : Network) → fold s.graph (changes_of requests) ≡ Some graph → after s requests ≡ Some (state_with (s.count + length requests) graph (tickets_after s.tickets (asked requests)))
+after_is s requests graph is = ap (option_map (λ graph. state_with (s.count + length requests) graph (tickets_after s.tickets (asked requests)))) is
 
 pub after_count : (s t : State) (requests : List Entry) → after s requests ≡ Some t → t.count ≡ s.count + length requests
 after_count s t requests is = by (fold s.graph (changes_of requests)) is
   where
     made : Network → State
-    made graph = state_of (s.count + length requests) graph (tickets_after s.tickets (asked requests))
+    made graph = state_with (s.count + length requests) graph (tickets_after s.tickets (asked requests))
 
     by : (o : Option Network) → option_map made o ≡ Some t → t.count ≡ s.count + length requests
     by None e = absurd cc

@@ -11,7 +11,7 @@ use Rattle.recovery.specs.Records.{Spells, entries_of}
 use Rattle.journal.proofs.Lists.{one_list}
 use Rattle.journal.specs.RequestForm.{request_form, request_is_form}
 use Rattle.recovery.specs.Layout.{worn_limit, slot_start, other, journal_of, epoch_at}
-use Rattle.recovery.specs.State.{State, state_of, after, tickets_text, edges_text, state_text, checkpoint_text, IsLawful, AreTickets}
+use Rattle.recovery.specs.State.{State, state_with, after, tickets_text, edges_text, state_text, checkpoint_text, IsLawful, AreTickets}
 use Rattle.recovery.specs.Standing.{StandsBy, StandsFor}
 use Rattle.recovery_parts.proofs.Codes.{two, four, eight, edges_apart}
 use Rattle.recovery_parts.proofs.Results.{some_is}
@@ -48,8 +48,8 @@ text_apart epoch later s t x y le ll is_s is_t same =
     let list : es ≡ fs = edges_apart es fs x y p3.0 (edges_fit s.graph.nodes (omega (arith, few_s)) es (all_edges s.graph.nodes s.graph.edges is_s.lawful.each)) (edges_fit t.graph.nodes (omega (arith, few_t)) fs (all_edges t.graph.nodes t.graph.edges is_t.lawful.each)) p4.1 in
     let edges = same_entries_map s.graph.edges t.graph.edges list in
     let same_state : s ≡ t =
-    ap (λ (k : ℕ). state_of k s.graph s.tickets) p1.0 ∙ ap (λ (k : ℕ). state_of t.count (record { nodes = k; edges = s.graph.edges }) s.tickets) p2.0
-    ∙ ap (λ (m : EdgeMap). state_of t.count (record { nodes = t.graph.nodes; edges = m }) s.tickets) edges ∙ ap (λ (ts : List ℕ). state_of t.count t.graph ts) p4.0 in
+    ap (λ (k : ℕ). state_with k s.graph s.tickets) p1.0 ∙ ap (λ (k : ℕ). state_with t.count (record { nodes = k; edges = s.graph.edges }) s.tickets) p2.0
+    ∙ ap (λ (m : EdgeMap). state_with t.count (record { nodes = t.graph.nodes; edges = m }) s.tickets) edges ∙ ap (λ (ts : List ℕ). state_with t.count t.graph ts) p4.0 in
     (p0.0, same_state)
 
 -- two different slots are each other's other

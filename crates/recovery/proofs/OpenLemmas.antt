@@ -10,7 +10,7 @@ use Rattle.recovery.specs.Records.{Spells, entries_of}
 use Rattle.journal.proofs.Lists.{one_list}
 use Rattle.journal.specs.RequestForm.{request_form, request_is_form}
 use Rattle.recovery.specs.Layout.{worn_limit, other, journal_of, epoch_at}
-use Rattle.recovery.specs.State.{State, state_of, changes_of, asked, after, AreInTurn}
+use Rattle.recovery.specs.State.{State, state_with, changes_of, asked, after, AreInTurn}
 use Rattle.recovery.specs.Standing.{StandsBy, StandsForNone}
 use Rattle.recovery_parts.specs.declared.refusals.OpenRefused.{OpenRefused}
 use Rattle.recovery_parts.specs.declared.refusals.OpenRefused.TheVariants.{NotFormatted, BadVersion, Damaged, Device, Memory}
@@ -70,7 +70,7 @@ module _ (slot : ℕ) (base : State) (groups : List (List Entry)) (image : List 
   pub refused_there : (AreInTurn base.tickets (entries_of groups) → fold base.graph (changes_of (entries_of groups)) ≡ None) → LeadsNowhere slot base image
   refused_there none others state theirs folds in_turn fits =
       let in_turn_here = subst (λ gs. AreInTurn base.tickets (entries_of gs)) (sym (one_list request_form request_is_form (journal_of slot) groups others image spells theirs)) in_turn in
-      not_some (ap (option_map (λ (graph : Network). state_of (base.count + length (entries_of groups)) graph (tickets_after base.tickets (asked (entries_of groups))))) (none in_turn_here)) (same_records others state theirs folds)
+      not_some (ap (option_map (λ (graph : Network). state_with (base.count + length (entries_of groups)) graph (tickets_after base.tickets (asked (entries_of groups))))) (none in_turn_here)) (same_records others state theirs folds)
     where
       not_some : {o : Option State} → o ≡ None → o ≡ Some state → ⊥
       not_some is_none is_some = let clash : None ≡ Some state = sym is_none ∙ is_some in cc
@@ -86,11 +86,11 @@ only_damaged P Memory fault first second third = absurd fault
 -- what was read, handed on
 pub loaded_is : (slot epoch other_gate count : ℕ) (graph : Network) (tickets : List ℕ) (slot' epoch' other_gate' count' : ℕ) (graph' : Network) (tickets' : List ℕ) (groups : List (List Entry)) (image : List ℕ)
     → (slot ≡ slot') × (epoch ≡ epoch') × (other_gate ≡ other_gate') × (count ≡ count') × (graph ≡ graph') × (tickets ≡ tickets')
-    → IsInUse slot' epoch' other_gate' (state_of count' graph' tickets') groups image → IsInUse slot epoch other_gate (state_of count graph tickets) groups image
+    → IsInUse slot' epoch' other_gate' (state_with count' graph' tickets') groups image → IsInUse slot epoch other_gate (state_with count graph tickets) groups image
 loaded_is slot epoch other_gate count graph tickets slot' epoch' other_gate' count' graph' tickets' groups image same is =
-    subst (λ k. IsInUse k epoch other_gate (state_of count graph tickets) groups image) (sym same.0)
-    (subst (λ k. IsInUse slot' k other_gate (state_of count graph tickets) groups image) (sym same.1)
-    (subst (λ k. IsInUse slot' epoch' k (state_of count graph tickets) groups image) (sym same.2)
-    (subst (λ k. IsInUse slot' epoch' other_gate' (state_of k graph tickets) groups image) (sym same.3)
-    (subst (λ (h : Network). IsInUse slot' epoch' other_gate' (state_of count' h tickets) groups image) (sym same.4)
-    (subst (λ (ts : List ℕ). IsInUse slot' epoch' other_gate' (state_of count' graph' ts) groups image) (sym same.5) is)))))
+    subst (λ k. IsInUse k epoch other_gate (state_with count graph tickets) groups image) (sym same.0)
+    (subst (λ k. IsInUse slot' k other_gate (state_with count graph tickets) groups image) (sym same.1)
+    (subst (λ k. IsInUse slot' epoch' k (state_with count graph tickets) groups image) (sym same.2)
+    (subst (λ k. IsInUse slot' epoch' other_gate' (state_with k graph tickets) groups image) (sym same.3)
+    (subst (λ (h : Network). IsInUse slot' epoch' other_gate' (state_with count' h tickets) groups image) (sym same.4)
+    (subst (λ (ts : List ℕ). IsInUse slot' epoch' other_gate' (state_with count' graph' ts) groups image) (sym same.5) is)))))

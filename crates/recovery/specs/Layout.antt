@@ -6,7 +6,6 @@ use Rattle.journal.specs.declared.area.Area.{Area}
 pub use Rattle.requests.specs.Tickets.{sessions, worn_limit}
 pub use Rattle.recovery_parts.specs.Heads.{slots_start, other}
 pub use Rattle.recovery_parts.specs.Refusals.{header_len, magic}
-use Rattle.recovery.specs.declared.layout.TheConstants.{MOST_NODES, MOST_EDGES}
 
 -- how many bytes a device has
 abbrev pub device_len : ℕ
@@ -26,11 +25,11 @@ edges_start = 535
 
 -- the most nodes of a device's network
 abbrev pub most_nodes : ℕ
-most_nodes = MOST_NODES
+most_nodes = 16384
 
 -- the most edges
 abbrev pub most_edges : ℕ
-most_edges = MOST_EDGES
+most_edges = 65536
 
 -- the size of a checkpoint's area; a slot is one, and a journal's behind it
 abbrev pub checkpoint_room : ℕ

@@ -20,12 +20,12 @@ pub record State : Type 0 where
   pub tickets : List ℕ
 
 -- the state of these parts
-abbrev pub state_of : ℕ → Network → List ℕ → State
-state_of count graph tickets = record { count = count; graph = graph; tickets = tickets }
+abbrev pub state_with : ℕ → Network → List ℕ → State
+state_with count graph tickets = record { count = count; graph = graph; tickets = tickets }
 
 -- no edges and no tickets yet
 abbrev pub first_state : ℕ → State
-first_state nodes = state_of 0 (record { nodes = nodes; edges = empty }) (replicate sessions 0)
+first_state nodes = state_with 0 (record { nodes = nodes; edges = empty }) (replicate sessions 0)
 
 -- what is asked for, in order
 abbrev pub changes_of : List Entry → List (List Op)
@@ -37,7 +37,7 @@ asked requests = map asked_by requests
 
 -- the state after requests in order, each accepted
 abbrev pub after : State → List Entry → Option State
-after state requests = option_map (λ graph. state_of (state.count + length requests) graph (tickets_after state.tickets (asked requests))) (fold state.graph (changes_of requests))
+after state requests = option_map (λ graph. state_with (state.count + length requests) graph (tickets_after state.tickets (asked requests))) (fold state.graph (changes_of requests))
 
 -- the session is there, and the ticket is above its last one and within the limit
 abbrev pub IsNext : List ℕ → Entry → Type 0

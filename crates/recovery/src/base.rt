@@ -2,7 +2,7 @@
 ghost use Rattle.std.specs.Prelude.{◌≡◌, ◌≢◌, ◌≤◌, ◌<◌, ◌+◌, ◌*◌, ◌^◌, ◌↔◌, ℕ, List, length, IsTrue, IfOk, IfErr, OnOk, IsErrOf};
 ghost use Rattle.disk_trait.specs.Disk.{IsSameDevice, OnlyRead, bytes_at};
 ghost use Rattle.recovery.specs.Layout.{device_len, worn_limit, most_nodes, most_edges, slot_start, header};
-ghost use Rattle.recovery.specs.State.{state_of, IsLawful, AreTickets};
+ghost use Rattle.recovery.specs.State.{state_with, IsLawful, AreTickets};
 ghost use Rattle.recovery.specs.Standing.{StandsForNone};
 ghost use Rattle.recovery.specs.Refusals.{IsFormatFault, IsFrontFault};
 ghost use Rattle.recovery.specs.Slots.{HasHead, IsNewest, HasCheckpoint};
@@ -49,7 +49,7 @@ pub(crate) fn read_base<D: Disk>(
     ensures lawful { IfOk result (λ r. IsLawful r.0) }
     ensures tickets { IfOk result (λ r. AreTickets r.1) }
     ensures text { IsTrue (D.view disk.old).keeps_model → HasHead chosen.slot chosen.head.gate chosen.head.epoch chosen.head.count chosen.head.nodes chosen.head.edges (D.view disk.old).content
-        → IfOk result (λ r. HasCheckpoint chosen.slot chosen.head.epoch (state_of chosen.head.count r.0 r.1) (D.view disk.old).content) }
+        → IfOk result (λ r. HasCheckpoint chosen.slot chosen.head.epoch (state_with chosen.head.count r.0 r.1) (D.view disk.old).content) }
     ensures refused { IsTrue (D.view disk.old).keeps_model → bytes_at (D.view disk.old).content 0 10 ≡ header nodes
         → HasHead chosen.slot chosen.head.gate chosen.head.epoch chosen.head.count chosen.head.nodes chosen.head.edges (D.view disk.old).content → IsNewest chosen.slot chosen.other_gate (D.view disk.old).content
         → IfErr result (λ e. IsFormatFault e → StandsForNone (D.view disk.old).content) }

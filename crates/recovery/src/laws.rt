@@ -1,11 +1,11 @@
 //! The laws of standing and of the layout.
 ghost use Rattle.std.specs.Prelude.{◌≡◌};
-ghost use Rattle.recovery.specs.Layout.{device_len, worn_limit, sessions, head_len, tickets_len, edges_start, checkpoint_room, journal_room, slot_room, version, slot_start, journal_start};
+ghost use Rattle.recovery.specs.Layout.{device_len, worn_limit, sessions, head_len, tickets_len, edges_start, most_nodes, most_edges, checkpoint_room, journal_room, slot_room, version, slot_start, journal_start};
 ghost use Rattle.recovery.specs.Standing.{OneState};
 
 use crate::layout::{
-    CHECKPOINT_ROOM, DEVICE_LEN, EDGES_START, HEAD_LEN, JOURNAL_ROOM, SLOT_ROOM, TICKETS_LEN,
-    VERSION, WORN_LIMIT,
+    CHECKPOINT_ROOM, DEVICE_LEN, EDGES_START, HEAD_LEN, JOURNAL_ROOM, MOST_EDGES, MOST_NODES,
+    SLOT_ROOM, TICKETS_LEN, VERSION, WORN_LIMIT,
 };
 use requests::SESSIONS;
 
@@ -22,6 +22,8 @@ pub fn layout_law()
     ensures head { HEAD_LEN ≡ head_len }
     ensures tickets { TICKETS_LEN ≡ tickets_len }
     ensures edges { EDGES_START ≡ edges_start }
+    ensures most_nodes { MOST_NODES ≡ most_nodes }
+    ensures most_edges { MOST_EDGES ≡ most_edges }
     ensures checkpoint { CHECKPOINT_ROOM ≡ checkpoint_room }
     ensures journal { JOURNAL_ROOM ≡ journal_room }
     ensures slot { SLOT_ROOM ≡ slot_room }

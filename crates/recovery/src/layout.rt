@@ -25,10 +25,10 @@ pub const TICKETS_LEN: usize = TICKET_LEN * SESSIONS;
 pub const EDGES_START: usize = HEAD_LEN + TICKETS_LEN;
 
 /// The most nodes of a device's network.
-pub const MOST_NODES: u16 = graph_edits::MOST_NODES;
+pub const MOST_NODES: u16 = 16_384;
 
 /// The most edges of a device's network.
-pub const MOST_EDGES: usize = graph_edits::MOST_EDGES;
+pub const MOST_EDGES: usize = 65_536;
 
 /// The size of a checkpoint's area.
 pub const CHECKPOINT_ROOM: usize = 528_384;

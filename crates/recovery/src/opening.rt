@@ -4,7 +4,7 @@ ghost use Rattle.disk_trait.specs.Disk.{IsSameDevice, IsSettled, OnlyRead};
 ghost use Rattle.graph_edits.specs.Changes.{fold};
 ghost use Rattle.requests.specs.Tickets.{tickets_after};
 ghost use Rattle.recovery.specs.Layout.{device_len, worn_limit, journal_of};
-ghost use Rattle.recovery.specs.State.{state_of, changes_of, asked, after, AreInTurn};
+ghost use Rattle.recovery.specs.State.{state_with, changes_of, asked, after, AreInTurn};
 ghost use Rattle.recovery.specs.Standing.{StandsForNone};
 ghost use Rattle.recovery.specs.Fronts.{HasThisVersion};
 ghost use Rattle.recovery.specs.Refusals.{IsFormatFault, IsFrontFault, TellsOf};
@@ -109,10 +109,10 @@ fn load_records<D: Disk>(
     ensures slot { IfOk result (λ l. (l.slot ≡ slot) × (l.epoch ≡ epoch) × (l.other_gate ≡ other_gate) × (l.base_count ≡ base_count) × (l.base.value ≡ base) × (l.base_tickets.value ≡ base_tickets)) }
     ensures area { IfOk result (λ l. l.journal.area ≡ journal_of slot) }
     ensures fits { IfOk result (λ l. l.count ≤ worn_limit) }
-    ensures folds { IfOk result (λ l. after (state_of base_count base base_tickets) (entries_of l.journal.groups) ≡ Some (state_of l.count l.graph l.tickets)) }
+    ensures folds { IfOk result (λ l. after (state_with base_count base base_tickets) (entries_of l.journal.groups) ≡ Some (state_with l.count l.graph l.tickets)) }
     ensures in_turn { IfOk result (λ l. AreInTurn base_tickets (entries_of l.journal.groups)) }
     ensures spells { IsTrue (D.view disk.old).keeps_model → IfOk result (λ l. Spells (journal_of slot) l.journal.groups (D.view disk.old).content) }
-    ensures refused { IsTrue (D.view disk.old).keeps_model → IfErr result (λ e. IsFormatFault e → LeadsNowhere slot (state_of base_count base base_tickets) (D.view disk.old).content) }
+    ensures refused { IsTrue (D.view disk.old).keeps_model → IfErr result (λ e. IsFormatFault e → LeadsNowhere slot (state_with base_count base base_tickets) (D.view disk.old).content) }
 {
     let (journal, requests) = match Journal::scan(alloc, disk, journal_area(slot)) {
         Ok(scanned) => scanned,
@@ -157,7 +157,7 @@ fn read_checkpoint<D: Disk>(
     ensures long { OnOk result (length (D.view disk.old).content ≡ device_len) }
     ensures slot { IfOk result (λ r. r.0.slot < 2) }
     ensures count { IfOk result (λ r. r.0.head.count ≤ worn_limit) }
-    ensures has_base { IsTrue (D.view disk.old).keeps_model → IfOk result (λ r. HasBase r.0.slot r.0.head.epoch r.0.other_gate (state_of r.0.head.count r.1 r.2) (D.view disk.old).content) }
+    ensures has_base { IsTrue (D.view disk.old).keeps_model → IfOk result (λ r. HasBase r.0.slot r.0.head.epoch r.0.other_gate (state_with r.0.head.count r.1 r.2) (D.view disk.old).content) }
     ensures this_version { IsTrue (D.view disk.old).keeps_model → OnOk result (HasThisVersion (D.view disk.old).content) }
     ensures tells { IsTrue (D.view disk.old).keeps_model → IfErr result (λ e. TellsOf e (D.view disk.old).content) }
     ensures refused { IsTrue (D.view disk.old).keeps_model → IfErr result (λ e. IsFormatFault e → StandsForNone (D.view disk.old).content) }
@@ -187,9 +187,9 @@ pub fn load<D: Disk>(alloc: Global, disk: &mut D) -> Result<Loaded, OpenRefused>
     ensures slot { IfOk result (λ l. l.slot < 2) }
     ensures area { IfOk result (λ l. l.journal.area ≡ journal_of l.slot) }
     ensures fits { IfOk result (λ l. l.count ≤ worn_limit) }
-    ensures folds { IfOk result (λ l. after (state_of l.base_count l.base.value l.base_tickets.value) (entries_of l.journal.groups) ≡ Some (state_of l.count l.graph l.tickets)) }
+    ensures folds { IfOk result (λ l. after (state_with l.base_count l.base.value l.base_tickets.value) (entries_of l.journal.groups) ≡ Some (state_with l.count l.graph l.tickets)) }
     ensures in_turn { IfOk result (λ l. AreInTurn l.base_tickets.value (entries_of l.journal.groups)) }
-    ensures in_use { IsTrue (D.view disk.old).keeps_model → IfOk result (λ l. IsInUse l.slot l.epoch l.other_gate (state_of l.base_count l.base.value l.base_tickets.value) l.journal.groups (D.view disk.old).content) }
+    ensures in_use { IsTrue (D.view disk.old).keeps_model → IfOk result (λ l. IsInUse l.slot l.epoch l.other_gate (state_with l.base_count l.base.value l.base_tickets.value) l.journal.groups (D.view disk.old).content) }
     ensures settled { IsTrue (D.view disk.old).keeps_model → OnOk result (IsSettled (D.view disk.new)) }
     ensures this_version { IsTrue (D.view disk.old).keeps_model → OnOk result (HasThisVersion (D.view disk.old).content) }
     ensures tells { IsTrue (D.view disk.old).keeps_model → IfErr result (λ e. TellsOf e (D.view disk.old).content) }

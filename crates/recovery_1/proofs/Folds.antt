@@ -9,12 +9,13 @@ use Rattle.recovery_1.specs.Records.{Entry}
 use Rattle.recovery_1.specs.Records.{entries_of}
 use Rattle.graph_edits.specs.Edges.{EdgeMap, Network}
 use Rattle.graph_edits.specs.declared.edits.Code.{Code}
-use Rattle.graph_edits.specs.Changes.{fold, edges_after, after as graph_after}
-use Rattle.recovery_1.specs.State.{State, counted, after}
+use Rattle.graph_edits.specs.Changes.{edges_after_within, after_within}
+use Rattle.recovery_1.specs.Layout.{most_edges}
+use Rattle.recovery_1.specs.State.{State, counted, after, fold}
 
 pub fold-append : (g : Network) (xs ys : List Entry) → fold g (xs ++ ys) ≡ option_and_then (λ h. fold h ys) (fold g xs)
 fold-append g [] ys = refl
-fold-append g (x ∷ xs) ys = elim (graph_after g x) as (λ r. (elim r [ Ok h ↦ fold h (xs ++ ys) | Err e ↦ None ]) ≡ option_and_then (λ h. fold h ys) (elim r [ Ok h ↦ fold h xs | Err e ↦ None ])) [
+fold-append g (x ∷ xs) ys = elim (after_within most_edges g x) as (λ r. (elim r [ Ok h ↦ fold h (xs ++ ys) | Err e ↦ None ]) ≡ option_and_then (λ h. fold h ys) (elim r [ Ok h ↦ fold h xs | Err e ↦ None ])) [
   | Ok h ↦ fold-append h xs ys
   | Err e ↦ refl
 ]
@@ -48,8 +49,8 @@ after_count s t changes is = by (fold s.graph changes) is
     by (Some g) e = sym (ap (λ (u : State). u.count) (some_is (counted (s.count + length changes) g) t e))
 
 -- changes keep the number of nodes
-nodes_after : (g h : Network) (change : Entry) → graph_after g change ≡ Ok h → h.nodes ≡ g.nodes
-nodes_after g h change is = by (edges_after g.nodes g.edges 0 change) is
+nodes_after : (g h : Network) (change : Entry) → after_within most_edges g change ≡ Ok h → h.nodes ≡ g.nodes
+nodes_after g h change is = by (edges_after_within most_edges g.nodes g.edges 0 change) is
   where
     by : (r : Result EdgeMap (ℕ × Code)) → (elim r as (λ _. Result Network (ℕ × Code)) [ Ok m ↦ Ok (record g { edges = m }) | Err e ↦ Err e ]) ≡ Ok h → h.nodes ≡ g.nodes
     by (Ok m) e = sym (ap (λ (u : Network). u.nodes) (ok_is (record g { edges = m }) h e))
@@ -57,8 +58,8 @@ nodes_after g h change is = by (edges_after g.nodes g.edges 0 change) is
 
 pub nodes_fold : (g h : Network) (changes : List Entry) → fold g changes ≡ Some h → h.nodes ≡ g.nodes
 nodes_fold g h [] is = ap (λ (u : Network). u.nodes) (sym (some_is g h is))
-nodes_fold g h (x ∷ xs) is = by (λ m e. nodes_fold m h xs e) (graph_after g x) refl is
+nodes_fold g h (x ∷ xs) is = by (λ m e. nodes_fold m h xs e) (after_within most_edges g x) refl is
   where
-    by : ((m : Network) → fold m xs ≡ Some h → h.nodes ≡ m.nodes) → (r : Result Network (ℕ × Code)) → graph_after g x ≡ r → (elim r as (λ _. Option Network) [ Ok m ↦ fold m xs | Err e ↦ None ]) ≡ Some h → h.nodes ≡ g.nodes
+    by : ((m : Network) → fold m xs ≡ Some h → h.nodes ≡ m.nodes) → (r : Result Network (ℕ × Code)) → after_within most_edges g x ≡ r → (elim r as (λ _. Option Network) [ Ok m ↦ fold m xs | Err e ↦ None ]) ≡ Some h → h.nodes ≡ g.nodes
     by later (Ok m) e is = later m is ∙ nodes_after g m x e
     by later (Err x) _ is = absurd cc

@@ -2,7 +2,7 @@
 use Rattle.std.proofs.Common.{◌≡◌, ℕ, ◌+◌, ◌<◌, ◌≤◌, List, length, Option, Some, None, refl, sym, ◌∙◌, ap, subst, arith}
 use Rattle.std.specs.Option.{option_map}
 use Rattle.graph_edits.specs.Edges.{Network}
-use Rattle.graph_edits.specs.Changes.{fold}
+use Rattle.recovery_1.specs.State.{fold}
 use Rattle.disk_trait.specs.Disk.{DiskView, OnlyRead}
 use Rattle.recovery_1.specs.Records.{Entry}
 use Rattle.recovery_1.specs.Records.{Spells, entries_of}

@@ -6,7 +6,7 @@ use Rattle.std.specs.FinMap.{entries, get, empty}
 use Rattle.recovery_1.specs.Records.{Entry}
 use Rattle.graph_edits.specs.Edges.{Network}
 use Rattle.recovery_1.specs.Layout.{most_nodes, most_edges}
-use Rattle.graph_edits.specs.Changes.{fold}
+use Rattle.graph_edits.specs.Changes.{fold_within}
 pub use Rattle.recovery_parts.specs.EdgeTexts.{edge_text, edges_text, IsEdge}
 
 -- what a device stands for: how many changes were accepted, and the network that they made
@@ -21,6 +21,10 @@ counted count graph = record { count = count; graph = graph }
 -- no edges yet
 abbrev pub first_state : ℕ → State
 first_state nodes = counted 0 (record { nodes = nodes; edges = empty })
+
+-- the network after changes in order, each accepted by this layout's limit of edges
+abbrev pub fold : Network → List Entry → Option Network
+fold = fold_within most_edges
 
 -- the state after changes in order, each accepted
 abbrev pub after : State → List Entry → Option State

@@ -1,9 +1,8 @@
 //! Opening: what stands on a device.
 ghost use Rattle.std.specs.Prelude.{◌≡◌, ◌≢◌, ◌≤◌, ◌<◌, ◌+◌, ◌*◌, ◌^◌, ◌↔◌, ℕ, List, length, IsTrue, IfOk, IfErr, OnOk, OnErr, IsErrOf, Some, None};
 ghost use Rattle.disk_trait.specs.Disk.{IsSameDevice, IsSettled, OnlyRead};
-ghost use Rattle.graph_edits.specs.Changes.{fold};
 ghost use Rattle.recovery_1.specs.Layout.{device_len, worn_limit, journal_of};
-ghost use Rattle.recovery_1.specs.State.{after};
+ghost use Rattle.recovery_1.specs.State.{after, fold};
 ghost use Rattle.recovery_1.specs.Standing.{StandsForNone};
 ghost use Rattle.recovery_1.specs.Fronts.{HasThisVersion};
 ghost use Rattle.recovery_1.specs.Refusals.{IsFormatFault, IsFrontFault, TellsOf};
@@ -13,7 +12,9 @@ ghost use Rattle.recovery_1.specs.Records.{entries_of, Spells};
 
 use crate::base::read_base;
 use crate::header::read_header;
-use crate::layout::{CHECKPOINT_ROOM, JOURNAL_ROOM, SLOT_ROOM, SLOTS_START, WORN_LIMIT};
+use crate::layout::{
+    CHECKPOINT_ROOM, JOURNAL_ROOM, MOST_EDGES, SLOT_ROOM, SLOTS_START, WORN_LIMIT,
+};
 use disk_trait::Disk;
 use graph_edits::{Change, EditRefused, Graph};
 use journal::{Area, Journal, ScanRefused};
@@ -61,7 +62,7 @@ fn apply_all(graph: &mut Graph, changes: &[Change]) -> Result<(), OpenRefused>
     ensures later { IfErr result (λ e. ¬ (IsFrontFault e)) }
 {
     for change in changes {
-        match graph.apply(change) {
+        match graph.apply_within(change, MOST_EDGES) {
             Ok(()) => {}
             Err(EditRefused::Op { .. }) => return Err(OpenRefused::Damaged),
             Err(EditRefused::Memory) => return Err(OpenRefused::Memory),

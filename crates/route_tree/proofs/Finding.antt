@@ -1,28 +1,54 @@
 -- What the table of places says of a member's parent, and how it is filled.
 use Rattle.std.proofs.Common.{◌≡◌, ◌≢◌, ℕ, ◌+◌, ◌<◌, ◌≤◌, ◌⊎◌, inl, inr, List, length, get_or, set, length-set, sym, ap, ◌∙◌, arith}
 use Rattle.std.proofs.lemmas.List.{get_or-set_same, get_or-set_other}
-use Rattle.std.specs.Prelude.{Option, Some, None}
+use Rattle.std.specs.Prelude.{Option, Some, None, slice_index}
 use Rattle.route_tree.specs.Members.{HasParentBefore}
-use Rattle.route_tree.specs.Places.{place_of, Finds}
+use Rattle.route_tree.specs.Growth.{IsEachOnce}
+use Rattle.route_tree.specs.Places.{place_of, Finds, HasPlaces, HasPlacesTo}
 use Rattle.route_tree.specs.Slots.{StandsAt}
 use Rattle.route_tree.specs.declared.member.Member.{Member}
 use Rattle.route_tree.proofs.Waiting.{clash, some_same, no_member}
 
--- the parent's place, by the table
+-- the parent's place, by a table of the first members
 found : (ms : List Member) (n at : ℕ) (table : List (Option ℕ)) (m : Member) (x : ℕ) → Finds ms n table → at ≤ n → (h : HasParentBefore ms at m) → m.parent ≡ Some x → place_of table x ≡ Some h.0
 found ms n at table m x f l h e =
-    ap (place_of table) (some_same (sym e ∙ h.1.1 no_member)) ∙ f.there h.0 no_member (let w = h.1.0 in omega (arith, w))
+    ap (place_of table) (some_same (sym e ∙ h.1.1 no_member)) ∙ f.there h.0 no_member (let w = h.1.0 in omega (arith, w, l))
 
 pub surely_found : (ms : List Member) (n at : ℕ) (table : List (Option ℕ)) (m : Member) (x : ℕ) → Finds ms n table → at ≤ n → HasParentBefore ms at m → m.parent ≡ Some x → place_of table x ≡ None → ⊥
 surely_found ms n at table m x f l h e g = clash (sym g ∙ found ms n at table m x f l h e)
 
-pub stands : (ms : List Member) (n at : ℕ) (table : List (Option ℕ)) (m : Member) (x p : ℕ) → Finds ms n table → at ≤ n → HasParentBefore ms at m → m.parent ≡ Some x → place_of table x ≡ Some p → StandsAt ms at m.parent p
-stands ms n at table m x p f l h e g =
-    let same : h.0 ≡ p = some_same (sym (found ms n at table m x f l h e) ∙ g) in
-    record {
-      before = (let w = h.1.0 in omega (arith, w, same));
-      is = λ d. h.1.1 d ∙ ap (λ k. Some (get_or ms k d).node) same;
-    }
+-- the parent's place, by a table of all members
+pub stands : (ms : List Member) (at x : ℕ) (table : List ℕ) (m : Member) → HasPlaces ms table → at < length ms → HasParentBefore ms at m → m.parent ≡ Some x → (x < length table) × StandsAt ms at m.parent (slice_index table x)
+stands ms at x table m f l h e =
+    let w = h.1.0 in
+    let node : x ≡ (get_or ms h.0 no_member).node = some_same (sym e ∙ h.1.1 no_member) in
+    let same : slice_index table x ≡ h.0 = ap (slice_index table) node ∙ f.there h.0 no_member (omega (arith, w, l)) in
+    let fit = f.fits h.0 no_member (omega (arith, w, l)) in (
+      omega (arith, node, fit),
+      record {
+        before = omega (arith, w, same);
+        is = λ d. h.1.1 d ∙ ap (λ k. Some (get_or ms k d).node) (sym same);
+      },
+    )
+
+-- one more member's place in the table
+pub places_more : (ms : List Member) (i n : ℕ) (table : List ℕ) → IsEachOnce ms → HasPlacesTo ms i table → i < length ms → ((d : Member) → n ≡ (get_or ms i d).node) → HasPlacesTo ms (i + 1) (set table n i)
+places_more ms i n table once f l is = record {
+  fits = λ k d h. (let a = f.fits k d h in omega (arith, a, length-set table n i));
+  there = λ k d h. there k d (or_less k h);
+}
+  where
+    room : n < length table
+    room = let a = f.fits i no_member l in let e = is no_member in omega (arith, a, e)
+
+    or_less : (k : ℕ) → k < i + 1 → (k ≡ i) ⊎ (k < i)
+    or_less k h = grind arith
+
+    there : (k : ℕ) (d : Member) → (k ≡ i) ⊎ (k < i) → slice_index (set table n i) (get_or ms k d).node ≡ k
+    there k d (inl e) =
+        ap (slice_index (set table n i)) (ap (λ j. (get_or ms j d).node) e ∙ sym (is d))
+        ∙ get_or-set_same table n i 0 room ∙ sym e
+    there k d (inr h) = get_or-set_other table n (get_or ms k d).node i 0 (λ e. (let s = once k i d d (omega (arith, h, l)) l (e ∙ is d) in omega (arith, s, h))) ∙ f.there k d h
 
 same_or_not : (a b : ℕ) → (a ≡ b) ⊎ (a ≢ b)
 same_or_not a b = grind arith

@@ -5,12 +5,11 @@ ghost use Rattle.route_tree.specs.Front.{heavy_to_front};
 ghost use Rattle.route_tree.specs.Growth.{subtrees, first_or};
 ghost use Rattle.route_tree.specs.Members.{AreMembers};
 ghost use Rattle.route_tree.specs.declared.member.Member.{Member};
-ghost use Rattle.route_tree.specs.Places.{Finds};
+ghost use Rattle.route_tree.specs.Places.{HasPlaces};
 ghost use Rattle.route_tree.specs.Slots.{IsHung, StandsAt, Waits};
 
 use crate::heavy::heavy_first;
 use crate::member::{MOST_MEMBERS, Member};
-use crate::places::Places;
 use crate::twig::Twig;
 use std::alloc::{AllocError, Allocator};
 
@@ -47,20 +46,17 @@ fn close<A: Allocator>(member: Member, children: Vec<Twig<A>, A>) -> Twig<A>
 }
 
 /// Where the parent of the member at `at` stands.
-fn parent_place<A: Allocator>(places: &Places<A>, members: &[Member], at: usize) -> usize
+fn parent_place(places: &[u16], members: &[Member], at: usize) -> usize
     requires below_root { 0 < at }
     requires there { at < length members.now }
     requires members { AreMembers members.now }
-    requires finds { Finds members.now (length members.now) places.now.table.items }
+    requires places { HasPlaces members.now places.now }
     ensures { (d : Member) → StandsAt members.now at (slice_index_or members.now at d).parent result }
 {
     let Some(parent) = members[at].parent else {
         unreachable!()
     };
-    let Some(place) = places.find(parent) else {
-        unreachable!()
-    };
-    place as usize
+    places[parent as usize] as usize
 }
 
 /// Puts a tree into its parent's slot, behind those that came before.
@@ -76,14 +72,14 @@ fn hang<A: Allocator>(slots: &mut Slots<A>, place: usize, twig: Twig<A>) -> Resu
 /// Closes the tree of the last member that has a slot, and hangs it on its parent.
 fn close_last<A: Allocator>(
     slots: &mut Slots<A>,
-    places: &Places<A>,
+    places: &[u16],
     members: &[Member],
     at: usize,
 ) -> Result<(), AllocError>
     requires below_root { 0 < at }
     requires there { at < length members.now }
     requires members { AreMembers members.now }
-    requires finds { Finds members.now (length members.now) places.now.table.items }
+    requires places { HasPlaces members.now places.now }
     requires waits { Waits members.now (at + 1) slots.old.items }
     ensures { OnOk result (Waits members.now at slots.new.items) }
 {
@@ -95,16 +91,20 @@ fn close_last<A: Allocator>(
 }
 
 /// The tree of the members, from the farthest up.
-pub fn grown<A: Allocator + Clone>(alloc: A, members: &[Member]) -> Result<Twig<A>, AllocError>
-    requires { AreMembers members.now }
+pub fn grown<A: Allocator + Clone>(
+    alloc: A,
+    members: &[Member],
+    places: &[u16],
+) -> Result<Twig<A>, AllocError>
+    requires members { AreMembers members.now }
+    requires places { HasPlaces members.now places.now }
     ensures { IfOk result (λ t. (d : Tree) → t ≡ first_or d (subtrees members.now)) }
 {
-    let places = Places::of(alloc.clone()?, members)?;
     let mut slots = empty_slots(&alloc, members)?;
     let mut left = members.len();
     while left > 1 {
         left -= 1;
-        close_last(&mut slots, &places, members, left)?;
+        close_last(&mut slots, places, members, left)?;
     }
     let children = slots.remove(0);
     Ok(close(members[0], children))

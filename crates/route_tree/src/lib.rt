@@ -45,8 +45,6 @@ mod heavy;
 mod member;
 mod places;
 mod route_tree;
-#[cfg(test)]
-mod tests;
 mod twig;
 
 pub use member::{MOST_MEMBERS, Member, are_members};

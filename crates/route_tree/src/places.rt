@@ -1,9 +1,39 @@
-ghost use Rattle.std.specs.Prelude.{◌≡◌, ◌<◌, ◌≤◌, ◌+◌, IfOk, length, Some, None, slice_index_or, slice_set};
+ghost use Rattle.std.specs.Prelude.{◌≡◌, ◌<◌, ◌≤◌, ◌+◌, ℕ, IfOk, length, Some, None, slice_index_or, slice_set};
 ghost use Rattle.route_tree.specs.Growth.{IsEachOnce};
-ghost use Rattle.route_tree.specs.Places.{place_of, Finds};
+ghost use Rattle.route_tree.specs.Places.{place_of, Finds, HasPlaces};
+ghost use Rattle.route_tree.specs.declared.member.Member.{Member};
 
 use crate::member::{MOST_MEMBERS, Member};
 use std::alloc::{AllocError, Allocator};
+
+/// How long a table is that has room for these members' nodes.
+fn room_for(members: &[Member]) -> usize
+    ensures { (k : ℕ) (d : Member) → k < length members.now → (slice_index_or members.now k d).node < result }
+{
+    let mut room = 0;
+    for member in members {
+        let needed = member.node as usize + 1;
+        if room < needed {
+            room = needed;
+        }
+    }
+    room
+}
+
+/// The place of each member, at its node.
+pub fn table_of<A: Allocator>(alloc: A, members: &[Member]) -> Result<Vec<u16, A>, AllocError>
+    requires few { length members.now ≤ MOST_MEMBERS }
+    requires once { IsEachOnce members.now }
+    ensures { IfOk result (λ table. HasPlaces members.now table.items) }
+{
+    let mut table = Vec::new(alloc);
+    table.resize(room_for(members), 0)?;
+    for i in 0..members.len() {
+        let node = members[i].node;
+        table[node as usize] = i as u16;
+    }
+    Ok(table)
+}
 
 /// A table from nodes to the places of members: what stands at x is the place of node x.
 #[derive(Drop)]
@@ -16,29 +46,9 @@ impl<A: Allocator> Places<A> {
     pub fn empty(alloc: A, members: &[Member]) -> Result<Places<A>, AllocError>
         ensures { IfOk result (λ p. Finds members.now 0 p.table.items) }
     {
-        let mut room = 0;
-        for member in members {
-            let needed = member.node as usize + 1;
-            if room < needed {
-                room = needed;
-            }
-        }
         let mut table = Vec::new(alloc);
-        table.resize(room, None)?;
+        table.resize(room_for(members), None)?;
         Ok(Places { table })
-    }
-
-    /// The table of all members.
-    pub fn of(alloc: A, members: &[Member]) -> Result<Places<A>, AllocError>
-        requires few { length members.now ≤ MOST_MEMBERS }
-        requires once { IsEachOnce members.now }
-        ensures { IfOk result (λ p. Finds members.now (length members.now) p.table.items) }
-    {
-        let mut places = Places::empty(alloc, members)?;
-        for i in 0..members.len() {
-            places.put(members[i].node, i as u16);
-        }
-        Ok(places)
     }
 
     /// The place of a node's member, if it stands in the table.

@@ -3,15 +3,15 @@ use Rattle.std.proofs.Common.{◌≡◌, ◌∙◌, ◌⊎◌, ap, inl, inr, ref
 use Rattle.std.specs.Io.KnownBytes.{Appends}
 use Rattle.clap.specs.Walk.{Text}
 use Rattle.graph_edits.specs.declared.edits.Op.{Op}
-use Rattle.recovery_1.specs.State.{State}
-use Rattle.group_commit.specs.declared.request.Verdict.{Verdict}
+use Rattle.recovery.specs.State.{State}
+use Rattle.generations.specs.declared.posting.Verdict.{Verdict}
 use Rattle.printed_lines.specs.declared.ended.Ended.{Ended}
 use Rattle.printed_lines.specs.declared.ended.Ended.TheVariants.{Done, Refused}
 use Rattle.printed_lines.specs.declared.fault.Fault.{Fault}
 use Rattle.printed_lines.specs.declared.fault.Fault.TheVariants as told
 use Rattle.printed_lines.specs.Faults.{IsNotUnderstood, status_of}
 use Rattle.printed_lines.specs.Lines.{line}
-use Rattle.device_commands.specs.Answer.{verdict_of}
+use Rattle.device_commands.specs.Answer.{IsNew, verdict_of}
 use Rattle.tznode.specs.declared.outcome.Outcome.{Outcome}
 use Rattle.tznode.specs.declared.outcome.Outcome.TheVariants.{Answered, Told, Untold}
 use Rattle.tznode.specs.Endings.{IsFaultFor}
@@ -19,12 +19,12 @@ use Rattle.tznode.specs.Outcomes.{IsOutcome, status_in}
 use Rattle.tznode.specs.Printed.{ended_by, verdict_text}
 
 -- a verdict's line is that of what becomes of the change in a state
-pub verdict_line : (r : Result Ended Fault) (old new : Option (List ℕ)) (verdict : Verdict) (change : List Op) → (state : State) × (verdict ≡ verdict_of state change)
+pub verdict_line : (r : Result Ended Fault) (old new : Option (List ℕ)) (verdict : Verdict) (named : Option ℕ) (change : List Op) → (state : State) × IsNew state named × (verdict ≡ verdict_of state change)
     → IfOk r (λ ended. ended ≡ ended_by verdict) → OnOk r (Appends old new (line (verdict_text verdict)))
-    → IfOk r (λ ended. (state : State) × (ended ≡ ended_by (verdict_of state change)) × Appends old new (line (verdict_text (verdict_of state change))))
-verdict_line (Ok ended) old new verdict change one ends printed =
-    (one.0, ends ∙ ap ended_by one.1, subst (λ (v : Verdict). Appends old new (line (verdict_text v))) one.1 printed)
-verdict_line (Err fault) old new verdict change one ends printed = tt
+    → IfOk r (λ ended. (state : State) × IsNew state named × (ended ≡ ended_by (verdict_of state change)) × Appends old new (line (verdict_text (verdict_of state change))))
+verdict_line (Ok ended) old new verdict named change one ends printed =
+    (one.0, one.1, ends ∙ ap ended_by one.2, subst (λ (v : Verdict). Appends old new (line (verdict_text v))) one.2 printed)
+verdict_line (Err fault) old new verdict named change one ends printed = tt
 
 -- the faults of status 2 are those by which words are not understood
 is_not_understood : (fault : Fault) → status_of fault ≡ 2 → IsNotUnderstood fault
@@ -41,6 +41,7 @@ is_not_understood told.Damaged is = absurd (cc)
 is_not_understood told.Device is = absurd (cc)
 is_not_understood told.Memory is = absurd (cc)
 is_not_understood told.Worn is = absurd (cc)
+is_not_understood told.AlreadyIn is = absurd (cc)
 is_not_understood told.NoNode is = absurd (cc)
 is_not_understood told.Output is = absurd (cc)
 

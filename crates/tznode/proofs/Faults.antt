@@ -48,6 +48,7 @@ edit_edits told.Damaged is = tt
 edit_edits told.Device is = tt
 edit_edits told.Memory is = tt
 edit_edits told.Worn is = tt
+edit_edits told.AlreadyIn is = tt
 edit_edits _ is = absurd is
 
 pub check_opens : (words : LandmarkWords) (fault : Fault) → IsOpenFault fault → EndsCheck words fault

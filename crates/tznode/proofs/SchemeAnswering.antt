@@ -2,7 +2,7 @@
 use Rattle.std.proofs.Common.{sym, subst, ◌≡◌, ℕ, ◌<◌, List, Option, Result, Ok, Err, IfOk, OnOk, IsErrAnd}
 use Rattle.std.specs.declared.alloc.AllocError.{AllocError}
 use Rattle.std.specs.Io.KnownBytes.{Appends}
-use Rattle.recovery_1.specs.State.{State}
+use Rattle.recovery.specs.State.{State}
 use Rattle.given_words.specs.declared.words.LandmarkWords.{LandmarkWords}
 use Rattle.given_words.specs.Words.{AreWords, IsWithin}
 use Rattle.graph_edits.specs.Edges.{Network}

@@ -10,7 +10,7 @@ use Rattle.asked_tasks.specs.Asked.{IsAskedFor, IsInRange}
 use Rattle.asked_tasks.specs.declared.refused.WordsRefused.{WordsRefused}
 use Rattle.asked_tasks.specs.declared.refused.WordsRefused.TheVariants as why
 use Rattle.asked_tasks.specs.declared.task.Task.{Task}
-use Rattle.asked_tasks.specs.declared.task.Task.TheVariants.{Format, Show, Edit, Route, Check}
+use Rattle.asked_tasks.specs.declared.task.Task.TheVariants.{Format, Show, Edit, Resume, Route, Check}
 
 -- what is told of words that are no task
 abbrev pub words_fault : WordsRefused → Fault
@@ -41,7 +41,7 @@ EndsFormat nodes told.DeviceFile = Unit {0}
 EndsFormat nodes told.Output = Unit {0}
 EndsFormat nodes fault = IsFormatFault nodes fault
 
--- those that may end `show`
+-- those that may end `show` and `resume`
 abbrev pub EndsShow : Fault → Type 0
 EndsShow told.DeviceFile = Unit {0}
 EndsShow told.Output = Unit {0}
@@ -78,7 +78,8 @@ IsRouteFault words fault = IsWordsOrMemory words fault
 abbrev pub MayEnd : Task → Fault → Type 0
 MayEnd (Format device nodes) fault = EndsFormat nodes fault
 MayEnd (Show device) fault = EndsShow fault
-MayEnd (Edit device change) fault = EndsEdit fault
+MayEnd (Edit device ticket change) fault = EndsEdit fault
+MayEnd (Resume device session) fault = EndsShow fault
 MayEnd (Route device from to words) fault = EndsRoute words fault
 MayEnd (Check device words) fault = EndsCheck words fault
 

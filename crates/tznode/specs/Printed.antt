@@ -2,18 +2,19 @@
 use Rattle.std.specs.Prelude.{◌≡◌, ℕ, List, Option}
 use Rattle.std.specs.Io.KnownBytes.{Appends}
 use Rattle.clap.specs.Walk.{Text}
-use Rattle.recovery_1.specs.State.{State}
-use Rattle.group_commit.specs.declared.request.Verdict.{Verdict}
-use Rattle.group_commit.specs.declared.request.Verdict.TheVariants.{Accepted, Refused}
+use Rattle.recovery.specs.State.{State}
+use Rattle.requests.specs.Tickets.{last_of}
+use Rattle.generations.specs.declared.posting.Verdict.{Verdict}
+use Rattle.generations.specs.declared.posting.Verdict.TheVariants.{Accepted, Refused}
 use Rattle.scheme_queries.specs.declared.queries.Checked.{Checked}
 use Rattle.scheme_queries.specs.declared.queries.Route.{Route as Found}
 use Rattle.printed_lines.specs.declared.ended.Ended.{Ended}
 use Rattle.printed_lines.specs.declared.ended.Ended.TheVariants.{Done, Refused as EndedRefused}
-use Rattle.printed_lines.specs.Lines.{accepted_text, formatted_text, line, listing_text, refused_text}
+use Rattle.printed_lines.specs.Lines.{accepted_text, formatted_text, line, listing_text, refused_text, ticket_text}
 use Rattle.asked_tasks.specs.Asked.{IsAskedFor}
 use Rattle.asked_tasks.specs.declared.task.Task.{Task}
-use Rattle.asked_tasks.specs.declared.task.Task.TheVariants.{Format, Show, Edit, Route, Check}
-use Rattle.device_commands.specs.Answer.{verdict_of}
+use Rattle.asked_tasks.specs.declared.task.Task.TheVariants.{Format, Show, Edit, Resume, Route, Check}
+use Rattle.device_commands.specs.Answer.{IsNew, verdict_of}
 use Rattle.tznode.specs.SchemeAnswers.{IsRouteOf, IsCheckOf, answered_text, checks_text, ended_along, ended_at}
 
 -- how a command ends that answers this verdict
@@ -30,7 +31,9 @@ verdict_text (Refused op code) = refused_text op code
 abbrev pub PrintedFor : Task → Ended → Option (List ℕ) → Option (List ℕ) → Type 0
 PrintedFor (Format device nodes) ended old new = (ended ≡ Done) × Appends old new (line (formatted_text nodes))
 PrintedFor (Show device) ended old new = (ended ≡ Done) × (state : State) × Appends old new (listing_text state.count state.graph)
-PrintedFor (Edit device change) ended old new = (state : State) × (ended ≡ ended_by (verdict_of state change)) × Appends old new (line (verdict_text (verdict_of state change)))
+PrintedFor (Edit device ticket change) ended old new =
+    (state : State) × IsNew state ticket × (ended ≡ ended_by (verdict_of state change)) × Appends old new (line (verdict_text (verdict_of state change)))
+PrintedFor (Resume device session) ended old new = (ended ≡ Done) × (state : State) × Appends old new (line (ticket_text session (last_of state.tickets session)))
 PrintedFor (Route device from to words) ended old new =
     (state : State) × (route : Found) × IsRouteOf state.graph state.count words from to route × (ended ≡ ended_along route) × Appends old new (line (answered_text state.count route))
 PrintedFor (Check device words) ended old new =

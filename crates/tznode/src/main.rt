@@ -4,7 +4,8 @@
 //! |---|---|---|
 //! | `format DEVICE N` | the file is made anew, and formatted for N nodes | `formatted nodes=N` |
 //! | `show DEVICE` | the device is opened | `count=C edges=E`, then `a b w` for each edge |
-//! | `edit DEVICE OP..` | one change of all OPs, whole or not at all | `accepted count=C` or `refused op=I code=K` |
+//! | `edit DEVICE OP.. --ticket T` | one change of all OPs, whole or not at all, under ticket T of session 0 or the next one | `accepted count=C` or `refused op=I code=K` |
+//! | `resume DEVICE S` | the device is opened | `session=S ticket=T`, the last ticket of session S |
 //! | `route DEVICE FROM TO --words W` | a packet is carried by the scheme that these words give | `generation=G route 0 1 2 length L` or `generation=G unreachable` |
 //! | `check DEVICE --words W` | the scheme that these words give is built and checked | `ok generation=G landmarks=K` or `fault K4` |
 //!
@@ -13,7 +14,7 @@
 //! the arguments and the standard streams. What ends a command is a `Fault`, told on standard error as `tznode: TEXT`.
 //!
 //! Here stand the files, the threads that build schemes, and the run. The words are read in `asked_tasks`, the lines and faults are
-//! spelt in `printed_lines`, and what `format`, `show` and `edit` do on a device is in `device_commands`. Proved here: of a device
+//! spelt in `printed_lines`, and what `format`, `show`, `edit` and `resume` do on a device is in `device_commands`. Proved here: of a device
 //! that keeps the disk model what `route` and `check` answer ([`scheme_tasks`]); of any run that what it printed is the answer to what
 //! its words ask for, or which fault ended it, and with which status ([`run::run`]). What a file of the system holds is tested.
 #![tactic(auto)]

@@ -1,12 +1,13 @@
 //! The program, on any words, reader and writers.
-ghost use Rattle.std.specs.Prelude.{◌≡◌, ◌≤◌, ◌⊎◌, ℕ, IfOk, IfErr, OnOk};
+ghost use Rattle.std.specs.Prelude.{◌≡◌, ◌≤◌, ◌<◌, ◌⊎◌, ℕ, IfOk, IfErr, OnOk};
 ghost use Rattle.clap.specs.Walk.{texts};
 ghost use Rattle.std.specs.Io.KnownBytes.{Appends};
-ghost use Rattle.recovery_1.specs.State.{State};
+ghost use Rattle.recovery.specs.State.{State};
+ghost use Rattle.requests.specs.Tickets.{last_of, sessions};
 ghost use Rattle.printed_lines.specs.Faults.{IsNotUnderstood, status_of};
-ghost use Rattle.printed_lines.specs.Lines.{formatted_text, listing_text, line};
+ghost use Rattle.printed_lines.specs.Lines.{formatted_text, listing_text, line, ticket_text};
 ghost use Rattle.printed_lines.specs.declared.fault.Fault.{Fault};
-ghost use Rattle.device_commands.specs.Answer.{verdict_of};
+ghost use Rattle.device_commands.specs.Answer.{IsNew, verdict_of};
 ghost use Rattle.asked_tasks.specs.Asked.{IsAskedFor, IsInRange};
 ghost use Rattle.asked_tasks.specs.declared.task.Task.{Task};
 ghost use Rattle.tznode.specs.Endings.{EndsEdit, EndsFormat, EndsShow, IsFaultFor, MayEnd, words_fault};
@@ -17,10 +18,10 @@ use crate::files::{format_file, open_file};
 use crate::outcome::Outcome;
 use crate::scheme_tasks::{run_check, run_route};
 use asked_tasks::{Task, WordsRefused, understood};
+use generations::Verdict;
 use graph_edits::Change;
-use group_commit::Verdict;
 use printed_lines::{
-    AcceptedLine, Ended, Fault, Formatted, RefusedLine, print_line, print_text, tell,
+    AcceptedLine, Ended, Fault, Formatted, RefusedLine, TicketLine, print_line, print_text, tell,
 };
 use std::fs::File;
 use std::io::{Read, Write};
@@ -78,7 +79,14 @@ where
     match understood(rt.alloc(), words) {
         Ok(Task::Format { device, nodes }) => run_format(rt, device, nodes, out),
         Ok(Task::Show { device }) => run_show(rt, device, out),
-        Ok(Task::Edit { device, change }) => run_edit(rt, device, change, out),
+        Ok(
+            Task::Edit {
+                device,
+                ticket,
+                change,
+            },
+        ) => run_edit(rt, device, ticket, change, out),
+        Ok(Task::Resume { device, session }) => run_resume(rt, device, session, out),
         Ok(
             Task::Route {
                 device,
@@ -129,15 +137,34 @@ where
     Ok(Ended::Done)
 }
 
-fn run_edit<R, O>(rt: &R, device: &str, change: Change, out: &mut O) -> Result<Ended, Fault>
+fn run_edit<R, O>(
+    rt: &R,
+    device: &str,
+    ticket: Option<u64>,
+    change: Change,
+    out: &mut O,
+) -> Result<Ended, Fault>
 where
     R: Files<File = File> + AllocGlobal,
     O: Write,
-    ensures printed { IfOk result (λ ended. (state : State) × (ended ≡ ended_by (verdict_of state change)) × Appends (O.contents out.old) (O.contents out.new) (line (verdict_text (verdict_of state change)))) }
+    ensures printed { IfOk result (λ ended. (state : State) × IsNew state ticket × (ended ≡ ended_by (verdict_of state change)) × Appends (O.contents out.old) (O.contents out.new) (line (verdict_text (verdict_of state change)))) }
     ensures fault { IfErr result EndsEdit }
 {
-    let (answer, _) = device_commands::edit(rt.alloc(), open_file(rt, device)?, change);
+    let (answer, _) = device_commands::edit(rt.alloc(), open_file(rt, device)?, ticket, change);
     print_verdict(out, answer?)
+}
+
+fn run_resume<R, O>(rt: &R, device: &str, session: u8, out: &mut O) -> Result<Ended, Fault>
+where
+    R: Files<File = File> + AllocGlobal,
+    O: Write,
+    requires { session < sessions }
+    ensures printed { IfOk result (λ ended. (ended ≡ Ended.Done) × (state : State) × Appends (O.contents out.old) (O.contents out.new) (line (ticket_text session (last_of state.tickets session)))) }
+    ensures fault { IfErr result EndsShow }
+{
+    let ticket = device_commands::resume(rt.alloc(), open_file(rt, device)?, session)?;
+    print_line(out, TicketLine { session, ticket })?;
+    Ok(Ended::Done)
 }
 
 fn print_verdict<O: Write>(out: &mut O, verdict: Verdict) -> Result<Ended, Fault>

@@ -2,8 +2,8 @@
 ghost use Rattle.std.specs.Prelude.{◌≡◌, ◌<◌, List, ℕ, IsTrue, IfOk, IfErr, IsErrOf, OnOk};
 ghost use Rattle.std.specs.Io.KnownBytes.{Appends};
 ghost use Rattle.disk_trait.specs.Disk.{DiskView};
-ghost use Rattle.recovery_1.specs.State.{State};
-ghost use Rattle.recovery_1.specs.Standing.{StandsFor};
+ghost use Rattle.recovery.specs.State.{State};
+ghost use Rattle.recovery.specs.Standing.{StandsFor};
 ghost use Rattle.given_words.specs.Words.{AreWords, IsWithin};
 ghost use Rattle.printed_lines.specs.Lines.{line};
 ghost use Rattle.printed_lines.specs.Faults.{IsNotUnderstood};

@@ -1,7 +1,7 @@
 // Built schemes of the worked graphs.
 use crate::helpers::{PAIRS, PATH, STACK_LEN, TRIANGLE, carried, scheme_with};
 use built_schemes::{first_words, length_over, scheme_of};
-use graph_edits::{Change, Graph, MOST_NODES, Op};
+use graph_edits::{Change, Graph, Op};
 use node_table::{CarryRefused, Move, Refused, Scheme};
 use std::alloc::{AllocError, Global};
 use std::process::Abort;
@@ -162,13 +162,16 @@ fn first_words_and_lengths(rt: HostRuntime) -> Result<(), Fail> {
     Ok(())
 }
 
-/// The longest path, made by changes of 16 ops but for the last.
-fn longest_path(alloc: Global) -> Result<Graph, AllocError> {
-    let mut graph = Graph::empty(alloc, MOST_NODES)?;
+/// How many nodes the long path has. A path of as many as a graph may have takes longer than a test may.
+const LONG: u16 = 4_096;
+
+/// The long path, made by changes of 16 ops but for the last.
+fn long_path(alloc: Global) -> Result<Graph, AllocError> {
+    let mut graph = Graph::empty(alloc, LONG)?;
     let mut ops = Vec::new(alloc);
-    for v in 1..MOST_NODES {
+    for v in 1..LONG {
         ops.push(Op::Add(v - 1, v, 1_000_000))?;
-        if v % 16 == 0 || v == MOST_NODES - 1 {
+        if v % 16 == 0 || v == LONG - 1 {
             if let Ok(change) = Change::new(&ops) {
                 let _added = graph.apply(&change);
             }
@@ -178,13 +181,13 @@ fn longest_path(alloc: Global) -> Result<Graph, AllocError> {
     Ok(graph)
 }
 
-/// The root and the hops left of a packet from end to end of the longest path at launch, by how many hops it went, how many
+/// The root and the hops left of a packet from end to end of the long path at launch, by how many hops it went, how many
 /// of them by port 1, and its hops left where it is delivered.
 fn end_to_end(scheme: &Scheme) -> Result<(u16, u16, u16, u16, u16), Refused> {
-    let mut packet = scheme.decide(0, &scheme.address(MOST_NODES - 1)?)?;
+    let mut packet = scheme.decide(0, &scheme.address(LONG - 1)?)?;
     let (root, launched) = (packet.root, packet.hops_left);
     let (mut at, mut hops, mut ones) = (0, 0u16, 0u16);
-    for _ in 0..MOST_NODES {
+    for _ in 0..LONG {
         match scheme.node_step(at, &packet)? {
             Move::Delivered => return Ok((root, launched, hops, ones, packet.hops_left)),
             Move::Forward {
@@ -202,16 +205,16 @@ fn end_to_end(scheme: &Scheme) -> Result<(u16, u16, u16, u16, u16), Refused> {
     Err(Refused::Spent)
 }
 
-/// Whether the route from end to end of the longest path is as worked out.
+/// Whether the route from end to end of the long path is as worked out.
 fn goes_end_to_end(rt: &impl Abort, alloc: Global) -> Result<bool, AllocError> {
-    let graph = longest_path(alloc)?;
-    assert_eq!(rt; graph.edges(), MOST_NODES as usize - 1);
+    let graph = long_path(alloc)?;
+    assert_eq!(rt; graph.edges(), LONG as usize - 1);
     let mut words = Vec::new(alloc);
-    for v in 0..MOST_NODES {
+    for v in 0..LONG {
         words.push(if v % 64 == 63 { 0u64 } else { u64::MAX })?;
     }
     let scheme = scheme_of(alloc, &graph, &words, 7, alloc)?;
-    let last = MOST_NODES - 1;
+    let last = LONG - 1;
     assert_eq!(rt; end_to_end(&scheme), Ok((last, 4095, 4095, 4094, 0)));
     let Ok(trail) = carried(rt, alloc, &scheme, 0, last) else {
         return Ok(false);
@@ -222,7 +225,7 @@ fn goes_end_to_end(rt: &impl Abort, alloc: Global) -> Result<bool, AllocError> {
 }
 
 #[test]
-fn longest_path_from_end_to_end(rt: HostRuntime) -> Result<(), Fail> {
+fn long_path_from_end_to_end(rt: HostRuntime) -> Result<(), Fail> {
     let alloc = rt.alloc();
     let handle = rt.clone()?;
     let worker = thread::Builder::new()

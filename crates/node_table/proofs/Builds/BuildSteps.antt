@@ -1,6 +1,11 @@
 -- Steps of a build: lists at places, entries and home labels of one more row, and the limits of trees.
-use Rattle.std.proofs.Common.{◌≡◌, ℕ, zero, suc, ◌+◌, ◌<◌, ◌==◌, Bool, true, false, cond, nat_lt, sym, refl, ap, subst, ◌∙◌, arith, List, [], ◌∷◌, ◌++◌, length, take, get_or, append_assoc, add-one}
-use Rattle.std.specs.Prelude.{Option, Some, None, slice_get, slice_index_or}
+use Rattle.std.proofs.Common.{◌≡◌, ℕ, zero, suc, ◌+◌, ◌<◌, ◌≤◌, ◌==◌, Bool, true, false, cond, nat_lt, sym, refl, ap, subst, ◌∙◌, arith, List, [], ◌∷◌, ◌++◌, length, map, take, get_or, append_assoc, add-one, IsPermutation}
+use Rattle.std.specs.Prelude.{Option, Some, None, nat_eq, slice_get, slice_index, slice_index_or}
+use Rattle.std.specs.List.{IsDistinct}
+use Rattle.std.specs.List.Sorted.{IsNonDecreasingBy}
+use Rattle.std.proofs.lemmas.List.{get_or-map}
+use Rattle.std.proofs.lemmas.List.Sorted.{IsPermutation-map}
+use Rattle.std.proofs.lemmas.Map.Keys.{IsDistinct-IsPermutation, IsDistinct-head, IsDistinct-tail}
 use Rattle.std.proofs.Math.ListN.{set}
 use Rattle.std.proofs.lemmas.Bool.Decides.{nat_tests}
 use Rattle.std.proofs.lemmas.Bool.{eqb-true, eq-eqb}
@@ -13,8 +18,11 @@ use Rattle.distances.specs.declared.nearest.Near.{Near}
 use Rattle.heavy_labels.specs.Label.{Label}
 use Rattle.node_table.specs.declared.parts.Entry.{Entry}
 use Rattle.node_table.specs.declared.columns.Row.{Row}
-use Rattle.node_table.specs.Tables.{or_none}
-use Rattle.node_table.specs.Building.{items_at, entries_for, home_by, home_after}
+use Rattle.node_table.specs.declared.parts.Listed.{Listed}
+use Rattle.node_table.specs.Tables.{nodes_of, or_none}
+use Rattle.node_table.specs.RowLists.{nodes_in}
+use Rattle.node_table.specs.Building.{items_at, entries_for, home_by, home_after, listed_row, IsDirectoryOf}
+use Rattle.node_table.proofs.Builds.RowColumns.{flips}
 use Rattle.node_table.proofs.Builds.Built.{zero_walk}
 
 -- ---- lists at places
@@ -98,6 +106,49 @@ pub near_is : (nearest : List (Option Near)) (i : ℕ) → slice_index_or neares
 near_is [] i = refl
 near_is (o ∷ nearest) zero = refl
 near_is (o ∷ nearest) (suc i) = near_is nearest i
+
+-- ---- the directory of a root
+
+nodes_listed : (ws : List Row) → nodes_of (map listed_row ws) ≡ nodes_in ws
+nodes_listed [] = refl
+nodes_listed (w ∷ ws) = ap (λ z. w.node ∷ z) (nodes_listed ws)
+
+neighbours_apart : (xs : List ℕ) → IsDistinct nat_eq xs → (k : ℕ) → k + 1 < length xs → slice_index xs k ≡ slice_index xs (k + 1) → ⊥
+neighbours_apart [] d k l e = omega (arith, l)
+neighbours_apart (x ∷ []) d k l e = omega (arith, l)
+neighbours_apart (x ∷ y ∷ xs) d zero l e = not_both (eq-eqb x y e) (IsDistinct-head nat_eq x (y ∷ xs) d).0
+neighbours_apart (x ∷ y ∷ xs) d (suc k) l e =
+    let q : suc k + 1 ≡ suc (k + 1) = omega arith in
+    neighbours_apart (y ∷ xs) (IsDistinct-tail nat_eq x (y ∷ xs) d) k (omega (arith, l)) (e ∙ ap (slice_index (x ∷ y ∷ xs)) q)
+
+nodes_rise : (es : List Listed) → IsNonDecreasingBy (λ (e : Listed). e.node) es → (k : ℕ) → k + 1 < length (nodes_of es) → slice_index (nodes_of es) k ≤ slice_index (nodes_of es) (k + 1)
+nodes_rise [] h k l = absurd (omega (arith, l))
+nodes_rise (f ∷ es) h k l =
+    let n = as_many (f ∷ es) in
+    let a = get_or-map (λ (e : Listed). e.node) (f ∷ es) k f 0 (omega (arith, l, n)) in
+    let b = get_or-map (λ (e : Listed). e.node) (f ∷ es) (k + 1) f 0 (omega (arith, l, n)) in
+    let up = h k (k + 1) f (omega arith) (omega (arith, l, n)) in
+    omega (arith, a, b, up)
+  where
+    as_many : (xs : List Listed) → length (nodes_of xs) ≡ length xs
+    as_many [] = refl
+    as_many (x ∷ xs) = omega (arith, as_many xs)
+
+-- rows that are listed and sorted are the directory
+pub directory_of : (ws : List Row) (before after : List Listed) → before ≡ map listed_row ws → IsPermutation before after → IsNonDecreasingBy (λ (e : Listed). e.node) after → IsDistinct nat_eq (nodes_in ws) → IsDirectoryOf ws after
+directory_of ws before after e p up apart = record {
+  same = same;
+  ascend = λ k l. (let a = nodes_rise after up k l in let b = neighbours_apart (nodes_of after) distinct k l in grind (arith, a, b));
+}
+  where
+    same : IsPermutation (map listed_row ws) after
+    same = subst (λ z. IsPermutation z after) e p
+
+    distinct : IsDistinct nat_eq (nodes_of after)
+    distinct =
+        IsDistinct-IsPermutation nat_eq flips (nodes_of (map listed_row ws)) (nodes_of after)
+        (IsPermutation-map (λ (z : Listed). z.node) (map listed_row ws) after same)
+        (subst (IsDistinct nat_eq) (sym (nodes_listed ws)) apart)
 
 -- ---- the limits of a tree
 

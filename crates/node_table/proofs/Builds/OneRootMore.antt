@@ -1,11 +1,13 @@
 -- One root more: tables that hold the trees of the first k roots hold k + 1 with the rows of the next.
-use Rattle.std.proofs.Common.{◌≡◌, ℕ, suc, ◌+◌, ◌≤◌, ◌<◌, ◌==◌, ◌⊎◌, inl, inr, Bool, true, false, cond, nat_lt, sym, refl, ap, subst, ◌∙◌, arith, List, [], ◌∷◌, ◌++◌, length, map, get_or}
-use Rattle.std.specs.Prelude.{Option, Some, None, IsSome, slice_get, slice_index, slice_index_or}
+use Rattle.std.proofs.Common.{◌≡◌, ℕ, suc, ◌+◌, ◌≤◌, ◌<◌, ◌==◌, ◌⊎◌, inl, inr, Bool, true, false, cond, nat_lt, sym, refl, ap, subst, ◌∙◌, arith, List, [], ◌∷◌, ◌++◌, length, map, get_or, IsPermutation}
+use Rattle.std.specs.Prelude.{Option, Some, None, IsSome, nat_eq, slice_get, slice_index_or}
 use Rattle.std.specs.Option.{option_map}
-use Rattle.std.specs.List.{All}
+use Rattle.std.specs.List.{All, AllByRecursion, IsDistinct}
 use Rattle.std.specs.List.Sorted.{IsStrictlyIncreasing}
 use Rattle.std.proofs.lemmas.Bool.Decides.{nat_tests}
 use Rattle.std.proofs.lemmas.Bool.{eqb-true, eq-eqb}
+use Rattle.std.proofs.lemmas.List.Sorted.{Contains-permutation, IsPermutation-sym}
+use Rattle.std.proofs.lemmas.Map.Keys.{IsDistinct-head, IsDistinct-tail}
 use Rattle.graph_edits.specs.Edges.{Network}
 use Rattle.distances.specs.Nearest.{IsNearestOf}
 use Rattle.distances.specs.declared.nearest.Near.{Near}
@@ -17,29 +19,16 @@ use Rattle.node_table.specs.declared.columns.Row.{Row}
 use Rattle.node_table.specs.Tables.{tables, entries_at, directory_at, first_entry, first_listed, roots_of, nodes_of, or_none, or_false}
 use Rattle.node_table.specs.Checks.{IsListed}
 use Rattle.node_table.specs.Columns.{IsColumn, HasColumn, IsBuilt, AreBelow, limit_in}
-use Rattle.node_table.specs.RowLists.{row_at, entry_in, label_in}
-use Rattle.node_table.specs.Building.{items_at, entries_for, listed_row, home_by, home_after, limit_by, AreRowsOf, IsWith, IsBuildOf}
-use Rattle.node_table.proofs.Basics.Searches.{rises}
-use Rattle.node_table.proofs.LocalForms.LocalRecords.{Every}
-use Rattle.node_table.proofs.LocalForms.ChildRows.{Ascends}
-use Rattle.node_table.proofs.Builds.RowSteps.{row_nodes, increasing_push, below_more, below_push}
-use Rattle.node_table.proofs.Builds.TreeMembers.{IsIn}
+use Rattle.node_table.specs.RowLists.{nodes_in, row_at, entry_in, label_in}
+use Rattle.node_table.specs.Building.{items_at, entries_for, listed_row, home_by, home_after, limit_by, IsDirectoryOf, IsDirectoryAfter, AreRowsOf, IsWith, IsBuildOf}
+use Rattle.node_table.proofs.Builds.RowSteps.{increasing_push, below_more, below_push}
+use Rattle.node_table.proofs.Builds.RowColumns.{row_found}
+use Rattle.node_table.proofs.Builds.TreeMembers.{IsIn, is_in_of, contains_of}
 use Rattle.node_table.proofs.Builds.BuildSteps.{near_is}
 use Rattle.node_table.proofs.Builds.Built.{flag_is}
 use Rattle.node_table.specs.Ports.{neighbours}
 
--- ---- ascending nodes
-
-every_from : (P : ℕ → Type 0) (xs : List ℕ) → ((i : ℕ) → i < length xs → P (slice_index xs i)) → Every P xs
-every_from P [] f = tt
-every_from P (x ∷ xs) f = (f 0 (omega arith), every_from P xs (λ i l. f (suc i) (omega (arith, l))))
-
-pub ascends_of : (xs : List ℕ) → IsStrictlyIncreasing xs → Ascends xs
-ascends_of [] h = tt
-ascends_of (x ∷ xs) h = (every_from (λ y. x < y) xs (λ i l. rises (x ∷ xs) h 0 (suc i) (omega arith) (omega (arith, l))), ascends_of xs rest)
-  where
-    rest : IsStrictlyIncreasing xs
-    rest j i = (let q : suc j + 1 ≡ suc (j + 1) = omega arith in let g = h (suc j) (omega (arith, i)) in rw q at g)
+-- ---- numbers that differ
 
 not_both : {b : Bool} → b ≡ true → b ≡ false → ⊥
 not_both p q = cc
@@ -64,9 +53,23 @@ abbrev pub HasNone : ℕ → List Row → Type 0
 HasNone v [] = Unit {0}
 HasNone v (w ∷ ws) = ((w.node == v) ≡ false) × HasNone v ws
 
-none_above : (v : ℕ) (ws : List Row) → Every (λ y. v < y) (row_nodes ws) → HasNone v ws
-none_above v [] e = tt
-none_above v (w ∷ ws) e = (unequal v w.node e.0, none_above v ws e.1)
+-- no two rows have one node
+abbrev pub AreApart : List Row → Type 0
+AreApart [] = Unit {0}
+AreApart (w ∷ ws) = HasNone w.node ws × AreApart ws
+
+pub apart_of : (ws : List Row) → IsDistinct nat_eq (nodes_in ws) → AreApart ws
+apart_of [] d = tt
+apart_of (w ∷ ws) d = (none ws (IsDistinct-head nat_eq w.node (nodes_in ws) d), apart_of ws (IsDistinct-tail nat_eq w.node (nodes_in ws) d))
+  where
+    none : (vs : List Row) → AllByRecursion (λ y. nat_eq w.node y ≡ false) (nodes_in vs) → HasNone w.node vs
+    none [] a = tt
+    none (v ∷ vs) a = (differ v.node w.node (λ s. not_both (eq-eqb w.node v.node (sym s)) a.0), none vs a.1)
+
+not_there : (v : ℕ) (ws : List Row) → HasNone v ws → (w : Row) → IsIn w ws → (w.node == v) ≡ false
+not_there v [] h w i = absurd i
+not_there v (u ∷ ws) h w (inl s) = subst (λ (z : Row). (z.node == v) ≡ false) (sym s) h.0
+not_there v (u ∷ ws) h w (inr i) = not_there v ws h.1 w i
 
 no_entries : (v : ℕ) (ws : List Row) → HasNone v ws → entries_for v ws ≡ []
 no_entries v [] h = refl
@@ -82,7 +85,7 @@ pub record IsOneEntry (x : ℕ) (ws : List Row) (more : List Entry) : Type 0 whe
   pub entries : more ≡ entry ∷ []
   pub is : entry_in ws x ≡ Some entry
 
-entry_cases : (x : ℕ) (ws : List Row) → Ascends (row_nodes ws) → ((entries_for x ws ≡ []) × (entry_in ws x ≡ None)) ⊎ IsOneEntry x ws (entries_for x ws)
+entry_cases : (x : ℕ) (ws : List Row) → AreApart ws → ((entries_for x ws ≡ []) × (entry_in ws x ≡ None)) ⊎ IsOneEntry x ws (entries_for x ws)
 entry_cases x [] a = inl (refl, refl)
 entry_cases x (w ∷ ws) a = go (w.node == x) refl (entry_cases x ws a.1)
   where
@@ -90,7 +93,7 @@ entry_cases x (w ∷ ws) a = go (w.node == x) refl (entry_cases x ws a.1)
         → ((cond b (w.entry ∷ entries_for x ws) (entries_for x ws) ≡ []) × (option_map (λ z. z.entry) (cond b (Some w) (row_at ws x)) ≡ None)) ⊎ IsOneEntry x (w ∷ ws) (cond b (w.entry ∷ entries_for x ws) (entries_for x ws))
     go true t ih =
         let s = eqb-true w.node x t in
-        let none : entries_for x ws ≡ [] = subst (λ z. entries_for z ws ≡ []) s (no_entries w.node ws (none_above w.node ws a.0)) in
+        let none : entries_for x ws ≡ [] = subst (λ z. entries_for z ws ≡ []) s (no_entries w.node ws a.0) in
         inr (record { entry = w.entry; entries = ap (λ z. w.entry ∷ z) none; is = ap (λ b. option_map (λ z. z.entry) (cond b (Some w) (row_at ws x))) t })
     go false t (inl k) = inl k
     go false t (inr k) = inr (record { entry = k.entry; entries = k.entries; is = ap (λ b. option_map (λ z. z.entry) (cond b (Some w) (row_at ws x))) t ∙ k.is })
@@ -104,18 +107,13 @@ roots_for r x (w ∷ ws) h e i = go (w.node == x) i (λ j. roots_for r x ws (λ 
     go true (inr j) ih = ih j
     go false j ih = ih j
 
-row_own : (ws : List Row) → Ascends (row_nodes ws) → (w : Row) → IsIn w ws → row_at ws w.node ≡ Some w
+row_own : (ws : List Row) → AreApart ws → (w : Row) → IsIn w ws → row_at ws w.node ≡ Some w
 row_own [] a w i = absurd i
 row_own (u ∷ ws) a w i = go (u.node == w.node) refl i (λ j. row_own ws a.1 w j)
   where
-    above : (vs : List Row) → Every (λ y. u.node < y) (row_nodes vs) → IsIn w vs → u.node < w.node
-    above [] e j = absurd j
-    above (v ∷ vs) e (inl s) = subst (λ (z : Row). u.node < z.node) (sym s) e.0
-    above (v ∷ vs) e (inr j) = above vs e.1 j
-
     go : (b : Bool) → (u.node == w.node) ≡ b → IsIn w (u ∷ ws) → (IsIn w ws → row_at ws w.node ≡ Some w) → cond b (Some u) (row_at ws w.node) ≡ Some w
     go true t (inl s) ih = ap (λ z. Some z) (sym s)
-    go true t (inr j) ih = absurd (let l = above ws a.0 j in let e = eqb-true u.node w.node t in omega (arith, l, e))
+    go true t (inr j) ih = absurd (not_both (eq-eqb w.node u.node (sym (eqb-true u.node w.node t))) (not_there u.node ws a.0 w j))
     go false t (inl s) ih = absurd (not_both (eq-eqb u.node w.node (ap (λ (z : Row). z.node) (sym s))) t)
     go false t (inr j) ih = ih j
 
@@ -143,19 +141,37 @@ roots_append (e ∷ es) more = ap (λ z. e.root ∷ z) (roots_append es more)
 
 -- ---- directories and home labels
 
-nodes_listed : (ws : List Row) → nodes_of (map listed_row ws) ≡ row_nodes ws
-nodes_listed [] = refl
-nodes_listed (w ∷ ws) = ap (λ z. w.node ∷ z) (nodes_listed ws)
+is_listed : (e : Listed) (es : List Listed) → IsListed e es → IsIn e es
+is_listed e [] i = absurd i
+is_listed e (f ∷ es) (inl s) = inl s
+is_listed e (f ∷ es) (inr i) = inr (is_listed e es i)
 
-first_is_label : (v : ℕ) (ws : List Row) → first_listed v (map listed_row ws) ≡ label_in ws v
-first_is_label v [] = refl
-first_is_label v (w ∷ ws) = go (w.node == v) (first_is_label v ws)
+row_listed : (ws : List Row) (w : Row) → IsIn w ws → IsIn (listed_row w) (map listed_row ws)
+row_listed [] w i = absurd i
+row_listed (u ∷ ws) w (inl s) = inl (ap listed_row s)
+row_listed (u ∷ ws) w (inr i) = inr (row_listed ws w i)
+
+-- what is in a list is in each that has the same in another order
+in_permutation : (xs ys : List Listed) (e : Listed) → IsPermutation xs ys → IsIn e xs → IsIn e ys
+in_permutation xs ys e p i = is_in_of ys e (Contains-permutation xs ys e p (contains_of xs e i))
+
+listed_found : (v : ℕ) (es : List Listed) (e : Listed) → IsIn e es → e.node ≡ v → IsSome (first_listed v es)
+listed_found v [] e i s = absurd i
+listed_found v (f ∷ es) e i s = go (f.node == v) refl i (λ j. listed_found v es e j s)
   where
-    go : (b : Bool) → first_listed v (map listed_row ws) ≡ label_in ws v → cond b (Some w.label) (first_listed v (map listed_row ws)) ≡ option_map (λ z. z.label) (cond b (Some w) (row_at ws v))
-    go true ih = refl
-    go false ih = ih
+    go : (b : Bool) → (f.node == v) ≡ b → IsIn e (f ∷ es) → (IsIn e es → IsSome (first_listed v es)) → IsSome (cond b (Some f.label) (first_listed v es))
+    go true t j ih = refl
+    go false t (inl q) ih = absurd (not_both (eq-eqb f.node v (ap (λ (z : Listed). z.node) (sym q) ∙ s)) t)
+    go false t (inr j) ih = ih j
 
-listed_is_row : (ws : List Row) (e : Listed) → IsListed e (map listed_row ws) → (w : Row) × (IsIn w ws × (e ≡ listed_row w))
+-- a directory lists each node that has a label
+directory_has : (ws : List Row) (all : List Listed) → IsDirectoryOf ws all → (v : ℕ) (o : Option Row) → row_at ws v ≡ o → IsSome (option_map (λ (z : Row). z.label) o) → IsSome (first_listed v all)
+directory_has ws all d v None e s = absurd (let b : false ≡ true = s in cc)
+directory_has ws all d v (Some w) e s =
+    let f = row_found ws v w e in
+    listed_found v all (listed_row w) (in_permutation (map listed_row ws) all (listed_row w) d.same (row_listed ws w f.0)) f.1
+
+listed_is_row : (ws : List Row) (e : Listed) → IsIn e (map listed_row ws) → (w : Row) × (IsIn w ws × (e ≡ listed_row w))
 listed_is_row [] e i = absurd i
 listed_is_row (w ∷ ws) e (inl s) = (w, (inl refl, s))
 listed_is_row (w ∷ ws) e (inr i) = (let k = listed_is_row ws e i in (k.0, (inr k.1.0, k.1.1)))
@@ -176,7 +192,7 @@ home_other q r (w ∷ ws) v o e = ap (home_after (Some q) r ws v) (same (w.node 
     same true = rw e refl
     same false = refl
 
-home_here : (q : Near) (r : ℕ) (ws : List Row) (v : ℕ) → (q.landmark == r) ≡ true → Ascends (row_nodes ws) → home_after (Some q) r ws v None ≡ label_in ws v
+home_here : (q : Near) (r : ℕ) (ws : List Row) (v : ℕ) → (q.landmark == r) ≡ true → AreApart ws → home_after (Some q) r ws v None ≡ label_in ws v
 home_here q r [] v e a = refl
 home_here q r (w ∷ ws) v e a = go (w.node == v) refl (home_here q r ws v e a.1)
   where
@@ -184,7 +200,7 @@ home_here q r (w ∷ ws) v e a = go (w.node == v) refl (home_here q r ws v e a.1
         → home_after (Some q) r ws v (cond b (cond (q.landmark == r) (Some w.label) None) None) ≡ option_map (λ z. z.label) (cond b (Some w) (row_at ws v))
     go true t ih =
         ap (λ c. home_after (Some q) r ws v (cond c (Some w.label) None)) e
-        ∙ home_stays (Some q) r ws v (Some w.label) (subst (λ z. HasNone z ws) (eqb-true w.node v t) (none_above w.node ws a.0))
+        ∙ home_stays (Some q) r ws v (Some w.label) (subst (λ z. HasNone z ws) (eqb-true w.node v t) a.0)
     go false t ih = ih
 
 -- ---- limits
@@ -201,8 +217,8 @@ less_cases r k l = go (nat_lt r k) refl
     go false e = inl (grind (arith, nat_tests))
 
 module _ (m : Network) (p q : Parts) (k : ℕ) (ws : List Row) (h : IsBuilt m p k) (rows : AreRowsOf m p k ws) (w : IsWith p k ws q) where
-  ascending : Ascends (row_nodes ws)
-  ascending = ascends_of (row_nodes ws) rows.ascend
+  apart_rows : AreApart ws
+  apart_rows = apart_of ws rows.apart
 
   landmark_same : (r : ℕ) → (tables q).landmark r ≡ (tables p).landmark r
   landmark_same r = ap (λ z. or_false (slice_get z r)) w.landmarks
@@ -224,7 +240,7 @@ module _ (m : Network) (p q : Parts) (k : ℕ) (ws : List Row) (h : IsBuilt m p 
   -- and the new one by its row
   first_new : (x : ℕ) → first_entry k (entries_at q x) ≡ entry_in ws x
   first_new x =
-      ap (first_entry k) (w.entries x) ∙ first_right k (entries_at p x) (entries_for x ws) (none_below k (entries_at p x) (h.below x)) ∙ found (entry_cases x ws ascending)
+      ap (first_entry k) (w.entries x) ∙ first_right k (entries_at p x) (entries_for x ws) (none_below k (entries_at p x) (h.below x)) ∙ found (entry_cases x ws apart_rows)
     where
       found : ((entries_for x ws ≡ []) × (entry_in ws x ≡ None)) ⊎ IsOneEntry x ws (entries_for x ws) → first_entry k (entries_for x ws) ≡ entry_in ws x
       found (inl n) = ap (first_entry k) n.0 ∙ sym n.1
@@ -233,7 +249,7 @@ module _ (m : Network) (p q : Parts) (k : ℕ) (ws : List Row) (h : IsBuilt m p 
           ap (first_entry k) o.entries ∙ ap (λ b. cond b (Some o.entry) None) (eq-eqb o.entry.root k here) ∙ sym o.is
 
   still_ascends : (x : ℕ) → IsStrictlyIncreasing (roots_of (entries_at q x))
-  still_ascends x = subst (λ z. IsStrictlyIncreasing (roots_of z)) (sym (w.entries x)) (go (entry_cases x ws ascending))
+  still_ascends x = subst (λ z. IsStrictlyIncreasing (roots_of z)) (sym (w.entries x)) (go (entry_cases x ws apart_rows))
     where
       go : ((entries_for x ws ≡ []) × (entry_in ws x ≡ None)) ⊎ IsOneEntry x ws (entries_for x ws) → IsStrictlyIncreasing (roots_of (entries_at p x ++ entries_for x ws))
       go (inl n) = subst IsStrictlyIncreasing (sym (roots_append (entries_at p x) (entries_for x ws) ∙ ap (λ z. roots_of (entries_at p x) ++ roots_of z) n.0 ∙ nil (roots_of (entries_at p x)))) (h.ascend x)
@@ -247,7 +263,7 @@ module _ (m : Network) (p q : Parts) (k : ℕ) (ws : List Row) (h : IsBuilt m p 
           (increasing_push (roots_of (entries_at p x)) k (h.ascend x) (h.below x))
 
   still_below : (x : ℕ) → AreBelow (k + 1) (roots_of (entries_at q x))
-  still_below x = subst (λ z. AreBelow (k + 1) (roots_of z)) (sym (w.entries x)) (go (entry_cases x ws ascending))
+  still_below x = subst (λ z. AreBelow (k + 1) (roots_of z)) (sym (w.entries x)) (go (entry_cases x ws apart_rows))
     where
       nil : (xs : List ℕ) → xs ++ [] ≡ xs
       nil [] = refl
@@ -287,32 +303,33 @@ module _ (m : Network) (p q : Parts) (k : ℕ) (ws : List Row) (h : IsBuilt m p 
     labels = label_in ws;
     column = subst (λ f. IsColumn m (limit_in q k) k f (label_in ws)) (λ i x. sym (first_new x) i)
         (subst (λ lim. IsColumn m lim k (entry_in ws) (label_in ws)) (λ i x. (limit_same ((tables p).landmark k) p.nearest.items x ∙ limit_old k x) i) rows.column);
-    landmark = λ e. w.directory ∙ ap (λ b. cond b (items_at p.directories.items k) (map listed_row ws)) (sym (landmark_same k) ∙ e) ∙ h.fresh k (omega arith);
+    landmark = λ e. empty_directory (sym (landmark_same k) ∙ e);
     listed = λ e i. listed ((tables p).landmark k) refl e i;
     ascend = ascend ((tables p).landmark k) refl;
-    complete = λ e v s. subst (λ z. IsSome (first_listed v z)) (sym (own_directory (sym (landmark_same k) ∙ e))) (subst IsSome (sym (first_is_label v ws)) s);
+    complete = λ e v s. directory_has ws (directory_at q k) (own_directory (sym (landmark_same k) ∙ e)) v (row_at ws v) refl s;
     homes = λ v z g s. homes v z (sym (nearest_same v) ∙ g) s;
   }
     where
-      own_directory : (tables p).landmark k ≡ false → directory_at q k ≡ map listed_row ws
-      own_directory e = w.directory ∙ ap (λ b. cond b (items_at p.directories.items k) (map listed_row ws)) e
+      own_directory : (tables p).landmark k ≡ false → IsDirectoryOf ws (directory_at q k)
+      own_directory e = subst (λ b. IsDirectoryAfter b ws (items_at p.directories.items k) (items_at q.directories.items k)) e w.directory
 
       empty_directory : (tables p).landmark k ≡ true → directory_at q k ≡ []
-      empty_directory e = w.directory ∙ ap (λ b. cond b (items_at p.directories.items k) (map listed_row ws)) e ∙ h.fresh k (omega arith)
+      empty_directory e = subst (λ b. IsDirectoryAfter b ws (items_at p.directories.items k) (items_at q.directories.items k)) e w.directory ∙ h.fresh k (omega arith)
 
       listed : (b : Bool) → (tables p).landmark k ≡ b → (e : Listed) → IsListed e (directory_at q k) → label_in ws e.node ≡ Some e.label
       listed true t e i = absurd (subst (IsListed e) (empty_directory t) i)
       listed false t e i =
-          let r = listed_is_row ws e (subst (IsListed e) (own_directory t) i) in
-          ap (label_in ws) (ap (λ (z : Listed). z.node) r.1.1) ∙ ap (λ o. option_map (λ (z : Row). z.label) o) (row_own ws ascending r.0 r.1.0) ∙ ap (λ (z : Listed). Some z.label) (sym r.1.1)
+          let same = (own_directory t).same in
+          let r = listed_is_row ws e (in_permutation (directory_at q k) (map listed_row ws) e (IsPermutation-sym (map listed_row ws) (directory_at q k) same) (is_listed e (directory_at q k) i)) in
+          ap (label_in ws) (ap (λ (z : Listed). z.node) r.1.1) ∙ ap (λ o. option_map (λ (z : Row). z.label) o) (row_own ws apart_rows r.0 r.1.0) ∙ ap (λ (z : Listed). Some z.label) (sym r.1.1)
 
       ascend : (b : Bool) → (tables p).landmark k ≡ b → IsStrictlyIncreasing (nodes_of (directory_at q k))
       ascend true t = subst (λ z. IsStrictlyIncreasing (nodes_of z)) (sym (empty_directory t)) (λ j l. absurd (omega (arith, l)))
-      ascend false t = subst (λ z. IsStrictlyIncreasing (nodes_of z)) (sym (own_directory t)) (subst IsStrictlyIncreasing (sym (nodes_listed ws)) rows.ascend)
+      ascend false t = (own_directory t).ascend
 
       homes : (v : ℕ) (z : Near) → (tables p).nearest v ≡ Some z → z.landmark ≡ k → (tables q).home v ≡ label_in ws v
       homes v z g s =
-          w.homes v ∙ ap (λ o. home_after o k ws v ((tables p).home v)) g ∙ ap (home_after (Some z) k ws v) (h.homes_fresh v z g (omega (arith, s))) ∙ home_here z k ws v (eq-eqb z.landmark k s) ascending
+          w.homes v ∙ ap (λ o. home_after o k ws v ((tables p).home v)) g ∙ ap (home_after (Some z) k ws v) (h.homes_fresh v z g (omega (arith, s))) ∙ home_here z k ws v (eq-eqb z.landmark k s) apart_rows
 
   homes_near : (v : ℕ) (o : Option Near) → (tables p).nearest v ≡ o → IsSome ((tables q).home v) → IsSome o
   homes_near v None g s = subst IsSome g (h.homes_near v (subst IsSome (w.homes v ∙ ap (λ o. home_after o k ws v ((tables p).home v)) g ∙ home_none k ws v ((tables p).home v)) s))
@@ -353,11 +370,11 @@ built_of_more m flags nearest generation p q k ws h rows w = record {
 
 -- the rows of a root, by the flags and the nearest landmarks that the tables hold
 pub rows_of : (m : Network) (flags : List Bool) (nearest : List (Option Near)) (generation : ℕ) (p : Parts) (k : ℕ) (ws vs : List Row) → IsBuildOf m flags nearest generation p k → ws ≡ vs
-    → IsStrictlyIncreasing (map (λ (w : Row). w.node) vs) → All (λ (w : Row). w.node < m.nodes) vs → All (λ (w : Row). w.entry.root ≡ k) vs
+    → IsDistinct nat_eq (nodes_in vs) → All (λ (w : Row). w.node < m.nodes) vs → All (λ (w : Row). w.entry.root ≡ k) vs
     → IsColumn m (limit_by (slice_index_or flags k false) nearest) k (entry_in vs) (label_in vs) → AreRowsOf m p k ws
-rows_of m flags nearest generation p k ws vs h e up inside root column =
+rows_of m flags nearest generation p k ws vs h e apart inside root column =
     subst (AreRowsOf m p k) (sym e) (record {
-      ascend = up;
+      apart = apart;
       inside = inside;
       root = root;
       column = subst (λ l. IsColumn m l k (entry_in vs) (label_in vs))

@@ -2,7 +2,7 @@
 use Rattle.std.proofs.Common.{◌≡◌, ℕ, ◌+◌, ◌≤◌, ◌<◌, ◌==◌, inl, inr, Bool, true, false, cond, sym, refl, ap, subst, ◌∙◌, arith, List, [], ◌∷◌, ◌++◌, length, map, get_or, IsPermutation}
 use Rattle.std.specs.Prelude.{Option, Some, None, IsSome, ◌↔◌, nat_eq}
 use Rattle.std.specs.Option.{option_map}
-use Rattle.std.specs.List.{All, AllByRecursion, IsDistinct}
+use Rattle.std.specs.List.{All, AllByRecursion, Contains, IsDistinct}
 use Rattle.std.proofs.lemmas.List.Sorted.{Contains-permutation, IsPermutation-map, IsPermutation-sym}
 use Rattle.std.proofs.lemmas.Map.Keys.{IsDistinct-IsPermutation, IsDistinct-head, IsDistinct-tail}
 use Rattle.std.proofs.lemmas.Bool.{eqb-true, eq-eqb}
@@ -24,7 +24,7 @@ use Rattle.node_table.specs.declared.parts.Entry.{Entry}
 use Rattle.node_table.specs.declared.columns.Row.{Row}
 use Rattle.node_table.specs.Checks.{up_port, down_port}
 use Rattle.node_table.specs.Columns.{up_by, down_by, member_of, LacksMember, AreDistinct, FitsEntry, IsTightFrom, IsParentIn, IsColumn}
-use Rattle.node_table.specs.RowLists.{IsRowOf, IsRowFrom, IsRowList, row_at, entry_in, label_in}
+use Rattle.node_table.specs.RowLists.{IsRowOf, IsRowFrom, IsRowList, nodes_in, nodes_numbered, row_at, entry_in, label_in}
 use Rattle.node_table.proofs.Builds.TreeMembers.{IsIn, is_in_of, contains_of, all_in, distinct_members, laid_members, ChildrenReached, same_distance, parent_reached, farther, begins_with_root, at_in, in_at, one_place, exact_in, parent_in, reached_inside, reached_members, first_member}
 use Rattle.node_table.proofs.Basics.Options.{some_is, same_value}
 
@@ -92,10 +92,10 @@ in_numbers [] n i = absurd i
 in_numbers (a ∷ ns) n (inl e) = inl (ap (λ (z : NumberedMember). z.node) e)
 in_numbers (a ∷ ns) n (inr i) = inr (in_numbers ns n i)
 
-numbers_in : (ns : List NumberedMember) (x : ℕ) → IsIn x (map (λ (a : NumberedMember). a.node) ns) → (n : NumberedMember) × (IsIn n ns × (n.node ≡ x))
-numbers_in [] x i = absurd i
-numbers_in (a ∷ ns) x (inl e) = (a, (inl refl, sym e))
-numbers_in (a ∷ ns) x (inr i) = (let k = numbers_in ns x i in (k.0, (inr k.1.0, k.1.1)))
+row_named : (ws : List Row) (x : ℕ) → IsIn x (nodes_in ws) → (w : Row) × (IsIn w ws × (w.node ≡ x))
+row_named [] x i = absurd i
+row_named (a ∷ ws) x (inl e) = (a, (inl refl, sym e))
+row_named (a ∷ ws) x (inr i) = (let k = row_named ws x i in (k.0, (inr k.1.0, k.1.1)))
 
 not_equal : (a b : ℕ) → (a ≡ b → ⊥) → nat_eq a b ≡ false
 not_equal a b h = go (nat_eq a b) refl
@@ -113,7 +113,7 @@ unfolding IsDistinct
 distinct_nodes [] d = tt
 distinct_nodes (a ∷ ms) d = (lacks_all a.node ms d.0, distinct_nodes ms d.1)
 
-flips : (x y : ℕ) → nat_eq x y ≡ nat_eq y x
+pub flips : (x y : ℕ) → nat_eq x y ≡ nat_eq y x
 flips x y = go (nat_eq x y) refl
   where
     go : (c : Bool) → nat_eq x y ≡ c → c ≡ nat_eq y x
@@ -206,9 +206,8 @@ module _ (m : Network) (sound : IsSound m) (r : ℕ) (r_in : r < m.nodes) (limit
   entry_of k i =
       let among = Contains-permutation (map (λ (a : Member). a.node) (map (member_of m) ks)) (map (λ (n : NumberedMember). n.node) ns) k.node same
       (contains_of (map (λ (a : Member). a.node) (map (member_of m) ks)) k.node (in_members m ks k i)) in
-      let n = numbers_in ns k.node (is_in_of (map (λ (n : NumberedMember). n.node) ns) k.node among) in
-      let w = rows.has k n.0 (contains_of ks k i) (contains_of ns n.0 n.1.0) (sym n.1.1) in
-      let v = row_there ws k.node w.0 (is_in_of ws w.0 w.1.0) w.1.1 in
+      let w = row_named ws k.node (subst (IsIn k.node) (sym rows.nodes) (is_in_of (nodes_numbered ns) k.node among)) in
+      let v = row_there ws k.node w.0 w.1.0 w.1.1 in
       let is : entry_in ws k.node ≡ Some v.0.entry = ap (λ o. option_map (λ z. z.entry) o) v.1 in
       let back = reached_of k.node v.0.entry is in
       let one = same_reached back.0 k back.1.0 i back.1.1.0 in
@@ -302,6 +301,9 @@ module _ (m : Network) (sound : IsSound m) (r : ℕ) (r_in : r < m.nodes) (limit
         ),
       )
 
+  pub rows_apart : IsDistinct nat_eq (nodes_in ws)
+  rows_apart = subst (IsDistinct nat_eq) (sym rows.nodes) numbered_distinct
+
   pub rows_column : IsColumn m limit r (entry_in ws) (label_in ws)
   rows_column = record {
     exact = entry_exact;
@@ -322,6 +324,14 @@ pub column_of : (m : Network) → IsSound m → (r : ℕ) → r < m.nodes → (l
     → (ws : List Row) → IsRowList r ks ns ws → IsColumn m limit r (entry_in ws) (label_in ws)
 column_of m s r i limit ks tree below all e nm ns q lines perm ws rows =
     rows_column m s r i limit ks tree below nm (λ d. lines d ∙ ap (λ z. map head_brief (tree_lines (first_or d (subtrees z)))) e)
+    (subst (λ z. IsPermutation (map (λ (a : Member). a.node) z) (map (λ (n : NumberedMember). n.node) nm)) e perm) ws (subst (λ z. IsRowList r ks z ws) q rows)
+
+pub apart_rows : (m : Network) → IsSound m → (r : ℕ) → r < m.nodes → (ks : List Reached) → (limit : ℕ → Option ℕ) × (IsTree m.edges r limit ks × (is_below 0 (limit r) ≡ true))
+    → (all : List Member) → all ≡ map (λ k. member_of m k) ks → (nm ns : List NumberedMember) → ns ≡ nm
+    → ((d : Tree) → map seen nm ≡ map head_brief (tree_lines (first_or d (subtrees all)))) → IsPermutation (map (λ (a : Member). a.node) all) (map (λ (n : NumberedMember). n.node) nm)
+    → (ws : List Row) → IsRowList r ks ns ws → IsDistinct nat_eq (nodes_in ws)
+apart_rows m s r i ks h all e nm ns q lines perm ws rows =
+    rows_apart m s r i h.0 ks h.1.0 h.1.1 nm (λ d. lines d ∙ ap (λ z. map head_brief (tree_lines (first_or d (subtrees z)))) e)
     (subst (λ z. IsPermutation (map (λ (a : Member). a.node) z) (map (λ (n : NumberedMember). n.node) nm)) e perm) ws (subst (λ z. IsRowList r ks z ws) q rows)
 
 -- every row's node is one of the network, and its entry is for the root
@@ -363,6 +373,20 @@ module _ (m : Network) (sound : IsSound m) (r : ℕ) (r_in : r < m.nodes) (ks : 
     where
       go : (x : ℕ) → IsIn x (map (λ (k : Reached). k.node) ks) → x < m.nodes
       go x i = (let k = reached_named ks x i in subst (λ z. z < m.nodes) k.1.1 (reached_inside m sound r r_in h.0 ks h.1.0 h.1.1 k.0 k.1.0))
+
+  pub numbers_reached : (ns : List NumberedMember) → IsPermutation (map (λ (a : Member). a.node) (map (member_of m) ks)) (nodes_numbered ns) → All (λ x. Contains (map (λ (k : Reached). k.node) ks) x) (nodes_numbered ns)
+  numbers_reached ns same i d l =
+      let x = get_or (nodes_numbered ns) i d in
+      let among = Contains-permutation (nodes_numbered ns) (map (λ (a : Member). a.node) (map (member_of m) ks)) x
+      (IsPermutation-sym (map (λ (a : Member). a.node) (map (member_of m) ks)) (nodes_numbered ns) same)
+      (contains_of (nodes_numbered ns) x (in_at (nodes_numbered ns) i d l)) in
+      let k = members_in m ks x (is_in_of (map (λ (a : Member). a.node) (map (member_of m) ks)) x among) in
+      subst (Contains (map (λ (k : Reached). k.node) ks)) k.1.1 (contains_of (map (λ (k : Reached). k.node) ks) k.0.node (in_reached ks k.0 k.1.0))
+    where
+      in_reached : (xs : List Reached) (k : Reached) → IsIn k xs → IsIn k.node (map (λ (z : Reached). z.node) xs)
+      in_reached [] k i = absurd i
+      in_reached (a ∷ xs) k (inl e) = inl (ap (λ (z : Reached). z.node) e)
+      in_reached (a ∷ xs) k (inr i) = inr (in_reached xs k i)
 
   pub numbers_inside : (ns : List NumberedMember) → IsPermutation (map (λ (a : Member). a.node) (map (member_of m) ks)) (map (λ (n : NumberedMember). n.node) ns) → All (λ x. x < m.nodes) (map (λ (n : NumberedMember). n.node) ns)
   numbers_inside ns same i d l =

@@ -1,30 +1,30 @@
--- Rows, as they are made: ports, places of nodes in lists, and the rows of the first nodes.
+-- Rows, as they are made: ports, places of nodes in lists, and the rows of what was numbered.
 use Rattle.std.proofs.Common.{◌≡◌, ℕ, zero, suc, ◌+◌, ◌≤◌, ◌<◌, ◌⊎◌, inl, inr, Bool, true, false, nat_lt, sym, refl, ap, subst, ◌∙◌, arith, List, [], ◌∷◌, ◌++◌, length, map, get_or}
-use Rattle.std.specs.Prelude.{Option, Some, None, IsSome, ◌↔◌, slice_get, slice_index, slice_index_or}
+use Rattle.std.specs.Prelude.{Option, Some, None, ◌↔◌, slice_get, slice_index}
 use Rattle.std.specs.List.{All, Contains}
 use Rattle.std.specs.List.Sorted.{IsStrictlyIncreasing}
 use Rattle.std.proofs.lemmas.List.{get_or-map}
-use Rattle.std.proofs.lemmas.List.Elements.{All-push, Contains-push, Contains-append_left}
+use Rattle.std.proofs.lemmas.List.Elements.{All-push}
 use Rattle.std.proofs.lemmas.Bool.Decides.{nat_tests}
 use Rattle.std.proofs.Math.ListN.{set}
 use Rattle.graph_edits.specs.Edges.{Network, over_port, neighbours_of}
 use Rattle.distances.specs.declared.reach.Reached.{Reached}
+use Rattle.distances.specs.declared.linked.Linked.{Linked}
+use Rattle.distances.specs.Workspace.{reached_of, HasLinks, AreLinked}
+use Rattle.route_tree.specs.declared.member.Member.{Member}
+use Rattle.route_tree.specs.Growth.{IsEachOnce}
+use Rattle.route_tree.specs.Places.{HasPlaces}
 use Rattle.heavy_labels.specs.declared.numbered_member.NumberedMember.{NumberedMember}
-use Rattle.node_table.proofs.Basics.Options.{some_is}
 use Rattle.node_table.specs.declared.columns.Row.{Row}
 use Rattle.node_table.specs.Ports.{neighbours, port_to}
-use Rattle.node_table.specs.Columns.{AreBelow}
-use Rattle.node_table.specs.RowLists.{ArePlaces, IsRowOf, IsRowFrom, IsRowless, IsRowList}
+use Rattle.node_table.specs.Columns.{AreBelow, linked_member, member_of, up_by, down_by}
+use Rattle.node_table.specs.RowLists.{ArePlaces, ArePlacesTo, IsRowOf, IsRowFrom, IsRowList, nodes_in, nodes_linked, nodes_numbered}
 use Rattle.node_table.proofs.Basics.Lists.{Within, index_found}
 use Rattle.node_table.proofs.Serving.StepsAsMoves.{index_get}
 use Rattle.node_table.proofs.Serving.Moves.{get_map}
-use Rattle.node_table.proofs.Builds.TreeMembers.{at_in, is_in_of}
 
 none_some : {X : Type 0} {x : X} {o : Option X} → o ≡ None → o ≡ Some x → ⊥
 none_some e f = cc
-
-same_some : {X : Type 0} {x y : X} {o : Option X} → o ≡ Some x → o ≡ Some y → x ≡ y
-same_some e f = cc
 
 some_same : {X : Type 0} {x y : X} → Some x ≡ Some y → x ≡ y
 some_same e = cc
@@ -47,19 +47,44 @@ port_is m x y o h = go (port_to m x y) refl o refl
     go None e None g = g
     go None e (Some q) g = absurd (none_some e (index_found y (neighbours m x) (within_get (neighbours m x) q y (over_is q ∙ (h q).0 g))).1)
 
+-- what is reached with its ports is a member of the tree
+up_is : (m : Network) (x : ℕ) (parent up down : Option ℕ) → HasLinks m x parent up down → up ≡ up_by m x parent
+up_is m x None up down h = h.0
+up_is m x (Some y) up down h = port_is m x y up h.0
+
+down_is : (m : Network) (x : ℕ) (parent up down : Option ℕ) → HasLinks m x parent up down → down ≡ down_by m x parent
+down_is m x None up down h = h.1
+down_is m x (Some y) up down h = port_is m y x down h.1
+
+member_is : (m : Network) (k : Linked) → HasLinks m k.reached.node k.reached.parent k.up k.down → linked_member k ≡ member_of m k.reached
+member_is m k h =
+    ap (λ u. record { node = k.reached.node; parent = k.reached.parent; up = u; down = k.down }) (up_is m k.reached.node k.reached.parent k.up k.down h)
+    ∙ ap (λ d. record { node = k.reached.node; parent = k.reached.parent; up = up_by m k.reached.node k.reached.parent; down = d }) (down_is m k.reached.node k.reached.parent k.up k.down h)
+
+pub members_are : (m : Network) (ks : List Linked) → AreLinked m ks → map linked_member ks ≡ map (λ k. member_of m k) (reached_of ks)
+members_are m [] h = refl
+members_are m (k ∷ ks) h = ap (λ a. a ∷ map linked_member ks) (member_is m k (h 0 k (omega arith))) ∙ ap (λ rest. member_of m k.reached ∷ rest) (members_are m ks (λ i d l. h (suc i) d (omega (arith, l))))
+
+pub nodes_are : (ks : List Linked) → nodes_linked ks ≡ map (λ (k : Reached). k.node) (reached_of ks)
+nodes_are [] = refl
+nodes_are (k ∷ ks) = ap (λ z. k.reached.node ∷ z) (nodes_are ks)
+
+pub reached_length : (ks : List Linked) → length (reached_of ks) ≡ length ks
+reached_length [] = refl
+reached_length (k ∷ ks) = omega (arith, reached_length ks)
+
+pub linked_length : (ks : List Linked) → length (nodes_linked ks) ≡ length ks
+linked_length [] = refl
+linked_length (k ∷ ks) = omega (arith, linked_length ks)
+
 -- ---- places
 
--- the places of the first n of a list
-pub record ArePlacesTo (list : List ℕ) (n : ℕ) (table : List (Option ℕ)) : Type 0 where
-  pub right : (x i : ℕ) → slice_index_or table x None ≡ Some i → (i < length list) × (slice_index list i ≡ x)
-  pub has : (i : ℕ) → i < n → IsSome (slice_index_or table (slice_index list i) None)
-
-set_same : (xs : List (Option ℕ)) (i : ℕ) (v : Option ℕ) → i < length xs → slice_index_or (set xs i v) i None ≡ v
+set_same : (xs : List ℕ) (i : ℕ) (v : ℕ) → i < length xs → slice_index (set xs i v) i ≡ v
 set_same [] i v l = absurd (omega arith)
 set_same (x ∷ xs) zero v l = refl
 set_same (x ∷ xs) (suc i) v l = set_same xs i v (omega (arith, l))
 
-set_other : (xs : List (Option ℕ)) (i j : ℕ) (v : Option ℕ) → (i ≡ j → ⊥) → slice_index_or (set xs i v) j None ≡ slice_index_or xs j None
+set_other : (xs : List ℕ) (i j : ℕ) (v : ℕ) → (i ≡ j → ⊥) → slice_index (set xs i v) j ≡ slice_index xs j
 set_other [] i j v n = refl
 set_other (x ∷ xs) zero zero v n = absurd (n refl)
 set_other (x ∷ xs) zero (suc j) v n = refl
@@ -74,88 +99,111 @@ eq_cases a b = go (nat_lt a b) (nat_lt b a) refl refl
     go false true p q = inr (λ e. (let l : b < a = grind (arith, nat_tests) in omega (arith, l, e)))
     go false false p q = inl (grind (arith, nat_tests))
 
-pub places_more : (list : List ℕ) (n x : ℕ) (table : List (Option ℕ)) → ArePlacesTo list n table → n < length list → slice_index list n ≡ x → x < length table → ArePlacesTo list (n + 1) (set table x (Some n))
-places_more list n x table h l e i = record { right = right; has = has }
+pub places_more : (list : List ℕ) (n : ℕ) (table : List ℕ) → ArePlacesTo list n table → n < length list → slice_index list n < length table → ArePlacesTo list (n + 1) (set table (slice_index list n) n)
+places_more list n table h l inside i k = elim (eq_cases (slice_index list n) (slice_index list i)) [
+  | inl s ↦ (let at : slice_index (set table (slice_index list n) n) (slice_index list i) ≡ n = ap (λ z. slice_index (set table (slice_index list n) n) z) (sym s) ∙ set_same table (slice_index list n) n inside in
+      (subst (λ z. z < length list) (sym at) l, ap (slice_index list) at ∙ s))
+  | inr d ↦ (let at : slice_index (set table (slice_index list n) n) (slice_index list i) ≡ slice_index table (slice_index list i) = set_other table (slice_index list n) (slice_index list i) n d in
+      let old = h i (before d (eq_cases i n)) in
+      (subst (λ z. z < length list) (sym at) old.0, ap (slice_index list) at ∙ old.1))
+]
   where
-    right : (y j : ℕ) → slice_index_or (set table x (Some n)) y None ≡ Some j → (j < length list) × (slice_index list j ≡ y)
-    right y j g = elim (eq_cases x y) [
-      | inl s ↦ (let k : n ≡ j = same_some (ap (λ z. slice_index_or (set table x (Some n)) z None) (sym s) ∙ set_same table x (Some n) i) g in
-          (omega (arith, k, l), ap (λ z. slice_index list z) (sym k) ∙ e ∙ s))
-      | inr d ↦ h.right y j (sym (set_other table x y (Some n) d) ∙ g)
-    ]
+    before : (slice_index list n ≡ slice_index list i → ⊥) → (i ≡ n) ⊎ (i ≡ n → ⊥) → i < n
+    before d c = elim c [ inl s ↦ absurd (d (ap (slice_index list) (sym s))) | inr ne ↦ grind (arith, k, ne) ]
 
-    has : (j : ℕ) → j < n + 1 → IsSome (slice_index_or (set table x (Some n)) (slice_index list j) None)
-    has j k = elim (eq_cases x (slice_index list j)) [
-      | inl s ↦ some_is (ap (λ z. slice_index_or (set table x (Some n)) z None) (sym s) ∙ set_same table x (Some n) i)
-      | inr d ↦ subst IsSome (sym (set_other table x (slice_index list j) (Some n) d)) (h.has j (before j k d))
-    ]
-      where
-        before : (j : ℕ) → j < n + 1 → (x ≡ slice_index list j → ⊥) → j < n
-        before j k d = elim (eq_cases j n) [ inl s ↦ absurd (d (sym (ap (λ z. slice_index list z) s ∙ e))) | inr ne ↦ grind (arith, k, ne) ]
+-- what stands for a place past the end
+abbrev pub nobody : Linked
+nobody = record { reached = record { distance = 0; node = 0; parent = None }; up = None; down = None }
+
+pub node_at : (ks : List Linked) (i : ℕ) (z : Linked) → i < length ks → slice_index (nodes_linked ks) i ≡ (get_or ks i z).reached.node
+node_at ks i z l = get_or-map (λ (k : Linked). k.reached.node) ks i z 0 l
+
+-- the same where the node is said by the list that was reached
+pub place_noted : (ks : List Linked) (n : ℕ) (z : Linked) (table : List ℕ) → ArePlacesTo (nodes_linked ks) n table → n < length ks → (get_or ks n z).reached.node < length table
+    → ArePlacesTo (nodes_linked ks) (n + 1) (set table (get_or ks n z).reached.node n)
+place_noted ks n z table h l inside =
+    let e = node_at ks n z l in
+    let many = linked_length ks in
+    subst (λ x. ArePlacesTo (nodes_linked ks) (n + 1) (set table x n)) e
+    (places_more (nodes_linked ks) n table h (omega (arith, many, l)) (subst (λ x. x < length table) (sym e) inside))
+
+-- where a node was reached
+pub place_found : (ks : List Linked) (table : List ℕ) (x : ℕ) → ArePlaces (nodes_linked ks) table → Contains (nodes_linked ks) x → (slice_index table x < length ks) × ((z : Linked) → (get_or ks (slice_index table x) z).reached.node ≡ x)
+place_found ks table x h c =
+    let at : slice_index (nodes_linked ks) c.0 ≡ x = same_default (nodes_linked ks) c.0 0 x c.1 ∙ c.2 in
+    let there = h c.0 c.1 in
+    let inside : slice_index table x < length (nodes_linked ks) = subst (λ z. slice_index table z < length (nodes_linked ks)) at there.0 in
+    let is : slice_index (nodes_linked ks) (slice_index table x) ≡ x = subst (λ z. slice_index (nodes_linked ks) (slice_index table z) ≡ z) at there.1 in
+    let here : slice_index table x < length ks = (let n = linked_length ks in omega (arith, n, inside)) in
+    (here, λ z. sym (get_or-map (λ (k : Linked). k.reached.node) ks (slice_index table x) z 0 here) ∙ is)
+  where
+    same_default : (xs : List ℕ) (i a b : ℕ) → i < length xs → get_or xs i a ≡ get_or xs i b
+    same_default [] i a b l = absurd (omega (arith, l))
+    same_default (y ∷ ys) zero a b l = refl
+    same_default (y ∷ ys) (suc i) a b l = same_default ys i a b (omega (arith, l))
+
+-- the same, where each node is there once
+pub has_places : (ks : List Linked) (table : List ℕ) → ArePlaces (nodes_linked ks) table → All (λ x. x < length table) (nodes_linked ks) → IsEachOnce (map linked_member ks) → HasPlaces (map linked_member ks) table
+has_places ks table h inside once = record {
+  fits = λ k d l. (let many = linked_length ks in
+      let as_many = members_length ks in
+      let e = member_node k d (omega (arith, as_many, l)) in
+      let i = inside k 0 (omega (arith, many, as_many, l)) in
+      omega (arith, e, i));
+  there = λ k d l. (let many = linked_length ks in
+      let as_many = members_length ks in
+      let at = h k (omega (arith, many, as_many, l)) in
+      let e = member_node k d (omega (arith, as_many, l)) in
+      let p = slice_index table (slice_index (nodes_linked ks) k) in
+      let f = member_node p d (omega (arith, many, at.0)) in
+      ap (slice_index table) e ∙ once p k d d (omega (arith, many, as_many, at.0)) l (f ∙ at.1 ∙ sym e));
+}
+  where
+    members_length : (xs : List Linked) → length (map linked_member xs) ≡ length xs
+    members_length [] = refl
+    members_length (x ∷ xs) = omega (arith, members_length xs)
+
+    member_node : (k : ℕ) (d : Member) → k < length ks → (get_or (map linked_member ks) k d).node ≡ slice_index (nodes_linked ks) k
+    member_node k d l = ap (λ (a : Member). a.node) (get_or-map linked_member ks k nobody d l) ∙ sym (node_at ks k nobody l)
 
 -- ---- rows
 
-node_key : (ks : List Reached) (i : ℕ) (z : Reached) → i < length ks → slice_index (map (λ k. k.node) ks) i ≡ (get_or ks i z).node
-node_key ks i z l = get_or-map (λ (k : Reached). k.node) ks i z 0 l
+nodes_push : (ws : List Row) (w : Row) → nodes_in (ws ++ w ∷ []) ≡ nodes_in ws ++ w.node ∷ []
+nodes_push [] w = refl
+nodes_push (v ∷ ws) w = ap (λ z. v.node ∷ z) (nodes_push ws w)
 
-number_key : (ns : List NumberedMember) (i : ℕ) (z : NumberedMember) → i < length ns → slice_index (map (λ k. k.node) ns) i ≡ (get_or ns i z).node
-number_key ns i z l = get_or-map (λ (k : NumberedMember). k.node) ns i z 0 l
+numbers_push : (ns : List NumberedMember) (n : NumberedMember) → nodes_numbered (ns ++ n ∷ []) ≡ nodes_numbered ns ++ n.node ∷ []
+numbers_push [] n = refl
+numbers_push (a ∷ ns) n = ap (λ z. a.node ∷ z) (numbers_push ns n)
 
-pub node_length : (ks : List Reached) → length (map (λ (k : Reached). k.node) ks) ≡ length ks
-node_length [] = refl
-node_length (k ∷ ks) = omega (arith, node_length ks)
+-- the rows of the first of what was numbered
+pub record AreRowsTo (r : ℕ) (ks : List Linked) (ns first : List NumberedMember) (ws : List Row) : Type 0 where
+  pub each : All (IsRowFrom r (reached_of ks) ns) ws
+  pub nodes : nodes_in ws ≡ nodes_numbered first
 
-pub number_length : (ns : List NumberedMember) → length (map (λ (k : NumberedMember). k.node) ns) ≡ length ns
+pub rows_more : (r : ℕ) (ks : List Linked) (ns first : List NumberedMember) (ws : List Row) (i : ℕ) (z : Linked) (n : NumberedMember) (w : Row) → AreRowsTo r ks ns first ws
+    → i < length ks → (length first < length ns) × (n ≡ get_or ns (length first) n) → IsRowOf r (get_or ks i z).reached n w → AreRowsTo r ks ns (first ++ n ∷ []) (ws ++ w ∷ [])
+rows_more r ks ns first ws i z n w h l at row = record {
+  each = All-push (IsRowFrom r (reached_of ks) ns) ws w h.each
+      ((get_or ks i z).reached, n, ((i, (let a = reached_length ks in omega (arith, a, l)), get_or-map (λ (k : Linked). k.reached) ks i z (get_or ks i z).reached l), (length first, at.0, sym at.1), row));
+  nodes = nodes_push ws w ∙ ap (λ z. z ++ w.node ∷ []) h.nodes ∙ ap (λ x. nodes_numbered first ++ x ∷ []) row.numbered ∙ sym (numbers_push first n);
+}
+
+pub rows_done : (r : ℕ) (ks : List Linked) (ns first : List NumberedMember) (ws : List Row) → AreRowsTo r ks ns first ws → first ≡ ns → IsRowList r (reached_of ks) ns ws
+rows_done r ks ns first ws h e = record { each = h.each; nodes = h.nodes ∙ ap (λ z. nodes_numbered z) e }
+
+number_length : (ns : List NumberedMember) → length (nodes_numbered ns) ≡ length ns
 number_length [] = refl
-number_length (k ∷ ns) = omega (arith, number_length ns)
+number_length (n ∷ ns) = omega (arith, number_length ns)
 
-pub unreached : (ks : List Reached) (table : List (Option ℕ)) (x : ℕ) → ArePlaces (map (λ k. k.node) ks) table → slice_index_or table x None ≡ None → (k : Reached) → Contains ks k → k.node ≡ x → ⊥
-unreached ks table x h e k c is =
-    let at = at_in ks k k (is_in_of ks k c) in
-    let key : slice_index (map (λ (z : Reached). z.node) ks) at.0 ≡ x = node_key ks at.0 k at.1.0 ∙ ap (λ (z : Reached). z.node) at.1.1 ∙ is in
-    not_there (slice_index_or table x None) e (subst (λ z. IsSome (slice_index_or table z None)) key (h.has at.0 (let n = node_length ks in omega (arith, n, at.1.0))))
-  where
-    not_there : (o : Option ℕ) → o ≡ None → IsSome o → ⊥
-    not_there None e s = (let b : false ≡ true = s in cc)
-    not_there (Some y) e s = none_some e refl
+-- what holds of all numbered nodes, at one of them
+pub number_has : (P : ℕ → Type 0) (ns : List NumberedMember) (i : ℕ) (n : NumberedMember) → All P (nodes_numbered ns) → (i < length ns) × (n ≡ get_or ns i n) → P n.node
+number_has P ns i n h at =
+    let many = number_length ns in
+    let e : get_or (nodes_numbered ns) i 0 ≡ n.node = get_or-map (λ (a : NumberedMember). a.node) ns i n 0 at.0 ∙ ap (λ (a : NumberedMember). a.node) (sym at.1) in
+    subst P e (h i 0 (omega (arith, many, at.0)))
 
-pub unnumbered : (ns : List NumberedMember) (table : List (Option ℕ)) (x : ℕ) → ArePlaces (map (λ k. k.node) ns) table → slice_index_or table x None ≡ None → (k : NumberedMember) → Contains ns k → k.node ≡ x → ⊥
-unnumbered ns table x h e k c is =
-    let at = at_in ns k k (is_in_of ns k c) in
-    let key : slice_index (map (λ (z : NumberedMember). z.node) ns) at.0 ≡ x = number_key ns at.0 k at.1.0 ∙ ap (λ (z : NumberedMember). z.node) at.1.1 ∙ is in
-    not_there (slice_index_or table x None) e (subst (λ z. IsSome (slice_index_or table z None)) key (h.has at.0 (let n = number_length ns in omega (arith, n, at.1.0))))
-  where
-    not_there : (o : Option ℕ) → o ≡ None → IsSome o → ⊥
-    not_there None e s = (let b : false ≡ true = s in cc)
-    not_there (Some y) e s = none_some e refl
-
-pub reached_at : (ks : List Reached) (table : List (Option ℕ)) (x i : ℕ) → ArePlaces (map (λ k. k.node) ks) table → slice_index_or table x None ≡ Some i → (i < length ks) × ((z : Reached) → (get_or ks i z).node ≡ x)
-reached_at ks table x i h e =
-    let r = h.right x i e in
-    let l : i < length ks = (let n = node_length ks in omega (arith, n, r.0)) in
-    (l, λ z. sym (node_key ks i z l) ∙ r.1)
-
-pub numbered_at : (ns : List NumberedMember) (table : List (Option ℕ)) (x i : ℕ) → ArePlaces (map (λ k. k.node) ns) table → slice_index_or table x None ≡ Some i → (i < length ns) × ((z : NumberedMember) → (get_or ns i z).node ≡ x)
-numbered_at ns table x i h e =
-    let r = h.right x i e in
-    let l : i < length ns = (let n = number_length ns in omega (arith, n, r.0)) in
-    (l, λ z. sym (number_key ns i z l) ∙ r.1)
-
-contains_at : {X : Type 0} (xs : List X) (i : ℕ) (x : X) → i < length xs → x ≡ get_or xs i x → Contains xs x
-contains_at xs i x l e = (i, l, sym e)
-
-pub row_from : (r : ℕ) (ks : List Reached) (ns : List NumberedMember) (i j : ℕ) (k : Reached) (n : NumberedMember) (w : Row) → i < length ks → j < length ns → k ≡ get_or ks i k → n ≡ get_or ns j n → IsRowOf r k n w → IsRowFrom r ks ns w
-row_from r ks ns i j k n w li lj ek en h = (k, n, (contains_at ks i k li ek, contains_at ns j n lj en, h))
-
-pub same_default : (ks : List Reached) (i : ℕ) (a b : Reached) → i < length ks → get_or ks i a ≡ get_or ks i b
-same_default [] i a b l = absurd (omega (arith, l))
-same_default (k ∷ ks) zero a b l = refl
-same_default (k ∷ ks) (suc i) a b l = same_default ks i a b (omega (arith, l))
-
--- ---- the rows of the first nodes
-
-abbrev pub row_nodes : List Row → List ℕ
-row_nodes ws = map (λ (w : Row). w.node) ws
+-- ---- lists that grow
 
 -- a number after all of an ascending list
 pub increasing_push : (xs : List ℕ) (x : ℕ) → IsStrictlyIncreasing xs → AreBelow x xs → IsStrictlyIncreasing (xs ++ x ∷ [])
@@ -178,46 +226,3 @@ below_more (x ∷ xs) j k l b = (omega (arith, l, b.0), below_more xs j k l b.1)
 pub below_push : (xs : List ℕ) (x k : ℕ) → x < k → AreBelow k xs → AreBelow k (xs ++ x ∷ [])
 below_push [] x k l b = (l, tt)
 below_push (y ∷ xs) x k l b = (b.0, below_push xs x k l b.1)
-
-nodes_push : (ws : List Row) (w : Row) → row_nodes (ws ++ w ∷ []) ≡ row_nodes ws ++ w.node ∷ []
-nodes_push [] w = refl
-nodes_push (v ∷ ws) w = ap (λ z. v.node ∷ z) (nodes_push ws w)
-
--- the rows of the nodes below x
-pub record AreRowsTo (r : ℕ) (ks : List Reached) (ns : List NumberedMember) (x : ℕ) (ws : List Row) : Type 0 where
-  pub each : All (IsRowFrom r ks ns) ws
-  pub ascend : IsStrictlyIncreasing (row_nodes ws)
-  pub below : AreBelow x (row_nodes ws)
-  pub has : (k : Reached) (n : NumberedMember) → Contains ks k → Contains ns n → k.node ≡ n.node → k.node < x → (w : Row) × (Contains ws w × (w.node ≡ k.node))
-
-pub rows_none : (r : ℕ) (ks : List Reached) (ns : List NumberedMember) (x : ℕ) (ws : List Row) → AreRowsTo r ks ns x ws → IsRowless ks ns x → AreRowsTo r ks ns (x + 1) ws
-rows_none r ks ns x ws h none = record {
-  each = h.each;
-  ascend = h.ascend;
-  below = below_more (row_nodes ws) x (x + 1) (omega arith) h.below;
-  has = λ k n ck cn e l. elim (eq_cases k.node x) [ inl s ↦ absurd (none k n ck cn s (sym e ∙ s)) | inr d ↦ h.has k n ck cn e (grind (arith, l, d)) ];
-}
-
-pub rows_push : (r : ℕ) (ks : List Reached) (ns : List NumberedMember) (x : ℕ) (ws : List Row) (w : Row) → AreRowsTo r ks ns x ws → IsRowFrom r ks ns w → w.node ≡ x → AreRowsTo r ks ns (x + 1) (ws ++ w ∷ [])
-rows_push r ks ns x ws w h from is = record {
-  each = All-push (IsRowFrom r ks ns) ws w h.each from;
-  ascend = subst IsStrictlyIncreasing (sym (nodes_push ws w)) (increasing_push (row_nodes ws) w.node h.ascend (below_more (row_nodes ws) x w.node (omega (arith, is)) h.below));
-  below = subst (AreBelow (x + 1)) (sym (nodes_push ws w)) (below_push (row_nodes ws) w.node (x + 1) (omega (arith, is)) (below_more (row_nodes ws) x (x + 1) (omega arith) h.below));
-  has = λ k n ck cn e l. elim (eq_cases k.node x) [
-    | inl s ↦ (w, (Contains-push ws w, is ∙ sym s))
-    | inr d ↦ (let v = h.has k n ck cn e (grind (arith, l, d)) in (v.0, (Contains-append_left ws (w ∷ []) v.0 v.1.0, v.1.1)))
-  ];
-}
-
--- once all nodes are passed, the rows are whole
-pub rows_all : (r : ℕ) (ks : List Reached) (ns : List NumberedMember) (n : ℕ) (ws : List Row) → AreRowsTo r ks ns n ws → All (λ x. x < n) (map (λ k. k.node) ks) → IsRowList r ks ns ws
-rows_all r ks ns n ws h inside = record {
-  each = h.each;
-  ascend = h.ascend;
-  has = λ k a ck ca e. h.has k a ck ca e (within k (at_in ks k k (is_in_of ks k ck)));
-}
-  where
-    within : (k : Reached) → (i : ℕ) × ((i < length ks) × (get_or ks i k ≡ k)) → k.node < n
-    within k at = (
-        let g = inside at.0 0 (let q = node_length ks in omega (arith, q, at.1.0)) in
-        subst (λ z. z < n) (node_key ks at.0 k at.1.0 ∙ ap (λ (z : Reached). z.node) at.1.1) g)

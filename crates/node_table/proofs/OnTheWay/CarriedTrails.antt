@@ -1,25 +1,19 @@
 -- What a packet does on its way is what the law says of it: from each hop's node step to the trail.
-use Rattle.std.proofs.Common.{◌≡◌, inl, inr, ℕ, zero, suc, ◌+◌, ◌-◌, ◌*◌, ◌^◌, ◌≤◌, ◌<◌, ◌==◌, nat_lt, min, Bool, true, false, cond, sym, refl, ap, subst, ◌∙◌, arith, List, [], ◌∷◌, ◌++◌, length, map}
-use Rattle.std.specs.Prelude.{Option, Some, None, Result, Ok, Err, slice_get}
-use Rattle.std.specs.Option.{option_map}
-use Rattle.std.proofs.lemmas.Bool.Decides.{nat_tests}
+use Rattle.std.proofs.Common.{◌≡◌, inl, inr, ℕ, ◌+◌, ◌-◌, ◌*◌, ◌^◌, ◌≤◌, ◌<◌, min, sym, refl, ap, subst, ◌∙◌, arith, List, [], ◌∷◌, ◌++◌, length}
+use Rattle.std.specs.Prelude.{Result, Ok, Err}
 use Rattle.graph_edits.specs.Edges.{Network, IsSound, neighbours_of, greatest_weight}
 use Rattle.graph_edits.specs.Walks.{walk_length}
-use Rattle.heavy_labels.specs.Numbering.{Step, arrived, port, no_parent, no_light, step}
-use Rattle.heavy_labels.specs.Stepped.{record_of}
 use Rattle.node_table.specs.declared.parts.Parts.{Parts}
-use Rattle.node_table.specs.declared.parts.Entry.{Entry}
 use Rattle.node_table.specs.declared.packet.Address.{Address}
 use Rattle.node_table.specs.declared.packet.Packet.{Packet}
 use Rattle.node_table.specs.declared.packet.Move.{Move}
 use Rattle.node_table.specs.declared.packet.Move.TheVariants.{Delivered, Forward}
 use Rattle.node_table.specs.declared.packet.Refused.{Refused}
-use Rattle.node_table.specs.declared.packet.Refused.TheVariants.{NoNode, Stray, Spent}
 use Rattle.node_table.specs.declared.trail.Trail.{Trail}
 use Rattle.node_table.specs.declared.trail.CarryRefused.{CarryRefused}
 use Rattle.node_table.specs.Tables.{Tables, tables}
 use Rattle.node_table.specs.Checks.{IsChecked}
-use Rattle.node_table.specs.Service.{address, decide, node_step, move_at, move_by, forward_over, one_less, IsGoodTrip, LeadAlong}
+use Rattle.node_table.specs.Service.{address, decide, node_step, one_less, IsGoodTrip, LeadAlong}
 use Rattle.node_table.specs.Trails.{gap, AreMeasured, length_along, Goes, IsUnderWay, IsTrailOf, IsRefusedOnWay, as_carried, IsGoodTrail, IsCarriedWhereConnected, IsUnreachableWhereApart}
 use Rattle.node_table.proofs.Serving.StepsAsMoves.{Ports, Passes}
 use Rattle.node_table.proofs.Serving.Moves.{delivered_not_forward, forward_is, get_map}

@@ -7,8 +7,8 @@ use Rattle.node_table.specs.declared.packet.Move.{Move}
 use Rattle.node_table.specs.declared.packet.Move.TheVariants.{Delivered, Forward}
 use Rattle.node_table.specs.declared.packet.Refused.{Refused}
 use Rattle.node_table.specs.Tables.{Tables}
-use Rattle.node_table.specs.Service.{address, decide, node_step, one_less, Carries, LeadAlong, Arrives, Serves}
-use Rattle.node_table.specs.Ways.{Went, IsOnCourse, ComesToAnEnd, ServedStayOnCourse, AllComeToAnEnd}
+use Rattle.node_table.specs.Service.{node_step, one_less, Carries, LeadAlong, Arrives}
+use Rattle.node_table.specs.Ways.{Went, ServedStayOnCourse, AllComeToAnEnd}
 use Rattle.node_table.proofs.Serving.Moves.{forward_is}
 
 -- ---- on a course

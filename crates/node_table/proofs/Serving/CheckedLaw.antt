@@ -18,7 +18,7 @@ use Rattle.node_table.specs.declared.packet.Refused.TheVariants.{Unreachable}
 use Rattle.node_table.specs.Service.{Serves, Arrives, IsGoodTrip, address, packet_by, decide}
 use Rattle.node_table.specs.Trails.{AreMeasured}
 use Rattle.node_table.proofs.Serving.StepsAsMoves.{Ports, Passes}
-use Rattle.node_table.proofs.Serving.Moves.{Ported, ported}
+use Rattle.node_table.proofs.Serving.Moves.{ported}
 use Rattle.node_table.proofs.Serving.Exact.{Distances, exact, real, reach, close, nearest_least}
 use Rattle.node_table.proofs.Serving.TripsInTrees.{trip_in_tree}
 use Rattle.node_table.proofs.Basics.Options.{is_there, some_is, not_none}

@@ -2,164 +2,191 @@
 // allowed. The bytes are put by hand.
 use super::*;
 
+const LIMIT: u64 = 0x7fff_ffff_ffff_ffff;
+
 const PAST: u64 = 0x8000_0000_0000_0000;
+
+// Gate, epoch, count and nodes of a slot.
+type Slot = (u8, u64, u64, u16);
+
+const CLOSED: Slot = (0, 0, 0, 0);
+
+// The header's nodes, the two slots, and the count and the nodes that are opened.
+const HEADS: [(&str, u16, Slot, Slot, Option<(u64, u16)>); 23] = [
+    ("no nodes", 0, (1, 1, 0, 0), CLOSED, None),
+    ("one node", 1, (1, 1, 0, 1), CLOSED, Some((0, 1))),
+    (
+        "16,384 nodes",
+        16_384,
+        (1, 1, 0, 16_384),
+        CLOSED,
+        Some((0, 16_384)),
+    ),
+    ("16,385 nodes", 16_385, (1, 1, 0, 16_385), CLOSED, None),
+    ("no open slot", 5, (0, 1, 0, 5), (0, 2, 0, 5), None),
+    ("gates 2, 255", 5, (2, 1, 0, 5), (255, 2, 0, 5), None),
+    (
+        "the first open",
+        5,
+        (1, 1, 3, 5),
+        (0, 2, 7, 5),
+        Some((3, 5)),
+    ),
+    (
+        "the second open",
+        5,
+        (0, 2, 3, 5),
+        (1, 1, 7, 5),
+        Some((7, 5)),
+    ),
+    (
+        "the first newer",
+        5,
+        (1, 2, 3, 5),
+        (1, 1, 7, 5),
+        Some((3, 5)),
+    ),
+    (
+        "the second newer",
+        5,
+        (1, 1, 3, 5),
+        (1, 2, 7, 5),
+        Some((7, 5)),
+    ),
+    ("equal epochs", 5, (1, 1, 3, 5), (1, 1, 7, 5), None),
+    ("equal slots", 5, (1, 1, 3, 5), (1, 1, 3, 5), None),
+    (
+        "equal, one closed",
+        5,
+        (1, 1, 3, 5),
+        (0, 1, 3, 5),
+        Some((3, 5)),
+    ),
+    ("the last epoch", 5, (1, LIMIT, 3, 5), CLOSED, Some((3, 5))),
+    ("an epoch past it", 5, (1, PAST, 3, 5), CLOSED, None),
+    ("past it, the newer", 5, (1, 1, 3, 5), (1, PAST, 7, 5), None),
+    (
+        "past it, closed",
+        5,
+        (1, 1, 3, 5),
+        (0, PAST, 7, 5),
+        Some((3, 5)),
+    ),
+    (
+        "the last count",
+        5,
+        (1, 1, LIMIT, 5),
+        CLOSED,
+        Some((LIMIT, 5)),
+    ),
+    ("a count past it", 5, (1, 1, PAST, 5), CLOSED, None),
+    (
+        "past it, older",
+        5,
+        (1, 2, 3, 5),
+        (1, 1, PAST, 5),
+        Some((3, 5)),
+    ),
+    ("four nodes of five", 5, (1, 1, 3, 4), CLOSED, None),
+    ("six nodes of five", 5, (1, 1, 3, 6), CLOSED, None),
+    (
+        "six nodes, older",
+        5,
+        (1, 1, 3, 6),
+        (1, 2, 7, 5),
+        Some((7, 5)),
+    ),
+];
+
+// Puts a slot of no edges.
+fn put_slot(disk: &mut MemDisk, at: usize, slot: Slot) -> Result<(), Fail> {
+    let (gate, epoch, count, nodes) = slot;
+    let head = Head {
+        gate,
+        epoch,
+        count,
+        nodes,
+        edges: 0,
+    };
+    put_head(disk, at, head)
+}
 
 #[test]
 fn tells_damaged_heads(rt: HostRuntime) -> Result<(), Fail> {
-    let closed = (0, 0, 0, 0);
-    // the header's nodes, gate, epoch, count and nodes of each slot, and the count and the nodes that are opened
-    for (name, nodes, first, second, want) in [
-        ("no nodes", 0u16, (1, 1, 0, 0), closed, None),
-        ("one node", 1, (1, 1, 0, 1), closed, Some((0, 1))),
-        (
-            "4,096 nodes",
-            4096,
-            (1, 1, 0, 4096),
-            closed,
-            Some((0, 4096)),
-        ),
-        ("4,097 nodes", 4097, (1, 1, 0, 4097), closed, None),
-        ("no open slot", 5, (0, 1, 0, 5), (0, 2, 0, 5), None),
-        ("gates 2, 255", 5, (2, 1, 0, 5), (255, 2, 0, 5), None),
-        (
-            "the first open",
-            5,
-            (1, 1, 3, 5),
-            (0, 2, 7, 5),
-            Some((3, 5)),
-        ),
-        (
-            "the second open",
-            5,
-            (0, 2, 3, 5),
-            (1, 1, 7, 5),
-            Some((7, 5)),
-        ),
-        (
-            "the first newer",
-            5,
-            (1, 2, 3, 5),
-            (1, 1, 7, 5),
-            Some((3, 5)),
-        ),
-        (
-            "the second newer",
-            5,
-            (1, 1, 3, 5),
-            (1, 2, 7, 5),
-            Some((7, 5)),
-        ),
-        ("equal epochs", 5, (1, 1, 3, 5), (1, 1, 7, 5), None),
-        ("equal slots", 5, (1, 1, 3, 5), (1, 1, 3, 5), None),
-        (
-            "equal, one closed",
-            5,
-            (1, 1, 3, 5),
-            (0, 1, 3, 5),
-            Some((3, 5)),
-        ),
-        (
-            "the last epoch",
-            5,
-            (1, WORN_LIMIT, 3, 5),
-            closed,
-            Some((3, 5)),
-        ),
-        ("an epoch past it", 5, (1, PAST, 3, 5), closed, None),
-        ("past it, the newer", 5, (1, 1, 3, 5), (1, PAST, 7, 5), None),
-        (
-            "past it, closed",
-            5,
-            (1, 1, 3, 5),
-            (0, PAST, 7, 5),
-            Some((3, 5)),
-        ),
-        (
-            "the last count",
-            5,
-            (1, 1, WORN_LIMIT, 5),
-            closed,
-            Some((WORN_LIMIT, 5)),
-        ),
-        ("a count past it", 5, (1, 1, PAST, 5), closed, None),
-        (
-            "past it, older",
-            5,
-            (1, 2, 3, 5),
-            (1, 1, PAST, 5),
-            Some((3, 5)),
-        ),
-        ("four nodes of five", 5, (1, 1, 3, 4), closed, None),
-        ("six nodes of five", 5, (1, 1, 3, 6), closed, None),
-        (
-            "six nodes, older",
-            5,
-            (1, 1, 3, 6),
-            (1, 2, 7, 5),
-            Some((7, 5)),
-        ),
-    ] {
+    for (name, nodes, first, second, want) in HEADS {
         let mut disk = formatted(rt.alloc(), 5)?;
         put(&mut disk, NODES, &nodes.to_be_bytes())?;
-        for (at, slot) in [(FIRST_SLOT, first), (SECOND_SLOT, second)] {
-            put_head(&mut disk, at, bare(slot.0, slot.1, slot.2, slot.3))?;
-        }
+        put_slot(&mut disk, FIRST_SLOT, first)?;
+        put_slot(&mut disk, SECOND_SLOT, second)?;
         let found = match store_of(&rt, rt.alloc(), disk, name) {
             Some(store) => Some((store.count(), store.nodes())),
             None => None,
         };
-        assert_eq!(rt; found, want, "{name}");
+        same(&rt, found, want, name);
     }
     Ok(())
 }
 
+// A device whose checkpoint has the count 3 and so many edges, which are not put yet.
+fn with_edges(alloc: Global, nodes: u16, edges: u32) -> Result<MemDisk, Fail> {
+    let mut disk = formatted(alloc, nodes)?;
+    let head = Head {
+        gate: 1,
+        epoch: 1,
+        count: 3,
+        nodes,
+        edges,
+    };
+    put_head(&mut disk, FIRST_SLOT, head)?;
+    Ok(disk)
+}
+
+// Two edges of a checkpoint for five nodes, and whether they may stand there.
+const EDGES: [(&str, (u16, u16, u32), (u16, u16, u32), bool); 16] = [
+    ("nodes not in order", (0, 1, 7), (2, 1, 1), false),
+    ("nodes in order", (0, 1, 7), (1, 2, 1), true),
+    ("one node twice", (0, 1, 7), (2, 2, 1), false),
+    ("no such node", (0, 1, 7), (1, 5, 1), false),
+    ("the last node", (0, 1, 7), (1, 4, 1), true),
+    ("no weight", (0, 1, 7), (1, 2, 0), false),
+    ("the greatest weight", (0, 1, 7), (1, 2, 1_000_000), true),
+    (
+        "past the greatest weight",
+        (0, 1, 7),
+        (1, 2, 1_000_001),
+        false,
+    ),
+    ("the same edge", (0, 1, 7), (0, 1, 7), false),
+    ("the same nodes", (0, 1, 7), (0, 1, 8), false),
+    ("a smaller second node", (0, 2, 7), (0, 1, 7), false),
+    ("a greater second node", (0, 1, 7), (0, 2, 7), true),
+    ("a smaller first node", (1, 2, 7), (0, 3, 7), false),
+    ("a greater first node", (0, 3, 7), (1, 2, 7), true),
+    ("the first without weight", (0, 1, 0), (1, 2, 1), false),
+    ("the first not in order", (1, 0, 7), (1, 2, 1), false),
+];
+
 #[test]
 fn tells_damaged_edges(rt: HostRuntime) -> Result<(), Fail> {
-    // two edges of a checkpoint for five nodes, and whether they may stand there
-    for (name, first, second, is_sound) in [
-        ("nodes not in order", (0, 1, 7), (2, 1, 1), false),
-        ("nodes in order", (0, 1, 7), (1, 2, 1), true),
-        ("one node twice", (0, 1, 7), (2, 2, 1), false),
-        ("no such node", (0, 1, 7), (1, 5, 1), false),
-        ("the last node", (0, 1, 7), (1, 4, 1), true),
-        ("no weight", (0, 1, 7), (1, 2, 0), false),
-        ("the greatest weight", (0, 1, 7), (1, 2, 1_000_000), true),
-        (
-            "past the greatest weight",
-            (0, 1, 7),
-            (1, 2, 1_000_001),
-            false,
-        ),
-        ("the same edge", (0, 1, 7), (0, 1, 7), false),
-        ("the same nodes", (0, 1, 7), (0, 1, 8), false),
-        ("a smaller second node", (0, 2, 7), (0, 1, 7), false),
-        ("a greater second node", (0, 1, 7), (0, 2, 7), true),
-        ("a smaller first node", (1, 2, 7), (0, 3, 7), false),
-        ("a greater first node", (0, 3, 7), (1, 2, 7), true),
-        ("the first without weight", (0, 1, 0), (1, 2, 1), false),
-        ("the first not in order", (1, 0, 7), (1, 2, 1), false),
-    ] {
-        let mut disk = formatted(rt.alloc(), 5)?;
-        put_head(
-            &mut disk,
-            FIRST_SLOT,
-            Head {
-                gate: 1,
-                epoch: 1,
-                count: 3,
-                nodes: 5,
-                edges: 2,
-            },
-        )?;
-        put_edge(&mut disk, 4119, first)?;
-        put_edge(&mut disk, 4127, second)?;
-        let Some(store) = store_of(&rt, rt.alloc(), disk, name) else {
-            assert!(rt; !is_sound, "{name}");
-            continue;
-        };
-        assert!(rt; is_sound, "{name}");
-        for (a, b, weight) in [first, second] {
-            assert_eq!(rt; shown(&store, a, b), (3, 2, Some(weight)), "{name}");
+    for (name, first, second, is_sound) in EDGES {
+        let mut disk = with_edges(rt.alloc(), 5, 2)?;
+        put_edge(&mut disk, FIRST_EDGES, first)?;
+        put_edge(&mut disk, 4639, second)?;
+        match store_of(&rt, rt.alloc(), disk, name) {
+            None => same(&rt, is_sound, false, name),
+            Some(store) => {
+                same(&rt, is_sound, true, name);
+                let found = (
+                    shown(&store, first.0, first.1),
+                    shown(&store, second.0, second.1),
+                );
+                same(
+                    &rt,
+                    found,
+                    ((3, 2, Some(first.2)), (3, 2, Some(second.2))),
+                    name,
+                );
+            }
         }
     }
     Ok(())
@@ -167,27 +194,14 @@ fn tells_damaged_edges(rt: HostRuntime) -> Result<(), Fail> {
 
 #[test]
 fn tells_an_edge_too_many(rt: HostRuntime) -> Result<(), Fail> {
-    for (edges, want) in [(16_384, Some((3, 16_384, None))), (16_385, None)] {
-        let mut disk = formatted(rt.alloc(), 4096)?;
-        put_head(
-            &mut disk,
-            FIRST_SLOT,
-            Head {
-                gate: 1,
-                epoch: 1,
-                count: 3,
-                nodes: 4096,
-                edges,
-            },
-        )?;
-        // from each of the nodes 0 to 1,023 to the 16 nodes behind 4,079, and one edge more
-        for a in 0..1024u16 {
-            for b in 0..16u16 {
-                let at = 4119 + 128 * a as usize + 8 * b as usize;
-                put_edge(&mut disk, at, (a, 4080 + b, 1))?;
-            }
+    for (edges, want) in [(65_536, Some((3, 65_536, None))), (65_537, None)] {
+        let mut disk = with_edges(rt.alloc(), 16_384, edges)?;
+        // from each of the nodes 0 to 4,095 to the 16 nodes behind 16,367, and one edge more
+        for i in 0..65_536usize {
+            let edge = ((i / 16) as u16, 16_368 + (i % 16) as u16, 1);
+            put_edge(&mut disk, FIRST_EDGES + 8 * i, edge)?;
         }
-        put_edge(&mut disk, 135_191, (1024, 4080, 1))?;
+        put_edge(&mut disk, 528_919, (4096, 16_368, 1))?;
         assert_opens(&rt, rt.alloc(), disk, want, "edges");
     }
     Ok(())
@@ -195,11 +209,67 @@ fn tells_an_edge_too_many(rt: HostRuntime) -> Result<(), Fail> {
 
 #[test]
 fn tells_a_device_of_another_length(rt: HostRuntime) -> Result<(), Fail> {
-    for (len, want) in [(2_371_584, Some((0, 0, None))), (2_371_585, None)] {
+    for (len, want) in [(3_158_016, Some((0, 0, None))), (3_158_017, None)] {
         let mut disk = MemDisk::new(rt.alloc(), len)?;
-        put_text(&mut disk, 0, "545a4e4f4445 3031 0005")?;
-        put_head(&mut disk, FIRST_SLOT, bare(1, 1, 0, 5))?;
+        put_text(&mut disk, 0, "545a4e4f4445 3032 0005")?;
+        put_slot(&mut disk, FIRST_SLOT, (1, 1, 0, 5))?;
         assert_opens(&rt, rt.alloc(), disk, want, "length");
     }
+    Ok(())
+}
+
+// A byte of the device with one edge, and what is opened where it is another.
+const BYTES: [(&str, usize, u8, Option<Shown>); 24] = [
+    ("the header's nodes", 8, 0x40, None),
+    ("no nodes", 9, 0, None),
+    ("no open slot", 4096, 0, None),
+    ("an epoch past the limit", 4097, 0x80, None),
+    ("a count past the limit", 4105, 0x80, None),
+    ("other nodes", 4114, 4, None),
+    ("an edge of zeros", 4118, 1, None),
+    ("16,777,216 edges", 4115, 1, None),
+    ("a last ticket past the limit", 4119, 0x80, None),
+    ("a last ticket as great as the record's", 4126, 1, None),
+    ("a closed gate", 532_480, 2, Some((0, 0, None))),
+    ("length 20", 532_484, 0x14, None),
+    ("session 63", 532_487, 63, Some((1, 1, Some(1)))),
+    ("session 64", 532_487, 64, None),
+    ("a ticket past the limit", 532_488, 0x80, None),
+    (
+        "the greatest ticket's first byte",
+        532_488,
+        0x7f,
+        Some((1, 1, Some(1))),
+    ),
+    ("ticket 0", 532_495, 0, None),
+    ("a set of no edge", 532_497, 2, None),
+    ("a cut with a weight", 532_497, 3, None),
+    ("no kind", 532_497, 4, None),
+    ("an edge to node 4", 532_501, 4, Some((1, 1, None))),
+    ("an edge to no node", 532_501, 5, None),
+    ("an open gate behind", 532_506, 1, None),
+    (
+        "the other slot open, epoch 0",
+        1_581_056,
+        1,
+        Some((1, 1, Some(1))),
+    ),
+];
+
+#[test]
+fn tells_damage_by_one_byte(rt: HostRuntime) -> Result<(), Fail> {
+    for (name, at, byte, want) in BYTES {
+        let disk = spoilt(with_edge(rt.alloc())?, at, byte)?;
+        assert_opens(&rt, rt.alloc(), disk, want, name);
+    }
+    let disk = spoilt(with_edge(rt.alloc())?, 532_501, 4)?;
+    same(
+        &rt,
+        shown(&opened(rt.alloc(), disk)?, 0, 4),
+        (1, 1, Some(1)),
+        "an edge to node 4",
+    );
+    let equal = spoilt(spoilt(with_edge(rt.alloc())?, 1_581_056, 1)?, 1_581_064, 1)?;
+    assert_opens(&rt, rt.alloc(), equal, None, "equal epochs");
     Ok(())
 }

@@ -1,62 +1,70 @@
-// A commit of the largest group, 64 changes of 16 ops, stopped inside its writes.
+// A commit of the largest group, 64 requests of 16 ops, stopped inside its writes.
 use super::*;
 
-// The first change adds the edge 1-2, and the k-th sets 0-1 to the weight k.
-fn largest_group(alloc: Global) -> Result<Vec<Change>, Fail> {
+// The first request adds the edge 1-2, and the k-th sets 0-1 to the weight k.
+fn largest_group(alloc: Global) -> Result<Vec<Request>, Fail> {
     let mut group = Vec::new(alloc);
     for weight in 1..65u32 {
         let mut ops = [Op::Set(0, 1, weight); 16];
         if weight == 1 {
             ops[0] = Op::Add(1, 2, 7);
         }
-        group.push(change(&ops)?)?;
+        group.push(request(9, 1000 + weight as u64, &ops)?)?;
     }
     Ok(group)
 }
 
-// Commits the group to a device with one edge by a plan that counts its calls, which has to stop it; the store after a crash by
-// the word, which shows the old count or the whole group.
+// Commits the group to a device with one edge by a plan that counts its calls, which has to stop it; and the disk after that.
 fn stopped(
     rt: &impl Abort,
     alloc: Global,
     disk: MemDisk,
-    group: &[Change],
+    group: &[Request],
     plan: Plan,
-    word: u64,
-) -> Result<Store<MemDisk>, Fail> {
+) -> Result<MemDisk, Fail> {
     let mut store = opened(alloc, disk)?;
     store.arm(plan);
-    assert_eq!(rt;
-        commit_group(rt, alloc, &mut store, group)?,
+    same(
+        rt,
+        commit(alloc, &mut store, group)?,
         Err(CommitRefused::Device),
-        "{plan:?}, word {word}"
+        "stopped",
     );
-    assert!(rt; store.is_down());
-    assert_eq!(rt; shown(&store, 0, 1), (1, 1, Some(1)));
-    assert_eq!(rt;
-        commit_group(rt, alloc, &mut store, group)?,
-        Err(CommitRefused::Down)
+    same(
+        rt,
+        (shown(&store, 0, 1), store.is_down()),
+        ((1, 1, Some(1)), true),
+        "stopped",
     );
-    assert_eq!(rt; roll(alloc, &mut store), Err(RollRefused::Down));
-    let store = opened(alloc, store.into_disk().crash(word))?;
-    if store.count() == 1 {
-        assert_eq!(rt;
-            shown(&store, 0, 1),
-            (1, 1, Some(1)),
-            "{plan:?}, word {word}"
-        );
+    same(
+        rt,
+        commit(alloc, &mut store, group)?,
+        Err(CommitRefused::Down),
+        "again",
+    );
+    same(
+        rt,
+        roll(alloc, &mut store),
+        Err(RollRefused::Down),
+        "rolled",
+    );
+    Ok(store.into_disk())
+}
+
+// The store that a crash leaves, which shows the old count or the whole group.
+fn left(rt: &impl Abort, alloc: Global, disk: MemDisk, word: u64) -> Result<Store<MemDisk>, Fail> {
+    let store = opened(alloc, disk.crash(word))?;
+    let found = (
+        shown(&store, 0, 1),
+        store.graph().weight(1, 2),
+        store.resume(9),
+    );
+    let want = if store.count() == 1 {
+        ((1, 1, Some(1)), None, 0)
     } else {
-        assert_eq!(rt;
-            shown(&store, 0, 1),
-            (65, 2, Some(64)),
-            "{plan:?}, word {word}"
-        );
-        assert_eq!(rt;
-            shown(&store, 1, 2),
-            (65, 2, Some(7)),
-            "{plan:?}, word {word}"
-        );
-    }
+        ((65, 2, Some(64)), Some(7), 1064)
+    };
+    same(rt, found, want, "after a crash");
     Ok(store)
 }
 
@@ -64,21 +72,31 @@ fn stopped(
 fn the_largest_body_stops_at_its_ends(rt: HostRuntime) -> Result<(), Fail> {
     let group = largest_group(rt.alloc())?;
     for word in WORDS {
-        let mut disk = with_edge(&rt, rt.alloc())?;
-        // The first call writes 4 bytes of length, 9,282 of payload, and the next gate: all or none of the first and of the last 64 of them
-        for (from, to) in [(0usize, 65usize), (9223, 9288)] {
+        let mut disk = with_edge(rt.alloc())?;
+        // The first call writes 4 bytes of length, 9,858 of payload, and the next gate: none to 64 bytes, and all but 64 to all of them
+        for (from, to) in [(0usize, 65usize), (9799, 9864)] {
             for put_bytes in from..to {
                 let plan = Plan::Stop(1, put_bytes);
-                let store = stopped(&rt, rt.alloc(), disk, &group, plan, word)?;
-                assert_eq!(rt; store.count(), 1, "{put_bytes} bytes, word {word}");
+                let store = left(
+                    &rt,
+                    rt.alloc(),
+                    stopped(&rt, rt.alloc(), disk, &group, plan)?,
+                    word,
+                )?;
+                same(&rt, store.count(), 1, "before the gate's write");
                 disk = store.into_disk();
                 // the same device again, so what was torn is zeros
-                put(&mut disk, 139_282, &[0; 9287])?;
+                put(&mut disk, 532_507, &[0; 9863])?;
             }
         }
         let mut store = opened(rt.alloc(), disk)?;
-        assert_eq!(rt; commit_group(&rt, rt.alloc(), &mut store, &group)?, Ok(()));
-        assert_eq!(rt; shown(&store, 0, 1), (65, 2, Some(64)));
+        same(
+            &rt,
+            commit(rt.alloc(), &mut store, &group)?,
+            Ok(()),
+            "whole",
+        );
+        same(&rt, shown(&store, 0, 1), (65, 2, Some(64)), "whole");
     }
     Ok(())
 }
@@ -94,9 +112,9 @@ fn the_largest_record_stops_behind_its_body(rt: HostRuntime) -> Result<(), Fail>
         (Plan::Stop(4, 0), [1, 65, 1, 1, 65]),
     ] {
         for (word, count) in WORDS.iter().zip(counts.iter()) {
-            let disk = with_edge(&rt, rt.alloc())?;
-            let store = stopped(&rt, rt.alloc(), disk, &group, plan, *word)?;
-            assert_eq!(rt; store.count(), *count, "{plan:?}, word {word}");
+            let disk = stopped(&rt, rt.alloc(), with_edge(rt.alloc())?, &group, plan)?;
+            let store = left(&rt, rt.alloc(), disk, *word)?;
+            same(&rt, store.count(), *count, "behind the body");
         }
     }
     Ok(())

@@ -1,24 +1,45 @@
-// What the tests share: devices, calls that are made again where memory was short, and bytes on a device.
+// What the tests share: devices, requests, calls that are made again where memory was short, and bytes on a device.
 ghost use Rattle.std.specs.Prelude.{◌≡◌, ◌≤◌, ◌+◌, length, IsTrue, IfOk, IsSome};
 ghost use Rattle.graph_edits.specs.Changes.{fold};
-ghost use Rattle.journal.specs.Layout.{most_entries};
+ghost use Rattle.recovery.specs.State.{changes_of, AreInTurn};
 
 use super::*;
 
-// Where the header names the nodes, where the slots begin, and where the journals do; and the bytes of a journal's area.
+// Where the header names the nodes, where the slots begin, their edges and their journals; and the bytes of a journal's area.
 pub(super) const NODES: usize = 8;
 
 pub(super) const FIRST_SLOT: usize = 4096;
 
-pub(super) const FIRST_AREA: usize = 139_264;
+pub(super) const FIRST_EDGES: usize = 4631;
 
-pub(super) const SECOND_SLOT: usize = 1_187_840;
+pub(super) const FIRST_AREA: usize = 532_480;
 
-pub(super) const SECOND_AREA: usize = 1_323_008;
+pub(super) const SECOND_SLOT: usize = 1_581_056;
+
+pub(super) const SECOND_EDGES: usize = 1_581_591;
+
+pub(super) const SECOND_AREA: usize = 2_109_440;
 
 pub(super) const ROOM: usize = 1_048_576;
 
 pub(super) const WORDS: [u64; 5] = [0, 1, 7, 256, 257];
+
+// Count, edges and the weight of one edge.
+pub(super) type Shown = (u64, usize, Option<u32>);
+
+// An op under the session and the ticket of its request.
+pub(super) type Asked = (u8, u64, Op);
+
+pub(super) fn failed<T>(text: &str) -> Result<T, Fail> {
+    Err(Fail::new(format_args!("{text}")))
+}
+
+// Sees that two values are the same.
+pub(super) fn same<T: Copy + PartialEq + Debug>(rt: &impl Abort, found: T, want: T, name: &str) {
+    assert_eq!(rt; found, want, "{name}");
+}
+
+// ---- devices
 
 pub(super) fn formatted(alloc: Global, nodes: u16) -> Result<MemDisk, Fail> {
     let mut disk = match MemDisk::new(alloc, DEVICE_LEN) {
@@ -27,7 +48,7 @@ pub(super) fn formatted(alloc: Global, nodes: u16) -> Result<MemDisk, Fail> {
     };
     match format(&mut disk, nodes) {
         Ok(()) => Ok(disk),
-        Err(refused) => Err(Fail::new(format_args!("not formatted: {refused:?}"))),
+        Err(_) => failed("not formatted"),
     }
 }
 
@@ -45,7 +66,7 @@ pub(super) fn open_again(
 pub(super) fn opened(alloc: Global, disk: MemDisk) -> Result<Store<MemDisk>, Fail> {
     match open_again(alloc, disk) {
         Ok(store) => Ok(store),
-        Err((refused, _)) => Err(Fail::new(format_args!("not opened: {refused:?}"))),
+        Err(_) => failed("not opened"),
     }
 }
 
@@ -57,16 +78,94 @@ pub(super) fn refusal(alloc: Global, disk: MemDisk) -> Option<OpenRefused> {
     }
 }
 
-pub(super) fn is_accepted(
-    alloc: Global,
-    graph: &Graph,
-    changes: &[Change],
-) -> Result<bool, AllocError>
-    ensures { IfOk result (λ yes. IsTrue yes → IsSome (fold graph.now changes.now)) }
+// The first bytes of a device, as a device of its own.
+pub(super) fn cut_to(alloc: Global, disk: MemDisk, len: usize) -> Result<MemDisk, Fail> {
+    let mut disk = disk;
+    if disk.len() < len {
+        return failed("too short");
+    }
+    let mut bytes = vec![in alloc; 0; len]?;
+    if disk.read(0, bytes.as_mut_slice()).is_err() {
+        return failed("not read");
+    }
+    let mut front = MemDisk::new(alloc, len)?;
+    put(&mut front, 0, bytes.as_slice())?;
+    Ok(front)
+}
+
+// ---- requests
+
+pub(super) fn request(session: u8, ticket: u64, ops: &[Op]) -> Result<Request, Fail> {
+    match Change::new(ops) {
+        Ok(change) => Ok(Request {
+            session,
+            ticket,
+            change,
+        }),
+        Err(_) => failed("no change"),
+    }
+}
+
+// The requests of a list of ops: those in a row that have one session and ticket are one request. None where they are too many.
+fn group_of(alloc: Global, asked: &[Asked]) -> Result<Option<Vec<Request>>, AllocError> {
+    let mut group = Vec::new(alloc);
+    let mut ops = Vec::new(alloc);
+    for (i, (session, ticket, op)) in asked.iter().enumerate() {
+        ops.push(*op)?;
+        let is_last = match asked.get(i + 1) {
+            Some((other, next, _)) => other != session || next != ticket,
+            None => true,
+        };
+        if is_last {
+            let Ok(change) = Change::new(&ops) else {
+                return Ok(None);
+            };
+            group.push(Request {
+                session: *session,
+                ticket: *ticket,
+                change,
+            })?;
+            ops.clear();
+        }
+    }
+    Ok(Some(group))
+}
+
+// The same, made again where memory was short.
+pub(super) fn group_again(alloc: Global, asked: &[Asked]) -> Result<Vec<Request>, Fail> {
+    let group = match group_of(alloc, asked) {
+        Ok(group) => group,
+        Err(_) => group_of(alloc, asked)?,
+    };
+    match group {
+        Some(group) => Ok(group),
+        None => failed("too many ops"),
+    }
+}
+
+// So many requests of session 0 of so many ops each, from a ticket on. Each op sets the edge 0-1 to the weight 1.
+pub(super) fn add_requests(
+    group: &mut Vec<Request>,
+    ticket: u64,
+    changes: u64,
+    ops: usize,
+) -> Result<(), Fail> {
+    let all = [Op::Set(0, 1, 1); 16];
+    let Some(ops) = all.get(..ops) else {
+        return failed("too many ops");
+    };
+    for i in 0..changes {
+        group.push(request(0, ticket.wrapping_add(i), ops)?)?;
+    }
+    Ok(())
+}
+
+fn is_accepted(alloc: Global, graph: &Graph, requests: &[Request]) -> Result<bool, AllocError>
+    ensures { IfOk result (λ yes. IsTrue yes → IsSome (fold graph.now (changes_of requests.now))) }
 {
     let mut after = Overlay::over(alloc, graph);
-    for change in changes {
-        match after.apply(change) {
+    for request in requests {
+        match after.apply(&request.change) {
             Ok(()) => {}
             Err(EditRefused::Op { .. }) => return Ok(false),
             Err(EditRefused::Memory) => return Err(AllocError),
@@ -75,51 +174,119 @@ pub(super) fn is_accepted(
     Ok(true)
 }
 
-// The same, asked again where memory was short.
-pub(super) fn accepts(alloc: Global, graph: &Graph, changes: &[Change]) -> bool
-    ensures { IsTrue result → IsSome (fold graph.now changes.now) }
+fn is_in_turn(starts: [u64; SESSIONS], requests: &[Request]) -> bool
+    ensures { IsTrue result → AreInTurn starts requests.now }
 {
-    match is_accepted(alloc, graph, changes) {
+    let mut tickets = starts;
+    for request in requests {
+        let session = request.session as usize;
+        if session >= SESSIONS
+            || request.ticket <= tickets[session]
+            || WORN_LIMIT < request.ticket
+        {
+            return false;
+        }
+        tickets[session] = request.ticket;
+    }
+    true
+}
+
+// The same of the graph's test, asked again where memory was short.
+fn accepts(alloc: Global, graph: &Graph, requests: &[Request]) -> bool
+    ensures { IsTrue result → IsSome (fold graph.now (changes_of requests.now)) }
+{
+    match is_accepted(alloc, graph, requests) {
         Ok(accepted) => accepted,
-        Err(_) => is_accepted(alloc, graph, changes).unwrap_or(false),
+        Err(_) => is_accepted(alloc, graph, requests).unwrap_or(false),
     }
 }
 
-// Commits changes that the graph accepts, again where memory was short.
-pub(super) fn commit(
-    rt: &impl Abort,
+// Commits 1 to 64 requests in turn that the graph accepts.
+pub(super) fn commit_once(
     alloc: Global,
     store: &mut Store<MemDisk>,
-    changes: &[Change],
-) -> Result<(), CommitRefused>
-    requires some { 1 ≤ length changes.now }
-    requires few { length changes.now ≤ most_entries }
-{
-    assert!(rt; accepts(alloc, store.graph(), changes));
-    match store.commit(alloc, changes) {
-        Err(CommitRefused::Memory) => {
-            assert!(rt; accepts(alloc, store.graph(), changes));
-            store.commit(alloc, changes)
-        }
+    requests: &[Request],
+) -> Result<Result<(), CommitRefused>, Fail> {
+    if requests.is_empty() || requests.len() > 64 || !is_in_turn(store.starts(), requests) {
+        return failed("no group in turn");
+    }
+    if !accepts(alloc, store.graph(), requests) {
+        return failed("not accepted");
+    }
+    Ok(store.commit(alloc, requests))
+}
+
+// The same, again where memory was short.
+pub(super) fn commit(
+    alloc: Global,
+    store: &mut Store<MemDisk>,
+    requests: &[Request],
+) -> Result<Result<(), CommitRefused>, Fail> {
+    match commit_once(alloc, store, requests)? {
+        Err(CommitRefused::Memory) => commit_once(alloc, store, requests),
+        answer => Ok(answer),
+    }
+}
+
+// What a commit of a list of ops answers.
+pub(super) fn answer_to(
+    alloc: Global,
+    store: &mut Store<MemDisk>,
+    asked: &[Asked],
+) -> Result<Result<(), CommitRefused>, Fail> {
+    let group = group_again(alloc, asked)?;
+    commit(alloc, store, &group)
+}
+
+// The same, where the answer is Ok.
+pub(super) fn commits(
+    alloc: Global,
+    store: &mut Store<MemDisk>,
+    asked: &[Asked],
+) -> Result<(), Fail> {
+    match answer_to(alloc, store, asked)? {
+        Ok(()) => Ok(()),
+        Err(_) => failed("not committed"),
+    }
+}
+
+// Rolls, again where memory was short.
+pub(super) fn roll(alloc: Global, store: &mut Store<MemDisk>) -> Result<(), RollRefused> {
+    match store.roll(alloc) {
+        Err(RollRefused::Memory) => store.roll(alloc),
         answer => answer,
     }
 }
 
-pub(super) fn change(ops: &[Op]) -> Result<Change, Fail> {
-    match Change::new(ops) {
-        Ok(change) => Ok(change),
-        Err(shape) => Err(Fail::new(format_args!("no change: {shape:?}"))),
+pub(super) fn rolls(alloc: Global, store: &mut Store<MemDisk>) -> Result<(), Fail> {
+    match roll(alloc, store) {
+        Ok(()) => Ok(()),
+        Err(_) => failed("not rolled"),
     }
 }
+
+// A device for five nodes with one committed edge.
+pub(super) fn with_edge(alloc: Global) -> Result<MemDisk, Fail> {
+    let mut store = opened(alloc, formatted(alloc, 5)?)?;
+    commits(alloc, &mut store, &[(0, 1, Op::Add(0, 1, 1))])?;
+    Ok(store.into_disk())
+}
+
+pub(super) fn shown(store: &Store<MemDisk>, a: u16, b: u16) -> Shown {
+    let graph = store.graph();
+    (store.count(), graph.edges(), graph.weight(a, b))
+}
+
+// ---- bytes
 
 pub(super) fn bytes<const N: usize>(disk: &mut MemDisk, at: usize) -> Result<[u8; N], Fail> {
     let mut bytes = [0; N];
     if disk.len() < N || disk.len() - N < at {
-        return Err(Fail::new(format_args!("no bytes there")));
+        return failed("no bytes there");
     }
     match disk.read(at, &mut bytes) {
         Ok(()) => Ok(bytes),
-        Err(_) => Err(Fail::new(format_args!("not read"))),
+        Err(_) => failed("not read"),
     }
 }
 
@@ -149,104 +316,61 @@ fn spelled(text: &str) -> ([u8; 64], usize)
     (bytes, len.min(64))
 }
 
+// Puts bytes on a device.
+pub(super) fn put(disk: &mut MemDisk, at: usize, bytes: &[u8]) -> Result<(), Fail> {
+    if disk.len() < bytes.len() || disk.len() - bytes.len() < at {
+        return failed("no place there");
+    }
+    match disk.write_at(at, bytes) {
+        Ok(()) => Ok(()),
+        Err(_) => failed("not written"),
+    }
+}
+
 // Puts the bytes that a text spells.
 pub(super) fn put_text(disk: &mut MemDisk, at: usize, text: &str) -> Result<(), Fail> {
     let (bytes, len) = spelled(text);
     put(disk, at, &bytes[..len])
 }
 
-// Sees that a device has the bytes that a text spells.
-pub(super) fn shows(rt: &impl Abort, disk: &mut MemDisk, at: usize, text: &str) {
-    let (want, len) = spelled(text);
-    let mut found = [0; 64];
-    assert!(rt; len <= disk.len() && at <= disk.len() - len);
-    let answer = disk.read(at, &mut found[..len]);
-    assert!(rt;
-        answer.is_ok() && found[..len] == want[..len],
-        "{text} at {at}"
-    );
-}
-
 // A device with one byte changed.
 pub(super) fn spoilt(disk: MemDisk, at: usize, byte: u8) -> Result<MemDisk, Fail> {
     let mut disk = disk;
-    if disk.len() <= at {
-        return Err(Fail::new(format_args!("no byte there")));
-    }
-    match disk.write_at(at, &[byte]) {
-        Ok(()) => Ok(disk),
-        Err(_) => Err(Fail::new(format_args!("not written"))),
-    }
+    put(&mut disk, at, &[byte])?;
+    Ok(disk)
 }
 
-// A device for five nodes with one committed edge.
-pub(super) fn with_edge(rt: &impl Abort, alloc: Global) -> Result<MemDisk, Fail> {
-    let mut store = opened(alloc, formatted(alloc, 5)?)?;
-    let first = [change(&[Op::Add(0, 1, 1)])?];
-    assert_eq!(rt; commit(rt, alloc, &mut store, &first), Ok(()));
-    assert_eq!(rt; store.count(), 1);
-    Ok(store.into_disk())
-}
-
-// The first bytes of a device, as a device of its own.
-pub(super) fn cut_to(alloc: Global, disk: MemDisk, len: usize) -> Result<MemDisk, Fail> {
-    let mut disk = disk;
-    let mut bytes = vec![in alloc; 0; len]?;
-    if disk.len() < len {
-        return Err(Fail::new(format_args!("too short")));
-    }
-    if disk.read(0, bytes.as_mut_slice()).is_err() {
-        return Err(Fail::new(format_args!("not read")));
-    }
-    let mut front = MemDisk::new(alloc, len)?;
-    if front.write_at(0, bytes.as_slice()).is_err() {
-        return Err(Fail::new(format_args!("not written")));
-    }
-    Ok(front)
-}
-
-// Rolls, again where memory was short.
-pub(super) fn roll(alloc: Global, store: &mut Store<MemDisk>) -> Result<(), RollRefused> {
-    match store.roll(alloc) {
-        Err(RollRefused::Memory) => store.roll(alloc),
-        answer => answer,
-    }
-}
-
-// Commits 1 to 64 changes.
-pub(super) fn commit_group(
+// Sees that a device has the bytes that a text spells.
+pub(super) fn shows(
     rt: &impl Abort,
-    alloc: Global,
-    store: &mut Store<MemDisk>,
-    group: &[Change],
-) -> Result<Result<(), CommitRefused>, Fail> {
-    if group.is_empty() || group.len() > 64 {
-        return Err(Fail::new(format_args!("no group")));
+    disk: &mut MemDisk,
+    at: usize,
+    text: &str,
+) -> Result<(), Fail> {
+    let (want, len) = spelled(text);
+    let mut found = [0; 64];
+    if disk.len() < len || disk.len() - len < at || disk.read(at, &mut found[..len]).is_err() {
+        return failed("no bytes there");
     }
-    Ok(commit(rt, alloc, store, group))
+    assert!(rt; found[..len] == want[..len], "{text} at {at}");
+    Ok(())
 }
 
-// Count, edges and the weight of an edge.
-pub(super) fn shown(store: &Store<MemDisk>, a: u16, b: u16) -> (u64, usize, Option<u32>) {
-    (
-        store.count(),
-        store.graph().edges(),
-        store.graph().weight(a, b),
-    )
+// Sees that a device has so many times eight zeros.
+pub(super) fn shows_zeros(
+    rt: &impl Abort,
+    disk: &mut MemDisk,
+    at: usize,
+    eights: usize,
+) -> Result<(), Fail> {
+    for i in 0..eights {
+        let place = at.wrapping_add(i.wrapping_mul(8));
+        same(rt, bytes::<8>(disk, place)?, [0; 8], "zeros");
+    }
+    Ok(())
 }
 
-// Puts bytes on a device.
-pub(super) fn put(disk: &mut MemDisk, at: usize, bytes: &[u8]) -> Result<(), Fail> {
-    if disk.len() < bytes.len() || disk.len() - bytes.len() < at {
-        return Err(Fail::new(format_args!("no place there")));
-    }
-    match disk.write_at(at, bytes) {
-        Ok(()) => Ok(()),
-        Err(_) => Err(Fail::new(format_args!("not written"))),
-    }
-}
-
-// What stands before the edges of a slot.
+// What stands before the tickets of a slot.
 #[derive(Clone, Copy, Debug)]
 pub(super) struct Head {
     pub(super) gate: u8,
@@ -254,17 +378,6 @@ pub(super) struct Head {
     pub(super) count: u64,
     pub(super) nodes: u16,
     pub(super) edges: u32,
-}
-
-// A head with no edges.
-pub(super) fn bare(gate: u8, epoch: u64, count: u64, nodes: u16) -> Head {
-    Head {
-        gate,
-        epoch,
-        count,
-        nodes,
-        edges: 0,
-    }
 }
 
 // Puts the head of the slot that begins at `at`.
@@ -297,25 +410,25 @@ pub(super) fn store_of(
     match open_again(alloc, disk) {
         Ok(store) => Some(store),
         Err((refused, _)) => {
-            assert_eq!(rt; refused, OpenRefused::Damaged, "{name}");
+            same(rt, refused, OpenRefused::Damaged, name);
             None
         }
     }
 }
 
-// Opens a device, and sees that it is damaged, or that it shows this count, this number of edges and this weight of 0-1.
+// Opens a device, and sees that it is damaged, or that it shows this of 0-1.
 pub(super) fn assert_opens(
     rt: &impl Abort,
     alloc: Global,
     disk: MemDisk,
-    want: Option<(u64, usize, Option<u32>)>,
+    want: Option<Shown>,
     name: &str,
 ) {
     let found = match store_of(rt, alloc, disk, name) {
         Some(store) => Some(shown(&store, 0, 1)),
         None => None,
     };
-    assert_eq!(rt; found, want, "{name}");
+    same(rt, found, want, name);
 }
 
 // A number that the bytes of a device give: another one where one byte is another.

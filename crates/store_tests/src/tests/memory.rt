@@ -2,54 +2,76 @@
 // turn: the call in which it is refused answers Memory and leaves all as it was, and the same call made again gives the answer.
 use super::*;
 
-// A device for nine nodes after one roll, its bytes by hand: a checkpoint of count 1 with three edges in the second slot, and
-// two records of two changes each behind it. It takes memory only for the device.
+// A device for nine nodes after one roll, its bytes by hand: a checkpoint of count 1 with ticket 1 of session 0 and three edges in
+// the second slot, and two records of two requests each behind it. It takes memory only for the device.
 fn used_device(alloc: Global) -> Result<MemDisk, Fail> {
     let mut disk = formatted(alloc, 9)?;
-    // an open gate, epoch 2, count 1, nodes 9, three edges; and the edges 0-1, 0-2 and 3-4 of weights 1, 2 and 3
-    let head = "01 0000000000000002 0000000000000001 0009 00000003";
-    put_text(&mut disk, SECOND_SLOT, head)?;
-    let edges = "0000 0001 00000001 0000 0002 00000002 0003 0004 00000003";
-    put_text(&mut disk, SECOND_SLOT + 23, edges)?;
-    // Add(0, 3, 4); Set(0, 1, 9), Cut(3, 4); and behind them Add(5, 6, 7); Add(4, 5, 6)
-    let first =
-        "01 0000001f 0002 01 01 0000 0003 00000004 02 02 0000 0001 00000009 03 0003 0004 00000000";
-    put_text(&mut disk, SECOND_AREA, first)?;
-    let second = "01 00000016 0002 01 01 0005 0006 00000007 01 01 0004 0005 00000006 00";
-    put_text(&mut disk, SECOND_AREA + 36, second)?;
+    for (at, text) in [
+        // an open gate, epoch 2, count 1, nodes 9, three edges, ticket 1; and the edges 0-1, 0-2 and 3-4 of weights 1, 2 and 3
+        (
+            1_581_056,
+            "01 0000000000000002 0000000000000001 0009 00000003 0000000000000001",
+        ),
+        (
+            1_581_591,
+            "0000 0001 00000001 0000 0002 00000002 0003 0004 00000003",
+        ),
+        // session 0: Add(0, 3, 4); session 3: Set(0, 1, 9), Cut(3, 4); and behind them Add(5, 6, 7); Add(4, 5, 6)
+        (
+            2_109_440,
+            "01 00000031 0002 00 0000000000000002 01 01 0000 0003 00000004",
+        ),
+        (
+            2_109_466,
+            "03 0000000000000001 02 02 0000 0001 00000009 03 0003 0004 00000000",
+        ),
+        (
+            2_109_494,
+            "01 00000028 0002 00 0000000000000003 01 01 0005 0006 00000007",
+        ),
+        (2_109_520, "03 0000000000000002 01 01 0004 0005 00000006 00"),
+    ] {
+        put_text(&mut disk, at, text)?;
+    }
     Ok(disk)
 }
 
 // What the store of such a device shows.
 fn assert_used(rt: &impl Abort, store: &Store<MemDisk>) {
-    assert_eq!(rt; shown(store, 0, 1), (5, 5, Some(9)));
-    for (a, b, weight) in [(0, 2, 2), (0, 3, 4), (5, 6, 7), (4, 5, 6)] {
-        assert_eq!(rt; store.graph().weight(a, b), Some(weight), "{a}-{b}");
-    }
-    assert_eq!(rt; store.graph().weight(3, 4), None);
-    assert!(rt; !store.is_down());
+    same(rt, shown(store, 0, 1), (5, 5, Some(9)), "used");
+    let graph = store.graph();
+    let pairs = [(0, 2), (0, 3), (5, 6), (4, 5), (3, 4)];
+    let found = pairs.map(|(a, b)| graph.weight(a, b));
+    same(
+        rt,
+        found,
+        [Some(2), Some(4), Some(7), Some(6), None],
+        "used",
+    );
+    let state = (store.resume(0), store.resume(3), store.is_down());
+    same(rt, state, (3, 2, false), "used");
 }
 
 // The device of a store that was refused memory, which has to hold what it held. A byte that was written and not synced would
 // be 255 after this crash.
 fn untouched(rt: &impl Abort, disk: MemDisk, before: u64) -> Result<MemDisk, Fail> {
     let mut disk = disk.crash(511);
-    assert_eq!(rt; digest(&mut disk)?, before);
+    same(rt, digest(&mut disk)?, before, "untouched");
     Ok(disk)
 }
 
 #[test]
 fn an_opening_without_memory_is_made_again(rt: HostRuntime) -> Result<(), Fail> {
     let mut disk = used_device(rt.alloc())?;
-    assert!(rt; disk.sync().is_ok());
+    same(&rt, disk.sync().is_ok(), true, "synced");
     let before = digest(&mut disk)?;
     let store = match Store::open(rt.alloc(), disk) {
         Ok(store) => store,
         Err((refused, disk)) => {
-            assert_eq!(rt; refused, OpenRefused::Memory);
+            same(&rt, refused, OpenRefused::Memory, "refused");
             let disk = untouched(&rt, disk, before)?;
             let Ok(store) = Store::open(rt.alloc(), disk) else {
-                return Err(Fail::new(format_args!("not opened again")));
+                return failed("not opened again");
             };
             store
         }
@@ -58,35 +80,55 @@ fn an_opening_without_memory_is_made_again(rt: HostRuntime) -> Result<(), Fail> 
     Ok(())
 }
 
+// The store after a refusal: the same, or that of the device as it was left.
+fn after_refusal(
+    rt: &impl Abort,
+    alloc: Global,
+    store: Store<MemDisk>,
+    before: u64,
+    reopens: bool,
+) -> Result<Store<MemDisk>, Fail> {
+    assert_used(rt, &store);
+    if !reopens {
+        return Ok(store);
+    }
+    let store = opened(alloc, untouched(rt, store.into_disk(), before)?)?;
+    assert_used(rt, &store);
+    Ok(store)
+}
+
+// Three requests: five ops.
+const GROUP: [Asked; 5] = [
+    (0, 4, Op::Add(0, 4, 1)),
+    (0, 4, Op::Add(1, 2, 2)),
+    (3, 3, Op::Set(4, 0, 3)),
+    (3, 3, Op::Cut(0, 2)),
+    (0, 9, Op::Add(7, 8, 1_000_000)),
+];
+
+fn assert_committed(rt: &impl Abort, store: &Store<MemDisk>) {
+    same(rt, shown(store, 0, 4), (8, 7, Some(3)), "committed");
+    let graph = store.graph();
+    let found = [(7, 8), (1, 2), (0, 2)].map(|(a, b)| graph.weight(a, b));
+    same(rt, found, [Some(1_000_000), Some(2), None], "committed");
+    same(rt, (store.resume(0), store.resume(3)), (9, 3), "committed");
+}
+
 // A commit, made again where memory was short: on the same store, or on a store of the device as it was left.
 fn commits_again(rt: &impl Abort, alloc: Global, reopens: bool) -> Result<(), Fail> {
     let mut disk = used_device(alloc)?;
     let before = digest(&mut disk)?;
+    let group = group_again(alloc, &GROUP)?;
     let mut store = opened(alloc, disk)?;
-    let group = [
-        change(&[Op::Add(0, 4, 1), Op::Add(1, 2, 2)])?,
-        change(&[Op::Set(4, 0, 3), Op::Cut(0, 2)])?,
-        change(&[Op::Add(7, 8, 1_000_000)])?,
-    ];
-    assert!(rt; accepts(alloc, store.graph(), &group));
-    let mut answer = store.commit(alloc, &group);
+    let mut answer = commit_once(alloc, &mut store, &group)?;
     if answer.is_err() {
-        assert_eq!(rt; answer, Err(CommitRefused::Memory));
-        assert_used(rt, &store);
-        if reopens {
-            store = opened(alloc, untouched(rt, store.into_disk(), before)?)?;
-            assert_used(rt, &store);
-        }
-        assert!(rt; accepts(alloc, store.graph(), &group));
-        answer = store.commit(alloc, &group);
+        same(rt, answer, Err(CommitRefused::Memory), "refused");
+        store = after_refusal(rt, alloc, store, before, reopens)?;
+        answer = commit_once(alloc, &mut store, &group)?;
     }
-    assert_eq!(rt; answer, Ok(()));
-    assert_eq!(rt; shown(&store, 0, 4), (8, 7, Some(3)));
-    let store = opened(alloc, store.into_disk())?;
-    assert_eq!(rt; shown(&store, 0, 4), (8, 7, Some(3)));
-    assert_eq!(rt; shown(&store, 7, 8), (8, 7, Some(1_000_000)));
-    assert_eq!(rt; shown(&store, 1, 2), (8, 7, Some(2)));
-    assert_eq!(rt; shown(&store, 0, 2), (8, 7, None));
+    same(rt, answer, Ok(()), "committed");
+    assert_committed(rt, &store);
+    assert_committed(rt, &opened(alloc, store.into_disk())?);
     Ok(())
 }
 
@@ -107,20 +149,17 @@ fn rolls_again(rt: &impl Abort, alloc: Global, reopens: bool) -> Result<(), Fail
     let mut store = opened(alloc, disk)?;
     let mut answer = store.roll(alloc);
     if answer.is_err() {
-        assert_eq!(rt; answer, Err(RollRefused::Memory));
-        assert_used(rt, &store);
-        if reopens {
-            store = opened(alloc, untouched(rt, store.into_disk(), before)?)?;
-            assert_used(rt, &store);
-        }
+        same(rt, answer, Err(RollRefused::Memory), "refused");
+        store = after_refusal(rt, alloc, store, before, reopens)?;
         answer = store.roll(alloc);
     }
-    assert_eq!(rt; answer, Ok(()));
+    same(rt, answer, Ok(()), "rolled");
     assert_used(rt, &store);
     let mut disk = store.into_disk();
-    // an open gate, epoch 3, count 5, nodes 9, five edges, the first of them 0-1 of weight 9
-    let front = "01 0000000000000003 0000000000000005 0009 00000005 0000 0001 00000009";
-    shows(rt, &mut disk, FIRST_SLOT, front);
+    // an open gate, epoch 3, count 5, nodes 9, five edges, ticket 3 of session 0; and the first edge, 0-1 of weight 9
+    let front = "01 0000000000000003 0000000000000005 0009 00000005 0000000000000003";
+    shows(rt, &mut disk, FIRST_SLOT, front)?;
+    shows(rt, &mut disk, FIRST_EDGES, "0000 0001 00000009")?;
     assert_used(rt, &opened(alloc, disk)?);
     Ok(())
 }
@@ -138,7 +177,7 @@ fn a_roll_without_memory_writes_nothing(rt: HostRuntime) -> Result<(), Fail> {
 // Helpers that ask again, over one store.
 #[test]
 fn answers_after_a_want_of_memory(rt: HostRuntime) -> Result<(), Fail> {
-    let store = opened(rt.alloc(), with_edge(&rt, rt.alloc())?)?;
-    assert_eq!(rt; shown(&store, 0, 1), (1, 1, Some(1)));
+    let store = opened(rt.alloc(), with_edge(rt.alloc())?)?;
+    same(&rt, shown(&store, 0, 1), (1, 1, Some(1)), "one edge");
     Ok(())
 }

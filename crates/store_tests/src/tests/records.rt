@@ -4,110 +4,120 @@ use super::*;
 // A device for five nodes whose checkpoint has a count and the edge 0-1 of weight 7.
 fn one_edge(alloc: Global, count: u64) -> Result<MemDisk, Fail> {
     let mut disk = formatted(alloc, 5)?;
-    put_head(
-        &mut disk,
-        4096,
-        Head {
-            gate: 1,
-            epoch: 1,
-            count,
-            nodes: 5,
-            edges: 1,
-        },
-    )?;
-    put_edge(&mut disk, 4119, (0, 1, 7))?;
+    let head = Head {
+        gate: 1,
+        epoch: 1,
+        count,
+        nodes: 5,
+        edges: 1,
+    };
+    put_head(&mut disk, FIRST_SLOT, head)?;
+    put_edge(&mut disk, FIRST_EDGES, (0, 1, 7))?;
     Ok(disk)
 }
 
-// A record with an open gate: runs of so many changes of so many ops, each of which sets the edge 0-1 to the weight 1.
-fn record(alloc: Global, runs: &[(u16, u8)]) -> Result<Vec<u8>, Fail> {
-    let mut len = 2u32;
-    let mut changes = 0u16;
+// Adds a request of session 0 of so many ops, each of which sets the edge 0-1 to the weight 1.
+fn push_request(text: &mut Vec<u8>, ticket: u64, ops: u8) -> Result<(), AllocError> {
+    text.push(0)?;
+    text.extend_from_slice(&ticket.to_be_bytes())?;
+    text.push(ops)?;
+    for _ in 0..ops {
+        text.extend_from_slice(&[2, 0, 0, 0, 1, 0, 0, 0, 1])?;
+    }
+    Ok(())
+}
+
+// A record with an open gate: runs of so many requests of so many ops, from a ticket on.
+fn record(alloc: Global, ticket: u64, runs: &[(u16, u8)]) -> Result<Vec<u8>, Fail> {
     let mut behind = Vec::new(alloc);
+    let mut requests = 0u16;
     for (count, ops) in runs {
         for _ in 0..*count {
-            changes = changes.wrapping_add(1);
-            len = len.wrapping_add(1);
-            behind.push(*ops)?;
-            for _ in 0..*ops {
-                len = len.wrapping_add(9);
-                behind.extend_from_slice(&[2, 0, 0, 0, 1, 0, 0, 0, 1])?;
-            }
+            push_request(&mut behind, ticket.wrapping_add(requests as u64), *ops)?;
+            requests = requests.wrapping_add(1);
         }
     }
+    let Ok(len) = u32::try_from(behind.len()) else {
+        return failed("too long");
+    };
     let mut text = Vec::new(alloc);
     text.push(1)?;
-    text.extend_from_slice(&len.to_be_bytes())?;
-    text.extend_from_slice(&changes.to_be_bytes())?;
+    text.extend_from_slice(&len.wrapping_add(2).to_be_bytes())?;
+    text.extend_from_slice(&requests.to_be_bytes())?;
     text.extend_from_slice(&behind)?;
     Ok(text)
 }
 
+// Bytes from the area's start on, and what is opened. An op is a kind, two nodes and a weight.
+const RECORDS: [(&str, &str, Option<Shown>); 15] = [
+    ("closed by 0", "00 09090909", Some((3, 1, Some(7)))),
+    ("closed by 2", "02 09090909", Some((3, 1, Some(7)))),
+    ("closed by 255", "ff 09090909", Some((3, 1, Some(7)))),
+    (
+        "length 20",
+        "01 00000014 0001 00 0000000000000001 01 02 0000 0001 000000",
+        None,
+    ),
+    (
+        "length 21",
+        "01 00000015 0001 00 0000000000000001 01 02 0000 0001 00000008",
+        Some((4, 1, Some(8))),
+    ),
+    (
+        "one byte more",
+        "01 00000016 0001 00 0000000000000001 01 02 0000 0001 00000008 00",
+        None,
+    ),
+    (
+        "a length as great as the area",
+        "01 00100000 0001 00 0000000000000001 01 02 0000 0001 00000008",
+        None,
+    ),
+    (
+        "the greatest length",
+        "01 ffffffff 0001 00 0000000000000001 01 02 0000 0001 00000008",
+        None,
+    ),
+    (
+        "no request",
+        "01 00000015 0000 00 0000000000000001 01 02 0000 0001 00000008",
+        None,
+    ),
+    (
+        "one request less than counted",
+        "01 00000015 0002 00 0000000000000001 01 02 0000 0001 00000008",
+        None,
+    ),
+    (
+        "one request more than counted",
+        "01 00000028 0001 00 0000000000000001 01 02 0000 0001 00000008 00 0000000000000002 01 02 0000 0001 00000009",
+        None,
+    ),
+    (
+        "two requests",
+        "01 00000028 0002 00 0000000000000001 01 02 0000 0001 00000008 00 0000000000000002 01 02 0000 0001 00000009",
+        Some((5, 1, Some(9))),
+    ),
+    (
+        "a request of no op",
+        "01 0000001f 0002 00 0000000000000001 00 00 0000000000000002 01 02 0000 0001 00000008",
+        None,
+    ),
+    (
+        "one op less than counted",
+        "01 00000015 0001 00 0000000000000001 02 02 0000 0001 00000008",
+        None,
+    ),
+    (
+        "one op more than counted",
+        "01 0000001e 0001 00 0000000000000001 01 02 0000 0001 00000008 02 0000 0001 00000009",
+        None,
+    ),
+];
+
 #[test]
 fn tells_damaged_records(rt: HostRuntime) -> Result<(), Fail> {
-    // bytes from the area's start on; an op is a kind, two nodes and a weight
-    let cases = [
-        ("closed by 0", "00 09090909", Some((3, 1, Some(7)))),
-        ("closed by 2", "02 09090909", Some((3, 1, Some(7)))),
-        ("closed by 255", "ff 09090909", Some((3, 1, Some(7)))),
-        ("length 11", "01 0000000b 0001 01 02 0000 0001 000000", None),
-        (
-            "length 12",
-            "01 0000000c 0001 01 02 0000 0001 00000008",
-            Some((4, 1, Some(8))),
-        ),
-        (
-            "one byte more",
-            "01 0000000d 0001 01 02 0000 0001 00000008 00",
-            None,
-        ),
-        (
-            "a length as great as the area",
-            "01 00100000 0001 01 02 0000 0001 00000008",
-            None,
-        ),
-        (
-            "the greatest length",
-            "01 ffffffff 0001 01 02 0000 0001 00000008",
-            None,
-        ),
-        (
-            "no change",
-            "01 0000000c 0000 01 02 0000 0001 00000008",
-            None,
-        ),
-        (
-            "one change less than counted",
-            "01 0000000c 0002 01 02 0000 0001 00000008",
-            None,
-        ),
-        (
-            "one change more than counted",
-            "01 00000016 0001 01 02 0000 0001 00000008 01 02 0000 0001 00000009",
-            None,
-        ),
-        (
-            "two changes",
-            "01 00000016 0002 01 02 0000 0001 00000008 01 02 0000 0001 00000009",
-            Some((5, 1, Some(9))),
-        ),
-        (
-            "a change of no op",
-            "01 0000000d 0002 00 01 02 0000 0001 00000008",
-            None,
-        ),
-        (
-            "one op less than counted",
-            "01 0000000c 0001 02 02 0000 0001 00000008",
-            None,
-        ),
-        (
-            "one op more than counted",
-            "01 00000015 0001 01 02 0000 0001 00000008 02 0000 0001 00000009",
-            None,
-        ),
-    ];
-    for (name, text, want) in cases {
+    for (name, text, want) in RECORDS {
         let mut disk = one_edge(rt.alloc(), 3)?;
         put_text(&mut disk, FIRST_AREA, text)?;
         assert_opens(&rt, rt.alloc(), disk, want, name);
@@ -115,78 +125,111 @@ fn tells_damaged_records(rt: HostRuntime) -> Result<(), Fail> {
     Ok(())
 }
 
+// Kind, nodes and weight of the one op of a record, and the edges and the weight of 0-1 that it leaves.
+const OPS: [(&str, u8, (u16, u16, u32), Option<Shown>); 17] = [
+    ("no kind", 0, (0, 1, 1), None),
+    ("an add", 1, (1, 2, 8), Some((4, 2, Some(7)))),
+    ("a set", 2, (0, 1, 8), Some((4, 1, Some(8)))),
+    (
+        "a set, the other order",
+        2,
+        (1, 0, 8),
+        Some((4, 1, Some(8))),
+    ),
+    ("a cut", 3, (0, 1, 0), Some((4, 0, None))),
+    ("a kind past them", 4, (0, 1, 1), None),
+    ("a cut with a weight", 3, (0, 1, 7), None),
+    ("an add of an edge that stands", 1, (0, 1, 7), None),
+    ("the same, the other order", 1, (1, 0, 7), None),
+    ("a set of no edge", 2, (1, 2, 8), None),
+    ("a cut of no edge", 3, (1, 2, 0), None),
+    ("an add at one node", 1, (2, 2, 1), None),
+    (
+        "an add to the last node",
+        1,
+        (0, 4, 1),
+        Some((4, 2, Some(7))),
+    ),
+    ("an add to no node", 1, (0, 5, 1), None),
+    ("an add without weight", 1, (1, 2, 0), None),
+    (
+        "the greatest weight",
+        2,
+        (0, 1, 1_000_000),
+        Some((4, 1, Some(1_000_000))),
+    ),
+    ("past the greatest weight", 2, (0, 1, 1_000_001), None),
+];
+
+// Puts an op behind its request's head.
+fn put_op(disk: &mut MemDisk, at: usize, kind: u8, edge: (u16, u16, u32)) -> Result<(), Fail> {
+    put(disk, at, &[kind])?;
+    put_edge(disk, at.wrapping_add(1), edge)
+}
+
 #[test]
 fn tells_damaged_ops(rt: HostRuntime) -> Result<(), Fail> {
-    // the kind, the nodes and the weight of the one op of a record, and the edges and the weight of 0-1 that it leaves
-    for (name, kind, a, b, weight, want) in [
-        ("no kind", 0, 0, 1, 1, None),
-        ("an add", 1, 1, 2, 8, Some((4, 2, Some(7)))),
-        ("a set", 2, 0, 1, 8, Some((4, 1, Some(8)))),
-        ("a set, the other order", 2, 1, 0, 8, Some((4, 1, Some(8)))),
-        ("a cut", 3, 0, 1, 0, Some((4, 0, None))),
-        ("a kind past them", 4, 0, 1, 1, None),
-        ("a cut with a weight", 3, 0, 1, 7, None),
-        ("an add of an edge that stands", 1, 0, 1, 7, None),
-        ("the same, the other order", 1, 1, 0, 7, None),
-        ("a set of no edge", 2, 1, 2, 8, None),
-        ("a cut of no edge", 3, 1, 2, 0, None),
-        ("an add at one node", 1, 2, 2, 1, None),
-        ("an add to the last node", 1, 0, 4, 1, Some((4, 2, Some(7)))),
-        ("an add to no node", 1, 0, 5, 1, None),
-        ("an add without weight", 1, 1, 2, 0, None),
-        (
-            "the greatest weight",
-            2,
-            0,
-            1,
-            1_000_000,
-            Some((4, 1, Some(1_000_000))),
-        ),
-        ("past the greatest weight", 2, 0, 1, 1_000_001, None),
-    ] {
+    for (name, kind, edge, want) in OPS {
         let mut disk = one_edge(rt.alloc(), 3)?;
-        put_text(&mut disk, FIRST_AREA, "01 0000000c 0001 01")?;
-        put(&mut disk, FIRST_AREA + 8, &[kind])?;
-        put_edge(&mut disk, FIRST_AREA + 9, (a, b, weight))?;
-        // the same behind another record, which by itself is sound
-        let mut second = one_edge(rt.alloc(), 2)?;
-        let both = "01 0000000c 0001 01 02 0000 0001 00000007 01 0000000c 0001 01";
-        put_text(&mut second, FIRST_AREA, both)?;
-        put(&mut second, FIRST_AREA + 25, &[kind])?;
-        put_edge(&mut second, FIRST_AREA + 26, (a, b, weight))?;
+        put_text(
+            &mut disk,
+            FIRST_AREA,
+            "01 00000015 0001 00 0000000000000001 01",
+        )?;
+        put_op(&mut disk, 532_497, kind, edge)?;
         assert_opens(&rt, rt.alloc(), disk, want, name);
-        assert_opens(&rt, rt.alloc(), second, want, name);
     }
     Ok(())
 }
 
 #[test]
-fn tells_too_many_changes_and_ops(rt: HostRuntime) -> Result<(), Fail> {
-    // so many changes of so many ops, what is added to the payload's length, and the count that is opened
-    for (changes, ops, more, count) in [
-        (64, 1, 0, Some(67)),
-        (65, 1, 0, None),
-        (1, 16, 0, Some(4)),
-        (1, 17, 0, None),
-        // 9,282 bytes, the most; and 9,281 and 9,283
-        (64, 16, 0, Some(67)),
-        (64, 16, 255, None),
-        (64, 16, 1, None),
-    ] {
+fn tells_damaged_ops_of_a_second_record(rt: HostRuntime) -> Result<(), Fail> {
+    // the same behind another record, which by itself is sound
+    for (name, kind, edge, want) in OPS {
+        let mut disk = one_edge(rt.alloc(), 2)?;
+        let first = "01 00000015 0001 00 0000000000000001 01 02 0000 0001 00000007";
+        put_text(&mut disk, FIRST_AREA, first)?;
+        put_text(
+            &mut disk,
+            532_506,
+            "01 00000015 0001 00 0000000000000002 01",
+        )?;
+        put_op(&mut disk, 532_523, kind, edge)?;
+        assert_opens(&rt, rt.alloc(), disk, want, name);
+    }
+    Ok(())
+}
+
+// So many requests of so many ops, the last byte of the payload's length, and the count that is opened. The most are 9,858 bytes, 2682.
+const SIZES: [(u16, u8, u8, Option<u64>); 7] = [
+    (64, 1, 0xc2, Some(67)),
+    (65, 1, 0xd5, None),
+    (1, 16, 0x9c, Some(4)),
+    (1, 17, 0xa5, None),
+    (64, 16, 0x82, Some(67)),
+    (64, 16, 0x81, None),
+    (64, 16, 0x83, None),
+];
+
+#[test]
+fn tells_too_many_requests_and_ops(rt: HostRuntime) -> Result<(), Fail> {
+    for (requests, ops, last, count) in SIZES {
         let mut disk = one_edge(rt.alloc(), 3)?;
-        let text = record(rt.alloc(), &[(changes, ops)])?;
-        put(&mut disk, FIRST_AREA, &text)?;
-        let last = bytes::<1>(&mut disk, FIRST_AREA + 4)?;
-        put(&mut disk, FIRST_AREA + 4, &[last[0].wrapping_add(more)])?;
+        put(
+            &mut disk,
+            FIRST_AREA,
+            &record(rt.alloc(), 1, &[(requests, ops)])?,
+        )?;
+        put(&mut disk, 532_484, &[last])?;
         let want = count.map(|count| (count, 1, Some(1)));
-        assert_opens(&rt, rt.alloc(), disk, want, "changes and ops");
+        assert_opens(&rt, rt.alloc(), disk, want, "requests and ops");
     }
     Ok(())
 }
 
 #[test]
 fn tells_records_past_the_last_count(rt: HostRuntime) -> Result<(), Fail> {
-    // two records of so many changes each, the second maybe none, behind a count so far below the last one
+    // two records of so many requests each, the second maybe none, behind a count so far below the last one
     for (below, first, second, is_sound) in [
         (1, 1, 0, true),
         (1, 1, 1, false),
@@ -197,9 +240,9 @@ fn tells_records_past_the_last_count(rt: HostRuntime) -> Result<(), Fail> {
         (0, 1, 0, false),
     ] {
         let mut disk = one_edge(rt.alloc(), WORN_LIMIT.wrapping_sub(below))?;
-        let mut text = record(rt.alloc(), &[(first, 1)])?;
+        let mut text = record(rt.alloc(), 1, &[(first, 1)])?;
         if second > 0 {
-            text.extend_from_slice(&record(rt.alloc(), &[(second, 1)])?)?;
+            text.extend_from_slice(&record(rt.alloc(), 9, &[(second, 1)])?)?;
         }
         put(&mut disk, FIRST_AREA, &text)?;
         let want = if is_sound {
@@ -212,39 +255,63 @@ fn tells_records_past_the_last_count(rt: HostRuntime) -> Result<(), Fail> {
     Ok(())
 }
 
-// A device whose journal begins with 112 records of 9,287 bytes, 64 changes of 16 ops each, and behind them one of such runs.
+// A device whose journal begins with 106 records of 9,863 bytes, 64 requests of 16 ops each, and behind them one of such runs.
 fn nearly_full(alloc: Global, runs: &[(u16, u8)]) -> Result<MemDisk, Fail> {
     let mut disk = one_edge(alloc, 0)?;
-    let text = record(alloc, &[(64, 16)])?;
-    for i in 0..112usize {
-        put(&mut disk, FIRST_AREA + 9287 * i, &text)?;
+    for i in 0..106usize {
+        let text = record(alloc, 1 + 64 * i as u64, &[(64, 16)])?;
+        put(&mut disk, FIRST_AREA + 9863 * i, &text)?;
     }
-    put(&mut disk, FIRST_AREA + 1_040_144, &record(alloc, runs)?)?;
+    put(&mut disk, 1_577_958, &record(alloc, 6785, runs)?)?;
     Ok(disk)
+}
+
+// The last record ends at this place of the area: with the gate there closed the device shows the count. With that gate open
+// there is no room for a record behind it.
+fn ends_at(
+    rt: &impl Abort,
+    alloc: Global,
+    runs: &[(u16, u8)],
+    gate: usize,
+    count: u64,
+) -> Result<(), Fail> {
+    let store = opened(alloc, nearly_full(alloc, runs)?)?;
+    same(rt, store.count(), count, "a closed gate");
+    let disk = spoilt(store.into_disk(), FIRST_AREA.wrapping_add(gate), 1)?;
+    same(
+        rt,
+        refusal(alloc, disk),
+        Some(OpenRefused::Damaged),
+        "an open gate",
+    );
+    Ok(())
 }
 
 #[test]
 fn tells_a_record_past_the_end(rt: HostRuntime) -> Result<(), Fail> {
-    // the last record, where the next gate stands, and the count with that gate closed. With that gate open there is no room for
-    // a record behind it: at the first of these places its length just fits, at the others it passes the area's end.
-    let cases: [(&[(u16, u8)], usize, u64); 3] = [
-        (&[(58, 16), (1, 1)], 1_048_571, 7227),
-        (&[(57, 16), (1, 15), (2, 1)], 1_048_572, 7228),
-        (&[(57, 16), (1, 12), (5, 1)], 1_048_575, 7231),
-    ];
-    for (runs, gate, count) in cases {
-        let mut store = opened(rt.alloc(), nearly_full(rt.alloc(), runs)?)?;
-        assert_eq!(rt; store.count(), count, "a gate at {gate}");
-        assert!(rt; gate < ROOM);
-        let disk = spoilt(store.into_disk(), FIRST_AREA + gate, 1)?;
-        assert_eq!(rt;
-            refusal(rt.alloc(), disk),
-            Some(OpenRefused::Damaged),
-            "a gate at {gate}"
-        );
-    }
+    // at the first of these places the next record's length just fits, at the others it passes the area's end
+    ends_at(
+        &rt,
+        rt.alloc(),
+        &[(19, 16), (1, 4), (6, 1)],
+        1_048_571,
+        6810,
+    )?;
+    ends_at(
+        &rt,
+        rt.alloc(),
+        &[(19, 16), (1, 2), (7, 1)],
+        1_048_572,
+        6811,
+    )?;
+    ends_at(&rt, rt.alloc(), &[(19, 16), (2, 8)], 1_048_575, 6805)?;
     // one byte longer than the longest that fits: the next gate would be the other slot's
-    let disk = nearly_full(rt.alloc(), &[(57, 16), (1, 11), (6, 1)])?;
-    assert_eq!(rt; refusal(rt.alloc(), disk), Some(OpenRefused::Damaged));
+    let disk = nearly_full(rt.alloc(), &[(19, 16), (1, 13), (2, 1)])?;
+    same(
+        &rt,
+        refusal(rt.alloc(), disk),
+        Some(OpenRefused::Damaged),
+        "past the end",
+    );
     Ok(())
 }

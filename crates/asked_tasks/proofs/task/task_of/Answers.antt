@@ -1,8 +1,9 @@
-use Rattle.std.proofs.Common.{rules, codes, Some, ◌≡◌, ◌∙◌, ap, arith, get_or, List, ℕ}
+use Rattle.std.proofs.Common.{rules, codes, Some, ◌≡◌, ◌∙◌, sym}
 use Rattle.clap.specs.Words.{first_value, found_of}
+use Rattle.clap.proofs.WalkLemmas.{first_value-rows}
 use Rattle.clap.specs.Walk.{rows_of}
 use Rattle.asked_tasks.proofs.Asking.{given, given_all, gives, gives_all}
-use Rattle.asked_tasks.proofs.OneTask.{edit_refused, format_refused, from_refused, handed_up, has_device, none_given, same_check, same_edit, same_format, same_route, same_show, to_refused, words_refused}
+use Rattle.asked_tasks.proofs.OneTask.{change_refused, format_refused, from_refused, handed_up, has_device, none_given, resume_refused, same_check, same_edit, same_format, same_resume, same_route, same_show, ticket_refused, to_refused, words_of_check_refused, words_of_route_refused}
 use Rattle.asked_tasks.proofs.task.task_of.Goals as goal
 
 pub returns-in_default-clause-refused : goal.returns-in_default-clause-refused
@@ -41,14 +42,28 @@ pub returns-in_ok-change-clause-asked : goal.returns-in_ok-change-clause-asked
 returns-in_ok-change-clause-asked c =
     let f = found_of c.args.found.now in
     let device : first_value f (codes "device") ≡ Some c.in-Some.device.now = search rules in
-    (search rules, gives f _ _ device, gives_all f _ _ c.in_ok-change.ensures.found)
+    (search rules, gives f _ _ device, (sym (first_value-rows f (codes "ticket")) ∙ c.in_ok-ticket.ensures.found, c.in_ok-ticket.ensures.fits), gives_all f _ _ c.in_ok-change.ensures.found)
 
 pub returns-in_ok-change-clause-only : goal.returns-in_ok-change-clause-only
 returns-in_ok-change-clause-only c task is fits =
     let f = found_of c.args.found.now in
     let named : c.args.name.now ≡ codes "edit" = search rules in
     let device : first_value f (codes "device") ≡ Some c.in-Some.device.now = search rules in
-    same_edit c.args.name.now (rows_of f) c.in-Some.device c.in_ok-change.field-0 task named (gives f _ _ device) (λ ops fit there. c.in_ok-change.ensures.same ops fit (given_all f _ _ there)) is fits
+    same_edit c.args.name.now (rows_of f) c.in-Some.device c.in_ok-ticket.field-0 c.in_ok-change.field-0 task named (gives f _ _ device)
+    (λ asked there_is there. c.in_ok-ticket.ensures.same asked there_is (first_value-rows f (codes "ticket") ∙ there)) (λ ops fit there. c.in_ok-change.ensures.same ops fit (given_all f _ _ there)) is fits
+
+pub returns-in_ok-session-clause-asked : goal.returns-in_ok-session-clause-asked
+returns-in_ok-session-clause-asked c =
+    let f = found_of c.args.found.now in
+    let device : first_value f (codes "device") ≡ Some c.in-Some.device.now = search rules in
+    (search rules, gives f _ _ device, gives f _ _ c.in_ok-session.ensures.found.0, c.in_ok-session.ensures.found.1)
+
+pub returns-in_ok-session-clause-only : goal.returns-in_ok-session-clause-only
+returns-in_ok-session-clause-only c task is fits =
+    let f = found_of c.args.found.now in
+    let named : c.args.name.now ≡ codes "resume" = search rules in
+    let device : first_value f (codes "device") ≡ Some c.in-Some.device.now = search rules in
+    same_resume c.args.name.now (rows_of f) c.in-Some.device c.in_ok-session.field-0 task named (gives f _ _ device) (λ n lt there. c.in_ok-session.ensures.same n lt (given f _ _ there)) is
 
 pub returns-in_ok-words_asked-clause-asked : goal.returns-in_ok-words_asked-clause-asked
 returns-in_ok-words_asked-clause-asked c =
@@ -86,12 +101,26 @@ returns-in_err-whole-clause-refused c task is fits =
     handed_up c.from_residual.result c.in_err-whole.field-0.0 c.from_residual.ensures.1
     (format_refused c.args.name.now (rows_of f) c.in_err-whole.field-0.0 task named (λ n lt there. c.in_err-whole.ensures.only n lt (given f _ _ there)) is fits)
 
+pub returns-in_err-ticket-clause-refused : goal.returns-in_err-ticket-clause-refused
+returns-in_err-ticket-clause-refused c task is fits =
+    let f = found_of c.args.found.now in
+    let named : c.args.name.now ≡ codes "edit" = search rules in
+    handed_up c.from_residual-in_err-ticket.result c.in_err-ticket.field-0.0 c.from_residual-in_err-ticket.ensures.1
+    (ticket_refused c.args.name.now (rows_of f) c.in_err-ticket.field-0.0 task named (λ asked there_is there. c.in_err-ticket.ensures.only asked there_is (first_value-rows f (codes "ticket") ∙ there)) is)
+
 pub returns-in_err-change-clause-refused : goal.returns-in_err-change-clause-refused
 returns-in_err-change-clause-refused c task is fits =
     let f = found_of c.args.found.now in
     let named : c.args.name.now ≡ codes "edit" = search rules in
     handed_up c.from_residual-in_err-change.result c.in_err-change.field-0.0 c.from_residual-in_err-change.ensures.1
-    (edit_refused c.args.name.now (rows_of f) c.in_err-change.field-0.0 task named (λ ops fit some few there. c.in_err-change.ensures.only ops fit some few (given_all f _ _ there)) is fits)
+    (change_refused c.args.name.now (rows_of f) c.in_err-change.field-0.0 task named (λ ops fit some few there. c.in_err-change.ensures.only ops fit some few (given_all f _ _ there)) is fits)
+
+pub returns-in_err-session-clause-refused : goal.returns-in_err-session-clause-refused
+returns-in_err-session-clause-refused c task is fits =
+    let f = found_of c.args.found.now in
+    let named : c.args.name.now ≡ codes "resume" = search rules in
+    handed_up c.from_residual-in_err-session.result c.in_err-session.field-0.0 c.from_residual-in_err-session.ensures.1
+    (resume_refused c.args.name.now (rows_of f) c.in_err-session.field-0.0 task named (λ n lt there. c.in_err-session.ensures.only n lt (given f _ _ there)) is)
 
 pub returns-in_err-whole-2-clause-refused : goal.returns-in_err-whole-2-clause-refused
 returns-in_err-whole-2-clause-refused c task is fits =
@@ -112,11 +141,11 @@ returns-in_err-words_asked-clause-refused c task is fits =
     let f = found_of c.args.found.now in
     let named : c.args.name.now ≡ codes "route" = search rules in
     handed_up c.from_residual-in_err-words_asked.result c.in_err-words_asked.field-0.0 c.from_residual-in_err-words_asked.ensures.1
-    (words_refused c.args.name.now (rows_of f) c.in_err-words_asked.field-0.0 task 114 (ap (λ (t : List ℕ). get_or t 0 0) named) (λ bad. omega (arith, bad)) (λ bad. omega (arith, bad)) (λ bad. omega (arith, bad)) (λ words asked there. c.in_err-words_asked.ensures.only words asked (given f _ _ there)) is)
+    (words_of_route_refused c.args.name.now (rows_of f) c.in_err-words_asked.field-0.0 task named (λ words asked there. c.in_err-words_asked.ensures.only words asked (given f _ _ there)) is)
 
 pub returns-in_err-words_asked-2-clause-refused : goal.returns-in_err-words_asked-2-clause-refused
 returns-in_err-words_asked-2-clause-refused c task is fits =
     let f = found_of c.args.found.now in
     let named : c.args.name.now ≡ codes "check" = search rules in
     handed_up c.from_residual-in_err-words_asked-2.result c.in_err-words_asked-2.field-0.0 c.from_residual-in_err-words_asked-2.ensures.1
-    (words_refused c.args.name.now (rows_of f) c.in_err-words_asked-2.field-0.0 task 99 (ap (λ (t : List ℕ). get_or t 0 0) named) (λ bad. omega (arith, bad)) (λ bad. omega (arith, bad)) (λ bad. omega (arith, bad)) (λ words asked there. c.in_err-words_asked-2.ensures.only words asked (given f _ _ there)) is)
+    (words_of_check_refused c.args.name.now (rows_of f) c.in_err-words_asked-2.field-0.0 task named (λ words asked there. c.in_err-words_asked-2.ensures.only words asked (given f _ _ there)) is)

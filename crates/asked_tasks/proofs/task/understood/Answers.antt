@@ -1,7 +1,7 @@
-use Rattle.std.proofs.Common.{Some, true, [], ap, sym, subst, is_some, List, ◌≡◌, ◌∙◌}
+use Rattle.std.proofs.Common.{Some, true, [], ap, sym, is_some, ◌≡◌, ◌∙◌}
 use Rattle.std.proofs.lemmas.Result.{IfOk-weaker}
 use Rattle.clap.specs.Simple.{App, app_of, is_simple, subcommand_of, subcommand_rows_of}
-use Rattle.clap.specs.Walk.{Row, Text, rows_of, texts}
+use Rattle.clap.specs.Walk.{rows_of, texts}
 use Rattle.clap.specs.Faults.{fault_of, is_simple_and_free}
 use Rattle.clap.specs.declared.parser.matches.ArgMatches.TheViews.{out-ArgMatches}
 use Rattle.clap.specs.Words.{found_of}

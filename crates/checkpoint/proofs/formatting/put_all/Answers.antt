@@ -1,8 +1,8 @@
 use Rattle.std.proofs.Common.{sym, List, ℕ, ◌≡◌, length, subst, ◌∙◌, ap, arith}
 use Rattle.disk_trait.specs.Disk.{only_read}
-use Rattle.recovery_1.specs.Layout.{device_len, slot_start}
-use Rattle.recovery_1.specs.State.{first_state}
-use Rattle.recovery_1.specs.Standing.{StandsFor}
+use Rattle.recovery.specs.Layout.{device_len, slot_start}
+use Rattle.recovery.specs.State.{first_state}
+use Rattle.recovery.specs.Standing.{StandsFor}
 use Rattle.recovery_parts.proofs.ReadLemmas.{still}
 use Rattle.checkpoint.specs.Formatting.{with_gates, formatted}
 use Rattle.checkpoint.proofs.FormatLemmas.{fresh_stands}
@@ -21,7 +21,7 @@ returns-in-Ok-sync-clause-ok g c model =
     let same = (only_read v2 v3 c.sync.result c.sync.ensures.call m2).content in
     let long : length v2.content ≡ device_len = c.put_gates.ensures.ran.as_long ∙ c.put_front.ensures.ran.as_long ∙ c.requires.long in
     subst (λ (l : List ℕ). StandsFor (first_state c.args.nodes) l) (sym same)
-    (fresh_stands c.args.nodes c.requires.some c.requires.few v2.content long (gates.below m1 0 10 (omega arith) ∙ front.header model) (gates.below m1 (slot_start 0) 23 (omega arith) ∙ front.slot model) (gates.journal m1) (gates.other m1))
+    (fresh_stands c.args.nodes c.requires.some c.requires.few v2.content long (gates.below m1 0 10 (omega arith) ∙ front.header model) (gates.below m1 (slot_start 0) 535 (omega arith) ∙ front.slot model) (gates.journal m1) (gates.other m1))
 
 pub returns-in-Ok-sync-clause-written : goal.returns-in-Ok-sync-clause-written
 unfolding formatted

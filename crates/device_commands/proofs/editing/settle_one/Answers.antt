@@ -1,10 +1,16 @@
-use Rattle.std.proofs.Common.{◌∙◌, ◌≡◌, [], ◌∷◌, ◌++◌, ap}
-use Rattle.group_commit.specs.DeskWords.{store_of}
-use Rattle.device_commands.proofs.OneRequest.{one_request_leaves}
+use Rattle.std.proofs.Common.{◌≡◌, ◌⊎◌, ◌∙◌, ap, refl, subst}
+use Rattle.disk_trait.specs.Disk.{LeavesOnly}
+use Rattle.recovery.specs.Standing.{StandsFor}
+use Rattle.checkpoint.specs.StoreWords.{state_of, view_of}
+use Rattle.device_commands.specs.Answer.{last_ticket, state_after, state_under, ticket_of}
+use Rattle.device_commands.proofs.OneRequest.{untouched_leaves}
 use Rattle.device_commands.proofs.editing.settle_one.Goals as goal
 
-pub returns-clause-any_moment : goal.returns-clause-any_moment
-returns-clause-any_moment g c model =
-    let from : store_of c.give.new.self ≡ c.args.store = c.give.ensures.store ∙ c.new-desk.ensures.store in
-    let held = c.give.ensures.held ∙ ap (λ rs. rs ++ record { session = 0; ticket = 1; change = c.args.change } ∷ []) c.new-desk.ensures.held in
-    one_request_leaves c.give.new.self c.commit.new.self c.args.store c.into_store.result _ from held c.into_store.ensures c.commit.ensures.any_moment model c.requires
+pub returns-in-Ok-clause-any_moment : goal.returns-in-Ok-clause-any_moment
+returns-in-Ok-clause-any_moment g c model =
+    let state = state_of c.args.store in
+    let same : c.in-Ok.ticket ≡ ticket_of (last_ticket state) c.args.named = c.in-Ok.ensures.ticket ∙ ap (λ last. ticket_of last c.args.named) c.resume.ensures in
+    subst (λ t. LeavesOnly (view_of c.args.store) (view_of c.commit_one.result.1) (λ image. StandsFor state image ⊎ StandsFor (state_under state t c.args.change) image)) same (c.commit_one.ensures.any_moment model)
+
+pub returns-in-Err-clause-any_moment : goal.returns-in-Err-clause-any_moment
+returns-in-Err-clause-any_moment g c model = untouched_leaves c.args.store c.args.store (state_after (state_of c.args.store) c.args.named c.args.change) refl model c.requires

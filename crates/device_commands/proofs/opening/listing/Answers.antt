@@ -1,6 +1,6 @@
 use Rattle.std.proofs.Common.{◌≡◌, ◌∙◌, ap}
 use Rattle.checkpoint.specs.StoreWords.{state_of}
-use Rattle.recovery_1.specs.State.{State}
+use Rattle.recovery.specs.State.{State}
 use Rattle.printed_lines.specs.Lines.{listing_text}
 use Rattle.device_commands.proofs.opening.listing.Goals as goal
 

@@ -1,4 +1,4 @@
-use Rattle.std.proofs.Common.{◌≡◌, ◌+◌, ◌++◌, [], vec_len, length}
+use Rattle.std.proofs.Common.{◌≡◌, ◌+◌, ◌++◌, [], vec_len}
 use Rattle.intake.specs.Editors.{editors_from}
 use Rattle.intake.proofs.open.open_intake.Given as goal
 

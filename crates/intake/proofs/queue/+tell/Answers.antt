@@ -1,4 +1,4 @@
-use Rattle.std.proofs.Common.{ap, ◌∙◌}
+use Rattle.std.proofs.Common.{ap}
 use Rattle.intake.specs.declared.queue.View.{View}
 use Rattle.intake.proofs.InTurns.{tells}
 use Rattle.intake.proofs.queue.+tell.Goals as goal

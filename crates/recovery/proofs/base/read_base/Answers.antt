@@ -5,7 +5,7 @@ use Rattle.std.proofs.Common.{rules, List, ℕ, ◌+◌, ◌*◌, arith, sym, �
 use Rattle.std.specs.Prelude.{Err}
 use Rattle.std.specs.List.{AllByRecursion}
 use Rattle.std.specs.FinMap.{entries}
-use Rattle.recovery.specs.State.{IsEdge, state_of}
+use Rattle.recovery.specs.State.{IsEdge, state_with}
 use Rattle.recovery_parts.proofs.Maps.{all_edges, each_edge}
 use Rattle.recovery.proofs.BaseLemmas.{has_text, sound_head, their_edges, their_nodes, their_tickets}
 use Rattle.recovery.proofs.base.read_base.Goals as goal
@@ -38,7 +38,7 @@ returns-in-Ok-clause-text g c model head =
     let tickets = c.tickets_of-tickets.result in
     let sound = c.is_sound.ensures.0 c.if-not-is_sound.false in
     let are = c.are_sound.ensures.0 c.if-not-are_sound.false in
-    has_text c.args.chosen.slot h.gate h.epoch (state_of h.count graph tickets) h.edges h.nodes v0.content head (sound.2 ∙ sym c.in-Ok.ensures.nodes) (sym c.in-Ok.ensures.count) are.wide
+    has_text c.args.chosen.slot h.gate h.epoch (state_with h.count graph tickets) h.edges h.nodes v0.content head (sound.2 ∙ sym c.in-Ok.ensures.nodes) (sym c.in-Ok.ensures.count) are.wide
     (sym (c.tickets_of-tickets.ensures.text ∙ c.in_ok-text.ensures.bytes model))
     (sym (c.in-Ok.ensures.text ∙ c.deref.ensures.value ∙ c.in_ok-bytes.ensures.bytes (still v0 v1 c.read_array.ensures.ran model) ∙ ap (λ (l : List ℕ). bytes_at l (slot_start c.args.chosen.slot + 535) (8 * h.edges)) (c.read_array.ensures.reads model).content))
 

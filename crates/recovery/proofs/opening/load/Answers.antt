@@ -2,7 +2,7 @@ use Rattle.std.proofs.Common.{List, ℕ, subst}
 use Rattle.disk_trait.specs.Disk.{only_read}
 use Rattle.recovery.specs.Records.{Spells}
 use Rattle.recovery.specs.Layout.{journal_of}
-use Rattle.recovery.specs.State.{State, state_of}
+use Rattle.recovery.specs.State.{State, state_with}
 use Rattle.recovery.specs.Slots.{LeadsNowhere}
 use Rattle.recovery.specs.InUse.{IsInUse}
 use Rattle.recovery_parts.proofs.ReadLemmas.{still}
@@ -25,7 +25,7 @@ returns-in-Err-load_records-clause-refused g c model fault =
     let r1 = only_read v0 v1 c.sync.result c.sync.ensures.call model in
     let r2 = c.read_checkpoint.ensures.reads m1 in
     let chosen = c.in-Ok-read_checkpoint.read.0 in
-    let base : State = state_of chosen.head.count c.in-Ok-read_checkpoint.read.1 c.in-Ok-read_checkpoint.read.2 in
+    let base : State = state_with chosen.head.count c.in-Ok-read_checkpoint.read.1 c.in-Ok-read_checkpoint.read.2 in
     let none = subst (λ (l : List ℕ). LeadsNowhere chosen.slot base l) r2.content (c.in-Err-load_records.ensures.refused m2 fault) in
     none_before v0 v1 r1 (nowhere chosen.slot chosen.head.epoch chosen.other_gate base v1.content (c.in-Ok-read_checkpoint.ensures.has_base m1) c.in-Ok-read_checkpoint.ensures.slot c.in-Ok-read_checkpoint.ensures.count none)
 
@@ -39,7 +39,7 @@ returns-in-Ok-load_records-clause-in_use g c model =
     let r1 = only_read v0 v1 c.sync.result c.sync.ensures.call model in
     let r2 = c.read_checkpoint.ensures.reads m1 in
     let chosen = c.in-Ok-read_checkpoint.read.0 in
-    let base : State = state_of chosen.head.count c.in-Ok-read_checkpoint.read.1 c.in-Ok-read_checkpoint.read.2 in
+    let base : State = state_with chosen.head.count c.in-Ok-read_checkpoint.read.1 c.in-Ok-read_checkpoint.read.2 in
     let groups = c.in-Ok-load_records.loaded.journal.groups in
     let spells = subst (λ (l : List ℕ). Spells (journal_of chosen.slot) groups l) r2.content (c.in-Ok-load_records.ensures.spells m2) in
     let is = subst (λ (l : List ℕ). IsInUse chosen.slot chosen.head.epoch chosen.other_gate base groups l) r1.content (in_use chosen.slot chosen.head.epoch chosen.other_gate base v1.content (c.in-Ok-read_checkpoint.ensures.has_base m1) groups spells) in

@@ -1,7 +1,7 @@
 use Rattle.std.proofs.Common.{arith, sym, ◌∙◌, ap, length, ◌≡◌, subst}
 use Rattle.std.specs.Prelude.{Err, None}
 use Rattle.graph_edits.specs.Changes.{fold}
-use Rattle.recovery.specs.State.{State, state_of, changes_of, AreInTurn}
+use Rattle.recovery.specs.State.{State, state_with, changes_of, AreInTurn}
 use Rattle.recovery.specs.Slots.{LeadsNowhere}
 use Rattle.recovery.specs.Records.{Spells}
 use Rattle.recovery.proofs.OpenLemmas.{too_many, refused_there, only_damaged}
@@ -12,12 +12,12 @@ returns-then-base_count-len-clause-refused g c model fault =
     let content = (g.D.Disk.view c.args.disk.now).content in
     let groups = c.in-Ok.scanned.0.groups in
     let spells = subst (λ a. Spells a groups content) c.journal_area.ensures (c.in-Ok.ensures.ok model) in
-    too_many c.args.slot (state_of c.args.base_count c.args.base c.args.base_tickets) groups content spells (omega (arith, c.if-base_count-len.true, c.len.ensures, ap length c.in-Ok.ensures.entries))
+    too_many c.args.slot (state_with c.args.base_count c.args.base c.args.base_tickets) groups content spells (omega (arith, c.if-base_count-len.true, c.len.ensures, ap length c.in-Ok.ensures.entries))
 
 pub returns-in-Err-clause-refused : goal.returns-in-Err-clause-refused
 returns-in-Err-clause-refused g c model fault =
     let content = (g.D.Disk.view c.args.disk.now).content in
-    let base : State = state_of c.args.base_count c.args.base c.args.base_tickets in
+    let base : State = state_with c.args.base_count c.args.base c.args.base_tickets in
     let groups = c.in-Ok.scanned.0.groups in
     let spells = subst (λ a. Spells a groups content) c.journal_area.ensures (c.in-Ok.ensures.ok model) in
     let others = c.in-Err.ensures.others in

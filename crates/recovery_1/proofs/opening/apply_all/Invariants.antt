@@ -1,5 +1,5 @@
 use Rattle.std.proofs.Common.{◌≡◌, drop}
-use Rattle.graph_edits.specs.Changes.{fold}
+use Rattle.recovery_1.specs.State.{fold}
 use Rattle.recovery_1.proofs.opening.apply_all.Given as goal
 
 abbrev pub invariant-loop-change : goal.invariant-loop-change

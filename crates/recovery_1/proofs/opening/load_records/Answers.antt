@@ -1,6 +1,6 @@
 use Rattle.std.proofs.Common.{arith, ◌∙◌, ap, length, ◌≡◌, subst}
 use Rattle.std.specs.Prelude.{Err, None}
-use Rattle.graph_edits.specs.Changes.{fold}
+use Rattle.recovery_1.specs.State.{fold}
 use Rattle.recovery_1.specs.State.{State}
 use Rattle.recovery_1.specs.Slots.{LeadsNowhere}
 use Rattle.recovery_1.specs.Records.{Spells}

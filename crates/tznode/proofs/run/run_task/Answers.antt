@@ -1,5 +1,5 @@
 use Rattle.clap.specs.Walk.{texts}
-use Rattle.asked_tasks.specs.declared.task.Task.TheVariants.{Format, Show, Edit, Route, Check}
+use Rattle.asked_tasks.specs.declared.task.Task.TheVariants.{Format, Show, Edit, Resume, Route, Check}
 use Rattle.tznode.proofs.Faults.{ends_task, refused_for}
 use Rattle.tznode.proofs.run.run_task.Goals as goal
 
@@ -13,7 +13,11 @@ returns-in-Ok-Show-clause-fault g c =
 
 pub returns-in-Ok-Edit-clause-fault : goal.returns-in-Ok-Edit-clause-fault
 returns-in-Ok-Edit-clause-fault g c =
-    ends_task c.run_edit.result (texts c.args.words.now) c.in-Ok-Edit.field-0 (Edit c.in-Ok-Edit.device c.in-Ok-Edit.change) c.in-Ok-Edit.ensures.asked c.in-Ok-Edit.field-0-is c.run_edit.ensures.fault
+    ends_task c.run_edit.result (texts c.args.words.now) c.in-Ok-Edit.field-0 (Edit c.in-Ok-Edit.device c.in-Ok-Edit.ticket c.in-Ok-Edit.change) c.in-Ok-Edit.ensures.asked c.in-Ok-Edit.field-0-is c.run_edit.ensures.fault
+
+pub returns-in-Ok-Resume-clause-fault : goal.returns-in-Ok-Resume-clause-fault
+returns-in-Ok-Resume-clause-fault g c =
+    ends_task c.run_resume.result (texts c.args.words.now) c.in-Ok-Resume.field-0 (Resume c.in-Ok-Resume.device c.in-Ok-Resume.session) c.in-Ok-Resume.ensures.asked c.in-Ok-Resume.field-0-is c.run_resume.ensures.fault
 
 pub returns-in-Ok-Route-clause-fault : goal.returns-in-Ok-Route-clause-fault
 returns-in-Ok-Route-clause-fault g c =

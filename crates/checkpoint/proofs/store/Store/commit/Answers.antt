@@ -1,21 +1,19 @@
-use Rattle.std.proofs.Common.{arith, ◌≡◌, ◌⊎◌, inl, ◌+◌, ◌≤◌, ◌++◌, ◌∷◌, [], length, refl, ap, sym, ◌∙◌, IsTrue, List, ℕ, subst, Some}
+use Rattle.std.proofs.Common.{arith, ◌≡◌, ◌⊎◌, inl, ◌+◌, ◌≤◌, length, refl, ap, sym, ◌∙◌, IsTrue, List, ℕ, subst, Some}
 use Rattle.std.specs.Prelude.{Err}
-use Rattle.disk_trait.specs.Disk.{LeavesOnly, started, weaker, MayLeave}
-use Rattle.journal.specs.declared.area.Area.{Area}
-use Rattle.recovery_1.specs.Records.{AllSpell, IsBeforeOrAfter}
-use Rattle.recovery_1.specs.Records.{Entry}
-use Rattle.recovery_1.specs.Layout.{worn_limit, journal_of}
-use Rattle.recovery_1.specs.State.{State, counted, after}
-use Rattle.recovery_1.specs.Standing.{StandsFor}
+use Rattle.disk_trait.specs.Disk.{LeavesOnly, started, weaker}
+use Rattle.recovery.specs.Records.{AllSpell}
+use Rattle.recovery.specs.Layout.{worn_limit, journal_of}
+use Rattle.recovery.specs.State.{State, state_with, changes_of, after}
+use Rattle.recovery.specs.Standing.{StandsFor}
 use Rattle.checkpoint.specs.Kept.{kept_stands}
 use Rattle.checkpoint.specs.StoreWords.{state_of, view_of, stands_now}
-use Rattle.recovery_1.proofs.Folds.{after_is, after_count, nodes_fold}
+use Rattle.recovery.proofs.Folds.{after_is, after_count, nodes_fold}
 use Rattle.checkpoint.proofs.Commits.{either, kept_appended}
 use Rattle.checkpoint.proofs.SameStore.{same_store}
 use Rattle.checkpoint.proofs.store.Store.commit.Goals as goal
 
-pub returns-then-self-changes-clause-any_moment : goal.returns-then-self-changes-clause-any_moment
-returns-then-self-changes-clause-any_moment g c model up next goes = started (view_of c.args.self.now) (λ image. StandsFor (state_of c.args.self.now) image ⊎ StandsFor next image) (λ image left. inl (stands_now c.args.self.now model up image left))
+pub returns-then-self-requests-clause-any_moment : goal.returns-then-self-requests-clause-any_moment
+returns-then-self-requests-clause-any_moment g c model up next goes = started (view_of c.args.self.now) (λ image. StandsFor (state_of c.args.self.now) image ⊎ StandsFor next image) (λ image left. inl (stands_now c.args.self.now model up image left))
 
 pub returns-then-not-has_room-clause-any_moment : goal.returns-then-not-has_room-clause-any_moment
 returns-then-not-has_room-clause-any_moment g c model up next goes = started (view_of c.args.self.now) (λ image. StandsFor (state_of c.args.self.now) image ⊎ StandsFor next image) (λ image left. inl (stands_now c.args.self.now model up image left))
@@ -35,9 +33,9 @@ returns-in-Err-Device-clause-any_moment g c model up next goes =
     let kept = s.kept model up in
     let area : s.journal.area ≡ journal_of s.slot = rw (s.at, s.room) refl in
     let known : AllSpell (view_of s) (s.journal.area) (s.journal.groups) = λ image left. rw area ((kept.each image left).stands.records) in
-    let fits : next.count ≤ worn_limit = omega (arith, after_count (state_of s) next c.args.changes.now goes) in
+    let fits : next.count ≤ worn_limit = omega (arith, after_count (state_of s) next c.args.requests.now goes) in
     weaker _ _ _ _ (c.append.ensures.any_moment model known)
-    (λ image left. either (view_of s) s.slot s.epoch s.other_gate _ (state_of s) next s.journal.groups c.args.changes.now s.two_slots kept goes s.fits fits image (rw area at left))
+    (λ image left. either (view_of s) s.slot s.epoch s.other_gate _ (state_of s) next s.journal.groups c.args.requests.now s.two_slots kept goes c.requires.in_turn s.fits fits image (rw area at left))
 
 pub returns-clause-any_moment : goal.returns-clause-any_moment
 returns-clause-any_moment g c model up next goes =
@@ -45,35 +43,35 @@ returns-clause-any_moment g c model up next goes =
     let kept = s.kept model up in
     let area : s.journal.area ≡ journal_of s.slot = rw (s.at, s.room) refl in
     let known : AllSpell (view_of s) (s.journal.area) (s.journal.groups) = λ image left. rw area ((kept.each image left).stands.records) in
-    let fits : next.count ≤ worn_limit = omega (arith, after_count (state_of s) next c.args.changes.now goes) in
+    let fits : next.count ≤ worn_limit = omega (arith, after_count (state_of s) next c.args.requests.now goes) in
     weaker _ _ _ _ (c.append.ensures.any_moment model known)
-    (λ image left. either (view_of s) s.slot s.epoch s.other_gate _ (state_of s) next s.journal.groups c.args.changes.now s.two_slots kept goes s.fits fits image (rw area at left))
+    (λ image left. either (view_of s) s.slot s.epoch s.other_gate _ (state_of s) next s.journal.groups c.args.requests.now s.two_slots kept goes c.requires.in_turn s.fits fits image (rw area at left))
 
 pub returns-clause-nodes : goal.returns-clause-nodes
-returns-clause-nodes g c = ap (λ n. n.nodes) c.install.ensures ∙ nodes_fold c.args.self.now.graph c.in_ok-prepared.prepared.after c.args.changes.now (sym c.in_ok-prepared.ensures.after)
+returns-clause-nodes g c = ap (λ n. n.nodes) c.install.ensures ∙ nodes_fold c.args.self.now.graph c.in_ok-prepared.prepared.after (changes_of c.args.requests.now) (sym c.in_ok-prepared.ensures.after)
 
 pub invariant_of-self-in-Ok-clause-kept : goal.invariant_of-self-in-Ok-clause-kept
 invariant_of-self-in-Ok-clause-kept g c model_new up =
     let s = c.args.self.now in
     let v0 = view_of s in
     let model : IsTrue v0.keeps_model = subst IsTrue c.append.ensures.ran.model model_new in
-    let next : State = counted (s.count + length c.args.changes.now) c.install.new.self in
-    let goes : after (state_of s) c.args.changes.now ≡ Some next = after_is (state_of s) c.args.changes.now c.install.new.self (sym c.in_ok-prepared.ensures.after ∙ ap Some (sym c.install.ensures)) in
-    kept_appended v0 (g.D.Disk.view c.append.new.disk) s.journal c.append.new.self s.slot s.epoch s.other_gate _ (state_of s) next c.args.changes.now s.two_slots (rw (s.at, s.room) refl) (s.kept model up) goes
+    let next : State = state_with (s.count + length c.args.requests.now) c.install.new.self c.raise_all.new.tickets in
+    let goes : after (state_of s) c.args.requests.now ≡ Some next = after_is (state_of s) c.args.requests.now c.install.new.self (sym c.in_ok-prepared.ensures.after ∙ ap Some (sym c.install.ensures)) ∙ ap (λ (ts : List ℕ). Some (state_with (s.count + length c.args.requests.now) c.install.new.self ts)) (sym c.raise_all.ensures) in
+    kept_appended v0 (g.D.Disk.view c.append.new.disk) s.journal c.append.new.self s.slot s.epoch s.other_gate _ (state_of s) next c.args.requests.now s.two_slots (rw (s.at, s.room) refl) (s.kept model up) goes c.requires.in_turn
     c.append.ensures.area c.in-Ok.ensures.grows (λ known. (c.append.ensures.any_moment model known).now) (c.in-Ok.ensures.ok model)
 
 pub returns-clause-durable : goal.returns-clause-durable
 returns-clause-durable g c model =
     let s = c.args.self.now in
     let v0 = view_of s in
-    let next : State = counted (s.count + length c.args.changes.now) c.install.new.self in
-    let goes : after (state_of s) c.args.changes.now ≡ Some next = after_is (state_of s) c.args.changes.now c.install.new.self (sym c.in_ok-prepared.ensures.after ∙ ap Some (sym c.install.ensures)) in
+    let next : State = state_with (s.count + length c.args.requests.now) c.install.new.self c.raise_all.new.tickets in
+    let goes : after (state_of s) c.args.requests.now ≡ Some next = after_is (state_of s) c.args.requests.now c.install.new.self (sym c.in_ok-prepared.ensures.after ∙ ap Some (sym c.install.ensures)) ∙ ap (λ (ts : List ℕ). Some (state_with (s.count + length c.args.requests.now) c.install.new.self ts)) (sym c.raise_all.ensures) in
     let v1 = g.D.Disk.view c.append.new.disk in
-    kept_stands v1 s.slot s.epoch s.other_gate (counted s.base_count.value s.base.value) next c.append.new.self.groups s.two_slots (omega (arith, c.if-self-changes.false))
-    (kept_appended v0 v1 s.journal c.append.new.self s.slot s.epoch s.other_gate _ (state_of s) next c.args.changes.now s.two_slots (rw (s.at, s.room) refl) (s.kept model c.if-self.false) goes
+    kept_stands v1 s.slot s.epoch s.other_gate (state_with s.base_count.value s.base.value s.base_tickets.value) next c.append.new.self.groups s.two_slots (omega (arith, c.if-self-requests.false))
+    (kept_appended v0 v1 s.journal c.append.new.self s.slot s.epoch s.other_gate _ (state_of s) next c.args.requests.now s.two_slots (rw (s.at, s.room) refl) (s.kept model c.if-self.false) goes c.requires.in_turn
     c.append.ensures.area c.in-Ok.ensures.grows (λ known. (c.append.ensures.any_moment model known).now) (c.in-Ok.ensures.ok model))
 
 pub returns-in-Err-Memory-clause-untouched : goal.returns-in-Err-Memory-clause-untouched
 returns-in-Err-Memory-clause-untouched g c _ _ =
     let is = ap Err c.in-Err-Memory.field-0-is in
-    same_store _ c.args.self.now (c.in-Err-Memory.ensures.memory_same is) c.in-Err-Memory.ensures.err refl refl refl refl refl refl refl refl
+    same_store _ c.args.self.now (c.in-Err-Memory.ensures.memory_same is) c.in-Err-Memory.ensures.err refl refl refl refl refl refl refl refl refl refl

@@ -1,13 +1,17 @@
-use Rattle.std.proofs.Common.{arith, ◌∙◌, ◌+◌, [], IsTrue, subst}
+use Rattle.std.proofs.Common.{arith, ◌∙◌, ◌+◌, [], IsTrue, refl, subst}
 use Rattle.disk_trait.specs.Disk.{started}
-use Rattle.recovery_1.specs.State.{State, counted}
-use Rattle.recovery_1.specs.Standing.{StandsFor}
+use Rattle.recovery.specs.State.{State, state_with}
+use Rattle.recovery.specs.Standing.{StandsFor}
 use Rattle.recovery_parts.specs.Heads.{other}
 use Rattle.checkpoint.specs.Kept.{kept_stands}
 use Rattle.checkpoint.specs.StoreWords.{state_of, view_of, stands_now}
 use Rattle.recovery_parts.proofs.ReadLemmas.{still}
 use Rattle.checkpoint.proofs.Rolls.{stands_closing, stands_publishing, kept_rolled}
+use Rattle.checkpoint.proofs.SameStore.{same_store}
 use Rattle.checkpoint.proofs.store.Store.roll.Goals as goal
+
+pub returns-in-Err-clause-untouched : goal.returns-in-Err-clause-untouched
+returns-in-Err-clause-untouched g c _ _ = same_store _ c.args.self.now refl refl refl refl refl refl refl refl refl refl refl refl
 
 pub returns-then-self-ge-WORN_LIMIT-clause-any_moment : goal.returns-then-self-ge-WORN_LIMIT-clause-any_moment
 returns-then-self-ge-WORN_LIMIT-clause-any_moment g c model up = started (view_of c.args.self.now) (StandsFor (state_of c.args.self.now)) (stands_now c.args.self.now model up)
@@ -18,13 +22,13 @@ returns-in-Err-clause-any_moment g c model up = started (view_of c.args.self.now
 pub returns-in-Err-close_open-clause-any_moment : goal.returns-in-Err-close_open-clause-any_moment
 returns-in-Err-close_open-clause-any_moment g c model up =
     let s = c.args.self.now in
-    let base : State = counted s.base_count.value s.base.value in
+    let base : State = state_with s.base_count.value s.base.value s.base_tickets.value in
     stands_closing (view_of s) (g.D.Disk.view c.close_open.new.disk) s.slot s.epoch s.other_gate base (state_of s) s.journal.groups s.two_slots (s.kept model up) s.fits (c.close_open.ensures.any_moment model)
 
 pub returns-in-Err-publish-clause-any_moment : goal.returns-in-Err-publish-clause-any_moment
 returns-in-Err-publish-clause-any_moment g c model up =
     let s = c.args.self.now in
-    let base : State = counted s.base_count.value s.base.value in
+    let base : State = state_with s.base_count.value s.base.value s.base_tickets.value in
     let v0 = view_of s in
     let v1 = g.D.Disk.view c.close_open.new.disk in
     stands_publishing v0 v1 s.slot s.epoch s.other_gate base (state_of s) s.journal.groups s.two_slots (s.kept model up) s.fits (c.close_open.ensures.any_moment model)
@@ -34,7 +38,7 @@ returns-in-Err-publish-clause-any_moment g c model up =
 pub returns-clause-any_moment : goal.returns-clause-any_moment
 returns-clause-any_moment g c model up =
     let s = c.args.self.now in
-    let base : State = counted s.base_count.value s.base.value in
+    let base : State = state_with s.base_count.value s.base.value s.base_tickets.value in
     let v0 = view_of s in
     let v1 = g.D.Disk.view c.close_open.new.disk in
     stands_publishing v0 v1 s.slot s.epoch s.other_gate base (state_of s) s.journal.groups s.two_slots (s.kept model up) s.fits (c.close_open.ensures.any_moment model)
@@ -44,7 +48,7 @@ returns-clause-any_moment g c model up =
 pub invariant_of-self-2-clause-kept : goal.invariant_of-self-2-clause-kept
 invariant_of-self-2-clause-kept g c model_new up =
     let s = c.args.self.now in
-    let base : State = counted s.base_count.value s.base.value in
+    let base : State = state_with s.base_count.value s.base.value s.base_tickets.value in
     let v0 = view_of s in
     let v1 = g.D.Disk.view c.close_open.new.disk in
     let v2 = g.D.Disk.view c.publish.new.disk in
@@ -53,12 +57,12 @@ invariant_of-self-2-clause-kept g c model_new up =
     let kept = kept_rolled v0 v1 s.slot s.epoch s.other_gate base (state_of s) s.journal.groups s.two_slots (s.kept model c.if-self.false) s.fits (c.close_open.ensures.any_moment model)
     c.deref.result.now (λ lawful. c.deref.ensures.value ∙ c.in-Ok.ensures.text lawful) (omega (arith, c.if-self-ge-WORN_LIMIT.false)) (c.in-Ok-close_open.ensures.ok model)
     v2 (c.in-Ok-publish.ensures.ok model1) in
-    rw (c.of.ensures, c.of-2.ensures, c.fresh-self.ensures) kept
+    rw (c.of.ensures, c.of-2.ensures, c.of-3.ensures, c.fresh-self.ensures) kept
 
 pub returns-clause-durable : goal.returns-clause-durable
 returns-clause-durable g c model =
     let s = c.args.self.now in
-    let base : State = counted s.base_count.value s.base.value in
+    let base : State = state_with s.base_count.value s.base.value s.base_tickets.value in
     let v0 = view_of s in
     let v1 = g.D.Disk.view c.close_open.new.disk in
     let v2 = g.D.Disk.view c.publish.new.disk in

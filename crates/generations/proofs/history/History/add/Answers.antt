@@ -1,5 +1,6 @@
 use Rattle.std.proofs.Common.{length, sym, ◌∙◌, ap}
 use Rattle.generations.specs.Notices.{notice_of}
+use Rattle.generations.specs.Entries.{notices}
 use Rattle.generations.proofs.Appending.{adds_moves}
 use Rattle.generations.proofs.history.History.add.Goals as goal
 
@@ -14,5 +15,5 @@ compare_exchange-found-requires c =
       b,
       pen.0 ∙ b,
       offer.0,
-      rw (ap (λ w. w.key) h, pen.1, offer.1, offer.3) (adds_moves c.again-seen.result.log (notice_of c.args.posting.now) c.self.inside.postings (ap (λ z. length z.log) s ∙ sym c.self.invariant.0)),
+      rw (ap (λ w. w.key) h, pen.1, offer.1, offer.3) (adds_moves c.again-seen.result.log (notice_of c.args.posting.now) c.self.inside.postings (ap (λ z. length (notices z.log)) s ∙ sym c.self.invariant.counted)),
     )

@@ -11,7 +11,7 @@ push_as-put-requires-clause-rule g c =
     let p = view c.self.inside.pass in
     let i = c.self.invariant.1 in
     let last : last_or_start p.start p.put ≡ last_or_start c.args.self.now.start c.args.self.now.put = ap (λ n. last_or_start n p.put) (ap (λ (v : View). v.start) i) ∙ ap (λ (s : Sending). last_or_start s.start s.put) c.self.view_is in
-    (puts _ _ _ _ (ap (λ (v : View). v.sends) i) (c.requires.session ∙ (sym (ap (λ (s : Sending). s.session) c.self.view_is) ∙ sym (ap (λ (v : View). v.session) i))) (omega (arith, last, c.requires.ticket)), λ _ _ _ _. tt)
+    (puts _ _ _ _ (ap (λ (v : View). v.sends) i) (c.requires.session ∙ (sym (ap (λ (s : Sending). s.session) c.self.view_is) ∙ sym (ap (λ (v : View). v.session) i))) (omega (arith, last, c.requires.ticket)) c.requires.within, λ _ _ _ _. tt)
 
 pub another-noted-requires-clause-rule : goal.another-noted-requires-clause-rule
 another-noted-requires-clause-rule g c = notes _ _

@@ -1,0 +1,6 @@
+use Rattle.std.proofs.Common.{◌≡◌, ◌++◌, take}
+use Rattle.recovery.specs.State.{tickets_text}
+use Rattle.checkpoint.proofs.roll.put_tickets.Given as goal
+
+abbrev pub invariant-loop-ticket : goal.invariant-loop-ticket
+invariant-loop-ticket l = l.text.items ≡ l.initial.text.items ++ tickets_text (take l.ticket-index l.tickets)

@@ -1,0 +1,123 @@
+//! Writing a whole state at once: a count and a network, as a fresh device holds them.
+ghost use Rattle.std.specs.Prelude.{◌≡◌, ◌≤◌, ◌<◌, ◌+◌, ◌↔◌, ℕ, List, length, get_or, IsTrue, OnOk, OnErr, IsErrOf};
+ghost use Rattle.disk_trait.specs.Disk.{MayLeave, IsSameDevice, IsSettled, LeavesOnly, IsTornFrom, bytes_at};
+ghost use Rattle.recovery.specs.Layout.{checkpoint_room, device_len, slot_room, slot_start, slots_start, worn_limit};
+ghost use Rattle.recovery.specs.Standing.{StandsFor};
+ghost use Rattle.checkpoint.specs.Whole.{without_tickets, IsAllForeign, IsShut, IsWriting, IsWritten, StandsForNoneOr};
+
+use crate::formatting::header_of;
+use crate::roll::text_of;
+use disk_trait::{DeviceFault, Disk, close, publish};
+use graph_edits::Graph;
+use recovery::layout::{FIRST_EPOCH, SLOT_ROOM, SLOTS_START};
+use requests::SESSIONS;
+use std::alloc::Global;
+
+/// Why a state isn't written. Tested in the order Memory, Device.
+#[derive(Clone, Copy, Debug, PartialEq, Eq, Drop)]
+pub enum WriteRefused {
+    /// A call of the device failed.
+    Device = 2,
+    /// Memory ran out before anything was written.
+    Memory = 3,
+}
+
+// Puts bytes from `at` on, and syncs: at most two calls of the device.
+fn put_synced<D: Disk>(disk: &mut D, at: usize, bytes: &[u8]) -> Result<(), DeviceFault>
+    requires { at + length bytes.now ≤ length (D.view disk.old).content }
+    ensures ran { IsSameDevice (D.view disk.old) (D.view disk.new) }
+    ensures fault { OnErr result ((D.view disk.old).failures < (D.view disk.new).failures) }
+    ensures no_failure { OnOk result ((D.view disk.new).failures ≡ (D.view disk.old).failures) }
+    ensures any_moment { IsTrue (D.view disk.old).keeps_model → LeavesOnly (D.view disk.old) (D.view disk.new) (IsTornFrom (D.view disk.old) at (length bytes.now)) }
+    ensures settled { IsTrue (D.view disk.old).keeps_model → OnOk result (IsSettled (D.view disk.new)) }
+    ensures there { IsTrue (D.view disk.old).keeps_model → OnOk result (bytes_at (D.view disk.new).content at (length bytes.now) ≡ bytes.now) }
+{
+    match disk.write_at(at, bytes) {
+        Ok(()) => {}
+        Err(fault) => return Err(fault),
+    }
+    match disk.sync() {
+        Ok(()) => Ok(()),
+        Err(fault) => Err(fault),
+    }
+}
+
+// Closes both slots' gates: at most four calls of the device.
+fn shut_slots<D: Disk>(disk: &mut D) -> Result<(), DeviceFault>
+    requires { length (D.view disk.old).content ≡ device_len }
+    ensures ran { IsSameDevice (D.view disk.old) (D.view disk.new) }
+    ensures fault { OnErr result ((D.view disk.old).failures < (D.view disk.new).failures) }
+    ensures no_failure { OnOk result ((D.view disk.new).failures ≡ (D.view disk.old).failures) }
+    ensures any_moment { IsTrue (D.view disk.old).keeps_model → LeavesOnly (D.view disk.old) (D.view disk.new) (IsTornFrom (D.view disk.old) slots_start (slot_room + 1)) }
+    ensures ok { IsTrue (D.view disk.old).keeps_model → OnOk result ((image : List ℕ) → MayLeave (D.view disk.new) image → IsShut image) }
+{
+    match close(disk, SLOTS_START) {
+        Ok(()) => {}
+        Err(fault) => return Err(fault),
+    }
+    match close(disk, SLOTS_START + SLOT_ROOM) {
+        Ok(()) => Ok(()),
+        Err(fault) => Err(fault),
+    }
+}
+
+// Puts a whole device behind its gates: they are closed first, then the header is put, then the text of
+// slot 0, whose gate is opened last.
+fn put_whole<D: Disk>(disk: &mut D, nodes: u16, text: &[u8]) -> Result<(), DeviceFault>
+    requires long { length (D.view disk.old).content ≡ device_len }
+    requires text { length text.now ≡ checkpoint_room }
+    ensures ran { IsSameDevice (D.view disk.old) (D.view disk.new) }
+    ensures fault { OnErr result ((D.view disk.old).failures < (D.view disk.new).failures) }
+    ensures no_failure { OnOk result ((D.view disk.new).failures ≡ (D.view disk.old).failures) }
+    ensures any_moment { IsTrue (D.view disk.old).keeps_model → IsAllForeign (D.view disk.old) → LeavesOnly (D.view disk.old) (D.view disk.new) (IsWriting nodes text.now) }
+    ensures ok { IsTrue (D.view disk.old).keeps_model → OnOk result ((image : List ℕ) → MayLeave (D.view disk.new) image → IsWritten nodes text.now image) }
+{
+    match shut_slots(disk) {
+        Ok(()) => {}
+        Err(fault) => return Err(fault),
+    }
+    match put_synced(disk, 0, &header_of(nodes)) {
+        Ok(()) => {}
+        Err(fault) => return Err(fault),
+    }
+    match publish(disk, SLOTS_START, text) {
+        Ok(()) => Ok(()),
+        Err(fault) => Err(fault),
+    }
+}
+
+/// Makes a device hold this count and this network, as a fresh device does: in slot 0, with the first
+/// epoch, an empty journal and all last tickets 0. Whatever it held before is lost.
+///
+/// Where no image that a crash may leave of the device at entry has the front of this layout, as on a
+/// new device of zeros, a crash at any moment leaves an image that stands for nothing or for the whole
+/// state (`any_moment`). It needs one buffer, of the size of a checkpoint's area.
+///
+/// Errors, in the order in which they are tested: `Memory`, before any write, leaves the device as it
+/// was; `Device`, where a call of the device failed.
+pub fn write_state<D: Disk>(
+    alloc: Global,
+    disk: &mut D,
+    count: u64,
+    graph: &Graph,
+) -> Result<(), WriteRefused>
+    requires long { length (D.view disk.old).content ≡ device_len }
+    requires count { count ≤ worn_limit }
+    ensures ok { IsTrue (D.view disk.old).keeps_model → OnOk result (StandsFor (without_tickets count graph.now) (D.view disk.new).content) }
+    ensures left { IsTrue (D.view disk.old).keeps_model → OnOk result ((image : List ℕ) → MayLeave (D.view disk.new) image → StandsFor (without_tickets count graph.now) image) }
+    ensures memory { IsErrOf result WriteRefused.Memory → disk.new ≡ disk.old }
+    ensures device { IsErrOf result WriteRefused.Device → (D.view disk.old).failures < (D.view disk.new).failures }
+    ensures no_failure { OnOk result ((D.view disk.new).failures ≡ (D.view disk.old).failures) }
+    ensures ran { IsSameDevice (D.view disk.old) (D.view disk.new) }
+    ensures any_moment { IsTrue (D.view disk.old).keeps_model → IsAllForeign (D.view disk.old) → LeavesOnly (D.view disk.old) (D.view disk.new) (StandsForNoneOr (without_tickets count graph.now)) }
+{
+    graph.sound();
+    let text = match text_of(alloc, FIRST_EPOCH, count, graph, &[0; SESSIONS]) {
+        Ok(text) => text,
+        Err(_) => return Err(WriteRefused::Memory),
+    };
+    match put_whole(disk, graph.nodes(), &text) {
+        Ok(()) => Ok(()),
+        Err(_) => Err(WriteRefused::Device),
+    }
+}

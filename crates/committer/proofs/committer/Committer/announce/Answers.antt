@@ -1,0 +1,31 @@
+use Rattle.std.proofs.Common.{sym, ap, ◌∙◌}
+use Rattle.std.specs.Arc.{arc_value}
+use Rattle.generations.specs.declared.posting.Notice.TheVariants.{Built}
+use Rattle.committer.specs.Outboxes.{Outgoing}
+use Rattle.committer.proofs.Logs.{generation_tied, lawful_behind, tied_posted, tied_due}
+use Rattle.committer.proofs.committer.Committer.announce.Goals as goal
+
+pub offer-requires-clause-lawful : goal.offer-requires-clause-lawful
+offer-requires-clause-lawful g c =
+    let tied = generation_tied c.args.self.now.outbox (arc_value c.args.scheme) c.args.number _ _ _ _ _ c.args.self.now.tied c.requires.up c.requires.number c.requires.news c.requires.serves in
+    lawful_behind c.args.self.now.outbox (Built c.args.number (arc_value c.args.scheme)) c.requires.nothing_due tied.lawful
+
+pub invariant_of-self : goal.invariant_of-self
+invariant_of-self g c =
+    let tied = generation_tied c.args.self.now.outbox (arc_value c.args.scheme) c.args.number _ _ _ _ _ c.args.self.now.tied c.requires.up c.requires.number c.requires.news c.requires.serves in
+    record {
+      at_outbox = c.args.self.now.at_outbox;
+      same_starts = c.args.self.now.same_starts ∙ sym (ap (λ (o : Outgoing). o.opening.starts) c.in-Posted.ensures);
+      tied = tied_posted _ _ _ _ _ c.args.self.now.outbox c.offer.new.self (Built c.args.number (arc_value c.args.scheme)) c.requires.nothing_due c.in-Posted.ensures tied;
+      whole = c.args.self.now.whole;
+    }
+
+pub invariant_of-self-in-Due : goal.invariant_of-self-in-Due
+invariant_of-self-in-Due g c =
+    let tied = generation_tied c.args.self.now.outbox (arc_value c.args.scheme) c.args.number _ _ _ _ _ c.args.self.now.tied c.requires.up c.requires.number c.requires.news c.requires.serves in
+    record {
+      at_outbox = c.args.self.now.at_outbox;
+      same_starts = c.args.self.now.same_starts ∙ sym (ap (λ (o : Outgoing). o.opening.starts) c.in-Due.ensures);
+      tied = tied_due _ _ _ _ _ c.args.self.now.outbox c.offer.new.self (Built c.args.number (arc_value c.args.scheme)) c.requires.nothing_due c.in-Due.ensures tied;
+      whole = c.args.self.now.whole;
+    }

@@ -1,0 +1,62 @@
+use Rattle.std.proofs.Common.{length, Err, ap, ◌∙◌}
+use Rattle.std.specs.Prelude.{is_some}
+use Rattle.checkpoint.specs.StoreWords.{state_of, is_down}
+use Rattle.generations.specs.Notices.{notice_of}
+use Rattle.group_commit.specs.Settling.{settle}
+use Rattle.group_commit.specs.DeskWords.{store_of as desk_store, held_of as desk_held}
+use Rattle.committer.proofs.Settles.{settles, marks_said, down_said}
+use Rattle.committer.proofs.Logs.{same_starts, marks_lawful, told_marks, down_lawful, told_down}
+use Rattle.committer.proofs.Crashing.{moved, kept_model, up_leaves, down_leaves}
+use Rattle.committer.proofs.committer.Committer.commit.Goals as goal
+
+pub tell-requires-clause-lawful : goal.tell-requires-clause-lawful
+tell-requires-clause-lawful g c =
+    let old = c.args.self.now in
+    let s = state_of (desk_store old.desk) in
+    let rs = desk_held old.desk in
+    let said = marks_said _ c.in-Some.marks (settle s rs).marks c.in-Some.ensures.given c.in-Ok.ensures.marks in
+    marks_lawful old.outbox (notice_of c.in-Some.marks) (settle s rs).marks (length (settle s rs).accepted) (settle s rs).state _ _ _ _ _ old.tied c.requires.up c.requires.nothing_due said (settles s rs)
+
+pub invariant_of-self : goal.invariant_of-self
+invariant_of-self g c =
+    let old = c.args.self.now in
+    let s = state_of (desk_store old.desk) in
+    let rs = desk_held old.desk in
+    let said = marks_said _ c.in-Some.marks (settle s rs).marks c.in-Some.ensures.given c.in-Ok.ensures.marks in
+    let up = ap is_down c.paid.ensures.store ∙ c.in-Ok.ensures.stays_up c.requires.up (λ e. cc) in
+    record {
+      at_outbox = ap is_some c.paid.ensures.due;
+      same_starts = same_starts _ old.outbox c.tell.new.self (notice_of c.in-Some.marks) c.tell.result old.same_starts c.tell.ensures;
+      tied = told_marks old.outbox c.tell.new.self (notice_of c.in-Some.marks) c.tell.result (settle s rs).marks (length (settle s rs).accepted) (settle s rs).state _ _ _ _ _ _ _ _ old.tied c.requires.up c.requires.nothing_due said (settles s rs) c.tell.ensures
+          (c.paid.ensures.held ∙ c.in-Ok.ensures.none_held) (ap state_of c.paid.ensures.store ∙ c.in-Ok.ensures.ok) up;
+      whole = up_leaves (desk_store c.paid.new.self) (desk_held c.paid.new.self) up;
+    }
+
+pub tell-posted-requires-clause-lawful : goal.tell-posted-requires-clause-lawful
+tell-posted-requires-clause-lawful g c =
+    let said = down_said _ c.in-Some-paid.down c.in-Some-paid.ensures.given (c.in-Err-Device.ensures.down_due (ap Err c.in-Err-Device.field-0-is)) in
+    down_lawful c.args.self.now.outbox (notice_of c.in-Some-paid.down) _ _ _ _ _ c.args.self.now.tied c.requires.up c.requires.nothing_due said
+
+pub invariant_of-self-in-Err-Device : goal.invariant_of-self-in-Err-Device
+invariant_of-self-in-Err-Device g c =
+    let old = c.args.self.now in
+    let said = down_said _ c.in-Some-paid.down c.in-Some-paid.ensures.given (c.in-Err-Device.ensures.down_due (ap Err c.in-Err-Device.field-0-is)) in
+    let same = ap state_of c.paid-in-Err-Device.ensures.store ∙ c.in-Err-Device.ensures.err in
+    let still = c.paid-in-Err-Device.ensures.held ∙ c.in-Err-Device.ensures.still_held in
+    record {
+      at_outbox = ap is_some c.paid-in-Err-Device.ensures.due;
+      same_starts = same_starts _ old.outbox c.tell-posted.new.self (notice_of c.in-Some-paid.down) c.tell-posted.result old.same_starts c.tell-posted.ensures;
+      tied = told_down old.outbox c.tell-posted.new.self (notice_of c.in-Some-paid.down) c.tell-posted.result _ _ _ _ _ _ _ _ old.tied c.requires.up c.requires.nothing_due said c.tell-posted.ensures
+          still same (ap is_down c.paid-in-Err-Device.ensures.store ∙ c.in-Err-Device.ensures.lost (ap Err c.in-Err-Device.field-0-is));
+      whole = λ model. down_leaves (desk_store old.desk) (desk_store c.paid-in-Err-Device.new.self) (desk_held old.desk) (desk_held c.paid-in-Err-Device.new.self) same still
+          (moved (desk_store old.desk) (desk_store c.commit.new.self) (desk_store c.paid-in-Err-Device.new.self) _ c.paid-in-Err-Device.ensures.store (c.commit.ensures.any_moment (kept_model (desk_store old.desk) (desk_store c.commit.new.self) (desk_store c.paid-in-Err-Device.new.self) c.commit.ensures.ran c.paid-in-Err-Device.ensures.store model) c.requires.up));
+    }
+
+pub returns-then-tell-clause-any_moment : goal.returns-then-tell-clause-any_moment
+returns-then-tell-clause-any_moment g c model = moved (desk_store c.args.self.now.desk) (desk_store c.commit.new.self) (desk_store c.paid.new.self) _ c.paid.ensures.store (c.commit.ensures.any_moment model c.requires.up)
+
+pub returns-else-tell-clause-any_moment : goal.returns-else-tell-clause-any_moment
+returns-else-tell-clause-any_moment g c model = moved (desk_store c.args.self.now.desk) (desk_store c.commit.new.self) (desk_store c.paid.new.self) _ c.paid.ensures.store (c.commit.ensures.any_moment model c.requires.up)
+
+pub returns-in-Some-paid-clause-any_moment : goal.returns-in-Some-paid-clause-any_moment
+returns-in-Some-paid-clause-any_moment g c model = moved (desk_store c.args.self.now.desk) (desk_store c.commit.new.self) (desk_store c.paid-in-Err-Device.new.self) _ c.paid-in-Err-Device.ensures.store (c.commit.ensures.any_moment model c.requires.up)

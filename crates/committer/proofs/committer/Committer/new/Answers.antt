@@ -1,0 +1,15 @@
+use Rattle.std.proofs.Common.{ap, sym, ◌∙◌}
+use Rattle.std.specs.Prelude.{is_some}
+use Rattle.group_commit.specs.DeskWords.{store_of as desk_store, held_of as desk_held}
+use Rattle.committer.specs.Outboxes.{Outgoing}
+use Rattle.committer.proofs.Logs.{tied_new}
+use Rattle.committer.proofs.Crashing.{up_leaves}
+use Rattle.committer.proofs.committer.Committer.new.Goals as goal
+
+pub invariant_of-result : goal.invariant_of-result
+invariant_of-result g c = record {
+  at_outbox = ap is_some c.requires.due;
+  same_starts = c.requires.taker_starts ∙ sym (ap (λ (o : Outgoing). o.opening.starts) c.new-outbox.ensures ∙ c.requires.board_starts);
+  tied = tied_new c.new-outbox.result c.args.writer.opening c.args.writer.posted _ _ _ _ c.new-outbox.ensures c.requires.posted c.requires.board_count c.requires.board_starts c.requires.held c.requires.taken c.requires.up;
+  whole = up_leaves (desk_store c.args.desk) (desk_held c.args.desk) c.requires.up;
+}

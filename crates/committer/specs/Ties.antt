@@ -1,0 +1,32 @@
+-- How what a committer took, what it holds, what it posted and the state of its store go together.
+use Rattle.std.specs.Prelude.{ℕ, ◌≡◌, ◌+◌, ◌≤◌, ◌++◌, Bool, List, length, map, fold, Option, Some}
+use Rattle.std.specs.Option.{option_map}
+use Rattle.recovery.specs.State.{State, asked}
+use Rattle.node_table.specs.declared.parts.Parts.{Parts}
+use Rattle.node_table.specs.Tables.{tables}
+use Rattle.node_table.specs.Service.{Serves}
+use Rattle.requests.specs.Tickets.{Rises}
+use Rattle.requests.specs.declared.request.Request.{Request}
+use Rattle.generations.specs.declared.posting.Notice.{Notice}
+use Rattle.generations.specs.Notices.{told_to, counts_of, marks_in, newest_in, says_down}
+use Rattle.generations.specs.Beginnings.{Opening}
+use Rattle.generations.specs.Boards.{accepting}
+use Rattle.generations.specs.Lawful.{IsLawful}
+
+-- log is what is posted and what is due
+pub record IsTied (opening : Opening) (log : List Notice) (newest : Option ℕ) (held got : List Request) (state : State) (down : Bool) : Type 0 where
+  pub lawful : IsLawful opening.starts opening.count log
+  -- what was taken is in each editor's order
+  pub rises : Rises opening.starts (asked got)
+  -- each request that was taken has its mark, or is held
+  pub told : map told_to (marks_in log) ++ asked held ≡ asked got
+  -- the Accepted counts end at the store's
+  pub counted : opening.count + length (counts_of (marks_in log)) ≡ state.count
+  -- the Accepted tickets are the store's last ones
+  pub tickets : fold accepting opening.starts (marks_in log) ≡ state.tickets
+  pub is_down : says_down log ≡ down
+  pub newest_is : newest ≡ option_map (λ g. g.0) (newest_in log)
+  -- no generation is ahead of the store
+  pub behind : (g : ℕ × Parts) → newest_in log ≡ Some g → g.0 ≤ state.count
+  -- the newest generation serves the store's graph, as long as nothing was accepted since
+  pub serves : (g : ℕ × Parts) → newest_in log ≡ Some g → g.0 ≡ state.count → ∥ Serves state.graph (tables g.1) ∥₁

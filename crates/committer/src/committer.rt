@@ -1,0 +1,361 @@
+// The committer: rounds and rebuilds.
+ghost use Rattle.std.specs.Prelude.{◌≡◌, ◌≢◌, ◌⊎◌, ◌≤◌, ◌<◌, ◌+◌, ◌↔◌, ◌++◌, ◌∷◌, [], List, length, IsTrue, IfOk, OnOk, is_some, IsErr, IsErrOf, None, true, false};
+ghost use Rattle.std.specs.Arc.{arc_value};
+ghost use Rattle.disk_trait.specs.Disk.{IsSameDevice, LeavesOnly};
+ghost use Rattle.requests.specs.Tickets.{Rises};
+ghost use Rattle.requests.specs.declared.request.Request.{Request};
+ghost use Rattle.recovery.specs.State.{asked as asked_all};
+ghost use Rattle.recovery.specs.Standing.{StandsFor};
+ghost use Rattle.checkpoint.specs.Kept.{kept_props};
+ghost use Rattle.checkpoint.specs.StoreWords.{state_of, nodes_of, view_of, is_down};
+ghost use Rattle.node_table.specs.Tables.{tables};
+ghost use Rattle.node_table.specs.Service.{Serves};
+ghost use Rattle.generations.specs.declared.posting.Notice.TheVariants.{Marked, Failed, Built};
+ghost use Rattle.intake.specs.Turns.{of};
+ghost use Rattle.built_schemes.specs.Schemes.{IsSchemeOf};
+ghost use Rattle.group_commit.specs.DeskWords.{store_of as desk_store, held_of as desk_held, due_of as desk_due, IsPastLimits};
+ghost use Rattle.group_commit.specs.Limits.{most_held};
+ghost use Rattle.group_commit.specs.Settling.{settle};
+ghost use Rattle.committer.specs.Outboxes.{all_of, paid, with_posted, with_due};
+ghost use Rattle.committer.specs.Turns.{HoldsNoLater};
+ghost use Rattle.committer.specs.Ties.{IsTied};
+ghost use Rattle.committer.specs.Rounds.{with_marks_of, TellsUpTo};
+ghost use Rattle.committer.specs.Crashes.{LeavesGroupWhole};
+ghost use Rattle.committer.specs.Rebuilds.{IsBuilt, IsOwed, IsServed, IsNumbered};
+
+use crate::outbox::{Offered, Outbox};
+use crate::refused::{RebuildRefused, RoundRefused};
+use built_schemes::scheme_of;
+use checkpoint::Store;
+use disk_trait::Disk;
+use generations::{BoardWriter, Posting, Told};
+use graph_edits::Graph;
+use group_commit::{Desk, DeskRefused, MOST_HELD};
+use intake::{Editor, Taker};
+use node_table::Scheme;
+use std::alloc::{AllocError, Allocator, Global};
+use std::sync::{Arc, Wait};
+
+/// The one owner of a desk, of the front of a queue and of a board's writer.
+#[derive(Drop)]
+pub struct Committer<D: Disk, R: Wait + Drop> {
+    desk: Desk<D>,
+    taker: Taker,
+    outbox: Outbox<R>,
+    newest: Option<u64>,
+    // What is due is at the outbox.
+    ghost at_outbox: { is_some (desk_due desk) ≡ false },
+    ghost same_starts: { taker.starts ≡ outbox.opening.starts },
+    ghost tied: { IsTied outbox.opening (all_of outbox) newest (desk_held desk) taker.got (state_of (desk_store desk)) (is_down (desk_store desk)) } by { Prim.hlevel kept_props },
+    // A crash now leaves the state of the store, or the one with the whole group that is held.
+    ghost whole: { IsTrue (view_of (desk_store desk)).keeps_model → LeavesGroupWhole (desk_store desk) (desk_held desk) } by { Prim.hlevel kept_props },
+}
+
+/// What a round did.
+#[derive(Clone, Copy, Debug, PartialEq, Eq, Drop)]
+pub struct Round {
+    /// How many requests it took from the queue.
+    pub taken: usize,
+    /// How many changes it accepted, of the requests that it held or took.
+    pub accepted: usize,
+}
+
+// Takes requests from the queue, as many as a desk holds.
+fn fill<D: Disk, W: Wait>(rt: &W, taker: &mut Taker, desk: &mut Desk<D>) -> usize
+    requires empty { desk_held desk.old ≡ [] }
+    requires told { desk_due desk.old ≡ None }
+    requires no_later { HoldsNoLater (state_of (desk_store desk.old)).tickets (desk_held desk.old) taker.old.starts taker.old.got }
+    requires rises { Rises taker.old.starts (asked_all taker.old.got) }
+    ensures store { desk_store desk.new ≡ desk_store desk.old }
+    ensures due { desk_due desk.new ≡ None }
+    ensures same { (taker.new.starts ≡ taker.old.starts) × (taker.new.queue ≡ taker.old.queue) }
+    ensures front { taker.new.got ≡ taker.old.got ++ desk_held desk.new }
+    ensures number { result ≡ length (desk_held desk.new) }
+    ensures few { result ≤ most_held }
+    ensures fewer { result < most_held → taker.old.empties < taker.new.empties }
+    ensures rises { Rises taker.new.starts (asked_all taker.new.got) }
+{
+    let mut taken: usize = 0;
+    for _ in 0..MOST_HELD {
+        let Some(request) = taker.take(rt) else {
+            return taken;
+        };
+        desk.give(request);
+        taken += 1;
+    }
+    taken
+}
+
+impl<D: Disk, R: Wait + Drop> Committer<D, R> {
+    ghost use Rattle.committer.specs.CommitterWords.{desk_of, store_of, held_of, queue_of, got_of, empties_of, posts_of, newest_of, taken, asked, settled};
+
+    /// A committer of a desk, a queue and a board at their beginning.
+    pub fn new(desk: Desk<D>, taker: Taker, writer: BoardWriter<R>) -> Committer<D, R>
+        requires held { desk_held desk ≡ [] }
+        requires due { desk_due desk ≡ None }
+        requires up { is_down (desk_store desk) ≡ false }
+        requires taken { taker.got ≡ [] }
+        requires posted { writer.posted ≡ [] }
+        requires kept { writer.kept ≡ [] }
+        // Tickets and counts go on from where the store stands.
+        requires taker_starts { taker.starts ≡ (state_of (desk_store desk)).tickets }
+        requires board_starts { writer.opening.starts ≡ (state_of (desk_store desk)).tickets }
+        requires board_count { writer.opening.count ≡ (state_of (desk_store desk)).count }
+        ensures store { store_of result ≡ desk_store desk }
+        ensures held { held_of result ≡ [] }
+        ensures got { got_of result ≡ [] }
+        ensures queue { queue_of result ≡ taker.queue }
+        ensures posts { posts_of result ≡ record { opening = writer.opening; posted = []; due = [] } }
+    {
+        let outbox = Outbox::new(writer);
+        Committer {
+            desk,
+            taker,
+            outbox,
+            newest: None,
+        }
+    }
+
+    /// The store.
+    pub fn store(&self) -> &Store<D>
+        ensures { result.now ≡ store_of self.now }
+    {
+        self.desk.store()
+    }
+
+    /// What was posted, for readers to learn. It takes no memory and waits for nobody.
+    pub fn told(&self) -> Told
+        ensures posted { result ≡ record { opening = (posts_of self.now).opening; log = (posts_of self.now).posted } }
+        // How what is posted and due goes with the store, with what is held and with what was taken.
+        ensures tied { IsTied (posts_of self.now).opening (all_of (posts_of self.now)) (newest_of self.now) (held_of self.now) (got_of self.now) (state_of (store_of self.now)) (is_down (store_of self.now)) }
+        // No posted count is above the store's.
+        ensures tells { TellsUpTo (state_of (store_of self.now)).count (posts_of self.now).posted }
+    {
+        self.outbox.told()
+    }
+
+    /// Posts what is due, takes at most [`MOST_HELD`] requests if it holds none, commits them, and posts their marks. Where all are
+    /// refused nothing is written, and of no request nothing is posted.
+    pub fn round<W: Wait>(&mut self, alloc: Global, rt: &W) -> Result<Round, RoundRefused>
+        // What is taken is the front of the queue.
+        ensures front { got_of self.new ≡ got_of self.old ++ taken self.old self.new }
+        ensures few { length (taken self.old self.new) ≤ most_held }
+        ensures queue { queue_of self.new ≡ queue_of self.old }
+        ensures held_first { held_of self.old ≢ [] → taken self.old self.new ≡ [] }
+        // It takes fewer only where it held a group, found the queue empty, or stopped before.
+        ensures fewer { length (taken self.old self.new) < most_held → (held_of self.old ≢ []) ⊎ ((empties_of self.old < empties_of self.new)
+            ⊎ ((is_down (store_of self.old) ≡ true) ⊎ (((posts_of self.old).due ≢ []) × (IsErrOf result RoundRefused.Board × (posts_of self.new ≡ posts_of self.old))))) }
+        ensures numbers { IfOk result (λ r. (r.taken ≡ length (taken self.old self.new)) × (r.accepted ≡ length (settled self.old self.new).accepted)) }
+        ensures ok { OnOk result (state_of (store_of self.new) ≡ (settled self.old self.new).state) }
+        ensures ok_held { OnOk result (held_of self.new ≡ []) }
+        ensures ok_posts { OnOk result (posts_of self.new ≡ with_marks_of (asked self.old self.new) (settled self.old self.new).marks (paid (posts_of self.old))) }
+        // Nothing is written where nothing is accepted.
+        ensures idle { (settled self.old self.new).accepted ≡ [] → store_of self.new ≡ store_of self.old }
+        // Down: every round on a store that went down.
+        ensures down { IsErrOf result RoundRefused.Down ↔ (is_down (store_of self.old) ≡ true) }
+        ensures down_leaves { IsErrOf result RoundRefused.Down → (store_of self.new ≡ store_of self.old) × ((held_of self.new ≡ held_of self.old) × (got_of self.new ≡ got_of self.old)) }
+        ensures down_posts { IsErrOf result RoundRefused.Down → (posts_of self.new ≡ paid (posts_of self.old)) ⊎ (posts_of self.new ≡ posts_of self.old) }
+        // Memory and Worn: the group stays held.
+        ensures held { IsErrOf result RoundRefused.Memory ⊎ IsErrOf result RoundRefused.Worn → (held_of self.new ≡ asked self.old self.new) × (posts_of self.new ≡ paid (posts_of self.old)) }
+        ensures same { IsErrOf result RoundRefused.Memory ⊎ IsErrOf result RoundRefused.Worn → state_of (store_of self.new) ≡ state_of (store_of self.old) }
+        ensures worn { IsErrOf result RoundRefused.Worn → (store_of self.new ≡ store_of self.old) × IsPastLimits (desk_of self.new) }
+        // Device: the group stays held, and that the device failed is posted or due.
+        ensures device { IsErrOf result RoundRefused.Device → (held_of self.new ≡ asked self.old self.new) × (state_of (store_of self.new) ≡ state_of (store_of self.old)) }
+        ensures device_lost { IsErrOf result RoundRefused.Device → (is_down (store_of self.new) ≡ true) × ((view_of (store_of self.old)).failures < (view_of (store_of self.new)).failures) }
+        ensures device_posts { IsErrOf result RoundRefused.Device → (posts_of self.new ≡ with_posted (paid (posts_of self.old)) Failed) ⊎ (posts_of self.new ≡ with_due (paid (posts_of self.old)) Failed) }
+        // Board: at what was due, and nothing happened; or at the marks of what is committed, which are due.
+        ensures board { IsErrOf result RoundRefused.Board → (((posts_of self.old).due ≢ []) × ((posts_of self.new ≡ posts_of self.old) × ((store_of self.new ≡ store_of self.old) × ((held_of self.new ≡ held_of self.old) × (got_of self.new ≡ got_of self.old)))))
+            ⊎ ((held_of self.new ≡ []) × ((state_of (store_of self.new) ≡ (settled self.old self.new).state) × (posts_of self.new ≡ with_due (paid (posts_of self.old)) (Marked (settled self.old self.new).marks)))) }
+        ensures nodes { nodes_of (store_of self.new) ≡ nodes_of (store_of self.old) }
+        ensures stays_up { is_down (store_of self.old) ≡ false → ¬ (IsErrOf result RoundRefused.Device) → is_down (store_of self.new) ≡ false }
+        ensures ran { IsSameDevice (view_of (store_of self.old)) (view_of (store_of self.new)) }
+        // A crash at any moment of the call leaves the old state, or the one after the whole group.
+        ensures any_moment { IsTrue (view_of (store_of self.old)).keeps_model → is_down (store_of self.old) ≡ false
+            → LeavesOnly (view_of (store_of self.old)) (view_of (store_of self.new)) (λ image. StandsFor (state_of (store_of self.old)) image ⊎ StandsFor (settled self.old self.new).state image) }
+        // Where the group stays held, it leaves the old state alone.
+        ensures refused { IsErrOf result RoundRefused.Memory ⊎ IsErrOf result RoundRefused.Worn → IsTrue (view_of (store_of self.old)).keeps_model → is_down (store_of self.old) ≡ false
+            → LeavesOnly (view_of (store_of self.old)) (view_of (store_of self.new)) (StandsFor (state_of (store_of self.old))) }
+        // From here on a crash leaves the store's state, or the one with the whole group that is held, after Device and Down too.
+        ensures whole { IsTrue (view_of (store_of self.new)).keeps_model → LeavesGroupWhole (store_of self.new) (held_of self.new) }
+        // No posted count is above the store's, so each image has all that was told.
+        ensures tells { TellsUpTo (state_of (store_of self.new)).count (posts_of self.new).posted }
+    {
+        if self.desk.store().is_down() {
+            let _paid = self.outbox.pay();
+            return Err(RoundRefused::Down);
+        }
+        if !self.outbox.pay() {
+            return Err(RoundRefused::Board);
+        }
+        let mut taken = 0;
+        if self.desk.held() == 0 {
+            taken = fill(rt, &mut self.taker, &mut self.desk);
+        }
+        if self.desk.held() == 0 {
+            return Ok(Round {
+                taken: 0,
+                accepted: 0,
+            });
+        }
+        match self.commit(alloc) {
+            Ok(accepted) => Ok(Round { taken, accepted }),
+            Err(refused) => Err(refused),
+        }
+    }
+
+    // Commits what is held and posts the marks, or that the device failed.
+    fn commit(&mut self, alloc: Global) -> Result<usize, RoundRefused>
+        requires some { held_of self.old ≢ [] }
+        requires nothing_due { (posts_of self.old).due ≡ [] }
+        requires up { is_down (store_of self.old) ≡ false }
+        ensures taker { (got_of self.new ≡ got_of self.old) × (empties_of self.new ≡ empties_of self.old) }
+        ensures queue { queue_of self.new ≡ queue_of self.old }
+        ensures number { IfOk result (λ accepted. accepted ≡ length (settle (state_of (store_of self.old)) (held_of self.old)).accepted) }
+        ensures ok { OnOk result (state_of (store_of self.new) ≡ (settle (state_of (store_of self.old)) (held_of self.old)).state) }
+        ensures ok_held { OnOk result (held_of self.new ≡ []) }
+        ensures ok_posts { OnOk result (posts_of self.new ≡ with_posted (posts_of self.old) (Marked (settle (state_of (store_of self.old)) (held_of self.old)).marks)) }
+        ensures idle { (settle (state_of (store_of self.old)) (held_of self.old)).accepted ≡ [] → store_of self.new ≡ store_of self.old }
+        ensures not_down { ¬ (IsErrOf result RoundRefused.Down) }
+        ensures held { IsErrOf result RoundRefused.Memory ⊎ IsErrOf result RoundRefused.Worn → (held_of self.new ≡ held_of self.old) × (posts_of self.new ≡ posts_of self.old) }
+        ensures same { IsErrOf result RoundRefused.Memory ⊎ IsErrOf result RoundRefused.Worn → state_of (store_of self.new) ≡ state_of (store_of self.old) }
+        ensures worn { IsErrOf result RoundRefused.Worn → (store_of self.new ≡ store_of self.old) × IsPastLimits (desk_of self.new) }
+        ensures device { IsErrOf result RoundRefused.Device → (held_of self.new ≡ held_of self.old) × (state_of (store_of self.new) ≡ state_of (store_of self.old)) }
+        ensures device_lost { IsErrOf result RoundRefused.Device → (is_down (store_of self.new) ≡ true) × ((view_of (store_of self.old)).failures < (view_of (store_of self.new)).failures) }
+        ensures device_posts { IsErrOf result RoundRefused.Device → (posts_of self.new ≡ with_posted (posts_of self.old) Failed) ⊎ (posts_of self.new ≡ with_due (posts_of self.old) Failed) }
+        ensures board { IsErrOf result RoundRefused.Board → (held_of self.new ≡ []) × ((state_of (store_of self.new) ≡ (settle (state_of (store_of self.old)) (held_of self.old)).state)
+            × (posts_of self.new ≡ with_due (posts_of self.old) (Marked (settle (state_of (store_of self.old)) (held_of self.old)).marks))) }
+        ensures nodes { nodes_of (store_of self.new) ≡ nodes_of (store_of self.old) }
+        ensures stays_up { ¬ (IsErrOf result RoundRefused.Device) → is_down (store_of self.new) ≡ false }
+        ensures ran { IsSameDevice (view_of (store_of self.old)) (view_of (store_of self.new)) }
+        ensures any_moment { IsTrue (view_of (store_of self.old)).keeps_model
+            → LeavesOnly (view_of (store_of self.old)) (view_of (store_of self.new)) (λ image. StandsFor (state_of (store_of self.old)) image ⊎ StandsFor (settle (state_of (store_of self.old)) (held_of self.old)).state image) }
+        ensures refused { IsErrOf result RoundRefused.Memory ⊎ IsErrOf result RoundRefused.Worn → IsTrue (view_of (store_of self.old)).keeps_model
+            → LeavesOnly (view_of (store_of self.old)) (view_of (store_of self.new)) (StandsFor (state_of (store_of self.old))) }
+    {
+        match self.desk.commit(alloc) {
+            Ok(accepted) => {
+                let Some(marks) = self.desk.paid() else {
+                    unreachable!()
+                };
+                if self.outbox.tell(marks) {
+                    Ok(accepted)
+                } else {
+                    Err(RoundRefused::Board)
+                }
+            }
+            Err(DeskRefused::Device) => {
+                let Some(down) = self.desk.paid() else {
+                    unreachable!()
+                };
+                let _posted = self.outbox.tell(down);
+                Err(RoundRefused::Device)
+            }
+            Err(DeskRefused::Memory) => Err(RoundRefused::Memory),
+            Err(DeskRefused::Worn) => Err(RoundRefused::Worn),
+            Err(DeskRefused::Down) => unreachable!(),
+        }
+    }
+
+    /// Builds a scheme of the store's graph by landmark words, and posts it under the store's count, unless the newest generation
+    /// has this number already. Of the words the first count, one for each node, and for each that is missing the greatest. Nothing
+    /// of the scratch stays.
+    pub fn rebuild<A: Allocator + Clone>(
+        &mut self,
+        alloc: Global,
+        words: &[u64],
+        scratch: A,
+    ) -> Result<u64, RebuildRefused>
+        ensures store { store_of self.new ≡ store_of self.old }
+        ensures held { (held_of self.new ≡ held_of self.old) × ((got_of self.new ≡ got_of self.old) × (empties_of self.new ≡ empties_of self.old)) }
+        ensures queue { queue_of self.new ≡ queue_of self.old }
+        ensures number { IfOk result (λ number. number ≡ (state_of (store_of self.old)).count) }
+        ensures serves { OnOk result (IsServed (state_of (store_of self.old)) (posts_of self.new).posted) }
+        ensures posts { OnOk result ((posts_of self.new ≡ paid (posts_of self.old)) ⊎ IsBuilt words.now (state_of (store_of self.old)) (posts_of self.old) (posts_of self.new)) }
+        ensures no_news { IsNumbered (state_of (store_of self.old)).count (all_of (posts_of self.old)) → OnOk result (posts_of self.new ≡ paid (posts_of self.old)) }
+        ensures down { IsErrOf result RebuildRefused.Down ↔ (is_down (store_of self.old) ≡ true) }
+        ensures down_leaves { IsErrOf result RebuildRefused.Down → posts_of self.new ≡ posts_of self.old }
+        ensures memory { IsErrOf result RebuildRefused.Memory → posts_of self.new ≡ paid (posts_of self.old) }
+        ensures memory_news { IsErrOf result RebuildRefused.Memory → ¬ (IsNumbered (state_of (store_of self.old)).count (all_of (posts_of self.old))) }
+        ensures board { IsErrOf result RebuildRefused.Board → (((posts_of self.old).due ≢ []) × (posts_of self.new ≡ posts_of self.old))
+            ⊎ ((posts_of self.new ≡ paid (posts_of self.old)) ⊎ IsOwed words.now (state_of (store_of self.old)) (posts_of self.old) (posts_of self.new)) }
+    {
+        if self.desk.store().is_down() {
+            return Err(RebuildRefused::Down);
+        }
+        if !self.outbox.pay() {
+            return Err(RebuildRefused::Board);
+        }
+        let number = self.desk.store().count();
+        if self.newest == Some(number) {
+            return Ok(number);
+        }
+        let Ok(scheme) = shared_scheme(alloc, self.desk.store().graph(), words, number, scratch)
+        else {
+            return Err(RebuildRefused::Memory);
+        };
+        self.announce(number, scheme)
+    }
+
+    // Offers a generation of the store's graph.
+    fn announce(&mut self, number: u64, scheme: Arc<Scheme, Global>) -> Result<u64, RebuildRefused>
+        requires nothing_due { (posts_of self.old).due ≡ [] }
+        requires up { is_down (store_of self.old) ≡ false }
+        requires number { number ≡ (state_of (store_of self.old)).count }
+        requires news { ¬ (IsNumbered number (all_of (posts_of self.old))) }
+        requires serves { Serves (state_of (store_of self.old)).graph (tables (arc_value scheme)) }
+        ensures store { store_of self.new ≡ store_of self.old }
+        ensures held { (held_of self.new ≡ held_of self.old) × ((got_of self.new ≡ got_of self.old) × (empties_of self.new ≡ empties_of self.old)) }
+        ensures queue { queue_of self.new ≡ queue_of self.old }
+        ensures number { IfOk result (λ n. n ≡ number) }
+        ensures posted { OnOk result (posts_of self.new ≡ with_posted (posts_of self.old) (Built number (arc_value scheme))) }
+        ensures only_board { IsErr result → IsErrOf result RebuildRefused.Board }
+        ensures board { IsErrOf result RebuildRefused.Board → (posts_of self.new ≡ posts_of self.old) ⊎ (posts_of self.new ≡ with_due (posts_of self.old) (Built number (arc_value scheme))) }
+    {
+        match self.outbox.offer(Posting::Generation { number, scheme }) {
+            Offered::Posted => {
+                self.newest = Some(number);
+                Ok(number)
+            }
+            Offered::Due => {
+                self.newest = Some(number);
+                Err(RebuildRefused::Board)
+            }
+            Offered::Dropped => Err(RebuildRefused::Board),
+        }
+    }
+}
+
+impl<D: Disk, R: Wait + Drop> Committer<D, R> {
+    ghost use Rattle.committer.specs.CommitterWords.{store_of, held_of, queue_of, got_of, posts_of};
+
+    /// The store, without what is held and due.
+    pub fn into_store(self) -> Store<D>
+        ensures { result ≡ store_of self }
+    {
+        self.desk.into_store()
+    }
+
+    /// Ends an editor: what was taken, followed by what waits, has just the requests that it submitted, each once, in its order.
+    pub fn end(&mut self, editor: Editor)
+        requires { editor.queue ≡ queue_of self.old }
+        ensures whole { (waits : List Request) × (editor.put ≡ of editor.session (got_of self.new ++ waits)) }
+        ensures store { store_of self.new ≡ store_of self.old }
+        ensures same { (held_of self.new ≡ held_of self.old) × ((got_of self.new ≡ got_of self.old) × ((queue_of self.new ≡ queue_of self.old) × (posts_of self.new ≡ posts_of self.old))) }
+    {
+        self.taker.end(editor);
+    }
+}
+
+// A scheme of the graph by landmark words, to be shared.
+fn shared_scheme<A: Allocator + Clone>(
+    alloc: Global,
+    graph: &Graph,
+    words: &[u64],
+    number: u64,
+    scratch: A,
+) -> Result<Arc<Scheme, Global>, AllocError>
+    ensures { IfOk result (λ scheme. IsSchemeOf graph.now words.now number (arc_value scheme)) }
+{
+    let scheme = scheme_of(alloc, graph, words, number, scratch)?;
+    Ok(Arc::new(alloc, scheme)?)
+}

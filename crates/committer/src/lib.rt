@@ -1,0 +1,50 @@
+//! The committer: it takes requests from the queue, commits them group by group, and posts what became of them.
+//!
+//! # What it is
+//!
+//! A [`Committer`] owns a desk with its store, the front of an intake queue and a board's writer. [`Committer::round`] takes up to
+//! 64 requests from the queue, has the desk settle and commit them as one group, and then posts one mark for each: never before
+//! the commit answered `Ok`. [`Committer::rebuild`] builds the routing scheme of the store's graph and posts it as a generation,
+//! under the store's count.
+//!
+//! A post may be refused. What isn't posted yet is due, at most one posting at a time, and each later call tries it before all
+//! else; meanwhile nothing is taken. A group whose commit had no memory, or met a limit, stays held, and the next round goes on
+//! with it.
+//!
+//! # The contract
+//!
+//! Contracts see a committer by the words of specs/CommitterWords.antt: its store, what it holds, all that it took, what is
+//! posted and due. What the layer above uses is [`Committer::round`]:
+//!
+//! | Answer | What it says |
+//! |---|---|
+//! | `Ok` | the store has the state after the requests held or taken, settled in order; what was due and then just their marks were posted; nothing is held |
+//! | `Device` | count, graph and tickets stay, the group stays held, and that the device failed is posted or due; from now on the answer is `Down` |
+//! | `Down` | the same store and held group; what was due is posted or stays due |
+//! | `Memory`, `Worn` | count, graph and tickets stay, and the group stays held |
+//! | `Board` | at what was due: nothing happened. Behind the commit: the store is as for `Ok`, and just the marks are due |
+//!
+//! Fewer than 64 are taken only where a group was held already, the queue was found empty in the call, or it stopped before.
+//!
+//! On a device that keeps the disk model a crash at any moment of a round leaves the state of before, or the one after the whole
+//! group (`any_moment`); and a crash between two calls leaves the store's state, or the one with the whole group that is held,
+//! also after a failure of the device (`whole`). No posted Accepted count is above the store's (`tells`), so each image has every
+//! change that was told. How what was taken, held, posted and stored go together is one record, `IsTied` ([`Committer::told`]).
+//!
+//! ```text
+//! let (writer, readers) = board(alloc, rt, 1, &desk.starts(), desk.store().count())?;
+//! let (taker, editors) = open_intake(alloc, 64, readers, &desk.starts())?;
+//! let mut committer = Committer::new(desk, taker, writer);
+//! committer.round(alloc, rt)?;
+//! committer.rebuild(alloc, &words, &heap)?;
+//! ```
+#![tactic(auto)]
+
+mod committer;
+mod outbox;
+mod refused;
+#[cfg(test)]
+mod tests;
+
+pub use committer::{Committer, Round};
+pub use refused::{RebuildRefused, RoundRefused};

@@ -1,0 +1,28 @@
+// Why a round or a rebuild is refused.
+
+/// Why a round is refused. `Down` is tested first, then what is due (`Board`); the rest is the commit's answer, and `Board` behind it.
+#[derive(Clone, Copy, Debug, PartialEq, Eq, Drop)]
+pub enum RoundRefused {
+    /// A call of the device failed. The group stays held; after a crash it is there wholly or not at all.
+    Device = 1,
+    /// The device failed before.
+    Down = 2,
+    /// Memory ran out. The group stays held, and nothing of it is on the device.
+    Memory = 3,
+    /// The board took no posting. It stays due, and what was committed stays committed.
+    Board = 4,
+    /// The count would pass its limit, or the group needs a roll and the epoch stands at its limit. The group stays held, and
+    /// nothing of it is on the device.
+    Worn = 5,
+}
+
+/// Why a rebuild is refused.
+#[derive(Clone, Copy, Debug, PartialEq, Eq, Drop)]
+pub enum RebuildRefused {
+    /// Memory ran out, or the scratch did: there is no scheme.
+    Memory = 1,
+    /// The device failed before.
+    Down = 2,
+    /// The board took no posting.
+    Board = 3,
+}

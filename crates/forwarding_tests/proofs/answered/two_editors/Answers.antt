@@ -1,0 +1,18 @@
+use Rattle.std.proofs.Common.{ap}
+use Rattle.generations.specs.Knowledges.{Knowledge}
+use Rattle.forwarding_tests.proofs.Answering.{both_at}
+use Rattle.forwarding_tests.proofs.answered.two_editors.Goals as goal
+
+pub returns-clause-first : goal.returns-clause-first
+returns-clause-first g c =
+    let seen = c.in_ok-writer.ensures.seen in
+    let both = both_at c.in_ok-taker.taker.queue c.args.starts.now c.in_ok-writer.readers.items c.in_ok-writer.writer.opening c.in_ok-taker.editors.items c.pop.new.self.items c.pop-2.new.self.items c.in-Some.second c.in-Some-pop.first
+    (λ k d w. ap (λ (b : Knowledge). b.all.opening) (seen k d w)) c.in_ok-taker.ensures.editors c.in-Some.ensures.items c.in-Some-pop.ensures.items in
+    both.1
+
+pub returns-clause-second : goal.returns-clause-second
+returns-clause-second g c =
+    let seen = c.in_ok-writer.ensures.seen in
+    let both = both_at c.in_ok-taker.taker.queue c.args.starts.now c.in_ok-writer.readers.items c.in_ok-writer.writer.opening c.in_ok-taker.editors.items c.pop.new.self.items c.pop-2.new.self.items c.in-Some.second c.in-Some-pop.first
+    (λ k d w. ap (λ (b : Knowledge). b.all.opening) (seen k d w)) c.in_ok-taker.ensures.editors c.in-Some.ensures.items c.in-Some-pop.ensures.items in
+    both.0

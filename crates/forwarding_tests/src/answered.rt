@@ -1,0 +1,238 @@
+// Editors, and a committer's part played by hand: requests are taken and answered one by one.
+ghost use Rattle.std.specs.Prelude.{◌≡◌, ◌+◌, ◌<◌, ◌∷◌, [], IfOk, MatchOption};
+ghost use Rattle.generations.specs.declared.posting.Verdict.TheVariants.{Accepted};
+ghost use Rattle.forwarding_tests.specs.Answered.{IsAnswered};
+
+use crate::posted::post_now;
+use generations::{BoardWriter, Mark, Posting, Verdict, board};
+use graph_edits::{Change, Op};
+use intake::{Editor, Outcome, SubmitRefused, Taker, open_intake};
+use requests::SESSIONS;
+use std::alloc::{AllocError, Global};
+use std::process::Abort;
+use std::sync::Wait;
+use std::test::Fail;
+use std::thread::{self, Threads, join, map_vec};
+
+fn change(rt: &impl Abort, a: u16, b: u16) -> Change {
+    Change::new(&[Op::Add(a, b, 1)]).expect(rt, "a change")
+}
+
+// The one mark that accepts a change.
+fn accepted(alloc: Global, session: u8, ticket: u64, count: u64) -> Result<Vec<Mark>, AllocError>
+    ensures { IfOk result (λ v. v.items ≡ record { session = session; ticket = ticket; verdict = Accepted count } ∷ []) }
+{
+    let mut marks = Vec::new(alloc);
+    marks.push(Mark {
+        session,
+        ticket,
+        verdict: Verdict::Accepted { count },
+    })?;
+    Ok(marks)
+}
+
+// Takes a request and posts that its change is the next accepted one: its session and ticket, where there was one.
+fn answer_next<R: Wait + Abort, W: Wait + Drop>(
+    rt: &R,
+    alloc: Global,
+    taker: &mut Taker,
+    writer: &mut BoardWriter<W>,
+    settled: u64,
+) -> Result<Option<(u8, u64)>, AllocError>
+    requires answered { IsAnswered taker.old writer.old settled }
+    requires few { settled < 10000 }
+    ensures opening { writer.new.opening ≡ writer.old.opening }
+    ensures answered { IfOk result (λ r. MatchOption r (IsAnswered taker.new writer.new settled) (λ _. IsAnswered taker.new writer.new (settled + 1))) }
+{
+    let _kept = writer.kept();
+    let Some(request) = taker.take(rt) else {
+        return Ok(None);
+    };
+    let (session, ticket) = (request.session, request.ticket);
+    let marks = accepted(alloc, session, ticket, settled + 1)?;
+    post_now(rt, writer, Posting::Marks(marks));
+    Ok(Some((session, ticket)))
+}
+
+/// The ends of an intake over one place, with two editors of a board.
+struct Opened<W: Wait + Drop> {
+    writer: BoardWriter<W>,
+    taker: Taker,
+    first: Editor,
+    second: Editor,
+}
+
+fn two_editors<W: Wait + Drop>(
+    alloc: Global,
+    rt: W,
+    starts: &[u64; SESSIONS],
+) -> Result<Opened<W>, AllocError>
+    ensures answered { IfOk result (λ p. IsAnswered p.taker p.writer 0) }
+    ensures first { IfOk result (λ p. p.first.known.opening ≡ p.writer.opening) }
+    ensures second { IfOk result (λ p. p.second.known.opening ≡ p.writer.opening) }
+{
+    let (writer, readers) = board(alloc, rt, 2, starts, 0)?;
+    let (taker, mut editors) = open_intake(alloc, 1, readers, starts)?;
+    let Some(second) = editors.pop() else {
+        return Err(AllocError);
+    };
+    let Some(first) = editors.pop() else {
+        return Err(AllocError);
+    };
+    Ok(Opened {
+        writer,
+        taker,
+        first,
+        second,
+    })
+}
+
+// The first change fills the queue: the second comes back, and so does another one of the first editor.
+fn fills<R: Wait + Abort>(rt: &R, first: &mut Editor, second: &mut Editor)
+    ensures first { first.new.known.opening ≡ first.old.known.opening }
+    ensures second { second.new.known.opening ≡ second.old.known.opening }
+{
+    let before = (
+        first.session(),
+        second.session(),
+        first.resume(),
+        first.outcome(),
+    );
+    assert_eq!(rt; before, (0, 1, 0, Ok(Outcome::Nothing)));
+    assert!(rt; first.submit(rt, 1, change(rt, 0, 1)).is_ok());
+    assert_eq!(rt;
+        second.submit(rt, 1, change(rt, 1, 2)),
+        Err((SubmitRefused::QueueFull, change(rt, 1, 2)))
+    );
+    assert_eq!(rt;
+        first.submit(rt, 2, change(rt, 2, 3)),
+        Err((SubmitRefused::Busy, change(rt, 2, 3)))
+    );
+    assert_eq!(rt; first.outcome(), Ok(Outcome::Waiting));
+}
+
+// The first change of this editor is the accepted one of this number.
+fn accepts(rt: &impl Abort, editor: &mut Editor, count: u64) {
+    assert_eq!(rt;
+        editor.outcome(),
+        Ok(Outcome::Accepted { ticket: 1, count })
+    );
+}
+
+// The two editors, with answers by hand.
+fn settles<R: Wait + Abort>(rt: &R, alloc: Global) -> Result<(), AllocError> {
+    let Opened {
+        mut writer,
+        mut taker,
+        mut first,
+        mut second,
+    } = two_editors(alloc, rt, &[0; SESSIONS])?;
+    fills(rt, &mut first, &mut second);
+    let Some(one) = answer_next(rt, alloc, &mut taker, &mut writer, 0)? else {
+        panic!(rt; "nothing to take");
+    };
+    assert!(rt; second.submit(rt, 1, change(rt, 1, 2)).is_ok());
+    let Some(two) = answer_next(rt, alloc, &mut taker, &mut writer, 1)? else {
+        panic!(rt; "nothing to take");
+    };
+    assert_eq!(rt; (one, two), ((0, 1), (1, 1)));
+    first.learn(&writer.tell());
+    second.learn(&writer.tell());
+    accepts(rt, &mut first, 1);
+    accepts(rt, &mut second, 2);
+    Ok(())
+}
+
+/// Run with each allocation refused in turn too (`./refuse-memory`): what was refused is whole when it is made again.
+#[test]
+fn settles_two_editors_over_one_place(rt: HostRuntime) -> Result<(), Fail> {
+    match settles(&rt, rt.alloc()) {
+        Ok(()) => Ok(()),
+        Err(_) => Ok(settles(&rt, rt.alloc())?),
+    }
+}
+
+/// How many changes each of four editors submits.
+const EACH: u64 = 1024;
+
+// Submits each next change once the one before is settled: whether none but a full queue and an unsettled change refused any.
+fn submits<R: Wait + Abort>(rt: &R, mut editor: Editor) -> bool {
+    let mut ticket = 1u64;
+    for _ in rt.forever() {
+        if ticket > EACH {
+            break;
+        }
+        match editor.submit(rt, ticket, change(rt, 0, 1)) {
+            Ok(()) => ticket += 1,
+            Err((SubmitRefused::Busy | SubmitRefused::QueueFull, _)) => thread::yield_now(),
+            Err(_) => return false,
+        }
+    }
+    true
+}
+
+// Whether a session's ticket is the one after its last one, which it is then.
+fn follows(last: &mut [u64; SESSIONS], session: u8, ticket: u64) -> bool {
+    let Some(before) = last.get_mut(session as usize) else {
+        return false;
+    };
+    let next = before.wrapping_add(1);
+    *before = ticket;
+    ticket == next
+}
+
+// Answers all changes of four editors: whether each session's tickets came as 1, 2, 3 and so on, and nothing was left.
+fn answers<R: Wait + Abort, W: Wait + Drop>(
+    rt: &R,
+    alloc: Global,
+    mut taker: Taker,
+    mut writer: BoardWriter<W>,
+) -> bool
+    requires { IsAnswered taker writer 0 }
+{
+    let (mut last, mut settled, mut fine) = ([0u64; SESSIONS], 0u64, true);
+    for _ in rt.forever() {
+        if settled >= 4 * EACH {
+            break;
+        }
+        match answer_next(rt, alloc, &mut taker, &mut writer, settled) {
+            Ok(Some((session, ticket))) => {
+                settled += 1;
+                fine = fine && follows(&mut last, session, ticket);
+            }
+            Ok(None) => thread::yield_now(),
+            Err(_) => return false,
+        }
+    }
+    fine && taker.take(rt).is_none()
+}
+
+// Four editors in threads beside the taker, over so many places.
+fn relay<R: Threads + Wait + Abort + Sync>(
+    rt: &R,
+    alloc: Global,
+    capacity: usize,
+) -> Result<bool, AllocError>
+    requires { 0 < capacity }
+{
+    let (writer, readers) = board(alloc, rt, 4, &[0; SESSIONS], 0)?;
+    let (taker, editors) = open_intake(alloc, capacity, readers, &[0; SESSIONS])?;
+    let (fine, each) = join(
+        rt,
+        move || -> bool
+            requires { IsAnswered taker writer 0 }
+        { answers(rt, alloc, taker, writer) },
+        move || map_vec(rt, editors, &|editor| submits(rt, editor)),
+    );
+    Ok(fine && each?.iter().all(|right| *right))
+}
+
+#[test]
+fn four_editors_beside_one_taker(rt: HostRuntime) -> Result<(), Fail> {
+    for capacity in [1usize, 64] {
+        if capacity > 0 {
+            assert!(rt; relay(&rt, rt.alloc(), capacity)?, "over {capacity} places");
+        }
+    }
+    Ok(())
+}

@@ -1,0 +1,56 @@
+// What a board says of the next ticket and of the last one.
+use generations::{Board, Mark, Posting, Verdict};
+use graph_edits::Code;
+use intake::{Outcome, SubmitRefused, outcome_of, refusal_of};
+use requests::{SESSIONS, WORN_LIMIT};
+use std::test::Fail;
+
+fn mark(session: u8, ticket: u64, verdict: Verdict) -> Mark {
+    Mark {
+        session,
+        ticket,
+        verdict,
+    }
+}
+
+#[test]
+fn refuses_by_the_first_test_that_holds(rt: HostRuntime) -> Result<(), Fail> {
+    let mut board = Board::new(&[10; SESSIONS], 0);
+    let code = Code::Loop;
+    let marks = [
+        mark(0, 12, Verdict::Accepted { count: 1 }),
+        mark(0, 15, Verdict::Refused { op: 2, code }),
+    ];
+    board.fold(&Posting::Marks(marks.to_vec(rt.alloc())?))?;
+    // Session, last ticket submitted, the next ticket, and why it is refused.
+    let rows = [
+        (1u8, None, 11u64, None),
+        (1, None, 10, Some(SubmitRefused::AlreadyIn)),
+        (1, None, 0, Some(SubmitRefused::AlreadyIn)),
+        (1, Some(11u64), 10, Some(SubmitRefused::Busy)),
+        (0, Some(15), 12, Some(SubmitRefused::AlreadyIn)),
+        (0, Some(15), 13, Some(SubmitRefused::OldTicket)),
+        (0, Some(15), 15, Some(SubmitRefused::OldTicket)),
+        (0, Some(15), 16, None),
+        (0, Some(15), WORN_LIMIT, None),
+        (0, Some(15), WORN_LIMIT + 1, Some(SubmitRefused::Worn)),
+        (0, Some(14), WORN_LIMIT + 1, Some(SubmitRefused::Busy)),
+    ];
+    for (session, last, ticket, want) in rows {
+        assert_eq!(rt;
+            refusal_of(&board, session, 10, last, ticket),
+            want,
+            "{session}: {ticket} after {last:?}"
+        );
+    }
+    let (ticket, op) = (15u64, 2usize);
+    assert_eq!(rt; outcome_of(&board, 0, None), Outcome::Nothing);
+    assert_eq!(rt;
+        outcome_of(&board, 0, Some(15)),
+        Outcome::Refused { ticket, op, code }
+    );
+    assert_eq!(rt; outcome_of(&board, 0, Some(16)), Outcome::Waiting);
+    board.fold(&Posting::Down)?;
+    assert_eq!(rt; outcome_of(&board, 0, Some(16)), Outcome::Down);
+    Ok(())
+}

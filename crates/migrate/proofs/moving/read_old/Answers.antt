@@ -1,0 +1,23 @@
+use Rattle.std.proofs.Common.{subst, sym}
+use Rattle.recovery_1.specs.Refusals.{IsFormatFault, TellsOf}
+use Rattle.migrate.proofs.moving.read_old.Goals as goal
+
+pub returns-in-Ok-clause-ok : goal.returns-in-Ok-clause-ok
+returns-in-Ok-clause-ok g c model =
+    let l = c.in-Ok.loaded in
+    record {
+      slot = l.slot;
+      epoch = l.epoch;
+      base = record { count = l.base_count; graph = l.base.value };
+      groups = l.journal.groups;
+      is_slot = c.in-Ok.ensures.slot;
+      by = (c.in-Ok.ensures.in_use model).stands;
+      folds = c.in-Ok.ensures.folds;
+      count_fits = c.in-Ok.ensures.fits;
+    }
+
+pub returns-in-Err-Damaged-clause-damaged : goal.returns-in-Err-Damaged-clause-damaged
+returns-in-Err-Damaged-clause-damaged g c model _ =
+    let v = g.O.Disk.view c.args.old.now in
+    let is = c.in-Err-Damaged.field-0-is in
+    (subst (λ e. TellsOf e v.content) is (c.in-Err-Damaged.ensures.tells model), c.in-Err-Damaged.ensures.refused model (subst IsFormatFault (sym is) tt))

@@ -1,0 +1,87 @@
+//! Bringing a state over.
+ghost use Rattle.std.specs.Prelude.{◌≡◌, ◌≢◌, ◌≤◌, ◌<◌, ◌↔◌, ℕ, List, length, IsTrue, IfOk, OnOk, IsErr, IsErrOf};
+ghost use Rattle.disk_trait.specs.Disk.{IsSameDevice, LeavesOnly, OnlyRead};
+ghost use Rattle.recovery_1.specs.Fronts.{HasOtherVersion, HasThisVersion, LacksMagic};
+ghost use Rattle.recovery_1.specs.Standing.{StandsForNone};
+ghost use Rattle.recovery.specs.Layout.{device_len, worn_limit};
+ghost use Rattle.checkpoint.specs.Whole.{IsAllForeign};
+ghost use Rattle.migrate.specs.Moved.{Held, HasMoved, HoldsNoneOrAllOf};
+
+use crate::refusals::MigrateRefused;
+use checkpoint::{DEVICE_LEN, WriteRefused, write_state};
+use disk_trait::Disk;
+use graph_edits::Graph;
+use recovery_1::{OpenRefused, load};
+use std::alloc::Global;
+
+// The count and the network that a device of layout 1 holds. It syncs, and writes nothing.
+fn read_old<O: Disk>(alloc: Global, old: &mut O) -> Result<(u64, Graph), MigrateRefused>
+    ensures ok { IsTrue (O.view old.old).keeps_model → IfOk result (λ held. Held held.0 held.1 (O.view old.old).content) }
+    ensures fits { IfOk result (λ held. held.0 ≤ worn_limit) }
+    ensures this_version { IsTrue (O.view old.old).keeps_model → OnOk result (HasThisVersion (O.view old.old).content) }
+    ensures not_formatted { IsTrue (O.view old.old).keeps_model → IsErrOf result MigrateRefused.NotFormatted → LacksMagic (O.view old.old).content × StandsForNone (O.view old.old).content }
+    ensures bad_version { IsTrue (O.view old.old).keeps_model → IsErrOf result MigrateRefused.BadVersion → HasOtherVersion (O.view old.old).content × StandsForNone (O.view old.old).content }
+    ensures damaged { IsTrue (O.view old.old).keeps_model → IsErrOf result MigrateRefused.Damaged → HasThisVersion (O.view old.old).content × StandsForNone (O.view old.old).content }
+    ensures memory { IsTrue (O.view old.old).keeps_model → IsErrOf result MigrateRefused.Memory → HasThisVersion (O.view old.old).content }
+    ensures old_device { IsErrOf result MigrateRefused.OldDevice → (O.view old.old).failures < (O.view old.new).failures }
+    ensures others { ¬ (IsErrOf result MigrateRefused.BadLength) × ¬ (IsErrOf result MigrateRefused.NewDevice) }
+    ensures no_failure { OnOk result ((O.view old.new).failures ≡ (O.view old.old).failures) }
+    ensures only_read { IsTrue (O.view old.old).keeps_model → OnlyRead (O.view old.old) (O.view old.new) }
+    ensures ran { IsSameDevice (O.view old.old) (O.view old.new) }
+{
+    match load(alloc, old) {
+        Ok(loaded) => Ok((loaded.count, loaded.graph)),
+        Err(OpenRefused::NotFormatted) => Err(MigrateRefused::NotFormatted),
+        Err(OpenRefused::BadVersion) => Err(MigrateRefused::BadVersion),
+        Err(OpenRefused::Damaged) => Err(MigrateRefused::Damaged),
+        Err(OpenRefused::Device) => Err(MigrateRefused::OldDevice),
+        Err(OpenRefused::Memory) => Err(MigrateRefused::Memory),
+    }
+}
+
+/// Brings the count and the network of a device of layout 1 to a device that then has layout 2, with the
+/// first epoch and all last tickets 0, and answers the count. Whatever the new device held before is lost.
+///
+/// The old device is synced and read, and never written. At its peak it holds one network and, beside it,
+/// the records of one journal or the buffer of one checkpoint's area.
+///
+/// Errors, in the order in which they are tested: `BadLength`, exactly where the new device hasn't
+/// `DEVICE_LEN` bytes; those of an opening of the old device: `OldDevice`, `NotFormatted`, `BadVersion`,
+/// `Damaged` and `Memory`; `Memory` for the new checkpoint; `NewDevice`. With each but the last the new
+/// device is as it was; with the last it isn't to be used.
+pub fn migrate<O: Disk, N: Disk>(
+    alloc: Global,
+    old: &mut O,
+    new: &mut N,
+) -> Result<u64, MigrateRefused>
+    ensures ok { IsTrue (O.view old.old).keeps_model → IsTrue (N.view new.old).keeps_model → IfOk result (λ count. HasMoved count (O.view old.old).content (N.view new.new)) }
+    ensures fits { IfOk result (λ count. count ≤ worn_limit) }
+    ensures bad_length { IsErrOf result MigrateRefused.BadLength ↔ (length (N.view new.old).content ≢ device_len) }
+    ensures not_formatted { IsTrue (O.view old.old).keeps_model → IsErrOf result MigrateRefused.NotFormatted → LacksMagic (O.view old.old).content × StandsForNone (O.view old.old).content }
+    ensures bad_version { IsTrue (O.view old.old).keeps_model → IsErrOf result MigrateRefused.BadVersion → HasOtherVersion (O.view old.old).content × StandsForNone (O.view old.old).content }
+    ensures damaged { IsTrue (O.view old.old).keeps_model → IsErrOf result MigrateRefused.Damaged → HasThisVersion (O.view old.old).content × StandsForNone (O.view old.old).content }
+    ensures memory { IsTrue (O.view old.old).keeps_model → IsErrOf result MigrateRefused.Memory → HasThisVersion (O.view old.old).content }
+    ensures old_device { IsErrOf result MigrateRefused.OldDevice → (O.view old.old).failures < (O.view old.new).failures }
+    ensures new_device { IsErrOf result MigrateRefused.NewDevice → (N.view new.old).failures < (N.view new.new).failures }
+    ensures no_failure { OnOk result (((O.view old.new).failures ≡ (O.view old.old).failures) × ((N.view new.new).failures ≡ (N.view new.old).failures)) }
+    ensures only_read { IsTrue (O.view old.old).keeps_model → OnlyRead (O.view old.old) (O.view old.new) }
+    ensures not_opened { IsErrOf result MigrateRefused.BadLength → old.new ≡ old.old }
+    ensures untouched { IsErr result → ¬ (IsErrOf result MigrateRefused.NewDevice) → new.new ≡ new.old }
+    ensures any_moment { IsTrue (O.view old.old).keeps_model → IsTrue (N.view new.old).keeps_model → IsAllForeign (N.view new.old)
+        → LeavesOnly (N.view new.old) (N.view new.new) (HoldsNoneOrAllOf (O.view old.old).content) }
+    ensures ran_old { IsSameDevice (O.view old.old) (O.view old.new) }
+    ensures ran_new { IsSameDevice (N.view new.old) (N.view new.new) }
+{
+    if new.len() != DEVICE_LEN {
+        return Err(MigrateRefused::BadLength);
+    }
+    let (count, graph) = match read_old(alloc, old) {
+        Ok(held) => held,
+        Err(refused) => return Err(refused),
+    };
+    match write_state(alloc, new, count, &graph) {
+        Ok(()) => Ok(count),
+        Err(WriteRefused::Memory) => Err(MigrateRefused::Memory),
+        Err(WriteRefused::Device) => Err(MigrateRefused::NewDevice),
+    }
+}

@@ -1,0 +1,5 @@
+use Rattle.node_table.specs.RowLists.{ArePlacesTo, nodes_linked}
+use Rattle.node_table.proofs.columns.note_places.Given as goal
+
+abbrev pub invariant-loop-place : goal.invariant-loop-place
+invariant-loop-place l = ArePlacesTo (nodes_linked l.reached) l.place l.places
