@@ -1,10 +1,13 @@
-// The board as a plain value, and over threads.
+// The board as a plain value, over threads, and where an allocation is refused.
 ghost use Rattle.std.specs.Prelude.{◌≡◌, []};
 
-use crate::posted::{empty_scheme, newest, post_next, post_up_to};
+use crate::posted::{empty_scheme, newest, post_next, post_seen, post_up_to};
 use generations::{Board, BoardReader, MOST_SHELVED, Mark, Posting, Verdict, board};
 use graph_edits::Code;
 use requests::{SESSIONS, WORN_LIMIT};
+use std::alloc::{AllocError, Global};
+use std::process::Abort;
+use std::sync::Wait;
 use std::test::Fail;
 use std::thread;
 
@@ -114,4 +117,26 @@ fn readers_beside_a_writer_see_all_that_they_were_told(rt: HostRuntime) -> Resul
     post_up_to(&rt, alloc, &mut writer, 1, 300);
     assert_eq!(&rt; (first.join(&rt), second.join(&rt)), (0, 0));
     Ok(())
+}
+
+// Posts five generations. What is kept for want of memory is seen once it is retried, and not before.
+fn posts_five<R: Wait + Abort>(rt: &R, alloc: Global) -> Result<(), AllocError> {
+    let (mut writer, mut readers) = board(alloc, rt, 1, &[0; SESSIONS], 0)?;
+    let Some(mut reader) = readers.pop() else {
+        return Err(AllocError);
+    };
+    for posted in 0..5u64 {
+        let scheme = empty_scheme(alloc, posted + 1)?;
+        reader = post_seen(rt, &mut writer, reader, posted, scheme);
+    }
+    Ok(())
+}
+
+/// Run with each allocation refused in turn too (`./refuse-memory`): what was refused is whole when it is made again.
+#[test]
+fn shows_what_is_kept_once_it_is_retried(rt: HostRuntime) -> Result<(), Fail> {
+    match posts_five(&rt, rt.alloc()) {
+        Ok(()) => Ok(()),
+        Err(_) => Ok(posts_five(&rt, rt.alloc())?),
+    }
 }

@@ -6,7 +6,7 @@ ghost use Rattle.generations.specs.Posts.{with_posted};
 ghost use Rattle.forwarding_tests.specs.InARow.{IsInARow};
 
 use forwarders::{ByteMove, BytesRefused, Forwarder};
-use generations::{Board, BoardWriter, PostRefused, Posting};
+use generations::{Board, BoardReader, BoardWriter, PostRefused, Posting};
 use graph_edits::{Change, Graph, MOST_NODES, Op};
 use landmarks::Landmarks;
 use node_table::{Parts, Scheme, build};
@@ -74,6 +74,15 @@ pub(crate) fn newest(board: &Board) -> u64 {
     }
 }
 
+// Looks, and compares the number of the newest generation.
+fn shown(rt: &impl Abort, reader: BoardReader, number: u64) -> BoardReader {
+    let Ok(look) = reader.look() else {
+        panic!(rt; "no look");
+    };
+    assert!(rt; newest(look.board()) == number);
+    look.leave()
+}
+
 /// Posts one posting, once more where memory was refused.
 pub(crate) fn post_now<R: Wait + Drop>(
     rt: &impl Abort,
@@ -108,6 +117,54 @@ pub(crate) fn post_next<R: Wait + Drop>(
     let scheme = Arc::new(alloc, scheme).expect(rt, "memory");
     let _kept = writer.kept();
     post_now(rt, writer, Posting::Generation { number, scheme });
+}
+
+// Posts one posting. Where the writer has to keep it, the reader sees this newest generation still, until it is retried.
+fn post_watched<R: Wait + Drop>(
+    rt: &impl Abort,
+    writer: &mut BoardWriter<R>,
+    reader: BoardReader,
+    newest: u64,
+    posting: Posting,
+) -> BoardReader
+    requires nothing_kept { writer.old.kept ≡ [] }
+    requires lawful { IsLawful writer.old.opening.starts writer.old.opening.count (writer.old.posted ++ notice_of posting ∷ []) }
+    ensures { writer.new ≡ with_posted writer.old (notice_of posting) }
+{
+    match writer.post(posting) {
+        Ok(()) => reader,
+        Err(PostRefused::Kept) => {
+            let reader = shown(rt, reader, newest);
+            writer.retry().expect(rt, "memory");
+            reader
+        }
+        Err(PostRefused::Back(_)) => panic!(rt; "not taken"),
+    }
+}
+
+/// Posts the next generation. The reader sees the one before until then, and this one from then on.
+pub(crate) fn post_seen<R: Wait + Drop>(
+    rt: &impl Abort,
+    writer: &mut BoardWriter<R>,
+    reader: BoardReader,
+    posted: u64,
+    scheme: Arc<Scheme, Global>,
+) -> BoardReader
+    requires row { IsInARow writer.old posted }
+    requires few { posted < 1000 }
+    ensures row { IsInARow writer.new (posted + 1) }
+{
+    let number = posted + 1;
+    let reader = shown(rt, reader, posted);
+    let _kept = writer.kept();
+    let reader = post_watched(
+        rt,
+        writer,
+        reader,
+        posted,
+        Posting::Generation { number, scheme },
+    );
+    shown(rt, reader, number)
 }
 
 /// Posts the generations of the path behind the one that was posted last, up to this one.
