@@ -204,9 +204,10 @@ fn builds_once_for_each_count(rt: HostRuntime) -> Result<(), Fail> {
     let mut reader = at.reader;
     for (words, ample, want, stands) in rows {
         let heap = if ample { &large } else { &small };
-        let mut answer = at.committer.rebuild(alloc, &words, heap);
+        let given: &[u64] = &words;
+        let mut answer = at.committer.rebuild(alloc, given, heap);
         if answer != want {
-            answer = at.committer.rebuild(alloc, &words, heap);
+            answer = at.committer.rebuild(alloc, given, heap);
         }
         assert_eq!(rt; answer, want);
         let (back, found) = shelf(reader);

@@ -103,7 +103,7 @@ fn path_of_4096_nodes(rt: HostRuntime) -> io::Result<()> {
         expect_run(&rt, d, line.as_str(), 0, accepted.as_str())?;
     }
     let mut words = format!(in rt.alloc(); "--words at:63")?;
-    for landmark in 1..64 {
+    for landmark in 1..64u16 {
         let node = format!(in rt.alloc(); ",{}", landmark * 64 + 63)?;
         words.push_str(node.as_str())?;
     }
