@@ -1,10 +1,8 @@
 -- What a store knows of its disk.
-use Rattle.std.specs.Prelude.{◌≡◌, ◌<◌, ◌≤◌, ℕ, List, [], ◌∷◌, Some}
+use Rattle.std.specs.Prelude.{◌≡◌, ◌<◌, ◌≤◌, ℕ, List, Some}
 use Rattle.std.proofs.Props.{props}
-use Rattle.std.specs.Coded.{le_prop}
-use mathlib.Core.HLevel.{Unit-prop}
 use Rattle.disk_trait.specs.Disk.{DiskView, MayLeave}
-use Rattle.requests.specs.Tickets.{sessions, last_of, raise, Rises}
+use Rattle.requests.proofs.TicketLemmas.{rises_prop}
 use Rattle.recovery.specs.Records.{Entry, entries_of}
 use Rattle.recovery.specs.InUse.{IsInUse}
 use Rattle.recovery.specs.Layout.{worn_limit}
@@ -33,12 +31,4 @@ kept_stands disk slot epoch other_gate base state groups is fits kept image left
   count_fits = fits;
 }
 
--- pairs rise in one way at most
-pub Rises-prop : (tickets : List ℕ) (pairs : List (ℕ × ℕ)) → IsProp (Rises tickets pairs)
-Rises-prop tickets [] = Unit-prop
-Rises-prop tickets (p ∷ ps) =
-    let there : IsProp (p.0 < sessions) = le_prop in
-    let above : IsProp (last_of tickets p.0 < p.1) = le_prop in
-    λ x y i. (there x.0 y.0 i, above x.1 y.1 i, Rises-prop (raise tickets p) ps x.2 y.2 i)
-
-pub ruleset kept_props = (props, Rises-prop)
+pub ruleset kept_props = (props, rises_prop)

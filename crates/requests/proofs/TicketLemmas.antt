@@ -3,6 +3,7 @@ use Rattle.std.proofs.Common.{◌≡◌, ◌⊎◌, inl, inr, ⊎_elim, ◌<◌,
 use Rattle.std.proofs.lemmas.Bool.{eqb-true}
 use Rattle.std.proofs.lemmas.Bool.Decides.{nat_tests}
 use Rattle.std.proofs.lemmas.List.{take-append-drop}
+use Rattle.std.specs.Coded.{Unit-prop, le_prop}
 use Rattle.requests.specs.Tickets.{sessions, last_of, raise, tickets_after, Rises, times, IsLast, NoneOf}
 
 -- ---- one place of the last tickets
@@ -191,3 +192,11 @@ stays_wide ts (r ∷ rs) = stays_wide (raise ts r) rs ∙ set_wide ts r.0 r.1
 -- one pair more
 pub rises_next : (ts : List ℕ) (rs : List (ℕ × ℕ)) (s t : ℕ) → Rises ts rs → s < sessions → last_of (tickets_after ts rs) s < t → Rises ts (rs ++ (s, t) ∷ [])
 rises_next ts rs s t h within above = rises_both ts rs ((s, t) ∷ []) h (within, above, tt)
+
+-- that pairs rise is one fact
+pub rises_prop : (tickets : List ℕ) (pairs : List (ℕ × ℕ)) → IsProp (Rises tickets pairs)
+rises_prop tickets [] = Unit-prop
+rises_prop tickets (p ∷ ps) =
+    let there : IsProp (p.0 < sessions) = le_prop in
+    let above : IsProp (last_of tickets p.0 < p.1) = le_prop in
+    λ x y i. (there x.0 y.0 i, above x.1 y.1 i, rises_prop (raise tickets p) ps x.2 y.2 i)
