@@ -1,0 +1,5 @@
+pub mod Trips
+pub mod Machines
+pub mod Answers
+pub mod Runs
+pub mod Moments

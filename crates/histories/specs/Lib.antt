@@ -1,0 +1,4 @@
+pub mod History
+pub mod Happenings
+pub mod Runs
+pub mod Laws

@@ -1,0 +1,26 @@
+//! Exactly once over crashes: what follows for the accepted changes of several lives of a device, from tickets that rise.
+//!
+//! # What it is
+//!
+//! A life of a device is what happened between an opening and the next one. It leaves some of its accepted changes on the device,
+//! and the next life begins with the state after these. The joined list of some lives is, life after life, the changes that
+//! the next life opened to, and of the last life those that a commit answered Ok for. It has no code: it says what that list is
+//! (specs/Lives.antt), and proves what holds of it (specs/Laws.antt).
+//!
+//! # The contract
+//!
+//! What the crate above cites is [`exactly_once_laws`]. Its premise is a chain: each life began with a last ticket for each
+//! session, let in requests in turn from there, told no mark but those of answered groups, and the next life opened to the
+//! state after some of its requests that has all that a commit answered Ok for. Then, in the joined list of these lives and of
+//! each beginning of them, each session's ticket stands at most once, and only above the session's last one on the first disk;
+//! one that is acknowledged stands there exactly once; each life opens to the last tickets of what is in by then, so that
+//! `resume` answers them; none of these is let in again; and each ticket of the list is refused, by any board of the life, as
+//! `Busy` where the session's last change isn't settled on that board, and else as `AlreadyIn`.
+//!
+//! Two laws tie this to the calls of an opening: a request that a board lets in leaves the requests in turn, and where a
+//! session isn't busy on a board, the last accepted ticket that the board has of it is the store's.
+#![tactic(auto)]
+
+mod laws;
+
+pub use laws::exactly_once_laws;

@@ -1,0 +1,8 @@
+use Rattle.listed_runs.proofs.Acked.{acknowledged, prefix_holds}
+use Rattle.listed_runs.proofs.laws.acknowledged_law.Goals as goal
+
+pub returns-clause-states : goal.returns-clause-states
+returns-clause-states c = acknowledged
+
+pub returns-clause-prefixes : goal.returns-clause-prefixes
+returns-clause-prefixes c = prefix_holds

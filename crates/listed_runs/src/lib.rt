@@ -1,0 +1,42 @@
+//! What the lists of a run keep: the requests that were let in, their marks, and the postings.
+//!
+//! # What it is
+//!
+//! The crate `event_runs` says what a list of events may be answered. This one says what follows for the lists that are stored then,
+//! without a disk: it has definitions and laws, and no code. Whoever runs events and answers them so has these laws for nothing.
+//!
+//! # The contract
+//!
+//! `IsListed first m` (specs/Listed.antt) says what the machine `m` keeps in a life that opened to the state `first`. The requests that
+//! were let in stand in one list, in each session's order, and its tickets rise from the opened ones. The first of them are settled:
+//! the store's state is that after these, and what was told, posted or due, has just their marks. The list of all that was told is
+//! lawful, by the board's own definition. Each posted generation is durable (specs/Durable.antt): what was posted before it has the
+//! marks of just the requests of which its graph has the accepted changes, and its scheme serves that graph.
+//!
+//! | Law | What it says |
+//! |---|---|
+//! | [`lists_law`] | a life begins so; each answer keeps it, and so does a run; the postings alone are lawful, and their generations durable |
+//! | [`queue_law`] | what was asked is what replies let in, in their order; what was taken is the front of it, in the order of the replies |
+//! | [`acknowledged_law`] | an Accepted mark that was posted is one of the marks of the first requests, of as many as lead to a state whose count is at least the store's; so each prefix state (the crate `histories`) that holds all that commits answered Ok for has all that is acknowledged |
+//! | [`tickets_law`] | the lists are those of a life in a chain of lives (the crate `joined_lists`); a ticket is refused as already in only where it is at most the last accepted one of its session in the store, and a ticket that is at most that is let in by no reply |
+//!
+//! ```rust
+//! ghost use Rattle.recovery.specs.State.{State};
+//! ghost use Rattle.event_runs.specs.Machines.{Machine};
+//! ghost use Rattle.listed_runs.specs.Listed.{IsListed};
+//! ghost use Rattle.generations.specs.Lawful.{IsLawful};
+//!
+//! use listed_runs::lists_law;
+//!
+//! /// What a listed machine posted is lawful.
+//! pub fn posts_lawfully()
+//!     ensures { (first : State) (m : Machine) → IsListed first m → IsLawful first.tickets first.count m.postings }
+//! {
+//!     lists_law();
+//! }
+//! ```
+#![tactic(auto)]
+
+mod laws;
+
+pub use laws::{acknowledged_law, lists_law, queue_law, tickets_law};

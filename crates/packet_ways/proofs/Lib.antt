@@ -1,0 +1,11 @@
+pub mod Shelves
+pub mod LeftBehind
+pub mod Sending
+pub mod OnCourse
+pub mod Known
+pub mod Ways
+pub mod Hopping
+pub mod Launching
+pub mod Others
+pub mod Gone
+pub mod Runs

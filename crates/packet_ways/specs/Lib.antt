@@ -1,0 +1,5 @@
+pub mod Ways
+pub mod Courses
+pub mod Replies
+pub mod Later
+pub mod Laws

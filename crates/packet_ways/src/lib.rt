@@ -1,0 +1,41 @@
+//! Packets' ways: each packet goes over the one trip of its own generation.
+//!
+//! # What it is
+//!
+//! What follows from the answers of `event_runs` for packets, as laws and without code: [`ways_law`]. Whoever runs events and answers
+//! them so has these laws for nothing. None of them names a disk.
+//!
+//! # The definitions
+//!
+//! - `AreOnWay m` (specs/Ways.antt): each packet was sent to the address that the scheme gave which was posted under the packet's
+//!   number, and each hop was the step of that scheme. That is all that goes on from event to event.
+//! - `AreRoutedWell first m` (specs/Courses.antt) follows from it, where the lists are kept too (`IsListed` of `listed_runs`): what a
+//!   packet visited is a beginning of the one trip that good service gives in the graph of the packet's own generation, at most three
+//!   times as long as any other; the rest of that trip carries it on, by ports that lead along it; and it is gone only at the end.
+//! - `Tells first event m reply n` (specs/Replies.antt): what the reply to a launch or a hop says. A launch is refused only because no
+//!   generation is seen, or because in the graph of the newest one seen one of the two isn't a node or no walk leads there; a hop only
+//!   because the packet's generation has left the shelf, behind as many later ones as that has room for.
+//! - `AllGoOn m n` and `NeverHops i events replies` (specs/Later.antt): each packet keeps its number, its ends and its generation, and
+//!   visits more; and a packet that was delivered is never moved again.
+//!
+//! ```rust
+//! ghost use Rattle.recovery.specs.State.{State};
+//! ghost use Rattle.event_runs.specs.Machines.{Machine};
+//! ghost use Rattle.listed_runs.specs.Listed.{IsListed};
+//! ghost use Rattle.packet_ways.specs.Ways.{AreOnWay};
+//! ghost use Rattle.packet_ways.specs.Courses.{AreRoutedWell};
+//!
+//! use packet_ways::ways_law;
+//!
+//! /// Packets on their way are routed well.
+//! pub fn route_well()
+//!     ensures { (first : State) (m : Machine) → IsListed first m → AreOnWay m → AreRoutedWell first m }
+//! {
+//!     ways_law();
+//! }
+//! ```
+#![tactic(auto)]
+
+mod laws;
+
+pub use laws::ways_law;
