@@ -1,0 +1,26 @@
+use Rattle.std.proofs.Common.{rules, ◌≡◌, ℕ, List, [], replicate, sym, subst}
+use Rattle.checkpoint.specs.StoreWords.{state_of}
+use Rattle.requests.specs.declared.request.Request.{Request}
+use Rattle.recovery.specs.State.{AreInTurn}
+use Rattle.group_commit.specs.DeskWords.{store_of}
+use Rattle.group_commit.specs.Turns.{AreBehind}
+use Rattle.group_commit.proofs.TurnLemmas.{behind_itself}
+use Rattle.event_runs.specs.declared.session.Session.{Session}
+use Rattle.event_runs.specs.Machines.{fresh_session}
+use Rattle.interleave.specs.Stores.{AreLasts}
+use Rattle.interleave.proofs.Tickets.{fresh_lasts}
+use Rattle.interleave.proofs.world.World.fresh.Goals as goal
+
+pub invariant_of-result-clause-in_turn : goal.invariant_of-result-clause-in_turn
+invariant_of-result-clause-in_turn g c = subst (λ (l : List Request). AreInTurn c.starts-starts.result l) (sym c.new.ensures.items) (tt, tt)
+
+pub invariant_of-result-clause-lasts : goal.invariant_of-result-clause-lasts
+invariant_of-result-clause-lasts g c =
+    let fresh : c.in_ok-sessions.sessions.items ≡ replicate c.args.sessions fresh_session = search rules in
+    subst (λ (l : List Request). AreLasts c.starts-starts.result l c.in_ok-sessions.sessions.items) (sym c.new.ensures.items)
+    (subst (λ (xs : List Session). AreLasts c.starts-starts.result [] xs) (sym fresh) (fresh_lasts c.starts-starts.result c.args.sessions))
+
+pub invariant_of-result-clause-behind : goal.invariant_of-result-clause-behind
+invariant_of-result-clause-behind g c =
+    let tickets = (state_of (store_of c.args.desk)).tickets in
+    subst (λ (l : List ℕ). AreBehind tickets l) (sym c.starts-starts.ensures) (behind_itself tickets)

@@ -1,0 +1,95 @@
+// Runs of events.
+ghost use Rattle.std.specs.Prelude.{◌≡◌, ◌≢◌, ◌≤◌, ◌++◌, [], ℕ, List, length, IsTrue, IfOk, OnOk, OnErr, vec_capacity};
+ghost use Rattle.disk_trait.specs.Disk.{IsSameDevice, MayLeave};
+ghost use Rattle.recovery.specs.State.{State};
+ghost use Rattle.histories.specs.Happenings.{Happens};
+ghost use Rattle.histories.specs.Runs.{IsRun, moment_of};
+ghost use Rattle.event_runs.specs.Answers.{Answers};
+ghost use Rattle.event_runs.specs.Runs.{Run};
+ghost use Rattle.event_runs.specs.Moments.{number_of};
+ghost use Rattle.listed_runs.specs.Listed.{IsListed};
+ghost use Rattle.listed_runs.specs.Queues.{all_let_in};
+ghost use Rattle.packet_ways.specs.Ways.{AreOnWay};
+ghost use Rattle.packet_ways.specs.Courses.{AreRoutedWell};
+ghost use Rattle.packet_ways.specs.Replies.{RunRoutes};
+ghost use Rattle.packet_ways.specs.Later.{AllGoOn};
+ghost use Rattle.interleave.specs.Crashes.{GoneOn, HoldsAcknowledged};
+
+use crate::room::add;
+use crate::world::World;
+use disk_trait::Disk;
+use event_runs::{Event, Reply};
+use histories::history_law;
+use listed_runs::{acknowledged_law, lists_law, queue_law};
+use packet_ways::ways_law;
+use std::alloc::{AllocError, Global};
+
+impl<D: Disk> World<D> {
+    ghost use Rattle.interleave.specs.WorldWords.{lists_of, machine_of, world_store, world_view};
+
+    // One event.
+    fn step(&mut self, alloc: Global, event: &Event) -> Reply
+        ensures still { event.now ≢ Event.Commit → world_store self.new ≡ world_store self.old }
+        ensures ran { IsSameDevice (world_view self.old) (world_view self.new) }
+        ensures happens { IsTrue (world_view self.old).keeps_model → Happens (world_view self.old) (world_view self.new) (lists_of self.old) (lists_of self.new) (number_of result) }
+        ensures answers { Answers event.now (machine_of self.old) result (machine_of self.new) }
+    {
+        match event {
+            Event::Submit { session, ticket, change } => self.submit(*session, *ticket, change),
+            Event::Look { session, at } => self.look(*session, *at),
+            Event::Take => self.take(),
+            Event::Commit => self.commit(alloc),
+            Event::Post => self.post(),
+            Event::Rebuild { words } => self.build(alloc, words.as_slice()),
+            Event::Launch { from, to, at } => self.launch(alloc, *from, *to, *at),
+            Event::Hop { packet, at } => self.hop(*packet, *at),
+        }
+    }
+
+    /// Runs the events. The replies go into an empty list that has room for them.
+    pub fn run_into(&mut self, alloc: Global, events: &[Event], replies: &mut Vec<Reply>)
+        requires room { length events.now ≤ vec_capacity replies.old }
+        requires none { replies.old.items ≡ [] }
+        ensures ran { IsSameDevice (world_view self.old) (world_view self.new) }
+        ensures answers { Run (machine_of self.old) events.now replies.new.items (machine_of self.new) }
+        ensures crashes { IsTrue (world_view self.old).keeps_model → (first : State) (before : List (ℕ × ℕ)) → IsRun first (world_view self.old) (lists_of self.old) before
+            → GoneOn first (moment_of (world_view self.old) (lists_of self.old)) (world_view self.new) (lists_of self.new) events.now replies.new.items before }
+        ensures lists { (first : State) → IsListed first (machine_of self.old) → IsListed first (machine_of self.new) }
+        ensures asked { (machine_of self.new).asked ≡ (machine_of self.old).asked ++ all_let_in events.now replies.new.items }
+        ensures ways { (first : State) → IsListed first (machine_of self.old) → AreOnWay (machine_of self.old)
+            → AreOnWay (machine_of self.new) × RunRoutes first (machine_of self.old) events.now replies.new.items (machine_of self.new) × AllGoOn (machine_of self.old) (machine_of self.new) }
+        ensures routed_well { (first : State) → IsListed first (machine_of self.old) → AreOnWay (machine_of self.old) → AreRoutedWell first (machine_of self.new) }
+        ensures acknowledged { IsTrue (world_view self.old).keeps_model → (first : State) (before : List (ℕ × ℕ)) → IsRun first (world_view self.old) (lists_of self.old) before → IsListed first (machine_of self.old)
+            → (image : List ℕ) → MayLeave (world_view self.new) image → HoldsAcknowledged first (machine_of self.new) image }
+    {
+        history_law::<D>();
+        lists_law();
+        queue_law();
+        acknowledged_law();
+        ways_law();
+        for event in events {
+            let reply = self.step(alloc, event);
+            add(replies, reply);
+        }
+    }
+
+    /// Runs the events: one reply for each, in their order. Room for all replies is made first; where there is none, nothing happened.
+    pub fn run(&mut self, alloc: Global, events: &[Event]) -> Result<Vec<Reply>, AllocError>
+        ensures ran { IsSameDevice (world_view self.old) (world_view self.new) }
+        ensures answers { IfOk result (λ replies. Run (machine_of self.old) events.now replies.items (machine_of self.new)) }
+        ensures crashes { IsTrue (world_view self.old).keeps_model → (first : State) (before : List (ℕ × ℕ)) → IsRun first (world_view self.old) (lists_of self.old) before
+            → IfOk result (λ replies. GoneOn first (moment_of (world_view self.old) (lists_of self.old)) (world_view self.new) (lists_of self.new) events.now replies.items before) }
+        ensures lists { (first : State) → IsListed first (machine_of self.old) → OnOk result (IsListed first (machine_of self.new)) }
+        ensures asked { IfOk result (λ replies. (machine_of self.new).asked ≡ (machine_of self.old).asked ++ all_let_in events.now replies.items) }
+        ensures ways { (first : State) → IsListed first (machine_of self.old) → AreOnWay (machine_of self.old)
+            → IfOk result (λ replies. AreOnWay (machine_of self.new) × RunRoutes first (machine_of self.old) events.now replies.items (machine_of self.new) × AllGoOn (machine_of self.old) (machine_of self.new)) }
+        ensures routed_well { (first : State) → IsListed first (machine_of self.old) → AreOnWay (machine_of self.old) → OnOk result (AreRoutedWell first (machine_of self.new)) }
+        ensures acknowledged { IsTrue (world_view self.old).keeps_model → (first : State) (before : List (ℕ × ℕ)) → IsRun first (world_view self.old) (lists_of self.old) before → IsListed first (machine_of self.old)
+            → OnOk result ((image : List ℕ) → MayLeave (world_view self.new) image → HoldsAcknowledged first (machine_of self.new) image) }
+        ensures err { OnErr result (self.new ≡ self.old) }
+    {
+        let mut replies = Vec::with_capacity(alloc, events.len())?;
+        self.run_into(alloc, events, &mut replies);
+        Ok(replies)
+    }
+}
