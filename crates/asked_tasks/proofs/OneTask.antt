@@ -12,7 +12,7 @@ use Rattle.given_words.specs.WordsText.{IsAsked, IsSame, words_text}
 use Rattle.asked_tasks.specs.declared.refused.WordsRefused.{WordsRefused}
 use Rattle.asked_tasks.specs.declared.refused.WordsRefused.TheVariants.{Memory}
 use Rattle.asked_tasks.specs.declared.task.Task.{Task}
-use Rattle.asked_tasks.specs.declared.task.Task.TheVariants.{Format, Show, Edit, Resume, Route, Check}
+use Rattle.asked_tasks.specs.declared.task.Task.TheVariants.{Format, Show, Edit, Resume, Route, Check, Migrate}
 use Rattle.asked_tasks.specs.Asked.{Gives, IsInRange, IsSameTask, IsTask, IsTicket}
 
 -- one name has one third letter
@@ -37,15 +37,17 @@ has_device name rows (Edit device ticket change) is = (device.now, is.1)
 has_device name rows (Resume device session) is = (device.now, is.1)
 has_device name rows (Route device from to words) is = (device.now, is.1)
 has_device name rows (Check device words) is = (device.now, is.1)
+has_device name rows (Migrate old new) is = (old.now, is.1)
 
 -- and one of the commands
-pub is_named : (name : Text) (rows : List Row) (task : Task) → IsTask name rows task → name ≢ codes "format" → name ≢ codes "show" → name ≢ codes "edit" → name ≢ codes "resume" → name ≢ codes "route" → name ≢ codes "check" → ⊥
-is_named name rows (Format device nodes) is format show edit resume route check = format is.0
-is_named name rows (Show device) is format show edit resume route check = show is.0
-is_named name rows (Edit device ticket change) is format show edit resume route check = edit is.0
-is_named name rows (Resume device session) is format show edit resume route check = resume is.0
-is_named name rows (Route device from to words) is format show edit resume route check = route is.0
-is_named name rows (Check device words) is format show edit resume route check = check is.0
+pub is_named : (name : Text) (rows : List Row) (task : Task) → IsTask name rows task → name ≢ codes "format" → name ≢ codes "show" → name ≢ codes "edit" → name ≢ codes "resume" → name ≢ codes "route" → name ≢ codes "check" → name ≢ codes "migrate" → ⊥
+is_named name rows (Format device nodes) is format show edit resume route check migrate = format is.0
+is_named name rows (Show device) is format show edit resume route check migrate = show is.0
+is_named name rows (Edit device ticket change) is format show edit resume route check migrate = edit is.0
+is_named name rows (Resume device session) is format show edit resume route check migrate = resume is.0
+is_named name rows (Route device from to words) is format show edit resume route check migrate = route is.0
+is_named name rows (Check device words) is format show edit resume route check migrate = check is.0
+is_named name rows (Migrate old new) is format show edit resume route check migrate = migrate is.0
 
 -- ---- what holds of each task of a command holds of the one that was asked for
 
@@ -56,6 +58,7 @@ only_format P name rows (Edit device ticket change) named is each = absurd (apar
 only_format P name rows (Resume device session) named is each = absurd (apart name _ _ named is.0 refl)
 only_format P name rows (Route device from to words) named is each = absurd (apart name _ _ named is.0 refl)
 only_format P name rows (Check device words) named is each = absurd (apart name _ _ named is.0 refl)
+only_format P name rows (Migrate old new) named is each = absurd (apart name _ _ named is.0 refl)
 
 only_show : (P : Task → Type 0) (name : Text) (rows : List Row) (task : Task) → name ≡ codes "show" → IsTask name rows task → ((device : Bor Text) → P (Show device)) → P task
 only_show P name rows (Format device nodes) named is each = absurd (apart name _ _ named is.0 refl)
@@ -64,6 +67,7 @@ only_show P name rows (Edit device ticket change) named is each = absurd (apart 
 only_show P name rows (Resume device session) named is each = absurd (apart name _ _ named is.0 refl)
 only_show P name rows (Route device from to words) named is each = absurd (apart name _ _ named is.0 refl)
 only_show P name rows (Check device words) named is each = absurd (apart name _ _ named is.0 refl)
+only_show P name rows (Migrate old new) named is each = absurd (apart name _ _ named is.0 refl)
 
 only_edit : (P : Task → Type 0) (name : Text) (rows : List Row) (task : Task) → name ≡ codes "edit" → IsTask name rows task → ((device : Bor Text) (ticket : Option ℕ) (change : List Op) → P (Edit device ticket change)) → P task
 only_edit P name rows (Format device nodes) named is each = absurd (apart name _ _ named is.0 refl)
@@ -72,6 +76,7 @@ only_edit P name rows (Edit device ticket change) named is each = each device ti
 only_edit P name rows (Resume device session) named is each = absurd (apart name _ _ named is.0 refl)
 only_edit P name rows (Route device from to words) named is each = absurd (apart name _ _ named is.0 refl)
 only_edit P name rows (Check device words) named is each = absurd (apart name _ _ named is.0 refl)
+only_edit P name rows (Migrate old new) named is each = absurd (apart name _ _ named is.0 refl)
 
 only_resume : (P : Task → Type 0) (name : Text) (rows : List Row) (task : Task) → name ≡ codes "resume" → IsTask name rows task → ((device : Bor Text) (session : ℕ) → P (Resume device session)) → P task
 only_resume P name rows (Format device nodes) named is each = absurd (apart name _ _ named is.0 refl)
@@ -80,6 +85,7 @@ only_resume P name rows (Edit device ticket change) named is each = absurd (apar
 only_resume P name rows (Resume device session) named is each = each device session
 only_resume P name rows (Route device from to words) named is each = absurd (apart name _ _ named is.0 refl)
 only_resume P name rows (Check device words) named is each = absurd (apart name _ _ named is.0 refl)
+only_resume P name rows (Migrate old new) named is each = absurd (apart name _ _ named is.0 refl)
 
 only_route : (P : Task → Type 0) (name : Text) (rows : List Row) (task : Task) → name ≡ codes "route" → IsTask name rows task → ((device : Bor Text) (from : ℕ) (to : ℕ) (words : LandmarkWords) → P (Route device from to words)) → P task
 only_route P name rows (Format device nodes) named is each = absurd (apart name _ _ named is.0 refl)
@@ -88,6 +94,7 @@ only_route P name rows (Edit device ticket change) named is each = absurd (apart
 only_route P name rows (Resume device session) named is each = absurd (apart name _ _ named is.0 refl)
 only_route P name rows (Route device from to words) named is each = each device from to words
 only_route P name rows (Check device words) named is each = absurd (apart name _ _ named is.0 refl)
+only_route P name rows (Migrate old new) named is each = absurd (apart name _ _ named is.0 refl)
 
 only_check : (P : Task → Type 0) (name : Text) (rows : List Row) (task : Task) → name ≡ codes "check" → IsTask name rows task → ((device : Bor Text) (words : LandmarkWords) → P (Check device words)) → P task
 only_check P name rows (Format device nodes) named is each = absurd (apart name _ _ named is.0 refl)
@@ -96,6 +103,16 @@ only_check P name rows (Edit device ticket change) named is each = absurd (apart
 only_check P name rows (Resume device session) named is each = absurd (apart name _ _ named is.0 refl)
 only_check P name rows (Route device from to words) named is each = absurd (apart name _ _ named is.0 refl)
 only_check P name rows (Check device words) named is each = each device words
+only_check P name rows (Migrate old new) named is each = absurd (apart name _ _ named is.0 refl)
+
+only_migrate : (P : Task → Type 0) (name : Text) (rows : List Row) (task : Task) → name ≡ codes "migrate" → IsTask name rows task → ((old new : Bor Text) → P (Migrate old new)) → P task
+only_migrate P name rows (Format device nodes) named is each = absurd (apart name _ _ named is.0 refl)
+only_migrate P name rows (Show device) named is each = absurd (apart name _ _ named is.0 refl)
+only_migrate P name rows (Edit device ticket change) named is each = absurd (apart name _ _ named is.0 refl)
+only_migrate P name rows (Resume device session) named is each = absurd (apart name _ _ named is.0 refl)
+only_migrate P name rows (Route device from to words) named is each = absurd (apart name _ _ named is.0 refl)
+only_migrate P name rows (Check device words) named is each = absurd (apart name _ _ named is.0 refl)
+only_migrate P name rows (Migrate old new) named is each = each old new
 
 -- ---- the task that was read is the one that was asked for
 
@@ -131,6 +148,11 @@ pub same_check : (name : Text) (rows : List Row) (device : Bor Text) (words : La
     → ((asked : LandmarkWords) → IsAsked asked → Gives rows (codes "words") (words_text asked) → IsSame words asked) → IsTask name rows task → IsSameTask (Check device words) task
 same_check name rows device words task named gives read is =
     only_check (λ t. IsTask name rows t → IsSameTask (Check device words) t) name rows task named is (λ other asked is. (one_text rows _ _ _ gives is.1, read asked is.2.1 is.2.0)) is
+
+pub same_migrate : (name : Text) (rows : List Row) (old new : Bor Text) (task : Task) → name ≡ codes "migrate" → Gives rows (codes "device") old.now → Gives rows (codes "new") new.now → IsTask name rows task
+    → IsSameTask (Migrate old new) task
+same_migrate name rows old new task named gives makes is =
+    only_migrate (λ t. IsTask name rows t → IsSameTask (Migrate old new) t) name rows task named is (λ other made is. (one_text rows _ _ _ gives is.1, one_text rows _ _ _ makes is.2)) is
 
 -- ---- a part that can't be read, of a task that was asked for, is so for want of memory
 
@@ -175,6 +197,11 @@ pub words_of_check_refused : (name : Text) (rows : List Row) (refused : WordsRef
 words_of_check_refused name rows refused task named read is =
     only_check (λ t. IsTask name rows t → refused ≡ Memory) name rows task named is (λ other asked is. read asked is.2.1 is.2.0) is
 
+-- the new device's text is there
+pub new_given : (name : Text) (rows : List Row) (task : Task) → name ≡ codes "migrate" → IsTask name rows task → (new : Text) × Gives rows (codes "new") new
+new_given name rows task named is =
+    only_migrate (λ t. IsTask name rows t → (new : Text) × Gives rows (codes "new") new) name rows task named is (λ old new is. (new.now, is.2)) is
+
 -- what is handed up is what came
 pub handed_up : {T : Type 0} (r : Result T WordsRefused) (refused : WordsRefused) → IsErrAnd r (λ e. e ≡ refused) → refused ≡ Memory → IfErr r (λ e. e ≡ Memory)
 handed_up (Ok task) refused is memory = absurd is
@@ -184,3 +211,7 @@ handed_up (Err e) refused is memory = is ∙ memory
 pub none_given : (o : Option (Bor Text)) (text : Text) → ((x : Bor Text) → o ≡ Some x → ⊥) → option_map (λ s. s.now) o ≡ Some text → ⊥
 none_given (Some x) text not is = not x refl
 none_given None text not is = absurd (cc)
+
+-- a text that is given isn't missing
+pub none_missing : (o : Option Text) (text : Text) → o ≡ Some text → o ≡ None → ⊥
+none_missing o text there none = absurd (cc)

@@ -10,7 +10,7 @@ use Rattle.given_words.specs.declared.words.LandmarkWords.{LandmarkWords}
 use Rattle.given_words.specs.OpText.{Fits, op_text}
 use Rattle.given_words.specs.WordsText.{IsAsked, IsSame, words_text}
 use Rattle.asked_tasks.specs.declared.task.Task.{Task}
-use Rattle.asked_tasks.specs.declared.task.Task.TheVariants.{Format, Show, Edit, Resume, Route, Check}
+use Rattle.asked_tasks.specs.declared.task.Task.TheVariants.{Format, Show, Edit, Resume, Route, Check, Migrate}
 use Rattle.asked_tasks.specs.Grammar.{program}
 
 -- the argument has this text
@@ -56,6 +56,10 @@ IsRoute name rows device from to words =
 abbrev pub IsCheck : Text → List Row → Text → LandmarkWords → Type 0
 IsCheck name rows device words = (name ≡ codes "check") × Gives rows (codes "device") device × AreWordsAsked rows words
 
+-- `migrate OLD NEW`
+abbrev pub IsMigrate : Text → List Row → Text → Text → Type 0
+IsMigrate name rows old new = (name ≡ codes "migrate") × Gives rows (codes "device") old × Gives rows (codes "new") new
+
 -- a command of this name, with these texts of its arguments, is this task
 abbrev pub IsTask : Text → List Row → Task → Type 0
 IsTask name rows (Format device nodes) = IsFormat name rows device.now nodes
@@ -64,6 +68,7 @@ IsTask name rows (Edit device ticket change) = IsEdit name rows device.now ticke
 IsTask name rows (Resume device session) = IsResume name rows device.now session
 IsTask name rows (Route device from to words) = IsRoute name rows device.now from to words
 IsTask name rows (Check device words) = IsCheck name rows device.now words
+IsTask name rows (Migrate old new) = IsMigrate name rows old.now new.now
 
 -- the grammar takes the words, and they name this command, with these texts of its arguments
 abbrev pub IsCommand : List Text → Text → List Row → Type 0
@@ -81,6 +86,7 @@ IsInRange (Edit device ticket change) = All Fits change × (1 ≤ length change)
 IsInRange (Resume device session) = Unit {0}
 IsInRange (Route device from to words) = (from < 2 ^ 16) × (to < 2 ^ 16)
 IsInRange (Check device words) = Unit {0}
+IsInRange (Migrate old new) = Unit {0}
 
 -- the same command, with the same texts and numbers
 abbrev pub IsSameTask : Task → Task → Type 0
@@ -90,4 +96,5 @@ IsSameTask (Edit device ticket change) (Edit other asked ops) = (device.now ≡ 
 IsSameTask (Resume device session) (Resume other asked) = (device.now ≡ other.now) × (session ≡ asked)
 IsSameTask (Route device from to words) (Route other u v asked) = (device.now ≡ other.now) × (from ≡ u) × (to ≡ v) × IsSame words asked
 IsSameTask (Check device words) (Check other asked) = (device.now ≡ other.now) × IsSame words asked
+IsSameTask (Migrate old new) (Migrate other made) = (old.now ≡ other.now) × (new.now ≡ made.now)
 IsSameTask task other = ⊥

@@ -49,6 +49,10 @@ route_app = with_rule (with_rule (with_rule (on_device_app (codes "route")) (tex
 abbrev pub check_app : App
 check_app = with_rule (on_device_app (codes "check")) words_rule
 
+-- `migrate OLD NEW`
+abbrev pub migrate_app : App
+migrate_app = with_rule (on_device_app (codes "migrate")) (text_rule (codes "new"))
+
 -- one of the commands has to be given, and the program's name is not among the words
 abbrev pub bare_app : App
 bare_app = on_top (λ s. record s { no_binary_name = true; subcommand_required = true }) (new_app (codes "tznode"))
@@ -57,5 +61,7 @@ bare_app = on_top (λ s. record s { no_binary_name = true; subcommand_required =
 unfoldable pub program : App
 program =
     with_subcommand
+    (with_subcommand
     (with_subcommand (with_subcommand (with_subcommand (with_subcommand (with_subcommand bare_app format_app.top) show_app.top) edit_app.top) resume_app.top) route_app.top)
-    check_app.top
+    check_app.top)
+    migrate_app.top

@@ -58,6 +58,7 @@ pub(crate) fn grammar<'a>(alloc: Global) -> Result<Command<'a>, AllocError>
     let ends = on_device_with(alloc, "route", "from")?.arg(text(alloc, "to"))?;
     let route = with_words(alloc, ends)?;
     let check = with_words(alloc, on_device(alloc, "check")?)?;
+    let migrate = on_device_with(alloc, "migrate", "new")?;
     Command::new(alloc, "tznode")
         .no_binary_name(true)
         .subcommand_required(true)
@@ -66,5 +67,6 @@ pub(crate) fn grammar<'a>(alloc: Global) -> Result<Command<'a>, AllocError>
         .subcommand(edit)?
         .subcommand(resume)?
         .subcommand(route)?
-        .subcommand(check)
+        .subcommand(check)?
+        .subcommand(migrate)
 }

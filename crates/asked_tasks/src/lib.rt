@@ -8,6 +8,7 @@
 //! | `resume DEVICE S` | [`Task::Resume`] |
 //! | `route DEVICE FROM TO --words W` | [`Task::Route`] |
 //! | `check DEVICE --words W` | [`Task::Check`] |
+//! | `migrate OLD NEW` | [`Task::Migrate`] |
 //!
 //! The words are read with `clap`, one level of subcommands, each value as a text; numbers, OPs and W are read from these texts by
 //! [`given_words`]. No file is opened and nothing is printed.

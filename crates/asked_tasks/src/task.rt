@@ -56,6 +56,11 @@ pub enum Task<'a> {
         device: &'a str,
         words: LandmarkWords,
     },
+    /// Bring what a device of layout 1 holds to a new device.
+    Migrate {
+        old: &'a str,
+        new: &'a str,
+    },
 }
 
 /// What the words ask for, or why they are no task.
@@ -124,8 +129,24 @@ fn task_of<'a>(alloc: Global, name: &str, found: &ArgMatches<'a>) -> Result<Task
             device,
             words: words_asked(alloc, found)?,
         })
+    } else if name == "migrate" {
+        Ok(Task::Migrate {
+            old: device,
+            new: text(found, "new")?,
+        })
     } else {
         Err(WordsRefused::Usage)
+    }
+}
+
+// The text of an argument.
+fn text<'a>(found: &ArgMatches<'a>, id: &str) -> Result<&'a str, WordsRefused>
+    ensures found { IfOk result (λ text. first_value (found_of found.entry.now) id.now ≡ Some text.now) }
+    ensures none { IfErr result (λ _. first_value (found_of found.entry.now) id.now ≡ None) }
+{
+    match found.get_str(id) {
+        Some(text) => Ok(text),
+        None => Err(WordsRefused::Usage),
     }
 }
 

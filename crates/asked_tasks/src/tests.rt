@@ -86,7 +86,9 @@ fn tasks(rt: HostRuntime) -> io::Result<()> {
     };
     expect_task(&rt, "route|--words|draw:7|d|3|4", route)?;
     let words = LandmarkWords::Greatest;
-    expect_task(&rt, "check|d|--words=none", Task::Check { device, words })
+    expect_task(&rt, "check|d|--words=none", Task::Check { device, words })?;
+    let (old, new) = ("d", "e");
+    expect_task(&rt, "migrate|d|e", Task::Migrate { old, new })
 }
 
 const USAGE: &str = "
@@ -154,7 +156,12 @@ check|d
 check|d|--words
 check|d|0|--words|none
 check|d|--words|none|--words|none
-check|--words|none";
+check|--words|none
+migrate
+migrate|d
+migrate|d|e|f
+migrate|d|e|--words|none
+migrate|--help";
 
 #[test]
 fn words_that_ask_for_nothing(rt: HostRuntime) -> io::Result<()> {

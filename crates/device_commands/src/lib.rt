@@ -1,14 +1,15 @@
-//! What `format`, `show`, `edit` and `resume` do on a device, and how each command opens it.
+//! What `format`, `show`, `edit`, `resume` and `migrate` do on a device, and how each command opens it.
 //!
 //! A device is any `Disk`; the caller brings it, and a call answers a [`Fault`] where it can't go on. [`listing`] is all that
-//! `show` prints of a device, [`edit`] makes one change, whole or not at all, [`resume`] answers the last ticket of a session, and
-//! [`open`] is how they and the commands above open one.
+//! `show` prints of a device, [`edit`] makes one change, whole or not at all, [`resume`] answers the last ticket of a session,
+//! [`migrate`] brings over what a device of layout 1 holds, and [`open`] is how they and the commands above open one.
 //!
 //! The contract that the layer above uses, of a disk that keeps the disk model: [`listing`] is that of the state that the content
 //! stands for; [`edit`] answers what becomes of the change in that state, leaves a device of which each crash image stands for
 //! the state after it, and at any moment one for the state before it or after it. Its ticket is new to the state: where it isn't, the
 //! answer is [`Fault::AlreadyIn`], and nothing is written. Not formatted, layout not known and damaged come
-//! only where the content stands for no state, each by the content's front (`TellsOf` of `specs/Openings`).
+//! only where the content stands for no state, each by the content's front (`TellsOf` of `specs/Openings`, and `TellsOfOld` of
+//! `specs/Moves` for [`migrate`], of which the rest is said in the crate `migrate`).
 //!
 //! ```text
 //! format(&mut disk, 5)?;
@@ -19,9 +20,11 @@
 #![tactic(auto)]
 
 mod editing;
+mod moving;
 mod opening;
 #[cfg(test)]
 mod tests;
 
 pub use editing::edit;
+pub use moving::migrate;
 pub use opening::{format, listing, open, resume};

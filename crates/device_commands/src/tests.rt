@@ -1,9 +1,10 @@
 //! Commands on a disk in memory.
-use crate::{edit, format, listing, open, resume};
+use crate::{edit, format, listing, migrate, open, resume};
 use checkpoint::DEVICE_LEN;
 use disk_trait::{Disk, MemDisk};
 use generations::Verdict;
 use graph_edits::{Change, Code, Op};
+use migrate::Moved;
 use printed_lines::Fault;
 use std::io;
 use std::process::Abort;
@@ -124,5 +125,28 @@ fn contents_that_are_no_store(rt: HostRuntime) -> io::Result<()> {
             Err((told, _)) => assert_eq!(&rt; told, fault),
         }
     }
+    Ok(())
+}
+
+// An old device of layout 1 with three nodes, 258 changes and no edge, one of layout 2, and one of zeros.
+#[test]
+fn devices_that_are_brought_over(rt: HostRuntime) -> io::Result<()> {
+    let mut old = MemDisk::new(rt.alloc(), 2_371_584)?;
+    let mut new = MemDisk::new(rt.alloc(), DEVICE_LEN)?;
+    let told = migrate(rt.alloc(), &mut old, &mut new);
+    assert_eq!(&rt; told, Err(Fault::NotFormatted));
+    let told = migrate(rt.alloc(), &mut formatted(&rt)?, &mut new);
+    assert_eq!(&rt; told, Err(Fault::LayoutNotKnown));
+    assert!(&rt; 10_000 <= old.len());
+    assert!(&rt; old.write_at(0, b"TZNODE01\x00\x03").is_ok());
+    let slot = b"\x01\x00\x00\x00\x00\x00\x00\x00\x01\x00\x00\x00\x00\x00\x00\x01\x02\x00\x03";
+    assert!(&rt; old.write_at(4_096, slot).is_ok());
+    let told = migrate(rt.alloc(), &mut new, &mut old);
+    assert_eq!(&rt; told, Err(Fault::DeviceLength));
+    let (count, edges) = (258, 0);
+    let told = migrate(rt.alloc(), &mut old, &mut new);
+    assert_eq!(&rt; told, Ok(Moved { count, edges }));
+    let text = listing(rt.alloc(), new);
+    assert_eq!(&rt; text.expect(&rt, "listed").as_str(), "count=258 edges=0\n");
     Ok(())
 }

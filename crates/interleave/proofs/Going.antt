@@ -8,7 +8,7 @@ use Rattle.histories.specs.Runs.{IsRun, moment_of}
 use Rattle.event_runs.specs.declared.event.Event.{Event}
 use Rattle.event_runs.specs.declared.event.Event.TheVariants.{Commit}
 use Rattle.event_runs.specs.declared.reply.Reply.{Reply}
-use Rattle.event_runs.specs.Moments.{number_of, IsNext, AreMoments}
+use Rattle.event_runs.specs.Moments.{number_of}
 use Rattle.event_runs.proofs.Pushes.{moments_push}
 use Rattle.interleave.specs.Crashes.{GoneOn}
 

@@ -1,5 +1,5 @@
 -- The lists of a world, from its parts.
-use Rattle.std.proofs.Common.{◌≡◌, ◌≤◌, ℕ, zero, suc, List, [], ◌∷◌, take, drop, Bool, true, false, refl, ap, arith}
+use Rattle.std.proofs.Common.{◌≡◌, ℕ, zero, suc, List, [], ◌∷◌, take, drop, Bool, true, false, refl}
 use Rattle.requests.specs.declared.request.Request.{Request}
 use Rattle.recovery.specs.State.{State}
 use Rattle.histories.specs.History.{Lists}

@@ -1,5 +1,5 @@
 -- The ways in a list, as plain data.
-use Rattle.std.proofs.Common.{◌≡◌, ◌<◌, ℕ, List, map, set, get_or, length, Option, Some, slice_get, sym, ap, ◌∙◌, refl}
+use Rattle.std.proofs.Common.{◌≡◌, ◌<◌, ℕ, List, map, set, get_or, length, Some, slice_get, sym, ap, ◌∙◌}
 use Rattle.std.specs.Option.{option_map}
 use Rattle.std.proofs.lemmas.List.{map-set, set-get_or}
 use Rattle.std.proofs.lemmas.Option.{slice_get-map, slice_get-get_or}

@@ -169,7 +169,10 @@ impl<D: Disk> World<D> {
         let Ok(scheme) = shared_scheme(alloc, self.desk.store().graph(), words, generation) else {
             return Reply::Memory;
         };
-        if self.append(Posting::Generation { number: generation, scheme }) {
+        if self.append(Posting::Generation {
+            number: generation,
+            scheme,
+        }) {
             Reply::Rebuilt { generation }
         } else {
             Reply::Memory

@@ -35,11 +35,18 @@ impl<D: Disk> World<D> {
         if self.stored.asked.len() - self.stored.taken >= self.stored.capacity {
             return Reply::NotSubmitted(SubmitRefused::QueueFull);
         }
-        let request = Request { session, ticket, change: change.copy() };
+        let request = Request {
+            session,
+            ticket,
+            change: change.copy(),
+        };
         if self.stored.asked.push(request).is_err() {
             return Reply::Memory;
         }
-        self.stored.sessions[place] = Session { seen, last: Some(ticket) };
+        self.stored.sessions[place] = Session {
+            seen,
+            last: Some(ticket),
+        };
         Reply::Submitted { ticket }
     }
 

@@ -50,7 +50,14 @@ impl<D: Disk> World<D> {
             return Reply::Memory;
         };
         let number = self.stored.ways.len();
-        let way = Way { from, to, visited, at: from, packet, there: true };
+        let way = Way {
+            from,
+            to,
+            visited,
+            at: from,
+            packet,
+            there: true,
+        };
         if self.stored.ways.push(way).is_err() {
             return Reply::Memory;
         }

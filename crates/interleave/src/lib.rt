@@ -10,14 +10,31 @@
 //! # The contract
 //!
 //! Contracts see a world by the words of specs/WorldWords.antt: `machine_of`, all that it holds as plain data, `lists_of`, what crashes
-//! have to do with, and `world_view`, its disk. What the layer above uses is [`World::run`]:
+//! have to do with, and `world_view`, its disk. What the layer above uses is [`World::run`], whose clauses hold from where the world
+//! stands, so a list of events may be given in pieces; [`World::new`] gives what they begin with.
 //!
-//! | Claim | What it says |
-//! |---|---|
-//! | answers | each reply is the answer of the call that its event stands for (`Run`): `Idle` only where there is nothing to do, `Memory` only with all as before, but for what was due at a rebuild |
-//! | crashes | there is one moment after each event, a clock and the count that commits have answered for, the clock the same but at a commit; and every crash since a moment leaves a prefix state of the history that holds all that was answered for by then (`GoneOn`) |
+//! | Claim | Clauses | What it says |
+//! |---|---|---|
+//! | replies | `answers` | each reply is the answer of the call that its event stands for (`Run` of the crate `event_runs`): `Idle` only where there is nothing to do, `Memory` only with all as before, but for what was due at a rebuild and a roll at a commit |
+//! | crashes | `crashes` | there is one moment after each event, a clock and the count that commits have answered for, the clock the same but at a commit; and every crash since a moment leaves a prefix state of the history that holds all that was answered for by then (`GoneOn`, specs/Crashes.antt; `IsRun` of the crate `histories`) |
+//! | lists | `lists`, `asked` | the postings are lawful, the queue keeps its history, the marks posted and due are those of settling, every posted generation is durable (`IsListed` of the crate `listed_runs`) |
+//! | ways | `ways`, `routed_well` | each packet goes over the one trip that its own generation's scheme has in the graph of that generation; a hop is refused only because that generation has left the shelf, a launch for its named reason (crate `packet_ways`) |
+//! | acknowledged | `acknowledged` | each image that a crash leaves has every change whose Accepted mark stands in a posting |
 //!
-//! A list of events may be given in pieces.
+//! `crashes` names no posting, and `lists` and `ways` name no disk: the one is put together from what each event does to disk and
+//! history, the others follow from `answers` alone, by the laws of the crates below.
+//!
+//! ```rust
+//! use disk_trait::Disk;
+//! use event_runs::{Event, Reply};
+//! use interleave::World;
+//! use std::alloc::{AllocError, Global};
+//!
+//! /// Commits what a session has asked for, and posts what became of it.
+//! pub fn settle<D: Disk>(alloc: Global, world: &mut World<D>) -> Result<Vec<Reply>, AllocError> {
+//!     world.run(alloc, &[Event::Take, Event::Commit, Event::Post])
+//! }
+//! ```
 #![tactic(auto)]
 
 mod committing;

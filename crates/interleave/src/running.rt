@@ -35,7 +35,11 @@ impl<D: Disk> World<D> {
         ensures answers { Answers event.now (machine_of self.old) result (machine_of self.new) }
     {
         match event {
-            Event::Submit { session, ticket, change } => self.submit(*session, *ticket, change),
+            Event::Submit {
+                session,
+                ticket,
+                change,
+            } => self.submit(*session, *ticket, change),
             Event::Look { session, at } => self.look(*session, *at),
             Event::Take => self.take(),
             Event::Commit => self.commit(alloc),

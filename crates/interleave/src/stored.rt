@@ -86,7 +86,11 @@ impl Stored {
 }
 
 // The board after these postings.
-fn board_after(starts: &[u64; SESSIONS], start: u64, postings: &[Posting]) -> Result<Board, AllocError>
+fn board_after(
+    starts: &[u64; SESSIONS],
+    start: u64,
+    postings: &[Posting],
+) -> Result<Board, AllocError>
     ensures { IfOk result (λ board. board ≡ board_of starts.now start (map notice_of postings.now)) }
 {
     let mut board = Board::new(starts, start);

@@ -1,12 +1,13 @@
 //! The world: a desk, and beside it a queue, sessions, postings and packets, without threads.
-ghost use Rattle.std.specs.Prelude.{◌≡◌, ◌≤◌, [], length, take, drop, IfOk, None};
+ghost use Rattle.std.specs.Prelude.{◌≡◌, ◌≤◌, [], length, take, drop, IsTrue, IfOk, None, false};
 ghost use Rattle.disk_trait.specs.Disk.{Unchanged};
 ghost use Rattle.requests.specs.Tickets.{sessions as all_sessions, tickets_after};
 ghost use Rattle.recovery.specs.State.{asked as asked_all, AreInTurn};
 ghost use Rattle.checkpoint.specs.Kept.{kept_props};
-ghost use Rattle.checkpoint.specs.StoreWords.{state_of, is_down};
+ghost use Rattle.checkpoint.specs.StoreWords.{state_of, view_of, is_down};
 ghost use Rattle.group_commit.specs.DeskWords.{store_of, held_of, due_of};
 ghost use Rattle.group_commit.specs.Turns.{AreBehind, in_turn_prop};
+ghost use Rattle.histories.specs.Runs.{IsRun};
 ghost use Rattle.event_runs.specs.Machines.{begun};
 ghost use Rattle.listed_runs.specs.Listed.{IsListed};
 ghost use Rattle.packet_ways.specs.Ways.{AreOnWay};
@@ -16,6 +17,7 @@ use crate::stored::Stored;
 use disk_trait::{CrashDisk, Disk, Plan};
 use event_runs::Session;
 use group_commit::Desk;
+use histories::history_law;
 use listed_runs::lists_law;
 use packet_ways::ways_law;
 use std::alloc::{AllocError, Global};
@@ -39,10 +41,15 @@ pub struct World<D: Disk> {
 }
 
 impl<D: Disk + Drop> World<D> {
-    ghost use Rattle.interleave.specs.WorldWords.{desk_of, machine_of};
+    ghost use Rattle.interleave.specs.WorldWords.{desk_of, lists_of, machine_of, world_view};
 
     /// A world at the beginning of a life: nothing was asked, posted or sent yet.
-    pub fn new(alloc: Global, desk: Desk<D>, sessions: usize, capacity: usize) -> Result<World<D>, AllocError>
+    pub fn new(
+        alloc: Global,
+        desk: Desk<D>,
+        sessions: usize,
+        capacity: usize,
+    ) -> Result<World<D>, AllocError>
         requires sessions { (1 ≤ sessions) × (sessions ≤ 64) }
         requires capacity { (1 ≤ capacity) × (capacity ≤ 64) }
         requires none_held { held_of desk ≡ [] }
@@ -51,7 +58,10 @@ impl<D: Disk + Drop> World<D> {
         ensures machine { IfOk result (λ world. machine_of world ≡ begun capacity sessions (state_of (store_of desk)) (is_down (store_of desk))) }
         ensures listed { IfOk result (λ world. IsListed (state_of (store_of desk)) (machine_of world)) }
         ensures on_way { IfOk result (λ world. AreOnWay (machine_of world)) }
+        // A crash now leaves what was opened, where the device keeps the disk model and hasn't failed.
+        ensures run { IsTrue (view_of (store_of desk)).keeps_model → is_down (store_of desk) ≡ false → IfOk result (λ world. IsRun (state_of (store_of desk)) (world_view world) (lists_of world) []) }
     {
+        history_law::<D>();
         lists_law();
         ways_law();
         let world = World::fresh(alloc, desk, sessions, capacity)?;
@@ -59,7 +69,12 @@ impl<D: Disk + Drop> World<D> {
     }
 
     // The same, without what follows from the machine.
-    fn fresh(alloc: Global, desk: Desk<D>, sessions: usize, capacity: usize) -> Result<World<D>, AllocError>
+    fn fresh(
+        alloc: Global,
+        desk: Desk<D>,
+        sessions: usize,
+        capacity: usize,
+    ) -> Result<World<D>, AllocError>
         requires few { sessions ≤ 64 }
         requires none_held { held_of desk ≡ [] }
         requires none_due { due_of desk ≡ None }
@@ -69,7 +84,10 @@ impl<D: Disk + Drop> World<D> {
     {
         let starts = desk.starts();
         let start = desk.store().count();
-        let sessions = vec![in alloc; Session { seen: 0, last: None }; sessions]?;
+        let sessions = vec![in alloc; Session {
+            seen: 0,
+            last: None
+        }; sessions]?;
         let stored = Stored {
             starts,
             start,

@@ -1,11 +1,13 @@
 -- What goes over from a device of layout 1 to one of layout 2.
-use Rattle.std.specs.Prelude.{◌⊎◌, ℕ, List}
+use Rattle.std.specs.Prelude.{◌≡◌, ◌⊎◌, ℕ, List}
+use Rattle.std.specs.FinMap.{len}
 use Rattle.disk_trait.specs.Disk.{DiskView, MayLeave}
 use Rattle.graph_edits.specs.Edges.{Network}
 use Rattle.recovery_1.specs.State.{counted}
 use Rattle.recovery_1.specs.Standing.{StandsFor as StandsForByLayout1}
 use Rattle.recovery.specs.Standing.{StandsFor, StandsForNone}
 use Rattle.checkpoint.specs.Whole.{without_tickets}
+use Rattle.migrate.specs.declared.moving.Moved.{Moved}
 
 -- an image of layout 1 stands for this count and this network
 abbrev pub Held : ℕ → Network → List ℕ → Type 0
@@ -15,12 +17,13 @@ Held count graph image = StandsForByLayout1 (counted count graph) image
 abbrev pub Holds : ℕ → Network → List ℕ → Type 0
 Holds count graph image = StandsFor (without_tickets count graph) image
 
--- the old content stands for this count and a network, and the new device for the same two: by what a read gives, and by whatever a crash may leave from now on
-pub record HasMoved (count : ℕ) (old : List ℕ) (new : DiskView) : Type 0 where
+-- the old content stands for this count and a network of so many edges, and the new device for the same two: by what a read gives, and by whatever a crash may leave from now on
+pub record HasMoved (moved : Moved) (old : List ℕ) (new : DiskView) : Type 0 where
   pub graph : Network
-  pub held : Held count graph old
-  pub holds : Holds count graph new.content
-  pub left : (image : List ℕ) → MayLeave new image → Holds count graph image
+  pub edges : moved.edges ≡ len graph.edges
+  pub held : Held moved.count graph old
+  pub holds : Holds moved.count graph new.content
+  pub left : (image : List ℕ) → MayLeave new image → Holds moved.count graph image
 
 -- the image stands for all that the old content stands for
 abbrev pub HoldsAllOf : List ℕ → List ℕ → Type 0

@@ -7,25 +7,27 @@
 //!
 //! - The old device is synced and read, and never written: at every exit its content is as before, and at every moment a crash leaves
 //!   what one could leave before (`only_read`).
-//! - Ok gives the count: the old content stands for this count and some network, and the new device, by its content and by every image
-//!   that a crash may leave from then on, for the same count and network, no ticket taken (`HasMoved` of specs/Moved.antt).
+//! - Ok gives a count and a number of edges ([`Moved`]): the old content stands for this count and a network of so many edges, and the
+//!   new device, by its content and by every image that a crash may leave from then on, for the same count and network, no ticket taken
+//!   (`HasMoved` of specs/Moved.antt).
 //! - BadLength comes exactly where the new device has another length than layout 2's. NotFormatted, BadVersion and Damaged come only where
 //!   the old content stands for nothing, each by its front. With each refusal but NewDevice the new device is as it was.
 //! - OldDevice and NewDevice come only where a call of that device failed. With NewDevice the new one isn't to be used. Where it had no
 //!   front of layout 2 before, as a device of zeros, a crash at any moment of the call leaves of it nothing or the whole (`any_moment`).
 //!
 //! ```text
-//! let count = migrate(alloc, &mut old, &mut new)?;
+//! let moved = migrate(alloc, &mut old, &mut new)?;
 //! let store = Store::open(alloc, new)?;
-//! store.count()       // count
-//! store.resume(0)     // 0
+//! store.count()              // moved.count
+//! store.graph().edges()      // moved.edges
+//! store.resume(0)            // 0
 //! ```
 #![tactic(auto)]
 
 mod moving;
 mod refusals;
 
-pub use moving::migrate;
+pub use moving::{Moved, migrate};
 pub use refusals::MigrateRefused;
 
 #[cfg(test)]

@@ -1,6 +1,8 @@
 //! Bringing a state over.
 ghost use Rattle.std.specs.Prelude.{◌≡◌, ◌≢◌, ◌≤◌, ◌<◌, ◌↔◌, ℕ, List, length, IsTrue, IfOk, OnOk, IsErr, IsErrOf};
+ghost use Rattle.std.specs.FinMap.{len};
 ghost use Rattle.disk_trait.specs.Disk.{IsSameDevice, LeavesOnly, OnlyRead};
+ghost use Rattle.graph_edits.specs.Edges.{Network};
 ghost use Rattle.recovery_1.specs.Fronts.{HasOtherVersion, HasThisVersion, LacksMagic};
 ghost use Rattle.recovery_1.specs.Standing.{StandsForNone};
 ghost use Rattle.recovery.specs.Layout.{device_len, worn_limit};
@@ -13,6 +15,15 @@ use disk_trait::Disk;
 use graph_edits::Graph;
 use recovery_1::{OpenRefused, load};
 use std::alloc::Global;
+
+/// What went over.
+#[derive(Clone, Copy, Debug, PartialEq, Eq, Drop)]
+pub struct Moved {
+    /// How many changes were accepted.
+    pub count: u64,
+    /// How many edges the network has.
+    pub edges: usize,
+}
 
 // The count and the network that a device of layout 1 holds. It syncs, and writes nothing.
 fn read_old<O: Disk>(alloc: Global, old: &mut O) -> Result<(u64, Graph), MigrateRefused>
@@ -40,7 +51,7 @@ fn read_old<O: Disk>(alloc: Global, old: &mut O) -> Result<(u64, Graph), Migrate
 }
 
 /// Brings the count and the network of a device of layout 1 to a device that then has layout 2, with the
-/// first epoch and all last tickets 0, and answers the count. Whatever the new device held before is lost.
+/// first epoch and all last tickets 0, and answers how much that was. Whatever the new device held before is lost.
 ///
 /// The old device is synced and read, and never written. At its peak it holds one network and, beside it,
 /// the records of one journal or the buffer of one checkpoint's area.
@@ -53,9 +64,11 @@ pub fn migrate<O: Disk, N: Disk>(
     alloc: Global,
     old: &mut O,
     new: &mut N,
-) -> Result<u64, MigrateRefused>
-    ensures ok { IsTrue (O.view old.old).keeps_model → IsTrue (N.view new.old).keeps_model → IfOk result (λ count. HasMoved count (O.view old.old).content (N.view new.new)) }
-    ensures fits { IfOk result (λ count. count ≤ worn_limit) }
+) -> Result<Moved, MigrateRefused>
+    ensures ok { IsTrue (O.view old.old).keeps_model → IsTrue (N.view new.old).keeps_model → IfOk result (λ moved. HasMoved moved (O.view old.old).content (N.view new.new)) }
+    ensures fits { IfOk result (λ moved. moved.count ≤ worn_limit) }
+    // Also of disks that don't keep the model the edges are those of a network.
+    ensures of_one { IfOk result (λ moved. (graph : Network) × (moved.edges ≡ len graph.edges)) }
     ensures bad_length { IsErrOf result MigrateRefused.BadLength ↔ (length (N.view new.old).content ≢ device_len) }
     ensures not_formatted { IsTrue (O.view old.old).keeps_model → IsErrOf result MigrateRefused.NotFormatted → LacksMagic (O.view old.old).content × StandsForNone (O.view old.old).content }
     ensures bad_version { IsTrue (O.view old.old).keeps_model → IsErrOf result MigrateRefused.BadVersion → HasOtherVersion (O.view old.old).content × StandsForNone (O.view old.old).content }
@@ -79,8 +92,9 @@ pub fn migrate<O: Disk, N: Disk>(
         Ok(held) => held,
         Err(refused) => return Err(refused),
     };
+    let edges = graph.edges();
     match write_state(alloc, new, count, &graph) {
-        Ok(()) => Ok(count),
+        Ok(()) => Ok(Moved { count, edges }),
         Err(WriteRefused::Memory) => Err(MigrateRefused::Memory),
         Err(WriteRefused::Device) => Err(MigrateRefused::NewDevice),
     }

@@ -1,4 +1,4 @@
--- The lines that `format`, `show`, `edit` and `resume` print.
+-- The lines that `format`, `show`, `edit`, `resume` and `migrate` print.
 use Rattle.std.specs.Prelude.{ℕ, List, [], ◌∷◌, ◌++◌, codes, decimal, cond, nat_lt}
 use Rattle.std.specs.List.{flat_map}
 use Rattle.std.specs.FinMap.{len, entries}
@@ -38,6 +38,10 @@ refused_text op code = codes "refused op=" ++ (decimal op ++ (codes " code=" ++ 
 -- the last ticket of a session
 abbrev pub ticket_text : ℕ → ℕ → List ℕ
 ticket_text session ticket = codes "session=" ++ (decimal session ++ (codes " ticket=" ++ decimal ticket))
+
+-- what a device holds that was brought over
+abbrev pub migrated_text : ℕ → ℕ → List ℕ
+migrated_text count edges = codes "migrated " ++ totals_text count edges
 
 -- a text as a line
 abbrev pub line : List ℕ → List ℕ

@@ -6,6 +6,7 @@
 //! | [`Totals`], [`EdgeLine`] | `count=C edges=E`, `a b w` |
 //! | [`AcceptedLine`], [`RefusedLine`] | `accepted count=C`, `refused op=I code=K` |
 //! | [`TicketLine`] | `session=S ticket=T` |
+//! | [`MigratedLine`] | `migrated count=C edges=E` |
 //! | [`RouteLine`], [`UnreachableLine`] | `generation=G route 0 1 2 length L`, `generation=G unreachable` |
 //! | [`CheckedLine`], [`BrokenLine`] | `ok generation=G landmarks=K`, `fault K4` |
 //!
@@ -36,7 +37,7 @@ mod tests;
 
 pub use ended::Ended;
 pub use fault::Fault;
-pub use lines::{AcceptedLine, EdgeLine, Formatted, RefusedLine, TicketLine, Totals};
+pub use lines::{AcceptedLine, EdgeLine, Formatted, MigratedLine, RefusedLine, TicketLine, Totals};
 pub use listing::listing_of;
 pub use printing::{print_line, print_text, tell};
 pub use route_lines::{BrokenLine, CheckedLine, RouteLine, UnreachableLine};

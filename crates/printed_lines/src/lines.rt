@@ -1,6 +1,6 @@
-//! The lines that `format`, `show`, `edit` and `resume` print.
+//! The lines that `format`, `show`, `edit`, `resume` and `migrate` print.
 ghost use Rattle.std.specs.Prelude.{◌≡◌, Some};
-ghost use Rattle.printed_lines.specs.Lines.{accepted_text, code_number, edge_text, formatted_text, refused_text, ticket_text, totals_text};
+ghost use Rattle.printed_lines.specs.Lines.{accepted_text, code_number, edge_text, formatted_text, migrated_text, refused_text, ticket_text, totals_text};
 
 use graph_edits::Code;
 use std::fmt;
@@ -92,6 +92,21 @@ impl fmt::Display for TicketLine {
 
     fn fmt<W: fmt::Write>(&self, f: &mut fmt::Formatter<W>) -> fmt::Result {
         write!(f, "session={} ticket={}", self.session, self.ticket)
+    }
+}
+
+/// A device that was brought over: `migrated count=C edges=E`.
+#[derive(Drop)]
+pub struct MigratedLine {
+    pub count: u64,
+    pub edges: usize,
+}
+
+impl fmt::Display for MigratedLine {
+    ghost output = { λ x. Some (migrated_text x.count x.edges) };
+
+    fn fmt<W: fmt::Write>(&self, f: &mut fmt::Formatter<W>) -> fmt::Result {
+        write!(f, "migrated count={} edges={}", self.count, self.edges)
     }
 }
 

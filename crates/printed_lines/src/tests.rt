@@ -1,7 +1,7 @@
 //! Lines and faults as texts. Expected texts are those of docs/FORMATS.md.
 use crate::{
-    AcceptedLine, BrokenLine, CheckedLine, Ended, Fault, Formatted, RefusedLine, RouteLine,
-    TicketLine, UnreachableLine, listing_of, print_line, print_text, tell,
+    AcceptedLine, BrokenLine, CheckedLine, Ended, Fault, Formatted, MigratedLine, RefusedLine,
+    RouteLine, TicketLine, UnreachableLine, listing_of, print_line, print_text, tell,
 };
 use graph_edits::{Change, Code, Graph, Op};
 use std::alloc::AllocError;
@@ -29,6 +29,12 @@ fn texts_of_lines(rt: HostRuntime) {
         ticket: 9,
     };
     expect_line(&rt, ticket, "session=63 ticket=9\n");
+    let (count, edges) = (7, 16_384);
+    expect_line(
+        &rt,
+        MigratedLine { count, edges },
+        "migrated count=7 edges=16384\n",
+    );
     let route = RouteLine {
         generation: 1,
         nodes: &[0, 1, 2],

@@ -7,11 +7,12 @@ use Rattle.given_words.specs.Words.{IsWithin}
 use Rattle.printed_lines.specs.declared.fault.Fault.{Fault}
 use Rattle.printed_lines.specs.declared.fault.Fault.TheVariants as told
 use Rattle.device_commands.specs.Openings.{IsEditFault, IsFormatFault, IsOpenFault, TellsOf}
+use Rattle.device_commands.specs.Moves.{IsMoveFault}
 use Rattle.asked_tasks.specs.Asked.{IsAskedFor, IsInRange}
 use Rattle.asked_tasks.specs.declared.refused.WordsRefused.{WordsRefused}
 use Rattle.asked_tasks.specs.declared.refused.WordsRefused.TheVariants as why
 use Rattle.asked_tasks.specs.declared.task.Task.{Task}
-use Rattle.tznode.specs.Endings.{EndsCheck, EndsEdit, EndsFormat, EndsRoute, EndsShow, IsFaultFor, IsRouteFault, IsWordsFault, IsWordsOrMemory, MayEnd, NamesNodes, words_fault}
+use Rattle.tznode.specs.Endings.{EndsCheck, EndsEdit, EndsFormat, EndsMigrate, EndsRoute, EndsShow, IsFaultFor, IsRouteFault, IsWordsFault, IsWordsOrMemory, MayEnd, NamesNodes, words_fault}
 
 -- words of which a graph lacks a node name nodes
 pub names_nodes : (words : LandmarkWords) (nodes : ℕ) → ¬ IsWithin words nodes → NamesNodes words
@@ -50,6 +51,17 @@ edit_edits told.Memory is = tt
 edit_edits told.Worn is = tt
 edit_edits told.AlreadyIn is = tt
 edit_edits _ is = absurd is
+
+pub move_moves : (fault : Fault) → IsMoveFault fault → EndsMigrate fault
+move_moves told.DeviceFile is = tt
+move_moves told.Output is = tt
+move_moves told.NotFormatted is = tt
+move_moves told.LayoutNotKnown is = tt
+move_moves told.Damaged is = tt
+move_moves told.Device is = tt
+move_moves told.Memory is = tt
+move_moves told.DeviceLength is = tt
+move_moves _ is = absurd is
 
 pub check_opens : (words : LandmarkWords) (fault : Fault) → IsOpenFault fault → EndsCheck words fault
 check_opens words told.NotFormatted is = tt

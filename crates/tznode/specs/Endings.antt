@@ -6,11 +6,12 @@ use Rattle.given_words.specs.declared.words.LandmarkWords.TheVariants.{Greatest,
 use Rattle.printed_lines.specs.declared.fault.Fault.{Fault}
 use Rattle.printed_lines.specs.declared.fault.Fault.TheVariants as told
 use Rattle.device_commands.specs.Openings.{IsEditFault, IsFormatFault, IsOpenFault}
+use Rattle.device_commands.specs.Moves.{IsMoveFault}
 use Rattle.asked_tasks.specs.Asked.{IsAskedFor, IsInRange}
 use Rattle.asked_tasks.specs.declared.refused.WordsRefused.{WordsRefused}
 use Rattle.asked_tasks.specs.declared.refused.WordsRefused.TheVariants as why
 use Rattle.asked_tasks.specs.declared.task.Task.{Task}
-use Rattle.asked_tasks.specs.declared.task.Task.TheVariants.{Format, Show, Edit, Resume, Route, Check}
+use Rattle.asked_tasks.specs.declared.task.Task.TheVariants.{Format, Show, Edit, Resume, Route, Check, Migrate}
 
 -- what is told of words that are no task
 abbrev pub words_fault : WordsRefused → Fault
@@ -53,6 +54,12 @@ EndsEdit told.DeviceFile = Unit {0}
 EndsEdit told.Output = Unit {0}
 EndsEdit fault = IsEditFault fault
 
+-- those that may end `migrate`
+abbrev pub EndsMigrate : Fault → Type 0
+EndsMigrate told.DeviceFile = Unit {0}
+EndsMigrate told.Output = Unit {0}
+EndsMigrate fault = IsMoveFault fault
+
 -- those that may end `check`: the words are not understood only where they name nodes
 abbrev pub EndsCheck : LandmarkWords → Fault → Type 0
 EndsCheck words told.Words = NamesNodes words
@@ -82,6 +89,7 @@ MayEnd (Edit device ticket change) fault = EndsEdit fault
 MayEnd (Resume device session) fault = EndsShow fault
 MayEnd (Route device from to words) fault = EndsRoute words fault
 MayEnd (Check device words) fault = EndsCheck words fault
+MayEnd (Migrate old new) fault = EndsMigrate fault
 
 -- The words are no task that is in range, or memory ran out while they were read; or they ask for a task, and the fault is one that
 -- may end it.

@@ -1,5 +1,6 @@
 -- What a command prints.
 use Rattle.std.specs.Prelude.{◌≡◌, ℕ, List, Option}
+use Rattle.std.specs.FinMap.{len}
 use Rattle.std.specs.Io.KnownBytes.{Appends}
 use Rattle.clap.specs.Walk.{Text}
 use Rattle.recovery.specs.State.{State}
@@ -10,10 +11,10 @@ use Rattle.scheme_queries.specs.declared.queries.Checked.{Checked}
 use Rattle.scheme_queries.specs.declared.queries.Route.{Route as Found}
 use Rattle.printed_lines.specs.declared.ended.Ended.{Ended}
 use Rattle.printed_lines.specs.declared.ended.Ended.TheVariants.{Done, Refused as EndedRefused}
-use Rattle.printed_lines.specs.Lines.{accepted_text, formatted_text, line, listing_text, refused_text, ticket_text}
+use Rattle.printed_lines.specs.Lines.{accepted_text, formatted_text, line, listing_text, migrated_text, refused_text, ticket_text}
 use Rattle.asked_tasks.specs.Asked.{IsAskedFor}
 use Rattle.asked_tasks.specs.declared.task.Task.{Task}
-use Rattle.asked_tasks.specs.declared.task.Task.TheVariants.{Format, Show, Edit, Resume, Route, Check}
+use Rattle.asked_tasks.specs.declared.task.Task.TheVariants.{Format, Show, Edit, Resume, Route, Check, Migrate}
 use Rattle.device_commands.specs.Answer.{IsNew, verdict_of}
 use Rattle.tznode.specs.SchemeAnswers.{IsRouteOf, IsCheckOf, answered_text, checks_text, ended_along, ended_at}
 
@@ -38,6 +39,7 @@ PrintedFor (Route device from to words) ended old new =
     (state : State) × (route : Found) × IsRouteOf state.graph state.count words from to route × (ended ≡ ended_along route) × Appends old new (line (answered_text state.count route))
 PrintedFor (Check device words) ended old new =
     (state : State) × (checked : Checked) × IsCheckOf state.graph state.count words checked × (ended ≡ ended_at checked.fault) × Appends old new (line (checks_text state.count checked.landmarks checked.fault))
+PrintedFor (Migrate device made) ended old new = (ended ≡ Done) × (state : State) × Appends old new (line (migrated_text state.count (len state.graph.edges)))
 
 -- the answer to a task that the words ask for was printed, and nothing else
 abbrev pub AnswersWords : List Text → Ended → Option (List ℕ) → Option (List ℕ) → Type 0

@@ -8,18 +8,21 @@
 //! | `resume DEVICE S` | the device is opened | `session=S ticket=T`, the last ticket of session S |
 //! | `route DEVICE FROM TO --words W` | a packet is carried by the scheme that these words give | `generation=G route 0 1 2 length L` or `generation=G unreachable` |
 //! | `check DEVICE --words W` | the scheme that these words give is built and checked | `ok generation=G landmarks=K` or `fault K4` |
+//! | `migrate OLD NEW` | what OLD holds, a device of layout 1, is brought to a new file | `migrated count=C edges=E` |
 //!
 //! An OP is `add:A:B:W`, `set:A:B:W` or `cut:A:B`. W says which nodes are landmarks: `none`, those of `at:2,5`, or those that
 //! `draw:7` draws. The whole program is one call, [`run::run_words`], over the words, a reader and two writers; `main` makes it on
 //! the arguments and the standard streams. What ends a command is a `Fault`, told on standard error as `tznode: TEXT`.
 //!
 //! Here stand the files, the threads that build schemes, and the run. The words are read in `asked_tasks`, the lines and faults are
-//! spelt in `printed_lines`, and what `format`, `show`, `edit` and `resume` do on a device is in `device_commands`. Proved here: of a device
+//! spelt in `printed_lines`, and what `format`, `show`, `edit`, `resume` and `migrate` do on a device is in `device_commands`. Proved here: of a device
 //! that keeps the disk model what `route` and `check` answer ([`scheme_tasks`]); of any run that what it printed is the answer to what
 //! its words ask for, or which fault ended it, and with which status ([`run::run`]). What a file of the system holds is tested.
 #![tactic(auto)]
 
 mod files;
+#[cfg(test)]
+mod migrate_tests;
 mod outcome;
 #[cfg(test)]
 mod route_tests;

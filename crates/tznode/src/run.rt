@@ -1,27 +1,29 @@
 //! The program, on any words, reader and writers.
 ghost use Rattle.std.specs.Prelude.{◌≡◌, ◌≤◌, ◌<◌, ◌⊎◌, ℕ, IfOk, IfErr, OnOk};
 ghost use Rattle.clap.specs.Walk.{texts};
+ghost use Rattle.std.specs.FinMap.{len};
 ghost use Rattle.std.specs.Io.KnownBytes.{Appends};
 ghost use Rattle.recovery.specs.State.{State};
 ghost use Rattle.requests.specs.Tickets.{last_of, sessions};
 ghost use Rattle.printed_lines.specs.Faults.{IsNotUnderstood, status_of};
-ghost use Rattle.printed_lines.specs.Lines.{formatted_text, listing_text, line, ticket_text};
+ghost use Rattle.printed_lines.specs.Lines.{formatted_text, listing_text, line, migrated_text, ticket_text};
 ghost use Rattle.printed_lines.specs.declared.fault.Fault.{Fault};
 ghost use Rattle.device_commands.specs.Answer.{IsNew, verdict_of};
 ghost use Rattle.asked_tasks.specs.Asked.{IsAskedFor, IsInRange};
 ghost use Rattle.asked_tasks.specs.declared.task.Task.{Task};
-ghost use Rattle.tznode.specs.Endings.{EndsEdit, EndsFormat, EndsShow, IsFaultFor, MayEnd, words_fault};
+ghost use Rattle.tznode.specs.Endings.{EndsEdit, EndsFormat, EndsMigrate, EndsShow, IsFaultFor, MayEnd, words_fault};
 ghost use Rattle.tznode.specs.Outcomes.{IsOutcome};
 ghost use Rattle.tznode.specs.Printed.{AnswersWords, ended_by, verdict_text};
 
-use crate::files::{format_file, open_file};
+use crate::files::{format_file, migrate_file, open_file};
 use crate::outcome::Outcome;
 use crate::scheme_tasks::{run_check, run_route};
 use asked_tasks::{Task, WordsRefused, understood};
 use generations::Verdict;
 use graph_edits::Change;
 use printed_lines::{
-    AcceptedLine, Ended, Fault, Formatted, RefusedLine, TicketLine, print_line, print_text, tell,
+    AcceptedLine, Ended, Fault, Formatted, MigratedLine, RefusedLine, TicketLine, print_line,
+    print_text, tell,
 };
 use std::fs::File;
 use std::io::{Read, Write};
@@ -96,6 +98,7 @@ where
             },
         ) => run_route(rt, device, from, to, &words, out),
         Ok(Task::Check { device, words }) => run_check(rt, device, &words, out),
+        Ok(Task::Migrate { old, new }) => run_migrate(rt, old, new, out),
         Err(refused) => Err(fault_of(refused)),
     }
 }
@@ -164,6 +167,24 @@ where
 {
     let ticket = device_commands::resume(rt.alloc(), open_file(rt, device)?, session)?;
     print_line(out, TicketLine { session, ticket })?;
+    Ok(Ended::Done)
+}
+
+fn run_migrate<R, O>(rt: &R, old: &str, new: &str, out: &mut O) -> Result<Ended, Fault>
+where
+    R: Files<File = File> + AllocGlobal,
+    O: Write,
+    ensures printed { IfOk result (λ ended. (ended ≡ Ended.Done) × (state : State) × Appends (O.contents out.old) (O.contents out.new) (line (migrated_text state.count (len state.graph.edges)))) }
+    ensures fault { IfErr result EndsMigrate }
+{
+    let moved = migrate_file(rt, old, new)?;
+    print_line(
+        out,
+        MigratedLine {
+            count: moved.count,
+            edges: moved.edges,
+        },
+    )?;
     Ok(Ended::Done)
 }
 

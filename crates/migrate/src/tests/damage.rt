@@ -1,7 +1,7 @@
 // Each case of damage of layout 1, one at a time, beside what is still allowed.
 use super::*;
 
-// What a migration of the path answers with these bytes on it. The path stays.
+// The count that a migration of the path brings over with these bytes on it. The path stays.
 fn answer_with(
     alloc: Global,
     old: &mut MemDisk,
@@ -11,7 +11,10 @@ fn answer_with(
     for text in texts {
         put(old, *text)?;
     }
-    let answer = migrate(alloc, old, new);
+    let answer = match migrate(alloc, old, new) {
+        Ok(moved) => Ok(moved.count),
+        Err(refused) => Err(refused),
+    };
     for (at, bytes) in texts {
         let zeros = [0; 16];
         put(old, (*at, &zeros[..bytes.len().min(16)]))?;

@@ -22,4 +22,5 @@ returns c =
     let with_edit = c.in_ok-subcommand-3.ensures.shape c.in_ok-edit.ensures.local ∙ ap₂ with_subcommand with_show (ap top c.in_ok-edit.ensures.app) in
     let with_resume = c.in_ok-subcommand-4.ensures.shape c.in_ok-resume.ensures.local ∙ ap₂ with_subcommand with_edit (ap top c.in_ok-resume.ensures.app) in
     let with_route = c.in_ok-subcommand-5.ensures.shape route_local ∙ ap₂ with_subcommand with_resume (ap top route_is) in
-    IfOk-weaker c.subcommand-6.result _ _ (λ command added. added.shape check_local ∙ ap₂ with_subcommand with_route (ap top check_is)) c.subcommand-6.ensures
+    let with_check = c.in_ok-subcommand-6.ensures.shape check_local ∙ ap₂ with_subcommand with_route (ap top check_is) in
+    IfOk-weaker c.subcommand-7.result _ _ (λ command added. added.shape c.in_ok-migrate.ensures.local ∙ ap₂ with_subcommand with_check (ap top c.in_ok-migrate.ensures.app)) c.subcommand-7.ensures

@@ -3,7 +3,7 @@ use Rattle.clap.specs.Words.{first_value, found_of}
 use Rattle.clap.proofs.WalkLemmas.{first_value-rows}
 use Rattle.clap.specs.Walk.{rows_of}
 use Rattle.asked_tasks.proofs.Asking.{given, given_all, gives, gives_all}
-use Rattle.asked_tasks.proofs.OneTask.{change_refused, format_refused, from_refused, handed_up, has_device, none_given, resume_refused, same_check, same_edit, same_format, same_resume, same_route, same_show, ticket_refused, to_refused, words_of_check_refused, words_of_route_refused}
+use Rattle.asked_tasks.proofs.OneTask.{change_refused, format_refused, from_refused, handed_up, has_device, new_given, none_given, none_missing, resume_refused, same_check, same_edit, same_format, same_migrate, same_resume, same_route, same_show, ticket_refused, to_refused, words_of_check_refused, words_of_route_refused}
 use Rattle.asked_tasks.proofs.task.task_of.Goals as goal
 
 pub returns-in_default-clause-refused : goal.returns-in_default-clause-refused
@@ -149,3 +149,23 @@ returns-in_err-words_asked-2-clause-refused c task is fits =
     let named : c.args.name.now ≡ codes "check" = search rules in
     handed_up c.from_residual-in_err-words_asked-2.result c.in_err-words_asked-2.field-0.0 c.from_residual-in_err-words_asked-2.ensures.1
     (words_of_check_refused c.args.name.now (rows_of f) c.in_err-words_asked-2.field-0.0 task named (λ words asked there. c.in_err-words_asked-2.ensures.only words asked (given f _ _ there)) is)
+
+pub returns-in_ok-text-clause-asked : goal.returns-in_ok-text-clause-asked
+returns-in_ok-text-clause-asked c =
+    let f = found_of c.args.found.now in
+    let device : first_value f (codes "device") ≡ Some c.in-Some.device.now = search rules in
+    (search rules, gives f _ _ device, gives f _ _ c.in_ok-text.ensures.found)
+
+pub returns-in_ok-text-clause-only : goal.returns-in_ok-text-clause-only
+returns-in_ok-text-clause-only c task is fits =
+    let f = found_of c.args.found.now in
+    let named : c.args.name.now ≡ codes "migrate" = search rules in
+    let device : first_value f (codes "device") ≡ Some c.in-Some.device.now = search rules in
+    same_migrate c.args.name.now (rows_of f) c.in-Some.device c.in_ok-text.field-0 task named (gives f _ _ device) (gives f _ _ c.in_ok-text.ensures.found) is
+
+pub returns-in_err-text-clause-refused : goal.returns-in_err-text-clause-refused
+returns-in_err-text-clause-refused c task is fits =
+    let f = found_of c.args.found.now in
+    let named : c.args.name.now ≡ codes "migrate" = search rules in
+    let new = new_given c.args.name.now (rows_of f) task named is in
+    absurd (none_missing _ new.0 (given f _ _ new.1) c.in_err-text.ensures.none)

@@ -10,6 +10,7 @@ returns-in-Err-clause-damaged g c model is = c.in-Err.ensures.damaged model cc
 pub returns-in-Ok-write_state-clause-ok : goal.returns-in-Ok-write_state-clause-ok
 returns-in-Ok-write_state-clause-ok g c old_model new_model = record {
   graph = c.in-Ok.held.1;
+  edges = c.edges-edges.ensures;
   held = c.in-Ok.ensures.ok old_model;
   holds = c.in-Ok-write_state.ensures.ok new_model;
   left = c.in-Ok-write_state.ensures.left new_model;

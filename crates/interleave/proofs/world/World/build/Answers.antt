@@ -21,10 +21,11 @@ returns-then-append-clause-answers g c =
     let count : c.count-generation.result ≡ mid.state.count = c.count-generation.ensures.same ∙ ap (λ s. (state_of s).count) c.store-2.ensures in
     let graph : c.graph.result.now ≡ mid.state.graph = c.graph.ensures ∙ ap (λ s. (state_of s).graph) c.store-3.ensures in
     let other : newest_number mid.postings ≢ Some mid.state.count = λ e.
-        let h : IsTrue c.is_newest.result = c.is_newest.ensures.1 (e ∙ ap Some (sym count)) in absurd (let z : false ≡ true = sym c.if-is_newest.false ∙ h in cc) in
+    let h : IsTrue c.is_newest.result = c.is_newest.ensures.1 (e ∙ ap Some (sym count)) in absurd (let z : false ≡ true = sym c.if-is_newest.false ∙ h in cc) in
     let good : IsSchemeOf mid.state.graph c.args.words.now mid.state.count scheme = subst (λ (x : Network × ℕ). IsSchemeOf x.0 c.args.words.now x.1 scheme) (λ i. (graph i, count i)) c.in-Ok.ensures in
     let after : n ≡ with_posted mid (Built mid.state.count scheme) = c.append.ensures.done c.if-append.true ∙ ap (λ (k : ℕ). with_posted mid (Built k scheme)) count in
-    let built : IsBuilt c.args.words.now mid n = inr (other, (scheme, (good, after))) in
-    (sym (ap (λ s. is_down s) c.store.ensures) ∙ sym c.is_down.ensures ∙ c.if-is_down.false,
+    let built : IsBuilt c.args.words.now mid n = inr (other, (scheme, (good, after))) in (
+      sym (ap (λ s. is_down s) c.store.ensures) ∙ sym c.is_down.ensures ∙ c.if-is_down.false,
       count ∙ ap (λ s. (state_of s).count) c.post_due.ensures.store,
-      subst (λ (k : Machine). IsBuilt c.args.words.now k n) is built)
+      subst (λ (k : Machine). IsBuilt c.args.words.now k n) is built,
+    )

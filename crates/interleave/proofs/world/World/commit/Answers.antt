@@ -1,18 +1,18 @@
-use Rattle.std.proofs.Common.{arith, ◌≡◌, ◌⊎◌, ◌+◌, ◌≤◌, ◌++◌, ◌∷◌, [], ℕ, List, length, take, drop, subst, sym, ap, ◌∙◌, refl, Bool, true, false, IsTrue, Result}
-use Rattle.std.specs.Prelude.{IsErr, IsErrOf, Err, Ok}
+use Rattle.std.proofs.Common.{◌≡◌, ◌⊎◌, ◌++◌, ◌∷◌, [], List, length, take, subst, sym, ap, ◌∙◌, refl, true, false, IsTrue}
+use Rattle.std.specs.Prelude.{Err}
 use Rattle.std.proofs.lemmas.List.{length-take-le}
-use Rattle.disk_trait.specs.Disk.{DiskView, MayLeave, LeavesOnly}
+use Rattle.disk_trait.specs.Disk.{LeavesOnly}
 use Rattle.requests.specs.declared.request.Request.{Request}
 use Rattle.requests.specs.Tickets.{tickets_after}
 use Rattle.recovery.specs.State.{State, asked}
 use Rattle.recovery.specs.Standing.{StandsFor}
 use Rattle.checkpoint.specs.StoreWords.{state_of, view_of, is_down, stands_now}
-use Rattle.group_commit.specs.declared.refused.DeskRefused.TheVariants.{Device, Down, Worn}
+use Rattle.group_commit.specs.declared.refused.DeskRefused.TheVariants.{Device}
 use Rattle.group_commit.specs.Settling.{settle}
 use Rattle.group_commit.specs.Turns.{AreBehind}
 use Rattle.group_commit.specs.DeskWords.{store_of, held_of}
-use Rattle.histories.specs.History.{Lists, settled}
-use Rattle.histories.specs.Happenings.{state_held, tried, IsEither, won, lost}
+use Rattle.histories.specs.History.{settled}
+use Rattle.histories.specs.Happenings.{state_held, IsEither, won, lost}
 use Rattle.interleave.specs.WorldWords.{lists_of, world_view}
 use Rattle.interleave.proofs.Lists.{lists_are, none_left, not_true}
 use Rattle.interleave.proofs.Tickets.{won_behind}

@@ -54,20 +54,20 @@ loop-event-preserved g c =
       room = omega (arith, was, len, most, lt);
       ran = ran_on u v w inv.ran c.step-reply.ensures.ran;
       crashes = λ model first before run.
-        let now : IsTrue v.keeps_model = subst IsTrue (sym inv.ran.model) model in
-        let start : ℕ × ℕ = moment_of u (lists_of c.args.self.now) in
-        let happens = c.step-reply.ensures.happens now in
-        let old = disk_of (world_store c.loop-event.self) in
-        let new = disk_of (world_store c.step-reply.new.self) in
-        let more : GoneOn first start w b (take i es ++ e ∷ []) (rs ++ r ∷ []) before =
-        one_more first start v w a b (take i es) rs before e r (inv.crashes model first before run)
-        (λ ms is. c.history_law.ensures.goes_on first old new a b (number_of r) ms is happens)
-        (c.history_law.ensures.moments_rise old new a b (number_of r) happens)
-        (λ other. ap (λ st. (view_of st).clock) (c.step-reply.ensures.still other)) in
-        subst (λ (l : List Reply). GoneOn first start w b (take (i + 1) es) l before) (sym c.add.ensures.items) (subst (λ (l : List Event). GoneOn first start w b l (rs ++ r ∷ []) before) (sym now_es) more);
+          let now : IsTrue v.keeps_model = subst IsTrue (sym inv.ran.model) model in
+          let start : ℕ × ℕ = moment_of u (lists_of c.args.self.now) in
+          let happens = c.step-reply.ensures.happens now in
+          let old = disk_of (world_store c.loop-event.self) in
+          let new = disk_of (world_store c.step-reply.new.self) in
+          let more : GoneOn first start w b (take i es ++ e ∷ []) (rs ++ r ∷ []) before =
+          one_more first start v w a b (take i es) rs before e r (inv.crashes model first before run)
+          (λ ms is. c.history_law.ensures.goes_on first old new a b (number_of r) ms is happens)
+          (c.history_law.ensures.moments_rise old new a b (number_of r) happens)
+          (λ other. ap (λ st. (view_of st).clock) (c.step-reply.ensures.still other)) in
+          subst (λ (l : List Reply). GoneOn first start w b (take (i + 1) es) l before) (sym c.add.ensures.items) (subst (λ (l : List Event). GoneOn first start w b l (rs ++ r ∷ []) before) (sym now_es) more);
       answers =
-        let more = run_push m (machine_of c.loop-event.self) (take i es) rs e r n inv.answers c.step-reply.ensures.answers in
-        subst (λ (l : List Reply). Run m (take (i + 1) es) l n) (sym c.add.ensures.items) (subst (λ (l : List Event). Run m l (rs ++ r ∷ []) n) (sym now_es) more);
+          let more = run_push m (machine_of c.loop-event.self) (take i es) rs e r n inv.answers c.step-reply.ensures.answers in
+          subst (λ (l : List Reply). Run m (take (i + 1) es) l n) (sym c.add.ensures.items) (subst (λ (l : List Event). Run m l (rs ++ r ∷ []) n) (sym now_es) more);
     }
 
 pub returns-clause-answers : goal.returns-clause-answers

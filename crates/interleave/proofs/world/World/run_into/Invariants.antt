@@ -1,4 +1,4 @@
-use Rattle.std.proofs.Common.{◌≡◌, ◌≤◌, ◌+◌, ◌-◌, ℕ, List, IsTrue, take, length, vec_len, vec_capacity}
+use Rattle.std.proofs.Common.{◌≤◌, ◌+◌, ◌-◌, ℕ, List, IsTrue, take, length, vec_len, vec_capacity}
 use Rattle.disk_trait.specs.Disk.{IsSameDevice}
 use Rattle.recovery.specs.State.{State}
 use Rattle.histories.specs.Runs.{IsRun, moment_of}
@@ -12,6 +12,6 @@ invariant-loop-event g l = record {
   room : vec_len l.replies + (length l.events - l.event-index) ≤ vec_capacity l.replies;
   ran : IsSameDevice (world_view l.fn.self) (world_view l.self);
   crashes : IsTrue (world_view l.fn.self).keeps_model → (first : State) (before : List (ℕ × ℕ)) → IsRun first (world_view l.fn.self) (lists_of l.fn.self) before
-    → GoneOn first (moment_of (world_view l.fn.self) (lists_of l.fn.self)) (world_view l.self) (lists_of l.self) (take l.event-index l.events) l.replies.items before;
+      → GoneOn first (moment_of (world_view l.fn.self) (lists_of l.fn.self)) (world_view l.self) (lists_of l.self) (take l.event-index l.events) l.replies.items before;
   answers : Run (machine_of l.fn.self) (take l.event-index l.events) l.replies.items (machine_of l.self);
 }

@@ -1,0 +1,3 @@
+pub mod RoomLemmas
+pub mod LifeLemmas
+pub mod ChainLemmas

@@ -1,0 +1,41 @@
+-- Lives of one device, one after another.
+use Rattle.std.specs.Prelude.{◌≡◌, ◌≤◌, ℕ, List, [], ◌∷◌, length, map, take, Option, Some, None}
+use Rattle.recovery.specs.Standing.{StandsFor}
+use Rattle.recovery_parts.specs.Refusals.{IsFormatFault}
+use Rattle.recovery_parts.specs.declared.refusals.OpenRefused.{OpenRefused}
+use Rattle.histories.specs.History.{state_at, Whole}
+use Rattle.listed_runs.specs.Acknowledged.{AreAcknowledged}
+use Rattle.joined_lists.specs.Laws.{IsExactlyOnce}
+use Rattle.life_chain.specs.declared.report.LifeReport.{LifeReport}
+use Rattle.life_chain.specs.Reports.{opened_of, taken_of, posted_of, life_of}
+
+-- the first life opened to what the first disk stood for
+abbrev pub IsFirst : List LifeReport → List ℕ → Type 0
+IsFirst [] content = Unit {0}
+IsFirst (life ∷ rest) content = StandsFor (opened_of life) content
+
+-- The next life opened to a prefix state of this one: the state after some of the requests that it took, no group in part, with all
+-- that its commits answered Ok for, and all that it posted as accepted.
+pub record IsNextOf (life next : LifeReport) : Type 0 where
+  pub at : ℕ
+  pub within : at ≤ length (taken_of life)
+  pub state : opened_of next ≡ state_at (opened_of life) (taken_of life) at
+  pub whole : Whole at life.stored.groups.items
+  pub holds : (state_at (opened_of life) (taken_of life) life.stored.done).count ≤ next.count
+  pub acknowledged : AreAcknowledged (opened_of life) (taken_of life) at (posted_of life)
+
+-- each life is the next one of the life before
+abbrev pub AreChained : List LifeReport → Type 0
+AreChained [] = Unit {0}
+AreChained (life ∷ []) = Unit {0}
+AreChained (life ∷ (next ∷ rest)) = IsNextOf life next × AreChained (next ∷ rest)
+
+-- for these lives, and each beginning of them, each ticket is in at most once, and exactly once where it is acknowledged
+abbrev pub AreExactlyOnce : List LifeReport → Type 0
+AreExactlyOnce [] = Unit {0}
+AreExactlyOnce (life ∷ rest) = (n : ℕ) → IsExactlyOnce (life_of life) (take n (map life_of rest))
+
+-- only the device or memory refuses an opening
+abbrev pub IsLastRefused : Option OpenRefused → Type 0
+IsLastRefused None = Unit {0}
+IsLastRefused (Some refused) = IsFormatFault refused → ⊥

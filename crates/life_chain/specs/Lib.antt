@@ -1,0 +1,4 @@
+pub mod Rooms
+pub mod Reports
+pub mod Lived
+pub mod Chains

@@ -1,0 +1,56 @@
+-- What a report of a life says.
+use Rattle.std.specs.Prelude.{◌≡◌, ℕ, List, [], ◌∷◌, Option, Some, None, Bool, false}
+use Rattle.recovery.specs.State.{State}
+use Rattle.recovery_parts.specs.declared.refusals.OpenRefused.{OpenRefused}
+use Rattle.node_table.specs.declared.parts.Parts.{Parts}
+use Rattle.generations.specs.declared.posting.Notice.{Notice}
+use Rattle.generations.specs.declared.posting.Notice.TheVariants.{Built}
+use Rattle.built_schemes.specs.Schemes.{IsSchemeOf}
+use Rattle.event_runs.specs.declared.reply.Reply.{Reply}
+use Rattle.event_runs.specs.declared.reply.Reply.TheVariants.{Rebuilt}
+use Rattle.event_runs.specs.Machines.{Machine, begun}
+use Rattle.event_runs.specs.Answers.{RebuildAnswers}
+use Rattle.event_runs.specs.Moments.{AreMoments}
+use Rattle.listed_runs.specs.Listed.{IsListed}
+use Rattle.packet_ways.specs.Courses.{AreRoutedWell}
+use Rattle.packet_ways.specs.Replies.{RunRoutes}
+use Rattle.interleave.specs.Crashes.{HoldsAcknowledged}
+use Rattle.life_chain.specs.declared.life.Life.{Life}
+use Rattle.life_chain.specs.declared.report.LifeReport.{LifeReport}
+use Rattle.life_chain.specs.Reports.{opened_of, ended_with}
+
+-- a rebuild that is answered with a number has it from the count, and what is posted then is a scheme of the network by these words
+abbrev pub IsServed : State → List ℕ → Reply → Machine → Type 0
+IsServed first words (Rebuilt generation) built =
+    (generation ≡ first.count) × ((scheme : Parts) × (IsSchemeOf first.graph words first.count scheme × (built.postings ≡ Built first.count scheme ∷ [])))
+IsServed first words reply built = Unit {0}
+
+-- The report is that of this life, which opened to `first`, and whose crash left this content.
+pub record IsLived (first : State) (life : Life) (report : LifeReport) (content : List ℕ) : Type 0 where
+  -- after the rebuild the machine was this one, whose generation serves what was opened
+  pub built : Machine
+  pub rebuilt : RebuildAnswers life.words.items (begun life.capacity life.sessions first false) report.rebuilt built
+  pub served : IsServed first life.words.items report.rebuilt built
+  -- at the end this was due, and the store's state was this; all else of the machine is in the report
+  pub due : Option Notice
+  pub state : State
+  pub down : Bool
+  -- each reply is the answer of its event, and those to launches and hops say where packets went
+  pub answers : RunRoutes first built life.events.items report.replies.items (ended_with report due state down)
+  -- the lists are kept, and each packet goes over the one trip of its generation
+  pub listed : IsListed first (ended_with report due state down)
+  pub routed_well : AreRoutedWell first (ended_with report due state down)
+  -- there is a moment after each event, from the first count to the last
+  pub began : ℕ
+  pub moments : List (ℕ × ℕ)
+  pub crashed : ℕ
+  pub are : AreMoments (began, first.count) life.events.items report.replies.items moments (crashed, state.count)
+  -- the content stands for a prefix state with all that commits answered Ok for, and all that was posted as accepted
+  pub left : HoldsAcknowledged first (ended_with report due state down) content
+
+-- Each report is that of its life, up to all lives, or to the first that couldn't open.
+abbrev pub AreLived : List Life → List LifeReport → Option OpenRefused → Type 0
+AreLived [] [] None = Unit {0}
+AreLived (life ∷ lives) [] (Some refused) = Unit {0}
+AreLived (life ∷ lives) (report ∷ reports) refused = ((content : List ℕ) × IsLived (opened_of report) life report content) × AreLived lives reports refused
+AreLived lives reports refused = ⊥
