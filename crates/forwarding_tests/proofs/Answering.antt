@@ -12,7 +12,7 @@ use Rattle.generations.specs.declared.posting.Notice.{Notice}
 use Rattle.generations.specs.declared.posting.Notice.TheVariants.{Marked}
 use Rattle.generations.specs.Beginnings.{Opening}
 use Rattle.generations.specs.Knowledges.{Knowledge}
-use Rattle.generations.specs.Notices.{told_to, counts_of, marks_in}
+use Rattle.generations.specs.Notices.{told_to, counts_of, marks_in, says_down}
 use Rattle.generations.specs.Lawful.{IsLawful}
 use Rattle.generations.specs.Posts.{Posts, with_posted}
 use Rattle.generations.proofs.Lawfulness.{lawful_marks, counted_append, counts_append, marks_push, still_up}
@@ -26,6 +26,16 @@ accepting r count = record { session = r.session; ticket = r.ticket; verdict = A
 
 told_next : (w : Posts) (got : List Request) (r : Request) (n : ℕ) → map told_to (marks_in w.posted) ≡ map asked_by got → map told_to (marks_in w.posted ++ accepting r n ∷ []) ≡ map asked_by (got ++ r ∷ [])
 told_next w got r n told = map-append told_to (marks_in w.posted) (accepting r n ∷ []) ∙ (ap (λ l. l ++ asked_by r ∷ []) told ∙ sym (map-append asked_by got (r ∷ [])))
+
+-- before anything is taken or posted
+pub none_answered : (t : Taking) (w : Posts) (starts : List ℕ) → t.starts ≡ starts → t.got ≡ [] → w.opening.starts ≡ starts → w.opening.count ≡ 0 → w.posted ≡ [] → w.kept ≡ [] → IsAnswered t w 0
+none_answered t w starts one got two count posted kept = record {
+  starts = one ∙ sym two;
+  kept = kept;
+  up = ap says_down posted;
+  told = ap (λ l. map told_to (marks_in l)) posted ∙ sym (ap (map asked_by) got);
+  counted = omega (arith, count, ap (λ l. length (counts_of (marks_in l))) posted);
+}
 
 pub next_lawful : (t u : Taking) (w : Posts) (n : ℕ) (r : Request) (ms : List Mark) → IsAnswered t w n → IsLawful w.opening.starts w.opening.count (w.posted ++ w.kept) → u.starts ≡ t.starts → u.got ≡ t.got ++ r ∷ []
     → Rises u.starts (map asked_by u.got) → ms ≡ accepting r (n + 1) ∷ [] → IsLawful w.opening.starts w.opening.count (w.posted ++ Marked ms ∷ [])

@@ -3,7 +3,7 @@ ghost use Rattle.std.specs.Prelude.{◌≡◌, ◌+◌, ◌<◌, ◌∷◌, [], 
 ghost use Rattle.generations.specs.declared.posting.Verdict.TheVariants.{Accepted};
 ghost use Rattle.forwarding_tests.specs.Answered.{IsAnswered};
 
-use crate::posted::post_now;
+use crate::posted::{post_now, same};
 use generations::{BoardWriter, Mark, Posting, Verdict, board};
 use graph_edits::{Change, Op};
 use intake::{Editor, Outcome, SubmitRefused, Taker, open_intake};
@@ -87,36 +87,45 @@ fn two_editors<W: Wait + Drop>(
     })
 }
 
+// A change that was submitted comes back for this reason.
+fn comes_back(
+    rt: &impl Abort,
+    answer: Result<(), (SubmitRefused, Change)>,
+    refused: SubmitRefused,
+    submitted: Change,
+) {
+    let Err((found, back)) = answer else {
+        panic!(rt; "taken");
+    };
+    same(rt, found, refused, "submitted");
+    assert!(rt; back == submitted);
+}
+
 // The first change fills the queue: the second comes back, and so does another one of the first editor.
 fn fills<R: Wait + Abort>(rt: &R, first: &mut Editor, second: &mut Editor)
     ensures first { first.new.known.opening ≡ first.old.known.opening }
     ensures second { second.new.known.opening ≡ second.old.known.opening }
 {
-    let before = (
-        first.session(),
-        second.session(),
-        first.resume(),
-        first.outcome(),
+    same(rt, (first.session(), second.session()), (0, 1), "sessions");
+    same(rt, first.resume(), 0, "the last ticket");
+    same(rt, first.outcome(), Ok(Outcome::Nothing), "before");
+    same(
+        rt,
+        first.submit(rt, 1, change(rt, 0, 1)).is_ok(),
+        true,
+        "the first",
     );
-    assert_eq!(rt; before, (0, 1, 0, Ok(Outcome::Nothing)));
-    assert!(rt; first.submit(rt, 1, change(rt, 0, 1)).is_ok());
-    assert_eq!(rt;
-        second.submit(rt, 1, change(rt, 1, 2)),
-        Err((SubmitRefused::QueueFull, change(rt, 1, 2)))
-    );
-    assert_eq!(rt;
-        first.submit(rt, 2, change(rt, 2, 3)),
-        Err((SubmitRefused::Busy, change(rt, 2, 3)))
-    );
-    assert_eq!(rt; first.outcome(), Ok(Outcome::Waiting));
+    let answer = second.submit(rt, 1, change(rt, 1, 2));
+    comes_back(rt, answer, SubmitRefused::QueueFull, change(rt, 1, 2));
+    let answer = first.submit(rt, 2, change(rt, 2, 3));
+    comes_back(rt, answer, SubmitRefused::Busy, change(rt, 2, 3));
+    same(rt, first.outcome(), Ok(Outcome::Waiting), "after");
 }
 
 // The first change of this editor is the accepted one of this number.
 fn accepts(rt: &impl Abort, editor: &mut Editor, count: u64) {
-    assert_eq!(rt;
-        editor.outcome(),
-        Ok(Outcome::Accepted { ticket: 1, count })
-    );
+    let accepted = Outcome::Accepted { ticket: 1, count };
+    same(rt, editor.outcome(), Ok(accepted), "an outcome");
 }
 
 // The two editors, with answers by hand.
@@ -131,11 +140,17 @@ fn settles<R: Wait + Abort>(rt: &R, alloc: Global) -> Result<(), AllocError> {
     let Some(one) = answer_next(rt, alloc, &mut taker, &mut writer, 0)? else {
         panic!(rt; "nothing to take");
     };
-    assert!(rt; second.submit(rt, 1, change(rt, 1, 2)).is_ok());
+    same(rt, one, (0, 1), "the first");
+    same(
+        rt,
+        second.submit(rt, 1, change(rt, 1, 2)).is_ok(),
+        true,
+        "the second",
+    );
     let Some(two) = answer_next(rt, alloc, &mut taker, &mut writer, 1)? else {
         panic!(rt; "nothing to take");
     };
-    assert_eq!(rt; (one, two), ((0, 1), (1, 1)));
+    same(rt, two, (1, 1), "the second");
     first.learn(&writer.tell());
     second.learn(&writer.tell());
     accepts(rt, &mut first, 1);
@@ -229,10 +244,7 @@ fn relay<R: Threads + Wait + Abort + Sync>(
 
 #[test]
 fn four_editors_beside_one_taker(rt: HostRuntime) -> Result<(), Fail> {
-    for capacity in [1usize, 64] {
-        if capacity > 0 {
-            assert!(rt; relay(&rt, rt.alloc(), capacity)?, "over {capacity} places");
-        }
-    }
+    same(&rt, relay(&rt, rt.alloc(), 1)?, true, "over one place");
+    same(&rt, relay(&rt, rt.alloc(), 64)?, true, "over 64 places");
     Ok(())
 }

@@ -1,7 +1,7 @@
 // The board as a plain value, over threads, and where an allocation is refused.
 ghost use Rattle.std.specs.Prelude.{◌≡◌, []};
 
-use crate::posted::{empty_scheme, newest, post_next, post_seen, post_up_to};
+use crate::posted::{empty_scheme, got, newest, post_next, post_seen, post_up_to, same};
 use generations::{Board, BoardReader, MOST_SHELVED, Mark, Posting, Verdict, board};
 use graph_edits::Code;
 use requests::{SESSIONS, WORN_LIMIT};
@@ -30,50 +30,51 @@ fn refused(op: usize) -> Verdict {
     }
 }
 
-#[test]
-fn folds_marks_generations_and_the_failure(rt: HostRuntime) -> Result<(), Fail> {
-    let alloc = rt.alloc();
-    let mut board = Board::new(&[10; SESSIONS], 5);
-    let marks = [
-        mark(0, 11, accepted(6)),
-        mark(63, WORN_LIMIT, accepted(WORN_LIMIT)),
-        mark(0, 12, refused(3)),
-    ];
-    board.fold(&Posting::Marks(marks.to_vec(alloc)?))?;
-    // Session, its last mark, its last accepted ticket.
+// Session, its last mark, its last accepted ticket, once these marks are folded.
+fn expect_marks(rt: &impl Abort, board: &Board, marks: &[Mark; 3]) {
     let rows = [
         (0u8, Some(marks[2]), 11u64),
         (1, None, 10),
         (63, Some(marks[1]), WORN_LIMIT),
         (64, None, 0),
     ];
-    for (session, last, ticket) in rows {
-        assert_eq!(rt;
-            (board.mark(session), board.accepted(session)),
-            (last, ticket),
-            "of {session}"
-        );
+    for (session, last, ticket) in &rows {
+        let found = (*session, board.mark(*session), board.accepted(*session));
+        same(rt, found, (*session, *last, *ticket), "a session");
     }
-    assert_eq!(rt;
-        (board.count(), board.is_down(), board.shelf().len()),
-        (WORN_LIMIT, false, 0)
-    );
-    for number in 1..6u64 {
-        let scheme = empty_scheme(alloc, number)?;
-        board.fold(&Posting::Generation { number, scheme })?;
-    }
-    assert_eq!(rt; board.shelf().len(), MOST_SHELVED);
+    let found = (board.count(), board.is_down(), board.shelf().len());
+    same(rt, found, (WORN_LIMIT, false, 0), "the marks");
+}
+
+// The shelf holds the generations 2 to 5.
+fn expect_shelf(rt: &impl Abort, board: &Board) {
+    same(rt, board.shelf().len(), MOST_SHELVED, "the shelf");
     for (place, number) in board.shelf().iter().zip(2..6u64) {
         let Some(shelved) = place else {
-            panic!(&rt; "no generation at {number}");
+            panic!(rt; "no generation");
         };
-        assert_eq!(rt;
-            (shelved.number, shelved.scheme.parts().generation),
-            (number, number)
-        );
+        let found = (shelved.number, shelved.scheme.parts().generation);
+        same(rt, found, (number, number), "a generation");
     }
+}
+
+#[test]
+fn folds_marks_generations_and_the_failure(rt: HostRuntime) -> Result<(), Fail> {
+    let mut board = Board::new(&[10; SESSIONS], 5);
+    let marks = [
+        mark(0, 11, accepted(6)),
+        mark(63, WORN_LIMIT, accepted(WORN_LIMIT)),
+        mark(0, 12, refused(3)),
+    ];
+    board.fold(&Posting::Marks(marks.to_vec(rt.alloc())?))?;
+    expect_marks(&rt, &board, &marks);
+    for number in 1..6u64 {
+        let scheme = empty_scheme(rt.alloc(), number)?;
+        board.fold(&Posting::Generation { number, scheme })?;
+    }
+    expect_shelf(&rt, &board);
     board.fold(&Posting::Down)?;
-    assert!(rt; board.is_down());
+    same(&rt, board.is_down(), true, "down");
     Ok(())
 }
 
@@ -107,15 +108,15 @@ fn readers_beside_a_writer_see_all_that_they_were_told(rt: HostRuntime) -> Resul
     };
     one.learn(&writer.tell());
     two.learn(&writer.tell());
-    let Ok(first) = thread::spawn(&rt, move || looks(one, 1)) else {
-        panic!(&rt; "no thread");
-    };
-    let Ok(second) = thread::spawn(&rt, move || looks(two, 1)) else {
-        first.join(&rt);
-        panic!(&rt; "no thread");
-    };
+    let first = got(&rt, thread::spawn(&rt, move || looks(one, 1)));
+    let second = got(&rt, thread::spawn(&rt, move || looks(two, 1)));
     post_up_to(&rt, alloc, &mut writer, 1, 300);
-    assert_eq!(&rt; (first.join(&rt), second.join(&rt)), (0, 0));
+    same(
+        &rt,
+        (first.join(&rt), second.join(&rt)),
+        (0, 0),
+        "wrong looks",
+    );
     Ok(())
 }
 

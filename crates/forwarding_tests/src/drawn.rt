@@ -1,15 +1,12 @@
 // Drawn bytes: each list of them comes to an end, and what is read is written again.
-ghost use Rattle.std.specs.Prelude.{◌≡◌, []};
-
-use crate::posted::{post_next, way};
+use crate::posted::{one_forwarder, post_next, same, way};
 use forwarders::Forwarder;
-use generations::board;
 use heavy_labels::MOST_LIGHTS;
 use node_table::{Address, Packet};
 use packet_bytes::{ADDRESS_SIZE, PACKET_SIZE, Wire};
 use rand_core::{Rng, SeedableRng};
 use rand_xoshiro::Xoshiro256PlusPlus;
-use requests::SESSIONS;
+use std::process::Abort;
 use std::test::Fail;
 
 /// Bytes that look like a packet of generation 1 on five nodes, half of them with one byte changed.
@@ -43,35 +40,42 @@ fn address_again(bytes: &[u8; PACKET_SIZE]) -> bool {
     }
 }
 
+/// Sends the bytes from a node, and sees that what they spell is written again: whether they are delivered, and whether they spell a
+/// packet.
+fn sent(
+    rt: &impl Abort,
+    forwarder: &mut Forwarder,
+    from: u16,
+    bytes: [u8; PACKET_SIZE],
+) -> (bool, bool) {
+    let (_, _, end) = way(rt, forwarder, from, bytes);
+    assert!(rt; address_again(&bytes));
+    match Packet::from_bytes(&bytes) {
+        Ok(packet) => {
+            assert!(rt; packet.to_bytes() == bytes);
+            (end.is_none(), true)
+        }
+        Err(_) => (end.is_none(), false),
+    }
+}
+
 #[test]
 fn a_hundred_thousand_lists_of_bytes(rt: HostRuntime) -> Result<(), Fail> {
-    let alloc = rt.alloc();
-    let (mut writer, mut readers) = board(alloc, rt, 1, &[0; SESSIONS], 0)?;
-    post_next(&rt, alloc, &mut writer, 0);
-    let Some(reader) = readers.pop() else {
-        panic!(&rt; "no reader");
-    };
-    let mut forwarder = Forwarder::new(reader);
+    let (mut writer, mut forwarder) = one_forwarder(rt.alloc(), rt)?;
+    post_next(&rt, rt.alloc(), &mut writer, 0);
     let mut rng = Xoshiro256PlusPlus::seed_from_u64(25);
-    let mut delivered = 0usize;
-    let mut spelled = 0usize;
+    let (mut delivered, mut spelled) = (0u32, 0u32);
     for turn in 0..100_000u32 {
         let bytes = drawn(&mut rng);
-        let (_, _, end) = way(&rt, &mut forwarder, (turn % 7) as u16, bytes);
-        if end.is_none() && delivered < 100_000 {
-            delivered += 1;
-        }
-        if let Ok(packet) = Packet::from_bytes(&bytes) {
-            assert!(&rt; packet.to_bytes() == bytes);
-            if spelled < 100_000 {
-                spelled += 1;
-            }
-        }
-        assert!(&rt; address_again(&bytes));
+        let (arrived, read) = sent(&rt, &mut forwarder, (turn % 7) as u16, bytes);
+        delivered = delivered.saturating_add(arrived as u32);
+        spelled = spelled.saturating_add(read as u32);
     }
-    assert!(&rt;
-        10_000 < spelled && 100 < delivered,
-        "{spelled} spelled, {delivered} delivered"
+    same(
+        &rt,
+        (10_000 < spelled, 100 < delivered),
+        (true, true),
+        "enough of each",
     );
     Ok(())
 }

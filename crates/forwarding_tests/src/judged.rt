@@ -1,4 +1,5 @@
 // What a board says of the next ticket and of the last one.
+use crate::posted::same;
 use generations::{Board, Mark, Posting, Verdict};
 use graph_edits::Code;
 use intake::{Outcome, SubmitRefused, outcome_of, refusal_of};
@@ -13,6 +14,21 @@ fn mark(session: u8, ticket: u64, verdict: Verdict) -> Mark {
     }
 }
 
+/// Session, last ticket submitted, the next ticket, and why it is refused.
+const REFUSALS: [(u8, Option<u64>, u64, Option<SubmitRefused>); 11] = [
+    (1, None, 11, None),
+    (1, None, 10, Some(SubmitRefused::AlreadyIn)),
+    (1, None, 0, Some(SubmitRefused::AlreadyIn)),
+    (1, Some(11), 10, Some(SubmitRefused::Busy)),
+    (0, Some(15), 12, Some(SubmitRefused::AlreadyIn)),
+    (0, Some(15), 13, Some(SubmitRefused::OldTicket)),
+    (0, Some(15), 15, Some(SubmitRefused::OldTicket)),
+    (0, Some(15), 16, None),
+    (0, Some(15), WORN_LIMIT, None),
+    (0, Some(15), WORN_LIMIT + 1, Some(SubmitRefused::Worn)),
+    (0, Some(14), WORN_LIMIT + 1, Some(SubmitRefused::Busy)),
+];
+
 #[test]
 fn refuses_by_the_first_test_that_holds(rt: HostRuntime) -> Result<(), Fail> {
     let mut board = Board::new(&[10; SESSIONS], 0);
@@ -22,35 +38,34 @@ fn refuses_by_the_first_test_that_holds(rt: HostRuntime) -> Result<(), Fail> {
         mark(0, 15, Verdict::Refused { op: 2, code }),
     ];
     board.fold(&Posting::Marks(marks.to_vec(rt.alloc())?))?;
-    // Session, last ticket submitted, the next ticket, and why it is refused.
-    let rows = [
-        (1u8, None, 11u64, None),
-        (1, None, 10, Some(SubmitRefused::AlreadyIn)),
-        (1, None, 0, Some(SubmitRefused::AlreadyIn)),
-        (1, Some(11u64), 10, Some(SubmitRefused::Busy)),
-        (0, Some(15), 12, Some(SubmitRefused::AlreadyIn)),
-        (0, Some(15), 13, Some(SubmitRefused::OldTicket)),
-        (0, Some(15), 15, Some(SubmitRefused::OldTicket)),
-        (0, Some(15), 16, None),
-        (0, Some(15), WORN_LIMIT, None),
-        (0, Some(15), WORN_LIMIT + 1, Some(SubmitRefused::Worn)),
-        (0, Some(14), WORN_LIMIT + 1, Some(SubmitRefused::Busy)),
-    ];
-    for (session, last, ticket, want) in rows {
-        assert_eq!(rt;
-            refusal_of(&board, session, 10, last, ticket),
-            want,
-            "{session}: {ticket} after {last:?}"
+    for (session, last, ticket, want) in &REFUSALS {
+        let found = refusal_of(&board, *session, 10, *last, *ticket);
+        same(
+            &rt,
+            (*session, *ticket, found),
+            (*session, *ticket, *want),
+            "a ticket",
         );
     }
-    let (ticket, op) = (15u64, 2usize);
-    assert_eq!(rt; outcome_of(&board, 0, None), Outcome::Nothing);
-    assert_eq!(rt;
-        outcome_of(&board, 0, Some(15)),
-        Outcome::Refused { ticket, op, code }
+    let refused = Outcome::Refused {
+        ticket: 15,
+        op: 2,
+        code,
+    };
+    same(
+        &rt,
+        outcome_of(&board, 0, None),
+        Outcome::Nothing,
+        "no ticket",
     );
-    assert_eq!(rt; outcome_of(&board, 0, Some(16)), Outcome::Waiting);
+    same(&rt, outcome_of(&board, 0, Some(15)), refused, "ticket 15");
+    same(
+        &rt,
+        outcome_of(&board, 0, Some(16)),
+        Outcome::Waiting,
+        "ticket 16",
+    );
     board.fold(&Posting::Down)?;
-    assert_eq!(rt; outcome_of(&board, 0, Some(16)), Outcome::Down);
+    same(&rt, outcome_of(&board, 0, Some(16)), Outcome::Down, "down");
     Ok(())
 }

@@ -1,19 +1,34 @@
 // Schemes, and a board with some posted.
-ghost use Rattle.std.specs.Prelude.{◌≡◌, ◌+◌, ◌<◌, ◌≤◌, ◌++◌, ◌∷◌, []};
+ghost use Rattle.std.specs.Prelude.{◌≡◌, ◌+◌, ◌<◌, ◌≤◌, ◌++◌, ◌∷◌, [], IfOk};
 ghost use Rattle.generations.specs.Notices.{notice_of};
 ghost use Rattle.generations.specs.Lawful.{IsLawful};
 ghost use Rattle.generations.specs.Posts.{with_posted};
 ghost use Rattle.forwarding_tests.specs.InARow.{IsInARow};
 
 use forwarders::{ByteMove, BytesRefused, Forwarder};
-use generations::{Board, BoardReader, BoardWriter, PostRefused, Posting};
+use generations::{Board, BoardReader, BoardWriter, PostRefused, Posting, board};
 use graph_edits::{Change, Graph, MOST_NODES, Op};
 use landmarks::Landmarks;
 use node_table::{Parts, Scheme, build};
 use packet_bytes::PACKET_SIZE;
+use requests::SESSIONS;
 use std::alloc::{AllocError, Global};
+use std::fmt::Debug;
 use std::process::Abort;
 use std::sync::{Arc, Wait};
+
+/// Sees that two values are the same.
+pub(crate) fn same<T: Copy + PartialEq + Debug>(rt: &impl Abort, found: T, want: T, name: &str) {
+    assert_eq!(rt; found, want, "{name}");
+}
+
+/// The value of an answer that has to have one.
+pub(crate) fn got<T, E: Drop>(rt: &impl Abort, answer: Result<T, E>) -> T {
+    match answer {
+        Ok(value) => value,
+        Err(_) => panic!(rt; "no value"),
+    }
+}
 
 /// The edges of a network, each of one weight.
 pub(crate) type Edge = (u16, u16, u32);
@@ -30,22 +45,22 @@ pub(crate) fn scheme_of(
     generation: u64,
 ) -> Scheme {
     assert!(rt; 1 <= nodes && nodes <= MOST_NODES);
-    let mut graph = Graph::empty(alloc, nodes).expect(rt, "memory");
+    let mut graph = got(rt, Graph::empty(alloc, nodes));
     for (a, b, weight) in edges {
-        let change = Change::new(&[Op::Add(*a, *b, *weight)]).expect(rt, "a change");
+        let change = got(rt, Change::new(&[Op::Add(*a, *b, *weight)]));
         let _taken = graph.apply(&change);
     }
     let mut words = Vec::new(alloc);
     for v in 0..nodes {
         let word = if v == landmark { 0u64 } else { u64::MAX };
-        words.push(word).expect(rt, "memory");
+        got(rt, words.push(word));
     }
     assert!(rt; 1 <= words.len());
-    let landmarks = Landmarks::choose(alloc, words.len(), &words).expect(rt, "memory");
+    let landmarks = got(rt, Landmarks::choose(alloc, words.len(), &words));
     let nodes = graph.nodes() as usize;
     let marked = landmarks.flags().len();
     assert!(rt; marked == nodes);
-    build(alloc, &graph, &landmarks, generation, alloc).expect(rt, "memory")
+    got(rt, build(alloc, &graph, &landmarks, generation, alloc))
 }
 
 /// A scheme with no node.
@@ -76,11 +91,24 @@ pub(crate) fn newest(board: &Board) -> u64 {
 
 // Looks, and compares the number of the newest generation.
 fn shown(rt: &impl Abort, reader: BoardReader, number: u64) -> BoardReader {
-    let Ok(look) = reader.look() else {
-        panic!(rt; "no look");
-    };
-    assert!(rt; newest(look.board()) == number);
+    let look = got(rt, reader.look());
+    same(rt, newest(look.board()), number, "the newest");
     look.leave()
+}
+
+/// A board with no posting, and a forwarder over its one reader.
+pub(crate) fn one_forwarder<W: Wait + Drop>(
+    alloc: Global,
+    handle: W,
+) -> Result<(BoardWriter<W>, Forwarder), AllocError>
+    ensures row { IfOk result (λ r. IsInARow r.0 0) }
+    ensures opening { IfOk result (λ r. r.1.opening ≡ r.0.opening) }
+{
+    let (writer, mut readers) = board(alloc, handle, 1, &[0; SESSIONS], 0)?;
+    let Some(reader) = readers.pop() else {
+        return Err(AllocError);
+    };
+    Ok((writer, Forwarder::new(reader)))
 }
 
 /// Posts one posting, once more where memory was refused.

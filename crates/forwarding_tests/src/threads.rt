@@ -1,7 +1,7 @@
 // Two forwarders in threads while a writer posts.
 ghost use Rattle.std.specs.Prelude.{◌≡◌, []};
 
-use crate::posted::{post_next, post_up_to};
+use crate::posted::{got, post_next, post_up_to, same};
 use forwarders::{Forwarder, Refused};
 use generations::board;
 use node_table::Move;
@@ -72,15 +72,14 @@ fn two_forwarders_while_a_writer_posts(rt: HostRuntime) -> Result<(), Fail> {
     let (mut one, mut two) = (Forwarder::new(one), Forwarder::new(two));
     one.learn(&writer.tell());
     two.learn(&writer.tell());
-    let Ok(first) = thread::spawn(&rt, move || trips(one)) else {
-        panic!(&rt; "no thread");
-    };
-    let Ok(second) = thread::spawn(&rt, move || trips(two)) else {
-        first.join(&rt);
-        panic!(&rt; "no thread");
-    };
+    let first = got(&rt, thread::spawn(&rt, move || trips(one)));
+    let second = got(&rt, thread::spawn(&rt, move || trips(two)));
     post_up_to(&rt, alloc, &mut writer, 1, 60);
-    assert_eq!(&rt; first.join(&rt), TRIPS);
-    assert_eq!(&rt; second.join(&rt), TRIPS);
+    same(
+        &rt,
+        (first.join(&rt), second.join(&rt)),
+        (TRIPS, TRIPS),
+        "trips",
+    );
     Ok(())
 }

@@ -79,8 +79,6 @@ mod limits;
 mod refused;
 mod rolling;
 mod settling;
-#[cfg(test)]
-mod tests;
 mod turns;
 
 pub use desk::Desk;

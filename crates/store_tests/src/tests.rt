@@ -8,7 +8,6 @@ use requests::{Request, SESSIONS};
 use std::alloc::{AllocError, Global};
 use std::fmt::Debug;
 use std::process::Abort;
-use std::test::*;
 
 mod commits;
 mod damage;

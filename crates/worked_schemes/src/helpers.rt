@@ -8,9 +8,23 @@ use heavy_labels::{Label, MOST_LIGHTS, Record};
 use linked_list_allocator::LocalHeap;
 use node_table::{CarryRefused, Entry, Scheme, Trail};
 use std::alloc::{AllocError, Allocator, Global};
+use std::fmt::Debug;
 use std::process::Abort;
 
 pub(crate) type Edge = (u16, u16, u32);
+
+/// The value of an answer that has to have one.
+pub(crate) fn got<T, E: Drop>(rt: &impl Abort, answer: Result<T, E>) -> T {
+    match answer {
+        Ok(value) => value,
+        Err(_) => panic!(rt; "no value"),
+    }
+}
+
+/// Sees that two values are the same.
+pub(crate) fn same<T: Copy + PartialEq + Debug>(rt: &impl Abort, found: T, want: T, name: &str) {
+    assert_eq!(rt; found, want, "{name}");
+}
 
 /// The stack of a thread that builds deep trees.
 pub(crate) const STACK_LEN: usize = 67_108_864;
@@ -41,16 +55,11 @@ fn graph_once(alloc: Global, nodes: u16, edges: &[Edge]) -> Result<Graph, AllocE
 }
 
 /// The graph of these edges, but for those that it refuses.
-pub(crate) fn graph_of(
-    rt: &impl Abort,
-    alloc: Global,
-    nodes: u16,
-    edges: &[Edge],
-) -> Result<Graph, AllocError> {
+pub(crate) fn graph_of(rt: &impl Abort, alloc: Global, nodes: u16, edges: &[Edge]) -> Graph {
     assert!(rt; 1 <= nodes && nodes <= MOST_NODES);
     match graph_once(alloc, nodes, edges) {
-        Ok(graph) => Ok(graph),
-        Err(_) => graph_once(alloc, nodes, edges),
+        Ok(graph) => graph,
+        Err(_) => got(rt, graph_once(alloc, nodes, edges)),
     }
 }
 
@@ -63,21 +72,22 @@ fn words_once(alloc: Global, nodes: u16, at: &[u16]) -> Result<Vec<u64>, AllocEr
 }
 
 /// The words that make landmarks of these nodes alone.
-pub(crate) fn words_at(alloc: Global, nodes: u16, at: &[u16]) -> Result<Vec<u64>, AllocError> {
+pub(crate) fn words_at(rt: &impl Abort, alloc: Global, nodes: u16, at: &[u16]) -> Vec<u64> {
     match words_once(alloc, nodes, at) {
-        Ok(words) => Ok(words),
-        Err(_) => words_once(alloc, nodes, at),
+        Ok(words) => words,
+        Err(_) => got(rt, words_once(alloc, nodes, at)),
     }
 }
 
 /// The scheme of a graph with landmarks at these nodes, over a scratch.
 pub(crate) fn built<A: Allocator + Clone>(
+    rt: &impl Abort,
     alloc: Global,
     graph: &Graph,
     at: &[u16],
     scratch: A,
 ) -> Result<Scheme, AllocError> {
-    let words = words_at(alloc, graph.nodes(), at)?;
+    let words = words_at(rt, alloc, graph.nodes(), at);
     match scheme_of(alloc, graph, &words, 7, scratch.clone()?) {
         Ok(scheme) => Ok(scheme),
         Err(_) => scheme_of(alloc, graph, &words, 7, scratch),
@@ -91,8 +101,9 @@ pub(crate) fn scheme_with(
     nodes: u16,
     edges: &[Edge],
     at: &[u16],
-) -> Result<Scheme, AllocError> {
-    built(alloc, &graph_of(rt, alloc, nodes, edges)?, at, alloc)
+) -> Scheme {
+    let graph = graph_of(rt, alloc, nodes, edges);
+    got(rt, built(rt, alloc, &graph, at, alloc))
 }
 
 /// What becomes of a packet to a node's own address.
@@ -112,11 +123,31 @@ pub(crate) fn carried(
     }
 }
 
+/// How many nodes a graph has, its edges, its landmarks, and a way in it: its nodes, its ports and its length.
+pub(crate) type Way<'a> = (u16, &'a [Edge], &'a [u16], &'a [u16], &'a [u16], u64);
+
+/// The first and the last node of a way.
+pub(crate) fn ends_of(way: &[u16]) -> (u16, u16) {
+    match way {
+        [first, .., last] => (*first, *last),
+        [only] => (*only, *only),
+        [] => (0, 0),
+    }
+}
+
+/// Sees that a trail is this way.
+pub(crate) fn expect_trail(rt: &impl Abort, trail: &Trail, way: &Way<'_>) {
+    let (_, _, _, nodes, ports, length) = *way;
+    same(rt, trail.nodes.as_slice(), nodes, "the nodes of a way");
+    same(rt, trail.ports.as_slice(), ports, "the ports of a way");
+    same(rt, trail.length, length, "the length of a way");
+}
+
 /// A heap of so many bytes.
-pub(crate) fn heap_of(alloc: Global, size: usize) -> Result<LocalHeap, AllocError> {
+pub(crate) fn heap_of(rt: &impl Abort, alloc: Global, size: usize) -> LocalHeap {
     match LocalHeap::new(alloc, size) {
-        Ok(heap) => Ok(heap),
-        Err(_) => LocalHeap::new(alloc, size),
+        Ok(heap) => heap,
+        Err(_) => got(rt, LocalHeap::new(alloc, size)),
     }
 }
 

@@ -1,32 +1,34 @@
 // Schemes of made-up tables: what every call answers for them.
-ghost use Rattle.std.specs.Prelude.{◌≡◌, IfOk};
+ghost use Rattle.std.specs.Prelude.{◌≡◌};
 
-use crate::helpers::{entry, label};
+use crate::helpers::{entry, got, label, same};
 use node_table::{
     Address, CarryRefused, Entry, Home, Listed, Move, Near, Packet, Parts, Refused, Scheme,
 };
-use std::alloc::{AllocError, Global};
+use std::alloc::Global;
 use std::process::Abort;
-use std::test::Fail;
 
 /// Nodes 0 and 1 with an edge between them, landmark 0, and these entries.
-fn two_with(alloc: Global, entries: Vec<Vec<Entry>>) -> Result<Parts, AllocError>
-    ensures { IfOk result (λ p. p.nodes ≡ 2) }
+fn two_with(rt: &impl Abort, alloc: Global, entries: Vec<Vec<Entry>>) -> Parts
+    ensures { result.nodes ≡ 2 }
 {
     let own = Listed {
         node: 1,
         label: label(0, &[]),
     };
-    Ok(Parts {
+    let directory = got(rt, vec![in alloc; own]);
+    let of_0 = got(rt, vec![in alloc; 1u16]);
+    let of_1 = got(rt, vec![in alloc; 0u16]);
+    Parts {
         nodes: 2,
         generation: 9,
-        landmarks: vec![in alloc; true, false]?,
-        ports: vec![in alloc; vec![in alloc; 1u16]?, vec![in alloc; 0u16]?]?,
-        nearest: vec![in alloc; Some(near(0)), Some(near(7))]?,
+        landmarks: got(rt, vec![in alloc; true, false]),
+        ports: got(rt, vec![in alloc; of_0, of_1]),
+        nearest: got(rt, vec![in alloc; Some(near(0)), Some(near(7))]),
         entries,
-        directories: vec![in alloc; Vec::new(alloc), vec![in alloc; own]?]?,
-        homes: vec![in alloc; Some(label(0, &[])), Some(label(1, &[]))]?,
-    })
+        directories: got(rt, vec![in alloc; Vec::new(alloc), directory]),
+        homes: got(rt, vec![in alloc; Some(label(0, &[])), Some(label(1, &[]))]),
+    }
 }
 
 fn near(distance: u64) -> Near {
@@ -37,16 +39,15 @@ fn near(distance: u64) -> Near {
 }
 
 /// The same with an edge of this length, as it should be.
-fn two(rt: &impl Abort, alloc: Global, length: u64) -> Result<Parts, AllocError>
-    ensures { IfOk result (λ p. p.nodes ≡ 2) }
+fn two(rt: &impl Abort, alloc: Global, length: u64) -> Parts
+    ensures { result.nodes ≡ 2 }
 {
     let root = entry(rt, (0, 0, None), (0, 1, 1, 0), (None, Some(0)));
     let leaf = entry(rt, (0, length, Some(0)), (1, 1, 1, 0), (Some(0), None));
     let own = entry(rt, (1, 0, None), (0, 0, 0, 0), (None, None));
-    two_with(
-        alloc,
-        vec![in alloc; vec![in alloc; root]?, vec![in alloc; leaf, own]?]?,
-    )
+    let of_0 = got(rt, vec![in alloc; root]);
+    let of_1 = got(rt, vec![in alloc; leaf, own]);
+    two_with(rt, alloc, got(rt, vec![in alloc; of_0, of_1]))
 }
 
 fn packet(destination: u16, root: u16, first: u16, hops_left: u16) -> Packet {
@@ -59,131 +60,158 @@ fn packet(destination: u16, root: u16, first: u16, hops_left: u16) -> Packet {
     }
 }
 
-#[test]
-fn carries_between_two_nodes(rt: HostRuntime) -> Result<(), Fail> {
-    let scheme = Scheme::assemble(two(&rt, rt.alloc(), 7)?);
-    for (from, to, nodes, ports, length) in [
-        (0u16, 1u16, &[0u16, 1][..], &[0u16][..], 7u64),
-        (1, 0, &[1, 0][..], &[0][..], 7),
-        (1, 1, &[1][..], &[][..], 0),
-    ] {
-        let Ok(address) = scheme.address(to) else {
-            panic!(rt; "no address of {to}");
-        };
-        let Ok(trail) = scheme.carry(rt.alloc(), from, &address) else {
-            panic!(rt; "no trail from {from} to {to}");
-        };
-        assert_eq!(rt; trail.nodes.as_slice(), nodes, "from {from} to {to}");
-        assert_eq!(rt; trail.ports.as_slice(), ports, "from {from} to {to}");
-        assert_eq!(rt; trail.length, length, "from {from} to {to}");
-    }
-    Ok(())
-}
+/// From which of two nodes to which, by which nodes and ports, and how long that is.
+const BETWEEN_TWO: [(u16, u16, &[u16], &[u16], u64); 3] = [
+    (0, 1, &[0, 1], &[0], 7),
+    (1, 0, &[1, 0], &[0], 7),
+    (1, 1, &[1], &[], 0),
+];
 
 #[test]
-fn refuses_in_order(rt: HostRuntime) -> Result<(), Fail> {
-    let scheme = Scheme::assemble(two(&rt, rt.alloc(), 7)?);
-    let cases = [
-        ("no such node", 2u16, packet(0, 0, 0, 9), Refused::NoNode),
-        ("too many hops left", 0, packet(0, 5, 0, 2), Refused::Stray),
-        (
-            "no entry for the root",
-            0,
-            packet(0, 1, 0, 0),
-            Refused::Stray,
-        ),
-        (
-            "at a node that isn't the destination",
-            0,
-            packet(1, 0, 0, 0),
-            Refused::Stray,
-        ),
-        ("no parent", 1, packet(0, 1, 3, 1), Refused::Stray),
-        ("no hop left", 1, packet(0, 0, 0, 0), Refused::Spent),
-    ];
-    for (what, at, sent, refused) in &cases {
-        match scheme.node_step(*at, sent) {
-            Err(got) => assert_eq!(rt; got, *refused, "{what}"),
-            Ok(_) => panic!(rt; "{what}"),
-        }
+fn carries_between_two_nodes(rt: HostRuntime) {
+    let scheme = Scheme::assemble(two(&rt, rt.alloc(), 7));
+    for (from, to, nodes, ports, length) in &BETWEEN_TWO {
+        let address = got(&rt, scheme.address(*to));
+        let trail = got(&rt, scheme.carry(rt.alloc(), *from, &address));
+        same(&rt, trail.nodes.as_slice(), *nodes, "the nodes of a trail");
+        same(&rt, trail.ports.as_slice(), *ports, "the ports of a trail");
+        same(&rt, trail.length, *length, "the length of a trail");
+    }
+}
+
+/// Where a packet is, its destination, root, first number and hops left, and why it is refused.
+const REFUSALS: [(&str, u16, (u16, u16, u16, u16), Refused); 6] = [
+    ("no such node", 2, (0, 0, 0, 9), Refused::NoNode),
+    ("too many hops left", 0, (0, 5, 0, 2), Refused::Stray),
+    ("no entry for the root", 0, (0, 1, 0, 0), Refused::Stray),
+    (
+        "at a node that isn't the destination",
+        0,
+        (1, 0, 0, 0),
+        Refused::Stray,
+    ),
+    ("no parent", 1, (0, 1, 3, 1), Refused::Stray),
+    ("no hop left", 1, (0, 0, 0, 0), Refused::Spent),
+];
+
+#[test]
+fn refuses_in_order(rt: HostRuntime) {
+    let scheme = Scheme::assemble(two(&rt, rt.alloc(), 7));
+    for (what, at, sent, refused) in &REFUSALS {
+        let (destination, root, first, hops_left) = *sent;
+        let sent = packet(destination, root, first, hops_left);
+        let found = scheme.node_step(*at, &sent).err();
+        same(&rt, found, Some(*refused), what);
     }
     let delivered = scheme.node_step(0, &packet(0, 0, 0, 0));
-    assert!(rt; matches!(&delivered, Ok(Move::Delivered)));
-    Ok(())
+    assert!(&rt; matches!(&delivered, Ok(Move::Delivered)));
 }
 
-#[test]
-fn decides_by_the_directory_first(rt: HostRuntime) -> Result<(), Fail> {
-    let scheme = Scheme::assemble(two(&rt, rt.alloc(), 7)?);
-    let through = |node, landmark| Address {
+/// The address of a node behind a landmark.
+fn through(node: u16, landmark: u16) -> Address {
+    Address {
         generation: 1,
         node,
         home: Some(Home {
             landmark,
             label: label(1, &[]),
         }),
-    };
-    let own = scheme.decide(1, &through(1, 0));
-    let Ok(sent) = own else {
-        panic!(rt; "no packet");
-    };
-    assert_eq!(rt; (sent.root, sent.label.first(), sent.hops_left), (1, 0, 1));
-    assert_eq!(rt; sent.generation, 9);
-    let Ok(away) = scheme.decide(0, &through(1, 0)) else {
-        panic!(rt; "no packet");
-    };
-    assert_eq!(rt; (away.root, away.label.first(), away.hops_left), (0, 1, 1));
-    for (u, address, refused) in [
-        (2u16, through(0, 0), Refused::NoNode),
-        (0, through(2, 0), Refused::NoNode),
-        (0, through(1, 1), Refused::Unreachable),
-        (
-            0,
-            Address {
-                generation: 1,
-                node: 1,
-                home: None,
-            },
-            Refused::Unreachable,
-        ),
-    ] {
-        match scheme.decide(u, &address) {
-            Err(got) => assert_eq!(rt; got, refused),
-            Ok(_) => panic!(rt; "a packet"),
-        }
-        match scheme.carry(rt.alloc(), u, &address) {
-            Err(got) => assert_eq!(rt; got as u8, refused as u8),
-            Ok(_) => panic!(rt; "a trail"),
-        }
     }
-    assert!(rt; scheme.address(2).is_err());
-    Ok(())
+}
+
+/// Root, first number, hops left and generation of the packet that a node decides on, if it does.
+fn decided(scheme: &Scheme, u: u16, address: &Address) -> Option<(u16, u16, u16, u64)> {
+    match scheme.decide(u, address) {
+        Ok(sent) => Some((
+            sent.root,
+            sent.label.first(),
+            sent.hops_left,
+            sent.generation,
+        )),
+        Err(_) => None,
+    }
+}
+
+/// Sees that an address is refused at a node, by deciding and by carrying.
+fn expect_refused(
+    rt: &impl Abort,
+    alloc: Global,
+    scheme: &Scheme,
+    u: u16,
+    address: &Address,
+    refused: Refused,
+) {
+    same(
+        rt,
+        scheme.decide(u, address).err(),
+        Some(refused),
+        "decided",
+    );
+    let carried = scheme.carry(alloc, u, address).err();
+    same(
+        rt,
+        carried.map(|why| why as u8),
+        Some(refused as u8),
+        "carried",
+    );
 }
 
 #[test]
-fn first_place_counts(rt: HostRuntime) -> Result<(), Fail> {
-    let entries = vec![in rt.alloc();
-        entry(&rt, (1, 5, None), (0, 0, 0, 0), (None, None)),
-        entry(&rt, (0, 7, Some(0)), (1, 1, 1, 0), (Some(0), None)),
-        entry(&rt, (0, 3, Some(0)), (2, 2, 2, 0), (Some(0), None)),
-        entry(&rt, (1, 6, None), (0, 0, 0, 0), (None, None)),
-    ]?;
-    let lists = vec![in rt.alloc(); Vec::new(rt.alloc()), entries]?;
-    let scheme = Scheme::assemble(two_with(rt.alloc(), lists)?);
-    assert_eq!(rt; scheme.find(1, 0), (Some(1), 2));
-    assert_eq!(rt; scheme.find(1, 1), (Some(0), 1));
-    assert_eq!(rt; scheme.find(1, 7), (None, 4));
-    assert_eq!(rt; scheme.entries(1), 4);
-    Ok(())
+fn decides_by_the_directory_first(rt: HostRuntime) {
+    let alloc = rt.alloc();
+    let scheme = Scheme::assemble(two(&rt, alloc, 7));
+    same(
+        &rt,
+        decided(&scheme, 1, &through(1, 0)),
+        Some((1, 0, 1, 9)),
+        "by the directory",
+    );
+    same(
+        &rt,
+        decided(&scheme, 0, &through(1, 0)),
+        Some((0, 1, 1, 9)),
+        "by the home",
+    );
+    let homeless = Address {
+        generation: 1,
+        node: 1,
+        home: None,
+    };
+    expect_refused(&rt, alloc, &scheme, 2, &through(0, 0), Refused::NoNode);
+    expect_refused(&rt, alloc, &scheme, 0, &through(2, 0), Refused::NoNode);
+    expect_refused(&rt, alloc, &scheme, 0, &through(1, 1), Refused::Unreachable);
+    expect_refused(&rt, alloc, &scheme, 0, &homeless, Refused::Unreachable);
+    assert!(&rt; scheme.address(2).is_err());
 }
 
 #[test]
-fn finds_by_halving(rt: HostRuntime) -> Result<(), Fail> {
+fn first_place_counts(rt: HostRuntime) {
+    let entries = got(
+        &rt,
+        vec![in rt.alloc();
+            entry(&rt, (1, 5, None), (0, 0, 0, 0), (None, None)),
+            entry(&rt, (0, 7, Some(0)), (1, 1, 1, 0), (Some(0), None)),
+            entry(&rt, (0, 3, Some(0)), (2, 2, 2, 0), (Some(0), None)),
+            entry(&rt, (1, 6, None), (0, 0, 0, 0), (None, None)),
+        ],
+    );
+    let lists = got(&rt, vec![in rt.alloc(); Vec::new(rt.alloc()), entries]);
+    let scheme = Scheme::assemble(two_with(&rt, rt.alloc(), lists));
+    same(&rt, scheme.find(1, 0), (Some(1), 2), "root 0");
+    same(&rt, scheme.find(1, 1), (Some(0), 1), "root 1");
+    same(&rt, scheme.find(1, 7), (None, 4), "root 7");
+    same(&rt, scheme.entries(1), 4, "entries");
+}
+
+#[test]
+fn finds_by_halving(rt: HostRuntime) {
     let mut many = Vec::new(rt.alloc());
     for root in 0..100u16 {
-        many.push(entry(&rt, (3 * root + 1, 0, None), (0, 0, 0, 0), (None, None)))?;
+        let alone = entry(&rt, (3 * root + 1, 0, None), (0, 0, 0, 0), (None, None));
+        got(&rt, many.push(alone));
     }
-    let scheme = Scheme::assemble(two_with(rt.alloc(), vec![in rt.alloc(); many]?)?);
+    let lists = got(&rt, vec![in rt.alloc(); many]);
+    let scheme = Scheme::assemble(two_with(&rt, rt.alloc(), lists));
     for root in 0..310u16 {
         let (place, probes) = scheme.find(0, root);
         let want = if root % 3 == 1 && root < 300 {
@@ -191,26 +219,22 @@ fn finds_by_halving(rt: HostRuntime) -> Result<(), Fail> {
         } else {
             None
         };
-        assert_eq!(rt; place, want, "root {root}");
-        assert!(rt; probes >= 1 && probes <= 7, "{probes} probes for {root}");
+        let few = probes >= 1 && probes <= 7;
+        same(&rt, (root, place, few), (root, want, true), "a root");
     }
-    Ok(())
 }
 
 #[test]
-fn a_length_stays_at_the_greatest(rt: HostRuntime) -> Result<(), Fail> {
-    let scheme = Scheme::assemble(two(&rt, rt.alloc(), u64::MAX)?);
-    let Ok(address) = scheme.address(1) else {
-        panic!(rt; "no address");
-    };
-    let Ok(trail) = scheme.carry(rt.alloc(), 0, &address) else {
-        panic!(rt; "no trail");
-    };
-    assert_eq!(rt; trail.length, u64::MAX);
-    let refused = Scheme::assemble(two(&rt, rt.alloc(), 7)?).carry(rt.alloc(), 5, &address);
-    match refused {
-        Err(why) => assert_eq!(rt; why, CarryRefused::NoNode),
-        Ok(_) => panic!(rt; "a trail"),
-    }
-    Ok(())
+fn a_length_stays_at_the_greatest(rt: HostRuntime) {
+    let scheme = Scheme::assemble(two(&rt, rt.alloc(), u64::MAX));
+    let address = got(&rt, scheme.address(1));
+    let trail = got(&rt, scheme.carry(rt.alloc(), 0, &address));
+    same(&rt, trail.length, u64::MAX, "the length");
+    let refused = Scheme::assemble(two(&rt, rt.alloc(), 7)).carry(rt.alloc(), 5, &address);
+    same(
+        &rt,
+        refused.err(),
+        Some(CarryRefused::NoNode),
+        "from no node",
+    );
 }

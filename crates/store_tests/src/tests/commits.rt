@@ -2,13 +2,12 @@
 use super::*;
 
 #[test]
-fn commits_one_edge(rt: HostRuntime) -> Result<(), Fail> {
-    let mut disk = with_edge(rt.alloc())?;
+fn commits_one_edge(rt: HostRuntime) {
+    let mut disk = with_edge(&rt, rt.alloc());
     let record = "01 00000015 0001 00 0000000000000001 01 01 0000 0001 00000001 00";
-    shows(&rt, &mut disk, FIRST_AREA, record)?;
-    let store = opened(rt.alloc(), disk)?;
+    shows(&rt, &mut disk, FIRST_AREA, record);
+    let store = opened(&rt, rt.alloc(), disk);
     same(&rt, shown(&store, 0, 1), (1, 1, Some(1)), "one edge");
-    Ok(())
 }
 
 // One request of session 0, and one of session 1.
@@ -20,23 +19,22 @@ const TWO_SESSIONS: [Asked; 4] = [
 ];
 
 #[test]
-fn commits_two_sessions(rt: HostRuntime) -> Result<(), Fail> {
-    let mut store = opened(rt.alloc(), formatted(rt.alloc(), 5)?)?;
-    commits(rt.alloc(), &mut store, &TWO_SESSIONS)?;
+fn commits_two_sessions(rt: HostRuntime) {
+    let mut store = opened(&rt, rt.alloc(), formatted(&rt, rt.alloc(), 5));
+    commits(&rt, rt.alloc(), &mut store, &TWO_SESSIONS);
     same(&rt, shown(&store, 2, 3), (2, 1, Some(5)), "two sessions");
     let mut disk = store.into_disk();
     let first =
         "01 0000003a 0002 00 0000000000000001 01 01 0000 0001 00000007 01 0000000000000001 03";
-    shows(&rt, &mut disk, FIRST_AREA, first)?;
+    shows(&rt, &mut disk, FIRST_AREA, first);
     let ops = "02 0001 0000 00000009 03 0000 0001 00000000 01 0003 0002 00000005 00";
-    shows(&rt, &mut disk, 532_516, ops)?;
+    shows(&rt, &mut disk, 532_516, ops);
     same(
         &rt,
-        shown(&opened(rt.alloc(), disk)?, 2, 3),
+        shown(&opened(&rt, rt.alloc(), disk), 2, 3),
         (2, 1, Some(5)),
         "two sessions",
     );
-    Ok(())
 }
 
 // Three requests: four ops.
@@ -48,24 +46,23 @@ const THREE: [Asked; 4] = [
 ];
 
 #[test]
-fn counts_each_request_of_a_group(rt: HostRuntime) -> Result<(), Fail> {
-    let mut store = opened(rt.alloc(), formatted(rt.alloc(), 5)?)?;
-    commits(rt.alloc(), &mut store, &THREE)?;
+fn counts_each_request_of_a_group(rt: HostRuntime) {
+    let mut store = opened(&rt, rt.alloc(), formatted(&rt, rt.alloc(), 5));
+    commits(&rt, rt.alloc(), &mut store, &THREE);
     same(&rt, shown(&store, 1, 2), (3, 1, Some(7)), "three");
-    let store = opened(rt.alloc(), store.into_disk())?;
+    let store = opened(&rt, rt.alloc(), store.into_disk());
     same(&rt, shown(&store, 1, 2), (3, 1, Some(7)), "three");
-    Ok(())
 }
 
 #[test]
-fn opens_after_each_gate_byte(rt: HostRuntime) -> Result<(), Fail> {
+fn opens_after_each_gate_byte(rt: HostRuntime) {
     for byte in 0..256u64 {
-        let mut store = opened(rt.alloc(), with_edge(rt.alloc())?)?;
+        let mut store = opened(&rt, rt.alloc(), with_edge(&rt, rt.alloc()));
         // the third call of a commit is the gate's write
         store.arm(Plan::Stop(3, 0));
-        let answer = answer_to(rt.alloc(), &mut store, &[(0, 2, Op::Add(1, 2, 1))])?;
+        let answer = answer_to(&rt, rt.alloc(), &mut store, &[(0, 2, Op::Add(1, 2, 1))]);
         same(&rt, answer, Err(CommitRefused::Device), "the gate");
-        let store = opened(rt.alloc(), store.into_disk().crash(256 + byte))?;
+        let store = opened(&rt, rt.alloc(), store.into_disk().crash(256 + byte));
         same(
             &rt,
             store.count(),
@@ -73,16 +70,15 @@ fn opens_after_each_gate_byte(rt: HostRuntime) -> Result<(), Fail> {
             "a gate's byte",
         );
     }
-    Ok(())
 }
 
 // ---- a worn store
 
 // A device for five nodes whose checkpoint has this count.
-fn counted(alloc: Global, count: u64) -> Result<MemDisk, Fail> {
-    let mut disk = formatted(alloc, 5)?;
-    put(&mut disk, 4105, &count.to_be_bytes())?;
-    Ok(disk)
+fn counted(rt: &impl Abort, alloc: Global, count: u64) -> MemDisk {
+    let mut disk = formatted(rt, alloc, 5);
+    put(rt, &mut disk, 4105, &count.to_be_bytes());
+    disk
 }
 
 const ONE: [Asked; 1] = [(0, 1, Op::Add(0, 1, 1))];
@@ -90,35 +86,37 @@ const ONE: [Asked; 1] = [(0, 1, Op::Add(0, 1, 1))];
 const TWO: [Asked; 2] = [(0, 1, Op::Add(0, 1, 1)), (0, 2, Op::Add(1, 2, 1))];
 
 #[test]
-fn wears_out_at_the_limit(rt: HostRuntime) -> Result<(), Fail> {
-    let mut disk = counted(rt.alloc(), 0x7fff_ffff_ffff_ffff)?;
-    let before = digest(&mut disk)?;
-    let mut store = opened(rt.alloc(), disk)?;
+fn wears_out_at_the_limit(rt: HostRuntime) {
+    let mut disk = counted(&rt, rt.alloc(), 0x7fff_ffff_ffff_ffff);
+    let before = digest(&rt, &mut disk);
+    let mut store = opened(&rt, rt.alloc(), disk);
     same(&rt, store.count(), WORN_LIMIT, "the limit");
-    let answer = answer_to(rt.alloc(), &mut store, &ONE)?;
+    let answer = answer_to(&rt, rt.alloc(), &mut store, &ONE);
     same(&rt, answer, Err(CommitRefused::Worn), "one");
     same(&rt, (store.is_down(), store.resume(0)), (false, 0), "one");
-    same(&rt, digest(&mut store.into_disk())?, before, "one");
-    Ok(())
+    same(&rt, digest(&rt, &mut store.into_disk()), before, "one");
 }
 
 #[test]
-fn takes_the_last_count(rt: HostRuntime) -> Result<(), Fail> {
+fn takes_the_last_count(rt: HostRuntime) {
     // one below the limit there is room for one request, and not for two
-    let mut store = opened(rt.alloc(), counted(rt.alloc(), 0x7fff_ffff_ffff_fffe)?)?;
-    let answer = answer_to(rt.alloc(), &mut store, &TWO)?;
+    let mut store = opened(
+        &rt,
+        rt.alloc(),
+        counted(&rt, rt.alloc(), 0x7fff_ffff_ffff_fffe),
+    );
+    let answer = answer_to(&rt, rt.alloc(), &mut store, &TWO);
     same(&rt, answer, Err(CommitRefused::Worn), "two");
-    commits(rt.alloc(), &mut store, &ONE)?;
+    commits(&rt, rt.alloc(), &mut store, &ONE);
     same(&rt, store.count(), WORN_LIMIT, "one");
     // a record past the limit is damage
-    let disk = spoilt(store.into_disk(), 4112, 0xff)?;
+    let disk = spoilt(&rt, store.into_disk(), 4112, 0xff);
     same(
         &rt,
         refusal(rt.alloc(), disk),
         Some(OpenRefused::Damaged),
         "past the limit",
     );
-    Ok(())
 }
 
 // ---- failures
@@ -136,9 +134,9 @@ fn planned(
     alloc: Global,
     store: &mut Store<MemDisk>,
     plan: Plan,
-) -> Result<Result<(), CommitRefused>, Fail> {
+) -> Result<(), CommitRefused> {
     store.arm(plan);
-    let answer = answer_to(alloc, store, &GROUP)?;
+    let answer = answer_to(rt, alloc, store, &GROUP);
     same(rt, store.is_down(), answer.is_err(), "down");
     if answer.is_err() {
         same(
@@ -147,10 +145,10 @@ fn planned(
             ((1, 1, Some(1)), 0),
             "as it was",
         );
-        let again = answer_to(alloc, store, &GROUP)?;
+        let again = answer_to(rt, alloc, store, &GROUP);
         same(rt, again, Err(CommitRefused::Down), "again");
     }
-    Ok(answer)
+    answer
 }
 
 // The same, and the count after a crash and an opening, which show the old state or the new one whole.
@@ -159,10 +157,10 @@ fn interrupted(
     alloc: Global,
     plan: Plan,
     word: u64,
-) -> Result<(Result<(), CommitRefused>, u64), Fail> {
-    let mut store = opened(alloc, with_edge(alloc)?)?;
-    let answer = planned(rt, alloc, &mut store, plan)?;
-    let store = opened(alloc, store.into_disk().crash(word))?;
+) -> (Result<(), CommitRefused>, u64) {
+    let mut store = opened(rt, alloc, with_edge(rt, alloc));
+    let answer = planned(rt, alloc, &mut store, plan);
+    let store = opened(rt, alloc, store.into_disk().crash(word));
     let found = (shown(&store, 0, 1), store.resume(0), store.resume(5));
     let want = if store.count() == 1 {
         ((1, 1, Some(1)), 1, 0)
@@ -170,11 +168,11 @@ fn interrupted(
         ((3, 3, Some(9)), 2, 1)
     };
     same(rt, found, want, "after a crash");
-    Ok((answer, store.count()))
+    (answer, store.count())
 }
 
 #[test]
-fn each_call_of_a_commit_fails(rt: HostRuntime) -> Result<(), Fail> {
+fn each_call_of_a_commit_fails(rt: HostRuntime) {
     // for each call of a commit, the count after a crash by each of the words; and no fifth call is made
     for (call, counts) in [
         (1, [1, 1, 1, 1, 1]),
@@ -189,20 +187,19 @@ fn each_call_of_a_commit_fails(rt: HostRuntime) -> Result<(), Fail> {
             Ok(())
         };
         for (word, count) in WORDS.iter().zip(counts.iter()) {
-            let found = interrupted(&rt, rt.alloc(), Plan::Fail(call), *word)?;
+            let found = interrupted(&rt, rt.alloc(), Plan::Fail(call), *word);
             same(&rt, found, (want, *count), "a call fails");
         }
     }
-    Ok(())
 }
 
 #[test]
-fn a_commit_stops_inside_each_write(rt: HostRuntime) -> Result<(), Fail> {
+fn a_commit_stops_inside_each_write(rt: HostRuntime) {
     for word in WORDS {
         // length, payload and the next gate; and the gate's one byte
         for (call, size) in [(1, 54), (3, 1)] {
             for put in 0..size + 1 {
-                let (answer, count) = interrupted(&rt, rt.alloc(), Plan::Stop(call, put), word)?;
+                let (answer, count) = interrupted(&rt, rt.alloc(), Plan::Stop(call, put), word);
                 same(&rt, answer, Err(CommitRefused::Device), "stopped");
                 same(
                     &rt,
@@ -213,5 +210,4 @@ fn a_commit_stops_inside_each_write(rt: HostRuntime) -> Result<(), Fail> {
             }
         }
     }
-    Ok(())
 }

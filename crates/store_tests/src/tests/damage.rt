@@ -99,7 +99,7 @@ const HEADS: [(&str, u16, Slot, Slot, Option<(u64, u16)>); 23] = [
 ];
 
 // Puts a slot of no edges.
-fn put_slot(disk: &mut MemDisk, at: usize, slot: Slot) -> Result<(), Fail> {
+fn put_slot(rt: &impl Abort, disk: &mut MemDisk, at: usize, slot: Slot) {
     let (gate, epoch, count, nodes) = slot;
     let head = Head {
         gate,
@@ -108,28 +108,27 @@ fn put_slot(disk: &mut MemDisk, at: usize, slot: Slot) -> Result<(), Fail> {
         nodes,
         edges: 0,
     };
-    put_head(disk, at, head)
+    put_head(rt, disk, at, head)
 }
 
 #[test]
-fn tells_damaged_heads(rt: HostRuntime) -> Result<(), Fail> {
-    for (name, nodes, first, second, want) in HEADS {
-        let mut disk = formatted(rt.alloc(), 5)?;
-        put(&mut disk, NODES, &nodes.to_be_bytes())?;
-        put_slot(&mut disk, FIRST_SLOT, first)?;
-        put_slot(&mut disk, SECOND_SLOT, second)?;
+fn tells_damaged_heads(rt: HostRuntime) {
+    for (name, nodes, first, second, want) in &HEADS {
+        let mut disk = formatted(&rt, rt.alloc(), 5);
+        put(&rt, &mut disk, NODES, &nodes.to_be_bytes());
+        put_slot(&rt, &mut disk, FIRST_SLOT, *first);
+        put_slot(&rt, &mut disk, SECOND_SLOT, *second);
         let found = match store_of(&rt, rt.alloc(), disk, name) {
             Some(store) => Some((store.count(), store.nodes())),
             None => None,
         };
-        same(&rt, found, want, name);
+        same(&rt, found, *want, name);
     }
-    Ok(())
 }
 
 // A device whose checkpoint has the count 3 and so many edges, which are not put yet.
-fn with_edges(alloc: Global, nodes: u16, edges: u32) -> Result<MemDisk, Fail> {
-    let mut disk = formatted(alloc, nodes)?;
+fn with_edges(rt: &impl Abort, alloc: Global, nodes: u16, edges: u32) -> MemDisk {
+    let mut disk = formatted(rt, alloc, nodes);
     let head = Head {
         gate: 1,
         epoch: 1,
@@ -137,12 +136,12 @@ fn with_edges(alloc: Global, nodes: u16, edges: u32) -> Result<MemDisk, Fail> {
         nodes,
         edges,
     };
-    put_head(&mut disk, FIRST_SLOT, head)?;
-    Ok(disk)
+    put_head(rt, &mut disk, FIRST_SLOT, head);
+    disk
 }
 
 // Two edges of a checkpoint for five nodes, and whether they may stand there.
-const EDGES: [(&str, (u16, u16, u32), (u16, u16, u32), bool); 16] = [
+const EDGES: [(&str, Edge, Edge, bool); 16] = [
     ("nodes not in order", (0, 1, 7), (2, 1, 1), false),
     ("nodes in order", (0, 1, 7), (1, 2, 1), true),
     ("one node twice", (0, 1, 7), (2, 2, 1), false),
@@ -166,56 +165,61 @@ const EDGES: [(&str, (u16, u16, u32), (u16, u16, u32), bool); 16] = [
     ("the first not in order", (1, 0, 7), (1, 2, 1), false),
 ];
 
-#[test]
-fn tells_damaged_edges(rt: HostRuntime) -> Result<(), Fail> {
-    for (name, first, second, is_sound) in EDGES {
-        let mut disk = with_edges(rt.alloc(), 5, 2)?;
-        put_edge(&mut disk, FIRST_EDGES, first)?;
-        put_edge(&mut disk, 4639, second)?;
-        match store_of(&rt, rt.alloc(), disk, name) {
-            None => same(&rt, is_sound, false, name),
-            Some(store) => {
-                same(&rt, is_sound, true, name);
-                let found = (
-                    shown(&store, first.0, first.1),
-                    shown(&store, second.0, second.1),
-                );
-                same(
-                    &rt,
-                    found,
-                    ((3, 2, Some(first.2)), (3, 2, Some(second.2))),
-                    name,
-                );
-            }
-        }
+// What the store of a device shows of two edges, if it can be opened.
+fn shown_of_both(
+    rt: &impl Abort,
+    alloc: Global,
+    disk: MemDisk,
+    edges: (Edge, Edge),
+    name: &str,
+) -> Option<(Shown, Shown)> {
+    let ((a, b, _), (c, d, _)) = edges;
+    match store_of(rt, alloc, disk, name) {
+        Some(store) => Some((shown(&store, a, b), shown(&store, c, d))),
+        None => None,
     }
-    Ok(())
 }
 
 #[test]
-fn tells_an_edge_too_many(rt: HostRuntime) -> Result<(), Fail> {
+fn tells_damaged_edges(rt: HostRuntime) {
+    for (name, first, second, is_sound) in &EDGES {
+        let mut disk = with_edges(&rt, rt.alloc(), 5, 2);
+        put_edge(&rt, &mut disk, FIRST_EDGES, *first);
+        put_edge(&rt, &mut disk, 4639, *second);
+        let found = shown_of_both(&rt, rt.alloc(), disk, (*first, *second), name);
+        let both = ((3, 2, Some(first.2)), (3, 2, Some(second.2)));
+        let want = if *is_sound { Some(both) } else { None };
+        same(&rt, found, want, name);
+    }
+}
+
+// A device with an edge from each of the nodes 0 to 4,095 to the 16 nodes behind 16,367, and one edge more behind them.
+fn crowded_device(rt: &impl Abort, alloc: Global, edges: u32) -> MemDisk {
+    let mut disk = with_edges(rt, alloc, 16_384, edges);
+    for i in 0..65_536usize {
+        let edge = ((i / 16) as u16, 16_368 + (i % 16) as u16, 1);
+        put_edge(rt, &mut disk, FIRST_EDGES + 8 * i, edge);
+    }
+    put_edge(rt, &mut disk, 528_919, (4096, 16_368, 1));
+    disk
+}
+
+#[test]
+fn tells_an_edge_too_many(rt: HostRuntime) {
     for (edges, want) in [(65_536, Some((3, 65_536, None))), (65_537, None)] {
-        let mut disk = with_edges(rt.alloc(), 16_384, edges)?;
-        // from each of the nodes 0 to 4,095 to the 16 nodes behind 16,367, and one edge more
-        for i in 0..65_536usize {
-            let edge = ((i / 16) as u16, 16_368 + (i % 16) as u16, 1);
-            put_edge(&mut disk, FIRST_EDGES + 8 * i, edge)?;
-        }
-        put_edge(&mut disk, 528_919, (4096, 16_368, 1))?;
+        let disk = crowded_device(&rt, rt.alloc(), edges);
         assert_opens(&rt, rt.alloc(), disk, want, "edges");
     }
-    Ok(())
 }
 
 #[test]
-fn tells_a_device_of_another_length(rt: HostRuntime) -> Result<(), Fail> {
+fn tells_a_device_of_another_length(rt: HostRuntime) {
     for (len, want) in [(3_158_016, Some((0, 0, None))), (3_158_017, None)] {
-        let mut disk = MemDisk::new(rt.alloc(), len)?;
-        put_text(&mut disk, 0, "545a4e4f4445 3032 0005")?;
-        put_slot(&mut disk, FIRST_SLOT, (1, 1, 0, 5))?;
+        let mut disk = blank(&rt, rt.alloc(), len);
+        put_text(&rt, &mut disk, 0, "545a4e4f4445 3032 0005");
+        put_slot(&rt, &mut disk, FIRST_SLOT, (1, 1, 0, 5));
         assert_opens(&rt, rt.alloc(), disk, want, "length");
     }
-    Ok(())
 }
 
 // A byte of the device with one edge, and what is opened where it is another.
@@ -257,19 +261,23 @@ const BYTES: [(&str, usize, u8, Option<Shown>); 24] = [
 ];
 
 #[test]
-fn tells_damage_by_one_byte(rt: HostRuntime) -> Result<(), Fail> {
-    for (name, at, byte, want) in BYTES {
-        let disk = spoilt(with_edge(rt.alloc())?, at, byte)?;
-        assert_opens(&rt, rt.alloc(), disk, want, name);
+fn tells_damage_by_one_byte(rt: HostRuntime) {
+    for (name, at, byte, want) in &BYTES {
+        let disk = spoilt(&rt, with_edge(&rt, rt.alloc()), *at, *byte);
+        assert_opens(&rt, rt.alloc(), disk, *want, name);
     }
-    let disk = spoilt(with_edge(rt.alloc())?, 532_501, 4)?;
+    let disk = spoilt(&rt, with_edge(&rt, rt.alloc()), 532_501, 4);
     same(
         &rt,
-        shown(&opened(rt.alloc(), disk)?, 0, 4),
+        shown(&opened(&rt, rt.alloc(), disk), 0, 4),
         (1, 1, Some(1)),
         "an edge to node 4",
     );
-    let equal = spoilt(spoilt(with_edge(rt.alloc())?, 1_581_056, 1)?, 1_581_064, 1)?;
+    let equal = spoilt(
+        &rt,
+        spoilt(&rt, with_edge(&rt, rt.alloc()), 1_581_056, 1),
+        1_581_064,
+        1,
+    );
     assert_opens(&rt, rt.alloc(), equal, None, "equal epochs");
-    Ok(())
 }

@@ -13,23 +13,23 @@ const FRONTS: [(usize, &str); 4] = [
 ];
 
 // A device of bytes a5.
-fn unclean(alloc: Global) -> Result<MemDisk, Fail> {
-    let mut disk = MemDisk::new(alloc, DEVICE_LEN)?;
+fn unclean(rt: &impl Abort, alloc: Global) -> MemDisk {
+    let mut disk = blank(rt, alloc, DEVICE_LEN);
     for at in (0..DEVICE_LEN).step_by(4096) {
-        put(&mut disk, at, &[0xa5; 4096])?;
+        put(rt, &mut disk, at, &[0xa5; 4096]);
     }
-    Ok(disk)
+    disk
 }
 
 #[test]
-fn formats_one_node(rt: HostRuntime) -> Result<(), Fail> {
-    let mut disk = unclean(rt.alloc())?;
+fn formats_one_node(rt: HostRuntime) {
+    let mut disk = unclean(&rt, rt.alloc());
     same(&rt, format(&mut disk, 1), Ok(()), "one node");
-    for (at, text) in FRONTS {
-        shows(&rt, &mut disk, at, text)?;
+    for (at, text) in &FRONTS {
+        shows(&rt, &mut disk, *at, text);
     }
-    shows_zeros(&rt, &mut disk, 4119, 64)?;
-    let store = opened(rt.alloc(), disk)?;
+    shows_zeros(&rt, &mut disk, 4119, 64);
+    let store = opened(&rt, rt.alloc(), disk);
     same(&rt, shown(&store, 0, 0), (0, 0, None), "one node");
     same(
         &rt,
@@ -38,13 +38,12 @@ fn formats_one_node(rt: HostRuntime) -> Result<(), Fail> {
         "one node",
     );
     same(&rt, store.starts(), [0; 64], "one node");
-    Ok(())
 }
 
 #[test]
-fn leaves_other_bytes(rt: HostRuntime) -> Result<(), Fail> {
-    let mut disk = unclean(rt.alloc())?;
-    let before = digest(&mut disk)?;
+fn leaves_other_bytes(rt: HostRuntime) {
+    let mut disk = unclean(&rt, rt.alloc());
+    let before = digest(&rt, &mut disk);
     same(&rt, format(&mut disk, 1), Ok(()), "one node");
     for (from, to) in [
         (0usize, 10usize),
@@ -53,15 +52,14 @@ fn leaves_other_bytes(rt: HostRuntime) -> Result<(), Fail> {
         (1_581_056, 1_581_057),
     ] {
         for at in from..to {
-            put(&mut disk, at, &[0xa5])?;
+            put(&rt, &mut disk, at, &[0xa5]);
         }
     }
-    same(&rt, digest(&mut disk)?, before, "each other byte");
-    Ok(())
+    same(&rt, digest(&rt, &mut disk), before, "each other byte");
 }
 
 #[test]
-fn formats_within_the_limits(rt: HostRuntime) -> Result<(), Fail> {
+fn formats_within_the_limits(rt: HostRuntime) {
     for (len, nodes, want) in [
         (DEVICE_LEN, 0, Err(FormatRefused::BadSize)),
         (DEVICE_LEN, 16_385, Err(FormatRefused::BadSize)),
@@ -70,22 +68,21 @@ fn formats_within_the_limits(rt: HostRuntime) -> Result<(), Fail> {
         (DEVICE_LEN + 1, 5, Err(FormatRefused::BadLength)),
         (DEVICE_LEN, 16_384, Ok(())),
     ] {
-        let mut disk = MemDisk::new(rt.alloc(), len)?;
+        let mut disk = blank(&rt, rt.alloc(), len);
         same(&rt, format(&mut disk, nodes), want, "limits");
         if want.is_ok() {
-            same(&rt, opened(rt.alloc(), disk)?.nodes(), nodes, "limits");
+            same(&rt, opened(&rt, rt.alloc(), disk).nodes(), nodes, "limits");
         } else {
-            shows(&rt, &mut disk, 0, "00000000000000000000")?;
+            shows(&rt, &mut disk, 0, "00000000000000000000");
         }
     }
-    Ok(())
 }
 
 #[test]
-fn each_call_of_a_format_fails(rt: HostRuntime) -> Result<(), Fail> {
+fn each_call_of_a_format_fails(rt: HostRuntime) {
     // no call is left out, and none is made besides
-    for call in 1..7 {
-        let mut disk = MemDisk::new(rt.alloc(), DEVICE_LEN)?;
+    for call in 1..7u64 {
+        let mut disk = blank(&rt, rt.alloc(), DEVICE_LEN);
         disk.fail_at(call);
         if call < 6 {
             same(
@@ -97,25 +94,23 @@ fn each_call_of_a_format_fails(rt: HostRuntime) -> Result<(), Fail> {
         }
         same(&rt, format(&mut disk, 5), Ok(()), "no plan is left");
     }
-    Ok(())
 }
 
 // Formats a device that is left by a crash, and sees a fresh store of seven nodes, which takes a change.
-fn formats_again(rt: &impl Abort, alloc: Global, disk: MemDisk, name: &str) -> Result<(), Fail> {
+fn formats_again(rt: &impl Abort, alloc: Global, disk: MemDisk, name: &str) {
     let mut disk = disk;
     same(rt, format(&mut disk, 7), Ok(()), name);
-    let mut store = opened(alloc, disk)?;
+    let mut store = opened(rt, alloc, disk);
     same(rt, shown(&store, 0, 1), (0, 0, None), name);
     same(rt, (store.nodes(), store.resume(0)), (7, 0), name);
-    commits(alloc, &mut store, &[(0, 1, Op::Add(5, 6, 3))])?;
-    let store = opened(alloc, store.into_disk())?;
+    commits(rt, alloc, &mut store, &[(0, 1, Op::Add(5, 6, 3))]);
+    let store = opened(rt, alloc, store.into_disk());
     same(rt, shown(&store, 5, 6), (1, 1, Some(3)), name);
-    Ok(())
 }
 
 // Stops a format inside a call behind so many bytes, and formats again after a crash by the word.
-fn stops(rt: &impl Abort, alloc: Global, call: u64, put: usize, word: u64) -> Result<(), Fail> {
-    let mut disk = MemDisk::new(alloc, DEVICE_LEN)?;
+fn stops(rt: &impl Abort, alloc: Global, call: u64, put: usize, word: u64) {
+    let mut disk = blank(rt, alloc, DEVICE_LEN);
     disk.stop_at(call, put);
     same(
         rt,
@@ -127,55 +122,53 @@ fn stops(rt: &impl Abort, alloc: Global, call: u64, put: usize, word: u64) -> Re
 }
 
 #[test]
-fn a_format_stops_inside_each_write(rt: HostRuntime) -> Result<(), Fail> {
+fn a_format_stops_inside_each_write(rt: HostRuntime) {
     for word in WORDS {
         // the header, the head of the first checkpoint, the two gates, and the sync
         for (call, most) in [(1, 10), (2, 23), (3, 1), (4, 1), (5, 0)] {
             for put in 0..most + 1 {
-                stops(&rt, rt.alloc(), call, put, word)?;
+                stops(&rt, rt.alloc(), call, put, word);
             }
         }
         // its tickets
         for put in [24, 30, 31, 279, 527, 534, 535] {
-            stops(&rt, rt.alloc(), 2, put, word)?;
+            stops(&rt, rt.alloc(), 2, put, word);
         }
     }
-    Ok(())
 }
 
 // A device that has rolled, with two records of one size behind each of its checkpoints.
-fn rolled_device(rt: &impl Abort, alloc: Global) -> Result<MemDisk, Fail> {
-    let mut store = opened(alloc, formatted(alloc, 5)?)?;
-    commits(alloc, &mut store, &[(0, 1, Op::Add(0, 1, 1))])?;
-    commits(alloc, &mut store, &[(0, 2, Op::Set(0, 1, 2))])?;
-    rolls(alloc, &mut store)?;
-    commits(alloc, &mut store, &[(0, 3, Op::Set(0, 1, 3))])?;
-    commits(alloc, &mut store, &[(0, 4, Op::Set(0, 1, 4))])?;
+fn rolled_device(rt: &impl Abort, alloc: Global) -> MemDisk {
+    let mut store = opened(rt, alloc, formatted(rt, alloc, 5));
+    commits(rt, alloc, &mut store, &[(0, 1, Op::Add(0, 1, 1))]);
+    commits(rt, alloc, &mut store, &[(0, 2, Op::Set(0, 1, 2))]);
+    rolls(rt, alloc, &mut store);
+    commits(rt, alloc, &mut store, &[(0, 3, Op::Set(0, 1, 3))]);
+    commits(rt, alloc, &mut store, &[(0, 4, Op::Set(0, 1, 4))]);
     same(rt, shown(&store, 0, 1), (4, 1, Some(4)), "rolled");
-    Ok(store.into_disk())
+    store.into_disk()
 }
 
 #[test]
-fn formats_over_an_older_store(rt: HostRuntime) -> Result<(), Fail> {
-    let disk = rolled_device(&rt, rt.alloc())?;
+fn formats_over_an_older_store(rt: HostRuntime) {
+    let disk = rolled_device(&rt, rt.alloc());
     formats_again(&rt, rt.alloc(), disk, "over a store")
 }
 
 #[test]
-fn rolls_over_an_older_store(rt: HostRuntime) -> Result<(), Fail> {
+fn rolls_over_an_older_store(rt: HostRuntime) {
     // a roll of the new store finds the other slot closed, and what stands there counts for nothing
-    let mut disk = rolled_device(&rt, rt.alloc())?;
+    let mut disk = rolled_device(&rt, rt.alloc());
     same(&rt, format(&mut disk, 5), Ok(()), "over a store");
-    let mut store = opened(rt.alloc(), disk)?;
-    rolls(rt.alloc(), &mut store)?;
+    let mut store = opened(&rt, rt.alloc(), disk);
+    rolls(&rt, rt.alloc(), &mut store);
     let mut disk = store.into_disk();
     let head = "01 0000000000000002 0000000000000000 0005 00000000 0000000000000000";
-    shows(&rt, &mut disk, SECOND_SLOT, head)?;
+    shows(&rt, &mut disk, SECOND_SLOT, head);
     same(
         &rt,
-        shown(&opened(rt.alloc(), disk)?, 0, 1),
+        shown(&opened(&rt, rt.alloc(), disk), 0, 1),
         (0, 0, None),
         "rolled",
     );
-    Ok(())
 }

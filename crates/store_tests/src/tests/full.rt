@@ -2,30 +2,30 @@
 use super::*;
 
 // A device of five nodes after 106 groups of 64 requests of 16 ops, the first op of which adds an edge.
-fn full_device(rt: &impl Abort, alloc: Global) -> Result<Store<MemDisk>, Fail> {
-    let mut store = opened(alloc, formatted(alloc, 5)?)?;
+fn full_device(rt: &impl Abort, alloc: Global) -> Store<MemDisk> {
+    let mut store = opened(rt, alloc, formatted(rt, alloc, 5));
     let mut ops = [Op::Set(0, 1, 1); 16];
     ops[0] = Op::Add(0, 1, 1);
     let mut group = Vec::new(alloc);
-    group.push(request(0, 1, &ops)?)?;
-    add_requests(&mut group, 2, 63, 16)?;
+    got(rt, group.push(request(rt, 0, 1, &ops)));
+    add_requests(rt, &mut group, 2, 63, 16);
     same(
         rt,
-        commit(alloc, &mut store, &group)?,
+        commit(rt, alloc, &mut store, &group),
         Ok(()),
         "the first group",
     );
     for i in 1..106u64 {
         group.clear();
-        add_requests(&mut group, 1 + 64 * i, 64, 16)?;
-        same(rt, commit(alloc, &mut store, &group)?, Ok(()), "a group");
+        add_requests(rt, &mut group, 1 + 64 * i, 64, 16);
+        same(rt, commit(rt, alloc, &mut store, &group), Ok(()), "a group");
     }
-    Ok(store)
+    store
 }
 
 #[test]
-fn fills_a_journal(rt: HostRuntime) -> Result<(), Fail> {
-    let store = full_device(&rt, rt.alloc())?;
+fn fills_a_journal(rt: HostRuntime) {
+    let store = full_device(&rt, rt.alloc());
     same(
         &rt,
         (shown(&store, 0, 1), store.resume(0)),
@@ -39,26 +39,26 @@ fn fills_a_journal(rt: HostRuntime) -> Result<(), Fail> {
         &mut disk,
         1_568_095,
         "01 00002682 0040 00 0000000000001a41 10",
-    )?;
+    );
     shows(&rt, &mut disk, 1_577_958, "00")
 }
 
 // 22 requests with 319 ops, 3,098 bytes.
-fn group_past_the_end(alloc: Global) -> Result<Vec<Request>, Fail> {
+fn group_past_the_end(rt: &impl Abort, alloc: Global) -> Vec<Request> {
     let mut group = Vec::new(alloc);
-    add_requests(&mut group, 6785, 19, 16)?;
-    add_requests(&mut group, 6804, 1, 13)?;
-    add_requests(&mut group, 6805, 2, 1)?;
-    Ok(group)
+    add_requests(rt, &mut group, 6785, 19, 16);
+    add_requests(rt, &mut group, 6804, 1, 13);
+    add_requests(rt, &mut group, 6805, 2, 1);
+    group
 }
 
 #[test]
-fn a_full_journal_needs_a_roll(rt: HostRuntime) -> Result<(), Fail> {
-    let mut disk = full_device(&rt, rt.alloc())?.into_disk();
-    let before = digest(&mut disk)?;
-    let mut store = opened(rt.alloc(), disk)?;
-    let group = group_past_the_end(rt.alloc())?;
-    let answer = commit(rt.alloc(), &mut store, &group)?;
+fn a_full_journal_needs_a_roll(rt: HostRuntime) {
+    let mut disk = full_device(&rt, rt.alloc()).into_disk();
+    let before = digest(&rt, &mut disk);
+    let mut store = opened(&rt, rt.alloc(), disk);
+    let group = group_past_the_end(&rt, rt.alloc());
+    let answer = commit(&rt, rt.alloc(), &mut store, &group);
     same(&rt, answer, Err(CommitRefused::NeedsRoll), "past the end");
     let found = (shown(&store, 0, 1), store.resume(0), store.is_down());
     same(
@@ -67,18 +67,22 @@ fn a_full_journal_needs_a_roll(rt: HostRuntime) -> Result<(), Fail> {
         ((6784, 1, Some(1)), 6784, false),
         "past the end",
     );
-    same(&rt, digest(&mut store.into_disk())?, before, "past the end");
-    Ok(())
+    same(
+        &rt,
+        digest(&rt, &mut store.into_disk()),
+        before,
+        "past the end",
+    );
 }
 
 #[test]
-fn a_rolled_journal_takes_the_group(rt: HostRuntime) -> Result<(), Fail> {
-    let mut store = full_device(&rt, rt.alloc())?;
-    rolls(rt.alloc(), &mut store)?;
-    let group = group_past_the_end(rt.alloc())?;
+fn a_rolled_journal_takes_the_group(rt: HostRuntime) {
+    let mut store = full_device(&rt, rt.alloc());
+    rolls(&rt, rt.alloc(), &mut store);
+    let group = group_past_the_end(&rt, rt.alloc());
     same(
         &rt,
-        commit(rt.alloc(), &mut store, &group)?,
+        commit(&rt, rt.alloc(), &mut store, &group),
         Ok(()),
         "rolled",
     );
@@ -89,80 +93,82 @@ fn a_rolled_journal_takes_the_group(rt: HostRuntime) -> Result<(), Fail> {
         "rolled",
     );
     let mut disk = store.into_disk();
-    shows(&rt, &mut disk, SECOND_AREA, "01 00000c15 0016")?;
-    let store = opened(rt.alloc(), disk)?;
+    shows(&rt, &mut disk, SECOND_AREA, "01 00000c15 0016");
+    let store = opened(&rt, rt.alloc(), disk);
     same(
         &rt,
         (shown(&store, 0, 1), store.resume(0)),
         ((6806, 1, Some(1)), 6806),
         "opened",
     );
-    Ok(())
 }
 
 #[test]
-fn a_group_fits_by_one_byte(rt: HostRuntime) -> Result<(), Fail> {
-    let mut store = full_device(&rt, rt.alloc())?;
+fn a_group_fits_by_one_byte(rt: HostRuntime) {
+    let mut store = full_device(&rt, rt.alloc());
     // 21 requests with 320 ops, 3,097 bytes
     let mut group = Vec::new(rt.alloc());
-    add_requests(&mut group, 6785, 19, 16)?;
-    add_requests(&mut group, 6804, 2, 8)?;
-    same(&rt, commit(rt.alloc(), &mut store, &group)?, Ok(()), "fits");
-    let mut disk = store.into_disk();
-    // the record's gate, and the next one in the last byte of the area, 1,048,575
-    shows(&rt, &mut disk, 1_577_958, "01 00000c14 0015")?;
-    shows(&rt, &mut disk, 1_581_055, "00 00")?;
+    add_requests(&rt, &mut group, 6785, 19, 16);
+    add_requests(&rt, &mut group, 6804, 2, 8);
     same(
         &rt,
-        shown(&opened(rt.alloc(), disk)?, 0, 1),
+        commit(&rt, rt.alloc(), &mut store, &group),
+        Ok(()),
+        "fits",
+    );
+    let mut disk = store.into_disk();
+    // the record's gate, and the next one in the last byte of the area, 1,048,575
+    shows(&rt, &mut disk, 1_577_958, "01 00000c14 0015");
+    shows(&rt, &mut disk, 1_581_055, "00 00");
+    same(
+        &rt,
+        shown(&opened(&rt, rt.alloc(), disk), 0, 1),
         (6805, 1, Some(1)),
         "opened",
     );
-    Ok(())
 }
 
 // 64 requests, from each of so many nodes to the 16 nodes behind 16,367.
-fn add_edges(group: &mut Vec<Request>, first: u16) -> Result<(), Fail> {
+fn add_edges(rt: &impl Abort, group: &mut Vec<Request>, first: u16) {
     for node in first..first.saturating_add(64) {
         let mut ops = [Op::Add(node, 16_368, 1); 16];
         for (op, k) in ops.iter_mut().zip(0..16u16) {
             *op = Op::Add(node, u16::wrapping_add(16_368, k), 1 + k as u32);
         }
-        group.push(request(1, 1 + node as u64, &ops)?)?;
+        got(rt, group.push(request(rt, 1, 1 + node as u64, &ops)));
     }
-    Ok(())
 }
 
 // A store of 16,384 nodes with 65,536 edges.
-fn crowded(rt: &impl Abort, alloc: Global) -> Result<Store<MemDisk>, Fail> {
-    let mut store = opened(alloc, formatted(alloc, 16_384)?)?;
+fn crowded(rt: &impl Abort, alloc: Global) -> Store<MemDisk> {
+    let mut store = opened(rt, alloc, formatted(rt, alloc, 16_384));
     for first in (0..4096u16).step_by(64) {
         let mut group = Vec::new(alloc);
-        add_edges(&mut group, first)?;
-        same(rt, commit(alloc, &mut store, &group)?, Ok(()), "edges");
+        add_edges(rt, &mut group, first);
+        same(rt, commit(rt, alloc, &mut store, &group), Ok(()), "edges");
     }
-    Ok(store)
+    store
 }
 
 #[test]
-fn rolls_the_most_edges(rt: HostRuntime) -> Result<(), Fail> {
-    let mut store = crowded(&rt, rt.alloc())?;
+fn rolls_the_most_edges(rt: HostRuntime) {
+    let mut store = crowded(&rt, rt.alloc());
     same(
         &rt,
         shown(&store, 4095, 16_383),
         (4096, 65_536, Some(16)),
         "edges",
     );
-    rolls(rt.alloc(), &mut store)?;
+    rolls(&rt, rt.alloc(), &mut store);
     let mut disk = store.into_disk();
     // gate, epoch 2, count, nodes, number of edges, the tickets of sessions 0 and 1; the first edge; and the last, which ends 524,823
     // bytes behind the slot's start
     let front =
         "01 0000000000000002 0000000000001000 4000 00010000 0000000000000000 0000000000001000";
-    shows(&rt, &mut disk, SECOND_SLOT, front)?;
-    shows(&rt, &mut disk, SECOND_EDGES, "0000 3ff0 00000001")?;
-    shows(&rt, &mut disk, 2_105_871, "0fff 3fff 00000010 00")?;
-    let store = opened(rt.alloc(), disk)?;
+    shows(&rt, &mut disk, SECOND_SLOT, front);
+    shows(&rt, &mut disk, SECOND_EDGES, "0000 3ff0 00000001");
+    shows(&rt, &mut disk, 2_105_871, "0fff 3fff 00000010 00");
+    let store = opened(&rt, rt.alloc(), disk);
     same(
         &rt,
         shown(&store, 0, 16_368),
@@ -175,5 +181,4 @@ fn rolls_the_most_edges(rt: HostRuntime) -> Result<(), Fail> {
         (4096, 65_536, Some(16)),
         "opened",
     );
-    Ok(())
 }

@@ -2,16 +2,16 @@
 use super::*;
 
 // The first request adds the edge 1-2, and the k-th sets 0-1 to the weight k.
-fn largest_group(alloc: Global) -> Result<Vec<Request>, Fail> {
+fn largest_group(rt: &impl Abort, alloc: Global) -> Vec<Request> {
     let mut group = Vec::new(alloc);
     for weight in 1..65u32 {
         let mut ops = [Op::Set(0, 1, weight); 16];
         if weight == 1 {
             ops[0] = Op::Add(1, 2, 7);
         }
-        group.push(request(9, 1000 + weight as u64, &ops)?)?;
+        got(rt, group.push(request(rt, 9, 1000 + weight as u64, &ops)));
     }
-    Ok(group)
+    group
 }
 
 // Commits the group to a device with one edge by a plan that counts its calls, which has to stop it; and the disk after that.
@@ -21,12 +21,12 @@ fn stopped(
     disk: MemDisk,
     group: &[Request],
     plan: Plan,
-) -> Result<MemDisk, Fail> {
-    let mut store = opened(alloc, disk)?;
+) -> MemDisk {
+    let mut store = opened(rt, alloc, disk);
     store.arm(plan);
     same(
         rt,
-        commit(alloc, &mut store, group)?,
+        commit(rt, alloc, &mut store, group),
         Err(CommitRefused::Device),
         "stopped",
     );
@@ -38,7 +38,7 @@ fn stopped(
     );
     same(
         rt,
-        commit(alloc, &mut store, group)?,
+        commit(rt, alloc, &mut store, group),
         Err(CommitRefused::Down),
         "again",
     );
@@ -48,12 +48,12 @@ fn stopped(
         Err(RollRefused::Down),
         "rolled",
     );
-    Ok(store.into_disk())
+    store.into_disk()
 }
 
 // The store that a crash leaves, which shows the old count or the whole group.
-fn left(rt: &impl Abort, alloc: Global, disk: MemDisk, word: u64) -> Result<Store<MemDisk>, Fail> {
-    let store = opened(alloc, disk.crash(word))?;
+fn left(rt: &impl Abort, alloc: Global, disk: MemDisk, word: u64) -> Store<MemDisk> {
+    let store = opened(rt, alloc, disk.crash(word));
     let found = (
         shown(&store, 0, 1),
         store.graph().weight(1, 2),
@@ -65,14 +65,14 @@ fn left(rt: &impl Abort, alloc: Global, disk: MemDisk, word: u64) -> Result<Stor
         ((65, 2, Some(64)), Some(7), 1064)
     };
     same(rt, found, want, "after a crash");
-    Ok(store)
+    store
 }
 
 #[test]
-fn the_largest_body_stops_at_its_ends(rt: HostRuntime) -> Result<(), Fail> {
-    let group = largest_group(rt.alloc())?;
+fn the_largest_body_stops_at_its_ends(rt: HostRuntime) {
+    let group = largest_group(&rt, rt.alloc());
     for word in WORDS {
-        let mut disk = with_edge(rt.alloc())?;
+        let mut disk = with_edge(&rt, rt.alloc());
         // The first call writes 4 bytes of length, 9,858 of payload, and the next gate: none to 64 bytes, and all but 64 to all of them
         for (from, to) in [(0usize, 65usize), (9799, 9864)] {
             for put_bytes in from..to {
@@ -80,30 +80,29 @@ fn the_largest_body_stops_at_its_ends(rt: HostRuntime) -> Result<(), Fail> {
                 let store = left(
                     &rt,
                     rt.alloc(),
-                    stopped(&rt, rt.alloc(), disk, &group, plan)?,
+                    stopped(&rt, rt.alloc(), disk, &group, plan),
                     word,
-                )?;
+                );
                 same(&rt, store.count(), 1, "before the gate's write");
                 disk = store.into_disk();
                 // the same device again, so what was torn is zeros
-                put(&mut disk, 532_507, &[0; 9863])?;
+                put(&rt, &mut disk, 532_507, &[0; 9863]);
             }
         }
-        let mut store = opened(rt.alloc(), disk)?;
+        let mut store = opened(&rt, rt.alloc(), disk);
         same(
             &rt,
-            commit(rt.alloc(), &mut store, &group)?,
+            commit(&rt, rt.alloc(), &mut store, &group),
             Ok(()),
             "whole",
         );
         same(&rt, shown(&store, 0, 1), (65, 2, Some(64)), "whole");
     }
-    Ok(())
 }
 
 #[test]
-fn the_largest_record_stops_behind_its_body(rt: HostRuntime) -> Result<(), Fail> {
-    let group = largest_group(rt.alloc())?;
+fn the_largest_record_stops_behind_its_body(rt: HostRuntime) {
+    let group = largest_group(&rt, rt.alloc());
     // the sync of the body, the gate's write before and behind its byte, the gate's sync; and the counts by the words
     for (plan, counts) in [
         (Plan::Stop(2, 0), [1, 1, 1, 1, 1]),
@@ -112,10 +111,9 @@ fn the_largest_record_stops_behind_its_body(rt: HostRuntime) -> Result<(), Fail>
         (Plan::Stop(4, 0), [1, 65, 1, 1, 65]),
     ] {
         for (word, count) in WORDS.iter().zip(counts.iter()) {
-            let disk = stopped(&rt, rt.alloc(), with_edge(rt.alloc())?, &group, plan)?;
-            let store = left(&rt, rt.alloc(), disk, *word)?;
+            let disk = stopped(&rt, rt.alloc(), with_edge(&rt, rt.alloc()), &group, plan);
+            let store = left(&rt, rt.alloc(), disk, *word);
             same(&rt, store.count(), *count, "behind the body");
         }
     }
-    Ok(())
 }

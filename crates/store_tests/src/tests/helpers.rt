@@ -27,11 +27,18 @@ pub(super) const WORDS: [u64; 5] = [0, 1, 7, 256, 257];
 // Count, edges and the weight of one edge.
 pub(super) type Shown = (u64, usize, Option<u32>);
 
+// Two nodes and the weight of an edge between them, as a device holds them.
+pub(super) type Edge = (u16, u16, u32);
+
 // An op under the session and the ticket of its request.
 pub(super) type Asked = (u8, u64, Op);
 
-pub(super) fn failed<T>(text: &str) -> Result<T, Fail> {
-    Err(Fail::new(format_args!("{text}")))
+// The value of an answer that has to have one.
+pub(super) fn got<T, E: Drop>(rt: &impl Abort, answer: Result<T, E>) -> T {
+    match answer {
+        Ok(value) => value,
+        Err(_) => panic!(rt; "no value"),
+    }
 }
 
 // Sees that two values are the same.
@@ -41,15 +48,18 @@ pub(super) fn same<T: Copy + PartialEq + Debug>(rt: &impl Abort, found: T, want:
 
 // ---- devices
 
-pub(super) fn formatted(alloc: Global, nodes: u16) -> Result<MemDisk, Fail> {
-    let mut disk = match MemDisk::new(alloc, DEVICE_LEN) {
+// A device of so many zeros, asked for again where memory was short.
+pub(super) fn blank(rt: &impl Abort, alloc: Global, len: usize) -> MemDisk {
+    match MemDisk::new(alloc, len) {
         Ok(disk) => disk,
-        Err(_) => MemDisk::new(alloc, DEVICE_LEN)?,
-    };
-    match format(&mut disk, nodes) {
-        Ok(()) => Ok(disk),
-        Err(_) => failed("not formatted"),
+        Err(_) => got(rt, MemDisk::new(alloc, len)),
     }
+}
+
+pub(super) fn formatted(rt: &impl Abort, alloc: Global, nodes: u16) -> MemDisk {
+    let mut disk = blank(rt, alloc, DEVICE_LEN);
+    got(rt, format(&mut disk, nodes));
+    disk
 }
 
 // The store of a device, asked for again where memory was short.
@@ -63,11 +73,8 @@ pub(super) fn open_again(
     }
 }
 
-pub(super) fn opened(alloc: Global, disk: MemDisk) -> Result<Store<MemDisk>, Fail> {
-    match open_again(alloc, disk) {
-        Ok(store) => Ok(store),
-        Err(_) => failed("not opened"),
-    }
+pub(super) fn opened(rt: &impl Abort, alloc: Global, disk: MemDisk) -> Store<MemDisk> {
+    got(rt, open_again(alloc, disk))
 }
 
 // Why a device can't be opened.
@@ -79,30 +86,25 @@ pub(super) fn refusal(alloc: Global, disk: MemDisk) -> Option<OpenRefused> {
 }
 
 // The first bytes of a device, as a device of its own.
-pub(super) fn cut_to(alloc: Global, disk: MemDisk, len: usize) -> Result<MemDisk, Fail> {
+pub(super) fn cut_to(rt: &impl Abort, alloc: Global, disk: MemDisk, len: usize) -> MemDisk {
     let mut disk = disk;
-    if disk.len() < len {
-        return failed("too short");
-    }
-    let mut bytes = vec![in alloc; 0; len]?;
-    if disk.read(0, bytes.as_mut_slice()).is_err() {
-        return failed("not read");
-    }
-    let mut front = MemDisk::new(alloc, len)?;
-    put(&mut front, 0, bytes.as_slice())?;
-    Ok(front)
+    assert!(rt; len <= disk.len());
+    let Ok(mut bytes) = vec![in alloc; 0; len] else {
+        panic!(rt; "no memory");
+    };
+    got(rt, disk.read(0, bytes.as_mut_slice()));
+    let mut front = blank(rt, alloc, len);
+    put(rt, &mut front, 0, bytes.as_slice());
+    front
 }
 
 // ---- requests
 
-pub(super) fn request(session: u8, ticket: u64, ops: &[Op]) -> Result<Request, Fail> {
-    match Change::new(ops) {
-        Ok(change) => Ok(Request {
-            session,
-            ticket,
-            change,
-        }),
-        Err(_) => failed("no change"),
+pub(super) fn request(rt: &impl Abort, session: u8, ticket: u64, ops: &[Op]) -> Request {
+    Request {
+        session,
+        ticket,
+        change: got(rt, Change::new(ops)),
     }
 }
 
@@ -132,32 +134,27 @@ fn group_of(alloc: Global, asked: &[Asked]) -> Result<Option<Vec<Request>>, Allo
 }
 
 // The same, made again where memory was short.
-pub(super) fn group_again(alloc: Global, asked: &[Asked]) -> Result<Vec<Request>, Fail> {
+pub(super) fn group_again(rt: &impl Abort, alloc: Global, asked: &[Asked]) -> Vec<Request> {
     let group = match group_of(alloc, asked) {
         Ok(group) => group,
-        Err(_) => group_of(alloc, asked)?,
+        Err(_) => got(rt, group_of(alloc, asked)),
     };
-    match group {
-        Some(group) => Ok(group),
-        None => failed("too many ops"),
-    }
+    got(rt, group.ok_or("too many ops"))
 }
 
 // So many requests of session 0 of so many ops each, from a ticket on. Each op sets the edge 0-1 to the weight 1.
 pub(super) fn add_requests(
+    rt: &impl Abort,
     group: &mut Vec<Request>,
     ticket: u64,
     changes: u64,
     ops: usize,
-) -> Result<(), Fail> {
+) {
     let all = [Op::Set(0, 1, 1); 16];
-    let Some(ops) = all.get(..ops) else {
-        return failed("too many ops");
-    };
+    let ops = got(rt, all.get(..ops).ok_or("too many ops"));
     for i in 0..changes {
-        group.push(request(0, ticket.wrapping_add(i), ops)?)?;
+        got(rt, group.push(request(rt, 0, ticket.wrapping_add(i), ops)));
     }
-    Ok(())
 }
 
 fn is_accepted(alloc: Global, graph: &Graph, requests: &[Request]) -> Result<bool, AllocError>
@@ -203,51 +200,47 @@ fn accepts(alloc: Global, graph: &Graph, requests: &[Request]) -> bool
 
 // Commits 1 to 64 requests in turn that the graph accepts.
 pub(super) fn commit_once(
+    rt: &impl Abort,
     alloc: Global,
     store: &mut Store<MemDisk>,
     requests: &[Request],
-) -> Result<Result<(), CommitRefused>, Fail> {
+) -> Result<(), CommitRefused> {
     if requests.is_empty() || requests.len() > 64 || !is_in_turn(store.starts(), requests) {
-        return failed("no group in turn");
+        panic!(rt; "no group in turn");
     }
     if !accepts(alloc, store.graph(), requests) {
-        return failed("not accepted");
+        panic!(rt; "not accepted");
     }
-    Ok(store.commit(alloc, requests))
+    store.commit(alloc, requests)
 }
 
 // The same, again where memory was short.
 pub(super) fn commit(
+    rt: &impl Abort,
     alloc: Global,
     store: &mut Store<MemDisk>,
     requests: &[Request],
-) -> Result<Result<(), CommitRefused>, Fail> {
-    match commit_once(alloc, store, requests)? {
-        Err(CommitRefused::Memory) => commit_once(alloc, store, requests),
-        answer => Ok(answer),
+) -> Result<(), CommitRefused> {
+    match commit_once(rt, alloc, store, requests) {
+        Err(CommitRefused::Memory) => commit_once(rt, alloc, store, requests),
+        answer => answer,
     }
 }
 
 // What a commit of a list of ops answers.
 pub(super) fn answer_to(
+    rt: &impl Abort,
     alloc: Global,
     store: &mut Store<MemDisk>,
     asked: &[Asked],
-) -> Result<Result<(), CommitRefused>, Fail> {
-    let group = group_again(alloc, asked)?;
-    commit(alloc, store, &group)
+) -> Result<(), CommitRefused> {
+    let group = group_again(rt, alloc, asked);
+    commit(rt, alloc, store, &group)
 }
 
 // The same, where the answer is Ok.
-pub(super) fn commits(
-    alloc: Global,
-    store: &mut Store<MemDisk>,
-    asked: &[Asked],
-) -> Result<(), Fail> {
-    match answer_to(alloc, store, asked)? {
-        Ok(()) => Ok(()),
-        Err(_) => failed("not committed"),
-    }
+pub(super) fn commits(rt: &impl Abort, alloc: Global, store: &mut Store<MemDisk>, asked: &[Asked]) {
+    got(rt, answer_to(rt, alloc, store, asked));
 }
 
 // Rolls, again where memory was short.
@@ -258,18 +251,15 @@ pub(super) fn roll(alloc: Global, store: &mut Store<MemDisk>) -> Result<(), Roll
     }
 }
 
-pub(super) fn rolls(alloc: Global, store: &mut Store<MemDisk>) -> Result<(), Fail> {
-    match roll(alloc, store) {
-        Ok(()) => Ok(()),
-        Err(_) => failed("not rolled"),
-    }
+pub(super) fn rolls(rt: &impl Abort, alloc: Global, store: &mut Store<MemDisk>) {
+    got(rt, roll(alloc, store));
 }
 
 // A device for five nodes with one committed edge.
-pub(super) fn with_edge(alloc: Global) -> Result<MemDisk, Fail> {
-    let mut store = opened(alloc, formatted(alloc, 5)?)?;
-    commits(alloc, &mut store, &[(0, 1, Op::Add(0, 1, 1))])?;
-    Ok(store.into_disk())
+pub(super) fn with_edge(rt: &impl Abort, alloc: Global) -> MemDisk {
+    let mut store = opened(rt, alloc, formatted(rt, alloc, 5));
+    commits(rt, alloc, &mut store, &[(0, 1, Op::Add(0, 1, 1))]);
+    store.into_disk()
 }
 
 pub(super) fn shown(store: &Store<MemDisk>, a: u16, b: u16) -> Shown {
@@ -279,15 +269,13 @@ pub(super) fn shown(store: &Store<MemDisk>, a: u16, b: u16) -> Shown {
 
 // ---- bytes
 
-pub(super) fn bytes<const N: usize>(disk: &mut MemDisk, at: usize) -> Result<[u8; N], Fail> {
+pub(super) fn bytes<const N: usize>(rt: &impl Abort, disk: &mut MemDisk, at: usize) -> [u8; N] {
     let mut bytes = [0; N];
     if disk.len() < N || disk.len() - N < at {
-        return failed("no bytes there");
+        panic!(rt; "no bytes there");
     }
-    match disk.read(at, &mut bytes) {
-        Ok(()) => Ok(bytes),
-        Err(_) => failed("not read"),
-    }
+    got(rt, disk.read(at, &mut bytes));
+    bytes
 }
 
 // The bytes that a text spells, at most 64, each by two hexadecimal digits; and how many they are.
@@ -317,57 +305,42 @@ fn spelled(text: &str) -> ([u8; 64], usize)
 }
 
 // Puts bytes on a device.
-pub(super) fn put(disk: &mut MemDisk, at: usize, bytes: &[u8]) -> Result<(), Fail> {
+pub(super) fn put(rt: &impl Abort, disk: &mut MemDisk, at: usize, bytes: &[u8]) {
     if disk.len() < bytes.len() || disk.len() - bytes.len() < at {
-        return failed("no place there");
+        panic!(rt; "no place there");
     }
-    match disk.write_at(at, bytes) {
-        Ok(()) => Ok(()),
-        Err(_) => failed("not written"),
-    }
+    got(rt, disk.write_at(at, bytes));
 }
 
 // Puts the bytes that a text spells.
-pub(super) fn put_text(disk: &mut MemDisk, at: usize, text: &str) -> Result<(), Fail> {
+pub(super) fn put_text(rt: &impl Abort, disk: &mut MemDisk, at: usize, text: &str) {
     let (bytes, len) = spelled(text);
-    put(disk, at, &bytes[..len])
+    put(rt, disk, at, &bytes[..len]);
 }
 
 // A device with one byte changed.
-pub(super) fn spoilt(disk: MemDisk, at: usize, byte: u8) -> Result<MemDisk, Fail> {
+pub(super) fn spoilt(rt: &impl Abort, disk: MemDisk, at: usize, byte: u8) -> MemDisk {
     let mut disk = disk;
-    put(&mut disk, at, &[byte])?;
-    Ok(disk)
+    put(rt, &mut disk, at, &[byte]);
+    disk
 }
 
 // Sees that a device has the bytes that a text spells.
-pub(super) fn shows(
-    rt: &impl Abort,
-    disk: &mut MemDisk,
-    at: usize,
-    text: &str,
-) -> Result<(), Fail> {
+pub(super) fn shows(rt: &impl Abort, disk: &mut MemDisk, at: usize, text: &str) {
     let (want, len) = spelled(text);
     let mut found = [0; 64];
     if disk.len() < len || disk.len() - len < at || disk.read(at, &mut found[..len]).is_err() {
-        return failed("no bytes there");
+        panic!(rt; "no bytes there");
     }
     assert!(rt; found[..len] == want[..len], "{text} at {at}");
-    Ok(())
 }
 
 // Sees that a device has so many times eight zeros.
-pub(super) fn shows_zeros(
-    rt: &impl Abort,
-    disk: &mut MemDisk,
-    at: usize,
-    eights: usize,
-) -> Result<(), Fail> {
+pub(super) fn shows_zeros(rt: &impl Abort, disk: &mut MemDisk, at: usize, eights: usize) {
     for i in 0..eights {
         let place = at.wrapping_add(i.wrapping_mul(8));
-        same(rt, bytes::<8>(disk, place)?, [0; 8], "zeros");
+        same(rt, bytes::<8>(rt, disk, place), [0; 8], "zeros");
     }
-    Ok(())
 }
 
 // What stands before the tickets of a slot.
@@ -381,23 +354,23 @@ pub(super) struct Head {
 }
 
 // Puts the head of the slot that begins at `at`.
-pub(super) fn put_head(disk: &mut MemDisk, at: usize, head: Head) -> Result<(), Fail> {
+pub(super) fn put_head(rt: &impl Abort, disk: &mut MemDisk, at: usize, head: Head) {
     let mut text = [head.gate; 23];
     text[1..9].copy_from_slice(&head.epoch.to_be_bytes());
     text[9..17].copy_from_slice(&head.count.to_be_bytes());
     text[17..19].copy_from_slice(&head.nodes.to_be_bytes());
     text[19..23].copy_from_slice(&head.edges.to_be_bytes());
-    put(disk, at, &text)
+    put(rt, disk, at, &text);
 }
 
 // Puts an edge, its nodes as they are given.
-pub(super) fn put_edge(disk: &mut MemDisk, at: usize, edge: (u16, u16, u32)) -> Result<(), Fail> {
+pub(super) fn put_edge(rt: &impl Abort, disk: &mut MemDisk, at: usize, edge: Edge) {
     let (a, b, weight) = edge;
     let mut text = [0; 8];
     text[..2].copy_from_slice(&a.to_be_bytes());
     text[2..4].copy_from_slice(&b.to_be_bytes());
     text[4..].copy_from_slice(&weight.to_be_bytes());
-    put(disk, at, &text)
+    put(rt, disk, at, &text);
 }
 
 // The store of a device, or none where it is damaged; no other refusal may be the answer.
@@ -432,12 +405,12 @@ pub(super) fn assert_opens(
 }
 
 // A number that the bytes of a device give: another one where one byte is another.
-pub(super) fn digest(disk: &mut MemDisk) -> Result<u64, Fail> {
+pub(super) fn digest(rt: &impl Abort, disk: &mut MemDisk) -> u64 {
     let mut digest = 0xcbf2_9ce4_8422_2325u64;
     for at in (0..DEVICE_LEN).step_by(4096) {
-        for byte in bytes::<4096>(disk, at)? {
+        for byte in bytes::<4096>(rt, disk, at) {
             digest = (digest ^ byte as u64).wrapping_mul(0x100_0000_01b3);
         }
     }
-    Ok(digest)
+    digest
 }

@@ -2,38 +2,41 @@
 // turn: the call in which it is refused answers Memory and leaves all as it was, and the same call made again gives the answer.
 use super::*;
 
+// Bytes of a device that is used, and their places.
+const USED: [(usize, &str); 6] = [
+    // an open gate, epoch 2, count 1, nodes 9, three edges, ticket 1; and the edges 0-1, 0-2 and 3-4 of weights 1, 2 and 3
+    (
+        1_581_056,
+        "01 0000000000000002 0000000000000001 0009 00000003 0000000000000001",
+    ),
+    (
+        1_581_591,
+        "0000 0001 00000001 0000 0002 00000002 0003 0004 00000003",
+    ),
+    // session 0: Add(0, 3, 4); session 3: Set(0, 1, 9), Cut(3, 4); and behind them Add(5, 6, 7); Add(4, 5, 6)
+    (
+        2_109_440,
+        "01 00000031 0002 00 0000000000000002 01 01 0000 0003 00000004",
+    ),
+    (
+        2_109_466,
+        "03 0000000000000001 02 02 0000 0001 00000009 03 0003 0004 00000000",
+    ),
+    (
+        2_109_494,
+        "01 00000028 0002 00 0000000000000003 01 01 0005 0006 00000007",
+    ),
+    (2_109_520, "03 0000000000000002 01 01 0004 0005 00000006 00"),
+];
+
 // A device for nine nodes after one roll, its bytes by hand: a checkpoint of count 1 with ticket 1 of session 0 and three edges in
 // the second slot, and two records of two requests each behind it. It takes memory only for the device.
-fn used_device(alloc: Global) -> Result<MemDisk, Fail> {
-    let mut disk = formatted(alloc, 9)?;
-    for (at, text) in [
-        // an open gate, epoch 2, count 1, nodes 9, three edges, ticket 1; and the edges 0-1, 0-2 and 3-4 of weights 1, 2 and 3
-        (
-            1_581_056,
-            "01 0000000000000002 0000000000000001 0009 00000003 0000000000000001",
-        ),
-        (
-            1_581_591,
-            "0000 0001 00000001 0000 0002 00000002 0003 0004 00000003",
-        ),
-        // session 0: Add(0, 3, 4); session 3: Set(0, 1, 9), Cut(3, 4); and behind them Add(5, 6, 7); Add(4, 5, 6)
-        (
-            2_109_440,
-            "01 00000031 0002 00 0000000000000002 01 01 0000 0003 00000004",
-        ),
-        (
-            2_109_466,
-            "03 0000000000000001 02 02 0000 0001 00000009 03 0003 0004 00000000",
-        ),
-        (
-            2_109_494,
-            "01 00000028 0002 00 0000000000000003 01 01 0005 0006 00000007",
-        ),
-        (2_109_520, "03 0000000000000002 01 01 0004 0005 00000006 00"),
-    ] {
-        put_text(&mut disk, at, text)?;
+fn used_device(rt: &impl Abort, alloc: Global) -> MemDisk {
+    let mut disk = formatted(rt, alloc, 9);
+    for (at, text) in &USED {
+        put_text(rt, &mut disk, *at, text);
     }
-    Ok(disk)
+    disk
 }
 
 // What the store of such a device shows.
@@ -54,30 +57,26 @@ fn assert_used(rt: &impl Abort, store: &Store<MemDisk>) {
 
 // The device of a store that was refused memory, which has to hold what it held. A byte that was written and not synced would
 // be 255 after this crash.
-fn untouched(rt: &impl Abort, disk: MemDisk, before: u64) -> Result<MemDisk, Fail> {
+fn untouched(rt: &impl Abort, disk: MemDisk, before: u64) -> MemDisk {
     let mut disk = disk.crash(511);
-    same(rt, digest(&mut disk)?, before, "untouched");
-    Ok(disk)
+    same(rt, digest(rt, &mut disk), before, "untouched");
+    disk
 }
 
 #[test]
-fn an_opening_without_memory_is_made_again(rt: HostRuntime) -> Result<(), Fail> {
-    let mut disk = used_device(rt.alloc())?;
+fn an_opening_without_memory_is_made_again(rt: HostRuntime) {
+    let mut disk = used_device(&rt, rt.alloc());
     same(&rt, disk.sync().is_ok(), true, "synced");
-    let before = digest(&mut disk)?;
+    let before = digest(&rt, &mut disk);
     let store = match Store::open(rt.alloc(), disk) {
         Ok(store) => store,
         Err((refused, disk)) => {
             same(&rt, refused, OpenRefused::Memory, "refused");
-            let disk = untouched(&rt, disk, before)?;
-            let Ok(store) = Store::open(rt.alloc(), disk) else {
-                return failed("not opened again");
-            };
-            store
+            let disk = untouched(&rt, disk, before);
+            got(&rt, Store::open(rt.alloc(), disk))
         }
     };
     assert_used(&rt, &store);
-    Ok(())
 }
 
 // The store after a refusal: the same, or that of the device as it was left.
@@ -87,14 +86,14 @@ fn after_refusal(
     store: Store<MemDisk>,
     before: u64,
     reopens: bool,
-) -> Result<Store<MemDisk>, Fail> {
+) -> Store<MemDisk> {
     assert_used(rt, &store);
     if !reopens {
-        return Ok(store);
+        return store;
     }
-    let store = opened(alloc, untouched(rt, store.into_disk(), before)?)?;
+    let store = opened(rt, alloc, untouched(rt, store.into_disk(), before));
     assert_used(rt, &store);
-    Ok(store)
+    store
 }
 
 // Three requests: five ops.
@@ -115,42 +114,41 @@ fn assert_committed(rt: &impl Abort, store: &Store<MemDisk>) {
 }
 
 // A commit, made again where memory was short: on the same store, or on a store of the device as it was left.
-fn commits_again(rt: &impl Abort, alloc: Global, reopens: bool) -> Result<(), Fail> {
-    let mut disk = used_device(alloc)?;
-    let before = digest(&mut disk)?;
-    let group = group_again(alloc, &GROUP)?;
-    let mut store = opened(alloc, disk)?;
-    let mut answer = commit_once(alloc, &mut store, &group)?;
+fn commits_again(rt: &impl Abort, alloc: Global, reopens: bool) {
+    let mut disk = used_device(rt, alloc);
+    let before = digest(rt, &mut disk);
+    let group = group_again(rt, alloc, &GROUP);
+    let mut store = opened(rt, alloc, disk);
+    let mut answer = commit_once(rt, alloc, &mut store, &group);
     if answer.is_err() {
         same(rt, answer, Err(CommitRefused::Memory), "refused");
-        store = after_refusal(rt, alloc, store, before, reopens)?;
-        answer = commit_once(alloc, &mut store, &group)?;
+        store = after_refusal(rt, alloc, store, before, reopens);
+        answer = commit_once(rt, alloc, &mut store, &group);
     }
     same(rt, answer, Ok(()), "committed");
     assert_committed(rt, &store);
-    assert_committed(rt, &opened(alloc, store.into_disk())?);
-    Ok(())
+    assert_committed(rt, &opened(rt, alloc, store.into_disk()));
 }
 
 #[test]
-fn a_commit_without_memory_is_made_again(rt: HostRuntime) -> Result<(), Fail> {
+fn a_commit_without_memory_is_made_again(rt: HostRuntime) {
     commits_again(&rt, rt.alloc(), false)
 }
 
 #[test]
-fn a_commit_without_memory_writes_nothing(rt: HostRuntime) -> Result<(), Fail> {
+fn a_commit_without_memory_writes_nothing(rt: HostRuntime) {
     commits_again(&rt, rt.alloc(), true)
 }
 
 // The same of a roll.
-fn rolls_again(rt: &impl Abort, alloc: Global, reopens: bool) -> Result<(), Fail> {
-    let mut disk = used_device(alloc)?;
-    let before = digest(&mut disk)?;
-    let mut store = opened(alloc, disk)?;
+fn rolls_again(rt: &impl Abort, alloc: Global, reopens: bool) {
+    let mut disk = used_device(rt, alloc);
+    let before = digest(rt, &mut disk);
+    let mut store = opened(rt, alloc, disk);
     let mut answer = store.roll(alloc);
     if answer.is_err() {
         same(rt, answer, Err(RollRefused::Memory), "refused");
-        store = after_refusal(rt, alloc, store, before, reopens)?;
+        store = after_refusal(rt, alloc, store, before, reopens);
         answer = store.roll(alloc);
     }
     same(rt, answer, Ok(()), "rolled");
@@ -158,26 +156,24 @@ fn rolls_again(rt: &impl Abort, alloc: Global, reopens: bool) -> Result<(), Fail
     let mut disk = store.into_disk();
     // an open gate, epoch 3, count 5, nodes 9, five edges, ticket 3 of session 0; and the first edge, 0-1 of weight 9
     let front = "01 0000000000000003 0000000000000005 0009 00000005 0000000000000003";
-    shows(rt, &mut disk, FIRST_SLOT, front)?;
-    shows(rt, &mut disk, FIRST_EDGES, "0000 0001 00000009")?;
-    assert_used(rt, &opened(alloc, disk)?);
-    Ok(())
+    shows(rt, &mut disk, FIRST_SLOT, front);
+    shows(rt, &mut disk, FIRST_EDGES, "0000 0001 00000009");
+    assert_used(rt, &opened(rt, alloc, disk));
 }
 
 #[test]
-fn a_roll_without_memory_is_made_again(rt: HostRuntime) -> Result<(), Fail> {
+fn a_roll_without_memory_is_made_again(rt: HostRuntime) {
     rolls_again(&rt, rt.alloc(), false)
 }
 
 #[test]
-fn a_roll_without_memory_writes_nothing(rt: HostRuntime) -> Result<(), Fail> {
+fn a_roll_without_memory_writes_nothing(rt: HostRuntime) {
     rolls_again(&rt, rt.alloc(), true)
 }
 
 // Helpers that ask again, over one store.
 #[test]
-fn answers_after_a_want_of_memory(rt: HostRuntime) -> Result<(), Fail> {
-    let store = opened(rt.alloc(), with_edge(rt.alloc())?)?;
+fn answers_after_a_want_of_memory(rt: HostRuntime) {
+    let store = opened(&rt, rt.alloc(), with_edge(&rt, rt.alloc()));
     same(&rt, shown(&store, 0, 1), (1, 1, Some(1)), "one edge");
-    Ok(())
 }

@@ -2,8 +2,8 @@
 use super::*;
 
 // A device for five nodes whose checkpoint has a count and the edge 0-1 of weight 7.
-fn one_edge(alloc: Global, count: u64) -> Result<MemDisk, Fail> {
-    let mut disk = formatted(alloc, 5)?;
+fn one_edge(rt: &impl Abort, alloc: Global, count: u64) -> MemDisk {
+    let mut disk = formatted(rt, alloc, 5);
     let head = Head {
         gate: 1,
         epoch: 1,
@@ -11,9 +11,9 @@ fn one_edge(alloc: Global, count: u64) -> Result<MemDisk, Fail> {
         nodes: 5,
         edges: 1,
     };
-    put_head(&mut disk, FIRST_SLOT, head)?;
-    put_edge(&mut disk, FIRST_EDGES, (0, 1, 7))?;
-    Ok(disk)
+    put_head(rt, &mut disk, FIRST_SLOT, head);
+    put_edge(rt, &mut disk, FIRST_EDGES, (0, 1, 7));
+    disk
 }
 
 // Adds a request of session 0 of so many ops, each of which sets the edge 0-1 to the weight 1.
@@ -28,7 +28,7 @@ fn push_request(text: &mut Vec<u8>, ticket: u64, ops: u8) -> Result<(), AllocErr
 }
 
 // A record with an open gate: runs of so many requests of so many ops, from a ticket on.
-fn record(alloc: Global, ticket: u64, runs: &[(u16, u8)]) -> Result<Vec<u8>, Fail> {
+fn spelled_record(alloc: Global, ticket: u64, runs: &[(u16, u8)]) -> Result<Vec<u8>, AllocError> {
     let mut behind = Vec::new(alloc);
     let mut requests = 0u16;
     for (count, ops) in runs {
@@ -37,15 +37,17 @@ fn record(alloc: Global, ticket: u64, runs: &[(u16, u8)]) -> Result<Vec<u8>, Fai
             requests = requests.wrapping_add(1);
         }
     }
-    let Ok(len) = u32::try_from(behind.len()) else {
-        return failed("too long");
-    };
+    let len = u32::try_from(behind.len()).unwrap_or(u32::MAX);
     let mut text = Vec::new(alloc);
     text.push(1)?;
     text.extend_from_slice(&len.wrapping_add(2).to_be_bytes())?;
     text.extend_from_slice(&requests.to_be_bytes())?;
     text.extend_from_slice(&behind)?;
     Ok(text)
+}
+
+fn record(rt: &impl Abort, alloc: Global, ticket: u64, runs: &[(u16, u8)]) -> Vec<u8> {
+    got(rt, spelled_record(alloc, ticket, runs))
 }
 
 // Bytes from the area's start on, and what is opened. An op is a kind, two nodes and a weight.
@@ -116,17 +118,16 @@ const RECORDS: [(&str, &str, Option<Shown>); 15] = [
 ];
 
 #[test]
-fn tells_damaged_records(rt: HostRuntime) -> Result<(), Fail> {
-    for (name, text, want) in RECORDS {
-        let mut disk = one_edge(rt.alloc(), 3)?;
-        put_text(&mut disk, FIRST_AREA, text)?;
-        assert_opens(&rt, rt.alloc(), disk, want, name);
+fn tells_damaged_records(rt: HostRuntime) {
+    for (name, text, want) in &RECORDS {
+        let mut disk = one_edge(&rt, rt.alloc(), 3);
+        put_text(&rt, &mut disk, FIRST_AREA, text);
+        assert_opens(&rt, rt.alloc(), disk, *want, name);
     }
-    Ok(())
 }
 
 // Kind, nodes and weight of the one op of a record, and the edges and the weight of 0-1 that it leaves.
-const OPS: [(&str, u8, (u16, u16, u32), Option<Shown>); 17] = [
+const OPS: [(&str, u8, Edge, Option<Shown>); 17] = [
     ("no kind", 0, (0, 1, 1), None),
     ("an add", 1, (1, 2, 8), Some((4, 2, Some(7)))),
     ("a set", 2, (0, 1, 8), Some((4, 1, Some(8)))),
@@ -162,133 +163,126 @@ const OPS: [(&str, u8, (u16, u16, u32), Option<Shown>); 17] = [
 ];
 
 // Puts an op behind its request's head.
-fn put_op(disk: &mut MemDisk, at: usize, kind: u8, edge: (u16, u16, u32)) -> Result<(), Fail> {
-    put(disk, at, &[kind])?;
-    put_edge(disk, at.wrapping_add(1), edge)
+fn put_op(rt: &impl Abort, disk: &mut MemDisk, at: usize, kind: u8, edge: Edge) {
+    put(rt, disk, at, &[kind]);
+    put_edge(rt, disk, at.wrapping_add(1), edge)
 }
 
 #[test]
-fn tells_damaged_ops(rt: HostRuntime) -> Result<(), Fail> {
-    for (name, kind, edge, want) in OPS {
-        let mut disk = one_edge(rt.alloc(), 3)?;
+fn tells_damaged_ops(rt: HostRuntime) {
+    for (name, kind, edge, want) in &OPS {
+        let mut disk = one_edge(&rt, rt.alloc(), 3);
         put_text(
+            &rt,
             &mut disk,
             FIRST_AREA,
             "01 00000015 0001 00 0000000000000001 01",
-        )?;
-        put_op(&mut disk, 532_497, kind, edge)?;
-        assert_opens(&rt, rt.alloc(), disk, want, name);
+        );
+        put_op(&rt, &mut disk, 532_497, *kind, *edge);
+        assert_opens(&rt, rt.alloc(), disk, *want, name);
     }
-    Ok(())
 }
 
 #[test]
-fn tells_damaged_ops_of_a_second_record(rt: HostRuntime) -> Result<(), Fail> {
+fn tells_damaged_ops_of_a_second_record(rt: HostRuntime) {
     // the same behind another record, which by itself is sound
-    for (name, kind, edge, want) in OPS {
-        let mut disk = one_edge(rt.alloc(), 2)?;
+    for (name, kind, edge, want) in &OPS {
+        let mut disk = one_edge(&rt, rt.alloc(), 2);
         let first = "01 00000015 0001 00 0000000000000001 01 02 0000 0001 00000007";
-        put_text(&mut disk, FIRST_AREA, first)?;
+        put_text(&rt, &mut disk, FIRST_AREA, first);
         put_text(
+            &rt,
             &mut disk,
             532_506,
             "01 00000015 0001 00 0000000000000002 01",
-        )?;
-        put_op(&mut disk, 532_523, kind, edge)?;
-        assert_opens(&rt, rt.alloc(), disk, want, name);
+        );
+        put_op(&rt, &mut disk, 532_523, *kind, *edge);
+        assert_opens(&rt, rt.alloc(), disk, *want, name);
     }
-    Ok(())
 }
 
-// So many requests of so many ops, the last byte of the payload's length, and the count that is opened. The most are 9,858 bytes, 2682.
-const SIZES: [(u16, u8, u8, Option<u64>); 7] = [
-    (64, 1, 0xc2, Some(67)),
+// So many requests of so many ops, the last byte of the payload's length, and what is opened. The most are 9,858 bytes, 2682.
+const SIZES: [(u16, u8, u8, Option<Shown>); 7] = [
+    (64, 1, 0xc2, Some((67, 1, Some(1)))),
     (65, 1, 0xd5, None),
-    (1, 16, 0x9c, Some(4)),
+    (1, 16, 0x9c, Some((4, 1, Some(1)))),
     (1, 17, 0xa5, None),
-    (64, 16, 0x82, Some(67)),
+    (64, 16, 0x82, Some((67, 1, Some(1)))),
     (64, 16, 0x81, None),
     (64, 16, 0x83, None),
 ];
 
 #[test]
-fn tells_too_many_requests_and_ops(rt: HostRuntime) -> Result<(), Fail> {
-    for (requests, ops, last, count) in SIZES {
-        let mut disk = one_edge(rt.alloc(), 3)?;
-        put(
-            &mut disk,
-            FIRST_AREA,
-            &record(rt.alloc(), 1, &[(requests, ops)])?,
-        )?;
-        put(&mut disk, 532_484, &[last])?;
-        let want = count.map(|count| (count, 1, Some(1)));
-        assert_opens(&rt, rt.alloc(), disk, want, "requests and ops");
+fn tells_too_many_requests_and_ops(rt: HostRuntime) {
+    for (requests, ops, last, want) in &SIZES {
+        let mut disk = one_edge(&rt, rt.alloc(), 3);
+        let text = record(&rt, rt.alloc(), 1, &[(*requests, *ops)]);
+        put(&rt, &mut disk, FIRST_AREA, &text);
+        put(&rt, &mut disk, 532_484, &[*last]);
+        assert_opens(&rt, rt.alloc(), disk, *want, "requests and ops");
     }
-    Ok(())
+}
+
+const WORN_OUT: Option<Shown> = Some((WORN_LIMIT, 1, Some(1)));
+
+// Two records of so many requests each, the second maybe none, behind a count so far below the last one, and what is opened.
+const BELOW: [(u64, u16, u16, Option<Shown>); 7] = [
+    (1, 1, 0, WORN_OUT),
+    (1, 1, 1, None),
+    (1, 2, 0, None),
+    (2, 1, 1, WORN_OUT),
+    (2, 2, 0, WORN_OUT),
+    (2, 2, 1, None),
+    (0, 1, 0, None),
+];
+
+// The bytes of two records of so many requests each, the second maybe none.
+fn two_records(rt: &impl Abort, alloc: Global, first: u16, second: u16) -> Vec<u8> {
+    let mut text = record(rt, alloc, 1, &[(first, 1)]);
+    if second > 0 {
+        let behind = record(rt, alloc, 9, &[(second, 1)]);
+        got(rt, text.extend_from_slice(&behind));
+    }
+    text
 }
 
 #[test]
-fn tells_records_past_the_last_count(rt: HostRuntime) -> Result<(), Fail> {
-    // two records of so many requests each, the second maybe none, behind a count so far below the last one
-    for (below, first, second, is_sound) in [
-        (1, 1, 0, true),
-        (1, 1, 1, false),
-        (1, 2, 0, false),
-        (2, 1, 1, true),
-        (2, 2, 0, true),
-        (2, 2, 1, false),
-        (0, 1, 0, false),
-    ] {
-        let mut disk = one_edge(rt.alloc(), WORN_LIMIT.wrapping_sub(below))?;
-        let mut text = record(rt.alloc(), 1, &[(first, 1)])?;
-        if second > 0 {
-            text.extend_from_slice(&record(rt.alloc(), 9, &[(second, 1)])?)?;
-        }
-        put(&mut disk, FIRST_AREA, &text)?;
-        let want = if is_sound {
-            Some((WORN_LIMIT, 1, Some(1)))
-        } else {
-            None
-        };
-        assert_opens(&rt, rt.alloc(), disk, want, "the last count");
+fn tells_records_past_the_last_count(rt: HostRuntime) {
+    for (below, first, second, want) in &BELOW {
+        let mut disk = one_edge(&rt, rt.alloc(), WORN_LIMIT.wrapping_sub(*below));
+        let text = two_records(&rt, rt.alloc(), *first, *second);
+        put(&rt, &mut disk, FIRST_AREA, &text);
+        assert_opens(&rt, rt.alloc(), disk, *want, "the last count");
     }
-    Ok(())
 }
 
 // A device whose journal begins with 106 records of 9,863 bytes, 64 requests of 16 ops each, and behind them one of such runs.
-fn nearly_full(alloc: Global, runs: &[(u16, u8)]) -> Result<MemDisk, Fail> {
-    let mut disk = one_edge(alloc, 0)?;
+fn nearly_full(rt: &impl Abort, alloc: Global, runs: &[(u16, u8)]) -> MemDisk {
+    let mut disk = one_edge(rt, alloc, 0);
     for i in 0..106usize {
-        let text = record(alloc, 1 + 64 * i as u64, &[(64, 16)])?;
-        put(&mut disk, FIRST_AREA + 9863 * i, &text)?;
+        let text = record(rt, alloc, 1 + 64 * i as u64, &[(64, 16)]);
+        put(rt, &mut disk, FIRST_AREA + 9863 * i, &text);
     }
-    put(&mut disk, 1_577_958, &record(alloc, 6785, runs)?)?;
-    Ok(disk)
+    put(rt, &mut disk, 1_577_958, &record(rt, alloc, 6785, runs));
+    disk
 }
 
 // The last record ends at this place of the area: with the gate there closed the device shows the count. With that gate open
 // there is no room for a record behind it.
-fn ends_at(
-    rt: &impl Abort,
-    alloc: Global,
-    runs: &[(u16, u8)],
-    gate: usize,
-    count: u64,
-) -> Result<(), Fail> {
-    let store = opened(alloc, nearly_full(alloc, runs)?)?;
+fn ends_at(rt: &impl Abort, alloc: Global, runs: &[(u16, u8)], gate: usize, count: u64) {
+    let store = opened(rt, alloc, nearly_full(rt, alloc, runs));
     same(rt, store.count(), count, "a closed gate");
-    let disk = spoilt(store.into_disk(), FIRST_AREA.wrapping_add(gate), 1)?;
+    let disk = spoilt(rt, store.into_disk(), FIRST_AREA.wrapping_add(gate), 1);
     same(
         rt,
         refusal(alloc, disk),
         Some(OpenRefused::Damaged),
         "an open gate",
     );
-    Ok(())
 }
 
 #[test]
-fn tells_a_record_past_the_end(rt: HostRuntime) -> Result<(), Fail> {
+fn tells_a_record_past_the_end(rt: HostRuntime) {
     // at the first of these places the next record's length just fits, at the others it passes the area's end
     ends_at(
         &rt,
@@ -296,22 +290,21 @@ fn tells_a_record_past_the_end(rt: HostRuntime) -> Result<(), Fail> {
         &[(19, 16), (1, 4), (6, 1)],
         1_048_571,
         6810,
-    )?;
+    );
     ends_at(
         &rt,
         rt.alloc(),
         &[(19, 16), (1, 2), (7, 1)],
         1_048_572,
         6811,
-    )?;
-    ends_at(&rt, rt.alloc(), &[(19, 16), (2, 8)], 1_048_575, 6805)?;
+    );
+    ends_at(&rt, rt.alloc(), &[(19, 16), (2, 8)], 1_048_575, 6805);
     // one byte longer than the longest that fits: the next gate would be the other slot's
-    let disk = nearly_full(rt.alloc(), &[(19, 16), (1, 13), (2, 1)])?;
+    let disk = nearly_full(&rt, rt.alloc(), &[(19, 16), (1, 13), (2, 1)]);
     same(
         &rt,
         refusal(rt.alloc(), disk),
         Some(OpenRefused::Damaged),
         "past the end",
     );
-    Ok(())
 }

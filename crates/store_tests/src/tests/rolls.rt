@@ -2,11 +2,11 @@
 use super::*;
 
 #[test]
-fn rolls_into_the_other_slot(rt: HostRuntime) -> Result<(), Fail> {
+fn rolls_into_the_other_slot(rt: HostRuntime) {
     // what is left in the other slot from before counts for nothing
-    let disk = spoilt(with_edge(rt.alloc())?, 1_581_700, 7)?;
-    let mut store = opened(rt.alloc(), spoilt(disk, 2_109_440, 1)?)?;
-    rolls(rt.alloc(), &mut store)?;
+    let disk = spoilt(&rt, with_edge(&rt, rt.alloc()), 1_581_700, 7);
+    let mut store = opened(&rt, rt.alloc(), spoilt(&rt, disk, 2_109_440, 1));
+    rolls(&rt, rt.alloc(), &mut store);
     same(&rt, shown(&store, 0, 1), (1, 1, Some(1)), "rolled");
     let mut disk = store.into_disk();
     // 543 bytes: gate, epoch, count, nodes and number of edges, ticket 1 of session 0, those of the others, and the edge
@@ -18,42 +18,40 @@ fn rolls_into_the_other_slot(rt: HostRuntime) -> Result<(), Fail> {
         (2_109_440, "00"),
         (4096, "01"),
     ] {
-        shows(&rt, &mut disk, at, text)?;
+        shows(&rt, &mut disk, at, text);
     }
-    shows_zeros(&rt, &mut disk, 1_581_087, 63)?;
+    shows_zeros(&rt, &mut disk, 1_581_087, 63);
     same(
         &rt,
-        shown(&opened(rt.alloc(), disk)?, 0, 1),
+        shown(&opened(&rt, rt.alloc(), disk), 0, 1),
         (1, 1, Some(1)),
         "opened",
     );
-    Ok(())
 }
 
 #[test]
-fn rolls_back_into_the_first_slot(rt: HostRuntime) -> Result<(), Fail> {
-    let mut store = opened(rt.alloc(), with_edge(rt.alloc())?)?;
-    rolls(rt.alloc(), &mut store)?;
-    let mut store = opened(rt.alloc(), store.into_disk())?;
-    rolls(rt.alloc(), &mut store)?;
+fn rolls_back_into_the_first_slot(rt: HostRuntime) {
+    let mut store = opened(&rt, rt.alloc(), with_edge(&rt, rt.alloc()));
+    rolls(&rt, rt.alloc(), &mut store);
+    let mut store = opened(&rt, rt.alloc(), store.into_disk());
+    rolls(&rt, rt.alloc(), &mut store);
     let mut disk = store.into_disk();
-    shows(&rt, &mut disk, FIRST_SLOT, "01 0000000000000003")?;
-    shows(&rt, &mut disk, SECOND_SLOT, "01 0000000000000002")?;
+    shows(&rt, &mut disk, FIRST_SLOT, "01 0000000000000003");
+    shows(&rt, &mut disk, SECOND_SLOT, "01 0000000000000002");
     same(
         &rt,
-        shown(&opened(rt.alloc(), disk)?, 0, 1),
+        shown(&opened(&rt, rt.alloc(), disk), 0, 1),
         (1, 1, Some(1)),
         "opened",
     );
-    Ok(())
 }
 
 #[test]
-fn a_worn_epoch_stays(rt: HostRuntime) -> Result<(), Fail> {
-    let mut disk = formatted(rt.alloc(), 5)?;
-    put_text(&mut disk, 4097, "7fffffffffffffff")?;
-    let before = digest(&mut disk)?;
-    let mut store = opened(rt.alloc(), disk)?;
+fn a_worn_epoch_stays(rt: HostRuntime) {
+    let mut disk = formatted(&rt, rt.alloc(), 5);
+    put_text(&rt, &mut disk, 4097, "7fffffffffffffff");
+    let before = digest(&rt, &mut disk);
+    let mut store = opened(&rt, rt.alloc(), disk);
     same(
         &rt,
         roll(rt.alloc(), &mut store),
@@ -62,19 +60,19 @@ fn a_worn_epoch_stays(rt: HostRuntime) -> Result<(), Fail> {
     );
     same(&rt, store.is_down(), false, "worn");
     let mut disk = store.into_disk();
-    same(&rt, digest(&mut disk)?, before, "worn");
-    let mut store = opened(rt.alloc(), disk)?;
-    commits(rt.alloc(), &mut store, &[(0, 1, Op::Add(0, 1, 1))])?;
+    same(&rt, digest(&rt, &mut disk), before, "worn");
+    let mut store = opened(&rt, rt.alloc(), disk);
+    commits(&rt, rt.alloc(), &mut store, &[(0, 1, Op::Add(0, 1, 1))]);
     shows_zeros(&rt, &mut store.into_disk(), SECOND_SLOT, 68)
 }
 
 #[test]
-fn rolls_to_the_last_epoch(rt: HostRuntime) -> Result<(), Fail> {
+fn rolls_to_the_last_epoch(rt: HostRuntime) {
     // one below the limit there is one roll, and no second
-    let mut disk = with_edge(rt.alloc())?;
-    put_text(&mut disk, 4097, "7ffffffffffffffe")?;
-    let mut store = opened(rt.alloc(), disk)?;
-    rolls(rt.alloc(), &mut store)?;
+    let mut disk = with_edge(&rt, rt.alloc());
+    put_text(&rt, &mut disk, 4097, "7ffffffffffffffe");
+    let mut store = opened(&rt, rt.alloc(), disk);
+    rolls(&rt, rt.alloc(), &mut store);
     same(
         &rt,
         roll(rt.alloc(), &mut store),
@@ -82,22 +80,21 @@ fn rolls_to_the_last_epoch(rt: HostRuntime) -> Result<(), Fail> {
         "worn",
     );
     let mut disk = store.into_disk();
-    shows(&rt, &mut disk, SECOND_SLOT, "01 7fffffffffffffff")?;
+    shows(&rt, &mut disk, SECOND_SLOT, "01 7fffffffffffffff");
     same(
         &rt,
-        shown(&opened(rt.alloc(), disk)?, 0, 1),
+        shown(&opened(&rt, rt.alloc(), disk), 0, 1),
         (1, 1, Some(1)),
         "opened",
     );
-    Ok(())
 }
 
 // A device that has rolled once, with one change committed since.
-fn rolled_once(alloc: Global) -> Result<MemDisk, Fail> {
-    let mut store = opened(alloc, with_edge(alloc)?)?;
-    rolls(alloc, &mut store)?;
-    commits(alloc, &mut store, &[(4, 2, Op::Add(1, 2, 5))])?;
-    Ok(store.into_disk())
+fn rolled_once(rt: &impl Abort, alloc: Global) -> MemDisk {
+    let mut store = opened(rt, alloc, with_edge(rt, alloc));
+    rolls(rt, alloc, &mut store);
+    commits(rt, alloc, &mut store, &[(4, 2, Op::Add(1, 2, 5))]);
+    store.into_disk()
 }
 
 // What the store of such a device shows.
@@ -112,12 +109,8 @@ fn assert_rolled(rt: &impl Abort, store: &Store<MemDisk>, name: &str) {
 }
 
 // A second roll by a plan that counts its calls, and what it answers; and the disk after it.
-fn second_roll(
-    rt: &impl Abort,
-    alloc: Global,
-    plan: Plan,
-) -> Result<(Result<(), RollRefused>, MemDisk), Fail> {
-    let mut store = opened(alloc, rolled_once(alloc)?)?;
+fn second_roll(rt: &impl Abort, alloc: Global, plan: Plan) -> (Result<(), RollRefused>, MemDisk) {
+    let mut store = opened(rt, alloc, rolled_once(rt, alloc));
     store.arm(plan);
     let answer = roll(alloc, &mut store);
     assert_rolled(rt, &store, "a second roll");
@@ -125,15 +118,15 @@ fn second_roll(
     if answer.is_err() {
         same(rt, roll(alloc, &mut store), Err(RollRefused::Down), "again");
     }
-    Ok((answer, store.into_disk()))
+    (answer, store.into_disk())
 }
 
 // After a crash the state is the same, and a change that is committed then is there after another opening.
-fn goes_on(rt: &impl Abort, alloc: Global, disk: MemDisk, word: u64) -> Result<(), Fail> {
-    let mut store = opened(alloc, disk.crash(word))?;
+fn goes_on(rt: &impl Abort, alloc: Global, disk: MemDisk, word: u64) {
+    let mut store = opened(rt, alloc, disk.crash(word));
     assert_rolled(rt, &store, "after a crash");
-    commits(alloc, &mut store, &[(4, 3, Op::Add(2, 3, 9))])?;
-    let store = opened(alloc, store.into_disk())?;
+    commits(rt, alloc, &mut store, &[(4, 3, Op::Add(2, 3, 9))]);
+    let store = opened(rt, alloc, store.into_disk());
     let found = (
         shown(&store, 1, 2),
         store.graph().weight(2, 3),
@@ -141,25 +134,23 @@ fn goes_on(rt: &impl Abort, alloc: Global, disk: MemDisk, word: u64) -> Result<(
         store.resume(4),
     );
     same(rt, found, ((3, 3, Some(5)), Some(9), 1, 3), "opened again");
-    Ok(())
 }
 
 #[test]
-fn each_call_of_a_roll_fails(rt: HostRuntime) -> Result<(), Fail> {
+fn each_call_of_a_roll_fails(rt: HostRuntime) {
     for word in WORDS {
         // no call is left out, and none is made besides
-        for call in 1..8 {
+        for call in 1..8u64 {
             let want = if call < 7 {
                 Err(RollRefused::Device)
             } else {
                 Ok(())
             };
-            let (answer, disk) = second_roll(&rt, rt.alloc(), Plan::Fail(call))?;
+            let (answer, disk) = second_roll(&rt, rt.alloc(), Plan::Fail(call));
             same(&rt, answer, want, "a call fails");
-            goes_on(&rt, rt.alloc(), disk, word)?;
+            goes_on(&rt, rt.alloc(), disk, word);
         }
     }
-    Ok(())
 }
 
 // The writes of a second roll, and behind how many bytes they stop: the gate that is closed, the area, and the gate that is opened.
@@ -183,24 +174,22 @@ const STOPS: [(u64, usize); 16] = [
 ];
 
 #[test]
-fn a_roll_stops_inside_each_write(rt: HostRuntime) -> Result<(), Fail> {
+fn a_roll_stops_inside_each_write(rt: HostRuntime) {
     for word in WORDS {
-        for (call, put) in STOPS {
-            let (answer, disk) = second_roll(&rt, rt.alloc(), Plan::Stop(call, put))?;
+        for (call, put) in &STOPS {
+            let (answer, disk) = second_roll(&rt, rt.alloc(), Plan::Stop(*call, *put));
             same(&rt, answer, Err(RollRefused::Device), "stopped");
-            goes_on(&rt, rt.alloc(), disk, word)?;
+            goes_on(&rt, rt.alloc(), disk, word);
         }
     }
-    Ok(())
 }
 
 // A roll on a device whose other slot was never open leaves its closed gate alone: four calls.
 #[test]
-fn a_first_roll_makes_four_calls(rt: HostRuntime) -> Result<(), Fail> {
+fn a_first_roll_makes_four_calls(rt: HostRuntime) {
     for (call, want) in [(4, Err(RollRefused::Device)), (5, Ok(()))] {
-        let mut store = opened(rt.alloc(), with_edge(rt.alloc())?)?;
+        let mut store = opened(&rt, rt.alloc(), with_edge(&rt, rt.alloc()));
         store.arm(Plan::Fail(call));
         same(&rt, roll(rt.alloc(), &mut store), want, "four calls");
     }
-    Ok(())
 }

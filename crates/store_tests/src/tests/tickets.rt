@@ -17,14 +17,14 @@ fn assert_kept(rt: &impl Abort, store: &Store<MemDisk>, name: &str) {
 }
 
 #[test]
-fn keeps_the_last_tickets(rt: HostRuntime) -> Result<(), Fail> {
-    let mut store = opened(rt.alloc(), formatted(rt.alloc(), 5)?)?;
+fn keeps_the_last_tickets(rt: HostRuntime) {
+    let mut store = opened(&rt, rt.alloc(), formatted(&rt, rt.alloc(), 5));
     same(&rt, store.starts(), [0; 64], "fresh");
-    commits(rt.alloc(), &mut store, &ASKED)?;
+    commits(&rt, rt.alloc(), &mut store, &ASKED);
     assert_kept(&rt, &store, "committed");
-    let mut store = opened(rt.alloc(), store.into_disk())?;
+    let mut store = opened(&rt, rt.alloc(), store.into_disk());
     assert_kept(&rt, &store, "opened");
-    rolls(rt.alloc(), &mut store)?;
+    rolls(&rt, rt.alloc(), &mut store);
     assert_kept(&rt, &store, "rolled");
     let mut disk = store.into_disk();
     for (at, text) in [
@@ -32,84 +32,79 @@ fn keeps_the_last_tickets(rt: HostRuntime) -> Result<(), Fail> {
         (1_581_135, "7fffffffffffffff"),
         (1_581_575, "0000000000000000 0000000000000102"),
     ] {
-        shows(&rt, &mut disk, at, text)?;
+        shows(&rt, &mut disk, at, text);
     }
-    assert_kept(&rt, &opened(rt.alloc(), disk)?, "opened after a roll");
-    Ok(())
+    assert_kept(&rt, &opened(&rt, rt.alloc(), disk), "opened after a roll");
 }
 
-#[test]
-fn tells_tickets_past_the_limit(rt: HostRuntime) -> Result<(), Fail> {
-    // a session, its last ticket in the checkpoint, and whether it may stand there
-    for (session, ticket, is_sound) in [
-        (0, 0x7fff_ffff_ffff_ffffu64, true),
-        (0, 0x8000_0000_0000_0000, false),
-        (1, 0xffff_ffff_ffff_ffff, false),
-        (63, 0x7fff_ffff_ffff_ffff, true),
-        (63, 0x8000_0000_0000_0000, false),
-    ] {
-        let mut disk = formatted(rt.alloc(), 5)?;
-        put(
-            &mut disk,
-            4119 + 8 * session as usize,
-            &ticket.to_be_bytes(),
-        )?;
-        match store_of(&rt, rt.alloc(), disk, "a last ticket") {
-            Some(store) => same(
-                &rt,
-                (is_sound, store.resume(session)),
-                (true, ticket),
-                "a last ticket",
-            ),
-            None => same(&rt, is_sound, false, "a last ticket"),
-        }
-    }
-    Ok(())
-}
+// A session, its last ticket in the checkpoint, and whether it may stand there.
+const LAST: [(u8, u64, bool); 5] = [
+    (0, 0x7fff_ffff_ffff_ffff, true),
+    (0, 0x8000_0000_0000_0000, false),
+    (1, 0xffff_ffff_ffff_ffff, false),
+    (63, 0x7fff_ffff_ffff_ffff, true),
+    (63, 0x8000_0000_0000_0000, false),
+];
 
 #[test]
-fn tells_tickets_out_of_turn(rt: HostRuntime) -> Result<(), Fail> {
-    // session 0 and session 63 have the last tickets 4 and 256; session and ticket of a record, and session and ticket of one behind it
-    for (first, second, is_sound) in [
-        ((0, 5), (0, 6), true),
-        ((0, 4), (0, 6), false),
-        ((0, 3), (0, 6), false),
-        ((0, 0), (0, 6), false),
-        ((0, 5), (0, 5), false),
-        ((0, 6), (0, 5), false),
-        ((0, 5), (1, 1), true),
-        ((0, 5), (1, 0), false),
-        ((63, 257), (0, 5), true),
-        ((63, 256), (0, 5), false),
-        ((63, 0x7fff_ffff_ffff_ffff), (0, 5), true),
-        ((63, 0x8000_0000_0000_0000), (0, 5), false),
-        ((0, 5), (63, 0xffff_ffff_ffff_ffff), false),
-        ((62, 1), (0, 5), true),
-        ((64, 1), (0, 5), false),
-        ((64, 300), (0, 5), false),
-        ((255, 300), (0, 5), false),
-        ((0, 5), (64, 1), false),
-    ] {
-        let mut disk = formatted(rt.alloc(), 5)?;
-        put_text(&mut disk, 4119, "0000000000000004")?;
-        put_text(&mut disk, 4623, "0000000000000100")?;
-        put_asked(&mut disk, FIRST_AREA, first, "01 01 0000 0001 00000007")?;
-        put_asked(&mut disk, 532_506, second, "01 02 0000 0001 00000008")?;
-        let want = if is_sound {
-            Some((2, 1, Some(8)))
-        } else {
-            None
+fn tells_tickets_past_the_limit(rt: HostRuntime) {
+    for (session, ticket, is_sound) in &LAST {
+        let mut disk = formatted(&rt, rt.alloc(), 5);
+        let place = 4119 + 8 * *session as usize;
+        put(&rt, &mut disk, place, &ticket.to_be_bytes());
+        let found = match store_of(&rt, rt.alloc(), disk, "a last ticket") {
+            Some(store) => Some(store.resume(*session)),
+            None => None,
         };
+        let want = if *is_sound { Some(*ticket) } else { None };
+        same(&rt, found, want, "a last ticket");
+    }
+}
+
+// Where session 0 and session 63 have the last tickets 4 and 256: session and ticket of a record, session and ticket of one behind
+// it, and whether both may stand there.
+const TURNS: [((u8, u64), (u8, u64), bool); 18] = [
+    ((0, 5), (0, 6), true),
+    ((0, 4), (0, 6), false),
+    ((0, 3), (0, 6), false),
+    ((0, 0), (0, 6), false),
+    ((0, 5), (0, 5), false),
+    ((0, 6), (0, 5), false),
+    ((0, 5), (1, 1), true),
+    ((0, 5), (1, 0), false),
+    ((63, 257), (0, 5), true),
+    ((63, 256), (0, 5), false),
+    ((63, 0x7fff_ffff_ffff_ffff), (0, 5), true),
+    ((63, 0x8000_0000_0000_0000), (0, 5), false),
+    ((0, 5), (63, 0xffff_ffff_ffff_ffff), false),
+    ((62, 1), (0, 5), true),
+    ((64, 1), (0, 5), false),
+    ((64, 300), (0, 5), false),
+    ((255, 300), (0, 5), false),
+    ((0, 5), (64, 1), false),
+];
+
+#[test]
+fn tells_tickets_out_of_turn(rt: HostRuntime) {
+    for (first, second, is_sound) in &TURNS {
+        let mut disk = formatted(&rt, rt.alloc(), 5);
+        put_text(&rt, &mut disk, 4119, "0000000000000004");
+        put_text(&rt, &mut disk, 4623, "0000000000000100");
+        let add = "01 01 0000 0001 00000007";
+        put_asked(&rt, &mut disk, FIRST_AREA, *first, add);
+        let set = "01 02 0000 0001 00000008";
+        put_asked(&rt, &mut disk, 532_506, *second, set);
+        let shown = Some((2, 1, Some(8)));
+        let want = if *is_sound { shown } else { None };
         assert_opens(&rt, rt.alloc(), disk, want, "a ticket in turn");
     }
-    Ok(())
 }
 
 // Puts a record of one request, whose change is spelled by the text.
-fn put_asked(disk: &mut MemDisk, at: usize, asked: (u8, u64), text: &str) -> Result<(), Fail> {
+fn put_asked(rt: &impl Abort, disk: &mut MemDisk, at: usize, asked: (u8, u64), text: &str) {
     let (session, ticket) = asked;
-    put_text(disk, at, "01 00000015 0001")?;
-    put(disk, at.wrapping_add(7), &[session])?;
-    put(disk, at.wrapping_add(8), &ticket.to_be_bytes())?;
-    put_text(disk, at.wrapping_add(16), text)
+    put_text(rt, disk, at, "01 00000015 0001");
+    put(rt, disk, at.wrapping_add(7), &[session]);
+    put(rt, disk, at.wrapping_add(8), &ticket.to_be_bytes());
+    put_text(rt, disk, at.wrapping_add(16), text)
 }

@@ -1,7 +1,13 @@
 use Rattle.std.proofs.Common.{ap}
 use Rattle.generations.specs.Knowledges.{Knowledge}
-use Rattle.forwarding_tests.proofs.Answering.{both_at}
+use Rattle.forwarding_tests.proofs.Answering.{both_at, none_answered}
 use Rattle.forwarding_tests.proofs.answered.two_editors.Goals as goal
+
+pub returns-clause-answered : goal.returns-clause-answered
+returns-clause-answered g c =
+    let board = c.in_ok-writer.ensures in
+    let intake = c.in_ok-taker.ensures in
+    none_answered c.in_ok-taker.taker c.in_ok-writer.writer c.args.starts.now intake.starts intake.got board.starts board.count board.posted board.kept
 
 pub returns-clause-first : goal.returns-clause-first
 returns-clause-first g c =

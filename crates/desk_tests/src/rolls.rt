@@ -1,0 +1,160 @@
+// A full journal: the roll before a commit, its failures, and a worn store.
+use crate::helpers::{
+    COUNT, EPOCH, FIRST_SLOT, SECOND_SLOT, byte_at, bytes_of, commit_at_last, copied, fails, fresh,
+    give, got, last_tickets, left, opened, same, whole,
+};
+use checkpoint::WORN_LIMIT;
+use disk_trait::{CrashDisk, Disk, MemDisk, Plan};
+use graph_edits::Op;
+use group_commit::{Desk, DeskRefused};
+use std::alloc::Global;
+use std::process::Abort;
+
+// How many ops the changes of a group have that just fits behind 106 full ones, and of one that needs a byte more.
+const FITS: [usize; 21] = [
+    16, 16, 16, 16, 16, 16, 16, 16, 16, 16, 16, 16, 16, 16, 16, 16, 16, 16, 16, 8, 8,
+];
+
+const LACKS: [usize; 22] = [
+    16, 16, 16, 16, 16, 16, 16, 16, 16, 16, 16, 16, 16, 16, 16, 16, 16, 16, 16, 13, 1, 1,
+];
+
+// Gives the next changes of session 0, of so many ops each.
+fn give_sized(rt: &impl Abort, desk: &mut Desk<MemDisk>, sizes: &[usize]) {
+    let ops = [Op::Set(0, 1, 1); 16];
+    let mut ticket = desk.resume(0);
+    for size in sizes {
+        ticket = ticket.wrapping_add(1);
+        let ops = got(rt, ops.get(..*size).ok_or("too many"));
+        give(rt, desk, 0, ticket, ops);
+    }
+}
+
+// A device whose journal holds 106 groups of 64 changes of 16 ops.
+fn full(rt: &impl Abort, alloc: Global) -> Vec<u8> {
+    let mut desk = fresh(rt, alloc);
+    let mut first = [Op::Set(0, 1, 1); 16];
+    first[0] = Op::Add(0, 1, 1);
+    give(rt, &mut desk, 1, 1, &first);
+    give_sized(rt, &mut desk, &[16; 63]);
+    for group in 0..106u32 {
+        if group > 0 {
+            give_sized(rt, &mut desk, &[16; 64]);
+        }
+        same(rt, commit_at_last(rt, alloc, &mut desk), Ok(64), "a group");
+        desk.paid();
+    }
+    same(rt, desk.store().count(), 6784, "full");
+    whole(rt, alloc, &mut desk.into_store().into_disk())
+}
+
+// Gives changes of these sizes to a desk over a full device and commits them: whether the other slot is open then, and what the first
+// one holds is as it was; the count, the last tickets and the weight of the edge 0-1 of the desk that is opened then.
+fn committed(
+    rt: &impl Abort,
+    alloc: Global,
+    before: &[u8],
+    sizes: &[usize],
+) -> (u8, bool, (u64, Option<u32>), [u64; 3]) {
+    let mut desk = opened(rt, alloc, copied(rt, alloc, before));
+    give_sized(rt, &mut desk, sizes);
+    let answer = commit_at_last(rt, alloc, &mut desk);
+    same(rt, answer, Ok(sizes.len()), "committed");
+    let mut disk = desk.into_store().into_disk();
+    let gate = byte_at(rt, &mut disk, SECOND_SLOT);
+    let now = bytes_of(rt, alloc, &mut disk, FIRST_SLOT, SECOND_SLOT);
+    let stays = before.get(FIRST_SLOT..SECOND_SLOT) == Some(now.as_slice());
+    let desk = opened(rt, alloc, disk);
+    (gate, stays, left(&desk), last_tickets(&desk))
+}
+
+#[test]
+fn rolls_where_the_journal_has_no_room(rt: HostRuntime) {
+    // 320 ops in 21 changes end the journal at its last byte but one. 319 ops in 22 changes need one byte more: what is there stays.
+    let before = full(&rt, rt.alloc());
+    let fits = committed(&rt, rt.alloc(), &before, &FITS);
+    same(&rt, fits, (0, false, (6805, Some(1)), [6804, 1, 0]), "fits");
+    let rolls = committed(&rt, rt.alloc(), &before, &LACKS);
+    same(
+        &rt,
+        rolls,
+        (1, true, (6806, Some(1)), [6805, 1, 0]),
+        "rolls",
+    );
+}
+
+// A full device with another byte at a place.
+fn full_but(rt: &impl Abort, alloc: Global, full: &[u8], at: usize, bytes: &[u8]) -> MemDisk {
+    let mut disk = copied(rt, alloc, full);
+    assert!(rt; bytes.len() <= 8 && at <= SECOND_SLOT && SECOND_SLOT + 8 <= disk.len());
+    got(rt, disk.write_at(at, bytes));
+    disk
+}
+
+// The roll makes four calls, and the commit behind it makes four; where the other slot stands open, the roll makes two more. That
+// slot's gate, the call that fails, the word of the crash, and how many changes are there then.
+const FAILURES: [(u8, u64, u64, u64); 8] = [
+    (0, 1, 257, 6784),
+    (0, 3, 257, 6784),
+    (0, 4, 1, 6784),
+    (0, 5, 257, 6784),
+    (0, 7, 257, 6806),
+    (0, 8, 0, 6784),
+    (1, 9, 257, 6806),
+    (1, 10, 0, 6784),
+];
+
+#[test]
+fn keeps_its_state_through_a_failure_in_a_roll(rt: HostRuntime) {
+    let before = full(&rt, rt.alloc());
+    for (gate, call, word, want) in &FAILURES {
+        let disk = full_but(&rt, rt.alloc(), &before, SECOND_SLOT, &[*gate]);
+        let mut desk = opened(&rt, rt.alloc(), disk);
+        desk.arm(Plan::Fail(*call));
+        give_sized(&rt, &mut desk, &LACKS);
+        fails(&rt, rt.alloc(), &mut desk, 22, 6784);
+        let desk = opened(&rt, rt.alloc(), desk.into_store().into_disk().crash(*word));
+        same(
+            &rt,
+            (*call, desk.store().count()),
+            (*call, *want),
+            "a failure",
+        );
+    }
+}
+
+// Where a number is written, the number, and the count that the desk has then. Where the first is written, the group needs a roll and
+// has no epoch left; where the second is, the count stands at its limit.
+const WORN: [(usize, u64, u64); 2] = [
+    (EPOCH, WORN_LIMIT, 6784),
+    (COUNT, WORN_LIMIT - 6784, WORN_LIMIT),
+];
+
+// Gives changes to a desk over this disk and commits them, which has to be refused as worn: so many are held then, and the count.
+fn worn(rt: &impl Abort, alloc: Global, disk: MemDisk, count: u64) -> MemDisk {
+    let mut desk = opened(rt, alloc, disk);
+    give_sized(rt, &mut desk, &LACKS);
+    let answer = commit_at_last(rt, alloc, &mut desk);
+    same(rt, answer, Err(DeskRefused::Worn), "worn");
+    same(rt, (desk.held(), desk.store().count()), (22, count), "left");
+    let still = (desk.due().is_none(), desk.store().is_down());
+    same(rt, still, (true, false), "left");
+    desk.into_store().into_disk()
+}
+
+#[test]
+fn wears_out_at_the_last_epoch_and_the_last_count(rt: HostRuntime) {
+    let before = full(&rt, rt.alloc());
+    for (at, number, count) in &WORN {
+        let mut disk = full_but(&rt, rt.alloc(), &before, *at, &number.to_be_bytes());
+        let old = whole(&rt, rt.alloc(), &mut disk);
+        let mut disk = worn(&rt, rt.alloc(), disk, *count);
+        let now = whole(&rt, rt.alloc(), &mut disk);
+        same(
+            &rt,
+            now.as_slice() == old.as_slice(),
+            true,
+            "nothing is written",
+        );
+    }
+}

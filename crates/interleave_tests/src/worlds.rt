@@ -1,0 +1,85 @@
+// Worlds over a fresh disk in memory, and one event after another.
+ghost use Rattle.std.specs.Prelude.{◌≡◌, ◌≤◌, [], None};
+ghost use Rattle.group_commit.specs.DeskWords.{held_of, due_of};
+
+use checkpoint::{DEVICE_LEN, Store, format};
+use disk_trait::{MemDisk, Plan};
+use event_runs::{Event, Reply};
+use graph_edits::{Change, Op};
+use group_commit::Desk;
+use interleave::World;
+use std::alloc::{AllocError, Global};
+use std::process::Abort;
+
+fn made(
+    alloc: Global,
+    nodes: u16,
+    sessions: usize,
+    capacity: usize,
+) -> Result<World<MemDisk>, AllocError>
+    requires sessions { (1 ≤ sessions) × (sessions ≤ 64) }
+    requires capacity { (1 ≤ capacity) × (capacity ≤ 64) }
+{
+    let mut disk = MemDisk::new(alloc, DEVICE_LEN)?;
+    let Ok(()) = format(&mut disk, nodes) else {
+        return Err(AllocError);
+    };
+    let Ok(store) = Store::open(alloc, disk) else {
+        return Err(AllocError);
+    };
+    World::new(alloc, Desk::new(store), sessions, capacity)
+}
+
+/// A world over a fresh device for so many nodes; made once more where memory was refused.
+pub(crate) fn fresh(
+    rt: &impl Abort,
+    alloc: Global,
+    nodes: u16,
+    sessions: usize,
+    capacity: usize,
+    plan: Plan,
+) -> World<MemDisk>
+    requires sessions { (1 ≤ sessions) × (sessions ≤ 64) }
+    requires capacity { (1 ≤ capacity) × (capacity ≤ 64) }
+{
+    let mut world = match made(alloc, nodes, sessions, capacity) {
+        Ok(world) => world,
+        Err(_) => made(alloc, nodes, sessions, capacity).expect(rt, "a world"),
+    };
+    world.arm(plan);
+    world
+}
+
+/// What one event is answered. It is run once more where memory was refused.
+pub(crate) fn answer(
+    rt: &impl Abort,
+    alloc: Global,
+    world: &mut World<MemDisk>,
+    event: &[Event],
+) -> Reply {
+    let mut reply = Reply::Memory;
+    if let Ok(replies) = world.run(alloc, event) {
+        reply = replies.first().copied().unwrap_or(reply);
+    }
+    if reply == Reply::Memory {
+        let replies = world.run(alloc, event).expect(rt, "memory");
+        reply = replies.first().copied().unwrap_or(reply);
+    }
+    reply
+}
+
+/// A submit of these ops.
+pub(crate) fn submit(rt: &impl Abort, session: u8, ticket: u64, ops: &[Op]) -> Event {
+    Event::Submit {
+        session,
+        ticket,
+        change: Change::new(ops).expect(rt, "a change"),
+    }
+}
+
+/// A rebuild by words that make node 2 a landmark.
+pub(crate) fn rebuild_at_two(alloc: Global) -> Result<Event, AllocError> {
+    Ok(Event::Rebuild {
+        words: Vec::from_slice(alloc, &[u64::MAX, u64::MAX, 0])?,
+    })
+}
