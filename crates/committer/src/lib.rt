@@ -43,8 +43,6 @@
 mod committer;
 mod outbox;
 mod refused;
-#[cfg(test)]
-mod tests;
 
 pub use committer::{Committer, Round};
 pub use refused::{RebuildRefused, RoundRefused};
