@@ -1,0 +1,5 @@
+pub mod Answers
+pub mod Faults
+pub mod Seating
+pub mod Settled
+pub mod Source

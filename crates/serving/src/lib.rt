@@ -1,0 +1,46 @@
+//! The engine of a service: a committer, editors and forwarders, each in a thread of its own.
+//!
+//! # What it is
+//!
+//! [`serve_on`] runs a script on a device. Each session has an editor, which submits its changes in the script's order, each once
+//! the one before is settled, under the tickets after the session's last one. The committer takes them in rounds, and builds a
+//! generation of routing schemes before all else and after each round that accepted something. The k-th route goes to forwarder
+//! `k` modulo their number, which launches a packet in the newest generation and carries it there to its end; where that
+//! generation has left the shelf meanwhile, it starts again from the source.
+//!
+//! Editors wait for the committer, and the committer for editors, at one [`std::sync::Mutex`] with two conditions. Nobody asks
+//! again and again but where the board gives no look, or a generation is gone. The first fault stops all.
+//!
+//! # The contract
+//!
+//! A script gets one answer a line, in its order, a verdict just where the line is an edit ([`serve_on`]). What the threads do is
+//! said where they do it: an editor's change is put under its ticket at the queue's end, and its verdict is the mark that the board
+//! shows of this ticket (`IsMarkOf` of specs/Settled); all of them, the committer and the forwarders stand at one board
+//! (`Naming`). What isn't said is what the contracts of threads can't carry: docs/DECISIONS.md.
+//!
+//! ```text
+//! let script = script(alloc, "0 add:0:1:1\nroute 0 1", 2)?;
+//! let seats = Seats { editors: 2, forwarders: 2, places: 64 };
+//! let (answers, disk) = serve_on(rt, alloc, disk, words, seats, script, &Ungated);
+//! ```
+#![tactic(auto)]
+
+mod answer;
+mod committing;
+mod editing;
+mod fault;
+mod forwarding;
+mod gate;
+mod kept;
+mod meeting;
+mod running;
+mod serve;
+mod shares;
+mod told;
+mod words;
+
+pub use answer::Answer;
+pub use committing::SCRATCH_LEN;
+pub use fault::Fault;
+pub use gate::{Gate, Ungated};
+pub use serve::{STACK_LEN, Seats, serve_on};
