@@ -29,7 +29,7 @@ pub fn migrate<O: Disk, N: Disk>(alloc: Global, old: &mut O, new: &mut N) -> Res
     ensures ran_old { IsSameDevice (O.view old.old) (O.view old.new) }
     ensures ran_new { IsSameDevice (N.view new.old) (N.view new.new) }
 {
-    match migrate::migrate(alloc, old, new) {
+    match migrate::bring_over(alloc, old, new) {
         Ok(moved) => Ok(moved),
         Err(refused) => Err(fault_of(refused)),
     }

@@ -3,7 +3,8 @@
 //! Layout 1 knows no tickets and smaller limits. What its images stand for, and reading them, is the crate `recovery_1`; what those of
 //! layout 2 stand for is `recovery`, and writing a state to a new device at once is [`checkpoint::write_state`].
 //!
-//! The contract that the layer above uses is that of [`migrate`], of two disks that keep the disk model:
+//! The contract that the layer above uses is that of [`bring_over`], of two disks that keep the disk model ([`migrate`] is the same call, with the count alone
+//! as its answer):
 //!
 //! - The old device is synced and read, and never written: at every exit its content is as before, and at every moment a crash leaves
 //!   what one could leave before (`only_read`).
@@ -16,7 +17,7 @@
 //!   front of layout 2 before, as a device of zeros, a crash at any moment of the call leaves of it nothing or the whole (`any_moment`).
 //!
 //! ```text
-//! let moved = migrate(alloc, &mut old, &mut new)?;
+//! let moved = bring_over(alloc, &mut old, &mut new)?;
 //! let store = Store::open(alloc, new)?;
 //! store.count()              // moved.count
 //! store.graph().edges()      // moved.edges
@@ -27,7 +28,7 @@
 mod moving;
 mod refusals;
 
-pub use moving::{Moved, migrate};
+pub use moving::{Moved, bring_over, migrate};
 pub use refusals::MigrateRefused;
 
 #[cfg(test)]

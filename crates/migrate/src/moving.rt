@@ -60,7 +60,7 @@ fn read_old<O: Disk>(alloc: Global, old: &mut O) -> Result<(u64, Graph), Migrate
 /// `DEVICE_LEN` bytes; those of an opening of the old device: `OldDevice`, `NotFormatted`, `BadVersion`,
 /// `Damaged` and `Memory`; `Memory` for the new checkpoint; `NewDevice`. With each but the last the new
 /// device is as it was; with the last it isn't to be used.
-pub fn migrate<O: Disk, N: Disk>(
+pub fn bring_over<O: Disk, N: Disk>(
     alloc: Global,
     old: &mut O,
     new: &mut N,
@@ -97,5 +97,35 @@ pub fn migrate<O: Disk, N: Disk>(
         Ok(()) => Ok(Moved { count, edges }),
         Err(WriteRefused::Memory) => Err(MigrateRefused::Memory),
         Err(WriteRefused::Device) => Err(MigrateRefused::NewDevice),
+    }
+}
+
+/// Brings what a device of layout 1 holds to one of layout 2, as [`bring_over`] does, and answers the count alone.
+pub fn migrate<O: Disk, N: Disk>(
+    alloc: Global,
+    old: &mut O,
+    new: &mut N,
+) -> Result<u64, MigrateRefused>
+    ensures ok { IsTrue (O.view old.old).keeps_model → IsTrue (N.view new.old).keeps_model → IfOk result (λ count. (edges : ℕ) × HasMoved (record { count = count; edges = edges }) (O.view old.old).content (N.view new.new)) }
+    ensures fits { IfOk result (λ count. count ≤ worn_limit) }
+    ensures bad_length { IsErrOf result MigrateRefused.BadLength ↔ (length (N.view new.old).content ≢ device_len) }
+    ensures not_formatted { IsTrue (O.view old.old).keeps_model → IsErrOf result MigrateRefused.NotFormatted → LacksMagic (O.view old.old).content × StandsForNone (O.view old.old).content }
+    ensures bad_version { IsTrue (O.view old.old).keeps_model → IsErrOf result MigrateRefused.BadVersion → HasOtherVersion (O.view old.old).content × StandsForNone (O.view old.old).content }
+    ensures damaged { IsTrue (O.view old.old).keeps_model → IsErrOf result MigrateRefused.Damaged → HasThisVersion (O.view old.old).content × StandsForNone (O.view old.old).content }
+    ensures memory { IsTrue (O.view old.old).keeps_model → IsErrOf result MigrateRefused.Memory → HasThisVersion (O.view old.old).content }
+    ensures old_device { IsErrOf result MigrateRefused.OldDevice → (O.view old.old).failures < (O.view old.new).failures }
+    ensures new_device { IsErrOf result MigrateRefused.NewDevice → (N.view new.old).failures < (N.view new.new).failures }
+    ensures no_failure { OnOk result (((O.view old.new).failures ≡ (O.view old.old).failures) × ((N.view new.new).failures ≡ (N.view new.old).failures)) }
+    ensures only_read { IsTrue (O.view old.old).keeps_model → OnlyRead (O.view old.old) (O.view old.new) }
+    ensures not_opened { IsErrOf result MigrateRefused.BadLength → old.new ≡ old.old }
+    ensures untouched { IsErr result → ¬ (IsErrOf result MigrateRefused.NewDevice) → new.new ≡ new.old }
+    ensures any_moment { IsTrue (O.view old.old).keeps_model → IsTrue (N.view new.old).keeps_model → IsAllForeign (N.view new.old)
+        → LeavesOnly (N.view new.old) (N.view new.new) (HoldsNoneOrAllOf (O.view old.old).content) }
+    ensures ran_old { IsSameDevice (O.view old.old) (O.view old.new) }
+    ensures ran_new { IsSameDevice (N.view new.old) (N.view new.new) }
+{
+    match bring_over(alloc, old, new) {
+        Ok(moved) => Ok(moved.count),
+        Err(refused) => Err(refused),
     }
 }

@@ -11,7 +11,7 @@ fn answer_with(
     for text in texts {
         put(old, *text)?;
     }
-    let answer = match migrate(alloc, old, new) {
+    let answer = match bring_over(alloc, old, new) {
         Ok(moved) => Ok(moved.count),
         Err(refused) => Err(refused),
     };
@@ -191,7 +191,7 @@ fn tells_lengths_and_layouts_in_order(rt: HostRuntime) -> Result<(), Fail> {
     ] {
         let mut old = device(rt.alloc(), len, &[(0, front)])?;
         let mut new = zeros(rt.alloc(), new_len)?;
-        let found = migrate(rt.alloc(), &mut old, &mut new);
+        let found = bring_over(rt.alloc(), &mut old, &mut new);
         assert_eq!(rt; found, Err(want), "{len} and {new_len} bytes");
     }
     // a store of layout 2 is no device of layout 1, and the new device keeps its zeros
@@ -199,7 +199,7 @@ fn tells_lengths_and_layouts_in_order(rt: HostRuntime) -> Result<(), Fail> {
     assert_eq!(rt; format(&mut old, 5), Ok(()));
     let mut new = zeros(rt.alloc(), NEW_LEN)?;
     assert_eq!(rt;
-        migrate(rt.alloc(), &mut old, &mut new),
+        bring_over(rt.alloc(), &mut old, &mut new),
         Err(MigrateRefused::BadVersion)
     );
     let mut before = zeros(rt.alloc(), NEW_LEN)?;

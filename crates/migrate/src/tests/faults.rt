@@ -10,7 +10,7 @@ fn tells_each_fault_of_the_old_device(rt: HostRuntime) -> Result<(), Fail> {
     let mut faults = 0;
     for call in 1..100 {
         old.fail_at(call);
-        match migrate(rt.alloc(), &mut old, &mut new) {
+        match bring_over(rt.alloc(), &mut old, &mut new) {
             Ok(_) => break,
             Err(refused) => assert_eq!(rt; refused, MigrateRefused::OldDevice, "call {call}"),
         }
@@ -35,7 +35,7 @@ fn left_whole(
     let mut new = zeros(alloc, NEW_LEN)?;
     new.arm(plan);
     assert_eq!(rt;
-        migrate(alloc, old, &mut new),
+        bring_over(alloc, old, &mut new),
         Err(MigrateRefused::NewDevice),
         "{plan:?}"
     );
@@ -92,7 +92,7 @@ fn needs_ten_calls_of_the_new_device(rt: HostRuntime) -> Result<(), Fail> {
     for word in WORDS {
         let mut new = zeros(rt.alloc(), NEW_LEN)?;
         new.fail_at(11);
-        assert_eq!(rt; migrate(rt.alloc(), &mut old, &mut new), moved(1, 4));
+        assert_eq!(rt; bring_over(rt.alloc(), &mut old, &mut new), moved(1, 4));
         assert!(rt;
             holds(rt.alloc(), new.crash(word), 1, &PATH_EDGES),
             "word {word}"
@@ -106,12 +106,12 @@ fn needs_ten_calls_of_the_new_device(rt: HostRuntime) -> Result<(), Fail> {
 fn a_migration_without_memory_is_made_again(rt: HostRuntime) -> Result<(), Fail> {
     let mut old = path(rt.alloc())?;
     let mut new = zeros(rt.alloc(), NEW_LEN)?;
-    let mut answer = migrate(rt.alloc(), &mut old, &mut new);
+    let mut answer = bring_over(rt.alloc(), &mut old, &mut new);
     if answer.is_err() {
         assert_eq!(rt; answer, Err(MigrateRefused::Memory));
         let mut before = zeros(rt.alloc(), NEW_LEN)?;
         assert!(rt; same_bytes(&mut new, &mut before)?);
-        answer = migrate(rt.alloc(), &mut old, &mut new);
+        answer = bring_over(rt.alloc(), &mut old, &mut new);
     }
     assert_eq!(rt; answer, moved(1, 4));
     Ok(())
