@@ -1,6 +1,7 @@
 -- The two passes over the ports of a node find its children in the order of their numbers.
-use Rattle.std.proofs.Common.{◌≡◌, ◌+◌, ◌<◌, ◌≤◌, ◌==◌, ℕ, Bool, true, false, cond, sym, refl, ap, subst, ◌∙◌, arith, nat_lt, List, [], ◌∷◌, max}
-use Rattle.std.specs.Prelude.{Option, Some, None, not}
+use Rattle.std.proofs.Common.{◌≡◌, ◌+◌, ◌<◌, ◌≤◌, ◌==◌, ℕ, Bool, true, false, cond, sym, refl, ap, subst, ◌∙◌, arith, nat_lt, List, [], ◌∷◌, length, map, drop, get_or, max}
+use Rattle.std.specs.Prelude.{◌↔◌, Option, Some, None, not}
+use Rattle.std.proofs.lemmas.List.{drop_more}
 use Rattle.std.proofs.lemmas.Bool.Decides.{nat_tests}
 use Rattle.std.proofs.lemmas.Bool.{eq-eqb}
 use Rattle.node_table.specs.declared.parts.Parts.{Parts}
@@ -13,7 +14,7 @@ use Rattle.node_table.specs.Local.{record_at, record_or, span, widest_span, firs
 use Rattle.node_table.proofs.Serving.Exact.{Distances}
 use Rattle.node_table.proofs.LocalForms.LocalChecks.{children_near}
 use Rattle.node_table.proofs.LocalForms.ChildRows.{row_scan}
-use Rattle.certificate.specs.Rows.{children_among, by_span, widest_from, others, row_after, row_at, FitsRow, FitsAt, IsLocalAt}
+use Rattle.certificate.specs.Rows.{children_among, by_span, widest_from, others, with_other, row_after, row_at, FitsRow, FitsAt, IsLocalAt}
 use Rattle.certificate.proofs.LookUps.{looked_up, each_one}
 
 others_is : (t : Tables) (r x h : ℕ) (ys : List ℕ) → others t r x h ys ≡ all_but h (children_among t r x ys)
@@ -173,3 +174,19 @@ records_from m p d s h x l = (
       let g2 = subst (λ z. (tables p).entry y z ≡ Some e) (sym k) g in
       fits_from m (tables p) d s.nodes y e g2 ((h e.root (d.inside y e.root e g2)).below y e g2))) x l,
 )
+
+-- one turn of the second pass: what is left of the row after one node more, or that it isn't the row's
+pub row_on : (m : Network) (t : Tables) (r x h next after depth end i : ℕ) (row : List (ℕ × ℕ)) (Q : Type 0) → i < length row
+    → Q ↔ IsRow m t r false next depth end (others t r x h (map (λ e. e.0) (drop i row)))
+    → IsRow m t r false next depth end (with_other t r x h (get_or row i (0, 0)).0 (others t r x h (map (λ e. e.0) (drop (i + 1) row)))) ↔ IsRow m t r false after depth end (others t r x h (map (λ e. e.0) (drop (i + 1) row)))
+    → Q ↔ IsRow m t r false after depth end (others t r x h (map (λ e. e.0) (drop (i + 1) row)))
+row_on m t r x h next after depth end i row Q l q k =
+    let g = subst (λ z. Q ↔ IsRow m t r false next depth end (others t r x h (map (λ e. e.0) z))) (drop_more row i (0, 0) l) q in
+    (λ a. k.0 (g.0 a), λ b. g.1 (k.1 b))
+
+pub row_off : (m : Network) (t : Tables) (r x h next depth end i : ℕ) (row : List (ℕ × ℕ)) (Q : Type 0) → i < length row
+    → Q ↔ IsRow m t r false next depth end (others t r x h (map (λ e. e.0) (drop i row)))
+    → (IsRow m t r false next depth end (with_other t r x h (get_or row i (0, 0)).0 (others t r x h (map (λ e. e.0) (drop (i + 1) row)))) → ⊥) → Q → ⊥
+row_off m t r x h next depth end i row Q l q k a =
+    let g = subst (λ z. Q ↔ IsRow m t r false next depth end (others t r x h (map (λ e. e.0) z))) (drop_more row i (0, 0) l) q in
+    k (g.0 a)

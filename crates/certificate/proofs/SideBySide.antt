@@ -35,6 +35,22 @@ below_more es r n d b l lt k kl = go (nat_lt k n) refl
         let at = ap (slice_index (roots_of es)) s in
         omega (arith, lt, key, at)
 
+-- all up to a place whose root is below are below, since roots ascend
+pub below_finger : (es : List Entry) (r n : ℕ) (d : Entry) → IsStrictlyIncreasing (roots_of es) → n < length es → (get_or es n d).root < r → AreBelow r (n + 1) es
+below_finger es r n d up l lt k kl = go (nat_lt k n) refl
+  where
+    go : (c : Bool) → nat_lt k n ≡ c → slice_index (roots_of es) k < r
+    go true t =
+        let many = keys_length (λ (z : Entry). z.root) es in
+        let key = key_at (λ (z : Entry). z.root) es n d l in
+        let a = rises (roots_of es) up k n (grind (arith, nat_tests)) (omega (arith, many, l)) in
+        omega (arith, lt, key, a)
+    go false t =
+        let s : k ≡ n = grind (arith, nat_tests) in
+        let key = key_at (λ (z : Entry). z.root) es n d l in
+        let at = ap (slice_index (roots_of es)) s in
+        omega (arith, lt, key, at)
+
 -- the entry at the place for a root, where its root is that one
 pub entry_here : (es : List Entry) (r n : ℕ) (d : Entry) → IsPlaceFor r n es → n < length es → (get_or es n d).root ≡ r → first_entry r es ≡ Some (get_or es n d)
 entry_here es r n d h l e =

@@ -13,21 +13,14 @@ use graph_edits::Graph;
 use heavy_labels::Label;
 use node_table::{Listed, Scheme, port};
 
-fn parent(scheme: &Scheme, root: u16, x: u16) -> Option<u16>
-    ensures { result ≡ parent_of ((tables scheme.now).entry x root) }
+/// The parent and the light depth that a node's entry for a root names.
+fn rung(scheme: &Scheme, root: u16, x: u16) -> (Option<u16>, u16)
+    ensures parent { result.0 ≡ parent_of ((tables scheme.now).entry x root) }
+    ensures depth { result.1 ≡ (record_at (tables scheme.now) root x).light_depth }
 {
     match scheme.entry(x, root) {
-        Some(entry) => entry.parent,
-        None => None,
-    }
-}
-
-fn light_depth(scheme: &Scheme, root: u16, x: u16) -> u16
-    ensures { result ≡ (record_at (tables scheme.now) root x).light_depth }
-{
-    match scheme.entry(x, root) {
-        Some(entry) => entry.tree_record.light_depth,
-        None => 0,
+        Some(entry) => (entry.parent, entry.tree_record.light_depth),
+        None => (None, 0),
     }
 }
 
@@ -77,13 +70,15 @@ fn are_lights(graph: &Graph, scheme: &Scheme, root: u16, v: u16, lights: &[u16])
 {
     let mut left = lights;
     let mut at = v;
-    while let Some(above) = parent(scheme, root, at) {
-        let is_heavy = light_depth(scheme, root, at) == light_depth(scheme, root, above);
-        match climbed(graph, at, above, is_heavy, left) {
+    let mut here = rung(scheme, root, v);
+    while let Some(above) = here.0 {
+        let there = rung(scheme, root, above);
+        match climbed(graph, at, above, here.1 == there.1, left) {
             Some(rest) => left = rest,
             None => return false,
         }
         at = above;
+        here = there;
     }
     left.is_empty()
 }

@@ -16,7 +16,8 @@
 //!
 //! Shape, Strict and Nearest are tested entry by entry. Edges and Parents are tested edge by edge: the entries of both its
 //! ends ascend, so they are walked side by side, and none is searched for. A record is tested against those of its
-//! children, which are neighbours: one pass over the ports finds the heavy child, a second one counts the others through.
+//! children, which are neighbours: one pass over the ports finds the heavy child, a second one counts the others through,
+//! and a finger in the entries behind each port goes along with the node's own.
 //! A label is tested by a climb from its node, which meets the label's light ports from the last to the first. That these
 //! tests are the rules is proved: the trees, records and labels are those of Thorup and Zwick, Compact Routing Schemes, in
 //! this project's profile.
@@ -37,6 +38,7 @@ mod checks;
 mod directories;
 mod edges;
 mod fault;
+mod fingers;
 mod labels;
 mod nearest;
 mod pairs;

@@ -1,6 +1,8 @@
-// Records: each by those of its children, two passes over the ports of its node.
+// Records: each by those of its children, two passes over the ports of its node. A finger in the entries behind each port
+// goes along with the roots of the node's own entries.
 ghost use Rattle.std.specs.Prelude.{◌≡◌, ◌<◌, ◌+◌, ◌↔◌, ℕ, IsTrue, Some, None, MatchOption, true, false, List, [], ◌∷◌};
 ghost use Rattle.std.specs.List.{All};
+ghost use Rattle.certificate.specs.Entries.{AllAscend};
 ghost use Rattle.certificate.specs.Rows.{FitsAt, FitsRow, IsLocalAt, others, row_after, widest_from, wider as wider_of, with_other};
 ghost use Rattle.heavy_labels.specs.Stepped.{record_of};
 ghost use Rattle.certificate.specs.Climbs.{HoldsFirst};
@@ -10,16 +12,25 @@ ghost use Rattle.node_table.specs.Ports.{neighbours};
 ghost use Rattle.node_table.specs.Tables.{Tables, entries_at, tables};
 ghost use Rattle.graph_edits.specs.Edges.{Network};
 
+use crate::fingers::Fingers;
 use crate::ports::{port_down, port_up};
 use graph_edits::Graph;
 use heavy_labels::Record;
 use node_table::{Entry, Scheme};
 
-/// The entry of y, if y is a child of x in the tree of a root.
-fn child(scheme: &Scheme, root: u16, x: u16, y: u16) -> Option<&Entry>
+/// The entry of y behind a port of x, if y is a child of x in the tree of a root.
+fn child<'a>(
+    scheme: &'a Scheme,
+    fingers: &mut Fingers,
+    root: u16,
+    x: u16,
+    port: usize,
+    y: u16,
+) -> Option<&'a Entry>
+    requires { AllAscend scheme.now }
     ensures { MatchOption result (parent_is x ((tables scheme.now).entry y root) ≡ false) (λ e. ((tables scheme.now).entry y root ≡ Some e.now) × (e.now.parent ≡ Some x)) }
 {
-    match scheme.entry(y, root) {
+    match fingers.entry(scheme, port, y, root) {
         Some(entry) => if entry.parent == Some(x) {
             Some(entry)
         } else {
@@ -46,11 +57,18 @@ fn span_at(scheme: &Scheme, root: u16, x: u16) -> u32
     }
 }
 
-/// The widest child of x, when y is looked at too.
-fn wider(scheme: &Scheme, root: u16, x: u16, heavy: Option<u16>, y: u16) -> Option<u16>
-    ensures { result ≡ wider_of (tables scheme.now) root x heavy y }
+/// The widest child of x, when y is looked at too, whose entry this is if it is a child.
+fn wider(
+    scheme: &Scheme,
+    root: u16,
+    heavy: Option<u16>,
+    y: u16,
+    below: Option<&Entry>,
+) -> Option<u16>
+    ensures { (x : ℕ) → MatchOption below.entry (parent_is x ((tables scheme.now).entry y root) ≡ false) (λ e. ((tables scheme.now).entry y root ≡ Some e.now) × (e.now.parent ≡ Some x))
+        → result ≡ wider_of (tables scheme.now) root x heavy y }
 {
-    let Some(entry) = child(scheme, root, x, y) else {
+    let Some(entry) = below else {
         return heavy;
     };
     let wide = span(&entry.tree_record);
@@ -67,14 +85,22 @@ fn wider(scheme: &Scheme, root: u16, x: u16, heavy: Option<u16>, y: u16) -> Opti
 }
 
 /// The heavy child of x: the widest, the smallest where several are as wide.
-fn heavy_child(graph: &Graph, scheme: &Scheme, root: u16, x: u16) -> Option<u16>
-    requires { x < graph.now.nodes }
+fn heavy_child(
+    graph: &Graph,
+    scheme: &Scheme,
+    fingers: &mut Fingers,
+    root: u16,
+    x: u16,
+) -> Option<u16>
+    requires inside { x < graph.now.nodes }
+    requires ascend { AllAscend scheme.now }
     ensures { result ≡ widest_from (tables scheme.now) root x None (neighbours graph.now x) }
 {
     let row = graph.neighbours(x);
     let mut heavy = None;
-    for edge in row {
-        heavy = wider(scheme, root, x, heavy, edge.0);
+    for (port, edge) in row.iter().enumerate() {
+        let below = child(scheme, fingers, root, x, port, edge.0);
+        heavy = wider(scheme, root, heavy, edge.0, below);
     }
     heavy
 }
@@ -89,21 +115,20 @@ fn fits_child(graph: &Graph, entry: &Entry, y: u16, first: u32, depth: u32) -> b
         && record.parent_port == port_up(graph, y, entry)
 }
 
-/// The number after y's members, or the same number where y is no child of x but the heavy one; none where its record
-/// doesn't fit.
+/// The number after y's members, or the same number where y is no child but the heavy one; none where its record
+/// doesn't fit. Its entry is this, if it is a child.
 fn number_after(
     graph: &Graph,
-    scheme: &Scheme,
-    root: u16,
-    x: u16,
     heavy: u16,
     y: u16,
+    below: Option<&Entry>,
     next: u32,
     depth: u16,
 ) -> Option<u32>
-    ensures { (ys : List ℕ) (end : ℕ) → MatchOption result (IsRow graph.now (tables scheme.now) root false next depth end (with_other (tables scheme.now) root x heavy y ys) → ⊥) (λ n. IsRow graph.now (tables scheme.now) root false next depth end (with_other (tables scheme.now) root x heavy y ys) ↔ IsRow graph.now (tables scheme.now) root false n depth end ys) }
+    ensures { (t : Tables) (root x : ℕ) (ys : List ℕ) (end : ℕ) → MatchOption below.entry (parent_is x (t.entry y root) ≡ false) (λ e. (t.entry y root ≡ Some e.now) × (e.now.parent ≡ Some x))
+        → MatchOption result (IsRow graph.now t root false next depth end (with_other t root x heavy y ys) → ⊥) (λ n. IsRow graph.now t root false next depth end (with_other t root x heavy y ys) ↔ IsRow graph.now t root false n depth end ys) }
 {
-    let Some(entry) = child(scheme, root, x, y) else {
+    let Some(entry) = below else {
         return Some(next);
     };
     if y == heavy {
@@ -119,6 +144,7 @@ fn number_after(
 fn are_others_fit(
     graph: &Graph,
     scheme: &Scheme,
+    fingers: &mut Fingers,
     root: u16,
     x: u16,
     heavy: u16,
@@ -126,13 +152,15 @@ fn are_others_fit(
     depth: u16,
     end: u32,
 ) -> bool
-    requires { x < graph.now.nodes }
+    requires inside { x < graph.now.nodes }
+    requires ascend { AllAscend scheme.now }
     ensures { IsTrue result ↔ IsRow graph.now (tables scheme.now) root false start depth end (others (tables scheme.now) root x heavy (neighbours graph.now x)) }
 {
     let row = graph.neighbours(x);
     let mut next = start;
-    for edge in row {
-        match number_after(graph, scheme, root, x, heavy, edge.0, next, depth) {
+    for (port, edge) in row.iter().enumerate() {
+        let below = child(scheme, fingers, root, x, port, edge.0);
+        match number_after(graph, heavy, edge.0, below, next, depth) {
             Some(after) => next = after,
             None => return false,
         }
@@ -142,8 +170,16 @@ fn are_others_fit(
 
 /// Whether a record fits a heavy child and the others of its node.
 #[tactic(auto, unfolding(crate::specs::Rows::FitsRow))]
-fn fits_heavy(graph: &Graph, scheme: &Scheme, x: u16, entry: &Entry, heavy: u16) -> bool
-    requires { x < graph.now.nodes }
+fn fits_heavy(
+    graph: &Graph,
+    scheme: &Scheme,
+    fingers: &mut Fingers,
+    x: u16,
+    entry: &Entry,
+    heavy: u16,
+) -> bool
+    requires inside { x < graph.now.nodes }
+    requires ascend { AllAscend scheme.now }
     ensures { IsTrue result ↔ FitsRow graph.now (tables scheme.now) entry.now.root (record_of entry.now.tree_record) (heavy ∷ others (tables scheme.now) entry.now.root x heavy (neighbours graph.now x)) }
 {
     let record = &entry.tree_record;
@@ -155,7 +191,9 @@ fn fits_heavy(graph: &Graph, scheme: &Scheme, x: u16, entry: &Entry, heavy: u16)
     let end = record.last as u32 + 1;
     let depth = record.light_depth;
     fits_child(graph, below, heavy, first, depth as u32)
-        && are_others_fit(graph, scheme, entry.root, x, heavy, next, depth, end)
+        && are_others_fit(
+            graph, scheme, fingers, entry.root, x, heavy, next, depth, end,
+        )
         && record.heavy_last == below.tree_record.last
         && record.heavy_port == port_down(graph, heavy, below)
 }
@@ -169,24 +207,30 @@ fn fits_leaf(given: &Record) -> bool
 }
 
 #[tactic(auto, unfolding(crate::specs::Rows::FitsAt))]
-fn fits_below(graph: &Graph, scheme: &Scheme, x: u16, entry: &Entry) -> bool
-    requires { x < graph.now.nodes }
+fn fits_below(graph: &Graph, scheme: &Scheme, fingers: &mut Fingers, x: u16, entry: &Entry) -> bool
+    requires inside { x < graph.now.nodes }
+    requires ascend { AllAscend scheme.now }
     ensures { IsTrue result ↔ FitsAt graph.now (tables scheme.now) x entry.now }
 {
-    match heavy_child(graph, scheme, entry.root, x) {
-        Some(heavy) => fits_heavy(graph, scheme, x, entry, heavy),
+    match heavy_child(graph, scheme, fingers, entry.root, x) {
+        Some(heavy) => fits_heavy(graph, scheme, fingers, x, entry, heavy),
         None => fits_leaf(&entry.tree_record),
     }
 }
 
+/// Whether the record of every entry of a node fits. The entries of its neighbours are walked beside them.
 fn are_below_fit(graph: &Graph, scheme: &Scheme, x: u16) -> bool
-    requires { x < graph.now.nodes }
+    requires inside { x < graph.now.nodes }
+    requires ascend { AllAscend scheme.now }
     ensures { IsTrue result ↔ All (FitsAt graph.now (tables scheme.now) x) (entries_at scheme.now x) }
 {
-    scheme
-        .entries_of(x)
-        .iter()
-        .all(|entry| fits_below(graph, scheme, x, entry))
+    let mut fingers = Fingers::new();
+    for entry in scheme.entries_of(x) {
+        if !fits_below(graph, scheme, &mut fingers, x, entry) {
+            return false;
+        }
+    }
+    true
 }
 
 /// Whether a root's record of itself is that of a root. Where it has none there is nothing to fit.
@@ -202,7 +246,8 @@ fn fits_root(scheme: &Scheme, x: u16) -> bool
 
 #[tactic(auto, unfolding(crate::specs::Rows::IsLocalAt))]
 fn is_local(graph: &Graph, scheme: &Scheme, x: u16) -> bool
-    requires { x < graph.now.nodes }
+    requires inside { x < graph.now.nodes }
+    requires ascend { AllAscend scheme.now }
     ensures { IsTrue result ↔ IsLocalAt graph.now scheme.now x }
 {
     fits_root(scheme, x) && are_below_fit(graph, scheme, x)

@@ -13,26 +13,30 @@ unfolding HasLights
 returns-in-None c =
     let d = distances_first c.args.graph.now c.args.scheme.now c.requires in (
       λ t. bad t,
-      λ e. absurd (climb_off c.args.graph.now (tables c.args.scheme.now) d c.args.root c.loop-above.at c.in-Some.above _ _ c.args.lights.now c.loop-above.left.now _
-          c.in-Some.ensures c.light_depth.ensures c.light_depth-in-Some.ensures c.loop-above.invariant (c.in-None.ensures _)
+      λ e. absurd (climb_off c.args.graph.now (tables c.args.scheme.now) d c.args.root c.loop-here.at c.in-Some.above _ _ c.args.lights.now c.loop-here.left.now _
+          (sym c.in-Some.is ∙ c.loop-here.invariant.parent) c.loop-here.invariant.depth c.rung-there.ensures.depth c.loop-here.invariant.climbed (c.in-None.ensures _)
           (e ∙ sym (lights_of_tree c.args.graph.now c.args.scheme.now c.requires c.args.root c.args.v))),
     )
 
-pub loop-above-smaller : goal.loop-above-smaller
-loop-above-smaller c = climb_falls c.args.graph.now (tables c.args.scheme.now) (distances_first c.args.graph.now c.args.scheme.now c.requires) c.args.root c.loop-above.at c.in-Some.above c.in-Some.ensures
+pub loop-here-smaller : goal.loop-here-smaller
+loop-here-smaller c = climb_falls c.args.graph.now (tables c.args.scheme.now) (distances_first c.args.graph.now c.args.scheme.now c.requires) c.args.root c.loop-here.at c.in-Some.above (sym c.in-Some.is ∙ c.loop-here.invariant.parent)
 
-pub loop-above-preserved : goal.loop-above-preserved
-loop-above-preserved c =
+pub loop-here-preserved : goal.loop-here-preserved
+loop-here-preserved c =
     let d = distances_first c.args.graph.now c.args.scheme.now c.requires in
-    climb_on c.args.graph.now (tables c.args.scheme.now) d c.args.root c.loop-above.at c.in-Some.above _ _ c.args.lights.now c.loop-above.left.now c.in-Some-climbed.rest.now _
-    c.in-Some.ensures c.light_depth.ensures c.light_depth-in-Some.ensures c.loop-above.invariant (c.in-Some-climbed.ensures _)
+    record {
+      parent = c.rung-there.ensures.parent;
+      depth = c.rung-there.ensures.depth;
+      climbed = climb_on c.args.graph.now (tables c.args.scheme.now) d c.args.root c.loop-here.at c.in-Some.above _ _ c.args.lights.now c.loop-here.left.now c.in-Some-climbed.rest.now _
+          (sym c.in-Some.is ∙ c.loop-here.invariant.parent) c.loop-here.invariant.depth c.rung-there.ensures.depth c.loop-here.invariant.climbed (c.in-Some-climbed.ensures _);
+    }
 
 pub returns : goal.returns
 unfolding HasLights
 returns c =
     let d = distances_first c.args.graph.now c.args.scheme.now c.requires in
-    let k : IsTrue c.is_empty.result ↔ (c.loop-above.left.now ≡ []) = empty_test c.loop-above.left.now c.is_empty.result (search (rules, c.is_empty.ensures)) in
-    let h = climb_done c.args.graph.now (tables c.args.scheme.now) d c.args.root c.loop-above.at c.args.lights.now c.loop-above.left.now _ c.is_empty.result
-    c.in_default.ensures c.loop-above.invariant k in
+    let k : IsTrue c.is_empty.result ↔ (c.loop-here.left.now ≡ []) = empty_test c.loop-here.left.now c.is_empty.result (search (rules, c.is_empty.ensures)) in
+    let h = climb_done c.args.graph.now (tables c.args.scheme.now) d c.args.root c.loop-here.at c.args.lights.now c.loop-here.left.now _ c.is_empty.result
+    (sym c.in_default.is ∙ c.loop-here.invariant.parent) c.loop-here.invariant.climbed k in
     let same = lights_of_tree c.args.graph.now c.args.scheme.now c.requires c.args.root c.args.v in
     (λ t. h.0 t ∙ same, λ e. h.1 (e ∙ sym same))

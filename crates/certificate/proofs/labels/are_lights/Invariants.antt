@@ -2,11 +2,16 @@ use Rattle.std.proofs.Common.{◌≡◌}
 use Rattle.std.specs.Prelude.{◌↔◌}
 use Rattle.certificate.specs.Climbs.{lights_up}
 use Rattle.node_table.specs.Tables.{tables}
+use Rattle.node_table.specs.Local.{parent_of, record_at}
 use Rattle.node_table.specs.Checks.{distance_of}
 use Rattle.certificate.proofs.labels.are_lights.Given as goal
 
-abbrev pub invariant-loop-above : goal.invariant-loop-above
-invariant-loop-above l = (l.lights ≡ lights_up l.graph (tables l.scheme) l.root l.v) ↔ (l.left ≡ lights_up l.graph (tables l.scheme) l.root l.at)
+abbrev pub invariant-loop-here : goal.invariant-loop-here
+invariant-loop-here l = record {
+  parent : l.here.0 ≡ parent_of ((tables l.scheme).entry l.at l.root);
+  depth : l.here.1 ≡ (record_at (tables l.scheme) l.root l.at).light_depth;
+  climbed : (l.lights ≡ lights_up l.graph (tables l.scheme) l.root l.v) ↔ (l.left ≡ lights_up l.graph (tables l.scheme) l.root l.at);
+}
 
-abbrev pub decreases-loop-above : goal.decreases-loop-above
-decreases-loop-above l = distance_of ((tables l.scheme).entry l.at l.root)
+abbrev pub decreases-loop-here : goal.decreases-loop-here
+decreases-loop-here l = distance_of ((tables l.scheme).entry l.at l.root)

@@ -5,6 +5,6 @@ use Rattle.node_table.specs.Local.{IsRow}
 use Rattle.node_table.specs.Tables.{tables}
 use Rattle.certificate.proofs.records.are_others_fit.Given as goal
 
-abbrev pub invariant-loop-edge : goal.invariant-loop-edge
-invariant-loop-edge l = IsRow l.graph (tables l.scheme) l.root false l.start l.depth l.end (others (tables l.scheme) l.root l.x l.heavy (map (λ e. e.0) l.row))
-    ↔ IsRow l.graph (tables l.scheme) l.root false l.next l.depth l.end (others (tables l.scheme) l.root l.x l.heavy (map (λ e. e.0) (drop l.edge-index l.row)))
+abbrev pub invariant-loop-port : goal.invariant-loop-port
+invariant-loop-port l = IsRow l.graph (tables l.scheme) l.root false l.start l.depth l.end (others (tables l.scheme) l.root l.x l.heavy (map (λ e. e.0) l.row))
+    ↔ IsRow l.graph (tables l.scheme) l.root false l.next l.depth l.end (others (tables l.scheme) l.root l.x l.heavy (map (λ e. e.0) (drop l.port l.row)))

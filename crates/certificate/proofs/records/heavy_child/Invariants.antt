@@ -4,5 +4,5 @@ use Rattle.certificate.specs.Rows.{widest_from}
 use Rattle.node_table.specs.Tables.{tables}
 use Rattle.certificate.proofs.records.heavy_child.Given as goal
 
-abbrev pub invariant-loop-edge : goal.invariant-loop-edge
-invariant-loop-edge l = widest_from (tables l.scheme) l.root l.x l.heavy (map (λ e. e.0) (drop l.edge-index l.row)) ≡ widest_from (tables l.scheme) l.root l.x None (map (λ e. e.0) l.row)
+abbrev pub invariant-loop-port : goal.invariant-loop-port
+invariant-loop-port l = widest_from (tables l.scheme) l.root l.x l.heavy (map (λ e. e.0) (drop l.port l.row)) ≡ widest_from (tables l.scheme) l.root l.x None (map (λ e. e.0) l.row)
