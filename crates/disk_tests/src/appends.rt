@@ -1,10 +1,10 @@
 // Journals on disks in memory, with the conditions of their calls tested first.
+use crate::helpers::{blank, bytes, got, same};
 use disk_trait::{Disk, MemDisk};
 use graph_edits::{Change, Op};
 use journal::{AppendRefused, Area, Entry, Journal, MOST_ENTRIES, ScanRefused};
 use std::alloc::Global;
 use std::process::Abort;
-use std::test::Fail;
 
 /// Appends to a journal whose area lies on the disk.
 pub(crate) fn append_to<E: Entry>(
@@ -34,86 +34,112 @@ pub(crate) fn scan_of<E: Entry>(
 }
 
 /// A group of so many changes of so many ops each.
-fn group_of(alloc: Global, parts: &[(usize, usize)]) -> Result<Vec<Change>, Fail> {
+fn group_of(rt: &impl Abort, alloc: Global, parts: &[(usize, usize)]) -> Vec<Change> {
     let ops = [Op::Set(0, 1, 1); 16];
     let mut group = Vec::new(alloc);
     for (changes, len) in parts {
+        let ops = got(rt, ops.get(..*len).ok_or("at most 16 ops"));
         for _ in 0..*changes {
-            group.push(Change::new(ops.get(..*len).ok_or("at most 16 ops")?)?)?;
+            got(rt, group.push(got(rt, Change::new(ops))));
         }
     }
-    Ok(group)
+    group
 }
 
+/// Whether a journal has room for a group.
+fn has_room(rt: &impl Abort, journal: &Journal<Change>, group: &[Change]) -> bool {
+    let many = group.len();
+    assert!(rt; many <= MOST_ENTRIES);
+    journal.has_room(group)
+}
+
+/// An area of the greatest size, alone on its disk.
+const WHOLE: Area = Area {
+    start: 0,
+    room: 1_048_576,
+};
+
+/// The last group, by changes and their ops, what is answered, and how many changes the journal then has. The next gate comes to
+/// stand at 1,048,575 and at 1,048,576 of the area.
+const LAST: [([(usize, usize); 3], Result<(), AppendRefused>, usize); 2] = [
+    ([(57, 16), (1, 12), (5, 1)], Ok(()), 7_231),
+    (
+        [(57, 16), (1, 11), (6, 1)],
+        Err(AppendRefused::NoRoom),
+        7_168,
+    ),
+];
+
 #[test]
-fn room_on_both_sides_of_the_last_byte(rt: HostRuntime) -> Result<(), Fail> {
-    let area = Area {
-        start: 0,
-        room: 1_048_576,
-    };
-    let full = group_of(rt.alloc(), &[(64, 16)])?;
-    // The next gate comes to stand at 1,048,575 and at 1,048,576 of the area.
-    for (last, want, entries) in [
-        ([(57usize, 16usize), (1, 12), (5, 1)], Ok(()), 7_231usize),
-        (
-            [(57, 16), (1, 11), (6, 1)],
-            Err(AppendRefused::NoRoom),
-            7_168,
-        ),
-    ] {
-        let mut disk = MemDisk::new(rt.alloc(), area.room)?;
-        let mut journal = Journal::fresh(area);
+fn room_on_both_sides_of_the_last_byte(rt: HostRuntime) {
+    let full = group_of(&rt, rt.alloc(), &[(64, 16)]);
+    for (last, want, entries) in &LAST {
+        let mut disk = blank(&rt, rt.alloc(), 1_048_576);
+        let mut journal = Journal::fresh(WHOLE);
         for _ in 0..112 {
-            append_to(&rt, rt.alloc(), &mut journal, &mut disk, &full)?;
+            let answer = append_to(&rt, rt.alloc(), &mut journal, &mut disk, &full);
+            got(&rt, answer);
         }
-        let group = group_of(rt.alloc(), &last)?;
-        assert!(&rt; group.len() <= MOST_ENTRIES);
-        assert!(&rt; journal.has_room(&group) == want.is_ok());
+        let group = group_of(&rt, rt.alloc(), last);
+        same(&rt, has_room(&rt, &journal, &group), want.is_ok(), "room");
         let answer = append_to(&rt, rt.alloc(), &mut journal, &mut disk, &group);
-        assert!(&rt; answer == want);
-        let (_, found) = scan_of::<Change>(&rt, rt.alloc(), &mut disk, area)?;
-        assert!(&rt; found.len() == entries);
+        same(&rt, answer, *want, "the last group");
+        let (_, found) = got(&rt, scan_of::<Change>(&rt, rt.alloc(), &mut disk, WHOLE));
+        same(&rt, found.len(), *entries, "the changes");
     }
-    Ok(())
 }
 
 // Run with `rt try --test --fail-alloc N` for each N: the call whose allocation is refused says so and changes
 // nothing, and made again it gives the answer.
 #[test]
-fn a_refused_allocation_changes_nothing(rt: HostRuntime) -> Result<(), Fail> {
+fn a_refused_allocation_changes_nothing(rt: HostRuntime) {
     let area = Area { start: 2, room: 60 };
-    let mut disk = match MemDisk::new(rt.alloc(), 64) {
-        Ok(disk) => disk,
-        Err(_) => MemDisk::new(rt.alloc(), 64)?,
-    };
+    let mut disk = blank(&rt, rt.alloc(), 64);
     let mut journal = Journal::fresh(area);
     let group = [
-        Change::new(&[Op::Set(0, 1, 2)])?,
-        Change::new(&[Op::Cut(0, 1), Op::Add(2, 3, 4)])?,
+        got(&rt, Change::new(&[Op::Set(0, 1, 2)])),
+        got(&rt, Change::new(&[Op::Cut(0, 1), Op::Add(2, 3, 4)])),
     ];
-    if let Err(refused) = append_to(&rt, rt.alloc(), &mut journal, &mut disk, &group) {
-        let mut bytes = [9; 64];
-        assert!(&rt; disk.len() == 64);
-        disk.read(0, &mut bytes)?;
-        assert!(&rt; refused == AppendRefused::Memory && bytes == [0; 64]);
-        append_to(&rt, rt.alloc(), &mut journal, &mut disk, &group)?;
+    let answer = append_to(&rt, rt.alloc(), &mut journal, &mut disk, &group);
+    if answer.is_err() {
+        same(&rt, answer, Err(AppendRefused::Memory), "without memory");
+        same(
+            &rt,
+            bytes::<MemDisk, 64>(&rt, &mut disk, 0),
+            [0; 64],
+            "as before",
+        );
+        got(
+            &rt,
+            append_to(&rt, rt.alloc(), &mut journal, &mut disk, &group),
+        );
     }
-    let (_, entries) = match scan_of::<Change>(&rt, rt.alloc(), &mut disk, area) {
-        Err(ScanRefused::Memory) => scan_of::<Change>(&rt, rt.alloc(), &mut disk, area)?,
-        answer => answer?,
+    let entries = scanned_again(&rt, rt.alloc(), &mut disk, area);
+    same(&rt, entries.as_slice(), group.as_slice(), "the changes");
+}
+
+/// The changes of an area, scanned again where memory was short.
+fn scanned_again(rt: &impl Abort, alloc: Global, disk: &mut MemDisk, area: Area) -> Vec<Change> {
+    let answer = match scan_of::<Change>(rt, alloc, disk, area) {
+        Err(ScanRefused::Memory) => scan_of::<Change>(rt, alloc, disk, area),
+        answer => answer,
     };
-    assert!(&rt; entries.as_slice() == group.as_slice());
-    Ok(())
+    let (_, entries) = got(rt, answer);
+    entries
 }
 
 #[test]
-fn a_scan_whose_read_fails(rt: HostRuntime) -> Result<(), Fail> {
+fn a_scan_whose_read_fails(rt: HostRuntime) {
     let area = Area { start: 2, room: 60 };
-    let mut disk = MemDisk::new(rt.alloc(), 64)?;
+    let mut disk = blank(&rt, rt.alloc(), 64);
     disk.fail_at(1);
     let refused = scan_of::<Change>(&rt, rt.alloc(), &mut disk, area).err();
-    assert!(&rt; refused == Some(ScanRefused::Device));
-    let (journal, entries) = scan_of::<Change>(&rt, rt.alloc(), &mut disk, area)?;
-    assert!(&rt; entries.is_empty() && journal.area() == area);
-    Ok(())
+    same(&rt, refused, Some(ScanRefused::Device), "a failed read");
+    let (journal, entries) = got(&rt, scan_of::<Change>(&rt, rt.alloc(), &mut disk, area));
+    same(
+        &rt,
+        (entries.len(), journal.area()),
+        (0, area),
+        "scanned again",
+    );
 }

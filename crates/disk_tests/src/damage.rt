@@ -1,10 +1,11 @@
 // Two records with each byte changed to each other, against a plain second reader.
 use crate::appends::{append_to, scan_of};
-use disk_trait::{Disk, MemDisk};
+use crate::helpers::{blank, bytes, got, put, same};
+use disk_trait::MemDisk;
 use graph_edits::{Change, Op};
 use journal::{Area, Journal, ScanRefused};
-use std::alloc::{AllocError, Global};
-use std::test::Fail;
+use std::alloc::Global;
+use std::process::Abort;
 
 /// A second reader, which goes through an area byte by byte.
 #[derive(Drop)]
@@ -41,34 +42,34 @@ impl Reader<'_> {
     }
 
     /// Reads the ops of a change, and whether they are all there.
-    fn change(&mut self) -> Result<bool, AllocError> {
+    fn change(&mut self, rt: &impl Abort) -> bool {
         let count = self.number(1).unwrap_or(0);
         for _ in 0..count {
             let Some(op) = self.op() else {
-                return Ok(false);
+                return false;
             };
-            self.ops.push((self.changes, op))?;
+            got(rt, self.ops.push((self.changes, op)));
         }
         self.changes = self.changes.wrapping_add(1);
-        Ok(1 <= count && count <= 16)
+        1 <= count && count <= 16
     }
 
     /// Reads the changes of a record behind its gate, and whether they are all there and fill it.
-    fn record(&mut self) -> Result<bool, AllocError> {
+    fn record(&mut self, rt: &impl Abort) -> bool {
         let len = self.number(4).unwrap_or(0) as usize;
         let before = self.bytes.len();
         let changes = self.number(2).unwrap_or(0);
         for _ in 0..changes.min(65) {
-            if !self.change()? {
-                return Ok(false);
+            if !self.change(rt) {
+                return false;
             }
         }
-        Ok(1 <= changes && changes <= 64 && before.wrapping_sub(self.bytes.len()) == len)
+        1 <= changes && changes <= 64 && before.wrapping_sub(self.bytes.len()) == len
     }
 }
 
 /// The ops of an area, each with the number of its change; none where the area is damaged.
-fn read_plainly(alloc: Global, area: &[u8]) -> Result<Option<Vec<(usize, Op)>>, AllocError> {
+fn read_plainly(rt: &impl Abort, alloc: Global, area: &[u8]) -> Option<Vec<(usize, Op)>> {
     let mut reader = Reader {
         bytes: area,
         ops: Vec::new(alloc),
@@ -77,14 +78,14 @@ fn read_plainly(alloc: Global, area: &[u8]) -> Result<Option<Vec<(usize, Op)>>, 
     for _ in 0..area.len() {
         match reader.number(1) {
             Some(1) => {}
-            Some(_) => return Ok(Some(reader.ops)),
-            None => return Ok(None),
+            Some(_) => return Some(reader.ops),
+            None => return None,
         }
-        if !reader.record()? {
-            return Ok(None);
+        if !reader.record(rt) {
+            return None;
         }
     }
-    Ok(None)
+    None
 }
 
 /// Whether the ops of these changes are the ones in the list, each with the number of its change.
@@ -100,46 +101,53 @@ fn have_ops(entries: &[Change], list: &[(usize, Op)]) -> bool {
     rest.next().is_none()
 }
 
+const AREA: Area = Area { start: 3, room: 66 };
+
+/// Whether an area with these bytes is read. The journal and the second reader must find the same, or that it is damaged.
+fn is_read(rt: &impl Abort, alloc: Global, disk: &mut MemDisk, spoilt: &[u8]) -> bool {
+    put(rt, disk, 3, spoilt);
+    let plain = read_plainly(rt, alloc, spoilt);
+    match scan_of::<Change>(rt, alloc, disk, AREA) {
+        Ok((_, entries)) => {
+            let ops = got(rt, plain.ok_or("damaged"));
+            same(rt, have_ops(&entries, &ops), true, "the ops");
+            true
+        }
+        Err(refused) => {
+            same(rt, refused, ScanRefused::Damaged, "a refusal");
+            same(rt, plain.is_none(), true, "read by the second reader");
+            false
+        }
+    }
+}
+
 #[test]
-fn each_byte_of_two_records_changed_to_each_other(rt: HostRuntime) -> Result<(), Fail> {
-    let area = Area { start: 3, room: 66 };
-    let mut disk = MemDisk::new(rt.alloc(), 70)?;
-    let mut journal = Journal::fresh(area);
+fn each_byte_of_two_records_changed_to_each_other(rt: HostRuntime) {
+    let mut disk = blank(&rt, rt.alloc(), 70);
+    let mut journal = Journal::fresh(AREA);
+    let three = [Op::Set(1, 0, 9), Op::Cut(0, 1), Op::Add(3, 2, 5)];
     let all = [
-        Change::new(&[Op::Add(0, 1, 1)])?,
-        Change::new(&[Op::Add(0, 1, 7)])?,
-        Change::new(&[Op::Set(1, 0, 9), Op::Cut(0, 1), Op::Add(3, 2, 5)])?,
+        got(&rt, Change::new(&[Op::Add(0, 1, 1)])),
+        got(&rt, Change::new(&[Op::Add(0, 1, 7)])),
+        got(&rt, Change::new(&three)),
     ];
     let changes = all.as_slice();
-    append_to(&rt, rt.alloc(), &mut journal, &mut disk, &changes[..1])?;
-    append_to(&rt, rt.alloc(), &mut journal, &mut disk, &changes[1..])?;
-    let mut bytes = [0u8; 66];
-    assert!(&rt; disk.len() == 70);
-    disk.read(3, &mut bytes)?;
+    let first = append_to(&rt, rt.alloc(), &mut journal, &mut disk, &changes[..1]);
+    let second = append_to(&rt, rt.alloc(), &mut journal, &mut disk, &changes[1..]);
+    same(&rt, (first, second), (Ok(()), Ok(())), "two records");
+    let whole = bytes::<MemDisk, 66>(&rt, &mut disk, 3);
     let (mut damaged, mut read) = (0u32, 0u32);
     for place in 0..66usize {
         for byte in 0..=255u8 {
-            let mut spoilt = bytes;
+            let mut spoilt = whole;
             spoilt[place] = byte;
-            assert!(&rt; disk.len() == 70);
-            disk.write_at(3, &spoilt)?;
-            let agrees = match (
-                scan_of::<Change>(&rt, rt.alloc(), &mut disk, area),
-                read_plainly(rt.alloc(), &spoilt)?,
-            ) {
-                (Ok((_, entries)), Some(ops)) => {
-                    read = read.wrapping_add(1);
-                    have_ops(&entries, &ops)
-                }
-                (Err(ScanRefused::Damaged), None) => {
-                    damaged = damaged.wrapping_add(1);
-                    true
-                }
-                _ => false,
-            };
-            assert!(&rt; agrees, "byte {byte} at {place}");
+            if is_read(&rt, rt.alloc(), &mut disk, &spoilt) {
+                read = read.wrapping_add(1);
+            } else {
+                damaged = damaged.wrapping_add(1);
+            }
         }
     }
-    assert!(&rt; damaged > 1_000 && read > 1_000);
-    Ok(())
+    let many = damaged > 1_000 && read > 1_000;
+    same(&rt, (damaged, read, many), (damaged, read, true), "both");
 }

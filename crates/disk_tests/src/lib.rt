@@ -14,4 +14,6 @@ mod damage;
 #[cfg(test)]
 mod disks;
 #[cfg(test)]
+mod helpers;
+#[cfg(test)]
 mod spelling;

@@ -28,6 +28,3 @@ mod words;
 
 pub use op_words::{node, number, op};
 pub use words::{LandmarkWords, landmark_words};
-
-#[cfg(test)]
-mod tests;

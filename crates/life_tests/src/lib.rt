@@ -1,7 +1,9 @@
 //! Tests of lives of a device in memory.
 //!
-//! There is nothing here but tests of [`life_chain::lives`]: lives whose answers are written out, a device that fails and stops in each
-//! call of a commit under several words of the crash, an editor who asks again after a crash, and devices that are no store.
+//! There is nothing here but tests of [`life_chain::lives`]: lives whose answers are written out, the same with each allocation refused in
+//! turn, a device that fails and stops in each call of an opening, a commit and a roll under several words of the crash, an editor who
+//! asks again after a crash, devices that are no store, and drawn lives, judged by a plain slow life that shares no code with the one
+//! under test.
 #![tactic(auto)]
 
 #[cfg(test)]

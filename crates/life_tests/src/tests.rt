@@ -1,19 +1,27 @@
-// Lives whose answers are written out, failures of the device in a commit, tickets over crashes, and devices that are no store.
+// Lives whose answers are written out, failures of the device in an opening, a commit and a roll, tickets over crashes, drawn lives, and
+// lives of which an allocation is refused.
 use checkpoint::{DEVICE_LEN, OpenRefused, format};
-use disk_trait::{MemDisk, Plan};
+use disk_trait::{CrashDisk, DeviceFault, Disk, MemDisk, Plan};
 use event_runs::{Event, Reply};
 use forwarders::Refused as RouteRefused;
-use graph_edits::{Change, Op};
+use graph_edits::{Change, Code, Op};
 use group_commit::DeskRefused;
 use intake::{Outcome, SubmitRefused};
-use life_chain::{Life, LivesReport, lives};
+use life_chain::{Life, LifeReport, LivesReport, lives};
 use std::alloc::{AllocError, Global};
+use std::cell::Cell;
+use std::fmt::Debug;
 use std::process::Abort;
-use std::test::Fail;
 
+mod drawn;
 mod failures;
+mod gates;
 mod helpers;
+mod judge;
+mod memory;
 mod openings;
+mod rolls;
 mod worked;
 
 use helpers::*;
+use rolls::rolled;

@@ -30,6 +30,3 @@ mod refusals;
 
 pub use moving::{Moved, bring_over, migrate};
 pub use refusals::MigrateRefused;
-
-#[cfg(test)]
-mod tests;

@@ -33,6 +33,3 @@ pub use laws::{layout_law, standing_law};
 pub use layout::{DEVICE_LEN, WORN_LIMIT};
 pub use opening::{Loaded, journal_area, load};
 pub use recovery_parts::OpenRefused;
-
-#[cfg(test)]
-mod tests;

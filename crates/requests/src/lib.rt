@@ -29,8 +29,6 @@
 mod laws;
 mod limits;
 mod request;
-#[cfg(test)]
-mod tests;
 
 pub use laws::ticket_laws;
 pub use limits::{SESSIONS, WORN_LIMIT};

@@ -20,8 +20,6 @@
 
 mod line;
 mod reading;
-#[cfg(test)]
-mod tests;
 
 pub use line::ScriptLine;
 pub use reading::script;

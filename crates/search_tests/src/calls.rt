@@ -2,6 +2,7 @@
 ghost use Rattle.std.specs.Prelude.{◌≡◌, ◌≢◌, ◌<◌, true, Some, None, length, slice_index_or};
 ghost use Rattle.distances.specs.Nearest.{AreNearest};
 
+use crate::helpers::{got, same};
 use clusters::{Cluster, cluster, cluster_in};
 use distances::{Near, Nearest, Reach, Reached, Workspace, from_root};
 use graph_edits::Graph;
@@ -21,7 +22,7 @@ pub(crate) fn member(node: u16, distance: u64, parent: Option<u16>) -> Reached {
 pub(crate) fn reach_of(rt: &impl Abort, alloc: Global, graph: &Graph, root: u16) -> Reach {
     let nodes = graph.nodes();
     assert!(rt; root < nodes);
-    from_root(alloc, graph, root).expect(rt, "memory")
+    got(rt, from_root(alloc, graph, root))
 }
 
 /// The nearest landmark of a node.
@@ -58,7 +59,7 @@ pub(crate) fn cluster_of(
     assert!(rt; center < nodes);
     let free = is_no_landmark(nearest, center);
     assert!(rt; free);
-    cluster(alloc, graph, nearest, center).expect(rt, "memory")
+    got(rt, cluster(alloc, graph, nearest, center))
 }
 
 /// The tree of a root in a workspace must be that of a search of its own. It is asked for again where memory was short:
@@ -76,8 +77,8 @@ pub(crate) fn expect_tree_in(
     let nodes = graph.nodes();
     assert!(rt; root < nodes);
     if workspace.from_root(graph, root).is_err() {
-        assert!(rt; workspace.members().is_empty());
-        let _pops = workspace.from_root(graph, root).expect(rt, "memory");
+        same(rt, workspace.members().len(), 0, "memory was short");
+        got(rt, workspace.from_root(graph, root));
     }
     let reach = reach_of(rt, alloc, graph, root);
     expect_members(rt, workspace, graph, reach.members());
@@ -101,9 +102,16 @@ pub(crate) fn found_in(
     let free = is_no_landmark(nearest, center);
     assert!(rt; free);
     if cluster_in(workspace, graph, nearest, center).is_err() {
-        assert!(rt; workspace.members().is_empty());
-        let _pops = cluster_in(workspace, graph, nearest, center).expect(rt, "memory");
+        same(rt, workspace.members().len(), 0, "memory was short");
+        got(rt, cluster_in(workspace, graph, nearest, center));
     }
+}
+
+/// The port of a node to another one.
+pub(crate) fn port_between(rt: &impl Abort, graph: &Graph, from: u16, to: u16) -> Option<u16> {
+    let nodes = graph.nodes();
+    assert!(rt; from < nodes);
+    graph.port_to(from, to)
 }
 
 /// The members that a workspace holds must be these, each with the ports between it and its parent.
@@ -114,14 +122,18 @@ pub(crate) fn expect_members(
     want: &[Reached],
 ) {
     let members = workspace.members();
-    assert!(rt; members.len() == want.len());
+    same(rt, members.len(), want.len(), "members");
     for (member, reached) in members.iter().zip(want) {
-        assert!(rt; member.reached == *reached);
-        let nodes = graph.nodes();
         let node = reached.node;
         let parent = reached.parent.unwrap_or(node);
-        assert!(rt; node < nodes && parent < nodes);
-        assert!(rt; member.up == graph.port_to(node, parent));
-        assert!(rt; member.down == graph.port_to(parent, node));
+        let up = port_between(rt, graph, node, parent);
+        let down = port_between(rt, graph, parent, node);
+        let wanted = (*reached, up, down);
+        same(
+            rt,
+            (member.reached, member.up, member.down),
+            wanted,
+            "a member",
+        );
     }
 }

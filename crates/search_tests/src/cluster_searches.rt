@@ -1,12 +1,14 @@
 // Clusters of drawn graphs by the definition, and those of the longest path.
 use crate::calls::cluster_of;
-use crate::drawn::{drawn_edges, drawn_flags, graph_of, longest_path, nearest_of};
+use crate::drawn::{Edge, drawn_edges, drawn_flags, graph_of, longest_path, nearest_of};
+use crate::helpers::{got, same};
 use crate::slow::{at, bellman_ford, distances_from};
 use clusters::Cluster;
 use graph_edits::MOST_NODES;
 use rand_core::SeedableRng;
 use rand_xoshiro::Xoshiro256PlusPlus;
-use std::test::Fail;
+use std::alloc::Global;
+use std::process::Abort;
 
 /// The definition: a node's distance from the centre, if that is less than the one from the landmarks, where none is the farthest.
 fn member_distance(from_center: Option<u64>, from_landmarks: Option<u64>) -> Option<u64> {
@@ -22,32 +24,46 @@ fn found_distance(cluster: &Cluster, node: u16) -> Option<u64> {
     member.map(|r| r.distance)
 }
 
+/// Sees that the members of a cluster are those of the definition, at these distances from the centre and from the landmarks.
+fn expect_defined(
+    rt: &impl Abort,
+    found: &Cluster,
+    from_center: &[Option<u64>],
+    from_landmarks: &[Option<u64>],
+) {
+    let mut members: usize = 0;
+    for node in 0..10u16 {
+        let want = member_distance(at(from_center, node), at(from_landmarks, node));
+        let distance = found_distance(found, node);
+        same(rt, (node, distance), (node, want), "a member's distance");
+        members = members.saturating_add(if want.is_some() { 1 } else { 0 });
+    }
+    same(rt, found.members().len(), members, "the members");
+}
+
 #[test]
-fn agrees_with_the_definition_on_drawn_graphs(rt: HostRuntime) -> Result<(), Fail> {
+fn agrees_with_the_definition_on_drawn_graphs(rt: HostRuntime) {
     let alloc = rt.alloc();
     let mut rng = Xoshiro256PlusPlus::seed_from_u64(3);
-    for round in 0..200u32 {
-        let edges = drawn_edges(alloc, &mut rng, 10)?;
-        let flags = drawn_flags(alloc, &mut rng, 10, 4)?;
-        let graph = graph_of(&rt, alloc, 10, &edges);
-        let nearest = nearest_of(&rt, alloc, &graph, &flags);
-        let from_landmarks = bellman_ford(alloc, &edges, &flags)?;
-        for center in 0..10u16 {
-            if flags.get(center as usize).copied() != Some(false) {
-                continue;
-            }
-            let from_center = distances_from(alloc, &edges, 10, center)?;
-            let found = cluster_of(&rt, alloc, &graph, &nearest, center);
-            let mut members: usize = 0;
-            for node in 0..10u16 {
-                let want = member_distance(at(&from_center, node), at(&from_landmarks, node));
-                assert_eq!(rt; found_distance(&found, node), want, "in round {round}");
-                members = members.saturating_add(if want.is_some() { 1 } else { 0 });
-            }
-            assert_eq!(rt; found.members().len(), members, "in round {round}");
+    for _ in 0..200u32 {
+        let edges = drawn_edges(&rt, alloc, &mut rng, 10);
+        let flags = drawn_flags(&rt, alloc, &mut rng, 10, 4);
+        expect_clusters(&rt, alloc, &edges, &flags);
+    }
+}
+
+/// Sees that the cluster of each of ten nodes that is no landmark is that of the definition.
+fn expect_clusters(rt: &impl Abort, alloc: Global, edges: &[Edge], flags: &[bool]) {
+    let graph = graph_of(rt, alloc, 10, edges);
+    let nearest = nearest_of(rt, alloc, &graph, flags);
+    let from_landmarks = bellman_ford(rt, alloc, edges, flags);
+    for center in 0..10u16 {
+        if flags.get(center as usize).copied() == Some(false) {
+            let from_center = distances_from(rt, alloc, edges, 10, center);
+            let found = cluster_of(rt, alloc, &graph, &nearest, center);
+            expect_defined(rt, &found, &from_center, &from_landmarks);
         }
     }
-    Ok(())
 }
 
 /// How many nodes a cluster of the longest path has, counted by the distances on a line: each 64th node is a landmark, the
@@ -68,31 +84,32 @@ fn members_on_the_line(center: u16) -> usize {
     members
 }
 
+/// Sees that a cluster of the longest path has as many members as on the line, strictly between the landmarks.
+fn expect_on_the_line(rt: &impl Abort, found: &Cluster, center: u16) {
+    let members = found.members();
+    let many = members_on_the_line(center);
+    same(rt, (center, members.len()), (center, many), "members");
+    for r in members {
+        let between = r.node / 64 == center / 64 && r.node % 64 != 63;
+        same(rt, (center, between), (center, true), "between landmarks");
+    }
+    same(rt, (center, found.pops() <= 127), (center, true), "pops");
+}
+
 // The centres lie 61 apart, so that each place between two landmarks is tried.
 #[test]
-fn finds_clusters_all_along_the_longest_path(rt: HostRuntime) -> Result<(), Fail> {
+fn finds_clusters_all_along_the_longest_path(rt: HostRuntime) {
     let alloc = rt.alloc();
-    let graph = graph_of(&rt, alloc, MOST_NODES, &longest_path(alloc)?);
+    let graph = graph_of(&rt, alloc, MOST_NODES, &longest_path(&rt, alloc));
     let mut flags = Vec::new(alloc);
     for node in 0..MOST_NODES {
-        flags.push(node % 64 == 63)?;
+        got(&rt, flags.push(node % 64 == 63));
     }
     let nearest = nearest_of(&rt, alloc, &graph, &flags);
-    for center in (0..MOST_NODES).filter(|w| w % 61 == 0 && w % 64 != 63) {
-        let found = cluster_of(&rt, alloc, &graph, &nearest, center);
-        assert_eq!(rt;
-            found.members().len(),
-            members_on_the_line(center),
-            "at {center}"
-        );
-        // strictly between the landmarks
-        for r in found.members() {
-            assert!(rt;
-                r.node / 64 == center / 64 && r.node % 64 != 63,
-                "at {center}"
-            );
+    for center in (0..MOST_NODES).step_by(61) {
+        if center % 64 != 63 {
+            let found = cluster_of(&rt, alloc, &graph, &nearest, center);
+            expect_on_the_line(&rt, &found, center);
         }
-        assert!(rt; found.pops() <= 127, "at {center}");
     }
-    Ok(())
 }

@@ -2,12 +2,13 @@
 ghost use Rattle.std.specs.Prelude.{◌≡◌, length};
 ghost use Rattle.distances.specs.Nearest.{AreNearest};
 
+use crate::helpers::got;
 use distances::{Nearest, from_landmarks};
 use graph_edits::{Change, GREATEST_WEIGHT, Graph, MOST_NODES, Op};
 use landmarks::Landmarks;
 use rand_core::Rng;
 use rand_xoshiro::Xoshiro256PlusPlus;
-use std::alloc::{AllocError, Global};
+use std::alloc::Global;
 use std::process::Abort;
 
 /// Two nodes and the weight of the edge between them.
@@ -16,10 +17,10 @@ pub(crate) type Edge = (u16, u16, u32);
 /// The graph of these edges.
 pub(crate) fn graph_of(rt: &impl Abort, alloc: Global, nodes: u16, edges: &[Edge]) -> Graph {
     assert!(rt; 1 <= nodes && nodes <= MOST_NODES);
-    let mut graph = Graph::empty(alloc, nodes).expect(rt, "memory");
+    let mut graph = got(rt, Graph::empty(alloc, nodes));
     for (a, b, weight) in edges {
-        let change = Change::new(&[Op::Add(*a, *b, *weight)]).expect(rt, "a change");
-        graph.apply(&change).expect(rt, "an edge");
+        let change = got(rt, Change::new(&[Op::Add(*a, *b, *weight)]));
+        got(rt, graph.apply(&change));
     }
     graph
 }
@@ -31,9 +32,8 @@ pub(crate) fn nearest_of(rt: &impl Abort, alloc: Global, graph: &Graph, flags: &
 {
     let mut words = Vec::new(alloc);
     for flag in flags {
-        words
-            .push(if *flag { 0u64 } else { u64::MAX })
-            .expect(rt, "memory");
+        let word = if *flag { 0u64 } else { u64::MAX };
+        got(rt, words.push(word));
     }
     assert!(rt; 1 <= words.len());
     let landmarks = Landmarks::choose(alloc, words.len(), &words).expect(rt, "memory");
@@ -44,12 +44,12 @@ pub(crate) fn nearest_of(rt: &impl Abort, alloc: Global, graph: &Graph, flags: &
 }
 
 /// The edges of the longest path, each of the greatest weight.
-pub(crate) fn longest_path(alloc: Global) -> Result<Vec<Edge>, AllocError> {
+pub(crate) fn longest_path(rt: &impl Abort, alloc: Global) -> Vec<Edge> {
     let mut edges = Vec::new(alloc);
     for node in 1..MOST_NODES {
-        edges.push((node - 1, node, GREATEST_WEIGHT))?;
+        got(rt, edges.push((node - 1, node, GREATEST_WEIGHT)));
     }
-    Ok(edges)
+    edges
 }
 
 /// A number below another one, or 0 where there is none.
@@ -60,20 +60,21 @@ pub(crate) fn below(rng: &mut Xoshiro256PlusPlus, limit: u16) -> u16 {
 
 /// Up to 23 edges between so many nodes, at most one a pair, with weights from 1 to 5.
 pub(crate) fn drawn_edges(
+    rt: &impl Abort,
     alloc: Global,
     rng: &mut Xoshiro256PlusPlus,
     nodes: u16,
-) -> Result<Vec<Edge>, AllocError> {
+) -> Vec<Edge> {
     let mut edges: Vec<Edge> = Vec::new(alloc);
     for _ in 0..below(rng, 24) {
         let a = below(rng, nodes);
         let b = below(rng, nodes);
         let weight = below(rng, 5).saturating_add(1) as u32;
         if a != b && !edges.iter().any(|(x, y, _)| joins(a, b, *x, *y)) {
-            edges.push((a, b, weight))?;
+            got(rt, edges.push((a, b, weight)));
         }
     }
-    Ok(edges)
+    edges
 }
 
 /// Whether an edge between x and y is one between a and b.
@@ -83,14 +84,15 @@ fn joins(a: u16, b: u16, x: u16, y: u16) -> bool {
 
 /// A flag for each of so many nodes, which stands with a chance of one in `among`.
 pub(crate) fn drawn_flags(
+    rt: &impl Abort,
     alloc: Global,
     rng: &mut Xoshiro256PlusPlus,
     nodes: u16,
     among: u16,
-) -> Result<Vec<bool>, AllocError> {
+) -> Vec<bool> {
     let mut flags = Vec::new(alloc);
     for _ in 0..nodes {
-        flags.push(below(rng, among) == 0)?;
+        got(rt, flags.push(below(rng, among) == 0));
     }
-    Ok(flags)
+    flags
 }

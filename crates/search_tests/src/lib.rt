@@ -18,6 +18,8 @@ mod drawn;
 #[cfg(test)]
 mod graphs;
 #[cfg(test)]
+mod helpers;
+#[cfg(test)]
 mod searches;
 #[cfg(test)]
 mod slow;

@@ -1,16 +1,20 @@
 // Slow searches over a list of edges.
 use crate::drawn::Edge;
-use std::alloc::{AllocError, Global};
+use crate::helpers::got;
+use std::alloc::Global;
+use std::process::Abort;
 
 /// The distance of each node from the nearest source: Bellman and Ford's search, over every edge, both ways, as often as there are nodes.
 pub(crate) fn bellman_ford(
+    rt: &impl Abort,
     alloc: Global,
     edges: &[Edge],
     sources: &[bool],
-) -> Result<Vec<Option<u64>>, AllocError> {
+) -> Vec<Option<u64>> {
     let mut distances = Vec::new(alloc);
     for source in sources {
-        distances.push(if *source { Some(0u64) } else { None })?;
+        let start = if *source { Some(0u64) } else { None };
+        got(rt, distances.push(start));
     }
     for _ in 0..sources.len() {
         for (a, b, weight) in edges {
@@ -18,21 +22,22 @@ pub(crate) fn bellman_ford(
             offer(&mut distances, *b, *a, *weight);
         }
     }
-    Ok(distances)
+    distances
 }
 
 /// The distance of each of so many nodes from one of them, by the same search.
 pub(crate) fn distances_from(
+    rt: &impl Abort,
     alloc: Global,
     edges: &[Edge],
     nodes: u16,
     source: u16,
-) -> Result<Vec<Option<u64>>, AllocError> {
+) -> Vec<Option<u64>> {
     let mut sources = Vec::new(alloc);
     for node in 0..nodes {
-        sources.push(node == source)?;
+        got(rt, sources.push(node == source));
     }
-    bellman_ford(alloc, edges, &sources)
+    bellman_ford(rt, alloc, edges, &sources)
 }
 
 /// The distance of a node, if it has one.
@@ -53,21 +58,23 @@ fn offer(distances: &mut [Option<u64>], from: u16, to: u16, weight: u32) {
 
 /// The nodes that a root reaches with their distances, by a scan over all nodes for the nearest open one, once for each node.
 pub(crate) fn scanned(
+    rt: &impl Abort,
     alloc: Global,
     edges: &[Edge],
     nodes: u16,
     root: u16,
-) -> Result<Vec<(u16, u64)>, AllocError> {
+) -> Vec<(u16, u64)> {
     let mut tentative = Vec::new(alloc);
     for node in 0..nodes {
-        tentative.push(if node == root { Some(0u64) } else { None })?;
+        let start = if node == root { Some(0u64) } else { None };
+        got(rt, tentative.push(start));
     }
     let mut order: Vec<(u16, u64)> = Vec::new(alloc);
     for _ in 0..nodes {
         let Some((node, distance)) = nearest_open(&tentative, &order, nodes) else {
-            return Ok(order);
+            return order;
         };
-        order.push((node, distance))?;
+        got(rt, order.push((node, distance)));
         for (a, b, weight) in edges {
             if *a == node {
                 offer(&mut tentative, node, *b, *weight);
@@ -77,7 +84,7 @@ pub(crate) fn scanned(
             }
         }
     }
-    Ok(order)
+    order
 }
 
 /// The nearest node that is not in the list yet, the smallest of several as near, and its distance.
@@ -117,24 +124,29 @@ pub(crate) fn parent_by_edges(
 
 /// The nearest landmark of each node and its distance, by a search from each landmark: the smallest of several as near.
 pub(crate) fn nearest_by_each(
+    rt: &impl Abort,
     alloc: Global,
     edges: &[Edge],
     nodes: u16,
     flags: &[bool],
-) -> Result<Vec<Option<(u16, u64)>>, AllocError> {
-    let mut all: Vec<Option<(u16, u64)>> = vec![in alloc; None; nodes as usize]?;
+) -> Vec<Option<(u16, u64)>> {
+    let mut all: Vec<Option<(u16, u64)>> = got(rt, vec![in alloc; None; nodes as usize]);
     for landmark in 0..nodes {
-        if flags.get(landmark as usize).copied() != Some(true) {
-            continue;
+        if flags.get(landmark as usize).copied() == Some(true) {
+            let distances = distances_from(rt, alloc, edges, nodes, landmark);
+            take_nearer(&mut all, landmark, &distances);
         }
-        let distances = distances_from(alloc, edges, nodes, landmark)?;
-        for (nearest, distance) in all.iter_mut().zip(distances.iter()) {
-            if let Some(distance) = *distance {
-                if nearest.map_or(true, |(_, least)| distance < least) {
-                    *nearest = Some((landmark, distance));
-                }
+    }
+    all
+}
+
+/// Takes a landmark where it is nearer than what was found.
+fn take_nearer(all: &mut [Option<(u16, u64)>], landmark: u16, distances: &[Option<u64>]) {
+    for (nearest, distance) in all.iter_mut().zip(distances.iter()) {
+        if let Some(distance) = *distance {
+            if nearest.map_or(true, |(_, least)| distance < least) {
+                *nearest = Some((landmark, distance));
             }
         }
     }
-    Ok(all)
 }

@@ -1,15 +1,15 @@
 // Worked trees, and drawn ones against paths found by climbing parents.
-use crate::members::{FIVE, below, in_pairs, listed, on_path, root};
+use crate::helpers::{STACK_LEN, got, listed, same, tree_of};
+use crate::members::{FIVE, below, in_pairs, on_path, root};
 use arrayvec::ArrayVec;
 use bumpalo::Bump;
-use heavy_labels::{Label, MOST_LIGHTS, Numbered, Record, TreeStep, number, step};
+use heavy_labels::{Label, MOST_LIGHTS, Numbered, NumberedMember, Record, TreeStep, number, step};
 use linked_list_allocator::LocalHeap;
 use rand_core::{Rng, SeedableRng};
 use rand_xoshiro::Xoshiro256PlusPlus;
-use route_tree::{Member, RouteTree, are_members};
-use std::alloc::{AllocError, Allocator, Global};
+use route_tree::Member;
+use std::alloc::{Allocator, Global};
 use std::process::Abort;
-use std::test::Fail;
 use std::thread;
 
 /// The numbers of the tree of these members, which is grown in `scratch`.
@@ -18,15 +18,19 @@ fn numbered_over<A: Allocator + Clone>(
     alloc: Global,
     scratch: A,
     members: &[Member],
-) -> Result<Numbered, AllocError> {
-    let fit = are_members(alloc, members)?;
-    assert!(rt; fit);
-    let tree = RouteTree::grow(scratch, members[0].node, members)?;
-    number(alloc, &tree)
+) -> Numbered {
+    let tree = tree_of(rt, alloc, scratch, members);
+    got(rt, number(alloc, &tree))
 }
 
-fn numbered(rt: &impl Abort, alloc: Global, members: &[Member]) -> Result<Numbered, AllocError> {
+fn numbered(rt: &impl Abort, alloc: Global, members: &[Member]) -> Numbered {
     numbered_over(rt, alloc, alloc, members)
+}
+
+/// The record and the label of a member.
+fn of_node<'a>(rt: &impl Abort, all: &'a Numbered, node: u16) -> &'a NumberedMember {
+    let found = all.iter().find(|m| m.node == node);
+    got(rt, found.ok_or("no such member"))
 }
 
 fn label(first: u16, ports: &[u16]) -> Label {
@@ -37,71 +41,86 @@ fn label(first: u16, ports: &[u16]) -> Label {
     Label::new(first, lights)
 }
 
-#[test]
-fn numbers_of_five_nodes(rt: HostRuntime) -> Result<(), Fail> {
-    let all = numbered(&rt, rt.alloc(), &FIVE)?;
-    let none = [0u16; 0];
-    let one = [1u16];
-    let want = [
-        (2u16, (0u16, 4u16, 2u16, 0u16), None, Some(0u16), &none[..]),
-        (1, (1, 2, 2, 0), Some(1u16), Some(0), &none[..]),
-        (0, (2, 2, 2, 0), Some(0), None, &none[..]),
-        (3, (3, 4, 4, 1), Some(0), Some(1), &one[..]),
-        (4, (4, 4, 4, 1), Some(0), None, &one[..]),
-    ];
-    assert_eq!(rt; all.len(), want.len());
-    for (got, (node, numbers, parent_port, heavy_port, lights)) in all.iter().zip(want) {
-        let (first, last, heavy_last, depth) = numbers;
-        let record = Record::new(first, last, heavy_last, depth, parent_port, heavy_port);
-        assert!(&rt;
-            got.node == node && Some(got.tree_record) == record,
-            "at {node}"
-        );
-        assert!(&rt; got.label == label(first, lights), "at {node}");
-    }
-    Ok(())
-}
+/// Node, numbers, parent port, heavy port and light ports of a member.
+type Row<'a> = (
+    u16,
+    (u16, u16, u16, u16),
+    Option<u16>,
+    Option<u16>,
+    &'a [u16],
+);
+
+/// The members of the tree of five in preorder.
+const ROWS: [Row<'static>; 5] = [
+    (2, (0, 4, 2, 0), None, Some(0), &[]),
+    (1, (1, 2, 2, 0), Some(1), Some(0), &[]),
+    (0, (2, 2, 2, 0), Some(0), None, &[]),
+    (3, (3, 4, 4, 1), Some(0), Some(1), &[1]),
+    (4, (4, 4, 4, 1), Some(0), None, &[1]),
+];
 
 #[test]
-fn steps_of_five_nodes(rt: HostRuntime) -> Result<(), Fail> {
-    let all = numbered(&rt, rt.alloc(), &FIVE)?;
-    let rows = [
-        (2u16, 4u16, true, TreeStep::Port(1)),
-        (2, 1, false, TreeStep::Port(0)),
-        (1, 4, true, TreeStep::Port(1)),
-        (2, 4, false, TreeStep::NoLight),
-        (2, 9, false, TreeStep::NoParent),
-        (4, 4, true, TreeStep::Arrived),
-    ];
-    for (node, first, light, want) in rows {
-        let by = if light {
-            label(first, &[1])
-        } else {
-            label(first, &[])
-        };
-        let at = all.iter().find(|m| m.node == node).ok_or("node")?;
-        assert_eq!(rt; step(&at.tree_record, &by), want, "at {node} by {first}");
+fn numbers_of_five_nodes(rt: HostRuntime) {
+    let all = numbered(&rt, rt.alloc(), &FIVE);
+    same(&rt, all.len(), 5, "the members");
+    for (found, row) in all.iter().zip(ROWS.iter()) {
+        let (node, (first, last, heavy_last, depth), up, heavy, lights) = *row;
+        let record = Record::new(first, last, heavy_last, depth, up, heavy);
+        let numbers = (found.node, Some(found.tree_record));
+        same(&rt, numbers, (node, record), "a record");
+        same(&rt, &found.label, &label(first, lights), "a label");
     }
-    Ok(())
 }
+
+/// A node, a label's number and its light ports, and the step.
+const STEPS: [(u16, u16, &[u16], TreeStep); 6] = [
+    (2, 4, &[1], TreeStep::Port(1)),
+    (2, 1, &[], TreeStep::Port(0)),
+    (1, 4, &[1], TreeStep::Port(1)),
+    (2, 4, &[], TreeStep::NoLight),
+    (2, 9, &[], TreeStep::NoParent),
+    (4, 4, &[1], TreeStep::Arrived),
+];
+
+#[test]
+fn steps_of_five_nodes(rt: HostRuntime) {
+    let all = numbered(&rt, rt.alloc(), &FIVE);
+    for (node, first, lights, want) in &STEPS {
+        let at = of_node(&rt, &all, *node);
+        let found = step(&at.tree_record, &label(*first, lights));
+        same(
+            &rt,
+            (*node, *first, found),
+            (*node, *first, *want),
+            "a step",
+        );
+    }
+}
+
+/// The light ports of the last of 16,383 members.
+const THIRTEEN: [u16; 13] = [1, 2, 2, 2, 2, 2, 2, 2, 2, 2, 2, 2, 2];
 
 /// The label of the last of 16,383 has as many light ports as a label may have, under each allocator the same.
 #[test]
-fn the_last_of_all_pairs_has_thirteen_lights(rt: HostRuntime) -> Result<(), Fail> {
-    let members = listed(rt.alloc(), 16_383, in_pairs)?;
-    let all = numbered(&rt, rt.alloc(), &members)?;
-    let last = all.iter().find(|m| m.node == 16_382).ok_or("node")?;
-    assert!(&rt; last.label == label(16_382, &[1, 2, 2, 2, 2, 2, 2, 2, 2, 2, 2, 2, 2]));
-    assert_eq!(rt; last.label.lights().len(), 13);
-    assert_eq!(rt; last.tree_record.light_depth, 13);
-    let heap = LocalHeap::new(rt.alloc(), 67_108_864)?;
-    let held = numbered_over(&rt, rt.alloc(), &heap, &members)?;
+fn the_last_of_all_pairs_has_thirteen_lights(rt: HostRuntime) {
+    let members = listed(&rt, rt.alloc(), 16_383, in_pairs);
+    let all = numbered(&rt, rt.alloc(), &members);
+    let last = of_node(&rt, &all, 16_382);
+    same(
+        &rt,
+        &last.label,
+        &label(16_382, &THIRTEEN),
+        "the last label",
+    );
+    let lights = (last.label.lights().len(), last.tree_record.light_depth);
+    same(&rt, lights, (13, 13), "the light ports");
+    let heap = got(&rt, LocalHeap::new(rt.alloc(), STACK_LEN));
+    let held = numbered_over(&rt, rt.alloc(), &heap, &members);
     let bump = Bump::new(&heap);
-    let bumped = numbered_over(&rt, rt.alloc(), &bump, &members)?;
-    assert_eq!(rt; all.len(), 16_383);
-    assert!(&rt; all == held);
-    assert!(&rt; all == bumped);
-    Ok(())
+    let bumped = numbered_over(&rt, rt.alloc(), &bump, &members);
+    same(&rt, all.len(), 16_383, "the members");
+    same(&rt, all == held, true, "in a heap");
+    same(&rt, all == bumped, true, "in an arena");
 }
 
 /// How many members of a path have their node as number, no light port, and the path's end as last.
@@ -116,55 +135,55 @@ fn plain_members(all: &Numbered) -> usize {
         .count()
 }
 
-/// How many such members the tree has that these members make.
-fn counted_plain(alloc: Global, members: &[Member]) -> Result<usize, AllocError> {
-    if !are_members(alloc, members)? {
-        return Ok(0);
-    }
-    let all = number(alloc, &RouteTree::grow(alloc, members[0].node, members)?)?;
-    Ok(plain_members(&all))
+#[test]
+fn a_path_of_all_nodes_has_no_light_port(rt: HostRuntime) {
+    let alloc = rt.alloc();
+    let members = listed(&rt, alloc, 16_384, on_path);
+    let handle = got(&rt, rt.clone());
+    let thread = thread::Builder::new().stack_size(STACK_LEN);
+    let started = thread.spawn(&rt, move || {
+        plain_members(&numbered(&handle, alloc, &members))
+    });
+    same(&rt, got(&rt, started).join(&rt), 16_384, "plain members");
 }
 
-#[test]
-fn a_path_of_all_nodes_has_no_light_port(rt: HostRuntime) -> Result<(), Fail> {
-    let members = listed(rt.alloc(), 16_384, on_path)?;
-    let alloc = rt.alloc();
-    let worker = thread::Builder::new()
-        .stack_size(67_108_864)
-        .spawn(&rt, move || counted_plain(alloc, &members).unwrap_or(0))?;
-    assert_eq!(rt; worker.join(&rt), 16_384);
-    Ok(())
-}
+/// The last number of a record whose first is 3, its parent port and its heavy port, and whether there is such a record.
+const RECORDS: [(u16, Option<u16>, Option<u16>, bool); 4] = [
+    (4, None, Some(0), true),
+    (3, Some(2), None, true),
+    (4, None, None, false),
+    (3, None, Some(0), false),
+];
 
 #[test]
 fn a_record_has_a_heavy_port_where_it_has_members_below(rt: HostRuntime) {
-    for (last, parent_port, heavy_port, fits) in [
-        (4u16, None, Some(0u16), true),
-        (3, Some(2u16), None, true),
-        (4, None, None, false),
-        (3, None, Some(0), false),
-    ] {
-        let record = Record::new(3, last, last, 1, parent_port, heavy_port);
-        assert!(&rt; record.is_some() == fits, "{last} and {heavy_port:?}");
+    for (last, parent_port, heavy_port, fits) in &RECORDS {
+        let record = Record::new(3, *last, *last, 1, *parent_port, *heavy_port);
+        same(&rt, (*last, record.is_some()), (*last, *fits), "a record");
     }
 }
 
 #[test]
 fn copies_are_equal(rt: HostRuntime) {
     let one = label(7, &[3, 1]);
-    assert!(&rt; one.copy() == one);
-    assert!(&rt; one.copy() != label(7, &[3]));
-    assert!(&rt; one.copy() != label(8, &[3, 1]));
-    assert_eq!(rt; one.first(), 7);
+    same(&rt, &one.copy(), &one, "a copy");
+    same(&rt, one.copy() == label(7, &[3]), false, "a port less");
+    same(
+        &rt,
+        one.copy() == label(8, &[3, 1]),
+        false,
+        "another number",
+    );
+    same(&rt, one.first(), 7, "the number");
 }
 
 /// A drawn tree: each member but the first hangs on an earlier one, by the next free port there.
-fn drawn(alloc: Global, rng: &mut Xoshiro256PlusPlus) -> Result<Vec<Member>, AllocError> {
+fn drawn(rt: &impl Abort, alloc: Global, rng: &mut Xoshiro256PlusPlus) -> Vec<Member> {
     let nodes = 1 + rng.next_u64() % 40;
     let mask = (rng.next_u64() % 64) as u16;
     let deep = rng.next_u64() % 4;
-    let mut all = vec![in alloc; root(mask)]?;
-    let mut free = vec![in alloc; 0u16]?;
+    let mut all = got(rt, vec![in alloc; root(mask)]);
+    let mut free = got(rt, vec![in alloc; 0u16]);
     for i in 1..nodes {
         let back = if deep == 0 { 1 } else { 1 + rng.next_u64() % i };
         let place = (i - back.min(i)) as usize;
@@ -177,10 +196,10 @@ fn drawn(alloc: Global, rng: &mut Xoshiro256PlusPlus) -> Result<Vec<Member>, All
         };
         let down = *port;
         *port = down.saturating_add(1);
-        all.push(below(parent, mask ^ i as u16, 0, down))?;
-        free.push(1)?;
+        got(rt, all.push(below(parent, mask ^ i as u16, 0, down)));
+        got(rt, free.push(1));
     }
-    Ok(all)
+    all
 }
 
 /// The step at the node x towards v: by climbing from v, down to the child of x on the way, or else up.
@@ -204,27 +223,30 @@ fn climbed(members: &[Member], x: &Member, v: &Member) -> TreeStep {
     x.up.map_or(TreeStep::NoParent, TreeStep::Port)
 }
 
-#[test]
-fn steps_follow_the_paths_of_200_drawn_trees(rt: HostRuntime) -> Result<(), Fail> {
-    let mut rng = Xoshiro256PlusPlus::seed_from_u64(11);
-    for tree in 0..200 {
-        let members = drawn(rt.alloc(), &mut rng)?;
-        let all = numbered(&rt, rt.alloc(), &members)?;
-        assert_eq!(rt; all.len(), members.len());
-        for x in &members {
-            let at = all.iter().find(|m| m.node == x.node).ok_or("x")?;
-            for v in &members {
-                let to = all.iter().find(|m| m.node == v.node).ok_or("v")?;
-                let got = step(&at.tree_record, &to.label);
-                assert_eq!(rt;
-                    got,
-                    climbed(&members, x, v),
-                    "tree {tree} from {} to {}",
-                    x.node,
-                    v.node
-                );
-            }
+/// Sees that the steps between all members of a tree are those that are found by climbing.
+fn expect_climbed(rt: &impl Abort, all: &Numbered, members: &[Member]) {
+    same(rt, all.len(), members.len(), "the members");
+    for x in members {
+        let at = of_node(rt, all, x.node);
+        for v in members {
+            let found = step(&at.tree_record, &of_node(rt, all, v.node).label);
+            let want = climbed(members, x, v);
+            same(
+                rt,
+                (x.node, v.node, found),
+                (x.node, v.node, want),
+                "a step",
+            );
         }
     }
-    Ok(())
+}
+
+#[test]
+fn steps_follow_the_paths_of_200_drawn_trees(rt: HostRuntime) {
+    let mut rng = Xoshiro256PlusPlus::seed_from_u64(11);
+    for _ in 0..200 {
+        let members = drawn(&rt, rt.alloc(), &mut rng);
+        let all = numbered(&rt, rt.alloc(), &members);
+        expect_climbed(&rt, &all, &members);
+    }
 }

@@ -6,6 +6,8 @@
 #![tactic(auto)]
 
 #[cfg(test)]
+mod helpers;
+#[cfg(test)]
 mod label_tests;
 #[cfg(test)]
 mod members;

@@ -1,6 +1,5 @@
 // The members of the trees that the tests grow.
-use route_tree::{Member, RouteTree, are_members};
-use std::alloc::{AllocError, Allocator, Global};
+use route_tree::Member;
 
 pub(crate) fn root(node: u16) -> Member {
     Member {
@@ -18,29 +17,6 @@ pub(crate) fn below(parent: u16, node: u16, up: u16, down: u16) -> Member {
         up: Some(up),
         down: Some(down),
     }
-}
-
-/// The tree of these members; none where they are no members of one tree.
-pub(crate) fn tree_of<A: Allocator + Clone>(
-    alloc: A,
-    members: &[Member],
-) -> Result<Option<RouteTree<A>>, AllocError> {
-    if !are_members(alloc.clone()?, members)? {
-        return Ok(None);
-    }
-    let tree = RouteTree::grow(alloc, members[0].node, members)?;
-    Ok(Some(tree))
-}
-
-/// So many members, each by its place.
-pub(crate) fn listed<F: Fn(u16) -> Member>(
-    alloc: Global,
-    n: u16,
-    member_at: F,
-) -> Result<Vec<Member>, AllocError>
-    requires { F.IsAlwaysCallable member_at }
-{
-    (0..n).map(|i| member_at(i)).collect(alloc)
 }
 
 /// Root 2 with the children 1 and 3, 1 with the child 0, 3 with the child 4: a path 0 - 1 - 2 - 3 - 4.

@@ -1,15 +1,17 @@
 // Route trees: by hand, the greatest of each form under each allocator, and each growth refused.
-use crate::members::{FIVE, below, in_pairs, listed, on_path, on_star, root, tree_of};
+use crate::helpers::{STACK_LEN, got, listed, same, tree_of};
+use crate::members::{FIVE, below, in_pairs, on_path, on_star, root};
 use bumpalo::Bump;
 use linked_list_allocator::LocalHeap;
 use route_tree::{MOST_MEMBERS, Member, RouteTree, Twig, are_members};
 use std::alloc::{AllocError, Allocator, Global};
 use std::process::Abort;
-use std::test::Fail;
 use std::thread;
 
 /// A member's node, its ports up and down, its size, and how many children it has.
-fn seen<A: Allocator>(twig: &Twig<A>) -> (u16, Option<u16>, Option<u16>, usize, usize) {
+type Seen = (u16, Option<u16>, Option<u16>, usize, usize);
+
+fn seen<A: Allocator>(twig: &Twig<A>) -> Seen {
     (
         twig.node(),
         twig.up(),
@@ -19,86 +21,88 @@ fn seen<A: Allocator>(twig: &Twig<A>) -> (u16, Option<u16>, Option<u16>, usize, 
     )
 }
 
+/// The child at a place.
+fn child_of<'a, A: Allocator>(rt: &impl Abort, twig: &'a Twig<A>, place: usize) -> &'a Twig<A> {
+    got(rt, twig.children().get(place).ok_or("no child"))
+}
+
 /// The path 0 - 1 - 2 - 3 - 4 seen from node 2: node 1 is heavy by the tie.
 #[test]
-fn path_of_five(rt: HostRuntime) -> Result<(), Fail> {
-    let tree = tree_of(rt.alloc(), &FIVE)?.ok_or("no members")?;
+fn path_of_five(rt: HostRuntime) {
+    let tree = tree_of(&rt, rt.alloc(), rt.alloc(), &FIVE);
     let top = tree.root();
-    assert!(rt; tree.size() == 5 && seen(top) == (2, None, None, 5, 2));
-    let [left, right] = top.children() else {
-        panic!(rt; "not two children");
-    };
-    assert!(rt; seen(left) == (1, Some(1), Some(0), 2, 1));
-    assert!(rt; seen(right) == (3, Some(0), Some(1), 2, 1));
-    let ([first], [last]) = (left.children(), right.children()) else {
-        panic!(rt; "not one child each");
-    };
-    assert!(rt; seen(first) == (0, Some(0), Some(0), 1, 0));
-    assert!(rt; seen(last) == (4, Some(0), Some(1), 1, 0));
-    Ok(())
+    same(&rt, tree.size(), 5, "the size");
+    same(&rt, seen(top), (2, None, None, 5, 2), "the root");
+    let (left, right) = (child_of(&rt, top, 0), child_of(&rt, top, 1));
+    same(
+        &rt,
+        seen(left),
+        (1, Some(1), Some(0), 2, 1),
+        "the heavy child",
+    );
+    same(
+        &rt,
+        seen(right),
+        (3, Some(0), Some(1), 2, 1),
+        "the other child",
+    );
+    let (first, last) = (child_of(&rt, left, 0), child_of(&rt, right, 0));
+    same(
+        &rt,
+        seen(first),
+        (0, Some(0), Some(0), 1, 0),
+        "the first end",
+    );
+    same(&rt, seen(last), (4, Some(0), Some(1), 1, 0), "the last end");
 }
 
 /// Each member i has the children 2i + 1 and 2i + 2, the smaller first.
 fn expect_pairs<A: Allocator>(rt: &impl Abort, tree: &RouteTree<A>) {
-    assert!(rt; tree.size() == 16_383);
+    same(rt, tree.size(), 16_383, "the size");
     let mut twig = tree.root();
     let mut size: usize = 16_383;
     for depth in 0..13u32 {
-        let [left, right] = twig.children() else {
-            panic!(rt; "not two children at depth {depth}");
-        };
+        same(rt, twig.children().len(), 2, "a pair");
+        let (left, right) = (child_of(rt, twig, 0), child_of(rt, twig, 1));
         size /= 2;
         let node = twig.node().saturating_mul(2).saturating_add(1);
         let port = if depth == 0 { 0 } else { 1 };
         let below = if depth == 12 { 0 } else { 2 };
         let want = (node, Some(0), Some(port), size, below);
-        assert!(rt; seen(left) == want);
+        same(rt, seen(left), want, "the smaller");
         let want = (node.saturating_add(1), Some(0), Some(port + 1), size, below);
-        assert!(rt; seen(right) == want);
+        same(rt, seen(right), want, "the greater");
         twig = right;
     }
-    assert!(rt; (twig.node(), twig.size()) == (16_382, 1));
-}
-
-/// Grows the pairs under an allocator; false where they are no members of one tree.
-fn grows_pairs<A: Allocator + Clone>(
-    rt: &impl Abort,
-    alloc: A,
-    members: &[Member],
-) -> Result<bool, AllocError> {
-    match tree_of(alloc, members)? {
-        Some(tree) => {
-            expect_pairs(rt, &tree);
-            Ok(true)
-        }
-        None => Ok(false),
-    }
+    same(rt, (twig.node(), twig.size()), (16_382, 1), "the last");
 }
 
 #[test]
-fn same_tree_under_each_allocator(rt: HostRuntime) -> Result<(), Fail> {
-    let members = listed(rt.alloc(), 16_383, in_pairs)?;
-    assert!(rt; grows_pairs(&rt, rt.alloc(), &members)?);
-    let heap = LocalHeap::new(rt.alloc(), 67_108_864)?;
-    assert!(rt; grows_pairs(&rt, &heap, &members)?);
-    assert_eq!(rt; heap.used(), 0);
+fn same_tree_under_each_allocator(rt: HostRuntime) {
+    let members = listed(&rt, rt.alloc(), 16_383, in_pairs);
+    expect_pairs(&rt, &tree_of(&rt, rt.alloc(), rt.alloc(), &members));
+    let heap = got(&rt, LocalHeap::new(rt.alloc(), STACK_LEN));
+    expect_pairs(&rt, &tree_of(&rt, rt.alloc(), &heap, &members));
+    same(&rt, heap.used(), 0, "the heap");
     let bump = Bump::new(&heap);
-    assert!(rt; grows_pairs(&rt, &bump, &members)?);
-    Ok(())
+    expect_pairs(&rt, &tree_of(&rt, rt.alloc(), &bump, &members));
 }
 
 #[test]
-fn star_of_leaves(rt: HostRuntime) -> Result<(), Fail> {
-    let members = listed(rt.alloc(), 16_384, on_star)?;
-    let tree = tree_of(rt.alloc(), &members)?.ok_or("no members")?;
-    assert_eq!(rt; tree.size(), 16_384);
+fn star_of_leaves(rt: HostRuntime) {
+    let members = listed(&rt, rt.alloc(), 16_384, on_star);
+    let tree = tree_of(&rt, rt.alloc(), rt.alloc(), &members);
     let leaves = tree.root().children();
-    assert_eq!(rt; leaves.len(), 16_383);
+    same(
+        &rt,
+        (tree.size(), leaves.len()),
+        (16_384, 16_383),
+        "the sizes",
+    );
     for (i, leaf) in leaves.iter().enumerate() {
-        assert_eq!(rt; (leaf.node() as usize, leaf.size()), (i, 1));
-        assert!(rt; leaf.down() == Some(leaf.node()));
+        let found = (leaf.node() as usize, leaf.size(), leaf.down());
+        same(&rt, found, (i, 1, Some(leaf.node())), "a leaf");
     }
-    Ok(())
 }
 
 /// How many members lie on the way from the root to the end of a path.
@@ -113,92 +117,90 @@ fn length_of_path<A: Allocator>(tree: &RouteTree<A>) -> usize {
     0
 }
 
-/// The size and the depth of a path.
-fn measured<A: Allocator + Clone>(
-    alloc: A,
-    members: &[Member],
-) -> Result<(usize, usize), AllocError> {
-    match tree_of(alloc, members)? {
-        Some(tree) => Ok((tree.size(), length_of_path(&tree))),
-        None => Ok((0, 0)),
-    }
+/// Sees that a tree is a path of all nodes.
+fn expect_path<A: Allocator>(rt: &impl Abort, tree: &RouteTree<A>) {
+    same(
+        rt,
+        (tree.size(), length_of_path(tree)),
+        (16_384, 16_384),
+        "a path",
+    );
 }
 
-/// The same under each allocator.
-fn measured_under_each(
-    alloc: Global,
-    members: &[Member],
-) -> Result<[(usize, usize); 3], AllocError> {
-    let heap = LocalHeap::new(alloc, 67_108_864)?;
+/// The path of all nodes under each allocator; answers how often it was grown.
+fn grown_under_each(rt: &impl Abort, alloc: Global, members: &[Member]) -> usize {
+    let heap = got(rt, LocalHeap::new(alloc, STACK_LEN));
     let bump = Bump::new(&heap);
-    let in_bump = measured(&bump, members)?;
-    Ok([
-        measured(alloc, members)?,
-        measured(&heap, members)?,
-        in_bump,
-    ])
+    expect_path(rt, &tree_of(rt, alloc, &bump, members));
+    expect_path(rt, &tree_of(rt, alloc, alloc, members));
+    expect_path(rt, &tree_of(rt, alloc, &heap, members));
+    3
 }
 
 /// A tree as deep as may be, grown, walked and dropped on a stack of 64 MiB.
 #[test]
-fn deepest_path(rt: HostRuntime) -> Result<(), Fail> {
-    let members = listed(rt.alloc(), 16_384, on_path)?;
+fn deepest_path(rt: HostRuntime) {
     let alloc = rt.alloc();
-    let worker = thread::Builder::new().stack_size(67_108_864).spawn(
-        &rt,
-        move || measured_under_each(alloc, &members).unwrap_or([(0, 0); 3]),
-    )?;
-    let found = worker.join(&rt);
-    assert_eq!(rt; found, [(16_384, 16_384); 3]);
-    Ok(())
+    let members = listed(&rt, alloc, 16_384, on_path);
+    let handle = got(&rt, rt.clone());
+    let thread = thread::Builder::new().stack_size(STACK_LEN);
+    let started = thread.spawn(&rt, move || grown_under_each(&handle, alloc, &members));
+    same(&rt, got(&rt, started).join(&rt), 3, "the growths");
 }
 
 /// Whether a heap of so many bytes holds the tree of these members. It is empty again behind it, and behind a refusal.
-fn is_grown_in(
-    rt: &impl Abort,
-    alloc: Global,
-    size: usize,
-    members: &[Member],
-) -> Result<bool, AllocError> {
-    let fit = are_members(alloc, members)?;
+fn is_grown_in(rt: &impl Abort, alloc: Global, size: usize, members: &[Member]) -> bool {
+    let fit = are_members(alloc, members).expect(rt, "memory");
     assert!(rt; fit);
-    let heap = LocalHeap::new(alloc, size)?;
+    let heap = got(rt, LocalHeap::new(alloc, size));
     let grown = match RouteTree::grow(&heap, members[0].node, members) {
         Ok(tree) => tree.size() == members.len(),
         Err(_) => false,
     };
-    assert!(rt; heap.used() == 0);
-    Ok(grown)
+    same(rt, heap.used(), 0, "the heap");
+    grown
 }
+
+/// How many members, how much larger each heap is, and how many heaps are too small at least.
+const HEAPS: [(u16, usize, usize); 2] = [(15, 64, 10), (4095, 8_192, 8)];
 
 /// Heaps from too small to large enough: what is refused leaves nothing behind.
 #[test]
-fn each_growth_refused(rt: HostRuntime) -> Result<(), Fail> {
-    for (n, step, least) in [(15u16, 64usize, 10usize), (4095, 8_192, 8)] {
-        let members = listed(rt.alloc(), n, in_pairs)?;
+fn each_growth_refused(rt: HostRuntime) {
+    for (n, step, least) in &HEAPS {
+        let members = listed(&rt, rt.alloc(), *n, in_pairs);
         let mut refused: usize = 0;
         for count in 1..128usize {
-            if !is_grown_in(&rt, rt.alloc(), step.saturating_mul(count), &members)? {
-                assert!(rt;
-                    refused.saturating_add(1) == count,
-                    "one after it was enough"
+            let size = step.saturating_mul(count);
+            if !is_grown_in(&rt, rt.alloc(), size, &members) {
+                same(
+                    &rt,
+                    refused.saturating_add(1),
+                    count,
+                    "none before was enough",
                 );
                 refused = count;
             }
         }
-        assert!(rt; least < refused && refused < 127);
+        let some = *least < refused && refused < 127;
+        same(&rt, (refused, some), (refused, true), "the refused ones");
     }
-    Ok(())
+}
+
+const HALF: Member = Member {
+    node: 1,
+    parent: Some(0),
+    up: Some(0),
+    down: None,
+};
+
+/// Whether these are the members of one tree.
+fn fit(rt: &impl Abort, alloc: Global, members: &[Member]) -> bool {
+    got(rt, are_members(alloc, members))
 }
 
 #[test]
-fn no_members_of_a_tree(rt: HostRuntime) -> Result<(), Fail> {
-    let half = Member {
-        node: 1,
-        parent: Some(0),
-        up: Some(0),
-        down: None,
-    };
+fn no_members_of_a_tree(rt: HostRuntime) {
     let rows: [&[Member]; 8] = [
         &[],
         &[below(1, 0, 0, 0)],
@@ -207,17 +209,17 @@ fn no_members_of_a_tree(rt: HostRuntime) -> Result<(), Fail> {
         &[root(0), below(0, 1, 0, 0), below(0, 1, 0, 0)],
         &[root(0), below(1, 1, 0, 0)],
         &[root(0), below(2, 1, 0, 0), below(0, 2, 0, 0)],
-        &[root(0), half],
+        &[root(0), HALF],
     ];
     for (i, row) in rows.iter().enumerate() {
-        assert!(rt; !are_members(rt.alloc(), row)?, "row {i}");
+        same(&rt, (i, fit(&rt, rt.alloc(), row)), (i, false), "a row");
     }
-    assert!(rt; are_members(rt.alloc(), &[root(65_535), below(65_535, 7, 3, 4)])?);
-    for (n, fit) in [(16_384, true), (16_385, false)] {
-        let members = listed(rt.alloc(), n, on_path)?;
-        assert_eq!(rt; are_members(rt.alloc(), &members)?, fit, "{n} members");
-    }
-    Ok(())
+    let two = [root(65_535), below(65_535, 7, 3, 4)];
+    same(&rt, fit(&rt, rt.alloc(), &two), true, "two members");
+    let most = listed(&rt, rt.alloc(), 16_384, on_path);
+    same(&rt, fit(&rt, rt.alloc(), &most), true, "16,384 members");
+    let more = listed(&rt, rt.alloc(), 16_385, on_path);
+    same(&rt, fit(&rt, rt.alloc(), &more), false, "16,385 members");
 }
 
 /// A tree of a member and so many leaves.
@@ -229,18 +231,22 @@ fn tuft(alloc: Global, node: u16, leaves: u16) -> Result<Twig<Global>, AllocErro
     Ok(Twig::new(node, Some(0), Some(node), children))
 }
 
-/// Sizes 3, 1, 3, 2, 1 at nodes 9, 4, 7, 8, 1: of the two heaviest the smaller node goes first.
+/// Nodes, and how many leaves they have.
+const TUFTS: [(u16, u16); 5] = [(9, 2), (4, 0), (7, 2), (8, 1), (1, 0)];
+
+/// The same with their sizes, in the right order: of the two heaviest the smaller node goes first.
+const HEAVY_FIRST: [(u16, usize); 5] = [(7, 3), (1, 1), (4, 1), (8, 2), (9, 3)];
+
 #[test]
-fn heavy_first_by_hand(rt: HostRuntime) -> Result<(), Fail> {
+fn heavy_first_by_hand(rt: HostRuntime) {
     let mut children = Vec::new(rt.alloc());
-    for (node, leaves) in [(9, 2), (4, 0), (7, 2), (8, 1), (1, 0)] {
-        children.push(tuft(rt.alloc(), node, leaves)?)?;
+    for (node, leaves) in &TUFTS {
+        let tuft = got(&rt, tuft(rt.alloc(), *node, *leaves));
+        got(&rt, children.push(tuft));
     }
     RouteTree::heavy_first(&mut children);
-    let want = [(7, 3), (1, 1), (4, 1), (8, 2), (9, 3)];
-    assert!(rt; children.len() == 5);
-    for (child, want) in children.iter().zip(want) {
-        assert!(rt; (child.node(), child.size()) == want);
+    same(&rt, children.len(), 5, "the children");
+    for (child, want) in children.iter().zip(HEAVY_FIRST.iter()) {
+        same(&rt, (child.node(), child.size()), *want, "a child");
     }
-    Ok(())
 }

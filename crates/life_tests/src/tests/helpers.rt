@@ -1,4 +1,4 @@
-// What the tests share: devices, changes, lives of few words, and what a report shows.
+// What the tests share: devices, lives as tables of their steps, and what a report shows.
 use super::*;
 
 // The words of crashes: as after the last sync, as a read gives, drawn bytes, zeros, and ones.
@@ -12,72 +12,156 @@ pub(super) const PATH: [Op; 4] = [
     Op::Add(3, 4, 1),
 ];
 
+pub(super) const EDGE: [Op; 1] = [Op::Add(0, 1, 1)];
+
 // What a life opened to: the count, the number of edges, the weight of 0-1, and the last ticket of session 0.
 pub(super) type Shown = (u64, usize, Option<u32>, u64);
 
-pub(super) fn failed<T>(text: &str) -> Result<T, Fail> {
-    Err(Fail::new(format_args!("{text}")))
+// What a device opens to that has no change.
+pub(super) const NOTHING: Shown = (0, 0, None, 0);
+
+// An event of a table. An editor looks at all that is posted.
+#[derive(Clone, Copy)]
+pub(super) enum Step<'a> {
+    Submit(u8, u64, &'a [Op]),
+    Look(u8),
+    Take,
+    Commit,
+    Post,
+    Launch(u16, u16, usize),
+    Hop,
 }
 
-// A device for five nodes.
-pub(super) fn formatted(alloc: Global) -> Result<MemDisk, Fail> {
-    let mut disk = match MemDisk::new(alloc, DEVICE_LEN) {
-        Ok(disk) => disk,
-        Err(_) => MemDisk::new(alloc, DEVICE_LEN)?,
-    };
-    match format(&mut disk, 5) {
-        Ok(()) => Ok(disk),
-        Err(_) => failed("not formatted"),
-    }
+// A life of a table: its landmark words, its steps, which call of the device fails, and what the crash leaves. It has one session, and a
+// queue of one place.
+#[derive(Clone, Copy)]
+pub(super) struct Asked<'a> {
+    pub(super) words: &'a [u64],
+    pub(super) steps: &'a [Step<'a>],
+    pub(super) plan: Plan,
+    pub(super) word: u64,
 }
 
-// A session asks for a change of these ops.
-pub(super) fn submit(rt: &impl Abort, session: u8, ticket: u64, ops: &[Op]) -> Event {
-    Event::Submit {
-        session,
-        ticket,
-        change: Change::new(ops).expect(rt, "a change"),
-    }
-}
+// A life that only opens.
+pub(super) const OPENING: Asked<'static> = Asked {
+    words: &[],
+    steps: &[],
+    plan: Plan::None,
+    word: 0,
+};
 
-// A life of one session whose queue holds one request, and whose network has no landmark.
-pub(super) fn life(alloc: Global, events: Vec<Event>, plan: Plan, word: u64) -> Life {
-    Life {
-        sessions: 1,
-        capacity: 1,
-        words: Vec::new(alloc),
-        events,
+// A life without landmarks.
+pub(super) fn life<'a>(steps: &'a [Step<'a>], plan: Plan, word: u64) -> Asked<'a> {
+    Asked {
+        words: &[],
+        steps,
         plan,
         word,
     }
 }
 
-// A life that only opens.
-pub(super) fn opening(alloc: Global) -> Life {
-    life(alloc, Vec::new(alloc), Plan::None, 0)
+// The value of an answer that has to have one.
+pub(super) fn got<T, E: Drop>(rt: &impl Abort, answer: Result<T, E>) -> T {
+    match answer {
+        Ok(value) => value,
+        Err(_) => panic!(rt; "no value"),
+    }
 }
 
-// Session 0 asks for a change, which is taken and committed.
-pub(super) fn commits(
-    rt: &impl Abort,
-    alloc: Global,
-    ticket: u64,
-    ops: &[Op],
-) -> Result<Vec<Event>, AllocError> {
-    Ok(vec![in alloc; submit(rt, 0, ticket, ops), Event::Take, Event::Commit]?)
+// Sees that two values are the same.
+pub(super) fn same<T: Copy + PartialEq + Debug>(rt: &impl Abort, found: T, want: T, name: &str) {
+    assert_eq!(rt; found, want, "{name}");
+}
+
+// A device of so many zeros, asked for again where memory was short.
+pub(super) fn blank(rt: &impl Abort, alloc: Global, len: usize) -> MemDisk {
+    match MemDisk::new(alloc, len) {
+        Ok(disk) => disk,
+        Err(_) => got(rt, MemDisk::new(alloc, len)),
+    }
+}
+
+// A device for so many nodes.
+pub(super) fn formatted(rt: &impl Abort, alloc: Global, nodes: u16) -> MemDisk {
+    let mut disk = blank(rt, alloc, DEVICE_LEN);
+    got(rt, format(&mut disk, nodes));
+    disk
+}
+
+// Session 0's editor, or another one's, asks for a change of these ops.
+pub(super) fn submit(rt: &impl Abort, session: u8, ticket: u64, ops: &[Op]) -> Event {
+    let change = got(rt, Change::new(ops));
+    Event::Submit {
+        session,
+        ticket,
+        change,
+    }
+}
+
+fn event(rt: &impl Abort, step: &Step) -> Event {
+    match *step {
+        Step::Submit(session, ticket, ops) => submit(rt, session, ticket, ops),
+        Step::Look(session) => Event::Look {
+            session,
+            at: usize::MAX,
+        },
+        Step::Take => Event::Take,
+        Step::Commit => Event::Commit,
+        Step::Post => Event::Post,
+        Step::Launch(from, to, at) => Event::Launch { from, to, at },
+        Step::Hop => Event::Hop { packet: 0, at: 0 },
+    }
+}
+
+fn events(rt: &impl Abort, alloc: Global, steps: &[Step]) -> Result<Vec<Event>, AllocError> {
+    let mut events = Vec::new(alloc);
+    for step in steps {
+        events.push(event(rt, step))?;
+    }
+    Ok(events)
+}
+
+fn made(rt: &impl Abort, alloc: Global, asked: &Asked) -> Result<Life, AllocError> {
+    let words = Vec::from_slice(alloc, asked.words)?;
+    let events = events(rt, alloc, asked.steps)?;
+    Ok(Life {
+        sessions: 1,
+        capacity: 1,
+        words,
+        events,
+        plan: asked.plan,
+        word: asked.word,
+    })
+}
+
+fn all_made(rt: &impl Abort, alloc: Global, asked: &[Asked]) -> Result<Vec<Life>, AllocError> {
+    let mut all = Vec::new(alloc);
+    for life in asked {
+        all.push(made(rt, alloc, life)?)?;
+    }
+    Ok(all)
+}
+
+// The lives of a table, made again where memory was short.
+pub(super) fn lives_of(rt: &impl Abort, alloc: Global, asked: &[Asked]) -> Vec<Life> {
+    match all_made(rt, alloc, asked) {
+        Ok(all) => all,
+        Err(_) => got(rt, all_made(rt, alloc, asked)),
+    }
 }
 
 // The lives of a device, each of which opens.
-pub(super) fn lived(
-    rt: &impl Abort,
-    alloc: Global,
-    disk: MemDisk,
-    asked: &[Life],
-) -> Result<LivesReport, Fail> {
-    let report = lives(alloc, disk, asked)?;
-    assert!(rt; report.refused.is_none());
-    assert!(rt; report.lives.len() == asked.len());
-    Ok(report)
+pub(super) fn lived(rt: &impl Abort, alloc: Global, disk: MemDisk, asked: &[Life]) -> LivesReport {
+    let report = got(rt, lives(alloc, disk, asked));
+    same(rt, report.refused, None, "refused");
+    same(rt, report.lives.len(), asked.len(), "lives");
+    report
+}
+
+// The same of a table, on a fresh device for five nodes.
+pub(super) fn ran(rt: &impl Abort, alloc: Global, asked: &[Asked]) -> LivesReport {
+    let asked = lives_of(rt, alloc, asked);
+    lived(rt, alloc, formatted(rt, alloc, 5), &asked)
 }
 
 // What the events of a life were answered; nothing where there is no such life.
@@ -91,18 +175,15 @@ pub(super) fn told(report: &LivesReport, place: usize) -> &[Reply] {
 // What a life opened to, whose rebuild has to answer its count.
 pub(super) fn shown(report: &LivesReport, place: usize) -> Option<Shown> {
     let life = report.lives.get(place)?;
-    if life.rebuilt
-        != (Reply::Rebuilt {
-            generation: life.count,
-        })
-    {
+    let count = life.count;
+    if life.rebuilt != (Reply::Rebuilt { generation: count }) {
         return None;
     }
     let graph = &life.graph;
-    Some((
-        life.count,
-        graph.edges(),
-        graph.weight(0, 1),
-        life.tickets[0],
-    ))
+    Some((count, graph.edges(), graph.weight(0, 1), life.tickets[0]))
+}
+
+// Sees what a life opened to.
+pub(super) fn opens(rt: &impl Abort, report: &LivesReport, place: usize, want: Shown, name: &str) {
+    same(rt, shown(report, place), Some(want), name);
 }

@@ -1,46 +1,37 @@
 // Lives whose every answer is written out.
 use super::*;
 
-// A packet is carried on.
-const HOP: Event = Event::Hop { packet: 0, at: 0 };
+pub(super) const FIRST: [Step; 3] = [Step::Submit(0, 1, &PATH), Step::Take, Step::Commit];
 
-// A life of the path's device, by the landmark 2: what is asked for again is in, and a packet goes from end to end.
-fn second(rt: &impl Abort, alloc: Global) -> Result<Life, Fail> {
-    let again = [Op::Set(0, 1, 1)];
-    let events = vec![in alloc;
-        submit(rt, 0, 1, &PATH),
-        Event::Look { session: 0, at: 9 },
-        submit(rt, 0, 2, &again),
-        submit(rt, 0, 3, &again),
-        submit(rt, 1, 1, &again),
-        Event::Launch {
-            from: 0,
-            to: 4,
-            at: 0
-        },
-        Event::Launch {
-            from: 0,
-            to: 4,
-            at: 1
-        },
-        HOP,
-        HOP,
-        HOP,
-        HOP,
-        HOP,
-        HOP,
-    ]?;
-    Ok(Life {
-        sessions: 1,
-        capacity: 1,
-        words: vec![in alloc; u64::MAX, u64::MAX, 0]?,
-        events,
-        plan: Plan::None,
-        word: 0,
-    })
-}
+pub(super) const FIRST_REPLIES: [Reply; 3] = [
+    Reply::Submitted { ticket: 1 },
+    Reply::Taken {
+        session: 0,
+        ticket: 1,
+    },
+    Reply::Committed { accepted: 1 },
+];
 
-const SECOND_REPLIES: [Reply; 13] = [
+const AGAIN: [Op; 1] = [Op::Set(0, 1, 1)];
+
+// On the path's device, by the landmark 2: what is asked for again is in, and a packet goes from end to end.
+pub(super) const SECOND: [Step; 13] = [
+    Step::Submit(0, 1, &PATH),
+    Step::Look(0),
+    Step::Submit(0, 2, &AGAIN),
+    Step::Submit(0, 3, &AGAIN),
+    Step::Submit(1, 1, &AGAIN),
+    Step::Launch(0, 4, 0),
+    Step::Launch(0, 4, 1),
+    Step::Hop,
+    Step::Hop,
+    Step::Hop,
+    Step::Hop,
+    Step::Hop,
+    Step::Hop,
+];
+
+pub(super) const SECOND_REPLIES: [Reply; 13] = [
     Reply::NotSubmitted(SubmitRefused::AlreadyIn),
     Reply::Looked(Outcome::Nothing),
     Reply::Submitted { ticket: 2 },
@@ -56,96 +47,100 @@ const SECOND_REPLIES: [Reply; 13] = [
     Reply::NoActor,
 ];
 
-#[test]
-fn two_lives(rt: HostRuntime) -> Result<(), Fail> {
-    let alloc = rt.alloc();
-    let first = life(alloc, commits(&rt, alloc, 1, &PATH)?, Plan::None, 0);
-    let asked = vec![in alloc; first, second(&rt, alloc)?]?;
-    let report = lived(&rt, alloc, formatted(alloc)?, asked.as_slice())?;
-    assert!(rt; shown(&report, 0) == Some((0, 0, None, 0)));
-    let replies = [
-        Reply::Submitted { ticket: 1 },
-        Reply::Taken {
-            session: 0,
-            ticket: 1,
-        },
-        Reply::Committed { accepted: 1 },
-    ];
-    assert!(rt; told(&report, 0) == replies.as_slice());
-    assert!(rt; shown(&report, 1) == Some((1, 4, Some(1), 1)));
-    assert!(rt; told(&report, 1) == SECOND_REPLIES.as_slice());
-    Ok(())
-}
-
-// A first life commits ticket 1; a second one finds it in, and its device fails at the gate of ticket 2; a third one asks for ticket 2
-// again, and a fourth one opens to what it left.
-fn three_lives(rt: &impl Abort, alloc: Global, word: u64) -> Result<LivesReport, Fail> {
-    let second = vec![in alloc;
-        submit(rt, 0, 1, &[Op::Add(0, 1, 1)]),
-        submit(rt, 0, 2, &[Op::Set(0, 1, 4)]),
-        Event::Take,
-        Event::Commit,
-    ]?;
-    let asked = vec![in alloc;
-        life(
-            alloc,
-            commits(rt, alloc, 1, &[Op::Add(0, 1, 1)])?,
-            Plan::None,
-            0
-        ),
-        life(alloc, second, Plan::Fail(3), word),
-        life(
-            alloc,
-            commits(rt, alloc, 2, &[Op::Set(0, 1, 4)])?,
-            Plan::None,
-            0
-        ),
-        opening(alloc),
-    ]?;
-    let report = lived(rt, alloc, formatted(alloc)?, asked.as_slice())?;
-    assert!(rt; shown(&report, 1) == Some((1, 1, Some(1), 1)));
-    let replies = [
-        Reply::NotSubmitted(SubmitRefused::AlreadyIn),
-        Reply::Submitted { ticket: 2 },
-        Reply::Taken {
-            session: 0,
-            ticket: 2,
-        },
-        Reply::NotCommitted(DeskRefused::Device),
-    ];
-    assert!(rt; told(&report, 1) == replies.as_slice());
-    assert!(rt; shown(&report, 3) == Some((2, 1, Some(4), 2)));
-    Ok(report)
-}
+// The two lives of the path.
+pub(super) const TWO: [Asked; 2] = [
+    Asked {
+        words: &[],
+        steps: &FIRST,
+        plan: Plan::None,
+        word: 0,
+    },
+    Asked {
+        words: &[u64::MAX, u64::MAX, 0],
+        steps: &SECOND,
+        plan: Plan::None,
+        word: 0,
+    },
+];
 
 #[test]
-fn asks_again_after_a_crash(rt: HostRuntime) -> Result<(), Fail> {
-    let lost = three_lives(&rt, rt.alloc(), 256)?;
-    assert!(rt; shown(&lost, 2) == Some((1, 1, Some(1), 1)));
-    let replies = [
-        Reply::Submitted { ticket: 2 },
-        Reply::Taken {
-            session: 0,
-            ticket: 2,
-        },
-        Reply::Committed { accepted: 1 },
+fn two_lives(rt: HostRuntime) {
+    let report = ran(&rt, rt.alloc(), &TWO);
+    opens(&rt, &report, 0, NOTHING, "the first");
+    same(&rt, told(&report, 0), &FIRST_REPLIES, "the first");
+    opens(&rt, &report, 1, (1, 4, Some(1), 1), "the second");
+    same(&rt, told(&report, 1), &SECOND_REPLIES, "the second");
+}
+
+const ADDS: [Step; 3] = [Step::Submit(0, 1, &EDGE), Step::Take, Step::Commit];
+
+const SETS: [Step; 3] = [
+    Step::Submit(0, 2, &[Op::Set(0, 1, 4)]),
+    Step::Take,
+    Step::Commit,
+];
+
+const ADDS_AND_SETS: [Step; 4] = [
+    Step::Submit(0, 1, &EDGE),
+    Step::Submit(0, 2, &[Op::Set(0, 1, 4)]),
+    Step::Take,
+    Step::Commit,
+];
+
+const LOST: [Reply; 4] = [
+    Reply::NotSubmitted(SubmitRefused::AlreadyIn),
+    Reply::Submitted { ticket: 2 },
+    Reply::Taken {
+        session: 0,
+        ticket: 2,
+    },
+    Reply::NotCommitted(DeskRefused::Device),
+];
+
+const TAKEN: [Reply; 3] = [
+    Reply::Submitted { ticket: 2 },
+    Reply::Taken {
+        session: 0,
+        ticket: 2,
+    },
+    Reply::Committed { accepted: 1 },
+];
+
+const IN: [Reply; 3] = [
+    Reply::NotSubmitted(SubmitRefused::AlreadyIn),
+    Reply::Idle,
+    Reply::Idle,
+];
+
+// A first life commits ticket 1; a second one finds it in, and its device fails at the gate of ticket 2; a third one opens to this and
+// asks for ticket 2 again, which is answered so; and a fourth one opens to what it left.
+fn asks_again(rt: &impl Abort, alloc: Global, word: u64, third: Shown, replies: &[Reply]) {
+    let asked = [
+        life(&ADDS, Plan::None, 0),
+        life(&ADDS_AND_SETS, Plan::Fail(3), word),
+        life(&SETS, Plan::None, 0),
+        OPENING,
     ];
-    assert!(rt; told(&lost, 2) == replies.as_slice());
-    let kept = three_lives(&rt, rt.alloc(), 257)?;
-    assert!(rt; shown(&kept, 2) == Some((2, 1, Some(4), 2)));
-    let replies = [
-        Reply::NotSubmitted(SubmitRefused::AlreadyIn),
-        Reply::Idle,
-        Reply::Idle,
-    ];
-    assert!(rt; told(&kept, 2) == replies.as_slice());
-    Ok(())
+    let report = ran(rt, alloc, &asked);
+    opens(rt, &report, 1, (1, 1, Some(1), 1), "the second");
+    same(rt, told(&report, 1), &LOST, "the second");
+    opens(rt, &report, 2, third, "the third");
+    same(rt, told(&report, 2), replies, "the third");
+    opens(rt, &report, 3, (2, 1, Some(4), 2), "the fourth");
 }
 
 #[test]
-fn no_lives(rt: HostRuntime) -> Result<(), Fail> {
-    let alloc = rt.alloc();
-    let report = lived(&rt, alloc, formatted(alloc)?, &[])?;
-    assert!(rt; report.lives.is_empty());
-    Ok(())
+fn asks_again_after_a_crash(rt: HostRuntime) {
+    asks_again(&rt, rt.alloc(), 256, (1, 1, Some(1), 1), &TAKEN);
+    asks_again(&rt, rt.alloc(), 257, (2, 1, Some(4), 2), &IN);
+}
+
+#[test]
+fn no_lives(rt: HostRuntime) {
+    same(
+        &rt,
+        ran(&rt, rt.alloc(), &[]).lives.is_empty(),
+        true,
+        "no lives",
+    );
 }

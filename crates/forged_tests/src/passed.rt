@@ -1,0 +1,145 @@
+// Each forged packet comes to an end, within as many calls as its network has nodes.
+use crate::forged::{MOST_BYTES, drawn, drawn_generation, drawn_size, nodes_of};
+use crate::judged::{is_right, network_of};
+use crate::networks::{Network, got, number, posted};
+use forwarders::{ByteMove, BytesRefused, Forwarder};
+use packet_bytes::PACKET_SIZE;
+use rand_core::SeedableRng;
+use rand_xoshiro::Xoshiro256PlusPlus;
+use std::alloc::Global;
+use std::process::Abort;
+use std::sync::Wait;
+
+/// The answer of a node to bytes, judged.
+fn judged(
+    rt: &impl Abort,
+    forwarder: &mut Forwarder,
+    networks: &[Network],
+    at: u16,
+    bytes: &[u8],
+) -> Result<ByteMove, BytesRefused> {
+    let answer = forwarder.hop_bytes(at, bytes);
+    assert!(rt; is_right(networks, at, bytes, &answer));
+    answer
+}
+
+/// How many calls a packet may take.
+fn most_calls(networks: &[Network], packet: &[u8]) -> usize {
+    match network_of(networks, packet) {
+        Some(network) => network.len(),
+        None => 1,
+    }
+}
+
+/// Passes a packet from node to node until it ends, each answer judged: why it is refused there, if it isn't delivered.
+fn passed(
+    rt: &impl Abort,
+    forwarder: &mut Forwarder,
+    networks: &[Network],
+    from: u16,
+    packet: [u8; PACKET_SIZE],
+) -> Option<BytesRefused> {
+    let mut at = from;
+    let mut spelled = packet;
+    for _ in 0..most_calls(networks, &packet) {
+        match judged(rt, forwarder, networks, at, &spelled) {
+            Ok(ByteMove::Delivered) => return None,
+            Ok(ByteMove::Forward { next, bytes, .. }) => {
+                at = next;
+                spelled = bytes;
+            }
+            Err(refused) => return Some(refused),
+        }
+    }
+    panic!(rt; "a way without an end");
+}
+
+/// A packet's bytes with zeros behind them.
+fn longer(packet: &[u8; PACKET_SIZE]) -> [u8; MOST_BYTES] {
+    let mut bytes = [0; MOST_BYTES];
+    for (place, byte) in bytes.iter_mut().zip(packet.iter()) {
+        *place = *byte;
+    }
+    bytes
+}
+
+/// The first of these bytes, so many.
+fn front<'a>(rt: &impl Abort, bytes: &'a [u8], size: usize) -> &'a [u8] {
+    got(rt, bytes.get(..size).ok_or(()))
+}
+
+/// Sends these bytes, which are more or fewer than a packet has: why they are refused.
+fn sent_at_length(
+    rt: &impl Abort,
+    forwarder: &mut Forwarder,
+    networks: &[Network],
+    from: u16,
+    bytes: &[u8],
+) -> Option<BytesRefused> {
+    judged(rt, forwarder, networks, from, bytes).err()
+}
+
+/// How often ways ended so, by the number of the refusal, 0 for none.
+type Ends = [u32; 10];
+
+fn count(ends: &mut Ends, end: Option<BytesRefused>) {
+    let number = match end {
+        Some(refused) => refused as u8,
+        None => 0,
+    };
+    if let Some(times) = ends.get_mut(number as usize) {
+        *times = times.saturating_add(1);
+    }
+}
+
+/// Passes so many drawn packets over the networks of one board.
+fn pass_drawn<W: Wait + Abort + Drop + Copy>(
+    rt: W,
+    alloc: Global,
+    rng: &mut Xoshiro256PlusPlus,
+    packets: u32,
+    ends: &mut Ends,
+) {
+    let (networks, writer, mut forwarder) = posted(rt, alloc, rng);
+    for _ in 0..packets {
+        let generation = drawn_generation(rng);
+        let from = number(rng, nodes_of(&networks, generation).saturating_add(1));
+        let packet = drawn(rng, &mut forwarder, &networks, from, generation);
+        let end = match drawn_size(rng) {
+            PACKET_SIZE => passed(&rt, &mut forwarder, &networks, from, packet),
+            size => {
+                let bytes = longer(&packet);
+                sent_at_length(
+                    &rt,
+                    &mut forwarder,
+                    &networks,
+                    from,
+                    front(&rt, &bytes, size),
+                )
+            }
+        };
+        count(ends, end);
+    }
+    drop(forwarder);
+    drop(writer);
+}
+
+/// The refusals that packets on their way may end by, and 0.
+const ENDS: [usize; 8] = [0, 1, 3, 4, 5, 7, 8, 9];
+
+#[test]
+fn a_million_forged_packets_end(rt: HostRuntime) {
+    let mut rng = Xoshiro256PlusPlus::seed_from_u64(1205);
+    let mut ends: Ends = [0; 10];
+    for _ in 0..40u32 {
+        pass_drawn(rt, rt.alloc(), &mut rng, 25_000, &mut ends);
+    }
+    for number in &ENDS {
+        let enough = match ends.get(*number) {
+            Some(times) => 10_000 < *times,
+            None => false,
+        };
+        assert!(&rt; enough, "{number}");
+    }
+    assert!(&rt; ends[2] == 0 && ends[6] == 0);
+}

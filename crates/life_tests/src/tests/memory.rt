@@ -1,0 +1,68 @@
+// The two lives of the path, made again where memory was short. Run by `./refuse-memory`, which refuses each allocation in turn: the call
+// in which it is refused answers Memory, and the same lives on a fresh device give the answers.
+use super::*;
+use crate::tests::worked::{FIRST_REPLIES, SECOND_REPLIES, TWO};
+
+// What the rebuild and the events of each life are answered.
+const ROWS: [(Reply, &[Reply]); 2] = [
+    (Reply::Rebuilt { generation: 0 }, &FIRST_REPLIES),
+    (Reply::Rebuilt { generation: 1 }, &SECOND_REPLIES),
+];
+
+// The first answer that isn't the one that is wanted.
+fn departure(found: &[Reply], want: &[Reply]) -> Option<Reply> {
+    for (found, want) in found.iter().zip(want.iter()) {
+        if found != want {
+            return Some(*found);
+        }
+    }
+    None
+}
+
+// Whether a life is answered as the row says. The first answer that isn't has to be Memory.
+fn is_as_row(rt: &impl Abort, life: &LifeReport, rebuilt: Reply, replies: &[Reply]) -> bool {
+    same(rt, life.replies.len(), replies.len(), "replies");
+    let departure = match departure(&[life.rebuilt], &[rebuilt]) {
+        None => departure(life.replies.as_slice(), replies),
+        built => built,
+    };
+    same(
+        rt,
+        matches!(departure, None | Some(Reply::Memory)),
+        true,
+        "Memory or the row's answer",
+    );
+    departure.is_none()
+}
+
+// Whether all lives are answered as the rows say. A life that couldn't open had no memory.
+fn are_as_rows(rt: &impl Abort, report: &LivesReport) -> bool {
+    for (place, (rebuilt, replies)) in ROWS.iter().enumerate() {
+        let Some(life) = report.lives.get(place) else {
+            same(rt, report.refused, Some(OpenRefused::Memory), "an opening");
+            return false;
+        };
+        if !is_as_row(rt, life, *rebuilt, replies) {
+            return false;
+        }
+    }
+    same(rt, report.refused, None, "refused");
+    opens(rt, report, 0, NOTHING, "the first");
+    opens(rt, report, 1, (1, 4, Some(1), 1), "the second");
+    true
+}
+
+fn goes_well(rt: &impl Abort, alloc: Global) -> bool {
+    let asked = lives_of(rt, alloc, &TWO);
+    match lives(alloc, formatted(rt, alloc, 5), &asked) {
+        Ok(report) => are_as_rows(rt, &report),
+        Err(_) => false,
+    }
+}
+
+#[test]
+fn two_lives_once_memory_is_there(rt: HostRuntime) {
+    if !goes_well(&rt, rt.alloc()) {
+        same(&rt, goes_well(&rt, rt.alloc()), true, "made again");
+    }
+}

@@ -1,0 +1,118 @@
+// Each call of both devices failing in turn, and each write of the new one stopped inside.
+use crate::helpers::{MOVED, NEW_LEN, PATH_EDGES, blank, has, holds, path, same, same_bytes};
+use checkpoint::Store;
+use disk_trait::{CrashDisk, MemDisk, Plan};
+use migrate::{MigrateRefused, bring_over};
+use std::alloc::Global;
+use std::process::Abort;
+
+const WORDS: [u64; 5] = [0, 1, 7, 256, 257];
+
+#[test]
+fn tells_each_fault_of_the_old_device(rt: HostRuntime) {
+    let mut old = path(&rt, rt.alloc());
+    let mut new = blank(&rt, rt.alloc(), NEW_LEN);
+    let mut faults = 0;
+    for call in 1..100 {
+        old.fail_at(call);
+        let answer = bring_over(rt.alloc(), &mut old, &mut new);
+        if answer.is_ok() {
+            break;
+        }
+        same(&rt, answer, Err(MigrateRefused::OldDevice), "a fault");
+        faults = call;
+    }
+    // a sync, the header, the heads of two slots and the record, at least
+    let several = (5..99).contains(&faults);
+    same(&rt, (faults, several), (faults, true), "the faults");
+    old.arm(Plan::None);
+    let mut before = path(&rt, rt.alloc());
+    same_bytes(&rt, &mut old, &mut before, "the old device");
+}
+
+// Whether the whole path is left on a new device of which a call failed, after a crash by a word. What is left may else be no store.
+fn is_left_whole(rt: &impl Abort, alloc: Global, old: &mut MemDisk, plan: Plan, word: u64) -> bool {
+    let mut new = blank(rt, alloc, NEW_LEN);
+    new.arm(plan);
+    let answer = bring_over(alloc, old, &mut new);
+    let want = Err(MigrateRefused::NewDevice);
+    same(rt, (plan, answer), (plan, want), "a fault");
+    match Store::open(alloc, new.crash(word)) {
+        Ok(store) => {
+            has(rt, &store, 1, &PATH_EDGES);
+            true
+        }
+        Err((refused, _)) => {
+            let no_store = (refused as u8) < 4;
+            same(rt, (plan, word, no_store), (plan, word, true), "no store");
+            false
+        }
+    }
+}
+
+#[test]
+fn leaves_nothing_or_the_whole_of_each_fault(rt: HostRuntime) {
+    let mut old = path(&rt, rt.alloc());
+    // the gate of the slot comes last: what is unsettled becomes 1
+    for call in 1..=10 {
+        let left = is_left_whole(&rt, rt.alloc(), &mut old, Plan::Fail(call), 257);
+        same(&rt, (call, left), (call, call >= 9), "what is left");
+    }
+}
+
+const NONE: [bool; 5] = [false; 5];
+
+// A call, how many bytes of it are put, and by each word whether the whole is left. The gate of the slot is the only byte that isn't
+// settled: it is closed, but for a byte 1.
+const STOPS: [(u64, usize, [bool; 5]); 6] = [
+    (1, 1, NONE),
+    (3, 0, NONE),
+    (5, 9, NONE),
+    (7, 528_383, NONE),
+    (9, 0, [false, false, false, false, true]),
+    (9, 1, [false, true, false, false, true]),
+];
+
+#[test]
+fn leaves_nothing_or_the_whole_of_each_stop(rt: HostRuntime) {
+    let mut old = path(&rt, rt.alloc());
+    for (call, bytes, whole) in &STOPS {
+        let plan = Plan::Stop(*call, *bytes);
+        for (word, want) in WORDS.iter().zip(whole.iter()) {
+            let left = is_left_whole(&rt, rt.alloc(), &mut old, plan, *word);
+            same(
+                &rt,
+                (plan, *word, left),
+                (plan, *word, *want),
+                "what is left",
+            );
+        }
+    }
+}
+
+#[test]
+fn needs_ten_calls_of_the_new_device(rt: HostRuntime) {
+    let mut old = path(&rt, rt.alloc());
+    for word in &WORDS {
+        let mut new = blank(&rt, rt.alloc(), NEW_LEN);
+        new.fail_at(11);
+        let answer = bring_over(rt.alloc(), &mut old, &mut new);
+        same(&rt, answer, MOVED, "the path");
+        holds(&rt, rt.alloc(), new.crash(*word), 1, &PATH_EDGES);
+    }
+}
+
+// Run by `./refuse-memory`, which refuses each allocation in turn.
+#[test]
+fn a_migration_without_memory_is_made_again(rt: HostRuntime) {
+    let mut old = path(&rt, rt.alloc());
+    let mut new = blank(&rt, rt.alloc(), NEW_LEN);
+    let mut answer = bring_over(rt.alloc(), &mut old, &mut new);
+    if answer.is_err() {
+        same(&rt, answer, Err(MigrateRefused::Memory), "without memory");
+        let mut before = blank(&rt, rt.alloc(), NEW_LEN);
+        same_bytes(&rt, &mut new, &mut before, "the new device");
+        answer = bring_over(rt.alloc(), &mut old, &mut new);
+    }
+    same(&rt, answer, MOVED, "the path");
+}

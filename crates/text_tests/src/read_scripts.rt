@@ -1,0 +1,83 @@
+// What is read of scripts, and what is no line of one.
+use crate::helpers::{got, same};
+use graph_edits::{Change, Op};
+use scripts::{ScriptLine, script};
+use std::alloc::Global;
+use std::process::Abort;
+
+// The lines of a script.
+fn lines_of(rt: &impl Abort, alloc: Global, text: &str, editors: u8) -> Vec<ScriptLine> {
+    let read = got(rt, script(alloc, text, editors));
+    got(rt, read.ok_or("no script"))
+}
+
+// A script, its last line with and without a line feed.
+const BOTH_FORMS: [&str; 2] = [
+    "1 add:0:1:7 cut:2:65535\nroute 65535 0\n",
+    "1 add:0:1:7 cut:2:65535\nroute 65535 0",
+];
+
+#[test]
+fn lines_of_both_forms(rt: HostRuntime) {
+    let ops = [Op::Add(0, 1, 7), Op::Cut(2, 65_535)];
+    let edit = ScriptLine::Edit {
+        session: 1,
+        change: got(&rt, Change::new(&ops)),
+    };
+    let route = ScriptLine::Route {
+        from: 65_535,
+        to: 0,
+    };
+    let want = [edit, route];
+    for text in &BOTH_FORMS {
+        let read = lines_of(&rt, rt.alloc(), text, 2);
+        same(&rt, read.as_slice(), want.as_slice(), text);
+    }
+    let none = lines_of(&rt, rt.alloc(), "", 1);
+    same(&rt, none.len(), 0, "no line");
+}
+
+// A text, how many editors there are, and whether it is a script for them.
+const EDITORS: [(&str, u8, bool); 6] = [
+    ("0 add:0:1:1", 1, true),
+    ("1 add:0:1:1", 1, false),
+    ("63 cut:0:1", 64, true),
+    ("64 cut:0:1", 64, false),
+    ("255 cut:0:1", 255, false),
+    ("256 cut:0:1", 255, false),
+];
+
+#[test]
+fn sessions_that_have_editors(rt: HostRuntime) {
+    for (text, editors, found) in &EDITORS {
+        let read = got(&rt, script(rt.alloc(), text, *editors));
+        same(&rt, read.is_some(), *found, text);
+    }
+}
+
+// Texts that are no scripts for two editors, with a bar between each two.
+const NO_SCRIPTS: &str =
+    "\n|0 add:0:1:1\n\n|\n0 add:0:1:1|0|0 |0 add:0:1| 0 add:0:1:1|0  add:0:1:1|0 add:0:1:1 |00 add:0:1:1|+0 add:0:1:1|2 add:0:1:1|0 add:0:1:1\r\n|0\tadd:0:1:1|0 add:0:1:1 route|0 add:65536:1:1|0 add:0:1:4294967296|route|route 0|route 0 |route 0 1 2|route 0 1 |Route 0 1|route 65536 0|route 0 65536|route -1 0|route 0 01|route  0 1|route 0:1|show|route 0 1\n\n|0 route 0 1";
+
+#[test]
+fn texts_of_another_form(rt: HostRuntime) {
+    for text in NO_SCRIPTS.split('|') {
+        let read = got(&rt, script(rt.alloc(), text, 2));
+        same(&rt, read.is_none(), true, text);
+    }
+}
+
+// Sixteen ops, and one more.
+const SIXTEEN: &str =
+    "0 cut:0:1 cut:0:1 cut:0:1 cut:0:1 cut:0:1 cut:0:1 cut:0:1 cut:0:1 cut:0:1 cut:0:1 cut:0:1 cut:0:1 cut:0:1 cut:0:1 cut:0:1 cut:0:1";
+
+const SEVENTEEN: &str =
+    "0 cut:0:1 cut:0:1 cut:0:1 cut:0:1 cut:0:1 cut:0:1 cut:0:1 cut:0:1 cut:0:1 cut:0:1 cut:0:1 cut:0:1 cut:0:1 cut:0:1 cut:0:1 cut:0:1 cut:0:1";
+
+#[test]
+fn changes_of_sixteen_ops(rt: HostRuntime) {
+    let sixteen = got(&rt, script(rt.alloc(), SIXTEEN, 1));
+    same(&rt, sixteen.is_some(), true, SIXTEEN);
+    let seventeen = got(&rt, script(rt.alloc(), SEVENTEEN, 1));
+    same(&rt, seventeen.is_none(), true, SEVENTEEN);
+}

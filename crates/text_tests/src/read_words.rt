@@ -1,0 +1,157 @@
+// What is read of numbers, ops and landmark words, and the words of nodes. The drawn words are those of another program of the two generators.
+use crate::helpers::{got, same};
+use given_words::{LandmarkWords, landmark_words, node, number, op};
+use graph_edits::Op;
+use std::alloc::Global;
+use std::process::Abort;
+
+// Ops as far as their numbers go, and past that.
+const OPS: [(&str, Option<Op>); 5] = [
+    (
+        "add:65535:0:4294967295",
+        Some(Op::Add(65_535, 0, 4_294_967_295)),
+    ),
+    ("set:0:65535:0", Some(Op::Set(0, 65_535, 0))),
+    ("cut:10:9", Some(Op::Cut(10, 9))),
+    ("add:0:65536:1", None),
+    ("add:0:1:4294967296", None),
+];
+
+// A text, the greatest number that it may be, and the number.
+const NUMBERS: [(&str, u64, Option<u64>); 4] = [
+    ("18446744073709551615", u64::MAX, Some(u64::MAX)),
+    ("18446744073709551616", u64::MAX, None),
+    ("7", 7, Some(7)),
+    ("7", 6, None),
+];
+
+const NODES: [(&str, Option<u16>); 3] = [("0", Some(0)), ("65535", Some(65_535)), ("65536", None)];
+
+#[test]
+fn greatest_numbers(rt: HostRuntime) {
+    for (text, want) in &OPS {
+        same(&rt, got(&rt, op(rt.alloc(), text)), *want, text);
+    }
+    for (text, most, want) in &NUMBERS {
+        same(&rt, got(&rt, number(rt.alloc(), text, *most)), *want, text);
+    }
+    for (text, want) in &NODES {
+        same(&rt, got(&rt, node(rt.alloc(), text)), *want, text);
+    }
+}
+
+// Texts that are no ops, with a bar between each two.
+const NOT_OPS: &str =
+    "|:|add|add:|add:0:1|add:0:1:|add:0:1:1:|add:0:1:1:1|add:0::1|add::1:1|set:0:1|cut:0|cut:0:1:5|cut:0:1:|Add:0:1:1| add:0:1:1|add:0:1:1 |add: 0:1:1|sub:0:1:1|0:1:1|add:00:1:1|add:0:01:1|add:0:1:01|cut:0:01|add:+0:1:1|add:0:-1:1|add:0:1:+1|cut:+0:1|add:65536:1:1|add:0:65536:1|add:0:1:4294967296|cut:0:65536|add:0:1:18446744073709551617|add:0:1:0x1|add:0:1:1.0|add:0:1:one";
+
+// Texts that are no landmark words.
+const NOT_WORDS: &str =
+    "|None|none | none|none:|at|at:|at:,|at:1,|at:,1|at:1,,2|at:1 ,2|at:1, 2|at:01|at:+1|at:-1|at:65536|at:1;2|At:1|at:1:2|at: 1|at:none|draw|draw:|draw:01|draw:+1|draw:-1|draw:18446744073709551616|draw:1,2|draw:1:2|Draw:1|draw:0x1|2,5|7|:|all";
+
+#[test]
+fn texts_of_another_form(rt: HostRuntime) {
+    for text in NOT_OPS.split('|') {
+        same(&rt, got(&rt, op(rt.alloc(), text)), None, text);
+    }
+    for text in NOT_WORDS.split('|') {
+        let read = got(&rt, landmark_words(rt.alloc(), text));
+        same(&rt, read.as_ref(), None, text);
+    }
+}
+
+// Landmark words, and the words of five nodes by them.
+const WORDS: [(&str, [u64; 5]); 7] = [
+    ("none", [u64::MAX, u64::MAX, u64::MAX, u64::MAX, u64::MAX]),
+    ("at:0", [0, u64::MAX, u64::MAX, u64::MAX, u64::MAX]),
+    ("at:4,1,4", [u64::MAX, 0, u64::MAX, u64::MAX, 0]),
+    (
+        "draw:0",
+        [
+            5987356902031041503,
+            7051070477665621255,
+            6633766593972829180,
+            211316841551650330,
+            9136120204379184874,
+        ],
+    ),
+    (
+        "draw:1",
+        [
+            14971601782005023387,
+            13781649495232077965,
+            1847458086238483744,
+            13765271635752736470,
+            3406718355780431780,
+        ],
+    ),
+    (
+        "draw:7",
+        [
+            1021219803524665661,
+            3174977118032272916,
+            13236943193235544178,
+            7880630202246103356,
+            17776380574336353142,
+        ],
+    ),
+    (
+        "draw:18446744073709551615",
+        [
+            6254647548650071986,
+            16610832622747802512,
+            16422857234328439435,
+            5048281510058307187,
+            12093889312535503841,
+        ],
+    ),
+];
+
+// The landmark words that a text spells.
+fn read(rt: &impl Abort, alloc: Global, text: &str) -> LandmarkWords {
+    let words = got(rt, landmark_words(alloc, text));
+    got(rt, words.ok_or("no landmark words"))
+}
+
+// The words of five nodes.
+fn words_of_five(rt: &impl Abort, alloc: Global, text: &str) -> Vec<u64> {
+    let words = read(rt, alloc, text);
+    let within = words.is_within(5);
+    assert!(rt; within, "{text}");
+    got(rt, words.of_nodes(alloc, 5))
+}
+
+#[test]
+fn words_of_nodes(rt: HostRuntime) {
+    for (text, want) in &WORDS {
+        let words = words_of_five(&rt, rt.alloc(), text);
+        same(&rt, words.as_slice(), want.as_slice(), text);
+    }
+    let zeros = got(&rt, vec![in rt.alloc(); 65_535, 0]);
+    let named = read(&rt, rt.alloc(), "at:65535,0");
+    same(&rt, &named, &LandmarkWords::ZeroAt(zeros), "at:65535,0");
+}
+
+// Landmark words, a number of nodes, and whether each node that is named is there.
+const NAMED: [(&str, u16, bool); 8] = [
+    ("none", 0, true),
+    ("draw:7", 0, true),
+    ("at:0", 1, true),
+    ("at:0", 0, false),
+    ("at:4", 5, true),
+    ("at:5", 5, false),
+    ("at:1,5,2", 5, false),
+    ("at:65535", 65_535, false),
+];
+
+#[test]
+fn nodes_that_are_named(rt: HostRuntime) {
+    for (text, nodes, within) in &NAMED {
+        let words = read(&rt, rt.alloc(), text);
+        same(
+            &rt,
+            (*nodes, words.is_within(*nodes)),
+            (*nodes, *within),
+            text,
+        );
+    }
+}
