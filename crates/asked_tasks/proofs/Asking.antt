@@ -12,7 +12,7 @@ use Rattle.clap.specs.Values.{kind_of}
 use Rattle.clap.specs.declared.error.Error.{Error}
 use Rattle.clap.specs.declared.error.kind.ErrorKind.TheVariants.{OutOfMemory}
 use Rattle.clap.specs.Simple.{is_simple, subcommand_rows, subcommand_rows_of}
-use Rattle.clap.specs.Walk.{Row, Text, all_of, rows_of, texts}
+use Rattle.clap.specs.Walk.{Row, Text, all_of, first_of, rows_of, texts}
 use Rattle.clap.specs.Words.{first_value, matched_of, raw_values, subcommand_name_of}
 use Rattle.clap.specs.declared.parser.matches.ArgMatches.{ArgMatches}
 use Rattle.clap.specs.declared.parser.matches.Found.{Found}
@@ -21,7 +21,7 @@ use Rattle.clap.proofs.WalkLemmas.{first_value-rows, raw_values-rows}
 use Rattle.graph_edits.specs.declared.edits.Op.{Op}
 use Rattle.given_words.specs.OpText.{Fits, op_text}
 use Rattle.asked_tasks.specs.Grammar.{program}
-use Rattle.asked_tasks.specs.Asked.{Gives, IsTask}
+use Rattle.asked_tasks.specs.Asked.{Gives, IsSeats, IsTask}
 use Rattle.asked_tasks.specs.declared.task.Task.{Task}
 
 -- the grammar is one whose matches and faults are known
@@ -69,6 +69,13 @@ gives_all f id all is = sym (raw_values-rows f id) ∙ is
 
 pub given_all : (f : Found) (id : Text) (all : List Text) → all_of id (rows_of f) ≡ Some all → option_map raw_values (matched_of f id) ≡ Some all
 given_all f id all is = raw_values-rows f id ∙ is
+
+-- so with a number that may be left out
+pub seats_of : (f : Found) (id : Text) (usual n : ℕ) → IsSeats (first_value f id) usual n → IsSeats (first_of id (rows_of f)) usual n
+seats_of f id usual n is = subst (λ (o : Option Text). IsSeats o usual n) (first_value-rows f id) is
+
+pub seats_given : (f : Found) (id : Text) (usual n : ℕ) → IsSeats (first_of id (rows_of f)) usual n → IsSeats (first_value f id) usual n
+seats_given f id usual n is = subst (λ (o : Option Text). IsSeats o usual n) (sym (first_value-rows f id)) is
 
 -- a name and rows are those of a pair
 pair_up : (o : Option (Text × List Row)) (name : Text) (rows : List Row) → Some name ≡ option_map (λ p. p.0) o → Some rows ≡ option_map (λ p. p.1) o → o ≡ Some (name, rows)

@@ -12,15 +12,15 @@ use Rattle.given_words.specs.WordsText.{IsAsked, IsSame, words_text}
 use Rattle.asked_tasks.specs.declared.refused.WordsRefused.{WordsRefused}
 use Rattle.asked_tasks.specs.declared.refused.WordsRefused.TheVariants.{Memory}
 use Rattle.asked_tasks.specs.declared.task.Task.{Task}
-use Rattle.asked_tasks.specs.declared.task.Task.TheVariants.{Format, Show, Edit, Resume, Route, Check, Migrate}
-use Rattle.asked_tasks.specs.Asked.{Gives, IsInRange, IsSameTask, IsTask, IsTicket}
+use Rattle.asked_tasks.specs.declared.task.Task.TheVariants.{Format, Show, Edit, Resume, Route, Check, Migrate, Serve}
+use Rattle.asked_tasks.specs.Asked.{Gives, IsInRange, IsSameTask, IsSeats, IsTask, IsTicket, usual_places, usual_seats}
 
--- one name has one third letter
-apart : (name a b : Text) → name ≡ a → name ≡ b → (get_or a 2 0 == get_or b 2 0) ≡ false → ⊥
-apart name a b p q differ =
-    let same : get_or a 2 0 ≡ get_or b 2 0 = ap (λ (t : Text). get_or t 2 0) (sym p ∙ q) in
-    let itself : (get_or a 2 0 == get_or a 2 0) ≡ true = grind (arith, nat_tests) in
-    let other : (get_or a 2 0 == get_or a 2 0) ≡ false = subst (λ n. (get_or a 2 0 == n) ≡ false) (sym same) differ in
+-- one name has one letter at a place
+apart : (i : ℕ) (name a b : Text) → name ≡ a → name ≡ b → (get_or a i 0 == get_or b i 0) ≡ false → ⊥
+apart i name a b p q differ =
+    let same : get_or a i 0 ≡ get_or b i 0 = ap (λ (t : Text). get_or t i 0) (sym p ∙ q) in
+    let itself : (get_or a i 0 == get_or a i 0) ≡ true = grind (arith, nat_tests) in
+    let other : (get_or a i 0 == get_or a i 0) ≡ false = subst (λ n. (get_or a i 0 == n) ≡ false) (sym same) differ in
     absurd (cc)
 
 -- an argument has one text
@@ -38,81 +38,100 @@ has_device name rows (Resume device session) is = (device.now, is.1)
 has_device name rows (Route device from to words) is = (device.now, is.1)
 has_device name rows (Check device words) is = (device.now, is.1)
 has_device name rows (Migrate old new) is = (old.now, is.1)
+has_device name rows (Serve device editors forwarders places words) is = (device.now, is.1)
 
 -- and one of the commands
-pub is_named : (name : Text) (rows : List Row) (task : Task) → IsTask name rows task → name ≢ codes "format" → name ≢ codes "show" → name ≢ codes "edit" → name ≢ codes "resume" → name ≢ codes "route" → name ≢ codes "check" → name ≢ codes "migrate" → ⊥
-is_named name rows (Format device nodes) is format show edit resume route check migrate = format is.0
-is_named name rows (Show device) is format show edit resume route check migrate = show is.0
-is_named name rows (Edit device ticket change) is format show edit resume route check migrate = edit is.0
-is_named name rows (Resume device session) is format show edit resume route check migrate = resume is.0
-is_named name rows (Route device from to words) is format show edit resume route check migrate = route is.0
-is_named name rows (Check device words) is format show edit resume route check migrate = check is.0
-is_named name rows (Migrate old new) is format show edit resume route check migrate = migrate is.0
+pub is_named : (name : Text) (rows : List Row) (task : Task) → IsTask name rows task → name ≢ codes "format" → name ≢ codes "show" → name ≢ codes "edit" → name ≢ codes "resume" → name ≢ codes "route" → name ≢ codes "check" → name ≢ codes "migrate" → name ≢ codes "serve" → ⊥
+is_named name rows (Format device nodes) is format show edit resume route check migrate serve = format is.0
+is_named name rows (Show device) is format show edit resume route check migrate serve = show is.0
+is_named name rows (Edit device ticket change) is format show edit resume route check migrate serve = edit is.0
+is_named name rows (Resume device session) is format show edit resume route check migrate serve = resume is.0
+is_named name rows (Route device from to words) is format show edit resume route check migrate serve = route is.0
+is_named name rows (Check device words) is format show edit resume route check migrate serve = check is.0
+is_named name rows (Migrate old new) is format show edit resume route check migrate serve = migrate is.0
+is_named name rows (Serve device editors forwarders places words) is format show edit resume route check migrate serve = serve is.0
 
 -- ---- what holds of each task of a command holds of the one that was asked for
 
 only_format : (P : Task → Type 0) (name : Text) (rows : List Row) (task : Task) → name ≡ codes "format" → IsTask name rows task → ((device : Bor Text) (nodes : ℕ) → P (Format device nodes)) → P task
 only_format P name rows (Format device nodes) named is each = each device nodes
-only_format P name rows (Show device) named is each = absurd (apart name _ _ named is.0 refl)
-only_format P name rows (Edit device ticket change) named is each = absurd (apart name _ _ named is.0 refl)
-only_format P name rows (Resume device session) named is each = absurd (apart name _ _ named is.0 refl)
-only_format P name rows (Route device from to words) named is each = absurd (apart name _ _ named is.0 refl)
-only_format P name rows (Check device words) named is each = absurd (apart name _ _ named is.0 refl)
-only_format P name rows (Migrate old new) named is each = absurd (apart name _ _ named is.0 refl)
+only_format P name rows (Show device) named is each = absurd (apart 2 name _ _ named is.0 refl)
+only_format P name rows (Edit device ticket change) named is each = absurd (apart 2 name _ _ named is.0 refl)
+only_format P name rows (Resume device session) named is each = absurd (apart 2 name _ _ named is.0 refl)
+only_format P name rows (Route device from to words) named is each = absurd (apart 2 name _ _ named is.0 refl)
+only_format P name rows (Check device words) named is each = absurd (apart 2 name _ _ named is.0 refl)
+only_format P name rows (Migrate old new) named is each = absurd (apart 2 name _ _ named is.0 refl)
+only_format P name rows (Serve device editors forwarders places words) named is each = absurd (apart 0 name _ _ named is.0 refl)
 
 only_show : (P : Task → Type 0) (name : Text) (rows : List Row) (task : Task) → name ≡ codes "show" → IsTask name rows task → ((device : Bor Text) → P (Show device)) → P task
-only_show P name rows (Format device nodes) named is each = absurd (apart name _ _ named is.0 refl)
+only_show P name rows (Format device nodes) named is each = absurd (apart 2 name _ _ named is.0 refl)
 only_show P name rows (Show device) named is each = each device
-only_show P name rows (Edit device ticket change) named is each = absurd (apart name _ _ named is.0 refl)
-only_show P name rows (Resume device session) named is each = absurd (apart name _ _ named is.0 refl)
-only_show P name rows (Route device from to words) named is each = absurd (apart name _ _ named is.0 refl)
-only_show P name rows (Check device words) named is each = absurd (apart name _ _ named is.0 refl)
-only_show P name rows (Migrate old new) named is each = absurd (apart name _ _ named is.0 refl)
+only_show P name rows (Edit device ticket change) named is each = absurd (apart 2 name _ _ named is.0 refl)
+only_show P name rows (Resume device session) named is each = absurd (apart 2 name _ _ named is.0 refl)
+only_show P name rows (Route device from to words) named is each = absurd (apart 2 name _ _ named is.0 refl)
+only_show P name rows (Check device words) named is each = absurd (apart 2 name _ _ named is.0 refl)
+only_show P name rows (Migrate old new) named is each = absurd (apart 2 name _ _ named is.0 refl)
+only_show P name rows (Serve device editors forwarders places words) named is each = absurd (apart 2 name _ _ named is.0 refl)
 
 only_edit : (P : Task → Type 0) (name : Text) (rows : List Row) (task : Task) → name ≡ codes "edit" → IsTask name rows task → ((device : Bor Text) (ticket : Option ℕ) (change : List Op) → P (Edit device ticket change)) → P task
-only_edit P name rows (Format device nodes) named is each = absurd (apart name _ _ named is.0 refl)
-only_edit P name rows (Show device) named is each = absurd (apart name _ _ named is.0 refl)
+only_edit P name rows (Format device nodes) named is each = absurd (apart 2 name _ _ named is.0 refl)
+only_edit P name rows (Show device) named is each = absurd (apart 2 name _ _ named is.0 refl)
 only_edit P name rows (Edit device ticket change) named is each = each device ticket change
-only_edit P name rows (Resume device session) named is each = absurd (apart name _ _ named is.0 refl)
-only_edit P name rows (Route device from to words) named is each = absurd (apart name _ _ named is.0 refl)
-only_edit P name rows (Check device words) named is each = absurd (apart name _ _ named is.0 refl)
-only_edit P name rows (Migrate old new) named is each = absurd (apart name _ _ named is.0 refl)
+only_edit P name rows (Resume device session) named is each = absurd (apart 2 name _ _ named is.0 refl)
+only_edit P name rows (Route device from to words) named is each = absurd (apart 2 name _ _ named is.0 refl)
+only_edit P name rows (Check device words) named is each = absurd (apart 2 name _ _ named is.0 refl)
+only_edit P name rows (Migrate old new) named is each = absurd (apart 2 name _ _ named is.0 refl)
+only_edit P name rows (Serve device editors forwarders places words) named is each = absurd (apart 2 name _ _ named is.0 refl)
 
 only_resume : (P : Task → Type 0) (name : Text) (rows : List Row) (task : Task) → name ≡ codes "resume" → IsTask name rows task → ((device : Bor Text) (session : ℕ) → P (Resume device session)) → P task
-only_resume P name rows (Format device nodes) named is each = absurd (apart name _ _ named is.0 refl)
-only_resume P name rows (Show device) named is each = absurd (apart name _ _ named is.0 refl)
-only_resume P name rows (Edit device ticket change) named is each = absurd (apart name _ _ named is.0 refl)
+only_resume P name rows (Format device nodes) named is each = absurd (apart 2 name _ _ named is.0 refl)
+only_resume P name rows (Show device) named is each = absurd (apart 2 name _ _ named is.0 refl)
+only_resume P name rows (Edit device ticket change) named is each = absurd (apart 2 name _ _ named is.0 refl)
 only_resume P name rows (Resume device session) named is each = each device session
-only_resume P name rows (Route device from to words) named is each = absurd (apart name _ _ named is.0 refl)
-only_resume P name rows (Check device words) named is each = absurd (apart name _ _ named is.0 refl)
-only_resume P name rows (Migrate old new) named is each = absurd (apart name _ _ named is.0 refl)
+only_resume P name rows (Route device from to words) named is each = absurd (apart 2 name _ _ named is.0 refl)
+only_resume P name rows (Check device words) named is each = absurd (apart 2 name _ _ named is.0 refl)
+only_resume P name rows (Migrate old new) named is each = absurd (apart 2 name _ _ named is.0 refl)
+only_resume P name rows (Serve device editors forwarders places words) named is each = absurd (apart 2 name _ _ named is.0 refl)
 
 only_route : (P : Task → Type 0) (name : Text) (rows : List Row) (task : Task) → name ≡ codes "route" → IsTask name rows task → ((device : Bor Text) (from : ℕ) (to : ℕ) (words : LandmarkWords) → P (Route device from to words)) → P task
-only_route P name rows (Format device nodes) named is each = absurd (apart name _ _ named is.0 refl)
-only_route P name rows (Show device) named is each = absurd (apart name _ _ named is.0 refl)
-only_route P name rows (Edit device ticket change) named is each = absurd (apart name _ _ named is.0 refl)
-only_route P name rows (Resume device session) named is each = absurd (apart name _ _ named is.0 refl)
+only_route P name rows (Format device nodes) named is each = absurd (apart 2 name _ _ named is.0 refl)
+only_route P name rows (Show device) named is each = absurd (apart 2 name _ _ named is.0 refl)
+only_route P name rows (Edit device ticket change) named is each = absurd (apart 2 name _ _ named is.0 refl)
+only_route P name rows (Resume device session) named is each = absurd (apart 2 name _ _ named is.0 refl)
 only_route P name rows (Route device from to words) named is each = each device from to words
-only_route P name rows (Check device words) named is each = absurd (apart name _ _ named is.0 refl)
-only_route P name rows (Migrate old new) named is each = absurd (apart name _ _ named is.0 refl)
+only_route P name rows (Check device words) named is each = absurd (apart 2 name _ _ named is.0 refl)
+only_route P name rows (Migrate old new) named is each = absurd (apart 2 name _ _ named is.0 refl)
+only_route P name rows (Serve device editors forwarders places words) named is each = absurd (apart 2 name _ _ named is.0 refl)
 
 only_check : (P : Task → Type 0) (name : Text) (rows : List Row) (task : Task) → name ≡ codes "check" → IsTask name rows task → ((device : Bor Text) (words : LandmarkWords) → P (Check device words)) → P task
-only_check P name rows (Format device nodes) named is each = absurd (apart name _ _ named is.0 refl)
-only_check P name rows (Show device) named is each = absurd (apart name _ _ named is.0 refl)
-only_check P name rows (Edit device ticket change) named is each = absurd (apart name _ _ named is.0 refl)
-only_check P name rows (Resume device session) named is each = absurd (apart name _ _ named is.0 refl)
-only_check P name rows (Route device from to words) named is each = absurd (apart name _ _ named is.0 refl)
+only_check P name rows (Format device nodes) named is each = absurd (apart 2 name _ _ named is.0 refl)
+only_check P name rows (Show device) named is each = absurd (apart 2 name _ _ named is.0 refl)
+only_check P name rows (Edit device ticket change) named is each = absurd (apart 2 name _ _ named is.0 refl)
+only_check P name rows (Resume device session) named is each = absurd (apart 2 name _ _ named is.0 refl)
+only_check P name rows (Route device from to words) named is each = absurd (apart 2 name _ _ named is.0 refl)
 only_check P name rows (Check device words) named is each = each device words
-only_check P name rows (Migrate old new) named is each = absurd (apart name _ _ named is.0 refl)
+only_check P name rows (Migrate old new) named is each = absurd (apart 2 name _ _ named is.0 refl)
+only_check P name rows (Serve device editors forwarders places words) named is each = absurd (apart 2 name _ _ named is.0 refl)
 
 only_migrate : (P : Task → Type 0) (name : Text) (rows : List Row) (task : Task) → name ≡ codes "migrate" → IsTask name rows task → ((old new : Bor Text) → P (Migrate old new)) → P task
-only_migrate P name rows (Format device nodes) named is each = absurd (apart name _ _ named is.0 refl)
-only_migrate P name rows (Show device) named is each = absurd (apart name _ _ named is.0 refl)
-only_migrate P name rows (Edit device ticket change) named is each = absurd (apart name _ _ named is.0 refl)
-only_migrate P name rows (Resume device session) named is each = absurd (apart name _ _ named is.0 refl)
-only_migrate P name rows (Route device from to words) named is each = absurd (apart name _ _ named is.0 refl)
-only_migrate P name rows (Check device words) named is each = absurd (apart name _ _ named is.0 refl)
+only_migrate P name rows (Format device nodes) named is each = absurd (apart 2 name _ _ named is.0 refl)
+only_migrate P name rows (Show device) named is each = absurd (apart 2 name _ _ named is.0 refl)
+only_migrate P name rows (Edit device ticket change) named is each = absurd (apart 2 name _ _ named is.0 refl)
+only_migrate P name rows (Resume device session) named is each = absurd (apart 2 name _ _ named is.0 refl)
+only_migrate P name rows (Route device from to words) named is each = absurd (apart 2 name _ _ named is.0 refl)
+only_migrate P name rows (Check device words) named is each = absurd (apart 2 name _ _ named is.0 refl)
 only_migrate P name rows (Migrate old new) named is each = each old new
+only_migrate P name rows (Serve device editors forwarders places words) named is each = absurd (apart 2 name _ _ named is.0 refl)
+
+only_serve : (P : Task → Type 0) (name : Text) (rows : List Row) (task : Task) → name ≡ codes "serve" → IsTask name rows task → ((device : Bor Text) (editors forwarders places : ℕ) (words : LandmarkWords) → P (Serve device editors forwarders places words)) → P task
+only_serve P name rows (Format device nodes) named is each = absurd (apart 0 name _ _ named is.0 refl)
+only_serve P name rows (Show device) named is each = absurd (apart 2 name _ _ named is.0 refl)
+only_serve P name rows (Edit device ticket change) named is each = absurd (apart 2 name _ _ named is.0 refl)
+only_serve P name rows (Resume device session) named is each = absurd (apart 2 name _ _ named is.0 refl)
+only_serve P name rows (Route device from to words) named is each = absurd (apart 2 name _ _ named is.0 refl)
+only_serve P name rows (Check device words) named is each = absurd (apart 2 name _ _ named is.0 refl)
+only_serve P name rows (Migrate old new) named is each = absurd (apart 2 name _ _ named is.0 refl)
+only_serve P name rows (Serve device editors forwarders places words) named is each = each device editors forwarders places words
 
 -- ---- the task that was read is the one that was asked for
 
@@ -153,6 +172,14 @@ pub same_migrate : (name : Text) (rows : List Row) (old new : Bor Text) (task : 
     → IsSameTask (Migrate old new) task
 same_migrate name rows old new task named gives makes is =
     only_migrate (λ t. IsTask name rows t → IsSameTask (Migrate old new) t) name rows task named is (λ other made is. (one_text rows _ _ _ gives is.1, one_text rows _ _ _ makes is.2)) is
+
+pub same_serve : (name : Text) (rows : List Row) (device : Bor Text) (editors forwarders places : ℕ) (words : LandmarkWords) (task : Task) → name ≡ codes "serve" → Gives rows (codes "device") device.now
+    → ((n : ℕ) → IsSeats (first_of (codes "editors") rows) usual_seats n → editors ≡ n) → ((n : ℕ) → IsSeats (first_of (codes "forwarders") rows) usual_seats n → forwarders ≡ n)
+    → ((n : ℕ) → IsSeats (first_of (codes "queue") rows) usual_places n → places ≡ n)
+    → ((asked : LandmarkWords) → IsAsked asked → Gives rows (codes "words") (words_text asked) → IsSame words asked) → IsTask name rows task → IsSameTask (Serve device editors forwarders places words) task
+same_serve name rows device editors forwarders places words task named gives seats carriers queue read is =
+    only_serve (λ t. IsTask name rows t → IsSameTask (Serve device editors forwarders places words) t) name rows task named is
+    (λ other e f q asked is. (one_text rows _ _ _ gives is.1, seats e is.2, carriers f is.3, queue q is.4, read asked is.5.1 is.5.0)) is
 
 -- ---- a part that can't be read, of a task that was asked for, is so for want of memory
 
@@ -196,6 +223,26 @@ pub words_of_check_refused : (name : Text) (rows : List Row) (refused : WordsRef
     → ((asked : LandmarkWords) → IsAsked asked → Gives rows (codes "words") (words_text asked) → refused ≡ Memory) → IsTask name rows task → refused ≡ Memory
 words_of_check_refused name rows refused task named read is =
     only_check (λ t. IsTask name rows t → refused ≡ Memory) name rows task named is (λ other asked is. read asked is.2.1 is.2.0) is
+
+pub editors_refused : (name : Text) (rows : List Row) (refused : WordsRefused) (task : Task) → name ≡ codes "serve"
+    → ((n : ℕ) → IsSeats (first_of (codes "editors") rows) usual_seats n → refused ≡ Memory) → IsTask name rows task → refused ≡ Memory
+editors_refused name rows refused task named read is =
+    only_serve (λ t. IsTask name rows t → refused ≡ Memory) name rows task named is (λ other e f q asked is. read e is.2) is
+
+pub forwarders_refused : (name : Text) (rows : List Row) (refused : WordsRefused) (task : Task) → name ≡ codes "serve"
+    → ((n : ℕ) → IsSeats (first_of (codes "forwarders") rows) usual_seats n → refused ≡ Memory) → IsTask name rows task → refused ≡ Memory
+forwarders_refused name rows refused task named read is =
+    only_serve (λ t. IsTask name rows t → refused ≡ Memory) name rows task named is (λ other e f q asked is. read f is.3) is
+
+pub places_refused : (name : Text) (rows : List Row) (refused : WordsRefused) (task : Task) → name ≡ codes "serve"
+    → ((n : ℕ) → IsSeats (first_of (codes "queue") rows) usual_places n → refused ≡ Memory) → IsTask name rows task → refused ≡ Memory
+places_refused name rows refused task named read is =
+    only_serve (λ t. IsTask name rows t → refused ≡ Memory) name rows task named is (λ other e f q asked is. read q is.4) is
+
+pub words_of_serve_refused : (name : Text) (rows : List Row) (refused : WordsRefused) (task : Task) → name ≡ codes "serve"
+    → ((asked : LandmarkWords) → IsAsked asked → Gives rows (codes "words") (words_text asked) → refused ≡ Memory) → IsTask name rows task → refused ≡ Memory
+words_of_serve_refused name rows refused task named read is =
+    only_serve (λ t. IsTask name rows t → refused ≡ Memory) name rows task named is (λ other e f q asked is. read asked is.5.1 is.5.0) is
 
 -- the new device's text is there
 pub new_given : (name : Text) (rows : List Row) (task : Task) → name ≡ codes "migrate" → IsTask name rows task → (new : Text) × Gives rows (codes "new") new

@@ -10,7 +10,7 @@ use Rattle.given_words.specs.declared.words.LandmarkWords.{LandmarkWords}
 use Rattle.given_words.specs.OpText.{Fits, op_text}
 use Rattle.given_words.specs.WordsText.{IsAsked, IsSame, words_text}
 use Rattle.asked_tasks.specs.declared.task.Task.{Task}
-use Rattle.asked_tasks.specs.declared.task.Task.TheVariants.{Format, Show, Edit, Resume, Route, Check, Migrate}
+use Rattle.asked_tasks.specs.declared.task.Task.TheVariants.{Format, Show, Edit, Resume, Route, Check, Migrate, Serve}
 use Rattle.asked_tasks.specs.Grammar.{program}
 
 -- the argument has this text
@@ -60,6 +60,26 @@ IsCheck name rows device words = (name ≡ codes "check") × Gives rows (codes "
 abbrev pub IsMigrate : Text → List Row → Text → Text → Type 0
 IsMigrate name rows old new = (name ≡ codes "migrate") × Gives rows (codes "device") old × Gives rows (codes "new") new
 
+-- how many editors and forwarders there are where it isn't said
+abbrev pub usual_seats : ℕ
+usual_seats = 2
+
+-- and how many places the queue has
+abbrev pub usual_places : ℕ
+usual_places = 64
+
+-- a number from 1 to 64 in decimal, or the usual one where there is no text
+abbrev pub IsSeats : Option Text → ℕ → ℕ → Type 0
+IsSeats None usual n = n ≡ usual
+IsSeats (Some text) usual n = (text ≡ decimal n) × (1 ≤ n) × (n ≤ 64)
+
+-- `serve DEVICE --words W --editors E --forwarders F --queue Q`
+abbrev pub IsServe : Text → List Row → Text → ℕ → ℕ → ℕ → LandmarkWords → Type 0
+IsServe name rows device editors forwarders places words =
+    (name ≡ codes "serve") × Gives rows (codes "device") device × IsSeats (first_of (codes "editors") rows) usual_seats editors × IsSeats (first_of (codes "forwarders") rows) usual_seats forwarders
+    × IsSeats (first_of (codes "queue") rows) usual_places places
+    × AreWordsAsked rows words
+
 -- a command of this name, with these texts of its arguments, is this task
 abbrev pub IsTask : Text → List Row → Task → Type 0
 IsTask name rows (Format device nodes) = IsFormat name rows device.now nodes
@@ -69,6 +89,7 @@ IsTask name rows (Resume device session) = IsResume name rows device.now session
 IsTask name rows (Route device from to words) = IsRoute name rows device.now from to words
 IsTask name rows (Check device words) = IsCheck name rows device.now words
 IsTask name rows (Migrate old new) = IsMigrate name rows old.now new.now
+IsTask name rows (Serve device editors forwarders places words) = IsServe name rows device.now editors forwarders places words
 
 -- the grammar takes the words, and they name this command, with these texts of its arguments
 abbrev pub IsCommand : List Text → Text → List Row → Type 0
@@ -87,6 +108,7 @@ IsInRange (Resume device session) = Unit {0}
 IsInRange (Route device from to words) = (from < 2 ^ 16) × (to < 2 ^ 16)
 IsInRange (Check device words) = Unit {0}
 IsInRange (Migrate old new) = Unit {0}
+IsInRange (Serve device editors forwarders places words) = Unit {0}
 
 -- the same command, with the same texts and numbers
 abbrev pub IsSameTask : Task → Task → Type 0
@@ -97,4 +119,5 @@ IsSameTask (Resume device session) (Resume other asked) = (device.now ≡ other.
 IsSameTask (Route device from to words) (Route other u v asked) = (device.now ≡ other.now) × (from ≡ u) × (to ≡ v) × IsSame words asked
 IsSameTask (Check device words) (Check other asked) = (device.now ≡ other.now) × IsSame words asked
 IsSameTask (Migrate old new) (Migrate other made) = (old.now ≡ other.now) × (new.now ≡ made.now)
+IsSameTask (Serve device editors forwarders places words) (Serve other e f q asked) = (device.now ≡ other.now) × (editors ≡ e) × (forwarders ≡ f) × (places ≡ q) × IsSame words asked
 IsSameTask task other = ⊥

@@ -17,9 +17,9 @@ ops_rule = record (text_rule (codes "ops")) { range = Some (record { start_inclu
 abbrev pub words_rule : Rule
 words_rule = record (text_rule (codes "words")) { long = Some (codes "words") }
 
--- `--ticket T`, which may be left out
-abbrev pub ticket_rule : Rule
-ticket_rule = record (new_rule (codes "ticket")) { long = Some (codes "ticket"); action = Some Set }
+-- `--ID N`, which may be left out
+abbrev pub option_rule : Text → Rule
+option_rule id = record (new_rule id) { long = Some id; action = Some Set }
 
 -- a command on a device: `NAME DEVICE`
 abbrev pub on_device_app : Text → App
@@ -35,7 +35,7 @@ show_app = on_device_app (codes "show")
 
 -- `edit DEVICE OP.. --ticket T`
 abbrev pub edit_app : App
-edit_app = with_rule (with_rule (on_device_app (codes "edit")) ops_rule) ticket_rule
+edit_app = with_rule (with_rule (on_device_app (codes "edit")) ops_rule) (option_rule (codes "ticket"))
 
 -- `resume DEVICE S`
 abbrev pub resume_app : App
@@ -53,6 +53,12 @@ check_app = with_rule (on_device_app (codes "check")) words_rule
 abbrev pub migrate_app : App
 migrate_app = with_rule (on_device_app (codes "migrate")) (text_rule (codes "new"))
 
+-- `serve DEVICE --words W --editors E --forwarders F --queue Q`
+abbrev pub serve_app : App
+serve_app =
+    with_rule (with_rule (with_rule (with_rule (on_device_app (codes "serve")) words_rule) (option_rule (codes "editors"))) (option_rule (codes "forwarders")))
+    (option_rule (codes "queue"))
+
 -- one of the commands has to be given, and the program's name is not among the words
 abbrev pub bare_app : App
 bare_app = on_top (λ s. record s { no_binary_name = true; subcommand_required = true }) (new_app (codes "tznode"))
@@ -62,6 +68,8 @@ unfoldable pub program : App
 program =
     with_subcommand
     (with_subcommand
+    (with_subcommand
     (with_subcommand (with_subcommand (with_subcommand (with_subcommand (with_subcommand bare_app format_app.top) show_app.top) edit_app.top) resume_app.top) route_app.top)
     check_app.top)
-    migrate_app.top
+    migrate_app.top)
+    serve_app.top

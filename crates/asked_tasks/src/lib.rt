@@ -9,6 +9,7 @@
 //! | `route DEVICE FROM TO --words W` | [`Task::Route`] |
 //! | `check DEVICE --words W` | [`Task::Check`] |
 //! | `migrate OLD NEW` | [`Task::Migrate`] |
+//! | `serve DEVICE --words W --editors E --forwarders F --queue Q` | [`Task::Serve`], of 1 to 64 each; without them 2, 2 and 64 |
 //!
 //! The words are read with `clap`, one level of subcommands, each value as a text; numbers, OPs and W are read from these texts by
 //! [`given_words`]. No file is opened and nothing is printed.

@@ -1,13 +1,13 @@
 //! What the program's words ask for.
 ghost use Rattle.std.specs.Prelude.{◌≡◌, ◌≤◌, ◌<◌, ◌^◌, ◌⊎◌, ℕ, List, Option, IfOk, IfErr, IsErrOf, Some, None, [], codes, decimal, map, option_map, All, length};
-ghost use Rattle.clap.specs.Walk.{rows_of, texts};
+ghost use Rattle.clap.specs.Walk.{first_of, rows_of, texts};
 ghost use Rattle.clap.specs.Words.{first_value, found_of, kind_of, matched_of, raw_values};
 ghost use Rattle.graph_edits.specs.declared.edits.Op.{Op};
 ghost use Rattle.requests.specs.Tickets.{sessions};
 ghost use Rattle.given_words.specs.declared.words.LandmarkWords.{LandmarkWords};
 ghost use Rattle.given_words.specs.OpText.{Fits, op_text};
 ghost use Rattle.given_words.specs.WordsText.{IsAsked, IsSame, words_text};
-ghost use Rattle.asked_tasks.specs.Asked.{IsAskedFor, IsInRange, IsSameTask, IsTask, IsTicket};
+ghost use Rattle.asked_tasks.specs.Asked.{IsAskedFor, IsInRange, IsSameTask, IsSeats, IsTask, IsTicket};
 ghost use Rattle.asked_tasks.specs.declared.task.Task.{Task};
 
 use crate::grammar::grammar;
@@ -61,7 +61,26 @@ pub enum Task<'a> {
         old: &'a str,
         new: &'a str,
     },
+    /// Run a script in threads.
+    Serve {
+        device: &'a str,
+        /// 1 to 64, and so are the next two.
+        editors: u8,
+        forwarders: u8,
+        /// How many changes may wait in the queue.
+        places: u8,
+        words: LandmarkWords,
+    },
 }
+
+// How many editors there may be, and how many forwarders, and places in the queue.
+const MOST_SEATS: u64 = 64;
+
+// How many editors and forwarders there are where it isn't said.
+const USUAL_SEATS: u8 = 2;
+
+// And how many places the queue has.
+const USUAL_PLACES: u8 = 64;
 
 /// What the words ask for, or why they are no task.
 pub fn understood<'a>(alloc: Global, words: &'a [&'a str]) -> Result<Task<'a>, WordsRefused>
@@ -134,8 +153,48 @@ fn task_of<'a>(alloc: Global, name: &str, found: &ArgMatches<'a>) -> Result<Task
             old: device,
             new: text(found, "new")?,
         })
+    } else if name == "serve" {
+        serve_of(alloc, device, found)
     } else {
         Err(WordsRefused::Usage)
+    }
+}
+
+// A service of a device.
+fn serve_of<'a>(
+    alloc: Global,
+    device: &'a str,
+    found: &ArgMatches<'a>,
+) -> Result<Task<'a>, WordsRefused>
+    ensures asked { first_of (codes "device") (rows_of (found_of found.entry.now)) ≡ Some device.entry.now → IfOk result (λ task. IsTask (codes "serve") (rows_of (found_of found.entry.now)) task) }
+    ensures only { first_of (codes "device") (rows_of (found_of found.entry.now)) ≡ Some device.entry.now → (task : Task) → IsTask (codes "serve") (rows_of (found_of found.entry.now)) task → IfOk result (λ read. IsSameTask read task) }
+    ensures refused { (task : Task) → IsTask (codes "serve") (rows_of (found_of found.entry.now)) task → IfErr result (λ refused. refused ≡ WordsRefused.Memory) }
+{
+    let editors = seats(alloc, found, "editors", USUAL_SEATS)?;
+    let forwarders = seats(alloc, found, "forwarders", USUAL_SEATS)?;
+    let places = seats(alloc, found, "queue", USUAL_PLACES)?;
+    let words = words_asked(alloc, found)?;
+    Ok(Task::Serve {
+        device,
+        editors,
+        forwarders,
+        places,
+        words,
+    })
+}
+
+// A number from 1 to 64, or the usual one where none is named.
+fn seats(alloc: Global, found: &ArgMatches<'_>, id: &str, usual: u8) -> Result<u8, WordsRefused>
+    ensures found { IfOk result (λ n. IsSeats (first_value (found_of found.entry.now) id.now) usual n) }
+    ensures same { (n : ℕ) → IsSeats (first_value (found_of found.entry.now) id.now) usual n → IfOk result (λ m. m ≡ n) }
+    ensures only { (n : ℕ) → IsSeats (first_value (found_of found.entry.now) id.now) usual n → IfErr result (λ refused. refused ≡ WordsRefused.Memory) }
+{
+    let Some(text) = found.get_str(id) else {
+        return Ok(usual);
+    };
+    match number(alloc, text, MOST_SEATS)? {
+        Some(0) | None => Err(WordsRefused::Usage),
+        Some(seats) => Ok(seats as u8),
     }
 }
 

@@ -87,6 +87,25 @@ fn tasks(rt: HostRuntime) -> io::Result<()> {
     expect_task(&rt, "route|--words|draw:7|d|3|4", route)?;
     let words = LandmarkWords::Greatest;
     expect_task(&rt, "check|d|--words=none", Task::Check { device, words })?;
+    for (line, editors, forwarders, places) in [
+        ("serve|d|--words|none", 2, 2, 64),
+        ("serve|d|--editors|1|--words=none|--queue|64", 1, 2, 64),
+        (
+            "serve|--forwarders=64|--queue=1|--editors=64|d|--words|none",
+            64,
+            64,
+            1,
+        ),
+    ] {
+        let serve = Task::Serve {
+            device,
+            editors,
+            forwarders,
+            places,
+            words: LandmarkWords::Greatest,
+        };
+        expect_task(&rt, line, serve)?;
+    }
     let (old, new) = ("d", "e");
     expect_task(&rt, "migrate|d|e", Task::Migrate { old, new })
 }
@@ -157,6 +176,30 @@ check|d|--words
 check|d|0|--words|none
 check|d|--words|none|--words|none
 check|--words|none
+serve
+serve|d
+serve|d|--words
+serve|d|0|--words|none
+serve|d|--words|none|--words|none
+serve|d|--words|none|--editors
+serve|d|--words|none|--editors|0
+serve|d|--words|none|--editors|65
+serve|d|--words|none|--editors|02
+serve|d|--words|none|--editors|+2
+serve|d|--words|none|--editors|
+serve|d|--words|none|--editors|258
+serve|d|--words|none|--editors|18446744073709551618
+serve|d|--words|none|--editors|2|--editors|2
+serve|d|--words|none|--forwarders|0
+serve|d|--words|none|--forwarders|65
+serve|d|--words|none|--forwarders|2|--forwarders|2
+serve|d|--words|none|--queue|0
+serve|d|--words|none|--queue|65
+serve|d|--words|none|--queue|64|--queue|64
+serve|d|--words|x|--editors|0
+serve|d|--words|x|--queue|65
+serve|d|--words|none|--ticket|1
+serve|--help
 migrate
 migrate|d
 migrate|d|e|f
@@ -176,7 +219,7 @@ fn words_that_ask_for_nothing(rt: HostRuntime) -> io::Result<()> {
 fn parts_of_another_form(rt: HostRuntime) -> io::Result<()> {
     expect_refused(
         &rt,
-        "route|d|0|1|--words|at:\ncheck|d|--words|",
+        "route|d|0|1|--words|at:\ncheck|d|--words|\nserve|d|--words|at:|--editors|3",
         WordsRefused::Words,
     )?;
     expect_refused(&rt, "edit|d|\nedit|d|add:0:1:1|add:0:1", WordsRefused::Op)

@@ -1,3 +1,4 @@
+pub mod Taking
 pub mod InTurns
 pub mod Settled
 pub mod Settles

@@ -4,6 +4,7 @@ use Rattle.atomic_table.specs.Seated.{TableId}
 use Rattle.checkpoint.specs.declared.store.Store.{Store}
 use Rattle.checkpoint.specs.StoreWords.{state_of}
 use Rattle.requests.specs.declared.request.Request.{Request}
+use Rattle.intake.specs.Ends.{Taking}
 use Rattle.group_commit.specs.DeskWords as desk
 use Rattle.group_commit.specs.declared.desk.Desk.{Desk}
 use Rattle.group_commit.specs.Settling.{Settled, settle}
@@ -21,6 +22,10 @@ store_of c = desk.store_of c.desk
 -- the requests that it holds
 abbrev pub held_of : {D R : Type 0} {V : _} → Committer D R V → List Request
 held_of c = desk.held_of c.desk
+
+-- its end of the queue
+abbrev pub taker_of : {D R : Type 0} {V : _} → Committer D R V → Taking
+taker_of c = c.taker
 
 -- its queue
 abbrev pub queue_of : {D R : Type 0} {V : _} → Committer D R V → TableId

@@ -1,5 +1,5 @@
 // The committer: rounds and rebuilds.
-ghost use Rattle.std.specs.Prelude.{◌≡◌, ◌≢◌, ◌⊎◌, ◌≤◌, ◌<◌, ◌+◌, ◌↔◌, ◌++◌, ◌∷◌, [], List, length, IsTrue, IfOk, OnOk, is_some, IsErr, IsErrOf, None, true, false};
+ghost use Rattle.std.specs.Prelude.{◌≡◌, ◌≢◌, ◌⊎◌, ◌≤◌, ◌<◌, ◌+◌, ◌↔◌, ◌++◌, ◌∷◌, [], List, length, IsTrue, IfOk, OnOk, is_some, IsErr, IsErrOf, Some, None, true, false};
 ghost use Rattle.std.specs.Arc.{arc_value};
 ghost use Rattle.disk_trait.specs.Disk.{IsSameDevice, LeavesOnly};
 ghost use Rattle.requests.specs.Tickets.{Rises};
@@ -11,7 +11,8 @@ ghost use Rattle.checkpoint.specs.StoreWords.{state_of, nodes_of, view_of, is_do
 ghost use Rattle.node_table.specs.Tables.{tables};
 ghost use Rattle.node_table.specs.Service.{Serves};
 ghost use Rattle.generations.specs.declared.posting.Notice.TheVariants.{Marked, Failed, Built};
-ghost use Rattle.intake.specs.Turns.{of};
+ghost use Rattle.intake.specs.Turns.{of, last_asked};
+ghost use Rattle.intake.specs.Ends.{HasTaken};
 ghost use Rattle.built_schemes.specs.Schemes.{IsSchemeOf};
 ghost use Rattle.group_commit.specs.DeskWords.{store_of as desk_store, held_of as desk_held, due_of as desk_due, IsPastLimits};
 ghost use Rattle.group_commit.specs.Limits.{most_held};
@@ -31,7 +32,7 @@ use disk_trait::Disk;
 use generations::{BoardWriter, Posting, Told};
 use graph_edits::Graph;
 use group_commit::{Desk, DeskRefused, MOST_HELD};
-use intake::{Editor, Taker};
+use intake::{Editor, Taker, Watcher};
 use node_table::Scheme;
 use std::alloc::{AllocError, Allocator, Global};
 use std::sync::{Arc, Wait};
@@ -73,6 +74,7 @@ fn fill<D: Disk, W: Wait>(rt: &W, taker: &mut Taker, desk: &mut Desk<D>) -> usiz
     ensures number { result ≡ length (desk_held desk.new) }
     ensures few { result ≤ most_held }
     ensures fewer { result < most_held → taker.old.empties < taker.new.empties }
+    ensures taken { HasTaken taker.old taker.new }
     ensures rises { Rises taker.new.starts (asked_all taker.new.got) }
 {
     let mut taken: usize = 0;
@@ -87,7 +89,7 @@ fn fill<D: Disk, W: Wait>(rt: &W, taker: &mut Taker, desk: &mut Desk<D>) -> usiz
 }
 
 impl<D: Disk, R: Wait + Drop> Committer<D, R> {
-    ghost use Rattle.committer.specs.CommitterWords.{desk_of, store_of, held_of, queue_of, got_of, empties_of, posts_of, newest_of, taken, asked, settled};
+    ghost use Rattle.committer.specs.CommitterWords.{desk_of, store_of, held_of, taker_of, queue_of, got_of, empties_of, posts_of, newest_of, taken, asked, settled};
 
     /// A committer of a desk, a queue and a board at their beginning.
     pub fn new(desk: Desk<D>, taker: Taker, writer: BoardWriter<R>) -> Committer<D, R>
@@ -105,6 +107,7 @@ impl<D: Disk, R: Wait + Drop> Committer<D, R> {
         ensures held { held_of result ≡ [] }
         ensures got { got_of result ≡ [] }
         ensures queue { queue_of result ≡ taker.queue }
+        ensures taker { taker_of result ≡ taker }
         ensures posts { posts_of result ≡ record { opening = writer.opening; posted = []; due = [] } }
     {
         let outbox = Outbox::new(writer);
@@ -142,6 +145,9 @@ impl<D: Disk, R: Wait + Drop> Committer<D, R> {
         ensures few { length (taken self.old self.new) ≤ most_held }
         ensures queue { queue_of self.new ≡ queue_of self.old }
         ensures held_first { held_of self.old ≢ [] → taken self.old self.new ≡ [] }
+        // Where it found the queue empty, it took all that was submitted by the editor that was ended last; and all that it took is
+        // of sessions that have an editor.
+        ensures taken { HasTaken (taker_of self.old) (taker_of self.new) }
         // It takes fewer only where it held a group, found the queue empty, or stopped before.
         ensures fewer { length (taken self.old self.new) < most_held → (held_of self.old ≢ []) ⊎ ((empties_of self.old < empties_of self.new)
             ⊎ ((is_down (store_of self.old) ≡ true) ⊎ (((posts_of self.old).due ≢ []) × (IsErrOf result RoundRefused.Board × (posts_of self.new ≡ posts_of self.old))))) }
@@ -209,6 +215,7 @@ impl<D: Disk, R: Wait + Drop> Committer<D, R> {
         requires nothing_due { (posts_of self.old).due ≡ [] }
         requires up { is_down (store_of self.old) ≡ false }
         ensures taker { (got_of self.new ≡ got_of self.old) × (empties_of self.new ≡ empties_of self.old) }
+        ensures same_taker { taker_of self.new ≡ taker_of self.old }
         ensures queue { queue_of self.new ≡ queue_of self.old }
         ensures number { IfOk result (λ accepted. accepted ≡ length (settle (state_of (store_of self.old)) (held_of self.old)).accepted) }
         ensures ok { OnOk result (state_of (store_of self.new) ≡ (settle (state_of (store_of self.old)) (held_of self.old)).state) }
@@ -268,6 +275,7 @@ impl<D: Disk, R: Wait + Drop> Committer<D, R> {
         ensures store { store_of self.new ≡ store_of self.old }
         ensures held { (held_of self.new ≡ held_of self.old) × ((got_of self.new ≡ got_of self.old) × (empties_of self.new ≡ empties_of self.old)) }
         ensures queue { queue_of self.new ≡ queue_of self.old }
+        ensures taker { taker_of self.new ≡ taker_of self.old }
         ensures number { IfOk result (λ number. number ≡ (state_of (store_of self.old)).count) }
         ensures serves { OnOk result (IsServed (state_of (store_of self.old)) (posts_of self.new).posted) }
         ensures posts { OnOk result ((posts_of self.new ≡ paid (posts_of self.old)) ⊎ IsBuilt words.now (state_of (store_of self.old)) (posts_of self.old) (posts_of self.new)) }
@@ -306,6 +314,7 @@ impl<D: Disk, R: Wait + Drop> Committer<D, R> {
         ensures store { store_of self.new ≡ store_of self.old }
         ensures held { (held_of self.new ≡ held_of self.old) × ((got_of self.new ≡ got_of self.old) × (empties_of self.new ≡ empties_of self.old)) }
         ensures queue { queue_of self.new ≡ queue_of self.old }
+        ensures taker { taker_of self.new ≡ taker_of self.old }
         ensures number { IfOk result (λ n. n ≡ number) }
         ensures posted { OnOk result (posts_of self.new ≡ with_posted (posts_of self.old) (Built number (arc_value scheme))) }
         ensures only_board { IsErr result → IsErrOf result RebuildRefused.Board }
@@ -326,7 +335,7 @@ impl<D: Disk, R: Wait + Drop> Committer<D, R> {
 }
 
 impl<D: Disk, R: Wait + Drop> Committer<D, R> {
-    ghost use Rattle.committer.specs.CommitterWords.{store_of, held_of, queue_of, got_of, posts_of};
+    ghost use Rattle.committer.specs.CommitterWords.{store_of, held_of, taker_of, queue_of, got_of, empties_of, posts_of};
 
     /// The store, without what is held and due.
     pub fn into_store(self) -> Store<D>
@@ -335,14 +344,19 @@ impl<D: Disk, R: Wait + Drop> Committer<D, R> {
         self.desk.into_store()
     }
 
-    /// Ends an editor: what was taken, followed by what waits, has just the requests that it submitted, each once, in its order.
-    pub fn end(&mut self, editor: Editor)
+    /// Ends an editor: it submits no more, and its watcher is left. What was taken, followed by what waits, has just the requests
+    /// that it submitted, each once, in its order.
+    pub fn end(&mut self, editor: Editor) -> Watcher
         requires { editor.queue ≡ queue_of self.old }
+        ensures watcher { result ≡ record { session = editor.session; last = last_asked editor.put; known = editor.known } }
+        ensures made { (taker_of self.new).made ≡ (taker_of self.old).made }
+        ensures ended { (taker_of self.new).ended ≡ Some (editor.session, editor.put) }
+        ensures empties { empties_of self.new ≡ empties_of self.old }
         ensures whole { (waits : List Request) × (editor.put ≡ of editor.session (got_of self.new ++ waits)) }
         ensures store { store_of self.new ≡ store_of self.old }
         ensures same { (held_of self.new ≡ held_of self.old) × ((got_of self.new ≡ got_of self.old) × ((queue_of self.new ≡ queue_of self.old) × (posts_of self.new ≡ posts_of self.old))) }
     {
-        self.taker.end(editor);
+        self.taker.end(editor)
     }
 }
 

@@ -1,5 +1,5 @@
 -- Editors and forwarders of a board's readers are of that board.
-use Rattle.std.proofs.Common.{◌≡◌, ℕ, ◌+◌, zero, suc, List, [], ◌∷◌, ◌++◌, ap, sym, subst, arith}
+use Rattle.std.proofs.Common.{◌≡◌, ◌∙◌, ℕ, ◌+◌, zero, suc, List, [], ◌∷◌, ◌++◌, Option, Some, option_to_list, ap, sym, subst, arith}
 use Rattle.std.specs.List.{All}
 use Rattle.atomic_table.specs.Seated.{TableId}
 use Rattle.generations.specs.Beginnings.{Opening}
@@ -46,3 +46,7 @@ two_of q starts o rs all front rest first second known is last before =
     let ends : All P (front ++ second ∷ []) = subst (All P) last each in
     let fore : All P (rest ++ first ∷ []) = subst (All P) before (all_front P front (second ∷ []) ends) in
     (all_last P rest first fore, all_last P front second ends)
+
+-- what was there is what a pop leaves and the element that it gave
+pub popped : {A : Type 0} (all rest : List A) (found : Option A) (x : A) → all ≡ rest ++ option_to_list found → found ≡ Some x → all ≡ rest ++ x ∷ []
+popped all rest found x is some = is ∙ ap (λ o. rest ++ option_to_list o) some

@@ -67,7 +67,7 @@ pub(crate) fn fresh(rt: &impl Abort, alloc: Global) -> Desk<MemDisk>
 }
 
 /// A committer of this desk over a queue of so many places.
-pub(crate) fn seated<R: Wait + Abort + Drop>(
+pub(crate) fn seated<R: Wait + Abort + Copy + Drop>(
     rt: R,
     alloc: Global,
     desk: Desk<MemDisk>,
@@ -85,22 +85,12 @@ pub(crate) fn seated<R: Wait + Abort + Drop>(
 {
     let (starts, count) = (desk.starts(), desk.store().count());
     let (writer, mut readers) = board(alloc, rt, 5, &starts, count)?;
-    let Some(reader) = readers.pop() else {
-        return Err(AllocError);
-    };
-    let Some(two) = readers.pop() else {
-        return Err(AllocError);
-    };
-    let Some(one) = readers.pop() else {
-        return Err(AllocError);
-    };
+    let reader = readers.pop().expect(&rt, "a reader");
+    let two = readers.pop().expect(&rt, "a reader");
+    let one = readers.pop().expect(&rt, "a reader");
     let (taker, mut editors) = open_intake(alloc, capacity, readers, &starts)?;
-    let Some(second) = editors.pop() else {
-        return Err(AllocError);
-    };
-    let Some(first) = editors.pop() else {
-        return Err(AllocError);
-    };
+    let second = editors.pop().expect(&rt, "an editor");
+    let first = editors.pop().expect(&rt, "an editor");
     Ok(Seats {
         committer: Committer::new(desk, taker, writer),
         first,

@@ -1,5 +1,5 @@
 -- One request alone: its mark, and the state after it.
-use Rattle.std.proofs.Common.{refl, ap, sym, ◌∙◌, ◌≡◌, ◌≢◌, ◌+◌, ◌⊎◌, inl, ℕ, List, [], ◌∷◌, Option, Result, Ok, Err, IsTrue, IfOk, OnOk, false, subst}
+use Rattle.std.proofs.Common.{refl, ap, sym, ◌∙◌, ◌≡◌, ◌≢◌, ◌+◌, ◌⊎◌, inl, ℕ, List, [], ◌∷◌, Option, Some, Result, Ok, Err, IsTrue, IfOk, OnOk, false, subst}
 use Rattle.std.specs.Result.{IsOk}
 use Rattle.disk_trait.specs.Disk.{LeavesOnly, OnlyRead, joined, reading_leaves, started}
 use Rattle.graph_edits.specs.declared.edits.Op.{Op}
@@ -11,15 +11,11 @@ use Rattle.recovery.specs.Standing.{StandsFor}
 use Rattle.checkpoint.specs.declared.store.Store.{Store}
 use Rattle.checkpoint.specs.StoreWords.{state_of, view_of, disk_of, is_down, stands_now}
 use Rattle.generations.specs.declared.posting.Verdict.{Verdict}
+use Rattle.generations.specs.declared.posting.Verdict.TheVariants.{Accepted, Refused}
 use Rattle.group_commit.specs.Settling.{Settled, settle, accept, refuse, one_more}
-use Rattle.group_commit.specs.declared.desk.Desk.{Desk}
-use Rattle.group_commit.specs.DeskWords.{store_of, held_of, settled_of}
 use Rattle.printed_lines.specs.declared.fault.Fault.{Fault}
-use Rattle.device_commands.specs.Answer.{KeepsThrough, IsNew, IsTaken, session, state_under, verdict_of}
-
--- a change under a ticket, as a request
-abbrev pub request_of : ℕ → List Op → Request
-request_of ticket change = record { session = session; ticket = ticket; change = change }
+use Rattle.device_commands.specs.Answer.{KeepsThrough, IsNew, IsTaken, first_verdict, session, state_under, verdict_of}
+use Rattle.device_commands.specs.Editors.{request_of}
 
 pub one_state : (s : State) (ticket : ℕ) (change : List Op) → (settle s (request_of ticket change ∷ [])).state ≡ state_under s ticket change
 one_state s ticket change = elim (graph_after s.graph change) as (λ o. (elim o as (λ _. Settled) [ Ok graph ↦ accept (request_of ticket change) (s.count + 1) (settle (one_more s (request_of ticket change) graph) []) | Err at ↦ refuse (request_of ticket change) at (settle s []) ]).state ≡ elim o as (λ _. State) [ Ok graph ↦ state_with (s.count + 1) graph (raise s.tickets (session, ticket)) | Err at ↦ s ]) [
@@ -34,17 +30,15 @@ accepted_is_taken s ticket change = elim (graph_after s.graph change) as (λ o. 
   | Err at ↦ λ some. absurd (some refl)
 ]
 
--- ---- what a desk's commit of one request leaves, said of the store that the desk was given
+-- ---- what settling one request leaves, said of the store that the committer was made of
 
-pub one_request_leaves : {D : Type 0} {V : _} → (desk done : Desk D V) (store result : Store D V) (ticket : ℕ) (change : List Op) → store_of desk ≡ store → held_of desk ≡ request_of ticket change ∷ [] → result ≡ store_of done
-    → (IsTrue (view_of (store_of desk)).keeps_model → is_down (store_of desk) ≡ false → LeavesOnly (view_of (store_of desk)) (view_of (store_of done)) (λ image. StandsFor (state_of (store_of desk)) image ⊎ StandsFor (settled_of desk).state image))
-    → IsTrue (view_of store).keeps_model → is_down store ≡ false
-    → LeavesOnly (view_of store) (view_of result) (λ image. StandsFor (state_of store) image ⊎ StandsFor (state_under (state_of store) ticket change) image)
-one_request_leaves desk done store result ticket change from held to run =
-    let settled : (settled_of desk).state ≡ state_under (state_of (store_of desk)) ticket change = ap (λ rs. (settle (state_of (store_of desk)) rs).state) held ∙ one_state (state_of (store_of desk)) ticket change in
-    subst (λ s. IsTrue (view_of s).keeps_model → is_down s ≡ false → LeavesOnly (view_of s) (view_of result) (λ image. StandsFor (state_of s) image ⊎ StandsFor (state_under (state_of s) ticket change) image)) from
-    (subst (λ t. IsTrue (view_of (store_of desk)).keeps_model → is_down (store_of desk) ≡ false → LeavesOnly (view_of (store_of desk)) (view_of t) (λ image. StandsFor (state_of (store_of desk)) image ⊎ StandsFor (state_under (state_of (store_of desk)) ticket change) image)) (sym to)
-    (subst (λ next. IsTrue (view_of (store_of desk)).keeps_model → is_down (store_of desk) ≡ false → LeavesOnly (view_of (store_of desk)) (view_of (store_of done)) (λ image. StandsFor (state_of (store_of desk)) image ⊎ StandsFor next image)) settled run))
+pub settles_leaves : {D : Type 0} {V : _} → (store was done result : Store D V) (put : List Request) (ticket : ℕ) (change : List Op) → was ≡ store → put ≡ request_of ticket change ∷ [] → result ≡ done
+    → (IsTrue (view_of was).keeps_model → LeavesOnly (view_of was) (view_of done) (λ image. StandsFor (state_of was) image ⊎ StandsFor (settle (state_of was) put).state image))
+    → IsTrue (view_of store).keeps_model → LeavesOnly (view_of store) (view_of result) (λ image. StandsFor (state_of store) image ⊎ StandsFor (state_under (state_of store) ticket change) image)
+settles_leaves {D = D} {V = V} store was done result put ticket change same one to run =
+    let moved : IsTrue (view_of store).keeps_model → LeavesOnly (view_of store) (view_of result) (λ image. StandsFor (state_of store) image ⊎ StandsFor (settle (state_of store) (request_of ticket change ∷ [])).state image)
+    = subst (λ (x : Store D V × (Store D V × List Request)). IsTrue (view_of x.0).keeps_model → LeavesOnly (view_of x.0) (view_of x.1.0) (λ image. StandsFor (state_of x.0) image ⊎ StandsFor (settle (state_of x.0) x.1.1).state image)) (λ i. (same i, (sym to i, one i))) run in
+    subst (λ (next : State). IsTrue (view_of store).keeps_model → LeavesOnly (view_of store) (view_of result) (λ image. StandsFor (state_of store) image ⊎ StandsFor next image)) (one_state (state_of store) ticket change) moved
 
 -- a store that nothing was asked of leaves its state
 pub untouched_leaves : {D : Type 0} {V : _} → (store result : Store D V) (next : State) → result ≡ store → IsTrue (view_of store).keeps_model → is_down store ≡ false

@@ -10,8 +10,6 @@ use Rattle.recovery.specs.Standing.{StandsFor}
 use Rattle.generations.specs.declared.posting.Mark.{Mark}
 use Rattle.generations.specs.declared.posting.Verdict.{Verdict}
 use Rattle.generations.specs.declared.posting.Verdict.TheVariants.{Accepted, Refused}
-use Rattle.generations.specs.declared.posting.Posting.{Posting}
-use Rattle.generations.specs.declared.posting.Posting.TheVariants.{Marks, Down, Generation}
 
 -- the session that changes are made under
 abbrev pub session : ℕ
@@ -54,10 +52,3 @@ KeepsThrough disk state = (image : List ℕ) → MayLeave disk image → StandsF
 abbrev pub first_verdict : List Mark → Option Verdict
 first_verdict [] = None
 first_verdict (mark ∷ marks) = Some mark.verdict
-
--- the first verdict that is due
-abbrev pub verdict_due : Option Posting → Option Verdict
-verdict_due None = None
-verdict_due (Some (Marks told)) = first_verdict told.items
-verdict_due (Some Down) = None
-verdict_due (Some (Generation number scheme)) = None

@@ -5,25 +5,26 @@ ghost use Rattle.requests.specs.Tickets.{worn_limit};
 ghost use Rattle.recovery.specs.State.{State};
 ghost use Rattle.recovery.specs.Standing.{StandsFor};
 ghost use Rattle.checkpoint.specs.StoreWords.{state_of, view_of, is_down};
-ghost use Rattle.group_commit.specs.DeskWords.{due_of};
-ghost use Rattle.device_commands.specs.Answer.{verdict_of, state_after, state_under, verdict_due, last_ticket, ticket_of, IsNew, IsTaken, KeepsThrough};
-ghost use Rattle.device_commands.specs.Openings.{IsChangeFault, IsEditFault, IsDeskFault, TellsOf};
+ghost use Rattle.device_commands.specs.Answer.{verdict_of, state_after, state_under, last_ticket, ticket_of, IsNew, IsTaken, KeepsThrough};
+ghost use Rattle.device_commands.specs.Openings.{IsChangeFault, IsDeskFault, IsEditFault, TellsOf};
 
+use crate::one_editor::{seated, settled, submitted};
 use crate::opening::open;
 use checkpoint::{Store, WORN_LIMIT, standing_law};
 use disk_trait::Disk;
-use generations::{Posting, Verdict};
+use generations::Verdict;
 use graph_edits::Change;
-use group_commit::{Desk, DeskRefused};
 use printed_lines::Fault;
-use requests::Request;
 use std::alloc::Global;
+use std::sync::Wait;
+use std::thread::Threads;
 
 // The session that changes are made under.
 const SESSION: u8 = 0;
 
 /// Makes one change under a ticket of session 0, and answers what became of it. Where no ticket is named, it is the next one.
-pub fn edit<D: Disk>(
+pub fn edit<D: Disk, R: Threads + Wait + Sync>(
+    rt: &R,
     alloc: Global,
     disk: D,
     named: Option<u64>,
@@ -48,7 +49,7 @@ pub fn edit<D: Disk>(
     standing_law();
     match open(alloc, disk) {
         Ok(store) => {
-            let (answer, store) = settle_one(alloc, store, named, change);
+            let (answer, store) = settle_one(rt, alloc, store, named, change);
             (answer, store.into_disk())
         }
         Err((fault, disk)) => (Err(fault), disk),
@@ -56,7 +57,8 @@ pub fn edit<D: Disk>(
 }
 
 // Settles one change, if its ticket is new.
-fn settle_one<D: Disk>(
+fn settle_one<D: Disk, R: Threads + Wait + Sync>(
+    rt: &R,
     alloc: Global,
     store: Store<D>,
     named: Option<u64>,
@@ -76,7 +78,7 @@ fn settle_one<D: Disk>(
         → LeavesOnly (view_of store) (view_of result.1) (λ image. StandsFor (state_of store) image ⊎ StandsFor (state_after (state_of store) named change) image) }
 {
     match ticket_for(named, store.resume(SESSION)) {
-        Ok(ticket) => commit_one(alloc, store, ticket, change),
+        Ok(ticket) => commit_one(rt, alloc, store, ticket, change),
         Err(fault) => (Err(fault), store),
     }
 }
@@ -99,16 +101,15 @@ fn ticket_for(named: Option<u64>, last: u64) -> Result<u64, Fault>
     }
 }
 
-// Commits one change under a ticket that is new.
-fn commit_one<D: Disk>(
+// Has one editor submit a change under a ticket that is new, and the committer settle it in one round.
+fn commit_one<D: Disk, R: Threads + Wait + Sync>(
+    rt: &R,
     alloc: Global,
     store: Store<D>,
     ticket: u64,
     change: Change,
 ) -> (Result<Verdict, Fault>, Store<D>)
-    requires up { is_down store ≡ false }
-    requires new { last_ticket (state_of store) < ticket }
-    requires fits { ticket ≤ worn_limit }
+    requires { is_down store ≡ false }
     ensures verdict { IfOk result.0 (λ verdict. verdict ≡ verdict_of (state_of store) change) }
     ensures worn { IsErrOf result.0 Fault.Worn → IsTaken (state_of store) change }
     ensures state { OnOk result.0 (state_of result.1 ≡ state_under (state_of store) ticket change) }
@@ -118,43 +119,13 @@ fn commit_one<D: Disk>(
     ensures any_moment { IsTrue (view_of store).keeps_model
         → LeavesOnly (view_of store) (view_of result.1) (λ image. StandsFor (state_of store) image ⊎ StandsFor (state_under (state_of store) ticket change) image) }
 {
-    let mut desk = Desk::new(store);
-    desk.give(Request {
-        session: SESSION,
-        ticket,
-        change,
-    });
-    let answer = match desk.commit(alloc) {
-        Ok(_) => match verdict_told(&desk) {
-            Some(verdict) => Ok(verdict),
-            None => unreachable!(),
-        },
-        Err(refused) => Err(fault_of(refused)),
+    let (mut committer, editor) = match seated(rt, alloc, store) {
+        Ok(seats) => seats,
+        Err(store) => return (Err(Fault::Memory), store),
     };
-    (answer, desk.into_store())
-}
-
-// What is told where a group isn't committed.
-fn fault_of(refused: DeskRefused) -> Fault
-    ensures desk { IsDeskFault result }
-    ensures worn { result ≡ Fault.Worn → refused ≡ DeskRefused.Worn }
-{
-    match refused {
-        DeskRefused::Device | DeskRefused::Down => Fault::Device,
-        DeskRefused::Memory => Fault::Memory,
-        DeskRefused::Worn => Fault::Worn,
-    }
-}
-
-// What became of the first request of the marks that are due.
-fn verdict_told<D: Disk>(desk: &Desk<D>) -> Option<Verdict>
-    ensures { result ≡ verdict_due (due_of desk.now) }
-{
-    match desk.due() {
-        Some(Posting::Marks(marks)) => match marks.first() {
-            Some(mark) => Some(mark.verdict),
-            None => None,
-        },
-        _ => None,
-    }
+    let answer = match submitted(rt, editor, ticket, change) {
+        Some(editor) => settled(rt, alloc, &mut committer, editor),
+        None => Err(Fault::Memory),
+    };
+    (answer, committer.into_store())
 }

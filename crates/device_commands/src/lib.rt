@@ -7,20 +7,21 @@
 //! The contract that the layer above uses, of a disk that keeps the disk model: [`listing`] is that of the state that the content
 //! stands for; [`edit`] answers what becomes of the change in that state, leaves a device of which each crash image stands for
 //! the state after it, and at any moment one for the state before it or after it. Its ticket is new to the state: where it isn't, the
-//! answer is [`Fault::AlreadyIn`], and nothing is written. Not formatted, layout not known and damaged come
+//! answer is [`Fault::AlreadyIn`], and nothing is written. An editor in a thread of its own submits the change, and a committer takes it in one round. Not formatted, layout not known and damaged come
 //! only where the content stands for no state, each by the content's front (`TellsOf` of `specs/Openings`, and `TellsOfOld` of
 //! `specs/Moves` for [`migrate`], of which the rest is said in the crate `migrate`).
 //!
 //! ```text
 //! format(&mut disk, 5)?;
-//! let (answer, disk) = edit(alloc, disk, None, change);   // Ok(Verdict::Accepted { count: 1 })
-//! let (answer, disk) = edit(alloc, disk, Some(1), other); // Err(Fault::AlreadyIn)
+//! let (answer, disk) = edit(rt, alloc, disk, None, change);   // Ok(Verdict::Accepted { count: 1 })
+//! let (answer, disk) = edit(rt, alloc, disk, Some(1), other); // Err(Fault::AlreadyIn)
 //! listing(alloc, disk)?                              // count=1 edges=1, and a line for the edge
 //! ```
 #![tactic(auto)]
 
 mod editing;
 mod moving;
+mod one_editor;
 mod opening;
 #[cfg(test)]
 mod tests;

@@ -8,6 +8,8 @@ use migrate::Moved;
 use printed_lines::Fault;
 use std::io;
 use std::process::Abort;
+use std::sync::Wait;
+use std::thread::Threads;
 
 fn formatted<R: AllocGlobal + Abort>(rt: &R) -> io::Result<MemDisk> {
     let mut disk = MemDisk::new(rt.alloc(), DEVICE_LEN)?;
@@ -18,7 +20,7 @@ fn formatted<R: AllocGlobal + Abort>(rt: &R) -> io::Result<MemDisk> {
 // One op under a ticket or the next one, and what is answered.
 type Step = (Option<u64>, Op, Result<Verdict, Fault>);
 
-fn after_steps<R: AllocGlobal + Abort>(
+fn after_steps<R: AllocGlobal + Abort + Threads + Wait + Sync>(
     rt: &R,
     disk: MemDisk,
     steps: &[Step],
@@ -26,7 +28,7 @@ fn after_steps<R: AllocGlobal + Abort>(
     let mut disk = disk;
     for (named, op, wanted) in steps {
         let change = Change::new(&[*op]).expect(rt, "one op");
-        let (answer, left) = edit(rt.alloc(), disk, *named, change);
+        let (answer, left) = edit(rt, rt.alloc(), disk, *named, change);
         assert_eq!(rt; answer, *wanted);
         disk = left;
     }

@@ -12,7 +12,7 @@ use Rattle.requests.specs.Requests.{asked_by}
 use Rattle.requests.specs.declared.request.Request.{Request}
 use Rattle.requests.proofs.TicketLemmas.{same_at, other_at, set_wide, rises_first, rises_next, either_same}
 use Rattle.intake.specs.declared.queue.View.{View}
-use Rattle.intake.specs.Turns.{of, last_or_start, idle, taker, opener, editor, taken, missed, both, IsSeat, FitsEditor, FitsTaker, AreWithin, Holds}
+use Rattle.intake.specs.Turns.{of, last_or_start, idle, taker, opener, editor, taken, missed, both, IsSeat, FitsEditor, FitsTaker, AreWithin, KnowsAll, Holds}
 
 ne_test : (a b : ℕ) → a ≢ b → (a == b) ≡ false
 ne_test a b n = grind (arith, nat_tests)
@@ -138,7 +138,7 @@ puts n pass v r sends own ticket fits items views _ h at =
       refl,
     )
 
-pub takes : (pass : ℕ) (v : View) → v.takes ≡ true → Pops Holds pass v (λ r w. (w ≡ taken v r) × Rises w.starts (map asked_by w.got) × (r.ticket ≤ worn_limit))
+pub takes : (pass : ℕ) (v : View) → v.takes ≡ true → Pops Holds pass v (λ r w. (w ≡ taken v r) × Rises w.starts (map asked_by w.got) × (r.ticket ≤ worn_limit) × ((waits : List Request) × KnowsAll w (w.got ++ waits)))
 takes pass v may r items views h at =
     let w : View = taken v r in
     let got = h.3 ++ r ∷ [] in
@@ -147,7 +147,9 @@ takes pass v may r items views h at =
     let here : Fits h.0 h.1 h.2 got (h.3 ++ r ∷ items) pass w = ((h.4 pass v at).0, λ _. (mine.0, ap (λ l. l ++ r ∷ []) mine.1, mine.2, mine.3)) in
     let there : (j : ℕ) (u : View) → j ≢ pass → get_elem? views j ≡ some u → Fits h.0 h.1 h.2 got (h.3 ++ r ∷ items) j u =
     λ j u away e. ((h.4 j u e).0, λ t. absurd (away (((h.4 j u e).1 t).0 ∙ sym mine.0))) in
-    let rises : Rises h.1 (map asked_by (got ++ items)) = subst (λ (l : List Request). Rises h.1 (map asked_by l)) same h.5 in (
+    let rises : Rises h.1 (map asked_by (got ++ items)) = subst (λ (l : List Request). Rises h.1 (map asked_by l)) same h.5 in
+    let whole : h.3 ++ r ∷ items ≡ w.got ++ items = same ∙ ap (λ l. (l ++ r ∷ []) ++ items) (sym mine.1) in
+    let known : KnowsAll w (w.got ++ items) = ((λ sends. ((h.4 pass v at).0 sends).1 ∙ ap (of v.session) whole), λ s le. sym (ap (of s) whole) ∙ (mine.3 s le).1) in (
       w,
       (
         h.0,
@@ -163,6 +165,7 @@ takes pass v may r items views h at =
         refl,
         subst (λ (l : List Request). Rises v.starts (map asked_by l)) (ap (λ l. l ++ r ∷ []) (sym mine.1)) (subst (λ (ts : List ℕ). Rises ts (map asked_by got)) (sym mine.2) (asks_first h.1 got items rises)),
         within_next h.3 r items h.6,
+        (items, known),
       ),
     )
 
@@ -266,9 +269,10 @@ compares pass v a b items views h at =
     let f = h.4 pass v at in
     (f.0 a).1 ∙ ap (λ l. of v.session (l ++ items)) (sym (f.1 b).1)
 
--- the taker knows what an ended editor put, and what was taken and waits of it
-pub knows : (pass : ℕ) (v : View) → v.takes ≡ true → Learns Holds pass v (λ items. v.sends ≡ true → v.put ≡ of v.session (v.got ++ items))
-knows pass v may items views h at = λ sends. compares pass v sends may items views h at
+-- the taker knows that all that was put is what was taken and what waits
+pub knows : (pass : ℕ) (v : View) → v.takes ≡ true → Learns Holds pass v (λ items. KnowsAll v (v.got ++ items))
+knows pass v may items views h at =
+    let f = (h.4 pass v at).1 may in ((λ sends. compares pass v sends may items views h at), λ s le. ap (λ l. of s (l ++ items)) f.1 ∙ (f.3 s le).1)
 
 -- a pass notes that it found the queue full, or empty
 pub notes : (pass : ℕ) (v : View) → Forks Holds pass v (missed v) idle

@@ -1,2 +1,3 @@
 pub mod InTurns
 pub mod Refusals
+pub mod Takings

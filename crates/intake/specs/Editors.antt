@@ -25,16 +25,11 @@ pub record Editing : Type 0 where
 
 -- an editor, by its parts
 abbrev pub editing : Inside → Editing
-editing e = record { queue = e.sender.queue; session = e.sender.session; start = e.sender.start; put = e.sender.put; fulls = e.sender.fulls; known = e.known }
+editing e = record { queue = e.sender.queue; session = e.sender.session; start = e.sender.start; put = e.sender.put; fulls = e.sender.fulls; known = e.watcher.known }
 
--- the reader is there, and knows this
-abbrev pub HasReader : Beginning → Option Knowledge → Type 0
-HasReader known None = ⊥
-HasReader known (Some r) = r.all ≡ known
-
--- the last ticket is that of what it put, and its reader is there between two calls
+-- its watcher is of its session, and knows the last ticket of what it put
 abbrev pub IsEditing : Inside → Type 0
-IsEditing e = (e.last ≡ last_asked e.sender.put) × HasReader e.known e.reader
+IsEditing e = (e.watcher.session ≡ e.sender.session) × (e.watcher.last ≡ last_asked e.sender.put)
 
 -- an editor for each reader, of the sessions from n on, before any of them has submitted anything
 abbrev pub editors_from : TableId → List ℕ → ℕ → List Knowledge → List Editing

@@ -2,4 +2,5 @@ pub mod Turns
 pub mod Ends
 pub mod Insides
 pub mod Outcomes
+pub mod Watchers
 pub mod Editors

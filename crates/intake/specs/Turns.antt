@@ -50,6 +50,14 @@ missed v = record { sends = v.sends; session = v.session; start = v.start; put =
 abbrev pub both : View → View → View
 both v w = record { sends = true; session = w.session; start = w.start; put = w.put; takes = true; made = v.made; starts = v.starts; next = v.next; got = v.got; misses = v.misses }
 
+-- no session from this one on has a request
+abbrev pub AreOfEditors : ℕ → List Request → Type 0
+AreOfEditors made all = (s : ℕ) → made ≤ s → of s all ≡ []
+
+-- what the taker knows of all that was put: of the editor that it took in, just what that one put, and of a session without an editor nothing
+abbrev pub KnowsAll : View → List Request → Type 0
+KnowsAll v all = (v.sends ≡ true → v.put ≡ of v.session all) × AreOfEditors v.made all
+
 -- an editor's session is there, and starts where the starts say
 abbrev pub IsSeat : List ℕ → View → Type 0
 IsSeat starts v = (v.session < sessions) × ((v.session < length starts) × (v.start ≡ last_of starts v.session))

@@ -1,14 +1,16 @@
 // Editors: they put requests into the queue, and look at the board for what became of them.
 ghost use Rattle.std.specs.Prelude.{◌≡◌, ◌+◌, ◌++◌, ◌∷◌, [], IfOk, IfErr, OnOk, OnErr, Some, None, List};
 ghost use Rattle.generations.specs.Beginnings.{GoesOn, board_after};
+ghost use Rattle.generations.specs.Lawful.{IsLawful};
 ghost use Rattle.intake.specs.Turns.{last_asked, of};
 ghost use Rattle.requests.specs.declared.request.Request.{Request};
 ghost use Rattle.intake.specs.Outcomes.{outcome_on};
 ghost use Rattle.intake.specs.declared.outcome.SubmitRefused.TheVariants.{QueueFull};
 
-use crate::outcome::{Outcome, SubmitRefused, outcome_of, refusal_of};
+use crate::outcome::{Outcome, SubmitRefused};
 use crate::queue::{Sender, Taker};
-use generations::{BoardReader, History, Shut, Told};
+use crate::watcher::Watcher;
+use generations::{BoardReader, Shut, Told};
 use graph_edits::Change;
 use requests::Request;
 use std::marker::Model;
@@ -19,11 +21,7 @@ use std::sync::Wait;
 #[derive(Drop)]
 pub struct Editor {
     sender: Sender,
-    /// Between two calls it is there.
-    reader: Option<BoardReader>,
-    known: History,
-    /// The last ticket that it submitted.
-    last: Option<u64>,
+    watcher: Watcher,
 }
 
 impl Model for Editor {
@@ -44,13 +42,8 @@ impl Editor {
         requires { sender.put ≡ [] }
         ensures { result ≡ record { queue = sender.queue; session = sender.session; start = sender.start; put = []; fulls = sender.fulls; known = reader.all } }
     {
-        let known = reader.known();
-        Editor {
-            sender,
-            reader: Some(reader),
-            known,
-            last: None,
-        }
+        let watcher = Watcher::new(sender.session(), reader);
+        Editor { sender, watcher }
     }
 
     /// Its session.
@@ -74,36 +67,17 @@ impl Editor {
         ensures kept { GoesOn self.old.known self.new.known }
         ensures learnt { GoesOn told.now self.new.known }
     {
-        let Some(mut reader) = self.reader.take() else {
-            unreachable!()
-        };
-        reader.learn(told);
-        self.known = reader.known();
-        self.reader = Some(reader);
+        self.watcher.learn(told);
     }
 
     /// What became of the last change that it submitted. It takes no memory and waits for nobody.
     pub fn outcome(&mut self) -> Result<Outcome, Shut>
         ensures same { self.new ≡ record { queue = self.old.queue; session = self.old.session; start = self.old.start; put = self.old.put; fulls = self.old.fulls; known = self.new.known } }
         ensures kept { GoesOn self.old.known self.new.known }
+        ensures lawful { OnOk result (IsLawful self.new.known.opening.starts self.new.known.opening.count self.new.known.log) }
         ensures outcome { IfOk result (λ o. o ≡ outcome_on (board_after self.new.known) self.new.session (last_asked self.new.put)) }
     {
-        let Some(reader) = self.reader.take() else {
-            unreachable!()
-        };
-        match reader.look() {
-            Ok(look) => {
-                let outcome = outcome_of(look.board(), self.sender.session(), self.last);
-                let reader = look.leave();
-                self.known = reader.known();
-                self.reader = Some(reader);
-                Ok(outcome)
-            }
-            Err((shut, reader)) => {
-                self.reader = Some(reader);
-                Err(shut)
-            }
-        }
+        self.watcher.outcome()
     }
 
     // What the board says of a ticket: why it isn't let in.
@@ -112,23 +86,8 @@ impl Editor {
         ensures kept { GoesOn self.old.known self.new.known }
         ensures refusal { IfOk result (λ o. o ≡ refusal_by self.new.known self.old ticket) }
     {
-        let Some(reader) = self.reader.take() else {
-            unreachable!()
-        };
-        match reader.look() {
-            Ok(look) => {
-                let (session, start) = (self.sender.session(), self.sender.start());
-                let refusal = refusal_of(look.board(), session, start, self.last, ticket);
-                let reader = look.leave();
-                self.known = reader.known();
-                self.reader = Some(reader);
-                Ok(refusal)
-            }
-            Err((shut, reader)) => {
-                self.reader = Some(reader);
-                Err(shut)
-            }
-        }
+        let start = self.sender.start();
+        self.watcher.judge(start, ticket)
     }
 
     /// Puts a change at the queue's end, under this ticket. A refusal gives it back, and adds nothing. It takes no memory.
@@ -175,7 +134,7 @@ impl Editor {
         };
         match self.sender.put(rt, request) {
             Ok(()) => {
-                self.last = Some(ticket);
+                self.watcher.note(ticket);
                 Ok(())
             }
             Err(request) => Err((SubmitRefused::QueueFull, request.change)),
@@ -184,18 +143,16 @@ impl Editor {
 }
 
 impl Taker {
-    /// Ends an editor: what was taken, followed by what waits, has just the requests that it submitted, each once, in its order.
-    pub fn end(&mut self, editor: Editor)
+    /// Ends an editor: it submits no more, and its watcher is left. What was taken, followed by what waits, has just the requests
+    /// that it submitted, each once, in its order.
+    pub fn end(&mut self, editor: Editor) -> Watcher
         requires { editor.queue ≡ self.old.queue }
         ensures same { self.new ≡ record { queue = self.old.queue; starts = self.old.starts; made = self.old.made; got = self.old.got; empties = self.old.empties; ended = Some (editor.session, editor.put) } }
         ensures whole { (waits : List Request) × (editor.put ≡ of editor.session (self.new.got ++ waits)) }
+        ensures watcher { result ≡ record { session = editor.session; last = last_asked editor.put; known = editor.known } }
     {
-        let Editor {
-            sender,
-            reader: _,
-            known: _,
-            last: _,
-        } = editor;
+        let Editor { sender, watcher } = editor;
         self.close(sender);
+        watcher
     }
 }

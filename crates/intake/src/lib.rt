@@ -12,6 +12,7 @@
 //! What was taken, followed by what waits, has each editor's submitted requests, in that editor's order, each once, with its ticket
 //! and change, and nothing else ([`Taker::end`] says it of one editor); and of all that was taken each session's tickets rise
 //! above its start ([`Taker::take`]). Where the taker finds nothing, all that the editor submitted that was ended last was taken.
+//! An editor that has ended leaves a [`Watcher`], which goes on looking at the board.
 //!
 //! | Call | What it says |
 //! |---|---|
@@ -41,8 +42,10 @@ mod editor;
 mod open;
 mod outcome;
 mod queue;
+mod watcher;
 
 pub use editor::Editor;
 pub use open::open_intake;
 pub use outcome::{Outcome, SubmitRefused, outcome_of, refusal_of};
 pub use queue::Taker;
+pub use watcher::Watcher;

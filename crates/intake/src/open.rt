@@ -20,6 +20,7 @@ pub fn open_intake(
     ensures starts { IfOk result (λ r. r.0.starts ≡ starts.now) }
     ensures got { IfOk result (λ r. r.0.got ≡ []) }
     ensures empties { IfOk result (λ r. r.0.empties ≡ 0) }
+    ensures made { IfOk result (λ r. r.0.made ≡ vec_len readers) }
     ensures editors { IfOk result (λ r. r.1.items ≡ editors_from r.0.queue starts.now 0 readers.items) }
 {
     let count = readers.len() as u8;

@@ -6,7 +6,7 @@ ghost use Rattle.requests.specs.Tickets.{worn_limit, last_of, Rises};
 ghost use Rattle.requests.specs.Requests.{asked_by};
 ghost use Rattle.requests.specs.declared.request.Request.{Request};
 ghost use Rattle.intake.specs.Turns.{opener, of, last_or_start};
-ghost use Rattle.intake.specs.Ends.{HasAll};
+ghost use Rattle.intake.specs.Ends.{HasAll, AreAll, HasTaken};
 
 use crossbeam_queue::protocol::{Join, Lesson, Outcome, Protocol, Split};
 use crossbeam_queue::{Pass, RuledArrayQueue};
@@ -61,20 +61,21 @@ impl Lesson<Request, View> for Puts {
 struct Takes;
 
 impl Outcome<Request, View> for Takes {
-    ghost use Rattle.std.specs.Prelude.{◌≡◌, ◌≤◌, map};
+    ghost use Rattle.std.specs.Prelude.{◌≡◌, ◌≤◌, ◌++◌, List, map};
+    ghost use Rattle.requests.specs.declared.request.Request.{Request as Asked};
     ghost use Rattle.requests.specs.Tickets.{worn_limit, Rises};
     ghost use Rattle.requests.specs.Requests.{asked_by};
-    ghost use Rattle.intake.specs.Turns.{taken};
+    ghost use Rattle.intake.specs.Turns.{taken, KnowsAll};
 
-    ghost then = { λ v r w. (w ≡ taken v r) × Rises w.starts (map asked_by w.got) × (r.ticket ≤ worn_limit) };
+    ghost then = { λ v r w. (w ≡ taken v r) × Rises w.starts (map asked_by w.got) × (r.ticket ≤ worn_limit) × ((waits : List Asked) × KnowsAll w (w.got ++ waits)) };
 }
 
-// Where the taker knows what an ended editor put, it is what was taken and what waits of it.
+// All that was put is what was taken and what waits.
 impl Lesson<Request, View> for Takes {
-    ghost use Rattle.std.specs.Prelude.{◌≡◌, ◌++◌, true};
-    ghost use Rattle.intake.specs.Turns.{of};
+    ghost use Rattle.std.specs.Prelude.{◌++◌};
+    ghost use Rattle.intake.specs.Turns.{KnowsAll};
 
-    ghost fact = { λ v items. v.sends ≡ true → v.put ≡ of v.session (v.got ++ items) };
+    ghost fact = { λ v items. KnowsAll v (v.got ++ items) };
 }
 
 // A pass notes that it found the queue full, or empty.
@@ -212,10 +213,12 @@ impl Taker {
     // Takes the request at the front, and notes nothing.
     fn pop<R: Wait>(&mut self, rt: &R) -> Option<Request>
         ensures same { (self.new.queue ≡ self.old.queue) × ((self.new.starts ≡ self.old.starts) × (self.new.empties ≡ self.old.empties)) }
+        ensures made { self.new.made ≡ self.old.made }
         ensures ended { self.new.ended ≡ self.old.ended }
         ensures got { MatchOption result (self.new.got ≡ self.old.got) (λ r. self.new.got ≡ self.old.got ++ r ∷ []) }
         ensures rises { Rises self.new.starts (map asked_by self.new.got) }
         ensures none_left { IsNone result → HasAll self.new.ended self.new.got }
+        ensures all { MatchOption result (AreAll self.new self.new.got) (λ _. (waits : List Request) × AreAll self.new (self.new.got ++ waits)) }
         ensures within { IfSome result (λ r. r.ticket ≤ worn_limit) }
     {
         self.queue.pop_as::<Takes, R>(rt, &mut self.pass)
@@ -228,6 +231,8 @@ impl Taker {
         ensures ended { self.new.ended ≡ self.old.ended }
         ensures got { MatchOption result (self.new.got ≡ self.old.got) (λ r. self.new.got ≡ self.old.got ++ r ∷ []) }
         ensures empty { MatchOption result (self.new.empties ≡ self.old.empties + 1) (λ _. self.new.empties ≡ self.old.empties) }
+        // All that was put is what was taken and some that wait, and there is an editor for the session of each.
+        ensures taken { HasTaken self.old self.new }
         ensures rises { Rises self.new.starts (map asked_by self.new.got) }
         ensures none_left { IsNone result → HasAll self.new.ended self.new.got }
         ensures within { IfSome result (λ r. r.ticket ≤ worn_limit) }

@@ -3,13 +3,14 @@ use Rattle.std.specs.Prelude.{ℕ, List, [], ◌∷◌, ◌++◌, codes}
 use Rattle.printed_lines.specs.declared.ended.Ended.{Ended}
 use Rattle.printed_lines.specs.declared.ended.Ended.TheVariants.{Done, Refused}
 use Rattle.printed_lines.specs.declared.fault.Fault.{Fault}
-use Rattle.printed_lines.specs.declared.fault.Fault.TheVariants.{Usage, Op, Words, ChangeTooLong, NodeCount, DeviceLength, DeviceFile, NotFormatted, LayoutNotKnown, Damaged, Device, Memory, Worn, AlreadyIn, NoNode, Output}
+use Rattle.printed_lines.specs.declared.fault.Fault.TheVariants.{Usage, Op, Words, Script, ChangeTooLong, NodeCount, DeviceLength, DeviceFile, NotFormatted, LayoutNotKnown, Damaged, Device, Memory, Worn, AlreadyIn, NoNode, Output}
 
 -- what is told of a fault
 abbrev pub fault_text : Fault → List ℕ
 fault_text Usage = codes "usage"
 fault_text Op = codes "op not understood"
 fault_text Words = codes "words not understood"
+fault_text Script = codes "script not understood"
 fault_text ChangeTooLong = codes "change too long"
 fault_text NodeCount = codes "node count out of range"
 fault_text DeviceLength = codes "device length is wrong"
@@ -33,6 +34,7 @@ abbrev pub IsNotUnderstood : Fault → Type 0
 IsNotUnderstood Usage = Unit {0}
 IsNotUnderstood Op = Unit {0}
 IsNotUnderstood Words = Unit {0}
+IsNotUnderstood Script = Unit {0}
 IsNotUnderstood fault = ⊥
 
 -- the exit status: 2 where the words are not understood, else 1
@@ -40,6 +42,7 @@ abbrev pub status_of : Fault → ℕ
 status_of Usage = 2
 status_of Op = 2
 status_of Words = 2
+status_of Script = 2
 status_of ChangeTooLong = 1
 status_of NodeCount = 1
 status_of DeviceLength = 1

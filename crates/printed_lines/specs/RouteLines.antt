@@ -18,6 +18,10 @@ route_text generation nodes length = codes "generation=" ++ (decimal generation 
 abbrev pub unreachable_text : ℕ → List ℕ
 unreachable_text generation = codes "generation=" ++ (decimal generation ++ codes " unreachable")
 
+-- a node of a route isn't there
+abbrev pub absent_text : List ℕ
+absent_text = codes "no node"
+
 -- all checks hold, of a scheme with so many landmarks
 abbrev pub checked_text : ℕ → ℕ → List ℕ
 checked_text generation landmarks = codes "ok generation=" ++ (decimal generation ++ (codes " landmarks=" ++ decimal landmarks))

@@ -15,6 +15,8 @@ pub enum Fault {
     Op,
     /// The text of `--words` isn't of its form, or names a node that the device hasn't.
     Words,
+    /// A line of a script isn't of its form, or its session has no editor.
+    Script,
     /// There are more OPs than a change may have.
     ChangeTooLong,
     /// A device can't have so many nodes.
@@ -39,7 +41,7 @@ pub enum Fault {
     AlreadyIn,
     /// A node of a route isn't one of the device's.
     NoNode,
-    /// What was to be printed couldn't be.
+    /// What was to be printed couldn't be, or a script couldn't be read.
     Output,
 }
 
@@ -52,6 +54,7 @@ impl Fault {
             Fault::Usage => "usage",
             Fault::Op => "op not understood",
             Fault::Words => "words not understood",
+            Fault::Script => "script not understood",
             Fault::ChangeTooLong => "change too long",
             Fault::NodeCount => "node count out of range",
             Fault::DeviceLength => "device length is wrong",
@@ -75,7 +78,7 @@ impl Fault {
         ensures some { 1 ≤ result }
     {
         match self {
-            Fault::Usage | Fault::Op | Fault::Words => 2,
+            Fault::Usage | Fault::Op | Fault::Words | Fault::Script => 2,
             _ => 1,
         }
     }

@@ -8,6 +8,7 @@
 //! | [`TicketLine`] | `session=S ticket=T` |
 //! | [`MigratedLine`] | `migrated count=C edges=E` |
 //! | [`RouteLine`], [`UnreachableLine`] | `generation=G route 0 1 2 length L`, `generation=G unreachable` |
+//! | [`AbsentLine`] | `no node` |
 //! | [`CheckedLine`], [`BrokenLine`] | `ok generation=G landmarks=K`, `fault K4` |
 //!
 //! Each is shown by its `Display`, whose `output` is the text that `specs/` defines (`Lines`, `RouteLines`); [`listing_of`] is all
@@ -40,4 +41,4 @@ pub use fault::Fault;
 pub use lines::{AcceptedLine, EdgeLine, Formatted, MigratedLine, RefusedLine, TicketLine, Totals};
 pub use listing::listing_of;
 pub use printing::{print_line, print_text, tell};
-pub use route_lines::{BrokenLine, CheckedLine, RouteLine, UnreachableLine};
+pub use route_lines::{AbsentLine, BrokenLine, CheckedLine, RouteLine, UnreachableLine};

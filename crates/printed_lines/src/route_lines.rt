@@ -1,6 +1,6 @@
 //! The lines that `route` and `check` print.
 ghost use Rattle.std.specs.Prelude.{Some, option_map};
-ghost use Rattle.printed_lines.specs.RouteLines.{broken_text, checked_text, route_text, stops_text, unreachable_text};
+ghost use Rattle.printed_lines.specs.RouteLines.{absent_text, broken_text, checked_text, route_text, stops_text, unreachable_text};
 
 use std::fmt;
 
@@ -53,6 +53,18 @@ impl fmt::Display for UnreachableLine {
 
     fn fmt<W: fmt::Write>(&self, f: &mut fmt::Formatter<W>) -> fmt::Result {
         write!(f, "generation={} unreachable", self.generation)
+    }
+}
+
+/// A node of a route that isn't there: `no node`.
+#[derive(Drop)]
+pub struct AbsentLine;
+
+impl fmt::Display for AbsentLine {
+    ghost output = { λ _. Some absent_text };
+
+    fn fmt<W: fmt::Write>(&self, f: &mut fmt::Formatter<W>) -> fmt::Result {
+        write!(f, "no node")
     }
 }
 

@@ -1,7 +1,7 @@
 //! Lines and faults as texts. Expected texts are those of docs/FORMATS.md.
 use crate::{
-    AcceptedLine, BrokenLine, CheckedLine, Ended, Fault, Formatted, MigratedLine, RefusedLine,
-    RouteLine, TicketLine, UnreachableLine, listing_of, print_line, print_text, tell,
+    AbsentLine, AcceptedLine, BrokenLine, CheckedLine, Ended, Fault, Formatted, MigratedLine,
+    RefusedLine, RouteLine, TicketLine, UnreachableLine, listing_of, print_line, print_text, tell,
 };
 use graph_edits::{Change, Code, Graph, Op};
 use std::alloc::AllocError;
@@ -43,6 +43,7 @@ fn texts_of_lines(rt: HostRuntime) {
     expect_line(&rt, route, "generation=1 route 0 1 2 length 2\n");
     let unreachable = UnreachableLine { generation: 1 };
     expect_line(&rt, unreachable, "generation=1 unreachable\n");
+    expect_line(&rt, AbsentLine, "no node\n");
     let checked = CheckedLine {
         generation: 1,
         landmarks: 0,
@@ -74,6 +75,7 @@ fn texts_of_faults(rt: HostRuntime) -> io::Result<()> {
         (Fault::Usage, "usage", 2),
         (Fault::Op, "op not understood", 2),
         (Fault::Words, "words not understood", 2),
+        (Fault::Script, "script not understood", 2),
         (Fault::ChangeTooLong, "change too long", 1),
         (Fault::NodeCount, "node count out of range", 1),
         (Fault::DeviceLength, "device length is wrong", 1),

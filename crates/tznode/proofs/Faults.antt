@@ -1,5 +1,5 @@
 -- Which faults may end a run.
-use Rattle.std.proofs.Common.{◌≡◌, ◌⊎◌, ℕ, List, inl, inr, refl, sym, subst, Result, Ok, Err, IfErr, IsErrAnd}
+use Rattle.std.proofs.Common.{◌≡◌, ◌≢◌, ◌⊎◌, ℕ, List, inl, inr, refl, sym, subst, Result, Ok, Err, IfErr, IsErrAnd}
 use Rattle.clap.specs.Walk.{Text}
 use Rattle.given_words.specs.declared.words.LandmarkWords.{LandmarkWords}
 use Rattle.given_words.specs.declared.words.LandmarkWords.TheVariants.{Greatest, ZeroAt, Drawn}
@@ -12,7 +12,9 @@ use Rattle.asked_tasks.specs.Asked.{IsAskedFor, IsInRange}
 use Rattle.asked_tasks.specs.declared.refused.WordsRefused.{WordsRefused}
 use Rattle.asked_tasks.specs.declared.refused.WordsRefused.TheVariants as why
 use Rattle.asked_tasks.specs.declared.task.Task.{Task}
-use Rattle.tznode.specs.Endings.{EndsCheck, EndsEdit, EndsFormat, EndsMigrate, EndsRoute, EndsShow, IsFaultFor, IsRouteFault, IsWordsFault, IsWordsOrMemory, MayEnd, NamesNodes, words_fault}
+use Rattle.printed_lines.specs.Faults.{IsNotUnderstood}
+use Rattle.served_lines.specs.ServedLines.{IsServeFault}
+use Rattle.tznode.specs.Endings.{EndsCheck, EndsEdit, EndsFormat, EndsMigrate, EndsRoute, EndsServe, EndsShow, IsFaultFor, IsRouteFault, IsScriptFault, IsWordsFault, IsWordsOrMemory, MayEnd, NamesNodes, words_fault}
 
 -- words of which a graph lacks a node name nodes
 pub names_nodes : (words : LandmarkWords) (nodes : ℕ) → ¬ IsWithin words nodes → NamesNodes words
@@ -62,6 +64,33 @@ move_moves told.Device is = tt
 move_moves told.Memory is = tt
 move_moves told.DeviceLength is = tt
 move_moves _ is = absurd is
+
+pub serve_serves : (fault : Fault) → IsServeFault fault → EndsServe fault
+serve_serves told.DeviceFile is = tt
+serve_serves told.Script is = tt
+serve_serves told.NotFormatted is = tt
+serve_serves told.LayoutNotKnown is = tt
+serve_serves told.Damaged is = tt
+serve_serves told.Words is = tt
+serve_serves told.Device is = tt
+serve_serves told.Worn is = tt
+serve_serves told.Memory is = tt
+serve_serves told.Output is = tt
+serve_serves _ is = absurd is
+
+pub serve_reads : (fault : Fault) → IsScriptFault fault → EndsServe fault
+serve_reads told.Script is = tt
+serve_reads told.Memory is = tt
+serve_reads told.Output is = tt
+serve_reads _ is = absurd is
+
+-- what isn't understood is no fault of an output
+pub never_output : (fault : Fault) → IsNotUnderstood fault → fault ≢ told.Output
+never_output told.Usage is = λ same. absurd (cc)
+never_output told.Op is = λ same. absurd (cc)
+never_output told.Words is = λ same. absurd (cc)
+never_output told.Script is = λ same. absurd (cc)
+never_output _ is = absurd is
 
 pub check_opens : (words : LandmarkWords) (fault : Fault) → IsOpenFault fault → EndsCheck words fault
 check_opens words told.NotFormatted is = tt

@@ -1,3 +1,4 @@
 pub mod Answering
 pub mod SchemeAnswering
 pub mod Faults
+pub mod Serving

@@ -7,11 +7,12 @@ use Rattle.printed_lines.specs.declared.fault.Fault.{Fault}
 use Rattle.printed_lines.specs.declared.fault.Fault.TheVariants as told
 use Rattle.device_commands.specs.Openings.{IsEditFault, IsFormatFault, IsOpenFault}
 use Rattle.device_commands.specs.Moves.{IsMoveFault}
+use Rattle.served_lines.specs.ServedLines.{IsServeFault}
 use Rattle.asked_tasks.specs.Asked.{IsAskedFor, IsInRange}
 use Rattle.asked_tasks.specs.declared.refused.WordsRefused.{WordsRefused}
 use Rattle.asked_tasks.specs.declared.refused.WordsRefused.TheVariants as why
 use Rattle.asked_tasks.specs.declared.task.Task.{Task}
-use Rattle.asked_tasks.specs.declared.task.Task.TheVariants.{Format, Show, Edit, Resume, Route, Check, Migrate}
+use Rattle.asked_tasks.specs.declared.task.Task.TheVariants.{Format, Show, Edit, Resume, Route, Check, Migrate, Serve}
 
 -- what is told of words that are no task
 abbrev pub words_fault : WordsRefused → Fault
@@ -70,6 +71,19 @@ abbrev pub EndsRoute : LandmarkWords → Fault → Type 0
 EndsRoute words told.NoNode = Unit {0}
 EndsRoute words fault = EndsCheck words fault
 
+-- the faults of a script: it can't be read, or isn't understood
+abbrev pub IsScriptFault : Fault → Type 0
+IsScriptFault told.Script = Unit {0}
+IsScriptFault told.Memory = Unit {0}
+IsScriptFault told.Output = Unit {0}
+IsScriptFault fault = ⊥
+
+-- those that may end `serve`
+abbrev pub EndsServe : Fault → Type 0
+EndsServe told.DeviceFile = Unit {0}
+EndsServe told.Script = Unit {0}
+EndsServe fault = IsServeFault fault
+
 -- the faults of the words for a graph, and of a query under them
 abbrev pub IsWordsOrMemory : LandmarkWords → Fault → Type 0
 IsWordsOrMemory words told.Words = NamesNodes words
@@ -90,6 +104,7 @@ MayEnd (Resume device session) fault = EndsShow fault
 MayEnd (Route device from to words) fault = EndsRoute words fault
 MayEnd (Check device words) fault = EndsCheck words fault
 MayEnd (Migrate old new) fault = EndsMigrate fault
+MayEnd (Serve device editors forwarders places words) fault = EndsServe fault
 
 -- The words are no task that is in range, or memory ran out while they were read; or they ask for a task, and the fault is one that
 -- may end it.

@@ -1,4 +1,5 @@
 pub mod SchemeAnswers
 pub mod Printed
 pub mod Endings
+pub mod ServedScripts
 pub mod Outcomes

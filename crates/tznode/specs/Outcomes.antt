@@ -14,9 +14,9 @@ status_in (Answered ended) = status_at ended
 status_in (Told fault) = status_of fault
 status_in (Untold fault) = status_of fault
 
--- What a run of these words has printed on a writer, and told on another: the answer to what they ask for, or a fault that may
--- end it, told where that could be written.
-abbrev pub IsOutcome : List Text → Option (List ℕ) → Option (List ℕ) → Option (List ℕ) → Option (List ℕ) → Outcome → Type 0
-IsOutcome words old new told_old told_new (Answered ended) = AnswersWords words ended old new × (told_new ≡ told_old)
-IsOutcome words old new told_old told_new (Told fault) = IsFaultFor words fault × Appends told_old told_new (told_text fault)
-IsOutcome words old new told_old told_new (Untold fault) = IsFaultFor words fault
+-- What a run of these words, with what its reader gives, has printed on a writer, and told on another: the answer to what they ask
+-- for, or a fault that may end it, told where that could be written.
+abbrev pub IsOutcome : List Text → Option (List ℕ) → Option (List ℕ) → Option (List ℕ) → Option (List ℕ) → Option (List ℕ) → Outcome → Type 0
+IsOutcome words given old new told_old told_new (Answered ended) = AnswersWords words given ended old new × (told_new ≡ told_old)
+IsOutcome words given old new told_old told_new (Told fault) = IsFaultFor words fault × Appends told_old told_new (told_text fault)
+IsOutcome words given old new told_old told_new (Untold fault) = IsFaultFor words fault

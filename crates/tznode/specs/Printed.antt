@@ -14,8 +14,11 @@ use Rattle.printed_lines.specs.declared.ended.Ended.TheVariants.{Done, Refused a
 use Rattle.printed_lines.specs.Lines.{accepted_text, formatted_text, line, listing_text, migrated_text, refused_text, ticket_text}
 use Rattle.asked_tasks.specs.Asked.{IsAskedFor}
 use Rattle.asked_tasks.specs.declared.task.Task.{Task}
-use Rattle.asked_tasks.specs.declared.task.Task.TheVariants.{Format, Show, Edit, Resume, Route, Check, Migrate}
+use Rattle.asked_tasks.specs.declared.task.Task.TheVariants.{Format, Show, Edit, Resume, Route, Check, Migrate, Serve}
 use Rattle.device_commands.specs.Answer.{IsNew, verdict_of}
+use Rattle.scripts.specs.declared.line.ScriptLine.{ScriptLine}
+use Rattle.served_lines.specs.ServedLines.{IsServed}
+use Rattle.tznode.specs.ServedScripts.{IsScriptOf}
 use Rattle.tznode.specs.SchemeAnswers.{IsRouteOf, IsCheckOf, answered_text, checks_text, ended_along, ended_at}
 
 -- how a command ends that answers this verdict
@@ -28,19 +31,20 @@ abbrev pub verdict_text : Verdict → List ℕ
 verdict_text (Accepted count) = accepted_text count
 verdict_text (Refused op code) = refused_text op code
 
--- a command that ends so has printed the answer to its task, and nothing else
-abbrev pub PrintedFor : Task → Ended → Option (List ℕ) → Option (List ℕ) → Type 0
-PrintedFor (Format device nodes) ended old new = (ended ≡ Done) × Appends old new (line (formatted_text nodes))
-PrintedFor (Show device) ended old new = (ended ≡ Done) × (state : State) × Appends old new (listing_text state.count state.graph)
-PrintedFor (Edit device ticket change) ended old new =
+-- a command that ends so has printed the answer to its task, and nothing else; the script of a service is what a reader gives
+abbrev pub PrintedFor : Task → Option (List ℕ) → Ended → Option (List ℕ) → Option (List ℕ) → Type 0
+PrintedFor (Format device nodes) given ended old new = (ended ≡ Done) × Appends old new (line (formatted_text nodes))
+PrintedFor (Show device) given ended old new = (ended ≡ Done) × (state : State) × Appends old new (listing_text state.count state.graph)
+PrintedFor (Edit device ticket change) given ended old new =
     (state : State) × IsNew state ticket × (ended ≡ ended_by (verdict_of state change)) × Appends old new (line (verdict_text (verdict_of state change)))
-PrintedFor (Resume device session) ended old new = (ended ≡ Done) × (state : State) × Appends old new (line (ticket_text session (last_of state.tickets session)))
-PrintedFor (Route device from to words) ended old new =
+PrintedFor (Resume device session) given ended old new = (ended ≡ Done) × (state : State) × Appends old new (line (ticket_text session (last_of state.tickets session)))
+PrintedFor (Route device from to words) given ended old new =
     (state : State) × (route : Found) × IsRouteOf state.graph state.count words from to route × (ended ≡ ended_along route) × Appends old new (line (answered_text state.count route))
-PrintedFor (Check device words) ended old new =
+PrintedFor (Check device words) given ended old new =
     (state : State) × (checked : Checked) × IsCheckOf state.graph state.count words checked × (ended ≡ ended_at checked.fault) × Appends old new (line (checks_text state.count checked.landmarks checked.fault))
-PrintedFor (Migrate device made) ended old new = (ended ≡ Done) × (state : State) × Appends old new (line (migrated_text state.count (len state.graph.edges)))
+PrintedFor (Migrate device made) given ended old new = (ended ≡ Done) × (state : State) × Appends old new (line (migrated_text state.count (len state.graph.edges)))
+PrintedFor (Serve device editors forwarders places words) given ended old new = (ended ≡ Done) × (lines : List ScriptLine) × IsScriptOf given editors lines × IsServed lines old new
 
 -- the answer to a task that the words ask for was printed, and nothing else
-abbrev pub AnswersWords : List Text → Ended → Option (List ℕ) → Option (List ℕ) → Type 0
-AnswersWords words ended old new = (task : Task) × IsAskedFor words task × PrintedFor task ended old new
+abbrev pub AnswersWords : List Text → Option (List ℕ) → Ended → Option (List ℕ) → Option (List ℕ) → Type 0
+AnswersWords words given ended old new = (task : Task) × IsAskedFor words task × PrintedFor task given ended old new

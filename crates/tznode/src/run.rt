@@ -14,10 +14,12 @@ ghost use Rattle.asked_tasks.specs.declared.task.Task.{Task};
 ghost use Rattle.tznode.specs.Endings.{EndsEdit, EndsFormat, EndsMigrate, EndsShow, IsFaultFor, MayEnd, words_fault};
 ghost use Rattle.tznode.specs.Outcomes.{IsOutcome};
 ghost use Rattle.tznode.specs.Printed.{AnswersWords, ended_by, verdict_text};
+ghost use Rattle.tznode.specs.ServedScripts.{AskService};
 
 use crate::files::{format_file, migrate_file, open_file};
 use crate::outcome::Outcome;
 use crate::scheme_tasks::{run_check, run_route};
+use crate::service::run_serve;
 use asked_tasks::{Task, WordsRefused, understood};
 use generations::Verdict;
 use graph_edits::Change;
@@ -25,27 +27,30 @@ use printed_lines::{
     AcceptedLine, Ended, Fault, Formatted, MigratedLine, RefusedLine, TicketLine, print_line,
     print_text, tell,
 };
+use serving::Seats;
 use std::fs::File;
 use std::io::{Read, Write};
 use std::rt::Files;
+use std::sync::Wait;
 use std::thread::Threads;
 
 /// Does what the words ask for, and answers the exit status: 0 done, 1 refused, 2 not understood.
 ///
-/// What is asked for is printed on `out`, and a fault is told on `err`. The words are judged before any file is opened. `script` is for `serve`, which is no command yet: nothing reads it.
+/// What is asked for is printed on `out`, and a fault is told on `err`. The words are judged before any file is opened. `serve` alone reads `script`, and reads it to its end.
 pub fn run_words<R, S, O, E>(rt: &R, words: &[&str], script: &mut S, out: &mut O, err: &mut E) -> u8
 where
-    R: Files<File = File> + AllocGlobal + Threads,
+    R: Files<File = File> + AllocGlobal + Threads + Wait + Sync,
     S: Read,
     O: Write,
     E: Write,
     ensures status { result ≤ 2 }
-    ensures done { result ≡ 0 → AnswersWords (texts words.now) Ended.Done (O.contents out.old) (O.contents out.new) }
+    ensures done { result ≡ 0 → AnswersWords (texts words.now) (S.remaining script.old) Ended.Done (O.contents out.old) (O.contents out.new) }
     // The answer is no, or one of the faults of the words' task ended the run.
-    ensures refused { result ≡ 1 → AnswersWords (texts words.now) Ended.Refused (O.contents out.old) (O.contents out.new)
+    ensures refused { result ≡ 1 → AnswersWords (texts words.now) (S.remaining script.old) Ended.Refused (O.contents out.old) (O.contents out.new)
         ⊎ ((fault : Fault) × (status_of fault ≡ 1) × IsFaultFor (texts words.now) fault) }
     // Words that aren't understood print nothing, and are so by one of three faults.
     ensures not_understood { result ≡ 2 → (out.new ≡ out.old) × ((fault : Fault) × IsNotUnderstood fault × IsFaultFor (texts words.now) fault) }
+    ensures unread { ¬ AskService (texts words.now) → script.new ≡ script.old }
 {
     run(rt, words, script, out, err).status()
 }
@@ -53,15 +58,15 @@ where
 /// Does what the words ask for, and answers how it ended.
 pub fn run<R, S, O, E>(rt: &R, words: &[&str], script: &mut S, out: &mut O, err: &mut E) -> Outcome
 where
-    R: Files<File = File> + AllocGlobal + Threads,
+    R: Files<File = File> + AllocGlobal + Threads + Wait + Sync,
     S: Read,
     O: Write,
     E: Write,
-    ensures outcome { IsOutcome (texts words.now) (O.contents out.old) (O.contents out.new) (E.contents err.old) (E.contents err.new) result }
+    ensures outcome { IsOutcome (texts words.now) (S.remaining script.old) (O.contents out.old) (O.contents out.new) (E.contents err.old) (E.contents err.new) result }
     ensures untouched { (fault : Fault) → IsNotUnderstood fault → (result ≡ Outcome.Told fault) ⊎ (result ≡ Outcome.Untold fault) → out.new ≡ out.old }
+    ensures unread { ¬ AskService (texts words.now) → script.new ≡ script.old }
 {
-    let _unread = script;
-    match run_task(rt, words, out) {
+    match run_task(rt, words, script, out) {
         Ok(ended) => Outcome::Answered(ended),
         Err(fault) => match tell(err, fault) {
             Ok(()) => Outcome::Told(fault),
@@ -70,13 +75,15 @@ where
     }
 }
 
-fn run_task<R, O>(rt: &R, words: &[&str], out: &mut O) -> Result<Ended, Fault>
+fn run_task<R, S, O>(rt: &R, words: &[&str], script: &mut S, out: &mut O) -> Result<Ended, Fault>
 where
-    R: Files<File = File> + AllocGlobal + Threads,
+    R: Files<File = File> + AllocGlobal + Threads + Wait + Sync,
+    S: Read,
     O: Write,
-    ensures printed { IfOk result (λ ended. AnswersWords (texts words.now) ended (O.contents out.old) (O.contents out.new)) }
+    ensures printed { IfOk result (λ ended. AnswersWords (texts words.now) (S.remaining script.old) ended (O.contents out.old) (O.contents out.new)) }
     ensures fault { IfErr result (λ fault. IsFaultFor (texts words.now) fault) }
     ensures untouched { IfErr result (λ fault. IsNotUnderstood fault → out.new ≡ out.old) }
+    ensures unread { ¬ AskService (texts words.now) → script.new ≡ script.old }
 {
     match understood(rt.alloc(), words) {
         Ok(Task::Format { device, nodes }) => run_format(rt, device, nodes, out),
@@ -99,6 +106,22 @@ where
         ) => run_route(rt, device, from, to, &words, out),
         Ok(Task::Check { device, words }) => run_check(rt, device, &words, out),
         Ok(Task::Migrate { old, new }) => run_migrate(rt, old, new, out),
+        Ok(
+            Task::Serve {
+                device,
+                editors,
+                forwarders,
+                places,
+                words,
+            },
+        ) => {
+            let seats = Seats {
+                editors,
+                forwarders,
+                places,
+            };
+            run_serve(rt, device, words, seats, script, out)
+        }
         Err(refused) => Err(fault_of(refused)),
     }
 }
@@ -148,12 +171,12 @@ fn run_edit<R, O>(
     out: &mut O,
 ) -> Result<Ended, Fault>
 where
-    R: Files<File = File> + AllocGlobal,
+    R: Files<File = File> + AllocGlobal + Threads + Wait + Sync,
     O: Write,
     ensures printed { IfOk result (λ ended. (state : State) × IsNew state ticket × (ended ≡ ended_by (verdict_of state change)) × Appends (O.contents out.old) (O.contents out.new) (line (verdict_text (verdict_of state change)))) }
     ensures fault { IfErr result EndsEdit }
 {
-    let (answer, _) = device_commands::edit(rt.alloc(), open_file(rt, device)?, ticket, change);
+    let (answer, _) = device_commands::edit(rt, rt.alloc(), open_file(rt, device)?, ticket, change);
     print_verdict(out, answer?)
 }
 

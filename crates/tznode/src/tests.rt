@@ -4,6 +4,7 @@ use std::fs::File;
 use std::io::{self, ErrorKind, Write};
 use std::process::Abort;
 use std::rt::Files;
+use std::sync::Wait;
 use std::thread::Threads;
 use std::{env, fs, process};
 
@@ -48,7 +49,7 @@ fn lines_of<R: AllocGlobal>(rt: &R, text: &str) -> io::Result<Vec<u8>> {
 }
 
 /// Runs the program once, and compares all that it answers: the status, and the text that is printed or, where it begins so, told.
-pub fn expect_run<R: Files<File = File> + AllocGlobal + Abort + Threads>(
+pub fn expect_run<R: Files<File = File> + AllocGlobal + Abort + Threads + Wait + Sync>(
     rt: &R,
     d: &str,
     line: &str,
@@ -70,7 +71,7 @@ pub fn expect_run<R: Files<File = File> + AllocGlobal + Abort + Threads>(
 }
 
 /// Runs each line of a script: the words, an arrow, the status and the text.
-pub fn expect_script<R: Files<File = File> + AllocGlobal + Abort + Threads>(
+pub fn expect_script<R: Files<File = File> + AllocGlobal + Abort + Threads + Wait + Sync>(
     rt: &R,
     d: &str,
     script: &str,
@@ -84,7 +85,7 @@ pub fn expect_script<R: Files<File = File> + AllocGlobal + Abort + Threads>(
 }
 
 /// Runs a script on a device in this folder, and removes the folder.
-pub fn expect_on_device<R: Files<File = File> + AllocGlobal + Abort + Threads>(
+pub fn expect_on_device<R: Files<File = File> + AllocGlobal + Abort + Threads + Wait + Sync>(
     rt: &R,
     folder: &str,
     script: &str,
@@ -253,7 +254,7 @@ fn node_counts_out_of_range(rt: HostRuntime) -> io::Result<()> {
 }
 
 // No command takes a device that can't be opened: each tells the same fault, and leaves the file.
-fn expect_no_store<R: Files<File = File> + AllocGlobal + Abort + Threads>(
+fn expect_no_store<R: Files<File = File> + AllocGlobal + Abort + Threads + Wait + Sync>(
     rt: &R,
     d: &str,
     told: &str,
@@ -447,7 +448,7 @@ impl Write for Narrow {
 }
 
 // A writer that takes nothing, one that takes all but the last byte, and one that takes all and can't be flushed.
-fn expect_output_faults<R: Files<File = File> + AllocGlobal + Abort + Threads>(
+fn expect_output_faults<R: Files<File = File> + AllocGlobal + Abort + Threads + Wait + Sync>(
     rt: &R,
     d: &str,
     line: &str,

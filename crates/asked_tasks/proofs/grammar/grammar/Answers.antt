@@ -23,4 +23,5 @@ returns c =
     let with_resume = c.in_ok-subcommand-4.ensures.shape c.in_ok-resume.ensures.local ∙ ap₂ with_subcommand with_edit (ap top c.in_ok-resume.ensures.app) in
     let with_route = c.in_ok-subcommand-5.ensures.shape route_local ∙ ap₂ with_subcommand with_resume (ap top route_is) in
     let with_check = c.in_ok-subcommand-6.ensures.shape check_local ∙ ap₂ with_subcommand with_route (ap top check_is) in
-    IfOk-weaker c.subcommand-7.result _ _ (λ command added. added.shape c.in_ok-migrate.ensures.local ∙ ap₂ with_subcommand with_check (ap top c.in_ok-migrate.ensures.app)) c.subcommand-7.ensures
+    let with_migrate = c.in_ok-subcommand-7.ensures.shape c.in_ok-migrate.ensures.local ∙ ap₂ with_subcommand with_check (ap top c.in_ok-migrate.ensures.app) in
+    IfOk-weaker c.subcommand-8.result _ _ (λ command added. added.shape c.in_ok-serve.ensures.local ∙ ap₂ with_subcommand with_migrate (ap top c.in_ok-serve.ensures.app)) c.subcommand-8.ensures

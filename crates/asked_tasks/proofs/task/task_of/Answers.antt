@@ -1,7 +1,8 @@
-use Rattle.std.proofs.Common.{rules, codes, Some, ◌≡◌, ◌∙◌, sym}
+use Rattle.std.proofs.Common.{rules, codes, IfOk, Some, subst, ◌≡◌, ◌∙◌, sym}
 use Rattle.clap.specs.Words.{first_value, found_of}
 use Rattle.clap.proofs.WalkLemmas.{first_value-rows}
-use Rattle.clap.specs.Walk.{rows_of}
+use Rattle.clap.specs.Walk.{Text, rows_of}
+use Rattle.asked_tasks.specs.Asked.{IsTask}
 use Rattle.asked_tasks.proofs.Asking.{given, given_all, gives, gives_all}
 use Rattle.asked_tasks.proofs.OneTask.{change_refused, format_refused, from_refused, handed_up, has_device, new_given, none_given, none_missing, resume_refused, same_check, same_edit, same_format, same_migrate, same_resume, same_route, same_show, ticket_refused, to_refused, words_of_check_refused, words_of_route_refused}
 use Rattle.asked_tasks.proofs.task.task_of.Goals as goal
@@ -169,3 +170,17 @@ returns-in_err-text-clause-refused c task is fits =
     let named : c.args.name.now ≡ codes "migrate" = search rules in
     let new = new_given c.args.name.now (rows_of f) task named is in
     absurd (none_missing _ new.0 (given f _ _ new.1) c.in_err-text.ensures.none)
+
+pub returns-then-eq-8-clause-asked : goal.returns-then-eq-8-clause-asked
+returns-then-eq-8-clause-asked c =
+    let f = found_of c.args.found.now in
+    let named : c.args.name.now ≡ codes "serve" = search rules in
+    let device : first_value f (codes "device") ≡ Some c.in-Some.device.now = search rules in
+    subst (λ (name : Text). IfOk c.serve_of.result (λ task. IsTask name (rows_of f) task)) (sym named) (c.serve_of.ensures.asked (gives f _ _ device))
+
+pub returns-then-eq-8-clause-only : goal.returns-then-eq-8-clause-only
+returns-then-eq-8-clause-only c task is fits =
+    let f = found_of c.args.found.now in
+    let named : c.args.name.now ≡ codes "serve" = search rules in
+    let device : first_value f (codes "device") ≡ Some c.in-Some.device.now = search rules in
+    c.serve_of.ensures.only (gives f _ _ device) task (subst (λ (name : Text). IsTask name (rows_of f) task) named is)

@@ -3,6 +3,7 @@ use Rattle.requests.specs.Tickets.{Rises}
 use Rattle.recovery.specs.State.{asked}
 use Rattle.checkpoint.specs.StoreWords.{state_of}
 use Rattle.group_commit.specs.DeskWords.{store_of, held_of, due_of}
+use Rattle.intake.specs.Ends.{HasTaken}
 use Rattle.committer.specs.Turns.{HoldsNoLater}
 use Rattle.committer.proofs.committer.fill.Given as goal
 
@@ -18,4 +19,5 @@ invariant-loop g l = record {
   empties : l.taker.empties ≡ l.initial.taker.empties;
   no_later : HoldsNoLater (state_of (store_of l.desk)).tickets (held_of l.desk) l.taker.starts l.taker.got;
   rises : Rises l.taker.starts (asked l.taker.got);
+  taken : HasTaken l.initial.taker l.taker;
 }

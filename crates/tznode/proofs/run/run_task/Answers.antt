@@ -1,5 +1,5 @@
 use Rattle.clap.specs.Walk.{texts}
-use Rattle.asked_tasks.specs.declared.task.Task.TheVariants.{Format, Show, Edit, Resume, Route, Check, Migrate}
+use Rattle.asked_tasks.specs.declared.task.Task.TheVariants.{Format, Show, Edit, Resume, Route, Check, Migrate, Serve}
 use Rattle.tznode.proofs.Faults.{ends_task, refused_for}
 use Rattle.tznode.proofs.run.run_task.Goals as goal
 
@@ -30,6 +30,10 @@ returns-in-Ok-Check-clause-fault g c =
 pub returns-in-Ok-Migrate-clause-fault : goal.returns-in-Ok-Migrate-clause-fault
 returns-in-Ok-Migrate-clause-fault g c =
     ends_task c.run_migrate.result (texts c.args.words.now) c.in-Ok-Migrate.field-0 (Migrate c.in-Ok-Migrate.old c.in-Ok-Migrate.new) c.in-Ok-Migrate.ensures.asked c.in-Ok-Migrate.field-0-is c.run_migrate.ensures.fault
+
+pub returns-in-Ok-Serve-clause-fault : goal.returns-in-Ok-Serve-clause-fault
+returns-in-Ok-Serve-clause-fault g c =
+    ends_task c.run_serve.result (texts c.args.words.now) c.in-Ok-Serve.field-0 (Serve c.in-Ok-Serve.device c.in-Ok-Serve.editors c.in-Ok-Serve.forwarders c.in-Ok-Serve.places c.in-Ok-Serve.words) c.in-Ok-Serve.ensures.asked c.in-Ok-Serve.field-0-is c.run_serve.ensures.fault
 
 pub returns-in-Err-clause-fault : goal.returns-in-Err-clause-fault
 returns-in-Err-clause-fault g c = refused_for (texts c.args.words.now) c.in-Err.refused c.fault_of.result c.fault_of.ensures c.in-Err.ensures.refused

@@ -1,0 +1,169 @@
+// What ends a run without its lines, and outputs that refuse.
+use crate::helpers::{
+    Asked, blank, expect_run, fresh, got, holds, reopened, run_plain, same, text_of,
+};
+use disk_trait::{CrashDisk, Disk, MemDisk};
+use std::alloc::Global;
+use std::io::{self, ErrorKind, Write};
+use std::process::Abort;
+use std::sync::Wait;
+use std::thread::Threads;
+
+// Bytes that are put on a fresh device of five nodes and their place, the landmark words, the status and what is told.
+type Row = (usize, &'static [u8], &'static str, u8, &'static str);
+
+const WORN: [u8; 8] = [0x7f, 0xff, 0xff, 0xff, 0xff, 0xff, 0xff, 0xff];
+
+// The last rows have the count and the ticket of session 0 at their limit.
+const FAULTS: [Row; 6] = [
+    (0, b"T", "at:5", 2, "tznode: words not understood\n"),
+    (0, b"t", "at:5", 1, "tznode: not formatted\n"),
+    (7, b"9", "at:0", 1, "tznode: layout not known\n"),
+    (4096, b"\0", "at:0", 1, "tznode: damaged\n"),
+    (4105, &WORN, "at:0", 1, "tznode: worn out\n"),
+    (4119, &WORN, "none", 1, "tznode: worn out\n"),
+];
+
+fn put(rt: &impl Abort, disk: &mut MemDisk, at: usize, bytes: &[u8]) {
+    if disk.len() < bytes.len() || disk.len() - bytes.len() < at {
+        panic!(rt; "no place there");
+    }
+    got(rt, disk.write_at(at, bytes));
+}
+
+fn asked(words: &str) -> Asked<'_> {
+    Asked {
+        words,
+        numbers: (1, 1, 1),
+        script: "route 0 0\n0 add:0:1:1\n",
+    }
+}
+
+#[test]
+fn faults_of_the_device(rt: HostRuntime) {
+    let alloc = rt.alloc();
+    for (at, bytes, words, status, told) in &FAULTS {
+        let mut disk = fresh(&rt, alloc, 5);
+        put(&rt, &mut disk, *at, bytes);
+        let _disk = expect_run(&rt, alloc, disk, &asked(words), (*status, "", told));
+    }
+    let want = (1, "", "tznode: not formatted\n");
+    let _disk = expect_run(&rt, alloc, blank(&rt, alloc, 10), &asked("at:0"), want);
+}
+
+const PATH: Asked<'static> = Asked {
+    words: "none",
+    numbers: (1, 1, 2),
+    script: "0 add:0:1:1\n0 add:1:2:1\nroute 0 0\n0 add:2:3:1\n0 add:3:4:1",
+};
+
+const FAILED: (u8, &str, &str) = (1, "", "tznode: device failed\n");
+
+// Sees that the first edges of the path are there, as many as the count says.
+fn holds_a_beginning(rt: &impl Abort, alloc: Global, disk: MemDisk) {
+    let store = reopened(rt, alloc, disk);
+    let count = store.count();
+    same(rt, count <= 4, true, "at most four changes");
+    for node in 0..4u16 {
+        let there = store.graph().weight(node, node + 1).is_some();
+        same(rt, there, (node as u64) < count, "an edge");
+    }
+    same(rt, store.graph().edges() as u64, count, "edges");
+}
+
+// Whether the run fails with this call of the device: then with the device's fault and no line, and what was accepted is there.
+fn fails_at<R: Threads + Wait + Abort + Sync>(rt: &R, alloc: Global, call: u64) -> bool {
+    let mut disk = fresh(rt, alloc, 5);
+    disk.fail_at(call);
+    let (mut out, mut err) = (Vec::new(alloc), Vec::new(alloc));
+    let (status, disk) = run_plain(rt, alloc, disk, &PATH, &mut out, &mut err);
+    let disk = got(rt, disk.ok_or("no thread"));
+    if status != 0 {
+        let found = (status, text_of(rt, &out), text_of(rt, &err));
+        same(rt, found, FAILED, "a call that fails");
+    }
+    holds_a_beginning(rt, alloc, disk.crash(256));
+    status != 0
+}
+
+#[test]
+fn each_device_call_fails(rt: HostRuntime) {
+    let mut failed = 0;
+    for call in 1..60u64 {
+        if !fails_at(&rt, rt.alloc(), call) {
+            break;
+        }
+        failed = call;
+    }
+    // Four commits take sixteen calls, and the opening some more.
+    same(&rt, failed > 16 && failed < 59, true, "calls that fail");
+}
+
+/// A writer that takes so many bytes, and then refuses.
+#[derive(Drop)]
+struct Narrow {
+    left: usize,
+    flushes: bool,
+}
+
+impl Write for Narrow {
+    fn write(&mut self, buf: &[u8]) -> io::Result<usize> {
+        if self.left == 0 && !buf.is_empty() {
+            return Err(io::Error::from(ErrorKind::BrokenPipe));
+        }
+        let taken = self.left.min(buf.len());
+        self.left -= taken;
+        Ok(taken)
+    }
+
+    fn flush(&mut self) -> io::Result<()> {
+        if self.flushes {
+            Ok(())
+        } else {
+            Err(io::Error::from(ErrorKind::BrokenPipe))
+        }
+    }
+}
+
+const TWO_EDITS: Asked<'static> = Asked {
+    words: "at:0",
+    numbers: (2, 2, 64),
+    script: "0 add:0:1:1\n0 set:0:1:2",
+};
+
+// A writer that takes nothing, one that takes all 34 bytes but the last, and one that takes all and can't be flushed.
+const OUTPUTS: [(usize, bool); 3] = [(0, true), (33, true), (34, false)];
+
+// What couldn't be printed was done all the same.
+#[test]
+fn outputs_that_refuse(rt: HostRuntime) {
+    let alloc = rt.alloc();
+    for (left, flushes) in &OUTPUTS {
+        let mut out = Narrow {
+            left: *left,
+            flushes: *flushes,
+        };
+        let mut err = Vec::new(alloc);
+        let disk = fresh(&rt, alloc, 5);
+        let (status, disk) = run_plain(&rt, alloc, disk, &TWO_EDITS, &mut out, &mut err);
+        let want = (1, "tznode: input or output failed\n");
+        same(&rt, (status, text_of(&rt, &err)), want, "told");
+        let store = reopened(&rt, alloc, got(&rt, disk.ok_or("no thread")));
+        holds(&rt, &store, (2, 1, 2));
+        same(&rt, store.graph().weight(0, 1), Some(2), "the edge");
+    }
+}
+
+// A fault that nobody hears has its status all the same.
+#[test]
+fn a_fault_that_is_not_heard(rt: HostRuntime) {
+    let alloc = rt.alloc();
+    let mut deaf = Narrow {
+        left: 0,
+        flushes: false,
+    };
+    let mut out = Vec::new(alloc);
+    let disk = fresh(&rt, alloc, 5);
+    let (status, _disk) = run_plain(&rt, alloc, disk, &asked("at:5"), &mut out, &mut deaf);
+    same(&rt, (status, text_of(&rt, &out)), (2, ""), "status");
+}

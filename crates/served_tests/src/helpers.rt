@@ -1,0 +1,146 @@
+// What the tests share: devices, and scripts that are run on them.
+use checkpoint::{DEVICE_LEN, Store, format};
+use disk_trait::{Disk, MemDisk};
+use given_words::landmark_words;
+use scripts::script;
+use served_lines::serve_on;
+use serving::{Gate, Seats, Ungated};
+use std::alloc::Global;
+use std::fmt::Debug;
+use std::io::Write;
+use std::process::Abort;
+use std::str;
+use std::sync::Wait;
+use std::thread::Threads;
+
+/// The value of an answer that has to have one.
+pub(crate) fn got<T, E: Drop>(rt: &impl Abort, answer: Result<T, E>) -> T {
+    match answer {
+        Ok(value) => value,
+        Err(_) => panic!(rt; "no value"),
+    }
+}
+
+/// Sees that two values are the same.
+pub(crate) fn same<T: Copy + PartialEq + Debug>(rt: &impl Abort, found: T, want: T, name: &str) {
+    assert_eq!(rt; found, want, "{name}");
+}
+
+/// A disk of so many zeros, asked for again where memory was short.
+pub(crate) fn blank(rt: &impl Abort, alloc: Global, len: usize) -> MemDisk {
+    match MemDisk::new(alloc, len) {
+        Ok(disk) => disk,
+        Err(_) => got(rt, MemDisk::new(alloc, len)),
+    }
+}
+
+/// A fresh device.
+pub(crate) fn fresh(rt: &impl Abort, alloc: Global, nodes: u16) -> MemDisk {
+    let mut disk = blank(rt, alloc, DEVICE_LEN);
+    got(rt, format(&mut disk, nodes));
+    disk
+}
+
+/// The store of a disk, opened again where memory was short.
+pub(crate) fn reopened<D: Disk + Drop>(rt: &impl Abort, alloc: Global, disk: D) -> Store<D> {
+    match Store::open(alloc, disk) {
+        Ok(store) => store,
+        Err((_, disk)) => got(rt, Store::open(alloc, disk)),
+    }
+}
+
+/// Bytes as text.
+pub(crate) fn text_of<'a>(rt: &impl Abort, bytes: &'a [u8]) -> &'a str {
+    got(rt, str::from_utf8(bytes))
+}
+
+/// How many editors, forwarders and places in the queue there are.
+pub(crate) type Numbers = (u8, u8, u8);
+
+/// The landmark words, the numbers and the script of a run.
+#[derive(Clone, Copy)]
+pub(crate) struct Asked<'a> {
+    pub(crate) words: &'a str,
+    pub(crate) numbers: Numbers,
+    pub(crate) script: &'a str,
+}
+
+// So many editors, forwarders and places.
+fn seats_of(numbers: Numbers) -> Seats {
+    let (editors, forwarders, places) = numbers;
+    Seats {
+        editors,
+        forwarders,
+        places,
+    }
+}
+
+/// Runs a script on a disk. The disk lacks where no thread was made for it.
+pub(crate) fn run<D, G, R, O, E>(
+    rt: &R,
+    alloc: Global,
+    disk: D,
+    asked: &Asked<'_>,
+    gate: &G,
+    out: &mut O,
+    err: &mut E,
+) -> (u8, Option<D>)
+where
+    D: Disk + Drop + Send,
+    G: Gate + Sync,
+    R: Threads + Wait + Abort + Sync,
+    O: Write,
+    E: Write,
+{
+    let seats = seats_of(asked.numbers);
+    assert!(rt; 1 <= seats.editors && seats.editors <= 64);
+    assert!(rt; 1 <= seats.forwarders && seats.forwarders <= 64);
+    assert!(rt; 1 <= seats.places && seats.places <= 64);
+    let script = match script(alloc, asked.script, seats.editors) {
+        Ok(lines) => lines.expect(rt, "a script"),
+        Err(_) => script(alloc, asked.script, seats.editors)
+            .expect(rt, "memory")
+            .expect(rt, "a script"),
+    };
+    let words = match landmark_words(alloc, asked.words) {
+        Ok(words) => words.expect(rt, "words"),
+        Err(_) => landmark_words(alloc, asked.words)
+            .expect(rt, "memory")
+            .expect(rt, "words"),
+    };
+    serve_on(rt, alloc, disk, words, seats, script, gate, out, err)
+}
+
+/// Runs a script on a disk in memory, with no gate.
+pub(crate) fn run_plain<R: Threads + Wait + Abort + Sync, O: Write, E: Write>(
+    rt: &R,
+    alloc: Global,
+    disk: MemDisk,
+    asked: &Asked<'_>,
+    out: &mut O,
+    err: &mut E,
+) -> (u8, Option<MemDisk>) {
+    run(rt, alloc, disk, asked, &Ungated, out, err)
+}
+
+/// Runs a script on a disk in memory, sees the status and all that is printed and told, and gives the disk back.
+pub(crate) fn expect_run<R: Threads + Wait + Abort + Sync>(
+    rt: &R,
+    alloc: Global,
+    disk: MemDisk,
+    asked: &Asked<'_>,
+    want: (u8, &str, &str),
+) -> MemDisk {
+    let mut out = Vec::new(alloc);
+    let mut err = Vec::new(alloc);
+    let (status, disk) = run_plain(rt, alloc, disk, asked, &mut out, &mut err);
+    let found = (status, text_of(rt, &out), text_of(rt, &err));
+    same(rt, found, want, asked.script);
+    got(rt, disk.ok_or("no thread"))
+}
+
+/// Sees the count of a store, its edges, and the last ticket of its first session.
+pub(crate) fn holds<D: Disk>(rt: &impl Abort, store: &Store<D>, want: (u64, usize, u64)) {
+    let found = (store.count(), store.graph().edges(), store.resume(0));
+    same(rt, found, want, "count, edges, last ticket");
+}

@@ -1,0 +1,1 @@
+//! The command `serve`, on real files.
