@@ -74,7 +74,7 @@ fn start<'s, E, J: Naming + Send + Sync, G: Gate + Sync, R: Wait + Sync>(
     }
 }
 
-// What the threads answered.
+// What the threads answered. All of them have ended then, also where memory ran out: the board must outlive them.
 fn joined<R: Threads>(
     rt: &R,
     alloc: Global,
@@ -88,11 +88,15 @@ fn joined<R: Threads>(
     } = started;
     let mut verdicts = Vec::new(alloc);
     let mut carried = Vec::new(alloc);
+    let mut all = true;
     for handle in editing {
-        verdicts.push(handle.join(rt))?;
+        all = verdicts.push(handle.join(rt)).is_ok() && all;
     }
     for handle in forwarding {
-        carried.push(handle.join(rt))?;
+        all = carried.push(handle.join(rt)).is_ok() && all;
+    }
+    if !all {
+        return Err(AllocError);
     }
     Ok(Worked {
         verdicts,
