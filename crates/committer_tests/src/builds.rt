@@ -1,124 +1,76 @@
 // Generations: built once for each count, the newest four on the shelf, and packets in them.
 ghost use Rattle.std.specs.Prelude.{◌≡◌};
-ghost use Rattle.committer.specs.CommitterWords.{posts_of};
 
-use crate::seats::{AT_THREE, AT_TWO, PATH, fresh, rounds, seated, submit};
-use committer::{Committer, RebuildRefused};
-use disk_trait::MemDisk;
+use crate::seats::{AT_THREE, AT_TWO, PATH, Seats, Shelf, armed, got, same};
+use committer::RebuildRefused;
+use disk_trait::Plan;
 use forwarders::{Forwarder, Refused};
-use generations::BoardReader;
 use graph_edits::Op;
-use intake::Editor;
 use linked_list_allocator::LocalHeap;
 use node_table::{Move, Packet};
 use packet_bytes::Wire;
 use std::alloc::Global;
 use std::process::Abort;
 use std::sync::Wait;
-use std::test::Fail;
 
-/// The numbers of the oldest and of the newest generation on the shelf, and how many there are.
-fn shelf(rt: &impl Abort, reader: BoardReader) -> (BoardReader, (u64, u64, usize)) {
-    let Ok(look) = reader.look() else {
-        panic!(rt; "no look");
-    };
-    let shelf = look.board().shelf();
-    let oldest = match shelf.first() {
-        Some(Some(shelved)) => shelved.number,
-        _ => 0,
-    };
-    let newest = match shelf.last() {
-        Some(Some(shelved)) => shelved.number,
-        _ => 0,
-    };
-    let found = (oldest, newest, shelf.len());
-    (look.leave(), found)
+/// The words of a rebuild, whether its heap is the large one, the answer, and the shelf.
+type Rebuild = ([u64; 5], bool, Result<u64, RebuildRefused>, Shelf);
+
+const REBUILDS: [Rebuild; 4] = [
+    (AT_TWO, false, Err(RebuildRefused::Memory), (0, 0, 0)),
+    (AT_TWO, true, Ok(1), (1, 1, 1)),
+    (AT_THREE, true, Ok(1), (1, 1, 1)),
+    (AT_THREE, false, Ok(1), (1, 1, 1)),
+];
+
+#[test]
+fn builds_once_for_each_count(rt: HostRuntime) {
+    let alloc = rt.alloc();
+    let small = got(&rt, LocalHeap::new(alloc, 64));
+    let large = got(&rt, LocalHeap::new(alloc, 1_048_576));
+    let mut at = armed(rt, alloc, 64, Plan::None);
+    at.submits(&rt, 0, 1, &PATH);
+    at.settles(&rt, alloc, 1, 1);
+    for (words, ample, want, shelf) in &REBUILDS {
+        let heap = if *ample { &large } else { &small };
+        let answer = at.rebuild(alloc, words, heap);
+        same(&rt, answer, *want, "a rebuild");
+        at = at.shows(&rt, *shelf);
+    }
+    let _disk = at.into_disk();
 }
 
-/// Builds the generation of this number.
-pub(crate) fn builds<R: Wait + Abort + Drop>(
-    rt: &R,
-    alloc: Global,
-    committer: &mut Committer<MemDisk, R>,
-    heap: &LocalHeap,
-    number: u64,
-)
-    ensures { (posts_of committer.new).opening ≡ (posts_of committer.old).opening }
-{
-    let built = committer.rebuild(alloc, &AT_TWO, heap);
-    assert!(rt; built == Ok(number));
-}
-
-// The next change of the path, and its generation.
+// The next change of a session, and its generation: the path, or another weight of its first edge.
 fn goes_on<R: Wait + Abort + Drop>(
     rt: &R,
     alloc: Global,
-    committer: &mut Committer<MemDisk, R>,
-    editor: &mut Editor,
+    at: &mut Seats<R>,
+    session: u8,
     heap: &LocalHeap,
     number: u64,
-)
-    ensures { (posts_of committer.new).opening ≡ (posts_of committer.old).opening }
-{
+) {
+    let weight = got(rt, u32::try_from(number));
     if number == 1 {
-        submit(rt, editor, number, &PATH);
+        at.submits(rt, session, number, &PATH);
     } else {
-        let weight = u32::try_from(number).ok().expect(rt, "a weight");
-        submit(rt, editor, number, &[Op::Set(0, 1, weight)]);
+        at.submits(rt, session, number, &[Op::Set(0, 1, weight)]);
     }
-    rounds(rt, alloc, committer, 1, 1);
-    builds(rt, alloc, committer, heap, number);
+    at.settles(rt, alloc, 1, 1);
+    at.builds(rt, alloc, heap, number);
 }
 
-#[test]
-fn builds_once_for_each_count(rt: HostRuntime) -> Result<(), Fail> {
-    let alloc = rt.alloc();
-    let (small, large) = (
-        LocalHeap::new(alloc, 64)?,
-        LocalHeap::new(alloc, 1_048_576)?,
-    );
-    let mut at = seated(rt, alloc, fresh(&rt, alloc), 64)?;
-    submit(&rt, &mut at.first, 1, &PATH);
-    rounds(&rt, alloc, &mut at.committer, 1, 1);
-    // The words, whether the heap is the large one, the answer, and the shelf.
-    let rows = [
-        (AT_TWO, false, Err(RebuildRefused::Memory), (0, 0, 0)),
-        (AT_TWO, true, Ok(1), (1, 1, 1)),
-        (AT_THREE, true, Ok(1), (1, 1, 1)),
-        (AT_THREE, false, Ok(1), (1, 1, 1)),
-    ];
-    let mut reader = at.reader;
-    for (words, ample, want, stands) in rows {
-        let heap = if ample { &large } else { &small };
-        let given: &[u64] = &words;
-        let answer = at.committer.rebuild(alloc, given, heap);
-        assert!(&rt; answer == want);
-        let (back, found) = shelf(&rt, reader);
-        assert!(&rt; found == stands);
-        reader = back;
-    }
-    Ok(())
-}
+const SHELVES: [Shelf; 5] = [(1, 1, 1), (1, 2, 2), (1, 3, 3), (1, 4, 4), (2, 5, 4)];
 
 #[test]
-fn keeps_the_newest_four(rt: HostRuntime) -> Result<(), Fail> {
+fn keeps_the_newest_four(rt: HostRuntime) {
     let alloc = rt.alloc();
-    let heap = LocalHeap::new(alloc, 1_048_576)?;
-    let mut at = seated(rt, alloc, fresh(&rt, alloc), 64)?;
-    let mut reader = at.reader;
-    for (number, stands) in [
-        (1u64, (1, 1, 1)),
-        (2, (1, 2, 2)),
-        (3, (1, 3, 3)),
-        (4, (1, 4, 4)),
-        (5, (2, 5, 4)),
-    ] {
-        goes_on(&rt, alloc, &mut at.committer, &mut at.second, &heap, number);
-        let (back, found) = shelf(&rt, reader);
-        assert!(&rt; found == stands);
-        reader = back;
+    let heap = got(&rt, LocalHeap::new(alloc, 1_048_576));
+    let mut at = armed(rt, alloc, 64, Plan::None);
+    for shelf in &SHELVES {
+        goes_on(&rt, alloc, &mut at, 1, &heap, shelf.1);
+        at = at.shows(&rt, *shelf);
     }
-    Ok(())
+    let _disk = at.into_disk();
 }
 
 // The packet that node 0 sends to node 4 in the newest generation, and that generation's number.
@@ -134,7 +86,9 @@ fn launched(forwarder: &mut Forwarder) -> Result<(u64, Packet), Refused>
 }
 
 /// The nodes of a packet's way from node 0 in the newest generation to node 4, as digits behind the generation's number.
-pub(crate) fn trip(forwarder: &mut Forwarder) -> Result<(u64, u32), Refused> {
+pub(crate) fn trip(forwarder: &mut Forwarder) -> Result<(u64, u32), Refused>
+    ensures { forwarder.new.opening ≡ forwarder.old.opening }
+{
     let (newest, mut packet) = launched(forwarder)?;
     let (mut at, mut nodes) = (0u16, 0u32);
     for _ in 0..9 {
@@ -157,43 +111,69 @@ pub(crate) fn trip(forwarder: &mut Forwarder) -> Result<(u64, u32), Refused> {
     Err(Refused::Spent)
 }
 
+// A packet that the one forwarder launches in the newest generation, which has this number.
+fn launches<R: Wait + Abort + Drop>(rt: &R, at: &mut Seats<R>, number: u64) -> Packet {
+    let (newest, packet) = got(rt, launched(&mut at.one));
+    same(rt, newest, number, "the newest generation");
+    packet
+}
+
+// The packet as it goes on from a node to this one.
+fn forwards<R: Wait + Abort + Drop>(
+    rt: &R,
+    at: &mut Seats<R>,
+    node: u16,
+    packet: Packet,
+    to: u16,
+) -> Packet {
+    match at.one.hop(node, packet) {
+        Ok(Move::Forward { next, packet, .. }) => {
+            same(rt, next, to, "the next node");
+            packet
+        }
+        _ => panic!(rt; "not forwarded"),
+    }
+}
+
+// The packet as it comes back from a node, since its generation is gone.
+fn comes_back<R: Wait + Abort + Drop>(
+    rt: &R,
+    at: &mut Seats<R>,
+    node: u16,
+    packet: Packet,
+) -> Packet {
+    match at.one.hop(node, packet) {
+        Err((refused, back)) => {
+            same(rt, refused, Refused::GenerationGone, "why it comes back");
+            back
+        }
+        Ok(_) => panic!(rt; "forwarded"),
+    }
+}
+
+const FRONT: [u8; 19] = [0, 0, 0, 0, 0, 0, 0, 1, 0, 4, 0, 2, 0, 4, 0, 3, 1, 0, 1];
+
 // A packet of generation 1 goes on while four generations are there. Behind the fifth it comes back as it was, and is sent again
 // from where it came from.
 #[test]
-fn refuses_a_packet_of_a_generation_that_left(rt: HostRuntime) -> Result<(), Fail> {
+fn refuses_a_packet_of_a_generation_that_left(rt: HostRuntime) {
     let alloc = rt.alloc();
-    let heap = LocalHeap::new(alloc, 1_048_576)?;
-    let mut at = seated(rt, alloc, fresh(&rt, alloc), 64)?;
-    goes_on(&rt, alloc, &mut at.committer, &mut at.first, &heap, 1);
-    let told = at.committer.told();
-    at.one.learn(&told);
-    let Ok((1, packet)) = launched(&mut at.one) else {
-        panic!(&rt; "not launched");
-    };
+    let heap = got(&rt, LocalHeap::new(alloc, 1_048_576));
+    let mut at = armed(rt, alloc, 64, Plan::None);
+    goes_on(&rt, alloc, &mut at, 0, &heap, 1);
+    at.forwarders_hear();
+    let packet = launches(&rt, &mut at, 1);
     for number in 2..5u64 {
-        goes_on(&rt, alloc, &mut at.committer, &mut at.first, &heap, number);
+        goes_on(&rt, alloc, &mut at, 0, &heap, number);
     }
-    let told = at.committer.told();
-    at.one.learn(&told);
-    let Ok(
-        Move::Forward {
-            next: 1,
-            packet,
-            ..
-        },
-    ) = at.one.hop(0, packet)
-    else {
-        panic!(&rt; "not forwarded");
-    };
+    at.forwarders_hear();
+    let packet = forwards(&rt, &mut at, 0, packet, 1);
     let bytes = packet.to_bytes();
-    assert!(&rt; bytes.starts_with(&[0, 0, 0, 0, 0, 0, 0, 1, 0, 4, 0, 2, 0, 4, 0, 3, 1, 0, 1]));
-    goes_on(&rt, alloc, &mut at.committer, &mut at.first, &heap, 5);
-    let told = at.committer.told();
-    at.one.learn(&told);
-    let Err((Refused::GenerationGone, back)) = at.one.hop(1, packet) else {
-        panic!(&rt; "forwarded");
-    };
-    assert!(&rt; back.to_bytes() == bytes);
-    assert!(&rt; trip(&mut at.one) == Ok((5, 1234)));
-    Ok(())
+    same(&rt, bytes.starts_with(&FRONT), true, "the packet's bytes");
+    goes_on(&rt, alloc, &mut at, 0, &heap, 5);
+    at.forwarders_hear();
+    let back = comes_back(&rt, &mut at, 1, packet);
+    same(&rt, back.to_bytes(), bytes, "the packet that comes back");
+    same(&rt, trip(&mut at.one), Ok((5, 1234)), "the trip");
+    let _disk = at.into_disk();
 }

@@ -1,97 +1,118 @@
 // Worked rounds: marks, bytes and outcomes.
-use crate::seats::{change, fresh, rounds, seated, submit};
-use disk_trait::{Disk, MemDisk};
+use crate::seats::{Left, Seats, armed, comes_back, left, same};
+use disk_trait::Plan;
 use graph_edits::{Code, Op};
 use intake::{Outcome, SubmitRefused};
+use std::alloc::Global;
 use std::process::Abort;
-use std::test::Fail;
-
-// Where the first journal begins.
-const JOURNAL: usize = 532_480;
-
-// The first bytes of the journal.
-fn journal(rt: &impl Abort, disk: &mut MemDisk) -> [u8; 64] {
-    let mut bytes = [0; 64];
-    assert!(rt; JOURNAL + 64 <= disk.len());
-    assert!(rt; disk.read(JOURNAL, &mut bytes).is_ok());
-    bytes
-}
+use std::sync::Wait;
 
 #[test]
-fn refuses_a_change_whole(rt: HostRuntime) -> Result<(), Fail> {
+fn refuses_a_change_whole(rt: HostRuntime) {
     let alloc = rt.alloc();
-    let mut at = seated(rt, alloc, fresh(&rt, alloc), 64)?;
-    submit(&rt, &mut at.first, 1, &[Op::Add(0, 1, 7), Op::Cut(2, 3)]);
-    rounds(&rt, alloc, &mut at.committer, 1, 0);
-    let told = at.committer.told();
-    at.first.learn(&told);
+    let mut at = armed(rt, alloc, 64, Plan::None);
+    at.submits(&rt, 0, 1, &[Op::Add(0, 1, 7), Op::Cut(2, 3)]);
+    at.settles(&rt, alloc, 1, 0);
+    at.hears(0);
     let (ticket, op, code) = (1, 1, Code::NoEdge);
-    let outcome = at.first.outcome();
-    assert!(&rt; outcome == Ok(Outcome::Refused { ticket, op, code }));
-    let store = at.committer.store();
-    assert!(&rt; (store.count(), store.starts()[0]) == (0, 0));
-    assert!(&rt; store.graph().weight(0, 1).is_none());
-    let mut disk = at.committer.into_store().into_disk();
-    assert!(&rt; journal(&rt, &mut disk) == [0; 64]);
-    Ok(())
+    at.has(&rt, 0, Outcome::Refused { ticket, op, code });
+    let nothing = (0, 0, 0, [None, None]);
+    same(&rt, left(at.committer.store()), nothing, "what is left");
+    same(&rt, at.journal(&rt), [0; 64], "the journal");
+}
+
+const TWO: [Op; 1] = [Op::Add(1, 2, 1)];
+
+// The one place is taken, and the first editor's change isn't settled.
+fn both_come_back<R: Wait + Abort + Drop>(rt: &R, at: &mut Seats<R>) {
+    comes_back(rt, &mut at.second, 1, &TWO, SubmitRefused::QueueFull);
+    comes_back(rt, &mut at.first, 2, &TWO, SubmitRefused::Busy);
 }
 
 // One place: the second editor's change comes back until the first one's is taken.
 #[test]
-fn settles_two_editors_over_one_place(rt: HostRuntime) -> Result<(), Fail> {
+fn settles_two_editors_over_one_place(rt: HostRuntime) {
     let alloc = rt.alloc();
-    let mut at = seated(rt, alloc, fresh(&rt, alloc), 1)?;
-    let (one, two) = ([Op::Add(0, 1, 1)], [Op::Add(1, 2, 1)]);
-    submit(&rt, &mut at.first, 1, &one);
-    let full = at.second.submit(&rt, 1, change(&rt, &two));
-    assert!(&rt; full == Err((SubmitRefused::QueueFull, change(&rt, &two))));
-    let busy = at.first.submit(&rt, 2, change(&rt, &two));
-    assert!(&rt; busy == Err((SubmitRefused::Busy, change(&rt, &two))));
-    rounds(&rt, alloc, &mut at.committer, 1, 1);
-    submit(&rt, &mut at.second, 1, &two);
-    rounds(&rt, alloc, &mut at.committer, 1, 1);
-    rounds(&rt, alloc, &mut at.committer, 0, 0);
-    let told = at.committer.told();
-    at.first.learn(&told);
-    at.second.learn(&told);
+    let mut at = armed(rt, alloc, 1, Plan::None);
+    at.submits(&rt, 0, 1, &[Op::Add(0, 1, 1)]);
+    both_come_back(&rt, &mut at);
+    at.settles(&rt, alloc, 1, 1);
+    at.submits(&rt, 1, 1, &TWO);
+    at.settles(&rt, alloc, 1, 1);
+    at.settles(&rt, alloc, 0, 0);
+    at.hears(0);
+    at.hears(1);
     let (ticket, count) = (1, 1);
-    assert!(&rt; at.first.outcome() == Ok(Outcome::Accepted { ticket, count }));
+    at.has(&rt, 0, Outcome::Accepted { ticket, count });
     let count = 2;
-    assert!(&rt; at.second.outcome() == Ok(Outcome::Accepted { ticket, count }));
-    Ok(())
+    at.has(&rt, 1, Outcome::Accepted { ticket, count });
+    let _disk = at.into_disk();
+}
+
+/// What each of two sessions asks for, how many changes are accepted, what becomes of each, what is left, and the first bytes of
+/// the journal.
+struct Group {
+    asked: [&'static [Op]; 2],
+    accepted: usize,
+    outcomes: [Outcome; 2],
+    left: Left,
+    record: &'static [u8],
+}
+
+const FIRST: Outcome = Outcome::Accepted {
+    ticket: 1,
+    count: 1,
+};
+
+const GROUPS: [Group; 2] = [
+    Group {
+        asked: [&[Op::Add(0, 1, 1)], &[Op::Add(1, 0, 2)]],
+        accepted: 1,
+        outcomes: [
+            FIRST,
+            Outcome::Refused {
+                ticket: 1,
+                op: 0,
+                code: Code::EdgeThere,
+            },
+        ],
+        left: (1, 1, 1, [Some(1), None]),
+        record: b"\x01\x00\x00\x00\x15\x00\x01\x00\x00\x00\x00\x00\x00\x00\x00\x01\x01\x01\x00\x00\x00\x01\x00\x00\x00\x01\x00",
+    },
+    Group {
+        asked: [
+            &[Op::Add(0, 1, 7)],
+            &[Op::Set(1, 0, 9), Op::Cut(0, 1), Op::Add(3, 2, 5)],
+        ],
+        accepted: 2,
+        outcomes: [
+            FIRST,
+            Outcome::Accepted {
+                ticket: 1,
+                count: 2,
+            },
+        ],
+        left: (2, 1, 1, [None, Some(5)]),
+        record: b"\x01\x00\x00\x00\x3a\x00\x02\x00\x00\x00\x00\x00\x00\x00\x00\x01\x01\x01\x00\x00\x00\x01\x00\x00\x00\x07\x01\x00\x00\x00\x00\x00\x00\x00\x01\x03\x02\x00\x01\x00\x00\x00\x00\x00\x09\x03\x00\x00\x00\x01\x00\x00\x00\x00\x01\x00\x03\x00\x02\x00\x00\x00\x05\x00",
+    },
+];
+
+fn settles_group<R: Wait + Abort + Copy + Drop>(rt: R, alloc: Global, group: &Group) {
+    let mut at = armed(rt, alloc, 64, Plan::None);
+    at.submits(&rt, 0, 1, group.asked[0]);
+    at.submits(&rt, 1, 1, group.asked[1]);
+    at.settles(&rt, alloc, 2, group.accepted);
+    at.has(&rt, 0, group.outcomes[0]);
+    at.has(&rt, 1, group.outcomes[1]);
+    same(&rt, left(at.committer.store()), group.left, "what is left");
+    let journal = at.journal(&rt);
+    same(&rt, journal.starts_with(group.record), true, "the record");
 }
 
 // Two sessions in one group: what the second one asks for is judged behind the first one's.
 #[test]
-fn settles_two_sessions_in_one_group(rt: HostRuntime) -> Result<(), Fail> {
-    let alloc = rt.alloc();
-    let ticket = 1;
-    let mut at = seated(rt, alloc, fresh(&rt, alloc), 64)?;
-    submit(&rt, &mut at.first, 1, &[Op::Add(0, 1, 1)]);
-    submit(&rt, &mut at.second, 1, &[Op::Add(1, 0, 2)]);
-    rounds(&rt, alloc, &mut at.committer, 2, 1);
-    let count = 1;
-    assert!(&rt; at.first.outcome() == Ok(Outcome::Accepted { ticket, count }));
-    let (op, code) = (0, Code::EdgeThere);
-    assert!(&rt; at.second.outcome() == Ok(Outcome::Refused { ticket, op, code }));
-    let mut disk = at.committer.into_store().into_disk();
-    let record =
-        b"\x01\x00\x00\x00\x15\x00\x01\x00\x00\x00\x00\x00\x00\x00\x00\x01\x01\x01\x00\x00\x00\x01\x00\x00\x00\x01\x00";
-    assert!(&rt; journal(&rt, &mut disk).starts_with(record));
-
-    let mut at = seated(rt, alloc, fresh(&rt, alloc), 64)?;
-    submit(&rt, &mut at.first, 1, &[Op::Add(0, 1, 7)]);
-    let ops = [Op::Set(1, 0, 9), Op::Cut(0, 1), Op::Add(3, 2, 5)];
-    submit(&rt, &mut at.second, 1, &ops);
-    rounds(&rt, alloc, &mut at.committer, 2, 2);
-    assert!(&rt; at.first.outcome() == Ok(Outcome::Accepted { ticket, count }));
-    let count = 2;
-    assert!(&rt; at.second.outcome() == Ok(Outcome::Accepted { ticket, count }));
-    let graph = at.committer.store().graph();
-    assert!(&rt; (graph.edges(), graph.weight(2, 3)) == (1, Some(5)));
-    let mut disk = at.committer.into_store().into_disk();
-    let records =
-        b"\x01\x00\x00\x00\x3a\x00\x02\x00\x00\x00\x00\x00\x00\x00\x00\x01\x01\x01\x00\x00\x00\x01\x00\x00\x00\x07\x01\x00\x00\x00\x00\x00\x00\x00\x01\x03\x02\x00\x01\x00\x00\x00\x00\x00\x09\x03\x00\x00\x00\x01\x00\x00\x00\x00\x01\x00\x03\x00\x02\x00\x00\x00\x05\x00";
-    assert!(&rt; journal(&rt, &mut disk) == *records);
-    Ok(())
+fn settles_two_sessions_in_one_group(rt: HostRuntime) {
+    for group in &GROUPS {
+        settles_group(rt, rt.alloc(), group);
+    }
 }

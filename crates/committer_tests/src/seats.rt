@@ -1,18 +1,20 @@
 // What the tests share: a committer over a disk in memory, with editors, forwarders and a reader of its board.
-ghost use Rattle.std.specs.Prelude.{◌≡◌, ◌<◌, [], None, IfOk, false};
+ghost use Rattle.std.specs.Prelude.{◌≡◌, ◌<◌, [], None, false};
 ghost use Rattle.checkpoint.specs.StoreWords.{is_down};
 ghost use Rattle.group_commit.specs.DeskWords.{store_of, held_of, due_of};
 ghost use Rattle.committer.specs.CommitterWords.{posts_of};
 
 use checkpoint::{DEVICE_LEN, Store, format};
-use committer::{Committer, Round, RoundRefused};
-use disk_trait::MemDisk;
+use committer::{Committer, RebuildRefused, Round, RoundRefused};
+use disk_trait::{Disk, MemDisk, Plan};
 use forwarders::Forwarder;
-use generations::{BoardReader, board};
+use generations::{Board, BoardReader, board};
 use graph_edits::{Change, Op};
 use group_commit::Desk;
-use intake::{Editor, open_intake};
+use intake::{Editor, Outcome, SubmitRefused, open_intake};
+use linked_list_allocator::LocalHeap;
 use std::alloc::{AllocError, Global};
+use std::fmt::Debug;
 use std::process::Abort;
 use std::sync::Wait;
 
@@ -28,15 +30,20 @@ pub(crate) const PATH: [Op; 4] = [
     Op::Add(3, 4, 1),
 ];
 
-/// A committer, two editors, two forwarders and a reader, all of one board.
-#[derive(Drop)]
-pub(crate) struct Seats<R: Wait + Drop> {
-    pub committer: Committer<MemDisk, R>,
-    pub first: Editor,
-    pub second: Editor,
-    pub one: Forwarder,
-    pub two: Forwarder,
-    pub reader: BoardReader,
+// Where the first journal begins.
+const JOURNAL: usize = 532_480;
+
+/// The value of an answer that has to have one.
+pub(crate) fn got<T, E: Drop>(rt: &impl Abort, answer: Result<T, E>) -> T {
+    match answer {
+        Ok(value) => value,
+        Err(_) => panic!(rt; "no value"),
+    }
+}
+
+/// Sees that two values are the same.
+pub(crate) fn same<T: Copy + PartialEq + Debug>(rt: &impl Abort, found: T, want: T, name: &str) {
+    assert_eq!(rt; found, want, "{name}");
 }
 
 /// A desk over a disk; opened once more where memory was refused.
@@ -66,6 +73,22 @@ pub(crate) fn fresh(rt: &impl Abort, alloc: Global) -> Desk<MemDisk>
     opened(rt, alloc, disk)
 }
 
+/// A committer, two editors, two forwarders and a reader, all of one board.
+#[derive(Drop)]
+pub(crate) struct Seats<R: Wait + Drop> {
+    pub committer: Committer<MemDisk, R>,
+    pub first: Editor,
+    pub second: Editor,
+    pub one: Forwarder,
+    pub two: Forwarder,
+    pub reader: BoardReader,
+    ghost first_seat: { first.known.opening ≡ (posts_of committer).opening },
+    ghost second_seat: { second.known.opening ≡ (posts_of committer).opening },
+    ghost one_seat: { one.opening ≡ (posts_of committer).opening },
+    ghost two_seat: { two.opening ≡ (posts_of committer).opening },
+    ghost reader_seat: { reader.all.opening ≡ (posts_of committer).opening },
+}
+
 /// A committer of this desk over a queue of so many places.
 pub(crate) fn seated<R: Wait + Abort + Copy + Drop>(
     rt: R,
@@ -77,11 +100,6 @@ pub(crate) fn seated<R: Wait + Abort + Copy + Drop>(
     requires due { due_of desk ≡ None }
     requires up { is_down (store_of desk) ≡ false }
     requires capacity { 0 < capacity }
-    ensures first { IfOk result (λ s. s.first.known.opening ≡ (posts_of s.committer).opening) }
-    ensures second { IfOk result (λ s. s.second.known.opening ≡ (posts_of s.committer).opening) }
-    ensures one { IfOk result (λ s. s.one.opening ≡ (posts_of s.committer).opening) }
-    ensures two { IfOk result (λ s. s.two.opening ≡ (posts_of s.committer).opening) }
-    ensures reader { IfOk result (λ s. s.reader.all.opening ≡ (posts_of s.committer).opening) }
 {
     let (starts, count) = (desk.starts(), desk.store().count());
     let (writer, mut readers) = board(alloc, rt, 5, &starts, count)?;
@@ -101,21 +119,56 @@ pub(crate) fn seated<R: Wait + Abort + Copy + Drop>(
     })
 }
 
-/// A change of these ops.
-pub(crate) fn change(rt: &impl Abort, ops: &[Op]) -> Change {
+/// A committer of a fresh device for five nodes, whose calls fail by this plan.
+pub(crate) fn armed<R: Wait + Abort + Copy + Drop>(
+    rt: R,
+    alloc: Global,
+    capacity: usize,
+    plan: Plan,
+) -> Seats<R>
+    requires { 0 < capacity }
+{
+    let mut desk = fresh(&rt, alloc);
+    desk.arm(plan);
+    got(&rt, seated(rt, alloc, desk, capacity))
+}
+
+// A change of these ops.
+fn change(rt: &impl Abort, ops: &[Op]) -> Change {
     Change::new(ops).expect(rt, "a change")
 }
 
-/// Submits a change under a ticket.
-pub(crate) fn submit<R: Wait + Abort>(rt: &R, editor: &mut Editor, ticket: u64, ops: &[Op])
+// Submits a change under a ticket.
+fn submit<R: Wait + Abort>(rt: &R, editor: &mut Editor, ticket: u64, ops: &[Op])
     ensures { editor.new.known.opening ≡ editor.old.known.opening }
 {
-    let change = change(rt, ops);
-    assert!(rt; editor.submit(rt, ticket, change).is_ok());
+    let answer = editor.submit(rt, ticket, change(rt, ops));
+    same(rt, answer.is_ok(), true, "submitted");
+}
+
+/// Submits a change under a ticket, which is refused and given back.
+pub(crate) fn comes_back<R: Wait + Abort>(
+    rt: &R,
+    editor: &mut Editor,
+    ticket: u64,
+    ops: &[Op],
+    why: SubmitRefused,
+)
+    ensures { editor.new.known.opening ≡ editor.old.known.opening }
+{
+    let answer = editor.submit(rt, ticket, change(rt, ops));
+    let (refused, back) = answer.err().expect(rt, "refused");
+    same(rt, refused, why, "why it is refused");
+    same(
+        rt,
+        back == change(rt, ops),
+        true,
+        "the change that comes back",
+    );
 }
 
 /// A round.
-pub(crate) fn round<R: Wait + Abort + Drop>(
+pub(crate) fn round<R: Wait + Drop>(
     rt: &R,
     alloc: Global,
     committer: &mut Committer<MemDisk, R>,
@@ -125,16 +178,149 @@ pub(crate) fn round<R: Wait + Abort + Drop>(
     committer.round(alloc, rt)
 }
 
-/// A round that takes so many requests and accepts so many.
-pub(crate) fn rounds<R: Wait + Abort + Drop>(
-    rt: &R,
+/// A rebuild.
+pub(crate) fn rebuild<R: Wait + Drop>(
     alloc: Global,
     committer: &mut Committer<MemDisk, R>,
-    taken: usize,
-    accepted: usize,
-)
+    words: &[u64],
+    heap: &LocalHeap,
+) -> Result<u64, RebuildRefused>
     ensures { (posts_of committer.new).opening ≡ (posts_of committer.old).opening }
 {
-    let done = round(rt, alloc, committer);
-    assert_eq!(rt; done, Ok(Round { taken, accepted }));
+    committer.rebuild(alloc, words, heap)
+}
+
+/// The count of a store, the last ticket of its first session, its edges, and the weights of 0-1 and 2-3.
+pub(crate) type Left = (u64, u64, usize, [Option<u32>; 2]);
+
+/// What a store has.
+pub(crate) fn left(store: &Store<MemDisk>) -> Left {
+    let graph = store.graph();
+    let weights = [graph.weight(0, 1), graph.weight(2, 3)];
+    (store.count(), store.resume(0), graph.edges(), weights)
+}
+
+/// The numbers of the oldest and of the newest generation on a shelf, and how many there are.
+pub(crate) type Shelf = (u64, u64, usize);
+
+fn shelf_of(board: &Board) -> Shelf {
+    let shelf = board.shelf();
+    let oldest = match shelf.first() {
+        Some(Some(shelved)) => shelved.number,
+        _ => 0,
+    };
+    let newest = match shelf.last() {
+        Some(Some(shelved)) => shelved.number,
+        _ => 0,
+    };
+    (oldest, newest, shelf.len())
+}
+
+// Looks at the board, and sees its shelf.
+fn looks<R: Abort>(rt: &R, reader: BoardReader, want: Shelf) -> BoardReader
+    ensures { result.all.opening ≡ reader.all.opening }
+{
+    let look = reader.look().ok().expect(rt, "a look");
+    same(rt, shelf_of(look.board()), want, "the shelf");
+    look.leave()
+}
+
+impl<R: Wait + Abort + Drop> Seats<R> {
+    /// The editor of session 0 or of session 1 submits a change.
+    pub(crate) fn submits(&mut self, rt: &R, session: u8, ticket: u64, ops: &[Op]) {
+        if session == 0 {
+            submit(rt, &mut self.first, ticket, ops);
+        } else {
+            submit(rt, &mut self.second, ticket, ops);
+        }
+    }
+
+    /// Such an editor is told all that is posted.
+    pub(crate) fn hears(&mut self, session: u8) {
+        let told = self.committer.told();
+        if session == 0 {
+            self.first.learn(&told);
+        } else {
+            self.second.learn(&told);
+        }
+    }
+
+    /// Sees what became of such an editor's last change.
+    pub(crate) fn has(&mut self, rt: &R, session: u8, want: Outcome) {
+        let found = if session == 0 {
+            self.first.outcome()
+        } else {
+            self.second.outcome()
+        };
+        same(rt, (session, found), (session, Ok(want)), "an outcome");
+    }
+
+    /// Both forwarders are told all that is posted.
+    pub(crate) fn forwarders_hear(&mut self) {
+        let told = self.committer.told();
+        self.one.learn(&told);
+        self.two.learn(&told);
+    }
+
+    /// A round.
+    pub(crate) fn round(&mut self, rt: &R, alloc: Global) -> Result<Round, RoundRefused> {
+        round(rt, alloc, &mut self.committer)
+    }
+
+    /// A round that takes so many requests and accepts so many.
+    pub(crate) fn settles(&mut self, rt: &R, alloc: Global, taken: usize, accepted: usize) {
+        let done = self.round(rt, alloc);
+        same(rt, done, Ok(Round { taken, accepted }), "a round");
+    }
+
+    /// A rebuild.
+    pub(crate) fn rebuild(
+        &mut self,
+        alloc: Global,
+        words: &[u64],
+        heap: &LocalHeap,
+    ) -> Result<u64, RebuildRefused> {
+        rebuild(alloc, &mut self.committer, words, heap)
+    }
+
+    /// Builds the generation of this number.
+    pub(crate) fn builds(&mut self, rt: &R, alloc: Global, heap: &LocalHeap, number: u64) {
+        let built = self.rebuild(alloc, &AT_TWO, heap);
+        same(rt, built, Ok(number), "a rebuild");
+    }
+
+    /// Sees the shelf of the board.
+    pub(crate) fn shows(self, rt: &R, want: Shelf) -> Seats<R> {
+        let Seats {
+            committer,
+            first,
+            second,
+            one,
+            two,
+            reader,
+        } = self;
+        let reader = looks(rt, reader, want);
+        Seats {
+            committer,
+            first,
+            second,
+            one,
+            two,
+            reader,
+        }
+    }
+
+    /// The disk alone. A test whose seats would be dropped ends by this: the drop is proved here and nowhere else.
+    pub(crate) fn into_disk(self) -> MemDisk {
+        self.committer.into_store().into_disk()
+    }
+
+    /// The first bytes of the journal.
+    pub(crate) fn journal(self, rt: &R) -> [u8; 64] {
+        let mut disk = self.into_disk();
+        let mut bytes = [0; 64];
+        assert!(rt; JOURNAL + 64 <= disk.len());
+        got(rt, disk.read(JOURNAL, &mut bytes));
+        bytes
+    }
 }

@@ -2,18 +2,18 @@
 ghost use Rattle.std.specs.Prelude.{◌≡◌};
 ghost use Rattle.committer.specs.CommitterWords.{posts_of};
 
-use crate::builds::{builds, trip};
-use crate::seats::{PATH, change, fresh, round, rounds, seated, submit};
+use crate::builds::trip;
+use crate::seats::{AT_TWO, PATH, Seats, armed, got, left, rebuild, round, same};
 use committer::Committer;
-use disk_trait::MemDisk;
+use disk_trait::{MemDisk, Plan};
 use forwarders::{Forwarder, Refused};
-use graph_edits::Op;
+use generations::BoardReader;
+use graph_edits::{Change, Op};
 use intake::{Editor, SubmitRefused};
 use linked_list_allocator::LocalHeap;
 use std::alloc::Global;
 use std::process::Abort;
 use std::sync::Wait;
-use std::test::Fail;
 use std::thread;
 
 // How many changes each editor asks for, and how many packets each forwarder sends.
@@ -28,9 +28,9 @@ fn asks<R: Wait + Abort>(rt: &R, mut editor: Editor, from: u16, to: u16, before:
         if done >= CHANGES {
             break;
         }
-        let op = Op::Set(from, to, 100 + done as u32);
+        let change = got(rt, Change::new(&[Op::Set(from, to, 100 + done as u32)]));
         let ticket = before.wrapping_add(done).wrapping_add(1);
-        match editor.submit(rt, ticket, change(rt, &[op])) {
+        match editor.submit(rt, ticket, change) {
             Ok(()) => done += 1,
             Err((SubmitRefused::Busy | SubmitRefused::QueueFull, _)) => thread::yield_now(),
             Err(_) => return false,
@@ -72,10 +72,11 @@ fn commits<R: Wait + Abort + Drop>(
             return;
         }
         let done = round(rt, alloc, committer);
-        assert!(rt; done.is_ok());
+        same(rt, done.is_ok(), true, "a round");
         let now = committer.store().count();
         if now > count {
-            builds(rt, alloc, committer, heap, now);
+            let built = rebuild(alloc, committer, &AT_TWO, heap);
+            same(rt, built, Ok(now), "a rebuild");
         } else {
             thread::yield_now();
         }
@@ -83,46 +84,53 @@ fn commits<R: Wait + Abort + Drop>(
     unreachable!()
 }
 
-#[test]
-fn editors_and_forwarders_beside_the_committer(rt: HostRuntime) -> Result<(), Fail> {
-    let alloc = rt.alloc();
-    let heap = LocalHeap::new(alloc, 1_048_576)?;
-    let mut at = seated(rt, alloc, fresh(&rt, alloc), 1)?;
-    // A first change, of which both forwarders and the other editor are told.
-    submit(&rt, &mut at.first, 1, &PATH);
-    rounds(&rt, alloc, &mut at.committer, 1, 1);
-    builds(&rt, alloc, &mut at.committer, &heap, 1);
-    let told = at.committer.told();
-    at.second.learn(&told);
-    at.one.learn(&told);
-    at.two.learn(&told);
-    let (first, second, one, two) = (at.first, at.second, at.one, at.two);
-    let Ok(first) = thread::spawn(&rt, move || asks(&rt, first, 0, 1, 1)) else {
-        panic!(&rt; "no thread");
-    };
-    let Ok(second) = thread::spawn(&rt, move || asks(&rt, second, 2, 3, 0)) else {
-        panic!(&rt; "no thread");
-    };
-    let Ok(one) = thread::spawn(&rt, move || sends(one)) else {
-        panic!(&rt; "no thread");
-    };
-    let Ok(two) = thread::spawn(&rt, move || sends(two)) else {
-        panic!(&rt; "no thread");
-    };
-    commits(&rt, alloc, &mut at.committer, &heap, 41);
-    assert!(&rt; first.join(&rt) && second.join(&rt));
-    assert!(&rt; one.join(&rt) == TRIPS && two.join(&rt) == TRIPS);
-    // The last changes of both, read back by one who was told of them.
-    let mut reader = at.reader;
-    let told = at.committer.told();
+// A first change, of which both forwarders and the second editor are told.
+fn begun<R: Wait + Abort + Copy + Drop>(rt: R, alloc: Global, heap: &LocalHeap) -> Seats<R> {
+    let mut at = armed(rt, alloc, 1, Plan::None);
+    at.submits(&rt, 0, 1, &PATH);
+    at.settles(&rt, alloc, 1, 1);
+    at.builds(&rt, alloc, heap, 1);
+    at.hears(1);
+    at.forwarders_hear();
+    at
+}
+
+// The last changes of both editors, read back by one who was told of them.
+fn reads_back<R: Wait + Abort + Drop>(rt: &R, committer: Committer<MemDisk, R>, reader: BoardReader)
+    requires { reader.all.opening ≡ (posts_of committer).opening }
+{
+    let told = committer.told();
+    let mut reader = reader;
     reader.learn(&told);
-    let Ok(look) = reader.look() else {
-        panic!(&rt; "no look");
-    };
+    let look = got(rt, reader.look());
     let board = look.board();
-    assert!(&rt; board.count() == 41 && board.accepted(0) == 21 && board.accepted(1) == 20);
+    let found = (board.count(), board.accepted(0), board.accepted(1));
+    same(rt, found, (41, 21, 20), "the board");
     look.leave();
-    let graph = at.committer.store().graph();
-    assert!(&rt; (graph.weight(0, 1), graph.weight(2, 3)) == (Some(119), Some(119)));
-    Ok(())
+    let want = (41, 21, 4, [Some(119), Some(119)]);
+    same(rt, left(&committer.into_store()), want, "the store");
+}
+
+#[test]
+fn editors_and_forwarders_beside_the_committer(rt: HostRuntime) {
+    let alloc = rt.alloc();
+    let heap = got(&rt, LocalHeap::new(alloc, 1_048_576));
+    let Seats {
+        mut committer,
+        first,
+        second,
+        one,
+        two,
+        reader,
+    } = begun(rt, alloc, &heap);
+    let first = got(&rt, thread::spawn(&rt, move || asks(&rt, first, 0, 1, 1)));
+    let second = got(&rt, thread::spawn(&rt, move || asks(&rt, second, 2, 3, 0)));
+    let one = got(&rt, thread::spawn(&rt, move || sends(one)));
+    let two = got(&rt, thread::spawn(&rt, move || sends(two)));
+    commits(&rt, alloc, &mut committer, &heap, 41);
+    let asked = (first.join(&rt), second.join(&rt));
+    same(&rt, asked, (true, true), "the editors' changes");
+    let sent = (one.join(&rt), two.join(&rt));
+    same(&rt, sent, (TRIPS, TRIPS), "the forwarders' packets");
+    reads_back(&rt, committer, reader);
 }
