@@ -30,8 +30,8 @@ pub fn device_in<R: AllocGlobal>(rt: &R, folder: &str) -> io::Result<String> {
     Ok(format!(in rt.alloc(); "{folder}/d")?)
 }
 
-// The words, one behind each space, with the device in the place of `@`.
-fn words_of<'a, R: AllocGlobal>(rt: &R, d: &'a str, line: &'a str) -> io::Result<Vec<&'a str>> {
+/// The words, one behind each space, with the device in the place of `@`.
+pub fn words_of<'a, R: AllocGlobal>(rt: &R, d: &'a str, line: &'a str) -> io::Result<Vec<&'a str>> {
     let mut words = Vec::new(rt.alloc());
     for word in line.split(' ') {
         words.push(if word == "@" { d } else { word })?;
@@ -423,9 +423,9 @@ fn numbers_at_their_limit(rt: HostRuntime) -> io::Result<()> {
 
 /// A writer that takes so many bytes, and then refuses.
 #[derive(Drop)]
-struct Narrow {
-    left: usize,
-    flushes: bool,
+pub struct Narrow {
+    pub left: usize,
+    pub flushes: bool,
 }
 
 impl Write for Narrow {
