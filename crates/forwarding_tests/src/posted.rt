@@ -68,7 +68,7 @@ pub(crate) fn empty_scheme(
     alloc: Global,
     generation: u64,
 ) -> Result<Arc<Scheme, Global>, AllocError> {
-    let scheme = Scheme::assemble(Parts {
+    let parts = Parts {
         nodes: 0,
         generation,
         landmarks: Vec::new(alloc),
@@ -77,7 +77,8 @@ pub(crate) fn empty_scheme(
         entries: Vec::new(alloc),
         directories: Vec::new(alloc),
         homes: Vec::new(alloc),
-    });
+    };
+    let scheme = Scheme::assemble(alloc, parts)?;
     Ok(Arc::new(alloc, scheme)?)
 }
 

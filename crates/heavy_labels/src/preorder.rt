@@ -10,18 +10,23 @@ use arrayvec::ArrayVec;
 use route_tree::{RouteTree, Twig};
 use std::alloc::{AllocError, Allocator, Global};
 
-/// The light ports of a child: those of its parent, and at a light child the parent's port to it.
-fn child_lights(lights: &[u16], heavy: bool, down: Option<u16>) -> ArrayVec<u16, MOST_LIGHTS>
+/// The light ports of a child: those of its parent, and at a light child the parent's port to it, which take the place of
+/// what the room held.
+fn child_lights<'a>(
+    lights: &'a [u16],
+    heavy: bool,
+    down: Option<u16>,
+    room: &'a mut ArrayVec<u16, MOST_LIGHTS>,
+) -> &'a [u16]
     requires { length (lights_at heavy lights.now down) ≤ MOST_LIGHTS }
-    ensures { result.items ≡ lights_at heavy lights.now down }
+    ensures { result.now ≡ lights_at heavy lights.now down }
 {
     if heavy {
-        copied(lights)
-    } else {
-        let mut ports = copied(lights);
-        ports.push(down.unwrap_or(0));
-        ports
+        return lights;
     }
+    *room = copied(lights);
+    room.push(down.unwrap_or(0));
+    room.as_slice()
 }
 
 /// The member at a twig, with the number `first` and the light ports `lights`.
@@ -44,7 +49,7 @@ fn member_at<A: Allocator>(twig: &Twig<A>, first: u16, lights: &[u16]) -> Number
     NumberedMember {
         node: twig.node(),
         tree_record,
-        label: Label::new(first, copied(lights)),
+        label: Label::of(first, lights),
     }
 }
 
@@ -61,9 +66,10 @@ fn visit<A: Allocator>(
     out.push(member_at(twig, first, lights))?;
     let mut next = first as u32 + 1;
     let children = twig.children();
+    let mut room = ArrayVec::new();
     for (i, child) in children.iter().enumerate() {
-        let ports = child_lights(lights, i == 0, child.down());
-        visit(child, next as u16, ports.as_slice(), out)?;
+        let ports = child_lights(lights, i == 0, child.down(), &mut room);
+        visit(child, next as u16, ports, out)?;
         next += child.size() as u32;
     }
     Ok(())

@@ -4,3 +4,4 @@ pub mod Lists
 pub mod Searches
 pub mod PortLemmas
 pub mod Walks
+pub mod NumbersApart

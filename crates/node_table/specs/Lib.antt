@@ -9,3 +9,4 @@ pub mod Columns
 pub mod RowLists
 pub mod Building
 pub mod Ways
+pub mod Apart

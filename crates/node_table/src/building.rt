@@ -397,5 +397,6 @@ pub fn build<A: Allocator + Clone>(
     let mut parts = empty_parts(alloc, graph, landmarks, &nearest, generation)?;
     graph_is_sound(graph);
     add_roots(alloc, graph, landmarks, &nearest, &mut parts, scratch)?;
-    Ok(Scheme::assemble(parts))
+    let scheme = Scheme::assemble(alloc, parts)?;
+    Ok(scheme)
 }

@@ -4,43 +4,56 @@ ghost use Rattle.node_table.specs.declared.packet.Refused.TheVariants.{Stray, Un
 ghost use Rattle.node_table.specs.Checks.{distance_of};
 ghost use Rattle.node_table.specs.Laws.{AreTreesOf};
 ghost use Rattle.node_table.specs.Ports.{index_of};
-ghost use Rattle.node_table.specs.Trails.{gap};
 ghost use Rattle.node_table.specs.Service.{address_given, decide as packet_given, forward_over, home_of, node_step as move_given, one_less, packet_by, IsOfGeneration};
-ghost use Rattle.node_table.specs.Tables.{AreAscending, entries_at, first_entry, first_listed, directory_at, or_none, roots_of, tables, ports_at};
+ghost use Rattle.node_table.specs.Tables.{AreAscending, entries_at, first_entry, first_listed, directory_at, nodes_of, or_none, roots_of, tables, ports_at};
 
 use crate::packet::{Address, Home, Move, Packet, Refused};
 use crate::parts::{Entry, Listed, Near, Parts};
-use crate::search::{directories_ascend, entries_ascend, first_place};
+use crate::search::{all_numbers, directories_ascend, entries_ascend, first_place, numbers_at};
 use heavy_labels::{Label, TreeStep, step};
+use std::alloc::{AllocError, Global};
 use std::marker::Model;
 
-/// A scheme: its tables, and whether they can be searched by halving. Contracts see the tables.
+/// A scheme: its tables, and whether they can be searched by halving. What it is searched by stands apart: the roots of each
+/// node's entries and the nodes of each directory, two bytes a number. Contracts see the tables.
 #[derive(Drop)]
 pub struct Scheme {
     parts: Parts,
+    roots: Vec<Vec<u16>>,
+    members: Vec<Vec<u16>>,
     ascending: bool,
 }
 
 impl Model for Scheme {
     ghost use Rattle.std.specs.Prelude.{◌↔◌, IsTrue};
     ghost use Rattle.node_table.specs.declared.parts.Parts.{Parts};
+    ghost use Rattle.node_table.specs.Apart.{AreNumbersOf};
     ghost use Rattle.node_table.specs.Tables.{AreAscending};
 
     ghost Value = { Parts };
 
     ghost view = { λ s. s.parts };
 
-    ghost invariant = { λ s. IsTrue s.ascending ↔ AreAscending s.parts };
+    ghost invariant = { λ s. (IsTrue s.ascending ↔ AreAscending s.parts)
+        × (AreNumbersOf (λ e. e.root) s.parts.entries.items s.roots.items × AreNumbersOf (λ e. e.node) s.parts.directories.items s.members.items) };
 }
 
 impl Scheme {
-    /// A scheme of any tables. Whether they ascend is found here, once.
-    pub fn assemble(parts: Parts) -> Scheme
-        ensures { result ≡ parts }
+    /// A scheme of any tables. What it is searched by is made here, and whether the tables ascend is found, once.
+    /// An `Err` means that memory was refused.
+    pub fn assemble(alloc: Global, parts: Parts) -> Result<Scheme, AllocError>
+        ensures { IfOk result (λ scheme. scheme ≡ parts) }
     {
         let ascending = entries_ascend(parts.entries.as_slice())
             && directories_ascend(parts.directories.as_slice());
-        Scheme { parts, ascending }
+        let roots = all_numbers(alloc, parts.entries.as_slice())?;
+        let members = all_numbers(alloc, parts.directories.as_slice())?;
+        Ok(Scheme {
+            parts,
+            roots,
+            members,
+            ascending,
+        })
     }
 
     /// The tables.
@@ -48,6 +61,20 @@ impl Scheme {
         ensures { result.now ≡ self.now }
     {
         &self.parts
+    }
+
+    /// The roots of a node's entries.
+    pub fn roots_of(&self, x: u16) -> &[u16]
+        ensures { result.now ≡ roots_of (entries_at self.now x) }
+    {
+        numbers_at(self.roots.as_slice(), x)
+    }
+
+    /// The nodes of a node's directory.
+    fn members_of(&self, u: u16) -> &[u16]
+        ensures { result.now ≡ nodes_of (directory_at self.now u) }
+    {
+        numbers_at(self.members.as_slice(), u)
     }
 
     /// In how many trees a node has an entry.
@@ -66,7 +93,7 @@ impl Scheme {
         ensures some { AreAscending self.now → 0 < length (entries_at self.now x) → 0 < result.1 }
         ensures few { AreAscending self.now → (k : ℕ) → length (entries_at self.now x) < 2 ^ k → result.1 ≤ k }
     {
-        first_place(self.entries_of(x), root, self.ascending)
+        first_place(self.roots_of(x), root, self.ascending)
     }
 
     /// A node's first entry for a root.
@@ -74,16 +101,15 @@ impl Scheme {
     pub fn entry(&self, x: u16, root: u16) -> Option<&Entry>
         ensures { MatchOption result (first_entry root (entries_at self.now x) ≡ None) (λ e. first_entry root (entries_at self.now x) ≡ Some e.now) }
     {
-        let entries = self.entries_of(x);
-        let (place, _) = first_place(entries, root, self.ascending);
+        let (place, _) = first_place(self.roots_of(x), root, self.ascending);
         match place {
-            Some(i) => Some(&entries[i]),
+            Some(i) => Some(&self.entries_of(x)[i]),
             None => None,
         }
     }
 
     /// A node's distance from a root, 0 where it has no entry for it.
-    fn distance(&self, x: u16, root: u16) -> u64
+    pub(crate) fn distance(&self, x: u16, root: u16) -> u64
         ensures { result ≡ distance_of ((tables self.now).entry x root) }
     {
         match self.entry(x, root) {
@@ -92,28 +118,14 @@ impl Scheme {
         }
     }
 
-    /// How much the distances of two nodes from a root differ.
-    pub(crate) fn gap(&self, root: u16, x: u16, y: u16) -> u64
-        ensures { result ≡ gap (tables self.now) root x y }
-    {
-        let here = self.distance(x, root);
-        let there = self.distance(y, root);
-        if here < there {
-            there - here
-        } else {
-            here - there
-        }
-    }
-
     /// A node's first label in a directory.
     #[tactic(auto, using(crate::proofs::Basics::Searches::node_within, crate::proofs::Basics::Searches::listed_found, crate::proofs::Basics::Searches::listed_missing))]
     pub fn listed(&self, u: u16, v: u16) -> Option<&Label>
         ensures { MatchOption result (first_listed v (directory_at self.now u) ≡ None) (λ l. first_listed v (directory_at self.now u) ≡ Some l.now) }
     {
-        let directory = self.directory_of(u);
-        let (place, _) = first_place(directory, v, self.ascending);
+        let (place, _) = first_place(self.members_of(u), v, self.ascending);
         match place {
-            Some(i) => Some(&directory[i].label),
+            Some(i) => Some(&self.directory_of(u)[i].label),
             None => None,
         }
     }

@@ -1,11 +1,15 @@
-// How the lists of a scheme are searched: by halving where their numbers strictly ascend, else from the front.
-ghost use Rattle.std.specs.Prelude.{◌≡◌, ◌<◌, ◌≤◌, ◌^◌, ◌↔◌, IsTrue, ℕ, length, map};
+// How the lists of a scheme are searched: by their numbers, which stand apart; by halving where these strictly ascend, else from
+// the front.
+ghost use Rattle.std.specs.Prelude.{◌≡◌, ◌<◌, ◌≤◌, ◌^◌, ◌↔◌, IfOk, IsTrue, ℕ, length, map};
 ghost use Rattle.std.specs.List.{All};
 ghost use Rattle.std.specs.List.Sorted.{IsStrictlyIncreasing};
 ghost use Rattle.node_table.specs.Ports.{index_of};
+ghost use Rattle.node_table.specs.Apart.{AreNumbersOf};
+ghost use Rattle.node_table.specs.Building.{items_at};
 ghost use Rattle.node_table.specs.Tables.{nodes_of, roots_of};
 
 use crate::parts::{Entry, Listed};
+use std::alloc::{AllocError, Global};
 
 /// What stands in a list under a number of its own.
 pub(crate) trait Keyed {
@@ -60,24 +64,55 @@ pub(crate) fn directories_ascend(lists: &[Vec<Listed>]) -> bool
     all_ascend(lists)
 }
 
-/// The place of a number in an ascending list, and how many places were looked at.
-fn place_by_halving<T: Keyed>(items: &[T], key: u16) -> (Option<usize>, u32)
-    requires { IsStrictlyIncreasing (map T.key items.now) }
-    ensures place { result.0 ≡ index_of key (map T.key items.now) }
-    ensures some { 0 < length items.now → 0 < result.1 }
-    ensures few { (k : ℕ) → length items.now < 2 ^ k → result.1 ≤ k }
+/// The numbers of a list, apart.
+fn numbers_of<T: Keyed>(alloc: Global, items: &[T]) -> Result<Vec<u16>, AllocError>
+    ensures { IfOk result (λ numbers. numbers.items ≡ map T.key items.now) }
+{
+    items.iter().map(|item| item.key()).collect(alloc)
+}
+
+/// The numbers of each list, apart.
+pub(crate) fn all_numbers<T: Keyed>(
+    alloc: Global,
+    lists: &[Vec<T>],
+) -> Result<Vec<Vec<u16>>, AllocError>
+    ensures { IfOk result (λ all. AreNumbersOf T.key lists.now all.items) }
+{
+    let mut all = Vec::with_capacity(alloc, lists.len())?;
+    for list in lists {
+        all.push(numbers_of(alloc, list.as_slice())?)?;
+    }
+    Ok(all)
+}
+
+/// The numbers at a place, none where it isn't there.
+pub(crate) fn numbers_at(all: &[Vec<u16>], x: u16) -> &[u16]
+    ensures { result.now ≡ items_at all.now x }
+{
+    match all.get(x as usize) {
+        Some(numbers) => numbers.as_slice(),
+        None => &[],
+    }
+}
+
+/// The place of a number among ascending ones, and how many places were looked at.
+fn place_by_halving(numbers: &[u16], number: u16) -> (Option<usize>, u32)
+    requires { IsStrictlyIncreasing numbers.now }
+    ensures place { result.0 ≡ index_of number numbers.now }
+    ensures some { 0 < length numbers.now → 0 < result.1 }
+    ensures few { (k : ℕ) → length numbers.now < 2 ^ k → result.1 ≤ k }
 {
     let mut low = 0;
-    let mut high = items.len();
+    let mut high = numbers.len();
     let mut probes = 0;
     while low < high {
         let middle = low + (high - low) / 2;
-        let there = items[middle].key();
+        let there = numbers[middle];
         probes += 1;
-        if there == key {
+        if there == number {
             return (Some(middle), probes);
         }
-        if there < key {
+        if there < number {
             low = middle + 1;
         } else {
             high = middle;
@@ -86,30 +121,30 @@ fn place_by_halving<T: Keyed>(items: &[T], key: u16) -> (Option<usize>, u32)
     (None, probes)
 }
 
-/// The first place of a number in a list, and how many places were looked at.
-fn place_from_front<T: Keyed>(items: &[T], key: u16) -> (Option<usize>, u32)
-    ensures { result.0 ≡ index_of key (map T.key items.now) }
+/// The first place of a number among others, and how many places were looked at.
+fn place_from_front(numbers: &[u16], number: u16) -> (Option<usize>, u32)
+    ensures { result.0 ≡ index_of number numbers.now }
 {
     let mut probes: u32 = 0;
-    for (place, item) in items.iter().enumerate() {
+    for (place, there) in numbers.iter().enumerate() {
         probes = probes.saturating_add(1);
-        if item.key() == key {
+        if *there == number {
             return (Some(place), probes);
         }
     }
     (None, probes)
 }
 
-/// The first place of a number in a list, and how many places were looked at; by halving where told that the list ascends.
-pub(crate) fn first_place<T: Keyed>(items: &[T], key: u16, ascending: bool) -> (Option<usize>, u32)
-    requires { IsTrue ascending → IsStrictlyIncreasing (map T.key items.now) }
-    ensures place { result.0 ≡ index_of key (map T.key items.now) }
-    ensures some { IsTrue ascending → 0 < length items.now → 0 < result.1 }
-    ensures few { IsTrue ascending → (k : ℕ) → length items.now < 2 ^ k → result.1 ≤ k }
+/// The first place of a number among others, and how many places were looked at; by halving where told that they ascend.
+pub(crate) fn first_place(numbers: &[u16], number: u16, ascending: bool) -> (Option<usize>, u32)
+    requires { IsTrue ascending → IsStrictlyIncreasing numbers.now }
+    ensures place { result.0 ≡ index_of number numbers.now }
+    ensures some { IsTrue ascending → 0 < length numbers.now → 0 < result.1 }
+    ensures few { IsTrue ascending → (k : ℕ) → length numbers.now < 2 ^ k → result.1 ≤ k }
 {
     if ascending {
-        place_by_halving(items, key)
+        place_by_halving(numbers, number)
     } else {
-        place_from_front(items, key)
+        place_from_front(numbers, number)
     }
 }

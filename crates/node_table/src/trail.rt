@@ -57,6 +57,17 @@ fn starting_at(alloc: Global, node: u16) -> Result<Trail, AllocError>
     })
 }
 
+/// How much two distances differ.
+fn difference(here: u64, there: u64) -> u64
+    ensures { result ≡ (here - there) + (there - here) }
+{
+    if here < there {
+        there - here
+    } else {
+        here - there
+    }
+}
+
 /// One hop more.
 fn lengthen(trail: &mut Trail, port: u16, next: u16, hop: u64) -> Result<(), AllocError>
     ensures nodes { OnOk result (trail.new.nodes.items ≡ trail.old.nodes.items ++ next ∷ []) }
@@ -87,6 +98,7 @@ impl Scheme {
             return Err(CarryRefused::Memory);
         };
         let mut at = u;
+        let mut here = self.distance(at, packet.root);
         loop {
             match self.node_step(at, &packet) {
                 Ok(Move::Delivered) => return Ok(trail),
@@ -97,11 +109,12 @@ impl Scheme {
                         packet: left,
                     },
                 ) => {
-                    let hop = self.gap(packet.root, at, next);
-                    let Ok(()) = lengthen(&mut trail, port, next, hop) else {
+                    let there = self.distance(next, packet.root);
+                    let Ok(()) = lengthen(&mut trail, port, next, difference(here, there)) else {
                         return Err(CarryRefused::Memory);
                     };
                     at = next;
+                    here = there;
                     packet = left;
                 }
                 Err(refused) => return Err(carried(refused)),

@@ -154,7 +154,7 @@ fn path_with(rt: &impl Abort, alloc: Global, changed: Changed) -> Scheme {
             entries_of_4(rt, alloc, changed),
         ],
     );
-    Scheme::assemble(Parts {
+    let parts = Parts {
         nodes: 5,
         generation: 1,
         landmarks: got(rt, vec![in alloc; false, false, true, false, false]),
@@ -163,7 +163,8 @@ fn path_with(rt: &impl Abort, alloc: Global, changed: Changed) -> Scheme {
         entries,
         directories: directories_of_path(rt, alloc, changed),
         homes: homes_of_path(rt, alloc, changed),
-    })
+    };
+    got(rt, Scheme::assemble(alloc, parts))
 }
 
 /// Each change, and what a check says then.
@@ -217,7 +218,7 @@ fn an_empty_scheme_has_no_shape(rt: HostRuntime) {
     let alloc = rt.alloc();
     let graph = graph_of(&rt, alloc, 1, &[]);
     for nodes in &[0u16, 1, 65535] {
-        let scheme = Scheme::assemble(Parts {
+        let parts = Parts {
             nodes: *nodes,
             generation: 0,
             landmarks: Vec::new(alloc),
@@ -226,7 +227,8 @@ fn an_empty_scheme_has_no_shape(rt: HostRuntime) {
             entries: Vec::new(alloc),
             directories: Vec::new(alloc),
             homes: Vec::new(alloc),
-        });
+        };
+        let scheme = got(&rt, Scheme::assemble(alloc, parts));
         same(&rt, check(&graph, &scheme), Err(Fault::Shape), "no tables");
     }
 }
@@ -242,7 +244,7 @@ fn single(rt: &impl Abort, alloc: Global, landmark: bool, listed_too: bool) -> S
     } else {
         Vec::new(alloc)
     };
-    Scheme::assemble(Parts {
+    let parts = Parts {
         nodes: 1,
         generation: 1,
         landmarks: got(rt, vec![in alloc; landmark]),
@@ -254,7 +256,8 @@ fn single(rt: &impl Abort, alloc: Global, landmark: bool, listed_too: bool) -> S
             rt,
             vec![in alloc; if landmark { Some(label(0, &[])) } else { None }],
         ),
-    })
+    };
+    got(rt, Scheme::assemble(alloc, parts))
 }
 
 /// Whether the node is a landmark, whether it is listed, and what a check says.

@@ -23,14 +23,14 @@ pub visit-requires : goal.visit-requires
 visit-requires g t c κs within =
     let l = c.loop-i.invariant in
     let room = child_room _ _ _ _ _ _ _ _ c.index-children-i.result l (omega arith) c.index-children-i.is in
-    let ports = c.as_slice.ensures.value ∙ c.child_lights-ports.ensures ∙ ap (lights_at (eqb c.loop-i.i 0) c.args.lights.now) c.down.ensures in
+    let ports = c.child_lights-ports.ensures ∙ ap (lights_at (eqb c.loop-i.i 0) c.args.lights.now) c.down.ensures in
     let less = child_less c.children-children.result.now c.loop-i.i c.index-children-i.result c.args.twig.now.below (omega arith) c.index-children-i.is c.children-children.ensures in
     (omega (arith, less, c.decreases), (within, subst (HasRoom c.index-children-i.result c.loop-i.next) (sym ports) room))
 
 pub loop-i-preserved : goal.loop-i-preserved
 loop-i-preserved g t c =
     let l = c.loop-i.invariant in
-    let ports = c.as_slice.ensures.value ∙ c.child_lights-ports.ensures ∙ ap (lights_at (eqb c.loop-i.i 0) c.args.lights.now) c.down.ensures in
+    let ports = c.child_lights-ports.ensures ∙ ap (lights_at (eqb c.loop-i.i 0) c.args.lights.now) c.down.ensures in
     let more = c.in_ok-visit.ensures ∙ ap (λ z. map seen c.loop-i.out.items ++ tree_briefs c.index-children-i.result c.loop-i.next z) ports in
     let next = left_next _ _ _ _ _ _ _ _ _ c.index-children-i.result l (omega arith) c.index-children-i.is more in
     subst (λ z. Left (tree_size c.args.twig.now) c.args.first c.args.lights.now c.children-children.result.now (c.loop-i.i + 1) (c.loop-i.next + z) (map seen c.visit.new.out.items) (map seen c.args.out.now.items ++ tree_briefs c.args.twig.now c.args.first c.args.lights.now)) (sym c.size.ensures) next

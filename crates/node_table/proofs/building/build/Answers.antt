@@ -11,13 +11,13 @@ checked_as : (m : Network) → IsSound m → (p q : Parts) → q ≡ p → IsBui
 checked_as m s p q e h = subst (IsChecked m) (sym e) (built_checked m s p h)
 
 pub returns-clause-checked : goal.returns-clause-checked
-returns-clause-checked g c = checked_as c.args.graph.now c.graph_is_sound.ensures c.add_roots.new.parts c.assemble.result c.assemble.ensures c.in_ok-add_roots.ensures.built
+returns-clause-checked g c = checked_as c.args.graph.now c.graph_is_sound.ensures c.add_roots.new.parts c.in_ok-scheme.scheme c.in_ok-scheme.ensures c.in_ok-add_roots.ensures.built
 
 pub returns-clause-serves : goal.returns-clause-serves
-returns-clause-serves g c = serves_law c.args.graph.now c.assemble.result c.graph_is_sound.ensures (checked_as c.args.graph.now c.graph_is_sound.ensures c.add_roots.new.parts c.assemble.result c.assemble.ensures c.in_ok-add_roots.ensures.built)
+returns-clause-serves g c = serves_law c.args.graph.now c.in_ok-scheme.scheme c.graph_is_sound.ensures (checked_as c.args.graph.now c.graph_is_sound.ensures c.add_roots.new.parts c.in_ok-scheme.scheme c.in_ok-scheme.ensures c.in_ok-add_roots.ensures.built)
 
 pub returns-clause-trees : goal.returns-clause-trees
-returns-clause-trees g c x r = trees_law c.args.graph.now c.assemble.result c.graph_is_sound.ensures (checked_as c.args.graph.now c.graph_is_sound.ensures c.add_roots.new.parts c.assemble.result c.assemble.ensures c.in_ok-add_roots.ensures.built) x r
+returns-clause-trees g c x r = trees_law c.args.graph.now c.in_ok-scheme.scheme c.graph_is_sound.ensures (checked_as c.args.graph.now c.graph_is_sound.ensures c.add_roots.new.parts c.in_ok-scheme.scheme c.in_ok-scheme.ensures c.in_ok-add_roots.ensures.built) x r
 
 pub returns-clause-nearest : goal.returns-clause-nearest
-returns-clause-nearest g c x = nearest_law c.args.graph.now c.assemble.result c.graph_is_sound.ensures (checked_as c.args.graph.now c.graph_is_sound.ensures c.add_roots.new.parts c.assemble.result c.assemble.ensures c.in_ok-add_roots.ensures.built) x
+returns-clause-nearest g c x = nearest_law c.args.graph.now c.in_ok-scheme.scheme c.graph_is_sound.ensures (checked_as c.args.graph.now c.graph_is_sound.ensures c.add_roots.new.parts c.in_ok-scheme.scheme c.in_ok-scheme.ensures c.in_ok-add_roots.ensures.built) x
