@@ -15,11 +15,11 @@ use Rattle.node_table.specs.Local.{HasLocalLabels}
 use Rattle.certificate.specs.Climbs.{IsLabelRight, IsHomeRight, HasLabelsAt}
 use Rattle.certificate.proofs.LookUps.{no_directory}
 
-all_listed : (P : Listed → Type 0) (es : List Listed) (e : Listed) → All P es → IsListed e es → P e
+pub all_listed : (P : Listed → Type 0) (es : List Listed) (e : Listed) → All P es → IsListed e es → P e
 all_listed P [] e a i = absurd i
 all_listed P (f ∷ es) e a i = elim i [ inl k ↦ subst P (sym k) (All-head P f es a) | inr k ↦ all_listed P es e (All-tail P f es a) k ]
 
-listed_place : (es : List Listed) (i : ℕ) (d : Listed) → i < length es → IsListed (get_or es i d) es
+pub listed_place : (es : List Listed) (i : ℕ) (d : Listed) → i < length es → IsListed (get_or es i d) es
 listed_place [] i d l = absurd (omega arith)
 listed_place (f ∷ es) zero d l = inl refl
 listed_place (f ∷ es) (suc i) d l = inr (listed_place es i d (omega arith))

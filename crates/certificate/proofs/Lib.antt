@@ -7,3 +7,4 @@ pub mod LocalRules
 pub mod LabelLemmas
 pub mod ClimbLemmas
 pub mod RowLemmas
+pub mod LinkedLabels

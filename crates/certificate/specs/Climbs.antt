@@ -1,14 +1,16 @@
 -- What is said of the labels of one node, by climbing from the nodes that they name.
-use Rattle.std.specs.Prelude.{◌≡◌, ℕ, ◌≤◌, Some, IsSome, List}
+use Rattle.std.specs.Prelude.{◌≡◌, ◌==◌, ℕ, ◌≤◌, Option, None, Some, IsSome, List}
 use Rattle.std.specs.List.{All}
 use Rattle.heavy_labels.specs.Label.{Label}
+use Rattle.heavy_labels.specs.Numbering.{lights_at}
 use Rattle.node_table.specs.declared.parts.Parts.{Parts}
 use Rattle.node_table.specs.declared.parts.Listed.{Listed}
 use Rattle.distances.specs.declared.nearest.Near.{Near}
 use Rattle.graph_edits.specs.Edges.{Network, IsSound}
 use Rattle.node_table.specs.Tables.{Tables, tables, directory_at}
 use Rattle.node_table.specs.Checks.{Fault, Holds, number_of, distance_of, farthest}
-use Rattle.node_table.specs.Local.{lights_to, IsLocalLabel}
+use Rattle.node_table.specs.Local.{lights_to, parent_of, record_at, IsLocalLabel}
+use Rattle.node_table.specs.Ports.{port_to}
 
 -- the network is sound, and the first five rules hold
 unfoldable pub HoldsFirst : Network → Parts → Type 0
@@ -21,6 +23,24 @@ lights_up m t r x = lights_to m t r (distance_of (t.entry x r)) x
 -- these are the light ports on the way from the root of r's tree to x
 unfoldable pub HasLights : Network → Tables → ℕ → ℕ → List ℕ → Type 0
 HasLights m t r x ls = ls ≡ lights_to m t r (farthest t r m.nodes) x
+
+-- these are the light ports of x by the label that u's directory has for its parent y, by the climb where that has none
+abbrev pub AreLinkedOver : Network → Tables → ℕ → ℕ → List ℕ → ℕ → Option Label → Type 0
+AreLinkedOver m t u x ls y None = HasLights m t u x ls
+AreLinkedOver m t u x ls y (Some l) = ls ≡ lights_at ((record_at t u x).light_depth == (record_at t u y).light_depth) l.lights (port_to m y x)
+
+-- the same, where that is its parent
+abbrev pub AreLinkedBy : Network → Tables → ℕ → ℕ → List ℕ → Option ℕ → Type 0
+AreLinkedBy m t u x ls None = HasLights m t u x ls
+AreLinkedBy m t u x ls (Some y) = AreLinkedOver m t u x ls y (t.listed u y)
+
+-- these are the light ports of x by the label of its parent in u's directory
+unfoldable pub AreLinked : Network → Tables → ℕ → ℕ → List ℕ → Type 0
+AreLinked m t u x ls = AreLinkedBy m t u x ls (parent_of (t.entry x u))
+
+-- a label of u's directory fits the one of its node's parent there, if its node has an entry for u
+unfoldable pub IsLinked : Network → Tables → ℕ → Listed → Type 0
+IsLinked m t u e = IsSome (t.entry e.node u) → (e.label.first ≡ (record_at t u e.node).first) × AreLinked m t u e.node e.label.lights
 
 -- a label of u's directory is right, if its node has an entry for u
 unfoldable pub IsLabelRight : Network → Tables → ℕ → Listed → Type 0

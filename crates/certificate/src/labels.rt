@@ -1,7 +1,8 @@
-// Labels: each by a climb from its node to the root, which meets the label's light ports from the last to the first.
+// Labels: those of a directory each by the label of its node's parent there, a home label by a climb from its node to the root,
+// which meets the label's light ports from the last to the first.
 ghost use Rattle.std.specs.Prelude.{◌≡◌, ◌==◌, ◌<◌, ◌↔◌, ℕ, IsTrue, MatchOption, List, Option, Some, None, false, slice_get};
 ghost use Rattle.std.specs.List.{All};
-ghost use Rattle.certificate.specs.Climbs.{HasLabelsAt, HasLights, HoldsFirst, IsHomeRight, IsLabelRight};
+ghost use Rattle.certificate.specs.Climbs.{AreLinked, HasLabelsAt, HasLights, HoldsFirst, IsHomeRight, IsLabelRight, IsLinked};
 ghost use Rattle.heavy_labels.specs.Label.{Label};
 ghost use Rattle.heavy_labels.specs.Numbering.{lights_at};
 ghost use Rattle.node_table.specs.Checks.{Holds, k6, k7};
@@ -92,23 +93,63 @@ fn is_label(graph: &Graph, scheme: &Scheme, root: u16, v: u16, label: &Label) ->
     label.first() == number(scheme, root, v) && are_lights(graph, scheme, root, v, label.lights())
 }
 
-/// Whether a label of u's directory is right, or of a node without an entry for u.
-#[tactic(auto, unfolding(crate::specs::Climbs::IsLabelRight))]
-fn is_label_right(graph: &Graph, scheme: &Scheme, u: u16, listed: &Listed) -> bool
-    requires { HoldsFirst graph.now scheme.now }
-    ensures { IsTrue result ↔ IsLabelRight graph.now (tables scheme.now) u listed.now }
+/// Whether the light ports of x are these, where those of its parent y are the ones above.
+fn are_below(graph: &Graph, x: u16, y: u16, is_heavy: bool, lights: &[u16], above: &[u16]) -> bool
+    ensures { IsTrue result ↔ (lights.now ≡ lights_at is_heavy above.now (port_to graph.now y x)) }
 {
-    scheme.entry(listed.node, u).is_none() || is_label(graph, scheme, u, listed.node, &listed.label)
+    match climbed(graph, x, y, is_heavy, lights) {
+        Some(rest) => rest == above,
+        None => false,
+    }
 }
 
-fn are_labels_right(graph: &Graph, scheme: &Scheme, u: u16) -> bool
+/// Whether the light ports of v are these by the label of its parent in u's directory, or by a climb where that has none.
+#[tactic(auto, unfolding(crate::specs::Climbs::AreLinked))]
+fn are_linked(graph: &Graph, scheme: &Scheme, u: u16, v: u16, lights: &[u16]) -> bool
     requires { HoldsFirst graph.now scheme.now }
-    ensures { IsTrue result ↔ All (IsLabelRight graph.now (tables scheme.now) u) (directory_at scheme.now u) }
+    ensures { IsTrue result ↔ AreLinked graph.now (tables scheme.now) u v lights.now }
+{
+    let (parent, depth) = rung(scheme, u, v);
+    let Some(y) = parent else {
+        return are_lights(graph, scheme, u, v, lights);
+    };
+    match scheme.listed(u, y) {
+        Some(label) => {
+            let (_, above) = rung(scheme, u, y);
+            are_below(graph, v, y, depth == above, lights, label.lights())
+        }
+        None => are_lights(graph, scheme, u, v, lights),
+    }
+}
+
+/// Whether a label of u's directory fits the one of its node's parent there, or is of a node without an entry for u.
+#[tactic(auto, unfolding(crate::specs::Climbs::IsLinked))]
+fn is_linked(graph: &Graph, scheme: &Scheme, u: u16, listed: &Listed) -> bool
+    requires { HoldsFirst graph.now scheme.now }
+    ensures { IsTrue result ↔ IsLinked graph.now (tables scheme.now) u listed.now }
+{
+    scheme.entry(listed.node, u).is_none()
+        || (listed.label.first() == number(scheme, u, listed.node)
+            && are_linked(graph, scheme, u, listed.node, listed.label.lights()))
+}
+
+/// Whether all labels of u's directory fit those of their nodes' parents.
+fn are_all_linked(graph: &Graph, scheme: &Scheme, u: u16) -> bool
+    requires { HoldsFirst graph.now scheme.now }
+    ensures { IsTrue result ↔ All (IsLinked graph.now (tables scheme.now) u) (directory_at scheme.now u) }
 {
     scheme
         .directory_of(u)
         .iter()
-        .all(|listed| is_label_right(graph, scheme, u, listed))
+        .all(|listed| is_linked(graph, scheme, u, listed))
+}
+
+/// Whether all labels of u's directory are right: where each fits its parent's, they are, from the root down.
+fn are_labels_right(graph: &Graph, scheme: &Scheme, u: u16) -> bool
+    requires { HoldsFirst graph.now scheme.now }
+    ensures { IsTrue result ↔ All (IsLabelRight graph.now (tables scheme.now) u) (directory_at scheme.now u) }
+{
+    are_all_linked(graph, scheme, u)
 }
 
 /// Whether a home label is right, or without a nearest landmark.

@@ -18,9 +18,10 @@
 //! ends ascend, so they are walked side by side, and none is searched for. A record is tested against those of its
 //! children, which are neighbours: one pass over the ports finds the heavy child, a second one counts the others through,
 //! and a finger in the entries behind each port goes along with the node's own.
-//! A label is tested by a climb from its node, which meets the label's light ports from the last to the first. That these
-//! tests are the rules is proved: the trees, records and labels are those of Thorup and Zwick, Compact Routing Schemes, in
-//! this project's profile.
+//! A label of a directory is tested against the one of its node's parent there, so that all are right from the root down; a
+//! home label by a climb from its node, which meets the label's light ports from the last to the first. That these tests
+//! are the rules is proved: the trees, records and labels are those of Thorup and Zwick, Compact Routing Schemes, in this
+//! project's profile.
 //!
 //! The contract that the layers above use is that of [`check`]: Ok exactly where all rules hold, a fault exactly where it
 //! is the first that fails, and what passes carries every packet to its destination over a walk at most three times as

@@ -1,0 +1,95 @@
+-- Where each label of a directory fits the one of its node's parent there, all are right, from the root down, and the other way round.
+use Rattle.std.proofs.Common.{◌≡◌, ◌<◌, ◌+◌, ◌==◌, ℕ, zero, suc, List, sym, refl, ap, subst, ◌∙◌, arith, get_or}
+use Rattle.std.specs.Prelude.{Option, Some, None, IsSome, is_some}
+use Rattle.std.specs.List.{All}
+use Rattle.heavy_labels.specs.Label.{Label}
+use Rattle.heavy_labels.specs.Numbering.{lights_at}
+use Rattle.node_table.specs.declared.parts.Parts.{Parts}
+use Rattle.node_table.specs.declared.parts.Entry.{Entry}
+use Rattle.node_table.specs.declared.parts.Listed.{Listed}
+use Rattle.graph_edits.specs.Edges.{Network}
+use Rattle.node_table.specs.Checks.{distance_of, IsListed}
+use Rattle.node_table.specs.Local.{parent_of, record_at}
+use Rattle.node_table.specs.Ports.{port_to}
+use Rattle.node_table.specs.Tables.{Tables, tables, directory_at}
+use Rattle.node_table.proofs.Serving.CheckedLaw.{first_is_listed}
+use Rattle.node_table.proofs.Serving.Exact.{Distances}
+use Rattle.certificate.specs.Climbs.{AreLinked, AreLinkedBy, AreLinkedOver, HasLights, HoldsFirst, IsLabelRight, IsLinked, lights_up}
+use Rattle.certificate.proofs.ClimbLemmas.{climb_falls, distances_first, lights_of_tree, lights_step}
+use Rattle.certificate.proofs.LabelLemmas.{all_listed, listed_place}
+
+-- a parent has an entry for the same root
+parent_there : (m : Network) (t : Tables) → Distances m t → (r x y : ℕ) (o : Option Entry) → t.entry x r ≡ o → parent_of o ≡ Some y → IsSome (t.entry y r)
+parent_there m t d r x y None g p = absurd (bad p)
+  where
+    bad : None ≡ Some y → ⊥
+    bad e = cc
+parent_there m t d r x y (Some e) g p = ap is_some (d.tight x y r e g p).0.1.1.1.0
+
+-- the light ports of x, where a label has those of its parent y
+over : (m : Network) (p : Parts) → HoldsFirst m p → (u x y : ℕ) → parent_of ((tables p).entry x u) ≡ Some y → (above : List ℕ) → above ≡ lights_up m (tables p) u y
+    → lights_up m (tables p) u x ≡ lights_at ((record_at (tables p) u x).light_depth == (record_at (tables p) u y).light_depth) above (port_to m y x)
+over m p h u x y q above e =
+    let t = tables p in
+    lights_step m t (distances_first m p h) u x y (sym q) ∙ ap (λ ls. lights_at ((record_at t u x).light_depth == (record_at t u y).light_depth) ls (port_to m y x)) (sym e)
+
+linked_lights : (m : Network) (p : Parts) → HoldsFirst m p → (u : ℕ) → All (IsLinked m (tables p) u) (directory_at p u) → (k : ℕ) (e : Listed) → IsListed e (directory_at p u)
+    → IsSome ((tables p).entry e.node u) → distance_of ((tables p).entry e.node u) < k → e.label.lights ≡ lights_up m (tables p) u e.node
+unfolding IsLinked AreLinked HasLights
+linked_lights m p h u all zero e i s l = absurd (omega (arith, l))
+linked_lights m p h u all (suc k) e i s l = by (λ f j there near. linked_lights m p h u all k f j there near) (parent_of ((tables p).entry e.node u)) refl (linked (all_listed (IsLinked m (tables p) u) (directory_at p u) e all i))
+  where
+    Below : Type 0
+    Below = (f : Listed) → IsListed f (directory_at p u) → IsSome ((tables p).entry f.node u) → distance_of ((tables p).entry f.node u) < k → f.label.lights ≡ lights_up m (tables p) u f.node
+
+    linked : IsLinked m (tables p) u e → AreLinkedBy m (tables p) u e.node e.label.lights (parent_of ((tables p).entry e.node u))
+    linked f = (f s).1
+
+    climbed : HasLights m (tables p) u e.node e.label.lights → e.label.lights ≡ lights_up m (tables p) u e.node
+    climbed b = b ∙ sym (lights_of_tree m p h u e.node)
+
+    named : Below → (y : ℕ) → parent_of ((tables p).entry e.node u) ≡ Some y → (o : Option Label) → (tables p).listed u y ≡ o → AreLinkedOver m (tables p) u e.node e.label.lights y o → e.label.lights ≡ lights_up m (tables p) u e.node
+    named ih y q None g b = climbed b
+    named ih y q (Some a) g b =
+        let f = first_is_listed y (directory_at p u) a g in
+        let near = climb_falls m (tables p) (distances_first m p h) u e.node y (sym q) in
+        let there = subst (λ z. IsSome ((tables p).entry z u)) (sym f.1.1.0) (parent_there m (tables p) (distances_first m p h) u e.node y ((tables p).entry e.node u) refl q) in
+        let same = ap (λ z. distance_of ((tables p).entry z u)) f.1.1.0 in
+        let above = ih f.0 f.1.0 there (omega (arith, near, same, l)) in
+        b ∙ sym (over m p h u e.node y q a.lights (ap (λ (z : Label). z.lights) (sym f.1.1.1) ∙ above ∙ ap (λ z. lights_up m (tables p) u z) f.1.1.0))
+
+    by : Below → (o : Option ℕ) → parent_of ((tables p).entry e.node u) ≡ o → AreLinkedBy m (tables p) u e.node e.label.lights o → e.label.lights ≡ lights_up m (tables p) u e.node
+    by ih None q b = climbed b
+    by ih (Some y) q b = named ih y q ((tables p).listed u y) refl b
+
+pub linked_to : (m : Network) (p : Parts) → HoldsFirst m p → (u : ℕ) → All (IsLinked m (tables p) u) (directory_at p u) → All (IsLabelRight m (tables p) u) (directory_at p u)
+unfolding IsLinked IsLabelRight
+linked_to m p h u all i d l s =
+    let e = get_or (directory_at p u) i d in
+    let lights = linked_lights m p h u all (distance_of ((tables p).entry e.node u) + 1) e (listed_place (directory_at p u) i d l) s (omega arith) in
+    ((all i d l s).0, lights ∙ lights_of_tree m p h u e.node)
+
+pub linked_from : (m : Network) (p : Parts) → HoldsFirst m p → (u : ℕ) → All (IsLabelRight m (tables p) u) (directory_at p u) → All (IsLinked m (tables p) u) (directory_at p u)
+unfolding IsLinked IsLabelRight AreLinked HasLights
+linked_from m p h u all i d l s = ((all i d l s).0, by (parent_of ((tables p).entry e.node u)) refl)
+  where
+    e : Listed
+    e = get_or (directory_at p u) i d
+
+    climbed : HasLights m (tables p) u e.node e.label.lights
+    climbed = (all i d l s).1
+
+    right : (f : Listed) → IsLabelRight m (tables p) u f → IsSome ((tables p).entry f.node u) → f.label.lights ≡ lights_up m (tables p) u f.node
+    right f k there = (k there).1 ∙ sym (lights_of_tree m p h u f.node)
+
+    named : (y : ℕ) → parent_of ((tables p).entry e.node u) ≡ Some y → (o : Option Label) → (tables p).listed u y ≡ o → AreLinkedOver m (tables p) u e.node e.label.lights y o
+    named y q None g = climbed
+    named y q (Some a) g =
+        let f = first_is_listed y (directory_at p u) a g in
+        let there = subst (λ z. IsSome ((tables p).entry z u)) (sym f.1.1.0) (parent_there m (tables p) (distances_first m p h) u e.node y ((tables p).entry e.node u) refl q) in
+        let above = right f.0 (all_listed (IsLabelRight m (tables p) u) (directory_at p u) f.0 all f.1.0) there in
+        right e (all i d l) s ∙ over m p h u e.node y q a.lights (ap (λ (z : Label). z.lights) (sym f.1.1.1) ∙ above ∙ ap (λ z. lights_up m (tables p) u z) f.1.1.0)
+
+    by : (o : Option ℕ) → parent_of ((tables p).entry e.node u) ≡ o → AreLinkedBy m (tables p) u e.node e.label.lights o
+    by None q = climbed
+    by (Some y) q = named y q ((tables p).listed u y) refl
