@@ -64,7 +64,7 @@ impl Scheme {
     }
 
     /// The roots of a node's entries.
-    pub fn roots_of(&self, x: u16) -> &[u16]
+    fn roots_of(&self, x: u16) -> &[u16]
         ensures { result.now ≡ roots_of (entries_at self.now x) }
     {
         numbers_at(self.roots.as_slice(), x)

@@ -69,7 +69,7 @@ fn turn<J: Naming, D: Disk, R: Wait + Drop, S: Wait>(
 }
 
 /// Commits what editors submit, until all of them have left, or all stop.
-pub fn commit_all<J: Naming, D: Disk, R: Wait + Drop, S: Wait>(
+pub(crate) fn commit_all<J: Naming, D: Disk, R: Wait + Drop, S: Wait>(
     rt: &S,
     alloc: Global,
     meeting: &Meeting<J>,
@@ -98,7 +98,7 @@ pub fn commit_all<J: Naming, D: Disk, R: Wait + Drop, S: Wait>(
 }
 
 /// Builds the first generation, and gives the meeting that begins with it.
-pub fn opened<J: Naming, D: Disk, R: Wait + Drop>(
+pub(crate) fn opened<J: Naming, D: Disk, R: Wait + Drop>(
     alloc: Global,
     committer: &mut Committer<D, R>,
     source: &mut WordSource,

@@ -23,7 +23,7 @@ pub struct EditorOf<J: Naming> {
 }
 
 impl<J: Naming> EditorOf<J> {
-    pub fn new(editor: Editor) -> EditorOf<J>
+    pub(crate) fn new(editor: Editor) -> EditorOf<J>
         requires { editor.known.opening ≡ J.opening }
         ensures { result.editor ≡ editor }
     {
@@ -136,7 +136,7 @@ fn edit<J: Naming, R: Wait>(
 }
 
 /// Submits the changes in their order, each once the one before is settled, and answers their verdicts. Where all stop, some lack.
-pub fn edit_all<J: Naming, R: Wait>(
+pub(crate) fn edit_all<J: Naming, R: Wait>(
     rt: &R,
     alloc: Global,
     meeting: &Meeting<J>,

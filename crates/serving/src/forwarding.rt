@@ -41,7 +41,7 @@ pub struct ForwarderOf<J: Naming> {
 }
 
 impl<J: Naming> ForwarderOf<J> {
-    pub fn new(reader: BoardReader) -> ForwarderOf<J>
+    pub(crate) fn new(reader: BoardReader) -> ForwarderOf<J>
         requires { reader.all.opening ≡ J.opening }
     {
         ForwarderOf {
@@ -167,7 +167,7 @@ fn forward<J: Naming, G: Gate, R: Wait>(
 }
 
 /// Forwards one packet after the other, and answers what became of each. Where all stop, some lack.
-pub fn forward_all<J: Naming, G: Gate, R: Wait>(
+pub(crate) fn forward_all<J: Naming, G: Gate, R: Wait>(
     rt: &R,
     alloc: Global,
     meeting: &Meeting<J>,

@@ -81,7 +81,7 @@ impl<J: Naming> Hall<J> {
 
 impl<J: Naming> Meeting<J> {
     /// A meeting of so many editors, to which this was told.
-    pub fn new(told: ToldOf<J>, editing: usize) -> Meeting<J> {
+    pub(crate) fn new(told: ToldOf<J>, editing: usize) -> Meeting<J> {
         Meeting {
             hall: Mutex::new(Hall {
                 told,
@@ -96,37 +96,37 @@ impl<J: Naming> Meeting<J> {
     }
 
     /// Tells all what was posted.
-    pub fn tell<R: Wait>(&self, rt: &R, told: ToldOf<J>) {
+    pub(crate) fn tell<R: Wait>(&self, rt: &R, told: ToldOf<J>) {
         self.hall.lock(rt).tell(told);
         self.news.notify_all();
     }
 
     /// Has all stop. The first fault counts.
-    pub fn stop<R: Wait>(&self, rt: &R, fault: Fault) {
+    pub(crate) fn stop<R: Wait>(&self, rt: &R, fault: Fault) {
         self.hall.lock(rt).stop(fault);
         self.news.notify_all();
         self.work.notify_all();
     }
 
     /// An editor has submitted a change.
-    pub fn ask<R: Wait>(&self, rt: &R) {
+    pub(crate) fn ask<R: Wait>(&self, rt: &R) {
         self.hall.lock(rt).ask();
         self.work.notify_all();
     }
 
     /// An editor is done.
-    pub fn leave<R: Wait>(&self, rt: &R) {
+    pub(crate) fn leave<R: Wait>(&self, rt: &R) {
         self.hall.lock(rt).leave();
         self.work.notify_all();
     }
 
     /// What was told last.
-    pub fn news<R: Wait>(&self, rt: &R) -> News<J> {
+    pub(crate) fn news<R: Wait>(&self, rt: &R) -> News<J> {
         self.hall.lock(rt).news()
     }
 
     /// Sleeps until something was told since that turn, or all stop.
-    pub fn await_news<R: Wait>(&self, rt: &R, turn: u64) {
+    pub(crate) fn await_news<R: Wait>(&self, rt: &R, turn: u64) {
         let _hall = self.news.wait_while(
             rt,
             self.hall.lock(rt),
@@ -135,12 +135,12 @@ impl<J: Naming> Meeting<J> {
     }
 
     /// What there is to do.
-    pub fn work<R: Wait>(&self, rt: &R) -> Work {
+    pub(crate) fn work<R: Wait>(&self, rt: &R) -> Work {
         self.hall.lock(rt).work()
     }
 
     /// Sleeps until an editor submitted something or left since then, or all stop.
-    pub fn await_work<R: Wait>(&self, rt: &R, asked: u64) {
+    pub(crate) fn await_work<R: Wait>(&self, rt: &R, asked: u64) {
         let _hall = self.work.wait_while(
             rt,
             self.hall.lock(rt),
@@ -149,7 +149,7 @@ impl<J: Naming> Meeting<J> {
     }
 
     /// Why all stopped, where they did.
-    pub fn fault<R: Wait>(&self, rt: &R) -> Option<Fault> {
+    pub(crate) fn fault<R: Wait>(&self, rt: &R) -> Option<Fault> {
         self.hall.lock(rt).fault
     }
 }

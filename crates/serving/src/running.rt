@@ -152,7 +152,7 @@ fn threads<
 }
 
 /// Builds the first generation, runs all threads, the committer in the caller's, and gives the store back.
-pub fn run<
+pub(crate) fn run<
     J: Naming + Send + Sync,
     D: Disk + Drop,
     G: Gate + Sync,

@@ -47,7 +47,7 @@ fn empty_lists<T: Drop>(alloc: Global, count: u8) -> Result<Vec<Vec<T>>, AllocEr
 }
 
 /// Each session's changes to its editor, and the packets to the forwarders in turn.
-pub fn shared(
+pub(crate) fn shared(
     alloc: Global,
     editors: u8,
     forwarders: u8,
@@ -118,7 +118,7 @@ fn next_answer(turn: Turn, worked: &mut Worked) -> Option<Answer>
 }
 
 /// The answers in the script's order. None where one lacks.
-pub fn in_order(
+pub(crate) fn in_order(
     alloc: Global,
     turns: &[Turn],
     mut worked: Worked,

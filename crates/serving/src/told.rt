@@ -36,7 +36,7 @@ impl<J: Naming> Model for ToldOf<J> {
 }
 
 impl<J: Naming> ToldOf<J> {
-    pub fn new(told: Told) -> ToldOf<J>
+    pub(crate) fn new(told: Told) -> ToldOf<J>
         requires { told.opening ≡ J.opening }
         ensures { result ≡ told }
     {
@@ -47,7 +47,7 @@ impl<J: Naming> ToldOf<J> {
     }
 
     /// The same again.
-    pub fn again(&self) -> ToldOf<J>
+    pub(crate) fn again(&self) -> ToldOf<J>
         ensures { result ≡ self.now }
     {
         ToldOf {
@@ -57,7 +57,7 @@ impl<J: Naming> ToldOf<J> {
     }
 
     /// What readers learn.
-    pub fn told(&self) -> &Told
+    pub(crate) fn told(&self) -> &Told
         ensures same { result.now ≡ self.now }
         ensures of { result.now.opening ≡ J.opening }
     {

@@ -18,7 +18,11 @@ pub enum WordSource {
 
 impl WordSource {
     /// The words that were asked for, of so many nodes.
-    pub fn of(alloc: Global, asked: &LandmarkWords, nodes: u16) -> Result<WordSource, AllocError>
+    pub(crate) fn of(
+        alloc: Global,
+        asked: &LandmarkWords,
+        nodes: u16,
+    ) -> Result<WordSource, AllocError>
         requires { IsWithin asked.now nodes }
         ensures { IfOk result (λ source. IsSourceOf asked.now nodes source) }
     {
