@@ -1,4 +1,4 @@
-ghost use Rattle.std.specs.Prelude.{◌≡◌, ◌+◌, ◌<◌, ◌≤◌, IfOk, OnOk, length, slice_index_or};
+ghost use Rattle.std.specs.Prelude.{◌≡◌, ◌+◌, ◌++◌, ◌<◌, ◌≤◌, ◌∷◌, [], IfOk, OnOk, length, slice_index_or};
 ghost use Rattle.route_tree.specs.Rose.{Tree, tree, of_list, count};
 ghost use Rattle.route_tree.specs.Order.{ascending, HaveEachNodeOnce};
 ghost use Rattle.route_tree.specs.Front.{heavy_to_front};
@@ -21,6 +21,7 @@ fn empty_slots<A: Allocator + Clone>(alloc: &A, members: &[Member]) -> Result<Sl
     ensures { IfOk result (λ s. Waits members.now (length members.now) s.items) }
 {
     let mut slots = Vec::new(alloc.clone()?);
+    slots.reserve_exact(members.len())?;
     for _m in members {
         slots.push(Vec::new(alloc.clone()?))?;
     }
@@ -59,13 +60,23 @@ fn parent_place(places: &[u16], members: &[Member], at: usize) -> usize
     places[parent as usize] as usize
 }
 
+/// A slot with a tree more. Most members have one child, so a slot has room for one at first.
+fn put<A: Allocator>(slot: &mut Vec<Twig<A>, A>, twig: Twig<A>) -> Result<(), AllocError>
+    ensures { OnOk result (slot.new.items ≡ slot.old.items ++ twig ∷ []) }
+{
+    if slot.is_empty() {
+        slot.reserve_exact(1)?;
+    }
+    slot.push(twig)?;
+    Ok(())
+}
+
 /// Puts a tree into its parent's slot, behind those that came before.
 fn hang<A: Allocator>(slots: &mut Slots<A>, place: usize, twig: Twig<A>) -> Result<(), AllocError>
     requires { place < length slots.old.items }
     ensures { OnOk result (IsHung slots.old.items place twig slots.new.items) }
 {
-    let slot = &mut slots[place];
-    slot.push(twig)?;
+    put(&mut slots[place], twig)?;
     Ok(())
 }
 
