@@ -1,5 +1,5 @@
 -- What each step of a build does to the tables.
-use Rattle.std.specs.Prelude.{◌≡◌, ℕ, ◌<◌, ◌==◌, Bool, true, false, cond, Option, Some, None, List, [], ◌∷◌, ◌++◌, length, map, nat_eq, slice_get, IsPermutation}
+use Rattle.std.specs.Prelude.{◌≡◌, ℕ, ◌<◌, ◌==◌, Bool, true, false, cond, Option, Some, None, List, [], ◌∷◌, ◌++◌, length, nat_eq, slice_get, IsPermutation}
 use Rattle.std.specs.List.{All, IsDistinct}
 use Rattle.std.specs.List.Sorted.{IsStrictlyIncreasing}
 use Rattle.std.specs.declared.vec.Vec.{Vec}
@@ -7,13 +7,13 @@ use Rattle.graph_edits.specs.Edges.{Network}
 use Rattle.distances.specs.Nearest.{near_limit}
 use Rattle.distances.specs.declared.nearest.Near.{Near}
 use Rattle.heavy_labels.specs.Label.{Label}
+use Rattle.heavy_labels.specs.declared.numbered_member.NumberedMember.{NumberedMember}
 use Rattle.node_table.specs.declared.parts.Parts.{Parts}
 use Rattle.node_table.specs.declared.parts.Entry.{Entry}
 use Rattle.node_table.specs.declared.parts.Listed.{Listed}
-use Rattle.node_table.specs.declared.columns.Row.{Row}
 use Rattle.node_table.specs.Tables.{nodes_of, or_none, or_false}
 use Rattle.node_table.specs.Columns.{IsColumn, IsBuilt}
-use Rattle.node_table.specs.RowLists.{nodes_in, entry_in, label_in}
+use Rattle.node_table.specs.RowLists.{Row, nodes_in, entry_in, label_in}
 
 -- the list at a place, empty where there is none
 abbrev pub items_at : {X A : Type 0} → List (Vec X A) → ℕ → List X
@@ -28,15 +28,19 @@ entries_for x (w ∷ ws) = cond (w.node == x) (w.entry ∷ entries_for x ws) (en
 abbrev pub listed_row : Row → Listed
 listed_row w = record { node = w.node; label = w.label }
 
--- a root's directory lists its rows by ascending node
-pub record IsDirectoryOf (ws : List Row) (all : List Listed) : Type 0 where
-  pub same : IsPermutation (map listed_row ws) all
+-- a numbered member in its root's directory
+abbrev pub listed_member : NumberedMember → Listed
+listed_member n = record { node = n.node; label = n.label }
+
+-- a root's directory has these members of its tree, by ascending node
+pub record IsDirectoryOf (ls all : List Listed) : Type 0 where
+  pub same : IsPermutation ls all
   pub ascend : IsStrictlyIncreasing (nodes_of all)
 
--- a landmark's directory stays, another root's lists its rows
-abbrev pub IsDirectoryAfter : Bool → List Row → List Listed → List Listed → Type 0
-IsDirectoryAfter true ws before after = after ≡ before
-IsDirectoryAfter false ws before after = IsDirectoryOf ws after
+-- a landmark's directory stays, another root's has these members of its tree
+abbrev pub IsDirectoryAfter : Bool → List Listed → List Listed → List Listed → Type 0
+IsDirectoryAfter true ls before after = after ≡ before
+IsDirectoryAfter false ls before after = IsDirectoryOf ls after
 
 -- whether the nearest landmark is r
 abbrev pub has_home : Option Near → ℕ → Bool
@@ -48,10 +52,10 @@ abbrev pub home_by : Option Near → ℕ → Label → Option Label → Option L
 home_by None r l o = o
 home_by (Some q) r l o = cond (q.landmark == r) (Some l) o
 
--- the home label of v after these rows of the tree of r
-abbrev pub home_after : Option Near → ℕ → List Row → ℕ → Option Label → Option Label
+-- the home label of v after these members of the tree of r
+abbrev pub home_after : Option Near → ℕ → List Listed → ℕ → Option Label → Option Label
 home_after near r [] v o = o
-home_after near r (w ∷ ws) v o = home_after near r ws v (cond (w.node == v) (home_by near r w.label o) o)
+home_after near r (l ∷ ls) v o = home_after near r ls v (cond (l.node == v) (home_by near r l.label o) o)
 
 -- the limit of the tree of r
 abbrev pub limit_by : Bool → List (Option Near) → ℕ → Option ℕ
@@ -65,8 +69,8 @@ pub record AreRowsOf (m : Network) (p : Parts) (r : ℕ) (ws : List Row) : Type 
   pub root : All (λ w. w.entry.root ≡ r) ws
   pub column : IsColumn m (limit_by (or_false (slice_get p.landmarks.items r)) p.nearest.items) r (entry_in ws) (label_in ws)
 
--- the tables after the rows of the tree of r
-pub record IsWith (p : Parts) (r : ℕ) (ws : List Row) (q : Parts) : Type 0 where
+-- the tables after the rows of the tree of r, which are listed as ls
+pub record IsWith (p : Parts) (r : ℕ) (ws : List Row) (ls : List Listed) (q : Parts) : Type 0 where
   pub nodes : q.nodes ≡ p.nodes
   pub generation : q.generation ≡ p.generation
   pub landmarks : q.landmarks.items ≡ p.landmarks.items
@@ -75,10 +79,10 @@ pub record IsWith (p : Parts) (r : ℕ) (ws : List Row) (q : Parts) : Type 0 whe
   pub entries_length : length q.entries.items ≡ length p.entries.items
   pub entries : (x : ℕ) → items_at q.entries.items x ≡ items_at p.entries.items x ++ entries_for x ws
   pub directories_length : length q.directories.items ≡ length p.directories.items
-  pub directory : IsDirectoryAfter (or_false (slice_get p.landmarks.items r)) ws (items_at p.directories.items r) (items_at q.directories.items r)
+  pub directory : IsDirectoryAfter (or_false (slice_get p.landmarks.items r)) ls (items_at p.directories.items r) (items_at q.directories.items r)
   pub other_directories : (x : ℕ) → (x ≡ r → ⊥) → items_at q.directories.items x ≡ items_at p.directories.items x
   pub homes_length : length q.homes.items ≡ length p.homes.items
-  pub homes : (v : ℕ) → or_none (slice_get q.homes.items v) ≡ home_after (or_none (slice_get p.nearest.items v)) r ws v (or_none (slice_get p.homes.items v))
+  pub homes : (v : ℕ) → or_none (slice_get q.homes.items v) ≡ home_after (or_none (slice_get p.nearest.items v)) r ls v (or_none (slice_get p.homes.items v))
 
 -- the tables of a build that holds the trees of the first k roots
 pub record IsBuildOf (m : Network) (flags : List Bool) (nearest : List (Option Near)) (generation : ℕ) (p : Parts) (k : ℕ) : Type 0 where

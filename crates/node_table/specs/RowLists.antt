@@ -1,5 +1,5 @@
 -- Rows of one root's tree, a row for each member.
-use Rattle.std.specs.Prelude.{◌≡◌, ℕ, ◌<◌, ◌==◌, cond, Option, Some, None, List, [], ◌∷◌, length, map, slice_index}
+use Rattle.std.specs.Prelude.{◌≡◌, ℕ, ◌<◌, ◌==◌, cond, Option, Some, None, List, [], ◌∷◌, length, map, slice_index, slice_index_or}
 use Rattle.std.specs.List.{All, Contains}
 use Rattle.std.specs.Option.{option_map}
 use Rattle.distances.specs.declared.reach.Reached.{Reached}
@@ -7,7 +7,12 @@ use Rattle.distances.specs.declared.linked.Linked.{Linked}
 use Rattle.heavy_labels.specs.Label.{Label}
 use Rattle.heavy_labels.specs.declared.numbered_member.NumberedMember.{NumberedMember}
 use Rattle.node_table.specs.declared.parts.Entry.{Entry}
-use Rattle.node_table.specs.declared.columns.Row.{Row}
+
+-- a member of a root's tree, with its entry for the root and its label
+pub record Row : Type 0 where
+  pub node : ℕ
+  pub entry : Entry
+  pub label : Label
 
 -- a table has for each of the first n nodes of a list a place at which the list has that node
 abbrev pub ArePlacesTo : List ℕ → ℕ → List ℕ → Type 0
@@ -24,6 +29,26 @@ nodes_linked ks = map (λ k. k.reached.node) ks
 -- the nodes that were numbered
 abbrev pub nodes_numbered : List NumberedMember → List ℕ
 nodes_numbered ns = map (λ n. n.node) ns
+
+-- what stands for a place past the end
+abbrev pub nobody : Linked
+nobody = record { reached = record { distance = 0; node = 0; parent = None }; up = None; down = None }
+
+-- what was reached at the place that the table has for a node
+abbrev pub reached_at : List Linked → List ℕ → ℕ → Reached
+reached_at ks table x = (slice_index_or ks (slice_index table x) nobody).reached
+
+-- the entry of a numbered member for the root r
+abbrev pub entry_by : ℕ → List Linked → List ℕ → NumberedMember → Entry
+entry_by r ks table n = record { distance = (reached_at ks table n.node).distance; root = r; parent = (reached_at ks table n.node).parent; tree_record = n.tree_record }
+
+-- the row of a numbered member
+abbrev pub row_by : ℕ → List Linked → List ℕ → NumberedMember → Row
+row_by r ks table n = record { node = n.node; entry = entry_by r ks table n; label = n.label }
+
+-- the rows of what was numbered, in its order
+abbrev pub rows_by : ℕ → List Linked → List ℕ → List NumberedMember → List Row
+rows_by r ks table ns = map (row_by r ks table) ns
 
 -- the nodes of rows
 abbrev pub nodes_in : List Row → List ℕ
@@ -43,7 +68,7 @@ pub record IsRowOf (r : ℕ) (k : Reached) (n : NumberedMember) (w : Row) : Type
 abbrev pub IsRowFrom : ℕ → List Reached → List NumberedMember → Row → Type 0
 IsRowFrom r ks ns w = (k : Reached) × (n : NumberedMember) × (Contains ks k × Contains ns n × IsRowOf r k n w)
 
--- the rows of what was numbered, in its order
+-- a row for each of what was numbered, in its order
 pub record IsRowList (r : ℕ) (ks : List Reached) (ns : List NumberedMember) (ws : List Row) : Type 0 where
   pub each : All (IsRowFrom r ks ns) ws
   pub nodes : nodes_in ws ≡ nodes_numbered ns

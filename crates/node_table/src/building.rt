@@ -1,30 +1,30 @@
 // Schemes out of graphs.
-ghost use Rattle.std.specs.Prelude.{◌≡◌, ◌<◌, ◌≤◌, ◌+◌, ◌++◌, ◌∷◌, ◌↔◌, IsSome, ◌==◌, [], ℕ, None, Some, true, false, cond, All, IfOk, OnOk, length, map, nat_eq, slice_get, slice_index_or};
+ghost use Rattle.std.specs.Prelude.{◌≡◌, ◌<◌, ◌≤◌, ◌+◌, ◌++◌, ◌∷◌, ◌↔◌, IsSome, ◌==◌, [], ℕ, None, Some, true, false, cond, All, IfOk, OnOk, length, map, nat_eq, slice_get, slice_index, slice_index_or};
 ghost use Rattle.std.specs.List.{IsDistinct};
 ghost use Rattle.std.specs.List.Sorted.{IsNonDecreasingBy, IsPermutation};
 ghost use Rattle.distances.specs.Nearest.{IsNearestOf};
-ghost use Rattle.node_table.specs.Building.{IsDirectoryAfter, IsDirectoryOf, IsWith, IsBuildOf, entries_for, has_home, home_after, home_by, items_at, limit_by, listed_row};
+ghost use Rattle.node_table.specs.Building.{IsDirectoryAfter, IsDirectoryOf, IsWith, IsBuildOf, entries_for, has_home, home_after, home_by, items_at, limit_by, listed_member};
 ghost use Rattle.node_table.specs.Checks.{IsChecked};
 ghost use Rattle.node_table.specs.Columns.{IsColumn};
 ghost use Rattle.node_table.specs.Laws.{IsInTree, NearestIsRight};
-ghost use Rattle.node_table.specs.RowLists.{entry_in, label_in, nodes_in};
+ghost use Rattle.node_table.specs.RowLists.{entry_in, label_in, nodes_numbered, rows_by};
 ghost use Rattle.node_table.specs.Ports.{neighbours};
 ghost use Rattle.node_table.specs.Service.{Serves};
 ghost use Rattle.node_table.specs.Tables.{tables, or_none};
 
-use crate::columns::{Row, tree_rows};
+use crate::columns::{entry_of, number_reached};
 use crate::laws::graph_is_sound;
 use crate::parts::{Entry, Listed, Near, Parts};
 use crate::scheme::Scheme;
 use clusters::cluster_in;
-use distances::{Nearest, Workspace, from_landmarks};
+use distances::{Linked, Nearest, Workspace, from_landmarks};
 use graph_edits::Graph;
-use heavy_labels::Label;
+use heavy_labels::{Label, Numbered, NumberedMember};
 use landmarks::Landmarks;
 use std::alloc::{AllocError, Allocator, Global};
 
-/// For how many entries a list has room at first.
-const LEAST_ROOM: usize = 4;
+/// For how many entries a list has room at first. A node is in many trees, so a smaller list would only grow more often.
+const LEAST_ROOM: usize = 16;
 
 /// A list with an entry more. A full list grows by a quarter: where it doubles, a third of what the lists take lies unused.
 fn push_entry(list: &mut Vec<Entry>, entry: Entry) -> Result<(), AllocError>
@@ -47,33 +47,42 @@ fn push_at(lists: &mut Vec<Vec<Entry>>, at: usize, entry: Entry) -> Result<(), A
     Ok(())
 }
 
-/// The entry of each row, at the end of its node's.
-fn add_entries(entries: &mut Vec<Vec<Entry>>, rows: &[Row]) -> Result<(), AllocError>
-    requires { All (λ w. w.node < length entries.old.items) rows.now }
+/// The entry of each numbered member for the root, at the end of its node's.
+fn add_entries(
+    entries: &mut Vec<Vec<Entry>>,
+    root: u16,
+    reached: &[Linked],
+    places: &[u16],
+    numbered: &[NumberedMember],
+) -> Result<(), AllocError>
+    requires entries { All (λ n. n.node < length entries.old.items) numbered.now }
+    requires places { All (λ n. n.node < length places.now) numbered.now }
+    requires reached { All (λ n. slice_index places.now n.node < length reached.now) numbered.now }
     ensures length { OnOk result (length entries.new.items ≡ length entries.old.items) }
-    ensures items { OnOk result ((x : ℕ) → items_at entries.new.items x ≡ items_at entries.old.items x ++ entries_for x rows.now) }
+    ensures items { OnOk result ((x : ℕ) → items_at entries.new.items x ≡ items_at entries.old.items x ++ entries_for x (rows_by root reached.now places.now numbered.now)) }
 {
-    for row in rows {
-        push_at(entries, row.node as usize, row.entry)?;
+    for member in numbered {
+        let entry = entry_of(root, reached, places, member);
+        push_at(entries, member.node as usize, entry)?;
     }
     Ok(())
 }
 
-/// A row's node with its label.
-fn listed(row: Row) -> Listed
-    ensures { result ≡ listed_row row }
+/// A numbered member's node with its label.
+fn listed(member: NumberedMember) -> Listed
+    ensures { result ≡ listed_member member }
 {
-    let Row { node, label, .. } = row;
+    let NumberedMember { node, label, .. } = member;
     Listed { node, label }
 }
 
-/// The nodes of rows with their labels, in the same order.
-fn listed_rows(alloc: Global, rows: Vec<Row>) -> Result<Vec<Listed>, AllocError>
-    ensures { IfOk result (λ all. all.items ≡ map listed_row rows.items) }
+/// The nodes of numbered members with their labels, in the same order.
+fn listed_members(alloc: Global, numbered: Numbered) -> Result<Vec<Listed>, AllocError>
+    ensures { IfOk result (λ all. all.items ≡ map listed_member numbered.items) }
 {
-    let mut all = Vec::with_capacity(alloc, rows.len())?;
-    for row in rows {
-        all.push(listed(row))?;
+    let mut all = Vec::with_capacity(alloc, numbered.len())?;
+    for member in numbered {
+        all.push(listed(member))?;
     }
     Ok(all)
 }
@@ -86,12 +95,12 @@ fn sort_by_node(directory: &mut Vec<Listed>)
     directory.sort_unstable_by_key(|listed| listed.node);
 }
 
-/// The directory of a root out of its rows.
-fn directory(alloc: Global, rows: Vec<Row>) -> Result<Vec<Listed>, AllocError>
-    requires { IsDistinct nat_eq (nodes_in rows.items) }
-    ensures { IfOk result (λ all. IsDirectoryOf rows.items all.items) }
+/// The directory of a root out of its numbered members.
+fn directory(alloc: Global, numbered: Numbered) -> Result<Vec<Listed>, AllocError>
+    requires { IsDistinct nat_eq (nodes_numbered numbered.items) }
+    ensures { IfOk result (λ all. IsDirectoryOf (map listed_member numbered.items) all.items) }
 {
-    let mut all = listed_rows(alloc, rows)?;
+    let mut all = listed_members(alloc, numbered)?;
     sort_by_node(&mut all);
     Ok(all)
 }
@@ -117,15 +126,20 @@ fn set_home(homes: &mut [Option<Label>], at: usize, near: Option<Near>, root: u1
     homes[at] = Some(label.copy());
 }
 
-/// The home labels of the nodes whose nearest landmark is the root of the rows.
-fn set_homes(homes: &mut [Option<Label>], nearest: &[Option<Near>], root: u16, rows: &[Row])
-    requires homes { All (λ w. w.node < length homes.old) rows.now }
-    requires nearest { All (λ w. w.node < length nearest.now) rows.now }
-    ensures { (v : ℕ) → or_none (slice_get homes.new v) ≡ home_after (or_none (slice_get nearest.now v)) root rows.now v (or_none (slice_get homes.old v)) }
+/// The home labels of the numbered members whose nearest landmark is the root.
+fn set_homes(
+    homes: &mut [Option<Label>],
+    nearest: &[Option<Near>],
+    root: u16,
+    numbered: &[NumberedMember],
+)
+    requires homes { All (λ n. n.node < length homes.old) numbered.now }
+    requires nearest { All (λ n. n.node < length nearest.now) numbered.now }
+    ensures { (v : ℕ) → or_none (slice_get homes.new v) ≡ home_after (or_none (slice_get nearest.now v)) root (map listed_member numbered.now) v (or_none (slice_get homes.old v)) }
 {
-    for row in rows {
-        let at = row.node as usize;
-        set_home(homes, at, nearest[at], root, &row.label);
+    for member in numbered {
+        let at = member.node as usize;
+        set_home(homes, at, nearest[at], root, &member.label);
     }
 }
 
@@ -135,44 +149,56 @@ fn set_directory(
     directories: &mut Vec<Vec<Listed>>,
     root: u16,
     landmark: bool,
-    rows: Vec<Row>,
+    numbered: Numbered,
 ) -> Result<(), AllocError>
     requires root { root < length directories.old.items }
-    requires apart { IsDistinct nat_eq (nodes_in rows.items) }
+    requires apart { IsDistinct nat_eq (nodes_numbered numbered.items) }
     ensures length { OnOk result (length directories.new.items ≡ length directories.old.items) }
-    ensures here { OnOk result (IsDirectoryAfter landmark rows.items (items_at directories.old.items root) (items_at directories.new.items root)) }
+    ensures here { OnOk result (IsDirectoryAfter landmark (map listed_member numbered.items) (items_at directories.old.items root) (items_at directories.new.items root)) }
     ensures others { OnOk result ((x : ℕ) → (x ≡ root → ⊥) → items_at directories.new.items x ≡ items_at directories.old.items x) }
 {
     if landmark {
         return Ok(());
     }
-    directories[root as usize] = directory(alloc, rows)?;
+    directories[root as usize] = directory(alloc, numbered)?;
     Ok(())
 }
 
-/// The rows of a root's tree, in the tables.
-fn add_rows(alloc: Global, parts: &mut Parts, root: u16, rows: Vec<Row>) -> Result<(), AllocError>
+/// The rows of a root's tree, in the tables: each numbered member has its entry and its label. The places tell where it was
+/// reached.
+fn add_rows(
+    alloc: Global,
+    parts: &mut Parts,
+    root: u16,
+    reached: &[Linked],
+    places: &[u16],
+    numbered: Numbered,
+) -> Result<(), AllocError>
     requires landmarks { root < length parts.old.landmarks.items }
     requires directories { root < length parts.old.directories.items }
-    requires entries { All (λ w. w.node < length parts.old.entries.items) rows.items }
-    requires homes { All (λ w. w.node < length parts.old.homes.items) rows.items }
-    requires nearest { All (λ w. w.node < length parts.old.nearest.items) rows.items }
-    requires apart { IsDistinct nat_eq (nodes_in rows.items) }
-    ensures { OnOk result (IsWith parts.old root rows.items parts.new) }
+    requires entries { All (λ n. n.node < length parts.old.entries.items) numbered.items }
+    requires homes { All (λ n. n.node < length parts.old.homes.items) numbered.items }
+    requires nearest { All (λ n. n.node < length parts.old.nearest.items) numbered.items }
+    requires places { All (λ n. n.node < length places.now) numbered.items }
+    requires reached { All (λ n. slice_index places.now n.node < length reached.now) numbered.items }
+    requires apart { IsDistinct nat_eq (nodes_numbered numbered.items) }
+    ensures { OnOk result (IsWith parts.old root (rows_by root reached.now places.now numbered.items) (map listed_member numbered.items) parts.new) }
 {
-    add_entries(&mut parts.entries, rows.as_slice())?;
+    let members = numbered.as_slice();
+    add_entries(&mut parts.entries, root, reached, places, members)?;
     let landmark = parts.landmarks[root as usize];
     set_homes(
         parts.homes.as_mut_slice(),
         parts.nearest.as_slice(),
         root,
-        rows.as_slice(),
+        members,
     );
-    set_directory(alloc, &mut parts.directories, root, landmark, rows)
+    set_directory(alloc, &mut parts.directories, root, landmark, numbered)
 }
 
-/// The rows of a root's tree: what a landmark reaches, or the cluster of another node.
-fn root_rows<A: Allocator>(
+/// The numbered members of a root's tree: what a landmark reaches, or the cluster of another node. The workspace then holds
+/// what was reached, and the places tell where.
+fn root_members<A: Allocator>(
     alloc: Global,
     graph: &Graph,
     landmarks: &Landmarks,
@@ -181,7 +207,7 @@ fn root_rows<A: Allocator>(
     places: &mut [u16],
     root: u16,
     scratch: A,
-) -> Result<Vec<Row>, AllocError>
+) -> Result<Numbered, AllocError>
     requires inside { root < graph.now.nodes }
     requires same_size { length landmarks.now ≡ graph.now.nodes }
     requires nodes { length nearest.now.nearest ≡ graph.now.nodes }
@@ -189,18 +215,20 @@ fn root_rows<A: Allocator>(
     requires workspace { workspace.old.nodes ≡ graph.now.nodes }
     requires places { length places.old ≡ graph.now.nodes }
     ensures workspace { workspace.new.nodes ≡ workspace.old.nodes }
-    ensures apart { IfOk result (λ rows. IsDistinct nat_eq (nodes_in rows.items)) }
-    ensures inside { IfOk result (λ rows. All (λ w. w.node < graph.now.nodes) rows.items) }
-    ensures root { IfOk result (λ rows. All (λ w. w.entry.root ≡ root) rows.items) }
-    ensures column { IfOk result (λ rows. IsColumn graph.now (limit_by (slice_index_or landmarks.now root false) nearest.now.nearest) root (entry_in rows.items) (label_in rows.items)) }
+    ensures apart { IfOk result (λ numbered. IsDistinct nat_eq (nodes_numbered numbered.items)) }
+    ensures inside { IfOk result (λ numbered. All (λ n. n.node < graph.now.nodes) numbered.items) }
+    ensures places { IfOk result (λ numbered. All (λ n. n.node < length places.new) numbered.items) }
+    ensures reached { IfOk result (λ numbered. All (λ n. slice_index places.new n.node < length workspace.new.members) numbered.items) }
+    ensures column { IfOk result (λ numbered. IsColumn graph.now (limit_by (slice_index_or landmarks.now root false) nearest.now.nearest) root
+        (entry_in (rows_by root workspace.new.members places.new numbered.items)) (label_in (rows_by root workspace.new.members places.new numbered.items))) }
 {
     graph_is_sound(graph);
     if landmarks.holds(root) {
         workspace.from_root(graph, root)?;
-        return tree_rows(alloc, graph, root, workspace.members(), places, scratch);
+        return number_reached(alloc, graph, root, workspace.members(), places, scratch);
     }
     cluster_in(workspace, graph, nearest, root)?;
-    tree_rows(alloc, graph, root, workspace.members(), places, scratch)
+    number_reached(alloc, graph, root, workspace.members(), places, scratch)
 }
 
 fn ports_of(alloc: Global, graph: &Graph, x: u16) -> Result<Vec<u16>, AllocError>
@@ -334,10 +362,10 @@ fn add_root<A: Allocator>(
     ensures workspace { workspace.new.nodes ≡ workspace.old.nodes }
     ensures built { OnOk result (IsBuildOf graph.now landmarks.now nearest.now.nearest parts.old.generation parts.new (root + 1)) }
 {
-    let rows = root_rows(
+    let numbered = root_members(
         alloc, graph, landmarks, nearest, workspace, places, root, scratch,
     )?;
-    add_rows(alloc, parts, root, rows)
+    add_rows(alloc, parts, root, workspace.members(), places, numbered)
 }
 
 /// The trees of all roots, one after the other, over one workspace.

@@ -1,6 +1,6 @@
-// The tree of one root, as rows: a row is a member with its entry for the root and its label.
+// The tree of one root, as numbered members, and the entry of each.
 ghost use Rattle.std.specs.Prelude.{◌≡◌, ◌<◌, ◌≤◌, ℕ, Option, true, IfOk, IsPermutation, length, map, nat_eq, slice_index, slice_index_or};
-ghost use Rattle.std.specs.List.{All, Contains, IsDistinct};
+ghost use Rattle.std.specs.List.{All, IsDistinct};
 ghost use Rattle.distances.specs.Reach.{IsTree};
 ghost use Rattle.distances.specs.Search.{is_below};
 ghost use Rattle.distances.specs.Workspace.{reached_of, AreLinked};
@@ -11,23 +11,15 @@ ghost use Rattle.route_tree.specs.Members.{AreMembers};
 ghost use Rattle.route_tree.specs.Places.{HasPlaces};
 ghost use Rattle.route_tree.specs.Rose.{Tree};
 ghost use Rattle.node_table.specs.Columns.{linked_member, IsColumn};
-ghost use Rattle.node_table.specs.RowLists.{ArePlaces, IsRowOf, IsRowFrom, IsRowList, entry_in, label_in, nodes_in, nodes_linked, nodes_numbered};
+ghost use Rattle.node_table.specs.RowLists.{ArePlaces, entry_by, entry_in, label_in, nodes_linked, nodes_numbered, rows_by};
 
 use crate::parts::Entry;
 use bumpalo::Bump;
-use distances::{Linked, Reached};
+use distances::Linked;
 use graph_edits::{Graph, MOST_NODES};
-use heavy_labels::{Label, Numbered, NumberedMember, number};
+use heavy_labels::{Numbered, NumberedMember, number};
 use route_tree::{MOST_MEMBERS, Member, RouteTree};
 use std::alloc::{AllocError, Allocator, Global};
-
-/// A member of a root's tree.
-#[derive(Drop)]
-pub(crate) struct Row {
-    pub node: u16,
-    pub entry: Entry,
-    pub label: Label,
-}
 
 const _: () = prove!(MOST_NODES as usize <= MOST_MEMBERS);
 
@@ -88,72 +80,51 @@ fn note_places(reached: &[Linked], places: &mut [u16])
     }
 }
 
-/// The row of a member, from what was reached and what was numbered.
-fn joined(root: u16, reached: &Reached, numbered: NumberedMember) -> Row
-    requires { reached.now.node ≡ numbered.node }
-    ensures { IsRowOf root reached.now numbered result }
-{
-    let NumberedMember {
-        node,
-        tree_record,
-        label,
-    } = numbered;
-    Row {
-        node,
-        entry: Entry {
-            root,
-            distance: reached.distance,
-            parent: reached.parent,
-            tree_record,
-        },
-        label,
-    }
-}
-
-/// The rows of what was numbered, in its order. The places tell where each node was reached.
-fn row_list(
-    alloc: Global,
+/// A numbered member's entry for the root. The places tell where its node was reached.
+pub(crate) fn entry_of(
     root: u16,
     reached: &[Linked],
     places: &[u16],
-    numbered: Numbered,
-) -> Result<Vec<Row>, AllocError>
-    requires places { ArePlaces (nodes_linked reached.now) places.now }
-    requires reached { All (λ x. Contains (nodes_linked reached.now) x) (nodes_numbered numbered.items) }
-    requires inside { All (λ x. x < length places.now) (nodes_numbered numbered.items) }
-    ensures { IfOk result (λ rows. IsRowList root (reached_of reached.now) numbered.items rows.items) }
+    member: &NumberedMember,
+) -> Entry
+    requires places { member.now.node < length places.now }
+    requires reached { slice_index places.now member.now.node < length reached.now }
+    ensures { result ≡ entry_by root reached.now places.now member.now }
 {
-    let mut rows = Vec::with_capacity(alloc, numbered.len())?;
-    for member in numbered {
-        let place = places[member.node as usize] as usize;
-        rows.push(joined(root, &reached[place].reached, member))?;
+    let place = places[member.node as usize] as usize;
+    let there = &reached[place].reached;
+    Entry {
+        root,
+        distance: there.distance,
+        parent: there.parent,
+        tree_record: member.tree_record,
     }
-    Ok(rows)
 }
 
-/// The rows of the tree of what is reached from a root. The places are room for a number for each node; what they held
-/// doesn't matter.
-pub(crate) fn tree_rows<A: Allocator>(
+/// The numbered members of the tree of what is reached from a root. The places are room for a number for each node: what they
+/// held doesn't matter, and they then tell where each member was reached.
+pub(crate) fn number_reached<A: Allocator>(
     alloc: Global,
     graph: &Graph,
     root: u16,
     reached: &[Linked],
     places: &mut [u16],
     scratch: A,
-) -> Result<Vec<Row>, AllocError>
+) -> Result<Numbered, AllocError>
     requires inside { root < graph.now.nodes }
     requires places { length places.old ≡ graph.now.nodes }
     requires tree { (limit : ℕ → Option ℕ) × (IsTree graph.now.edges root limit (reached_of reached.now) × (is_below 0 (limit root) ≡ true)) }
     requires ports { AreLinked graph.now reached.now }
-    ensures apart { IfOk result (λ rows. IsDistinct nat_eq (nodes_in rows.items)) }
-    ensures inside { IfOk result (λ rows. All (λ w. w.node < graph.now.nodes) rows.items) }
-    ensures root { IfOk result (λ rows. All (λ w. w.entry.root ≡ root) rows.items) }
-    ensures column { IfOk result (λ rows. (limit : ℕ → Option ℕ) → IsTree graph.now.edges root limit (reached_of reached.now) → is_below 0 (limit root) ≡ true
-        → IsColumn graph.now limit root (entry_in rows.items) (label_in rows.items)) }
+    ensures apart { IfOk result (λ numbered. IsDistinct nat_eq (nodes_numbered numbered.items)) }
+    ensures inside { IfOk result (λ numbered. All (λ n. n.node < graph.now.nodes) numbered.items) }
+    ensures places { IfOk result (λ numbered. All (λ n. n.node < length places.new) numbered.items) }
+    ensures reached { IfOk result (λ numbered. All (λ n. slice_index places.new n.node < length reached.now) numbered.items) }
+    ensures column { IfOk result (λ numbered. (limit : ℕ → Option ℕ) → IsTree graph.now.edges root limit (reached_of reached.now) → is_below 0 (limit root) ≡ true
+        → IsColumn graph.now limit root (entry_in (rows_by root reached.now places.new numbered.items)) (label_in (rows_by root reached.now places.new numbered.items))) }
 {
     let _sound = graph.nodes();
     let members = members(alloc, reached)?;
     note_places(reached, places);
     let numbered = numbered(alloc, root, &members, places, scratch)?;
-    row_list(alloc, root, reached, places, numbered)
+    Ok(numbered)
 }

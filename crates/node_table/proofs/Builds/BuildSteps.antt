@@ -3,7 +3,7 @@ use Rattle.std.proofs.Common.{◌≡◌, ℕ, zero, suc, ◌+◌, ◌<◌, ◌�
 use Rattle.std.specs.Prelude.{Option, Some, None, nat_eq, slice_get, slice_index, slice_index_or}
 use Rattle.std.specs.List.{IsDistinct}
 use Rattle.std.specs.List.Sorted.{IsNonDecreasingBy}
-use Rattle.std.proofs.lemmas.List.{get_or-map}
+use Rattle.std.proofs.lemmas.List.{get_or-map, map-append}
 use Rattle.std.proofs.lemmas.List.Sorted.{IsPermutation-map}
 use Rattle.std.proofs.lemmas.Map.Keys.{IsDistinct-IsPermutation, IsDistinct-head, IsDistinct-tail}
 use Rattle.std.proofs.Math.ListN.{set}
@@ -16,12 +16,13 @@ use Rattle.distances.specs.Search.{is_below}
 use Rattle.distances.specs.Nearest.{IsNearestOf, near_limit}
 use Rattle.distances.specs.declared.nearest.Near.{Near}
 use Rattle.heavy_labels.specs.Label.{Label}
+use Rattle.heavy_labels.specs.declared.numbered_member.NumberedMember.{NumberedMember}
+use Rattle.distances.specs.declared.linked.Linked.{Linked}
 use Rattle.node_table.specs.declared.parts.Entry.{Entry}
-use Rattle.node_table.specs.declared.columns.Row.{Row}
 use Rattle.node_table.specs.declared.parts.Listed.{Listed}
 use Rattle.node_table.specs.Tables.{nodes_of, or_none}
-use Rattle.node_table.specs.RowLists.{nodes_in}
-use Rattle.node_table.specs.Building.{items_at, entries_for, home_by, home_after, listed_row, IsDirectoryOf}
+use Rattle.node_table.specs.RowLists.{Row, entry_by, nodes_numbered, row_by, rows_by}
+use Rattle.node_table.specs.Building.{items_at, entries_for, home_by, home_after, listed_member, listed_row, IsDirectoryOf}
 use Rattle.node_table.proofs.Builds.RowColumns.{flips}
 use Rattle.node_table.proofs.Builds.Built.{zero_walk}
 
@@ -62,7 +63,7 @@ pushed_at A vs i old new e l is more x = go (i == x) refl
         (items_set vs i new l ∙ more ∙ ap (λ z. z ++ e ∷ []) (ap (λ (v : Vec Entry A). v.items) is ∙ sym (items_are vs i old l)))
     go false t = items_other vs i x new (λ s. not_both (eq-eqb i x (sym s)) t) ∙ append_nil (items_at vs x)
 
--- ---- one row more
+-- ---- one numbered member more
 
 take_next : {X : Type 0} (xs : List X) (i : ℕ) (x : X) → i < length xs → x ≡ get_or xs i x → take (i + 1) xs ≡ take i xs ++ x ∷ []
 take_next {X = X} xs i x l e = ap (λ k. take k xs) (add-one i) ∙ go xs i l e
@@ -72,6 +73,9 @@ take_next {X = X} xs i x l e = ap (λ k. take k xs) (add-one i) ∙ go xs i l e
     go (y ∷ ys) zero l e = ap (λ z. z ∷ []) (sym e)
     go (y ∷ ys) (suc i) l e = ap (λ z. y ∷ z) (go ys i (omega (arith, l)) e)
 
+map_next : {X Y : Type 0} (f : X → Y) (xs : List X) (i : ℕ) (x : X) → i < length xs → x ≡ get_or xs i x → map f (take (i + 1) xs) ≡ map f (take i xs) ++ f x ∷ []
+map_next f xs i x l e = ap (map f) (take_next xs i x l e) ∙ map-append f (take i xs) (x ∷ [])
+
 entries_append : (x : ℕ) (ws vs : List Row) → entries_for x (ws ++ vs) ≡ entries_for x ws ++ entries_for x vs
 entries_append x [] vs = refl
 entries_append x (w ∷ ws) vs = go (w.node == x) (entries_append x ws vs)
@@ -80,26 +84,27 @@ entries_append x (w ∷ ws) vs = go (w.node == x) (entries_append x ws vs)
     go true ih = ap (λ z. w.entry ∷ z) ih
     go false ih = ih
 
-pub entries_next : (x : ℕ) (ws : List Row) (i : ℕ) (w : Row) → i < length ws → w ≡ get_or ws i w → entries_for x (take (i + 1) ws) ≡ entries_for x (take i ws) ++ cond (w.node == x) (w.entry ∷ []) []
-entries_next x ws i w l e = ap (entries_for x) (take_next ws i w l e) ∙ entries_append x (take i ws) (w ∷ [])
+entries_next : (x r : ℕ) (ks : List Linked) (table : List ℕ) (ns : List NumberedMember) (i : ℕ) (n : NumberedMember) → i < length ns → n ≡ get_or ns i n
+    → entries_for x (rows_by r ks table (take (i + 1) ns)) ≡ entries_for x (rows_by r ks table (take i ns)) ++ cond (n.node == x) (entry_by r ks table n ∷ []) []
+entries_next x r ks table ns i n l e = ap (entries_for x) (map_next (row_by r ks table) ns i n l e) ∙ entries_append x (rows_by r ks table (take i ns)) (row_by r ks table n ∷ [])
 
-home_append : (near : Option Near) (r : ℕ) (ws : List Row) (w : Row) (v : ℕ) (o : Option Label) → home_after near r (ws ++ w ∷ []) v o ≡ cond (w.node == v) (home_by near r w.label (home_after near r ws v o)) (home_after near r ws v o)
-home_append near r [] w v o = refl
-home_append near r (u ∷ ws) w v o = home_append near r ws w v (cond (u.node == v) (home_by near r u.label o) o)
+home_append : (near : Option Near) (r : ℕ) (ls : List Listed) (l : Listed) (v : ℕ) (o : Option Label) → home_after near r (ls ++ l ∷ []) v o ≡ cond (l.node == v) (home_by near r l.label (home_after near r ls v o)) (home_after near r ls v o)
+home_append near r [] l v o = refl
+home_append near r (u ∷ ls) l v o = home_append near r ls l v (cond (u.node == v) (home_by near r u.label o) o)
 
--- a home label set for the node of a row
-pub home_next : (nearest : List (Option Near)) (r : ℕ) (ws : List Row) (i : ℕ) (w : Row) (v : ℕ) (o now : Option Label) (near : Option Near) → i < length ws → w ≡ get_or ws i w → near ≡ or_none (slice_get nearest w.node)
-    → now ≡ cond (w.node == v) (home_by near r w.label (home_after (or_none (slice_get nearest v)) r (take i ws) v o)) (home_after (or_none (slice_get nearest v)) r (take i ws) v o)
-    → now ≡ home_after (or_none (slice_get nearest v)) r (take (i + 1) ws) v o
-home_next nearest r ws i w v o now near l e n h =
-    h ∙ same (w.node == v) refl ∙ sym (ap (λ z. home_after (or_none (slice_get nearest v)) r z v o) (take_next ws i w l e) ∙ home_append (or_none (slice_get nearest v)) r (take i ws) w v o)
+-- a home label set for the node of a numbered member
+home_next : (nearest : List (Option Near)) (r : ℕ) (ns : List NumberedMember) (i : ℕ) (n : NumberedMember) (v : ℕ) (o now : Option Label) (near : Option Near) → i < length ns → n ≡ get_or ns i n → near ≡ or_none (slice_get nearest n.node)
+    → now ≡ cond (n.node == v) (home_by near r n.label (home_after (or_none (slice_get nearest v)) r (map listed_member (take i ns)) v o)) (home_after (or_none (slice_get nearest v)) r (map listed_member (take i ns)) v o)
+    → now ≡ home_after (or_none (slice_get nearest v)) r (map listed_member (take (i + 1) ns)) v o
+home_next nearest r ns i n v o now near l e is h =
+    h ∙ same (n.node == v) refl
+    ∙ sym (ap (λ z. home_after (or_none (slice_get nearest v)) r z v o) (map_next listed_member ns i n l e) ∙ home_append (or_none (slice_get nearest v)) r (map listed_member (take i ns)) (listed_member n) v o)
   where
     before : Option Label
-    before = home_after (or_none (slice_get nearest v)) r (take i ws) v o
+    before = home_after (or_none (slice_get nearest v)) r (map listed_member (take i ns)) v o
 
-    same : (b : Bool) → (w.node == v) ≡ b → cond b (home_by near r w.label (home_after (or_none (slice_get nearest v)) r (take i ws) v o)) (home_after (or_none (slice_get nearest v)) r (take i ws) v o)
-        ≡ cond b (home_by (or_none (slice_get nearest v)) r w.label (home_after (or_none (slice_get nearest v)) r (take i ws) v o)) (home_after (or_none (slice_get nearest v)) r (take i ws) v o)
-    same true t = ap (λ z. home_by z r w.label (home_after (or_none (slice_get nearest v)) r (take i ws) v o)) (n ∙ ap (λ z. or_none (slice_get nearest z)) (eqb-true w.node v t))
+    same : (b : Bool) → (n.node == v) ≡ b → cond b (home_by near r n.label before) before ≡ cond b (home_by (or_none (slice_get nearest v)) r n.label before) before
+    same true t = ap (λ z. home_by z r n.label before) (is ∙ ap (λ z. or_none (slice_get nearest z)) (eqb-true n.node v t))
     same false t = refl
 
 pub near_is : (nearest : List (Option Near)) (i : ℕ) → slice_index_or nearest i None ≡ or_none (slice_get nearest i)
@@ -109,9 +114,14 @@ near_is (o ∷ nearest) (suc i) = near_is nearest i
 
 -- ---- the directory of a root
 
-nodes_listed : (ws : List Row) → nodes_of (map listed_row ws) ≡ nodes_in ws
+nodes_listed : (ns : List NumberedMember) → nodes_of (map listed_member ns) ≡ nodes_numbered ns
 nodes_listed [] = refl
-nodes_listed (w ∷ ws) = ap (λ z. w.node ∷ z) (nodes_listed ws)
+nodes_listed (n ∷ ns) = ap (λ z. n.node ∷ z) (nodes_listed ns)
+
+-- rows are listed as what was numbered is
+pub rows_listed : (r : ℕ) (ks : List Linked) (table : List ℕ) (ns : List NumberedMember) → map listed_row (rows_by r ks table ns) ≡ map listed_member ns
+rows_listed r ks table [] = refl
+rows_listed r ks table (n ∷ ns) = ap (λ z. listed_member n ∷ z) (rows_listed r ks table ns)
 
 neighbours_apart : (xs : List ℕ) → IsDistinct nat_eq xs → (k : ℕ) → k + 1 < length xs → slice_index xs k ≡ slice_index xs (k + 1) → ⊥
 neighbours_apart [] d k l e = omega (arith, l)
@@ -134,21 +144,21 @@ nodes_rise (f ∷ es) h k l =
     as_many [] = refl
     as_many (x ∷ xs) = omega (arith, as_many xs)
 
--- rows that are listed and sorted are the directory
-pub directory_of : (ws : List Row) (before after : List Listed) → before ≡ map listed_row ws → IsPermutation before after → IsNonDecreasingBy (λ (e : Listed). e.node) after → IsDistinct nat_eq (nodes_in ws) → IsDirectoryOf ws after
-directory_of ws before after e p up apart = record {
+-- numbered members that are listed and sorted are the directory
+pub directory_of : (ns : List NumberedMember) (before after : List Listed) → before ≡ map listed_member ns → IsPermutation before after → IsNonDecreasingBy (λ (e : Listed). e.node) after → IsDistinct nat_eq (nodes_numbered ns) → IsDirectoryOf (map listed_member ns) after
+directory_of ns before after e p up apart = record {
   same = same;
   ascend = λ k l. (let a = nodes_rise after up k l in let b = neighbours_apart (nodes_of after) distinct k l in grind (arith, a, b));
 }
   where
-    same : IsPermutation (map listed_row ws) after
+    same : IsPermutation (map listed_member ns) after
     same = subst (λ z. IsPermutation z after) e p
 
     distinct : IsDistinct nat_eq (nodes_of after)
     distinct =
-        IsDistinct-IsPermutation nat_eq flips (nodes_of (map listed_row ws)) (nodes_of after)
-        (IsPermutation-map (λ (z : Listed). z.node) (map listed_row ws) after same)
-        (subst (IsDistinct nat_eq) (sym (nodes_listed ws)) apart)
+        IsDistinct-IsPermutation nat_eq flips (nodes_of (map listed_member ns)) (nodes_of after)
+        (IsPermutation-map (λ (z : Listed). z.node) (map listed_member ns) after same)
+        (subst (IsDistinct nat_eq) (sym (nodes_listed ns)) apart)
 
 -- ---- the limits of a tree
 
@@ -168,24 +178,22 @@ cluster_within m s flags nearest r h none = go (slice_index_or nearest r None) r
         let same : q.landmark ≡ r = sym at.1.0 ∙ zero_walk m s at.0 at.1.1.0 r at.1.1.1.0 (at.1.1.1.1 ∙ z) in
         none (subst (IsLandmark flags) same k.1))))
 
-pub added_more : (A : Type 0) (old now new : List (Vec Entry A)) (ws : List Row) (i : ℕ) (w : Row) → i < length ws → w ≡ get_or ws i w → ((x : ℕ) → items_at now x ≡ items_at old x ++ entries_for x (take i ws))
-    → ((x : ℕ) → items_at new x ≡ items_at now x ++ cond (w.node == x) (w.entry ∷ []) []) → (x : ℕ) → items_at new x ≡ items_at old x ++ entries_for x (take (i + 1) ws)
-added_more A old now new ws i w l e h k x =
-    k x ∙ ap (λ z. z ++ cond (w.node == x) (w.entry ∷ []) []) (h x)
-    ∙ append_assoc (items_at old x) (entries_for x (take i ws)) (cond (w.node == x) (w.entry ∷ []) [])
-    ∙ ap (λ z. items_at old x ++ z) (sym (entries_next x ws i w l e))
+pub added_more : (A : Type 0) (old now new : List (Vec Entry A)) (r : ℕ) (ks : List Linked) (table : List ℕ) (ns : List NumberedMember) (i : ℕ) (n : NumberedMember) (entry : Entry) → i < length ns → n ≡ get_or ns i n
+    → entry ≡ entry_by r ks table n → ((x : ℕ) → items_at now x ≡ items_at old x ++ entries_for x (rows_by r ks table (take i ns)))
+    → ((x : ℕ) → items_at new x ≡ items_at now x ++ cond (n.node == x) (entry ∷ []) []) → (x : ℕ) → items_at new x ≡ items_at old x ++ entries_for x (rows_by r ks table (take (i + 1) ns))
+added_more A old now new r ks table ns i n entry l e is h k x =
+    k x ∙ ap (λ z. items_at now x ++ cond (n.node == x) (z ∷ []) []) is ∙ ap (λ z. z ++ cond (n.node == x) (entry_by r ks table n ∷ []) []) (h x)
+    ∙ append_assoc (items_at old x) (entries_for x (rows_by r ks table (take i ns))) (cond (n.node == x) (entry_by r ks table n ∷ []) [])
+    ∙ ap (λ z. items_at old x ++ z) (sym (entries_next x r ks table ns i n l e))
 
-pub homes_more : (nearest : List (Option Near)) (r : ℕ) (ws : List Row) (i : ℕ) (w : Row) (old now new : List (Option Label)) (near : Option Near) → i < length ws → w ≡ get_or ws i w → near ≡ slice_index_or nearest w.node None
-    → ((v : ℕ) → or_none (slice_get now v) ≡ home_after (or_none (slice_get nearest v)) r (take i ws) v (or_none (slice_get old v)))
-    → ((v : ℕ) → or_none (slice_get new v) ≡ cond (w.node == v) (home_by near r w.label (or_none (slice_get now v))) (or_none (slice_get now v)))
-    → (v : ℕ) → or_none (slice_get new v) ≡ home_after (or_none (slice_get nearest v)) r (take (i + 1) ws) v (or_none (slice_get old v))
-homes_more nearest r ws i w old now new near l e n h k v =
-    home_next nearest r ws i w v (or_none (slice_get old v)) (or_none (slice_get new v)) near l e (n ∙ near_is nearest w.node)
-    (k v ∙ ap (λ z. cond (w.node == v) (home_by near r w.label z) z) (h v))
-
--- a row of a list, whichever default stands for one past its end
-pub row_is : (ws : List Row) (i : ℕ) (w : Row) → w ≡ get_or ws i w → get_or ws i w ≡ get_or ws i (get_or ws i w)
-row_is ws i w e = ap (get_or ws i) e
+pub homes_more : (nearest : List (Option Near)) (r : ℕ) (ns : List NumberedMember) (i : ℕ) (n : NumberedMember) (old now new : List (Option Label)) (near : Option Near) → i < length ns → n ≡ get_or ns i n
+    → near ≡ slice_index_or nearest n.node None
+    → ((v : ℕ) → or_none (slice_get now v) ≡ home_after (or_none (slice_get nearest v)) r (map listed_member (take i ns)) v (or_none (slice_get old v)))
+    → ((v : ℕ) → or_none (slice_get new v) ≡ cond (n.node == v) (home_by near r n.label (or_none (slice_get now v))) (or_none (slice_get now v)))
+    → (v : ℕ) → or_none (slice_get new v) ≡ home_after (or_none (slice_get nearest v)) r (map listed_member (take (i + 1) ns)) v (or_none (slice_get old v))
+homes_more nearest r ns i n old now new near l e is h k v =
+    home_next nearest r ns i n v (or_none (slice_get old v)) (or_none (slice_get new v)) near l e (is ∙ near_is nearest n.node)
+    (k v ∙ ap (λ z. cond (n.node == v) (home_by near r n.label z) z) (h v))
 
 pub flag_false : (flags : List Bool) (r : ℕ) → (IsLandmark flags r → ⊥) → slice_index_or flags r false ≡ false
 flag_false flags r none = go (slice_index_or flags r false) refl
@@ -193,5 +201,3 @@ flag_false flags r none = go (slice_index_or flags r false) refl
     go : (b : Bool) → slice_index_or flags r false ≡ b → b ≡ false
     go false e = refl
     go true e = absurd (none e)
-
--- ---- lists that grow by a place

@@ -6,25 +6,27 @@ use Rattle.std.specs.List.{All, AllByRecursion, IsDistinct}
 use Rattle.std.specs.List.Sorted.{IsStrictlyIncreasing}
 use Rattle.std.proofs.lemmas.Bool.Decides.{nat_tests}
 use Rattle.std.proofs.lemmas.Bool.{eqb-true, eq-eqb}
+use Rattle.std.proofs.lemmas.List.Elements.{All-map}
 use Rattle.std.proofs.lemmas.List.Sorted.{Contains-permutation, IsPermutation-sym}
 use Rattle.std.proofs.lemmas.Map.Keys.{IsDistinct-head, IsDistinct-tail}
 use Rattle.graph_edits.specs.Edges.{Network}
 use Rattle.distances.specs.Nearest.{IsNearestOf}
 use Rattle.distances.specs.declared.nearest.Near.{Near}
+use Rattle.distances.specs.declared.linked.Linked.{Linked}
 use Rattle.heavy_labels.specs.Label.{Label}
+use Rattle.heavy_labels.specs.declared.numbered_member.NumberedMember.{NumberedMember}
 use Rattle.node_table.specs.declared.parts.Parts.{Parts}
 use Rattle.node_table.specs.declared.parts.Entry.{Entry}
 use Rattle.node_table.specs.declared.parts.Listed.{Listed}
-use Rattle.node_table.specs.declared.columns.Row.{Row}
 use Rattle.node_table.specs.Tables.{tables, entries_at, directory_at, first_entry, first_listed, roots_of, nodes_of, or_none, or_false}
 use Rattle.node_table.specs.Checks.{IsListed}
 use Rattle.node_table.specs.Columns.{IsColumn, HasColumn, IsBuilt, AreBelow, limit_in}
-use Rattle.node_table.specs.RowLists.{nodes_in, row_at, entry_in, label_in}
-use Rattle.node_table.specs.Building.{items_at, entries_for, listed_row, home_by, home_after, limit_by, IsDirectoryOf, IsDirectoryAfter, AreRowsOf, IsWith, IsBuildOf}
-use Rattle.node_table.proofs.Builds.RowSteps.{increasing_push, below_more, below_push}
+use Rattle.node_table.specs.RowLists.{Row, nodes_in, nodes_numbered, row_at, row_by, rows_by, entry_in, label_in}
+use Rattle.node_table.specs.Building.{items_at, entries_for, listed_member, listed_row, home_by, home_after, limit_by, IsDirectoryOf, IsDirectoryAfter, AreRowsOf, IsWith, IsBuildOf}
+use Rattle.node_table.proofs.Builds.RowSteps.{increasing_push, below_more, below_push, rows_nodes}
 use Rattle.node_table.proofs.Builds.RowColumns.{row_found}
 use Rattle.node_table.proofs.Builds.TreeMembers.{IsIn, is_in_of, contains_of}
-use Rattle.node_table.proofs.Builds.BuildSteps.{near_is}
+use Rattle.node_table.proofs.Builds.BuildSteps.{near_is, rows_listed}
 use Rattle.node_table.proofs.Builds.Built.{flag_is}
 use Rattle.node_table.specs.Ports.{neighbours}
 
@@ -75,9 +77,9 @@ no_entries : (v : ℕ) (ws : List Row) → HasNone v ws → entries_for v ws ≡
 no_entries v [] h = refl
 no_entries v (w ∷ ws) h = rw h.0 (no_entries v ws h.1)
 
-home_stays : (near : Option Near) (r : ℕ) (ws : List Row) (v : ℕ) (o : Option Label) → HasNone v ws → home_after near r ws v o ≡ o
+home_stays : (near : Option Near) (r : ℕ) (ws : List Row) (v : ℕ) (o : Option Label) → HasNone v ws → home_after near r (map listed_row ws) v o ≡ o
 home_stays near r [] v o h = refl
-home_stays near r (w ∷ ws) v o h = ap (λ b. home_after near r ws v (cond b (home_by near r w.label o) o)) h.0 ∙ home_stays near r ws v o h.1
+home_stays near r (w ∷ ws) v o h = ap (λ b. home_after near r (map listed_row ws) v (cond b (home_by near r w.label o) o)) h.0 ∙ home_stays near r ws v o h.1
 
 -- a node has at most one row
 pub record IsOneEntry (x : ℕ) (ws : List Row) (more : List Entry) : Type 0 where
@@ -165,7 +167,7 @@ listed_found v (f ∷ es) e i s = go (f.node == v) refl i (λ j. listed_found v 
     go false t (inr j) ih = ih j
 
 -- a directory lists each node that has a label
-directory_has : (ws : List Row) (all : List Listed) → IsDirectoryOf ws all → (v : ℕ) (o : Option Row) → row_at ws v ≡ o → IsSome (option_map (λ (z : Row). z.label) o) → IsSome (first_listed v all)
+directory_has : (ws : List Row) (all : List Listed) → IsDirectoryOf (map listed_row ws) all → (v : ℕ) (o : Option Row) → row_at ws v ≡ o → IsSome (option_map (λ (z : Row). z.label) o) → IsSome (first_listed v all)
 directory_has ws all d v None e s = absurd (let b : false ≡ true = s in cc)
 directory_has ws all d v (Some w) e s =
     let f = row_found ws v w e in
@@ -176,30 +178,30 @@ listed_is_row [] e i = absurd i
 listed_is_row (w ∷ ws) e (inl s) = (w, (inl refl, s))
 listed_is_row (w ∷ ws) e (inr i) = (let k = listed_is_row ws e i in (k.0, (inr k.1.0, k.1.1)))
 
-home_none : (r : ℕ) (ws : List Row) (v : ℕ) (o : Option Label) → home_after None r ws v o ≡ o
+home_none : (r : ℕ) (ws : List Row) (v : ℕ) (o : Option Label) → home_after None r (map listed_row ws) v o ≡ o
 home_none r [] v o = refl
-home_none r (w ∷ ws) v o = ap (home_after None r ws v) (same (w.node == v)) ∙ home_none r ws v o
+home_none r (w ∷ ws) v o = ap (home_after None r (map listed_row ws) v) (same (w.node == v)) ∙ home_none r ws v o
   where
     same : (b : Bool) → cond b o o ≡ o
     same true = refl
     same false = refl
 
-home_other : (q : Near) (r : ℕ) (ws : List Row) (v : ℕ) (o : Option Label) → (q.landmark == r) ≡ false → home_after (Some q) r ws v o ≡ o
+home_other : (q : Near) (r : ℕ) (ws : List Row) (v : ℕ) (o : Option Label) → (q.landmark == r) ≡ false → home_after (Some q) r (map listed_row ws) v o ≡ o
 home_other q r [] v o e = refl
-home_other q r (w ∷ ws) v o e = ap (home_after (Some q) r ws v) (same (w.node == v)) ∙ home_other q r ws v o e
+home_other q r (w ∷ ws) v o e = ap (home_after (Some q) r (map listed_row ws) v) (same (w.node == v)) ∙ home_other q r ws v o e
   where
     same : (b : Bool) → cond b (cond (q.landmark == r) (Some w.label) o) o ≡ o
     same true = rw e refl
     same false = refl
 
-home_here : (q : Near) (r : ℕ) (ws : List Row) (v : ℕ) → (q.landmark == r) ≡ true → AreApart ws → home_after (Some q) r ws v None ≡ label_in ws v
+home_here : (q : Near) (r : ℕ) (ws : List Row) (v : ℕ) → (q.landmark == r) ≡ true → AreApart ws → home_after (Some q) r (map listed_row ws) v None ≡ label_in ws v
 home_here q r [] v e a = refl
 home_here q r (w ∷ ws) v e a = go (w.node == v) refl (home_here q r ws v e a.1)
   where
-    go : (b : Bool) → (w.node == v) ≡ b → home_after (Some q) r ws v None ≡ label_in ws v
-        → home_after (Some q) r ws v (cond b (cond (q.landmark == r) (Some w.label) None) None) ≡ option_map (λ z. z.label) (cond b (Some w) (row_at ws v))
+    go : (b : Bool) → (w.node == v) ≡ b → home_after (Some q) r (map listed_row ws) v None ≡ label_in ws v
+        → home_after (Some q) r (map listed_row ws) v (cond b (cond (q.landmark == r) (Some w.label) None) None) ≡ option_map (λ z. z.label) (cond b (Some w) (row_at ws v))
     go true t ih =
-        ap (λ c. home_after (Some q) r ws v (cond c (Some w.label) None)) e
+        ap (λ c. home_after (Some q) r (map listed_row ws) v (cond c (Some w.label) None)) e
         ∙ home_stays (Some q) r ws v (Some w.label) (subst (λ z. HasNone z ws) (eqb-true w.node v t) a.0)
     go false t ih = ih
 
@@ -216,7 +218,7 @@ less_cases r k l = go (nat_lt r k) refl
     go true e = inr (grind (arith, nat_tests))
     go false e = inl (grind (arith, nat_tests))
 
-module _ (m : Network) (p q : Parts) (k : ℕ) (ws : List Row) (h : IsBuilt m p k) (rows : AreRowsOf m p k ws) (w : IsWith p k ws q) where
+module _ (m : Network) (p q : Parts) (k : ℕ) (ws : List Row) (h : IsBuilt m p k) (rows : AreRowsOf m p k ws) (w : IsWith p k ws (map listed_row ws) q) where
   apart_rows : AreApart ws
   apart_rows = apart_of ws rows.apart
 
@@ -296,7 +298,7 @@ module _ (m : Network) (p q : Parts) (k : ℕ) (ws : List Row) (h : IsBuilt m p 
     where
       homes : (v : ℕ) (z : Near) → (tables p).nearest v ≡ Some z → z.landmark ≡ r → (tables q).home v ≡ (h.columns r l).labels v
       homes v z g s =
-          w.homes v ∙ ap (λ o. home_after o k ws v ((tables p).home v)) g ∙ home_other z k ws v ((tables p).home v) (differ z.landmark k (λ e. (let a = sym s ∙ e in omega (arith, l, a)))) ∙ (h.columns r l).homes v z g s
+          w.homes v ∙ ap (λ o. home_after o k (map listed_row ws) v ((tables p).home v)) g ∙ home_other z k ws v ((tables p).home v) (differ z.landmark k (λ e. (let a = sym s ∙ e in omega (arith, l, a)))) ∙ (h.columns r l).homes v z g s
 
   new_column : HasColumn m q k
   new_column = record {
@@ -310,11 +312,11 @@ module _ (m : Network) (p q : Parts) (k : ℕ) (ws : List Row) (h : IsBuilt m p 
     homes = λ v z g s. homes v z (sym (nearest_same v) ∙ g) s;
   }
     where
-      own_directory : (tables p).landmark k ≡ false → IsDirectoryOf ws (directory_at q k)
-      own_directory e = subst (λ b. IsDirectoryAfter b ws (items_at p.directories.items k) (items_at q.directories.items k)) e w.directory
+      own_directory : (tables p).landmark k ≡ false → IsDirectoryOf (map listed_row ws) (directory_at q k)
+      own_directory e = subst (λ b. IsDirectoryAfter b (map listed_row ws) (items_at p.directories.items k) (items_at q.directories.items k)) e w.directory
 
       empty_directory : (tables p).landmark k ≡ true → directory_at q k ≡ []
-      empty_directory e = subst (λ b. IsDirectoryAfter b ws (items_at p.directories.items k) (items_at q.directories.items k)) e w.directory ∙ h.fresh k (omega arith)
+      empty_directory e = subst (λ b. IsDirectoryAfter b (map listed_row ws) (items_at p.directories.items k) (items_at q.directories.items k)) e w.directory ∙ h.fresh k (omega arith)
 
       listed : (b : Bool) → (tables p).landmark k ≡ b → (e : Listed) → IsListed e (directory_at q k) → label_in ws e.node ≡ Some e.label
       listed true t e i = absurd (subst (IsListed e) (empty_directory t) i)
@@ -329,15 +331,15 @@ module _ (m : Network) (p q : Parts) (k : ℕ) (ws : List Row) (h : IsBuilt m p 
 
       homes : (v : ℕ) (z : Near) → (tables p).nearest v ≡ Some z → z.landmark ≡ k → (tables q).home v ≡ label_in ws v
       homes v z g s =
-          w.homes v ∙ ap (λ o. home_after o k ws v ((tables p).home v)) g ∙ ap (home_after (Some z) k ws v) (h.homes_fresh v z g (omega (arith, s))) ∙ home_here z k ws v (eq-eqb z.landmark k s) apart_rows
+          w.homes v ∙ ap (λ o. home_after o k (map listed_row ws) v ((tables p).home v)) g ∙ ap (home_after (Some z) k (map listed_row ws) v) (h.homes_fresh v z g (omega (arith, s))) ∙ home_here z k ws v (eq-eqb z.landmark k s) apart_rows
 
   homes_near : (v : ℕ) (o : Option Near) → (tables p).nearest v ≡ o → IsSome ((tables q).home v) → IsSome o
-  homes_near v None g s = subst IsSome g (h.homes_near v (subst IsSome (w.homes v ∙ ap (λ o. home_after o k ws v ((tables p).home v)) g ∙ home_none k ws v ((tables p).home v)) s))
+  homes_near v None g s = subst IsSome g (h.homes_near v (subst IsSome (w.homes v ∙ ap (λ o. home_after o k (map listed_row ws) v ((tables p).home v)) g ∙ home_none k ws v ((tables p).home v)) s))
   homes_near v (Some z) g s = refl
 
   homes_fresh : (v : ℕ) (z : Near) → (tables p).nearest v ≡ Some z → k + 1 ≤ z.landmark → (tables q).home v ≡ None
   homes_fresh v z g l =
-      w.homes v ∙ ap (λ o. home_after o k ws v ((tables p).home v)) g ∙ home_other z k ws v ((tables p).home v) (unequal k z.landmark (omega (arith, l))) ∙ h.homes_fresh v z g (omega (arith, l))
+      w.homes v ∙ ap (λ o. home_after o k (map listed_row ws) v ((tables p).home v)) g ∙ home_other z k ws v ((tables p).home v) (unequal k z.landmark (omega (arith, l))) ∙ h.homes_fresh v z g (omega (arith, l))
 
   pub built_more : IsBuilt m q (k + 1)
   built_more = record {
@@ -358,28 +360,28 @@ module _ (m : Network) (p q : Parts) (k : ℕ) (ws : List Row) (h : IsBuilt m p 
     homes_fresh = λ v z g l. homes_fresh v z (sym (nearest_same v) ∙ g) l;
   }
 
--- the same for the tables of a build
-pub built_of_more : (m : Network) (flags : List Bool) (nearest : List (Option Near)) (generation : ℕ) (p q : Parts) (k : ℕ) (ws : List Row) → IsBuildOf m flags nearest generation p k → AreRowsOf m p k ws → IsWith p k ws q
-    → IsBuildOf m flags nearest generation q (k + 1)
-built_of_more m flags nearest generation p q k ws h rows w = record {
-  built = built_more m p q k ws h.built rows w;
+-- the same for the tables of a build, with the rows of what was numbered
+pub built_of_more : (m : Network) (flags : List Bool) (nearest : List (Option Near)) (generation : ℕ) (p q : Parts) (k : ℕ) (ks : List Linked) (table : List ℕ) (ns : List NumberedMember) → IsBuildOf m flags nearest generation p k
+    → AreRowsOf m p k (rows_by k ks table ns) → IsWith p k (rows_by k ks table ns) (map listed_member ns) q → IsBuildOf m flags nearest generation q (k + 1)
+built_of_more m flags nearest generation p q k ks table ns h rows w = record {
+  built = built_more m p q k (rows_by k ks table ns) h.built rows (subst (λ ls. IsWith p k (rows_by k ks table ns) ls q) (sym (rows_listed k ks table ns)) w);
   landmarks = w.landmarks ∙ h.landmarks;
   nearest_list = w.nearest ∙ h.nearest_list;
   given = w.generation ∙ h.given;
 }
 
 -- the rows of a root, by the flags and the nearest landmarks that the tables hold
-pub rows_of : (m : Network) (flags : List Bool) (nearest : List (Option Near)) (generation : ℕ) (p : Parts) (k : ℕ) (ws vs : List Row) → IsBuildOf m flags nearest generation p k → ws ≡ vs
-    → IsDistinct nat_eq (nodes_in vs) → All (λ (w : Row). w.node < m.nodes) vs → All (λ (w : Row). w.entry.root ≡ k) vs
-    → IsColumn m (limit_by (slice_index_or flags k false) nearest) k (entry_in vs) (label_in vs) → AreRowsOf m p k ws
-rows_of m flags nearest generation p k ws vs h e apart inside root column =
-    subst (AreRowsOf m p k) (sym e) (record {
-      apart = apart;
-      inside = inside;
-      root = root;
-      column = subst (λ l. IsColumn m l k (entry_in vs) (label_in vs))
+pub rows_of : (m : Network) (flags : List Bool) (nearest : List (Option Near)) (generation : ℕ) (p : Parts) (k : ℕ) (ks : List Linked) (table : List ℕ) (ns : List NumberedMember) → IsBuildOf m flags nearest generation p k
+    → IsDistinct nat_eq (nodes_numbered ns) → All (λ (n : NumberedMember). n.node < m.nodes) ns
+    → IsColumn m (limit_by (slice_index_or flags k false) nearest) k (entry_in (rows_by k ks table ns)) (label_in (rows_by k ks table ns)) → AreRowsOf m p k (rows_by k ks table ns)
+rows_of m flags nearest generation p k ks table ns h apart inside column =
+    record {
+      apart = subst (IsDistinct nat_eq) (sym (rows_nodes k ks table ns)) apart;
+      inside = All-map (λ (w : Row). w.node < m.nodes) (row_by k ks table) ns inside;
+      root = All-map (λ (w : Row). w.entry.root ≡ k) (row_by k ks table) ns (λ i d l. refl);
+      column = subst (λ l. IsColumn m l k (entry_in (rows_by k ks table ns)) (label_in (rows_by k ks table ns)))
           (ap (λ b. limit_by b nearest) (flag_is flags k ∙ ap (λ z. or_false (slice_get z k)) (sym h.landmarks)) ∙ ap (limit_by (or_false (slice_get p.landmarks.items k))) (sym h.nearest_list)) column;
-    })
+    }
 
 -- no tree yet
 pub built_first : (m : Network) (p : Parts) → p.nodes ≡ m.nodes → length p.landmarks.items ≡ m.nodes → length p.ports.items ≡ m.nodes → ((x : ℕ) → x < m.nodes → items_at p.ports.items x ≡ neighbours m x)

@@ -21,10 +21,9 @@ use Rattle.heavy_labels.specs.Numbering.{Line, Place, place, lights_at, lines, t
 use Rattle.heavy_labels.specs.Stepped.{record_of}
 use Rattle.heavy_labels.specs.declared.numbered_member.NumberedMember.{NumberedMember}
 use Rattle.node_table.specs.declared.parts.Entry.{Entry}
-use Rattle.node_table.specs.declared.columns.Row.{Row}
 use Rattle.node_table.specs.Checks.{up_port, down_port}
 use Rattle.node_table.specs.Columns.{up_by, down_by, member_of, LacksMember, AreDistinct, FitsEntry, IsTightFrom, IsParentIn, IsColumn}
-use Rattle.node_table.specs.RowLists.{IsRowOf, IsRowFrom, IsRowList, nodes_in, nodes_numbered, row_at, entry_in, label_in}
+use Rattle.node_table.specs.RowLists.{Row, IsRowOf, IsRowFrom, IsRowList, nodes_in, nodes_numbered, row_at, entry_in, label_in}
 use Rattle.node_table.proofs.Builds.TreeMembers.{IsIn, is_in_of, contains_of, all_in, distinct_members, laid_members, ChildrenReached, same_distance, parent_reached, farther, begins_with_root, at_in, in_at, one_place, exact_in, parent_in, reached_inside, reached_members, first_member}
 use Rattle.node_table.proofs.Basics.Options.{some_is, same_value}
 
@@ -301,9 +300,6 @@ module _ (m : Network) (sound : IsSound m) (r : ℕ) (r_in : r < m.nodes) (limit
         ),
       )
 
-  pub rows_apart : IsDistinct nat_eq (nodes_in ws)
-  rows_apart = subst (IsDistinct nat_eq) (sym rows.nodes) numbered_distinct
-
   pub rows_column : IsColumn m limit r (entry_in ws) (label_in ws)
   rows_column = record {
     exact = entry_exact;
@@ -326,27 +322,7 @@ column_of m s r i limit ks tree below all e nm ns q lines perm ws rows =
     rows_column m s r i limit ks tree below nm (λ d. lines d ∙ ap (λ z. map head_brief (tree_lines (first_or d (subtrees z)))) e)
     (subst (λ z. IsPermutation (map (λ (a : Member). a.node) z) (map (λ (n : NumberedMember). n.node) nm)) e perm) ws (subst (λ z. IsRowList r ks z ws) q rows)
 
-pub apart_rows : (m : Network) → IsSound m → (r : ℕ) → r < m.nodes → (ks : List Reached) → (limit : ℕ → Option ℕ) × (IsTree m.edges r limit ks × (is_below 0 (limit r) ≡ true))
-    → (all : List Member) → all ≡ map (λ k. member_of m k) ks → (nm ns : List NumberedMember) → ns ≡ nm
-    → ((d : Tree) → map seen nm ≡ map head_brief (tree_lines (first_or d (subtrees all)))) → IsPermutation (map (λ (a : Member). a.node) all) (map (λ (n : NumberedMember). n.node) nm)
-    → (ws : List Row) → IsRowList r ks ns ws → IsDistinct nat_eq (nodes_in ws)
-apart_rows m s r i ks h all e nm ns q lines perm ws rows =
-    rows_apart m s r i h.0 ks h.1.0 h.1.1 nm (λ d. lines d ∙ ap (λ z. map head_brief (tree_lines (first_or d (subtrees z)))) e)
-    (subst (λ z. IsPermutation (map (λ (a : Member). a.node) z) (map (λ (n : NumberedMember). n.node) nm)) e perm) ws (subst (λ z. IsRowList r ks z ws) q rows)
-
--- every row's node is one of the network, and its entry is for the root
-pub rows_are_inside : (r n : ℕ) (ks : List Reached) (ns : List NumberedMember) (ws : List Row) → All (λ (k : Reached). k.node < n) ks → IsRowList r ks ns ws → All (λ (w : Row). w.node < n) ws
-rows_are_inside r n ks ns ws inside rows i d l =
-    let g = rows.each i d l in
-    subst (λ z. z < n) (sym g.2.2.reached) (all_in (λ (k : Reached). k.node < n) ks inside g.0 (is_in_of ks g.0 g.2.0))
-
-pub rows_root : (r : ℕ) (ks : List Reached) (ns : List NumberedMember) (ws : List Row) → IsRowList r ks ns ws → All (λ (w : Row). w.entry.root ≡ r) ws
-rows_root r ks ns ws rows i d l = (rows.each i d l).2.2.root
-
 module _ (m : Network) (sound : IsSound m) (r : ℕ) (r_in : r < m.nodes) (ks : List Reached) (h : (limit : ℕ → Option ℕ) × (IsTree m.edges r limit ks × (is_below 0 (limit r) ≡ true))) where
-  pub all_inside : All (λ (k : Reached). k.node < m.nodes) ks
-  all_inside i d l = reached_inside m sound r r_in h.0 ks h.1.0 h.1.1 (get_or ks i d) (in_at ks i d l)
-
   pub parents_inside : All (λ (k : Reached). (y : ℕ) → k.parent ≡ Some y → y < m.nodes) ks
   parents_inside i d l y e =
       let j = parent_reached m sound r r_in h.0 ks h.1.0 h.1.1 (get_or ks i d) y (in_at ks i d l) e in
@@ -396,3 +372,8 @@ module _ (m : Network) (sound : IsSound m) (r : ℕ) (r_in : r < m.nodes) (ks : 
       (contains_of (map (λ (n : NumberedMember). n.node) ns) x (in_at (map (λ (n : NumberedMember). n.node) ns) i d l)) in
       let k = members_in m ks x (is_in_of (map (λ (a : Member). a.node) (map (member_of m) ks)) x among) in
       subst (λ z. z < m.nodes) k.1.1 (reached_inside m sound r r_in h.0 ks h.1.0 h.1.1 k.0 k.1.0)
+
+  pub numbers_apart : (ns : List NumberedMember) → IsPermutation (map (λ (a : Member). a.node) (map (member_of m) ks)) (nodes_numbered ns) → IsDistinct nat_eq (nodes_numbered ns)
+  numbers_apart ns same =
+      IsDistinct-IsPermutation nat_eq flips (map (λ (a : Member). a.node) (map (member_of m) ks)) (nodes_numbered ns) same
+      (distinct_nodes (map (member_of m) ks) (distinct_members m ks h.1.0.ascending (same_distance m sound r r_in h.0 ks h.1.0 h.1.1)))

@@ -4,7 +4,6 @@ use Rattle.std.specs.Prelude.{Option, Some, None, ◌↔◌, slice_get, slice_in
 use Rattle.std.specs.List.{All, Contains}
 use Rattle.std.specs.List.Sorted.{IsStrictlyIncreasing}
 use Rattle.std.proofs.lemmas.List.{get_or-map}
-use Rattle.std.proofs.lemmas.List.Elements.{All-push}
 use Rattle.std.proofs.lemmas.Bool.Decides.{nat_tests}
 use Rattle.std.proofs.Math.ListN.{set}
 use Rattle.graph_edits.specs.Edges.{Network, over_port, neighbours_of}
@@ -15,10 +14,9 @@ use Rattle.route_tree.specs.declared.member.Member.{Member}
 use Rattle.route_tree.specs.Growth.{IsEachOnce}
 use Rattle.route_tree.specs.Places.{HasPlaces}
 use Rattle.heavy_labels.specs.declared.numbered_member.NumberedMember.{NumberedMember}
-use Rattle.node_table.specs.declared.columns.Row.{Row}
 use Rattle.node_table.specs.Ports.{neighbours, port_to}
 use Rattle.node_table.specs.Columns.{AreBelow, linked_member, member_of, up_by, down_by}
-use Rattle.node_table.specs.RowLists.{ArePlaces, ArePlacesTo, IsRowOf, IsRowFrom, IsRowList, nodes_in, nodes_linked, nodes_numbered}
+use Rattle.node_table.specs.RowLists.{Row, ArePlaces, ArePlacesTo, IsRowFrom, IsRowList, nobody, nodes_in, nodes_linked, nodes_numbered, row_by, rows_by}
 use Rattle.node_table.proofs.Basics.Lists.{Within, index_found}
 use Rattle.node_table.proofs.Serving.StepsAsMoves.{index_get}
 use Rattle.node_table.proofs.Serving.Moves.{get_map}
@@ -111,10 +109,6 @@ places_more list n table h l inside i k = elim (eq_cases (slice_index list n) (s
     before : (slice_index list n ≡ slice_index list i → ⊥) → (i ≡ n) ⊎ (i ≡ n → ⊥) → i < n
     before d c = elim c [ inl s ↦ absurd (d (ap (slice_index list) (sym s))) | inr ne ↦ grind (arith, k, ne) ]
 
--- what stands for a place past the end
-abbrev pub nobody : Linked
-nobody = record { reached = record { distance = 0; node = 0; parent = None }; up = None; down = None }
-
 pub node_at : (ks : List Linked) (i : ℕ) (z : Linked) → i < length ks → slice_index (nodes_linked ks) i ≡ (get_or ks i z).reached.node
 node_at ks i z l = get_or-map (λ (k : Linked). k.reached.node) ks i z 0 l
 
@@ -168,40 +162,54 @@ has_places ks table h inside once = record {
 
 -- ---- rows
 
-nodes_push : (ws : List Row) (w : Row) → nodes_in (ws ++ w ∷ []) ≡ nodes_in ws ++ w.node ∷ []
-nodes_push [] w = refl
-nodes_push (v ∷ ws) w = ap (λ z. v.node ∷ z) (nodes_push ws w)
-
-numbers_push : (ns : List NumberedMember) (n : NumberedMember) → nodes_numbered (ns ++ n ∷ []) ≡ nodes_numbered ns ++ n.node ∷ []
-numbers_push [] n = refl
-numbers_push (a ∷ ns) n = ap (λ z. a.node ∷ z) (numbers_push ns n)
-
--- the rows of the first of what was numbered
-pub record AreRowsTo (r : ℕ) (ks : List Linked) (ns first : List NumberedMember) (ws : List Row) : Type 0 where
-  pub each : All (IsRowFrom r (reached_of ks) ns) ws
-  pub nodes : nodes_in ws ≡ nodes_numbered first
-
-pub rows_more : (r : ℕ) (ks : List Linked) (ns first : List NumberedMember) (ws : List Row) (i : ℕ) (z : Linked) (n : NumberedMember) (w : Row) → AreRowsTo r ks ns first ws
-    → i < length ks → (length first < length ns) × (n ≡ get_or ns (length first) n) → IsRowOf r (get_or ks i z).reached n w → AreRowsTo r ks ns (first ++ n ∷ []) (ws ++ w ∷ [])
-rows_more r ks ns first ws i z n w h l at row = record {
-  each = All-push (IsRowFrom r (reached_of ks) ns) ws w h.each
-      ((get_or ks i z).reached, n, ((i, (let a = reached_length ks in omega (arith, a, l)), get_or-map (λ (k : Linked). k.reached) ks i z (get_or ks i z).reached l), (length first, at.0, sym at.1), row));
-  nodes = nodes_push ws w ∙ ap (λ z. z ++ w.node ∷ []) h.nodes ∙ ap (λ x. nodes_numbered first ++ x ∷ []) row.numbered ∙ sym (numbers_push first n);
-}
-
-pub rows_done : (r : ℕ) (ks : List Linked) (ns first : List NumberedMember) (ws : List Row) → AreRowsTo r ks ns first ws → first ≡ ns → IsRowList r (reached_of ks) ns ws
-rows_done r ks ns first ws h e = record { each = h.each; nodes = h.nodes ∙ ap (λ z. nodes_numbered z) e }
-
 number_length : (ns : List NumberedMember) → length (nodes_numbered ns) ≡ length ns
 number_length [] = refl
 number_length (n ∷ ns) = omega (arith, number_length ns)
 
--- what holds of all numbered nodes, at one of them
-pub number_has : (P : ℕ → Type 0) (ns : List NumberedMember) (i : ℕ) (n : NumberedMember) → All P (nodes_numbered ns) → (i < length ns) × (n ≡ get_or ns i n) → P n.node
-number_has P ns i n h at =
+-- what holds of the nodes of all numbered members holds of each member's
+pub members_have : (P : ℕ → Type 0) (ns : List NumberedMember) → All P (nodes_numbered ns) → All (λ (n : NumberedMember). P n.node) ns
+members_have P ns h i d l =
     let many = number_length ns in
-    let e : get_or (nodes_numbered ns) i 0 ≡ n.node = get_or-map (λ (a : NumberedMember). a.node) ns i n 0 at.0 ∙ ap (λ (a : NumberedMember). a.node) (sym at.1) in
-    subst P e (h i 0 (omega (arith, many, at.0)))
+    subst P (get_or-map (λ (a : NumberedMember). a.node) ns i d 0 l) (h i 0 (omega (arith, many, l)))
+
+-- something was reached at the place of each numbered member
+pub members_reached : (ks : List Linked) (table : List ℕ) (ns : List NumberedMember) → ArePlaces (nodes_linked ks) table → All (Contains (nodes_linked ks)) (nodes_numbered ns)
+    → All (λ (n : NumberedMember). slice_index table n.node < length ks) ns
+members_reached ks table ns h c i d l = (place_found ks table (get_or ns i d).node h (members_have (Contains (nodes_linked ks)) ns c i d l)).0
+
+-- each row has its numbered member's node
+pub rows_nodes : (r : ℕ) (ks : List Linked) (table : List ℕ) (ns : List NumberedMember) → nodes_in (rows_by r ks table ns) ≡ nodes_numbered ns
+rows_nodes r ks table [] = refl
+rows_nodes r ks table (n ∷ ns) = ap (λ z. n.node ∷ z) (rows_nodes r ks table ns)
+
+-- a row of the list is the row of the numbered member at its place
+row_there : (r : ℕ) (ks : List Linked) (table : List ℕ) (ns : List NumberedMember) (i : ℕ) (d : Row) → i < length (rows_by r ks table ns)
+    → (n : NumberedMember) × ((i < length ns) × (((z : NumberedMember) → get_or ns i z ≡ n) × (row_by r ks table n ≡ get_or (rows_by r ks table ns) i d)))
+row_there r ks table [] i d l = absurd (omega (arith, l))
+row_there r ks table (n ∷ ns) zero d l = (n, (omega arith, (λ z. refl, refl)))
+row_there r ks table (n ∷ ns) (suc i) d l = (let g = row_there r ks table ns i d (omega (arith, l)) in (g.0, (let k = g.1.0 in omega (arith, k), g.1.1)))
+
+-- where each numbered member has a place at which it was reached, the rows are those of what was numbered
+pub rows_list : (r : ℕ) (ks : List Linked) (table : List ℕ) (ns : List NumberedMember) → ArePlaces (nodes_linked ks) table → All (Contains (nodes_linked ks)) (nodes_numbered ns)
+    → IsRowList r (reached_of ks) ns (rows_by r ks table ns)
+rows_list r ks table ns h c = record {
+  each = λ i d l. (let g = row_there r ks table ns i d l in subst (IsRowFrom r (reached_of ks) ns) g.1.1.1 (from g.0 i g.1.0 (g.1.1.0 g.0)));
+  nodes = rows_nodes r ks table ns;
+}
+  where
+    from : (n : NumberedMember) (i : ℕ) → i < length ns → get_or ns i n ≡ n → IsRowFrom r (reached_of ks) ns (row_by r ks table n)
+    from n i l e =
+        let f = place_found ks table n.node h (subst (λ (a : NumberedMember). Contains (nodes_linked ks) a.node) e (members_have (Contains (nodes_linked ks)) ns c i n l)) in
+        let place = slice_index table n.node in
+        let k = get_or ks place nobody in (
+          k.reached,
+          n,
+          (
+            (place, (let a = reached_length ks in let b = f.0 in omega (arith, a, b)), get_or-map (λ (z : Linked). z.reached) ks place nobody k.reached f.0),
+            (i, l, e),
+            record { reached = sym (f.1 nobody); numbered = refl; root = refl; distance = refl; parent = refl; tree_record = refl; label = refl },
+          ),
+        )
 
 -- ---- lists that grow
 

@@ -1,7 +1,7 @@
 use Rattle.std.proofs.Common.{◌≡◌, ◌++◌, take, length, ℕ, List}
 use Rattle.std.specs.declared.vec.Vec.{Vec}
 use Rattle.node_table.specs.declared.parts.Entry.{Entry}
-use Rattle.node_table.specs.declared.columns.Row.{Row}
+use Rattle.node_table.specs.RowLists.{Row, rows_by}
 use Rattle.node_table.specs.Building.{items_at, entries_for}
 use Rattle.node_table.proofs.building.add_entries.Given as goal
 
@@ -9,5 +9,5 @@ pub record Added (A : Type 0) (old new : List (Vec Entry A)) (rows : List Row) :
   pub size : length new ≡ length old
   pub items : (x : ℕ) → items_at new x ≡ items_at old x ++ entries_for x rows
 
-abbrev pub invariant-loop-row : goal.invariant-loop-row
-invariant-loop-row l = Added _ l.initial.entries.items l.entries.items (take l.row-index l.rows)
+abbrev pub invariant-loop-member : goal.invariant-loop-member
+invariant-loop-member l = Added _ l.initial.entries.items l.entries.items (rows_by l.root l.reached l.places (take l.member-index l.numbered))

@@ -1,5 +1,6 @@
 use Rattle.std.proofs.Common.{arith}
-use Rattle.node_table.proofs.Builds.RowSteps.{nobody, node_at, place_noted, linked_length}
+use Rattle.node_table.specs.RowLists.{nobody}
+use Rattle.node_table.proofs.Builds.RowSteps.{node_at, place_noted, linked_length}
 use Rattle.node_table.proofs.columns.note_places.Goals as goal
 
 pub bounds-places-there : goal.bounds-places-there

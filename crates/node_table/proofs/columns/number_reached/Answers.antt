@@ -1,5 +1,4 @@
 use Rattle.std.proofs.Common.{◌≡◌, ◌<◌, refl, sym, ap, ◌∙◌, subst, arith, map, get_or, List, IsPermutation}
-use Rattle.std.specs.Prelude.{Result, Ok, Err, IfOk}
 use Rattle.std.specs.List.{All, Contains}
 use Rattle.distances.specs.Workspace.{reached_of}
 use Rattle.route_tree.specs.Members.{AreMembers}
@@ -8,14 +7,10 @@ use Rattle.route_tree.specs.Places.{HasPlaces}
 use Rattle.route_tree.specs.declared.member.Member.{Member}
 use Rattle.heavy_labels.specs.declared.numbered_member.NumberedMember.{NumberedMember}
 use Rattle.node_table.specs.Columns.{member_of}
-use Rattle.node_table.specs.RowLists.{nodes_linked, nodes_numbered}
-use Rattle.node_table.proofs.Builds.RowSteps.{has_places, members_are, nodes_are, reached_length}
-use Rattle.node_table.proofs.Builds.RowColumns.{all_inside, are_members, root_first, few_members, nodes_inside, numbers_inside, numbers_reached, rows_are_inside, rows_root, apart_rows, column_of}
-use Rattle.node_table.proofs.columns.tree_rows.Goals as goal
-
-if_ok : {X E : Type 0} (P Q : X → Type 0) (r : Result X E) → ((x : X) → P x → Q x) → IfOk r P → IfOk r Q
-if_ok P Q (Ok x) f h = f x h
-if_ok P Q (Err e) f h = h
+use Rattle.node_table.specs.RowLists.{nodes_linked, nodes_numbered, rows_by}
+use Rattle.node_table.proofs.Builds.RowSteps.{has_places, members_are, members_have, members_reached, nodes_are, reached_length, rows_list}
+use Rattle.node_table.proofs.Builds.RowColumns.{are_members, root_first, few_members, nodes_inside, numbers_apart, numbers_inside, numbers_reached, column_of}
+use Rattle.node_table.proofs.columns.number_reached.Goals as goal
 
 pub numbered-requires-clause-members : goal.numbered-requires-clause-members
 numbered-requires-clause-members g c =
@@ -44,34 +39,43 @@ numbered-requires-clause-places g c =
 same_nodes : (ms all : List Member) (ns : List NumberedMember) → all ≡ ms → IsPermutation (map (λ a. a.node) all) (map (λ n. n.node) ns) → IsPermutation (map (λ a. a.node) ms) (map (λ n. n.node) ns)
 same_nodes ms all ns e p = subst (λ z. IsPermutation (map (λ (a : Member). a.node) z) (map (λ (n : NumberedMember). n.node) ns)) e p
 
-pub row_list-requires-clause-reached : goal.row_list-requires-clause-reached
-row_list-requires-clause-reached g c =
-    subst (λ xs. All (λ x. Contains xs x) (nodes_numbered c.in_ok-numbered.numbered.items)) (sym (nodes_are c.args.reached.now))
-    (numbers_reached c.args.graph.now c.nodes-sound.ensures.sound c.args.root c.requires.inside (reached_of c.args.reached.now) c.requires.tree c.in_ok-numbered.numbered.items
+pub returns-clause-apart : goal.returns-clause-apart
+returns-clause-apart g c =
+    numbers_apart c.args.graph.now c.nodes-sound.ensures.sound c.args.root c.requires.inside (reached_of c.args.reached.now) c.requires.tree c.in_ok-numbered.numbered.items
     (same_nodes (map (λ k. member_of c.args.graph.now k) (reached_of c.args.reached.now)) c.deref.result.now c.in_ok-numbered.numbered.items
-    (c.deref.ensures.value ∙ c.in_ok-members.ensures ∙ members_are c.args.graph.now c.args.reached.now c.requires.ports) c.in_ok-numbered.ensures.nodes))
+    (c.deref.ensures.value ∙ c.in_ok-members.ensures ∙ members_are c.args.graph.now c.args.reached.now c.requires.ports) c.in_ok-numbered.ensures.nodes)
 
-pub row_list-requires-clause-inside : goal.row_list-requires-clause-inside
-row_list-requires-clause-inside g c =
-    subst (λ n. All (λ x. x < n) (nodes_numbered c.in_ok-numbered.numbered.items)) (sym (c.note_places.ensures.length ∙ c.requires.places))
+pub returns-clause-inside : goal.returns-clause-inside
+returns-clause-inside g c =
+    members_have (λ x. x < c.args.graph.now.nodes) c.in_ok-numbered.numbered.items
     (numbers_inside c.args.graph.now c.nodes-sound.ensures.sound c.args.root c.requires.inside (reached_of c.args.reached.now) c.requires.tree c.in_ok-numbered.numbered.items
     (same_nodes (map (λ k. member_of c.args.graph.now k) (reached_of c.args.reached.now)) c.deref.result.now c.in_ok-numbered.numbered.items
     (c.deref.ensures.value ∙ c.in_ok-members.ensures ∙ members_are c.args.graph.now c.args.reached.now c.requires.ports) c.in_ok-numbered.ensures.nodes))
 
-pub returns-clause-inside : goal.returns-clause-inside
-returns-clause-inside g c = if_ok _ _ c.row_list.result (λ rows h.
-    rows_are_inside c.args.root c.args.graph.now.nodes (reached_of c.args.reached.now) c.in_ok-numbered.numbered.items rows.items (all_inside c.args.graph.now c.nodes-sound.ensures.sound c.args.root c.requires.inside (reached_of c.args.reached.now) c.requires.tree) h) c.row_list.ensures
+pub returns-clause-places : goal.returns-clause-places
+returns-clause-places g c =
+    subst (λ n. All (λ (a : NumberedMember). a.node < n) c.in_ok-numbered.numbered.items) (sym (c.note_places.ensures.length ∙ c.requires.places))
+    (members_have (λ x. x < c.args.graph.now.nodes) c.in_ok-numbered.numbered.items
+    (numbers_inside c.args.graph.now c.nodes-sound.ensures.sound c.args.root c.requires.inside (reached_of c.args.reached.now) c.requires.tree c.in_ok-numbered.numbered.items
+    (same_nodes (map (λ k. member_of c.args.graph.now k) (reached_of c.args.reached.now)) c.deref.result.now c.in_ok-numbered.numbered.items
+    (c.deref.ensures.value ∙ c.in_ok-members.ensures ∙ members_are c.args.graph.now c.args.reached.now c.requires.ports) c.in_ok-numbered.ensures.nodes)))
 
-pub returns-clause-root : goal.returns-clause-root
-returns-clause-root g c = if_ok _ _ c.row_list.result (λ rows h. rows_root c.args.root (reached_of c.args.reached.now) c.in_ok-numbered.numbered.items rows.items h) c.row_list.ensures
-
-pub returns-clause-apart : goal.returns-clause-apart
-returns-clause-apart g c = if_ok _ _ c.row_list.result (λ rows h.
-    apart_rows c.args.graph.now c.nodes-sound.ensures.sound c.args.root c.requires.inside (reached_of c.args.reached.now) c.requires.tree c.deref.result.now (c.deref.ensures.value ∙ c.in_ok-members.ensures ∙ members_are c.args.graph.now c.args.reached.now c.requires.ports)
-    c.in_ok-numbered.numbered.items c.in_ok-numbered.numbered.items refl c.in_ok-numbered.ensures.lines c.in_ok-numbered.ensures.nodes rows.items h) c.row_list.ensures
+pub returns-clause-reached : goal.returns-clause-reached
+returns-clause-reached g c =
+    members_reached c.args.reached.now c.note_places.new.places c.in_ok-numbered.numbered.items c.note_places.ensures.places
+    (subst (λ xs. All (λ x. Contains xs x) (nodes_numbered c.in_ok-numbered.numbered.items)) (sym (nodes_are c.args.reached.now))
+    (numbers_reached c.args.graph.now c.nodes-sound.ensures.sound c.args.root c.requires.inside (reached_of c.args.reached.now) c.requires.tree c.in_ok-numbered.numbered.items
+    (same_nodes (map (λ k. member_of c.args.graph.now k) (reached_of c.args.reached.now)) c.deref.result.now c.in_ok-numbered.numbered.items
+    (c.deref.ensures.value ∙ c.in_ok-members.ensures ∙ members_are c.args.graph.now c.args.reached.now c.requires.ports) c.in_ok-numbered.ensures.nodes)))
 
 pub returns-clause-column : goal.returns-clause-column
-returns-clause-column g c = if_ok _ _ c.row_list.result (λ rows h limit tree below.
+returns-clause-column g c limit tree below =
     column_of c.args.graph.now c.nodes-sound.ensures.sound c.args.root c.requires.inside limit (reached_of c.args.reached.now) tree below
     c.deref.result.now (c.deref.ensures.value ∙ c.in_ok-members.ensures ∙ members_are c.args.graph.now c.args.reached.now c.requires.ports)
-    c.in_ok-numbered.numbered.items c.in_ok-numbered.numbered.items refl c.in_ok-numbered.ensures.lines c.in_ok-numbered.ensures.nodes rows.items h) c.row_list.ensures
+    c.in_ok-numbered.numbered.items c.in_ok-numbered.numbered.items refl c.in_ok-numbered.ensures.lines c.in_ok-numbered.ensures.nodes
+    (rows_by c.args.root c.args.reached.now c.note_places.new.places c.in_ok-numbered.numbered.items)
+    (rows_list c.args.root c.args.reached.now c.note_places.new.places c.in_ok-numbered.numbered.items c.note_places.ensures.places
+    (subst (λ xs. All (λ x. Contains xs x) (nodes_numbered c.in_ok-numbered.numbered.items)) (sym (nodes_are c.args.reached.now))
+    (numbers_reached c.args.graph.now c.nodes-sound.ensures.sound c.args.root c.requires.inside (reached_of c.args.reached.now) c.requires.tree c.in_ok-numbered.numbered.items
+    (same_nodes (map (λ k. member_of c.args.graph.now k) (reached_of c.args.reached.now)) c.deref.result.now c.in_ok-numbered.numbered.items
+    (c.deref.ensures.value ∙ c.in_ok-members.ensures ∙ members_are c.args.graph.now c.args.reached.now c.requires.ports) c.in_ok-numbered.ensures.nodes))))
