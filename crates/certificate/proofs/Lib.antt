@@ -7,4 +7,5 @@ pub mod LocalRules
 pub mod LabelLemmas
 pub mod ClimbLemmas
 pub mod RowLemmas
+pub mod SwiftLemmas
 pub mod LinkedLabels

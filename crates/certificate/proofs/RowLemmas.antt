@@ -4,6 +4,7 @@ use Rattle.std.specs.Prelude.{◌↔◌, Option, Some, None, not}
 use Rattle.std.proofs.lemmas.List.{drop_more}
 use Rattle.std.proofs.lemmas.Bool.Decides.{nat_tests}
 use Rattle.std.proofs.lemmas.Bool.{eq-eqb}
+use Rattle.heavy_labels.specs.Numbering.{Record}
 use Rattle.node_table.specs.declared.parts.Parts.{Parts}
 use Rattle.node_table.specs.declared.parts.Entry.{Entry}
 use Rattle.graph_edits.specs.Edges.{Network}
@@ -14,7 +15,7 @@ use Rattle.node_table.specs.Local.{record_at, record_or, span, widest_span, firs
 use Rattle.node_table.proofs.Serving.Exact.{Distances}
 use Rattle.node_table.proofs.LocalForms.LocalChecks.{children_near}
 use Rattle.node_table.proofs.LocalForms.ChildRows.{row_scan}
-use Rattle.certificate.specs.Rows.{children_among, by_span, widest_from, others, with_other, row_after, row_at, FitsRow, FitsAt, IsLocalAt}
+use Rattle.certificate.specs.Rows.{children_among, by_span, widest_from, others, with_other, row_after, row_at, FitsFirst, FitsRow, FitsAt, IsLocalAt}
 use Rattle.certificate.proofs.LookUps.{looked_up, each_one}
 
 others_is : (t : Tables) (r x h : ℕ) (ys : List ℕ) → others t r x h ys ≡ all_but h (children_among t r x ys)
@@ -190,3 +191,13 @@ pub row_off : (m : Network) (t : Tables) (r x h next depth end i : ℕ) (row : L
 row_off m t r x h next depth end i row Q l q k a =
     let g = subst (λ z. Q ↔ IsRow m t r false next depth end (others t r x h (map (λ e. e.0) z))) (drop_more row i (0, 0) l) q in
     k (g.0 a)
+
+-- a record fits a row, if it fits the first of it and the others follow
+pub row_first : (m : Network) (t : Tables) (r : ℕ) (k : Record) (h : ℕ) (ys : List ℕ) → FitsRow m t r k (h ∷ ys) ↔ (FitsFirst m t r k h × IsRow m t r false ((record_at t r h).last + 1) k.light_depth (k.last + 1) ys)
+unfolding FitsRow FitsFirst
+row_first m t r k h ys = (λ f. ((f.0.0, f.1), f.0.1), λ g. ((g.0.0, g.1), g.0.1))
+
+-- the same, where the others follow the last number that the record itself names
+pub row_named : (m : Network) (t : Tables) (r : ℕ) (k : Record) (h : ℕ) (ys : List ℕ) → FitsFirst m t r k h → IsRow m t r false (k.heavy_last + 1) k.light_depth (k.last + 1) ys → FitsRow m t r k (h ∷ ys)
+unfolding FitsRow FitsFirst
+row_named m t r k h ys f g = ((f.0, subst (λ n. IsRow m t r false (n + 1) k.light_depth (k.last + 1) ys) f.1.0 g), f.1)

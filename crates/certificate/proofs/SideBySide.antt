@@ -10,18 +10,25 @@ use Rattle.node_table.specs.declared.parts.Entry.{Entry}
 use Rattle.node_table.specs.Checks.{IsShaped}
 use Rattle.node_table.specs.Tables.{Tables, entries_at, first_entry, roots_of}
 use Rattle.node_table.proofs.Basics.Searches.{index_at, index_none, entry_found, entry_missing, key_at, rises, keys_length}
-use Rattle.certificate.specs.Entries.{AllAscend, AreBelow, IsPlaceFor, IsClosedAt, IsClosedOver, IsTightAt, IsLater, HasTightParent}
+use Rattle.certificate.specs.Entries.{AllAscend, AreBelow, IsPlaceFor, IsFramed, IsNodeFramed, IsClosedAt, IsClosedOver, IsTightAt, IsLater, HasTightParent}
 use Rattle.certificate.proofs.LookUps.{no_entries}
 
--- in a scheme of the right shape all entries ascend
-pub all_ascend : (m : Network) (p : Parts) → IsShaped m p → AllAscend p
-all_ascend m p h x = go (nat_lt x m.nodes) refl
+-- in a framed scheme, and so in one of the right shape, all entries ascend
+pub ascend_all : (m : Network) (p : Parts) → length p.entries.items ≡ m.nodes → ((x : ℕ) → x < m.nodes → IsStrictlyIncreasing (roots_of (entries_at p x))) → AllAscend p
+ascend_all m p n up x = go (nat_lt x m.nodes) refl
   where
     go : (b : Bool) → nat_lt x m.nodes ≡ b → IsStrictlyIncreasing (roots_of (entries_at p x))
-    go true t = h.roots_ascend x (grind (arith, nat_tests))
+    go true t = up x (grind (arith, nat_tests))
     go false t =
         let le : m.nodes ≤ x = grind (arith, nat_tests) in
-        subst (λ es. IsStrictlyIncreasing (roots_of es)) (sym (no_entries p x (omega (arith, le, h.entries)))) (λ k l. absurd (omega (arith, l)))
+        subst (λ es. IsStrictlyIncreasing (roots_of es)) (sym (no_entries p x (omega (arith, le, n)))) (λ k l. absurd (omega (arith, l)))
+
+pub all_ascend : (m : Network) (p : Parts) → IsShaped m p → AllAscend p
+all_ascend m p h = ascend_all m p h.entries h.roots_ascend
+
+pub framed_ascend : (m : Network) (p : Parts) → IsFramed m p → AllAscend p
+unfolding IsFramed IsNodeFramed
+framed_ascend m p h = ascend_all m p h.0.1.1.1.1.0 (λ x l. (h.1 x l).1.0)
 
 -- one place more that is below
 pub below_more : (es : List Entry) (r n : ℕ) (d : Entry) → AreBelow r n es → n < length es → (get_or es n d).root < r → AreBelow r (n + 1) es

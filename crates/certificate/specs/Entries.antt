@@ -52,6 +52,14 @@ unfoldable pub IsNodeShaped : Network → Parts → ℕ → Type 0
 IsNodeShaped m p x =
     (ports_at p x ≡ neighbours m x) × (IsStrictlyIncreasing (roots_of (entries_at p x)) × (HasOwn (tables p) x × All (IsEntryShaped m (tables p) x) (entries_at p x)))
 
+-- a node's ports are its neighbours, its entries ascend by root, and it has one for itself
+unfoldable pub IsNodeFramed : Network → Parts → ℕ → Type 0
+IsNodeFramed m p x = (ports_at p x ≡ neighbours m x) × (IsStrictlyIncreasing (roots_of (entries_at p x)) × HasOwn (tables p) x)
+
+-- what Shape says but for the roots and parents of entries
+unfoldable pub IsFramed : Network → Parts → Type 0
+IsFramed m p = HasPlaces m.nodes p × ((x : ℕ) → x < m.nodes → IsNodeFramed m p x)
+
 -- ---- Edges
 
 -- over an edge to f.0 of weight f.1

@@ -1,4 +1,5 @@
 pub mod Entries
 pub mod Rows
+pub mod Swift
 pub mod Climbs
 pub mod Faults

@@ -9,7 +9,7 @@ use Rattle.graph_edits.specs.Edges.{Network}
 use Rattle.node_table.specs.Ports.{neighbours, filtered}
 use Rattle.node_table.specs.Tables.{Tables, tables, entries_at}
 use Rattle.node_table.specs.Checks.{parent_is}
-use Rattle.node_table.specs.Local.{record_at, span, IsRow, IsHeavyOf, FitsRoot}
+use Rattle.node_table.specs.Local.{record_at, span, IsRow, IsHeavyOf, FitsChild, FitsRoot}
 
 -- the children of x in the tree of r among some nodes
 abbrev pub children_among : Tables → ℕ → ℕ → List ℕ → List ℕ
@@ -50,6 +50,10 @@ row_at m t r x = row_after m t r x (widest_from t r x None (neighbours m x))
 -- a record fits those of the children of its node
 unfoldable pub FitsRow : Network → Tables → ℕ → Record → List ℕ → Type 0
 FitsRow m t r k row = IsRow m t r true (k.first + 1) k.light_depth (k.last + 1) row × IsHeavyOf m t r k row
+
+-- a record and that of its node's heavy child h fit
+unfoldable pub FitsFirst : Network → Tables → ℕ → Record → ℕ → Type 0
+FitsFirst m t r k h = FitsChild m t r true (k.first + 1) k.light_depth h × IsHeavyOf m t r k (h ∷ [])
 
 -- an entry's record fits those of the children of its node in the tree of its root
 unfoldable pub FitsAt : Network → Tables → ℕ → Entry → Type 0

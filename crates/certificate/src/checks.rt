@@ -1,7 +1,9 @@
 // The checks in their order.
-ghost use Rattle.std.specs.Prelude.{IfErr, OnOk};
+ghost use Rattle.std.specs.Prelude.{◌<◌, ◌↔◌, ℕ, IfErr, IsTrue, OnOk};
+ghost use Rattle.certificate.specs.Climbs.{HoldsFirst};
 ghost use Rattle.certificate.specs.Faults.{IsExact, rule_of};
-ghost use Rattle.node_table.specs.Checks.{IsChecked, IsFirstFault};
+ghost use Rattle.certificate.specs.Rows.{IsLocalAt};
+ghost use Rattle.node_table.specs.Checks.{Holds, IsChecked, IsFirstFault, IsShaped, k1, k2, k3, k6};
 ghost use Rattle.node_table.specs.Service.{Serves};
 ghost use Rattle.node_table.specs.Tables.{tables};
 
@@ -14,8 +16,44 @@ use crate::parents::has_parents;
 use crate::records::has_records;
 use crate::shape::is_shaped;
 use crate::strict::is_strict;
+use crate::swift::is_swiftly_sound;
 use graph_edits::Graph;
 use node_table::Scheme;
+
+/// Whether a scheme keeps Shape: what the swift pass took for right isn't tested again.
+fn keeps_shape(graph: &Graph, scheme: &Scheme, swift: bool) -> bool
+    requires swift { IsTrue swift → Holds graph.now scheme.now k1 }
+    ensures { IsTrue result ↔ Holds graph.now scheme.now k1 }
+{
+    swift || is_shaped(graph, scheme)
+}
+
+/// Whether it keeps Edges, in the same way.
+fn keeps_edges(graph: &Graph, scheme: &Scheme, swift: bool) -> bool
+    requires shaped { IsShaped graph.now scheme.now }
+    requires swift { IsTrue swift → Holds graph.now scheme.now k2 }
+    ensures { IsTrue result ↔ Holds graph.now scheme.now k2 }
+{
+    swift || has_edges(graph, scheme)
+}
+
+/// Whether it keeps Parents, in the same way.
+fn keeps_parents(graph: &Graph, scheme: &Scheme, swift: bool) -> bool
+    requires shaped { IsShaped graph.now scheme.now }
+    requires swift { IsTrue swift → Holds graph.now scheme.now k3 }
+    ensures { IsTrue result ↔ Holds graph.now scheme.now k3 }
+{
+    swift || has_parents(graph, scheme)
+}
+
+/// Whether it keeps Records, in the same way: all records are right where each is by those of its children.
+fn keeps_records(graph: &Graph, scheme: &Scheme, swift: bool) -> bool
+    requires first { HoldsFirst graph.now scheme.now }
+    requires swift { IsTrue swift → (x : ℕ) → x < graph.now.nodes → IsLocalAt graph.now scheme.now x }
+    ensures { IsTrue result ↔ Holds graph.now scheme.now k6 }
+{
+    swift || has_records(graph, scheme)
+}
 
 /// Whether a scheme keeps all eight rules for a graph; else the first that it breaks. It takes no memory and answers for
 /// any scheme, also one assembled of anything. What passes serves the graph.
@@ -25,13 +63,14 @@ pub fn check(graph: &Graph, scheme: &Scheme) -> Result<(), Fault>
     ensures exact { IsExact graph.now scheme.now result }
     ensures serves { OnOk result (Serves graph.now (tables scheme.now)) }
 {
-    if !is_shaped(graph, scheme) {
+    let swift = is_swiftly_sound(graph, scheme);
+    if !keeps_shape(graph, scheme, swift) {
         return Err(Fault::Shape);
     }
-    if !has_edges(graph, scheme) {
+    if !keeps_edges(graph, scheme, swift) {
         return Err(Fault::Edges);
     }
-    if !has_parents(graph, scheme) {
+    if !keeps_parents(graph, scheme, swift) {
         return Err(Fault::Parents);
     }
     if !is_strict(graph, scheme) {
@@ -40,7 +79,7 @@ pub fn check(graph: &Graph, scheme: &Scheme) -> Result<(), Fault>
     if !has_nearest(graph, scheme) {
         return Err(Fault::Nearest);
     }
-    if !has_records(graph, scheme) {
+    if !keeps_records(graph, scheme, swift) {
         return Err(Fault::Records);
     }
     if !has_labels(graph, scheme) {

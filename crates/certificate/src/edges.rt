@@ -23,7 +23,12 @@ fn is_landmark_near(scheme: &Scheme, y: u16, distance: u64, weight: u32) -> bool
 
 /// Whether an entry is closed over an edge, behind which this entry stands for the same root, if there is one.
 #[tactic(auto, unfolding(crate::specs::Entries::IsClosedOver))]
-fn is_closed_over(scheme: &Scheme, entry: &Entry, edge: (u16, u32), behind: Option<&Entry>) -> bool
+pub(crate) fn is_closed_over(
+    scheme: &Scheme,
+    entry: &Entry,
+    edge: (u16, u32),
+    behind: Option<&Entry>,
+) -> bool
     requires { MatchOption behind ((tables scheme.now).entry edge.0 entry.now.root ≡ None) (λ f. (tables scheme.now).entry edge.0 entry.now.root ≡ Some f.now) }
     ensures { IsTrue result ↔ IsClosedOver (tables scheme.now) entry.now edge }
 {

@@ -12,7 +12,7 @@ ghost use Rattle.node_table.specs.Tables.{directory_at, or_none, tables};
 
 use graph_edits::Graph;
 use heavy_labels::Label;
-use node_table::{Listed, Scheme, port};
+use node_table::{Entry, Listed, Scheme, port};
 
 /// The parent and the light depth that a node's entry for a root names.
 fn rung(scheme: &Scheme, root: u16, x: u16) -> (Option<u16>, u16)
@@ -104,19 +104,21 @@ fn are_below(graph: &Graph, x: u16, y: u16, is_heavy: bool, lights: &[u16], abov
 }
 
 /// Whether the light ports of v are these by the label of its parent in u's directory, or by a climb where that has none.
+/// Its entry for u is this one.
 #[tactic(auto, unfolding(crate::specs::Climbs::AreLinked))]
-fn are_linked(graph: &Graph, scheme: &Scheme, u: u16, v: u16, lights: &[u16]) -> bool
-    requires { HoldsFirst graph.now scheme.now }
+fn are_linked(graph: &Graph, scheme: &Scheme, u: u16, v: u16, entry: &Entry, lights: &[u16]) -> bool
+    requires first { HoldsFirst graph.now scheme.now }
+    requires entry { (tables scheme.now).entry v u ≡ Some entry.now }
     ensures { IsTrue result ↔ AreLinked graph.now (tables scheme.now) u v lights.now }
 {
-    let (parent, depth) = rung(scheme, u, v);
-    let Some(y) = parent else {
+    let Some(y) = entry.parent else {
         return are_lights(graph, scheme, u, v, lights);
     };
     match scheme.listed(u, y) {
         Some(label) => {
             let (_, above) = rung(scheme, u, y);
-            are_below(graph, v, y, depth == above, lights, label.lights())
+            let is_heavy = entry.tree_record.light_depth == above;
+            are_below(graph, v, y, is_heavy, lights, label.lights())
         }
         None => are_lights(graph, scheme, u, v, lights),
     }
@@ -128,9 +130,11 @@ fn is_linked(graph: &Graph, scheme: &Scheme, u: u16, listed: &Listed) -> bool
     requires { HoldsFirst graph.now scheme.now }
     ensures { IsTrue result ↔ IsLinked graph.now (tables scheme.now) u listed.now }
 {
-    scheme.entry(listed.node, u).is_none()
-        || (listed.label.first() == number(scheme, u, listed.node)
-            && are_linked(graph, scheme, u, listed.node, listed.label.lights()))
+    let Some(entry) = scheme.entry(listed.node, u) else {
+        return true;
+    };
+    listed.label.first() == entry.tree_record.first
+        && are_linked(graph, scheme, u, listed.node, entry, listed.label.lights())
 }
 
 /// Whether all labels of u's directory fit those of their nodes' parents.

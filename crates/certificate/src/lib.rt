@@ -14,10 +14,13 @@
 //! | K7 Labels | every label is that of its tree |
 //! | K8 Directories | directories list exactly the members of their trees, homes go with nearest landmarks |
 //!
-//! Shape, Strict and Nearest are tested entry by entry. Edges and Parents are tested edge by edge: the entries of both its
-//! ends ascend, so they are walked side by side, and none is searched for. A record is tested against those of its
-//! children, which are neighbours: one pass over the ports finds the heavy child, a second one counts the others through,
-//! and a finger in the entries behind each port goes along with the node's own.
+//! A swift pass tests Shape, Edges, Parents and Records at once: for each entry it goes once over the ports of its node, with
+//! a finger in the entries behind each port that goes along with the node's own, and each entry that it finds there serves
+//! all four. What it takes for right is right. Where it finds a fault, each of these rules is tested by itself, so that the
+//! first that is broken is named. Shape, Strict and Nearest are then tested entry by entry. Edges and Parents are tested edge
+//! by edge: the entries of both its ends ascend, so they are walked side by side, and none is searched for. A record is
+//! tested against those of its children, which are neighbours: one pass over the ports finds the heavy child, and a second
+//! one counts the others through.
 //! A label of a directory is tested against the one of its node's parent there, so that all are right from the root down; a
 //! home label by a climb from its node, which meets the label's light ports from the last to the first. That these tests
 //! are the rules is proved: the trees, records and labels are those of Thorup and Zwick, Compact Routing Schemes, in this
@@ -49,6 +52,7 @@ mod records;
 mod shape;
 mod strict;
 mod sums;
+mod swift;
 
 pub use checks::check;
 pub use fault::Fault;

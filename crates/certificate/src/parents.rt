@@ -63,7 +63,7 @@ fn is_no_earlier(entry: &Entry, y: u16, edge: (u16, u32), behind: Option<&Entry>
 
 /// The same for the parent that the entry names.
 #[tactic(auto, unfolding(crate::specs::Entries::IsLater))]
-fn is_later(entry: &Entry, edge: (u16, u32), behind: Option<&Entry>) -> bool
+pub(crate) fn is_later(entry: &Entry, edge: (u16, u32), behind: Option<&Entry>) -> bool
     ensures { (t : Tables) → MatchOption behind.entry (t.entry edge.0 entry.now.root ≡ None) (λ f. t.entry edge.0 entry.now.root ≡ Some f.now)
         → IsTrue result ↔ IsLater t entry.now edge }
 {

@@ -3,7 +3,8 @@
 ghost use Rattle.std.specs.Prelude.{◌≡◌, ◌<◌, ◌+◌, ◌↔◌, ℕ, IsTrue, Some, None, MatchOption, true, false, List, [], ◌∷◌};
 ghost use Rattle.std.specs.List.{All};
 ghost use Rattle.certificate.specs.Entries.{AllAscend};
-ghost use Rattle.certificate.specs.Rows.{FitsAt, FitsRow, IsLocalAt, others, row_after, widest_from, wider as wider_of, with_other};
+ghost use Rattle.certificate.specs.Rows.{FitsAt, FitsFirst, FitsRow, IsLocalAt, others, row_after, widest_from, wider as wider_of, with_other};
+ghost use Rattle.certificate.specs.Swift.{HasSpan};
 ghost use Rattle.heavy_labels.specs.Stepped.{record_of};
 ghost use Rattle.certificate.specs.Climbs.{HoldsFirst};
 ghost use Rattle.node_table.specs.Checks.{Holds, k6, parent_is, up_port};
@@ -18,25 +19,16 @@ use graph_edits::Graph;
 use heavy_labels::Record;
 use node_table::{Entry, Scheme};
 
-/// The entry of y behind a port of x, if y is a child of x in the tree of a root.
-fn child<'a>(
-    scheme: &'a Scheme,
-    fingers: &mut Fingers,
-    root: u16,
-    x: u16,
-    port: usize,
-    y: u16,
-) -> Option<&'a Entry>
-    requires { AllAscend scheme.now }
-    ensures { MatchOption result (parent_is x ((tables scheme.now).entry y root) ≡ false) (λ e. ((tables scheme.now).entry y root ≡ Some e.now) × (e.now.parent ≡ Some x)) }
+/// The entry of y for a root, if y is a child of x there.
+pub(crate) fn child_of<'a>(x: u16, behind: Option<&'a Entry>) -> Option<&'a Entry>
+    ensures { (t : Tables) (y root : ℕ) → MatchOption behind.entry (t.entry y root ≡ None) (λ e. t.entry y root ≡ Some e.now)
+        → MatchOption result (parent_is x (t.entry y root) ≡ false) (λ e. (t.entry y root ≡ Some e.now) × (e.now.parent ≡ Some x)) }
 {
-    match fingers.entry(scheme, port, y, root) {
-        Some(entry) => if entry.parent == Some(x) {
-            Some(entry)
-        } else {
-            None
-        },
-        None => None,
+    let entry = behind?;
+    if entry.parent == Some(x) {
+        Some(entry)
+    } else {
+        None
     }
 }
 
@@ -47,40 +39,26 @@ fn span(given: &Record) -> u32
     (given.last as u32 + 1).saturating_sub(given.first as u32)
 }
 
-/// The same of a node's record in the tree of a root.
-fn span_at(scheme: &Scheme, root: u16, x: u16) -> u32
-    ensures { result ≡ span_of (record_at (tables scheme.now) root x) }
-{
-    match scheme.entry(x, root) {
-        Some(entry) => span(&entry.tree_record),
-        None => 1,
-    }
-}
-
-/// The widest child of x, when y is looked at too, whose entry this is if it is a child.
-fn wider(
-    scheme: &Scheme,
-    root: u16,
-    heavy: Option<u16>,
+/// The widest child of x and its span, when y is looked at too, whose entry this is if it is a child.
+#[tactic(auto, unfolding(crate::specs::Swift::HasSpan))]
+pub(crate) fn wider_child(
+    widest: (Option<u16>, u32),
     y: u16,
     below: Option<&Entry>,
-) -> Option<u16>
-    ensures { (x : ℕ) → MatchOption below.entry (parent_is x ((tables scheme.now).entry y root) ≡ false) (λ e. ((tables scheme.now).entry y root ≡ Some e.now) × (e.now.parent ≡ Some x))
-        → result ≡ wider_of (tables scheme.now) root x heavy y }
+) -> (Option<u16>, u32)
+    ensures node { (t : Tables) (root x : ℕ) → HasSpan t root widest.0 widest.1 → MatchOption below.entry (parent_is x (t.entry y root) ≡ false) (λ e. (t.entry y root ≡ Some e.now) × (e.now.parent ≡ Some x))
+        → result.0 ≡ wider_of t root x widest.0 y }
+    ensures span { (t : Tables) (root x : ℕ) → HasSpan t root widest.0 widest.1 → MatchOption below.entry (parent_is x (t.entry y root) ≡ false) (λ e. (t.entry y root ≡ Some e.now) × (e.now.parent ≡ Some x))
+        → HasSpan t root result.0 result.1 }
 {
     let Some(entry) = below else {
-        return heavy;
+        return widest;
     };
     let wide = span(&entry.tree_record);
-    match heavy {
-        Some(h) => {
-            if span_at(scheme, root, h) < wide {
-                Some(y)
-            } else {
-                Some(h)
-            }
-        }
-        None => Some(y),
+    if widest.0.is_some() && wide <= widest.1 {
+        widest
+    } else {
+        (Some(y), wide)
     }
 }
 
@@ -97,16 +75,16 @@ fn heavy_child(
     ensures { result ≡ widest_from (tables scheme.now) root x None (neighbours graph.now x) }
 {
     let row = graph.neighbours(x);
-    let mut heavy = None;
+    let mut widest = (None, 0);
     for (port, edge) in row.iter().enumerate() {
-        let below = child(scheme, fingers, root, x, port, edge.0);
-        heavy = wider(scheme, root, heavy, edge.0, below);
+        let below = child_of(x, fingers.entry(scheme, port, edge.0, root));
+        widest = wider_child(widest, edge.0, below);
     }
-    heavy
+    widest.0
 }
 
 /// Whether the record of a child has a number and a light depth, and its port to its parent.
-fn fits_child(graph: &Graph, entry: &Entry, y: u16, first: u32, depth: u32) -> bool
+pub(crate) fn fits_child(graph: &Graph, entry: &Entry, y: u16, first: u32, depth: u32) -> bool
     ensures { IsTrue result ↔ (((record_of entry.now.tree_record).first ≡ first) × (((record_of entry.now.tree_record).light_depth ≡ depth) × ((record_of entry.now.tree_record).parent_port ≡ up_port graph.now y (Some entry.now)))) }
 {
     let record = &entry.tree_record;
@@ -117,7 +95,7 @@ fn fits_child(graph: &Graph, entry: &Entry, y: u16, first: u32, depth: u32) -> b
 
 /// The number after y's members, or the same number where y is no child but the heavy one; none where its record
 /// doesn't fit. Its entry is this, if it is a child.
-fn number_after(
+pub(crate) fn number_after(
     graph: &Graph,
     heavy: u16,
     y: u16,
@@ -159,13 +137,29 @@ fn are_others_fit(
     let row = graph.neighbours(x);
     let mut next = start;
     for (port, edge) in row.iter().enumerate() {
-        let below = child(scheme, fingers, root, x, port, edge.0);
+        let below = child_of(x, fingers.entry(scheme, port, edge.0, root));
         match number_after(graph, heavy, edge.0, below, next, depth) {
             Some(after) => next = after,
             None => return false,
         }
     }
     next == end
+}
+
+/// Whether a record and that of its node's heavy child, whose entry this is, fit.
+#[tactic(auto, unfolding(crate::specs::Rows::FitsFirst))]
+pub(crate) fn fits_first(graph: &Graph, entry: &Entry, heavy: u16, below: &Entry) -> bool
+    ensures { (t : Tables) → t.entry heavy entry.now.root ≡ Some below.now → IsTrue result ↔ FitsFirst graph.now t entry.now.root (record_of entry.now.tree_record) heavy }
+{
+    let record = &entry.tree_record;
+    fits_child(
+        graph,
+        below,
+        heavy,
+        record.first as u32 + 1,
+        record.light_depth as u32,
+    ) && record.heavy_last == below.tree_record.last
+        && record.heavy_port == port_down(graph, heavy, below)
 }
 
 /// Whether a record fits a heavy child and the others of its node.
@@ -186,21 +180,18 @@ fn fits_heavy(
     let Some(below) = scheme.entry(heavy, entry.root) else {
         return false;
     };
-    let first = record.first as u32 + 1;
     let next = below.tree_record.last as u32 + 1;
     let end = record.last as u32 + 1;
     let depth = record.light_depth;
-    fits_child(graph, below, heavy, first, depth as u32)
+    fits_first(graph, entry, heavy, below)
         && are_others_fit(
             graph, scheme, fingers, entry.root, x, heavy, next, depth, end,
         )
-        && record.heavy_last == below.tree_record.last
-        && record.heavy_port == port_down(graph, heavy, below)
 }
 
 /// Whether a record fits a node without children.
 #[tactic(auto, unfolding(crate::specs::Rows::FitsRow))]
-fn fits_leaf(given: &Record) -> bool
+pub(crate) fn fits_leaf(given: &Record) -> bool
     ensures { (m : Network) (t : Tables) (r : ℕ) → IsTrue result ↔ FitsRow m t r (record_of given.now) [] }
 {
     given.first == given.last && given.heavy_last == given.first && given.heavy_port.is_none()
@@ -234,7 +225,7 @@ fn are_below_fit(graph: &Graph, scheme: &Scheme, x: u16) -> bool
 }
 
 /// Whether a root's record of itself is that of a root. Where it has none there is nothing to fit.
-fn fits_root(scheme: &Scheme, x: u16) -> bool
+pub(crate) fn fits_root(scheme: &Scheme, x: u16) -> bool
     ensures { IsTrue result ↔ FitsRoot (tables scheme.now) x }
 {
     let Some(entry) = scheme.entry(x, x) else {

@@ -2,7 +2,7 @@
 ghost use Rattle.std.specs.Prelude.{◌≡◌, ◌≢◌, ◌<◌, ◌↔◌, ℕ, IsTrue, IsSome, map};
 ghost use Rattle.std.specs.List.{All};
 ghost use Rattle.std.specs.List.Sorted.{IsStrictlyIncreasing};
-ghost use Rattle.certificate.specs.Entries.{HasOwn, HasParentAt, HasPlaces, IsEntryShaped, IsNodeShaped};
+ghost use Rattle.certificate.specs.Entries.{HasOwn, HasParentAt, HasPlaces, IsEntryShaped, IsFramed, IsNodeFramed, IsNodeShaped};
 ghost use Rattle.graph_edits.specs.Edges.{IsSound};
 ghost use Rattle.node_table.specs.Checks.{Holds, k1};
 ghost use Rattle.node_table.specs.Tables.{entries_at, roots_of, tables};
@@ -74,15 +74,39 @@ fn has_own(scheme: &Scheme, x: u16) -> bool
     }
 }
 
-#[tactic(auto, unfolding(crate::specs::Entries::IsNodeShaped))]
-fn is_node_shaped(graph: &Graph, scheme: &Scheme, x: u16) -> bool
+#[tactic(auto, unfolding(crate::specs::Entries::IsNodeFramed))]
+fn is_node_framed(graph: &Graph, scheme: &Scheme, x: u16) -> bool
     requires { x < graph.now.nodes }
-    ensures { IsTrue result ↔ IsNodeShaped graph.now scheme.now x }
+    ensures { IsTrue result ↔ IsNodeFramed graph.now scheme.now x }
 {
     are_ports(scheme.ports_of(x), graph.neighbours(x))
         && scheme.has_ascending_roots(x)
         && has_own(scheme, x)
-        && are_entries_shaped(graph, scheme, x)
+}
+
+/// Whether all of Shape holds but for the roots and parents of entries.
+#[tactic(auto, unfolding(crate::specs::Entries::IsFramed))]
+pub(crate) fn is_framed(graph: &Graph, scheme: &Scheme) -> bool
+    ensures framed { IsTrue result → IsFramed graph.now scheme.now }
+    ensures sound { IsSound graph.now }
+{
+    if !has_places(scheme, graph.nodes()) {
+        return false;
+    }
+    for x in 0..graph.nodes() {
+        if !is_node_framed(graph, scheme, x) {
+            return false;
+        }
+    }
+    true
+}
+
+#[tactic(auto, unfolding(crate::specs::Entries::IsNodeShaped, crate::specs::Entries::IsNodeFramed))]
+fn is_node_shaped(graph: &Graph, scheme: &Scheme, x: u16) -> bool
+    requires { x < graph.now.nodes }
+    ensures { IsTrue result ↔ IsNodeShaped graph.now scheme.now x }
+{
+    is_node_framed(graph, scheme, x) && are_entries_shaped(graph, scheme, x)
 }
 
 /// Whether the lists have their places, and every node its ports and its entries.
