@@ -30,8 +30,6 @@
 mod grammar;
 mod refused;
 mod task;
-#[cfg(test)]
-mod tests;
 
 pub use refused::WordsRefused;
 pub use task::{Task, understood};

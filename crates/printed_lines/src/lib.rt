@@ -33,8 +33,6 @@ mod lines;
 mod listing;
 mod printing;
 mod route_lines;
-#[cfg(test)]
-mod tests;
 
 pub use ended::Ended;
 pub use fault::Fault;

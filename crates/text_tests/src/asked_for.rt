@@ -1,5 +1,5 @@
-//! Words, and what they ask for. In a line of words a bar stands between each two.
-use crate::{Task, WordsRefused, understood};
+// Words, and what they ask for. In a line of words a bar stands between each two.
+use asked_tasks::{Task, WordsRefused, understood};
 use given_words::LandmarkWords;
 use graph_edits::{Change, Op};
 use std::io;
