@@ -4,5 +4,6 @@ pub mod BuildSteps
 pub mod OneRootMore
 pub mod GrownTrees
 pub mod TreeMembers
+pub mod MadeRows
 pub mod RowSteps
 pub mod RowColumns

@@ -24,10 +24,6 @@ abbrev pub entries_for : ℕ → List Row → List Entry
 entries_for x [] = []
 entries_for x (w ∷ ws) = cond (w.node == x) (w.entry ∷ entries_for x ws) (entries_for x ws)
 
--- a row in its root's directory
-abbrev pub listed_row : Row → Listed
-listed_row w = record { node = w.node; label = w.label }
-
 -- a numbered member in its root's directory
 abbrev pub listed_member : NumberedMember → Listed
 listed_member n = record { node = n.node; label = n.label }

@@ -1,6 +1,5 @@
 -- Rows of one root's tree, a row for each member.
 use Rattle.std.specs.Prelude.{◌≡◌, ℕ, ◌<◌, ◌==◌, cond, Option, Some, None, List, [], ◌∷◌, length, map, slice_index, slice_index_or}
-use Rattle.std.specs.List.{All, Contains}
 use Rattle.std.specs.Option.{option_map}
 use Rattle.distances.specs.declared.reach.Reached.{Reached}
 use Rattle.distances.specs.declared.linked.Linked.{Linked}
@@ -53,25 +52,6 @@ rows_by r ks table ns = map (row_by r ks table) ns
 -- the nodes of rows
 abbrev pub nodes_in : List Row → List ℕ
 nodes_in ws = map (λ w. w.node) ws
-
--- the row of a member
-pub record IsRowOf (r : ℕ) (k : Reached) (n : NumberedMember) (w : Row) : Type 0 where
-  pub reached : w.node ≡ k.node
-  pub numbered : w.node ≡ n.node
-  pub root : w.entry.root ≡ r
-  pub distance : w.entry.distance ≡ k.distance
-  pub parent : w.entry.parent ≡ k.parent
-  pub tree_record : w.entry.tree_record ≡ n.tree_record
-  pub label : w.label ≡ n.label
-
--- a row is made of one of what was reached and one of what was numbered
-abbrev pub IsRowFrom : ℕ → List Reached → List NumberedMember → Row → Type 0
-IsRowFrom r ks ns w = (k : Reached) × (n : NumberedMember) × (Contains ks k × Contains ns n × IsRowOf r k n w)
-
--- a row for each of what was numbered, in its order
-pub record IsRowList (r : ℕ) (ks : List Reached) (ns : List NumberedMember) (ws : List Row) : Type 0 where
-  pub each : All (IsRowFrom r ks ns) ws
-  pub nodes : nodes_in ws ≡ nodes_numbered ns
 
 -- the row of a node
 abbrev pub row_at : List Row → ℕ → Option Row

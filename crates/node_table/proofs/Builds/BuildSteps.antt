@@ -22,7 +22,8 @@ use Rattle.node_table.specs.declared.parts.Entry.{Entry}
 use Rattle.node_table.specs.declared.parts.Listed.{Listed}
 use Rattle.node_table.specs.Tables.{nodes_of, or_none}
 use Rattle.node_table.specs.RowLists.{Row, entry_by, nodes_numbered, row_by, rows_by}
-use Rattle.node_table.specs.Building.{items_at, entries_for, home_by, home_after, listed_member, listed_row, IsDirectoryOf}
+use Rattle.node_table.specs.Building.{items_at, entries_for, home_by, home_after, listed_member, IsDirectoryOf}
+use Rattle.node_table.proofs.Builds.MadeRows.{listed_row}
 use Rattle.node_table.proofs.Builds.RowColumns.{flips}
 use Rattle.node_table.proofs.Builds.Built.{zero_walk}
 

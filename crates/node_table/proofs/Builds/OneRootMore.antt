@@ -22,7 +22,8 @@ use Rattle.node_table.specs.Tables.{tables, entries_at, directory_at, first_entr
 use Rattle.node_table.specs.Checks.{IsListed}
 use Rattle.node_table.specs.Columns.{IsColumn, HasColumn, IsBuilt, AreBelow, limit_in}
 use Rattle.node_table.specs.RowLists.{Row, nodes_in, nodes_numbered, row_at, row_by, rows_by, entry_in, label_in}
-use Rattle.node_table.specs.Building.{items_at, entries_for, listed_member, listed_row, home_by, home_after, limit_by, IsDirectoryOf, IsDirectoryAfter, AreRowsOf, IsWith, IsBuildOf}
+use Rattle.node_table.specs.Building.{items_at, entries_for, listed_member, home_by, home_after, limit_by, IsDirectoryOf, IsDirectoryAfter, AreRowsOf, IsWith, IsBuildOf}
+use Rattle.node_table.proofs.Builds.MadeRows.{listed_row}
 use Rattle.node_table.proofs.Builds.RowSteps.{increasing_push, below_more, below_push, rows_nodes}
 use Rattle.node_table.proofs.Builds.RowColumns.{row_found}
 use Rattle.node_table.proofs.Builds.TreeMembers.{IsIn, is_in_of, contains_of}

@@ -23,7 +23,8 @@ use Rattle.heavy_labels.specs.declared.numbered_member.NumberedMember.{NumberedM
 use Rattle.node_table.specs.declared.parts.Entry.{Entry}
 use Rattle.node_table.specs.Checks.{up_port, down_port}
 use Rattle.node_table.specs.Columns.{up_by, down_by, member_of, LacksMember, AreDistinct, FitsEntry, IsTightFrom, IsParentIn, IsColumn}
-use Rattle.node_table.specs.RowLists.{Row, IsRowOf, IsRowFrom, IsRowList, nodes_in, nodes_numbered, row_at, entry_in, label_in}
+use Rattle.node_table.specs.RowLists.{Row, nodes_in, nodes_numbered, row_at, entry_in, label_in}
+use Rattle.node_table.proofs.Builds.MadeRows.{IsRowOf, IsRowFrom, IsRowList}
 use Rattle.node_table.proofs.Builds.TreeMembers.{IsIn, is_in_of, contains_of, all_in, distinct_members, laid_members, ChildrenReached, same_distance, parent_reached, farther, begins_with_root, at_in, in_at, one_place, exact_in, parent_in, reached_inside, reached_members, first_member}
 use Rattle.node_table.proofs.Basics.Options.{some_is, same_value}
 

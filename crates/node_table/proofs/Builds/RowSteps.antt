@@ -16,7 +16,8 @@ use Rattle.route_tree.specs.Places.{HasPlaces}
 use Rattle.heavy_labels.specs.declared.numbered_member.NumberedMember.{NumberedMember}
 use Rattle.node_table.specs.Ports.{neighbours, port_to}
 use Rattle.node_table.specs.Columns.{AreBelow, linked_member, member_of, up_by, down_by}
-use Rattle.node_table.specs.RowLists.{Row, ArePlaces, ArePlacesTo, IsRowFrom, IsRowList, nobody, nodes_in, nodes_linked, nodes_numbered, row_by, rows_by}
+use Rattle.node_table.specs.RowLists.{Row, ArePlaces, ArePlacesTo, nobody, nodes_in, nodes_linked, nodes_numbered, row_by, rows_by}
+use Rattle.node_table.proofs.Builds.MadeRows.{IsRowFrom, IsRowList}
 use Rattle.node_table.proofs.Basics.Lists.{Within, index_found}
 use Rattle.node_table.proofs.Serving.StepsAsMoves.{index_get}
 use Rattle.node_table.proofs.Serving.Moves.{get_map}
