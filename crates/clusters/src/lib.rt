@@ -1,9 +1,9 @@
 //! Clusters: the nodes that are nearer to a node than to every landmark.
 //!
-//! The cluster of a node w that is no landmark is the set of all v with d(w, v) < d(A, v), where A
-//! is the set of landmarks. The comparison is strict, and a node that no landmark reaches counts as
-//! infinitely far from them (Thorup and Zwick, Compact Routing Schemes). A compact routing scheme
-//! keeps a tree for each cluster.
+//! Let A be the landmarks, and w another node. A node v belongs to w's cluster where d(w, v) < d(A, v):
+//! one that is as near to a landmark doesn't, and one that no landmark reaches counts as infinitely far
+//! from them (Thorup and Zwick, Compact Routing Schemes). A compact routing scheme keeps a tree for each
+//! cluster.
 //!
 //! The contract that the layers above use is that of [`cluster`]: the answer has exactly these
 //! nodes, each with its distance from w and its parent, and the parent of a member is a member. The

@@ -1,6 +1,7 @@
 -- The arrivals at the nodes, while a search goes on and in its end.
 use Rattle.std.proofs.Common.{◌≡◌, ℕ, ◌+◌, ◌<◌, ◌≤◌, Bool, true, false, cond, ◌&&◌, ◌||◌, ◌≢◌, ◌↔◌, ◌⊎◌, inl, inr, List, [], ◌∷◌, length, get_or, set, Option, Some, None, eqb, ltb, refl, sym, ap, ◌∙◌, subst, arith, get_or-set_same, get_or-set_other}
 use Rattle.std.proofs.lemmas.Bool.{cases_eq}
+use Rattle.std.proofs.Math.Bool.{and-false}
 use Rattle.std.proofs.lemmas.Bool.Decides.{nat_tests}
 use Rattle.std.proofs.lemmas.List.{get_or_default}
 use Rattle.std.proofs.lemmas.Option.{same_Some, none-some, slice_get-get_or, slice_get_cases}
@@ -14,7 +15,7 @@ use Rattle.distances.specs.declared.search.Settled.{Settled}
 use Rattle.distances.specs.declared.search.Arrival.{Arrival}
 use Rattle.distances.specs.Search.{is_below, is_better, number_at, IsRelaxed, EachSettled}
 use Rattle.distances.specs.Table.{IsTightBy, IsFirstTight}
-use Rattle.distances.specs.Arrivals.{arrival_at, is_tied, is_smaller, is_taken, arrived, neighbour, IsArriving, IsArrival, AreArrivals, IsOverPort, parent_by}
+use Rattle.distances.specs.Arrivals.{arrival_at, is_tied, is_smaller, is_taken, is_nearer, arrived, neighbour, IsArriving, IsArrival, AreArrivals, IsOverPort, parent_by}
 use Rattle.distances.proofs.Progress.{Progress, IsNext, settled_stays, here_stays, number_before}
 use Rattle.distances.proofs.Turns.{neighbour_at}
 
@@ -25,6 +26,16 @@ pub record AreArriving (g : Network) (limit : ℕ → Option ℕ) (x d : ℕ) (n
   pub first : (k : ℕ) → k < i → after (neighbour g x k).0
       ≡ arrived (limit (neighbour g x k).0) (d + (neighbour g x k).1) (number (neighbour g x k).0) (before (neighbour g x k).0) (record { parent = x; down = k })
   pub rest : (y : ℕ) → ((k : ℕ) → k < i → (neighbour g x k).0 ≢ y) → (after y ≡ before y) × (number' y ≡ number y)
+
+-- an arrival at a node that is nearer already changes nothing
+pub late_arrival : (limit : Option ℕ) (a : ℕ) (o : Option ℕ) (was : Option Arrival) (new : Arrival) → is_nearer o a ≡ true → arrived limit a o was new ≡ was
+late_arrival limit a None was new t = let e : false ≡ true = t in absurd (cc)
+late_arrival limit a (Some e) was new t =
+    let no : ltb a e ≡ false = grind (arith, nat_tests) in
+    let apart : eqb e a ≡ false = grind (arith, nat_tests) in
+    ap (λ b. cond ((is_below a limit && b) || (eqb e a && is_smaller new.parent was)) (Some new) was) no
+    ∙ ap (λ b. cond (b || (eqb e a && is_smaller new.parent was)) (Some new) was) (and-false (is_below a limit))
+    ∙ ap (λ b. cond (b && is_smaller new.parent was) (Some new) was) apart
 
 module _ (g : Network) (limit : ℕ → Option ℕ) (x d : ℕ) (number : ℕ → Option ℕ) (before : ℕ → Option Arrival) (i y w : ℕ) (numbers : List (Option ℕ)) (arrivals : List (Option Arrival))
     (h : AreArriving g limit x d number (number_at numbers) before (arrival_at arrivals) i) (lt : i < degree_of g x) (here : neighbour g x i ≡ (y, w)) (fits : y < length arrivals) where

@@ -1,8 +1,10 @@
 -- One turn of the loops of the search.
-use Rattle.std.proofs.Common.{◌≡◌, ℕ, zero, suc, ◌+◌, ◌<◌, ◌≤◌, Bool, true, false, cond, ◌&&◌, ◌≢◌, ◌⊎◌, inl, inr, List, [], ◌∷◌, ◌++◌, map, length, get_or, set, replicate, Option, Some, None, eqb, refl, sym, ap, ◌∙◌, subst, arith, get_or-set_same, get_or-set_other}
+use Rattle.std.proofs.Common.{◌≡◌, ℕ, zero, suc, ◌+◌, ◌<◌, ◌≤◌, Bool, true, false, cond, ◌&&◌, ◌≢◌, ◌⊎◌, inl, inr, List, [], ◌∷◌, ◌++◌, map, length, get_or, set, replicate, Option, Some, None, eqb, ltb, refl, sym, ap, ◌∙◌, subst, arith, get_or-set_same, get_or-set_other}
 use Rattle.std.specs.List.{All}
 use Rattle.distances.proofs.Progress.{Progress, IsNext, progress_step}
 use Rattle.std.proofs.lemmas.Bool.{cases_eq}
+use Rattle.std.proofs.Math.Bool.{and-false}
+use Rattle.distances.specs.Arrivals.{is_nearer}
 use Rattle.std.proofs.lemmas.Bool.Decides.{nat_tests}
 use Rattle.std.proofs.lemmas.List.{get_or_default}
 use Rattle.std.proofs.lemmas.Option.{same_Some, none-some}
@@ -58,6 +60,13 @@ offered_reached limit a o below = elim (is_better a o) as (λ b. is_better a o �
   | true ↦ λ t. (a, (ap (λ b. cond (b && true) (Some a) o) below, omega arith))
   | false ↦ λ t. let n = not_better a o t in (n.0, (ap (λ b. cond (b && false) (Some a) o) below ∙ n.1.0, n.1.1))
 ] refl
+
+-- an offer to a node that is nearer already changes nothing
+pub late_offer : (limit : Option ℕ) (a : ℕ) (o : Option ℕ) → is_nearer o a ≡ true → offered limit a o ≡ o
+late_offer limit a None t = let e : false ≡ true = t in absurd (cc)
+late_offer limit a (Some e) t =
+    let no : ltb a e ≡ false = grind (arith, nat_tests) in
+    ap (λ b. cond (is_below a limit && b) (Some a) (Some e)) no ∙ ap (λ b. cond b (Some a) (Some e)) (and-false (is_below a limit))
 
 module _ (m : EdgeMap) (limit : ℕ → Option ℕ) (x d : ℕ) (before : ℕ → Option ℕ) (es : List (ℕ × ℕ)) (i y w : ℕ) (tentative : List (Option ℕ)) (h : IsRelaxing m limit x d before (number_at tentative) es i)
     (here : get_or es i (0, 0) ≡ (y, w)) (edge : weight_between m x y ≡ Some w) (lt : y < length tentative) where

@@ -10,6 +10,11 @@ use Rattle.distances.specs.declared.search.Arrival.{Arrival}
 abbrev pub arrival_at : List (Option Arrival) → ℕ → Option Arrival
 arrival_at arrivals y = slice_index_or arrivals y None
 
+-- whether what is there is less than d
+abbrev pub is_nearer : Option ℕ → ℕ → Bool
+is_nearer None d = false
+is_nearer (Some e) d = nat_lt e d
+
 -- whether d is what is there
 abbrev pub is_tied : ℕ → Option ℕ → Bool
 is_tied d None = false

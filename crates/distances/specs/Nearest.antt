@@ -48,7 +48,7 @@ abbrev pub landmark_over : Option Near → ℕ → ℕ → Option ℕ
 landmark_over None w d = None
 landmark_over (Some n) w d = cond (n.distance + w == d) (Some n.landmark) None
 
--- the smaller of two numbers, where none is greater than every number
+-- the smaller of two numbers, or the one that is there
 abbrev pub lesser : Option ℕ → Option ℕ → Option ℕ
 lesser None b = b
 lesser (Some x) None = Some x

@@ -5,7 +5,7 @@ use Rattle.graph_edits.specs.Edges.{EdgeMap, Network, weight_between, degree_of}
 use Rattle.graph_edits.specs.Walks.{IsWalk, walk_length, IsLeast}
 use Rattle.distances.specs.declared.search.Settled.{Settled}
 
--- whether a number is below a limit: none is greater than every number
+-- whether a number is below a limit: where there is none, it is
 abbrev pub is_below : ℕ → Option ℕ → Bool
 is_below e None = true
 is_below e (Some l) = nat_lt e l

@@ -5,8 +5,8 @@
 //!
 //! The contract that the layers above use is that of [`from_root`]: the answer has exactly the nodes
 //! that a walk from the root reaches, each with its distance, in ascending order of distance and
-//! then of node, and with its parent: the smallest-numbered member y of the tree with
-//! D(y) + weight(y, x) = D(x). [`from_landmarks`] gives each node its nearest landmark, the
+//! then of node, and with its parent: of all neighbours whose own distance and the edge between make up
+//! the node's, the one of the smallest number. [`from_landmarks`] gives each node its nearest landmark, the
 //! smallest-numbered where several are as near. [`tree_within`] is [`from_root`] cut off at a limit
 //! for each node; clusters are made of it.
 //!

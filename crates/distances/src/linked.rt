@@ -6,8 +6,8 @@ use crate::reach::Reached;
 pub struct Linked {
     /// The node, its distance from the root, and its parent.
     pub reached: Reached,
-    /// The port at the node to its parent; none at the root.
+    /// The node's own port, towards its parent; none at the root.
     pub up: Option<u16>,
-    /// The parent's port to the node; none at the root.
+    /// Its parent's port, towards the node; none at the root.
     pub down: Option<u16>,
 }

@@ -5,7 +5,7 @@ ghost use Rattle.std.specs.List.{count_by};
 ghost use Rattle.std.specs.FinMap.{len};
 ghost use Rattle.distances.specs.Search.{is_below, is_better, offered, number_at, flag_at, first_number, IsAtZero, AreGentle, IsSearched, IsRelaxed, degrees};
 ghost use Rattle.distances.specs.Table.{IsTable, IsListing};
-ghost use Rattle.distances.specs.Arrivals.{arrival_at, arrived, is_taken as taken, is_tied as tied, is_smaller as smaller, IsArriving, AreArrivals};
+ghost use Rattle.distances.specs.Arrivals.{arrival_at, arrived, is_taken as taken, is_tied as tied, is_smaller as smaller, is_nearer as nearer, IsArriving, AreArrivals};
 ghost use Rattle.distances.specs.Waiting.{nearest_first, IsQueue, IsJoined, IsTracked};
 ghost use Rattle.graph_edits.specs.Edges.{degree_of};
 
@@ -147,7 +147,7 @@ fn add_source(
 }
 
 /// Offers to each neighbour of a settled node the distance over it. A neighbour that is nearer by
-/// it, and within its limit, waits at that distance.
+/// it, and within its limit, waits at that distance. One that is nearer already is passed over.
 fn relax(
     graph: &Graph,
     limits: &[Option<u64>],
@@ -178,17 +178,21 @@ fn relax(
 {
     for (port, (node, weight)) in graph.neighbours(from.node).iter().enumerate() {
         let y = *node as usize;
-        let nearer = Settled {
-            distance: from.distance + *weight as u64,
-            node: *node,
-        };
+        let distance = from.distance + *weight as u64;
+        let there = tentative[y];
+        if is_nearer(there, distance) {
+            continue;
+        }
         let arrival = Arrival {
             parent: from.node,
             down: port as u16,
         };
         let limit = limit_of(limits, *node);
-        let there = tentative[y];
-        note(arrivals, *node, limit, nearer.distance, there, arrival);
+        note(arrivals, *node, limit, distance, there, arrival);
+        let nearer = Settled {
+            distance,
+            node: *node,
+        };
         tentative[y] = offer(limit, nearer, there, waiting)?;
     }
     Ok(())
@@ -276,13 +280,23 @@ pub fn offer(
     }
 }
 
-/// Whether a distance is below a limit. None is greater than every number.
+/// Whether a distance is below a limit. Where there is no limit, it is.
 fn is_within(distance: u64, limit: Option<u64>) -> bool
     ensures { result ≡ is_below distance limit }
 {
     match limit {
         None => true,
         Some(limit) => distance < limit,
+    }
+}
+
+/// Whether a node is nearer already.
+fn is_nearer(there: Option<u64>, distance: u64) -> bool
+    ensures { result ≡ nearer there distance }
+{
+    match there {
+        None => false,
+        Some(number) => number < distance,
     }
 }
 

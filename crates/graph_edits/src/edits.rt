@@ -7,7 +7,7 @@ use crate::limits::{GREATEST_WEIGHT, MOST_OPS};
 use arrayvec::ArrayVec;
 use std::marker::Model;
 
-/// What an editor asks for one pair of nodes. Both orders of the nodes name the same pair.
+/// What an editor asks for one pair of nodes. It is the same pair, whichever node is named first.
 #[derive(Clone, Copy, Debug, PartialEq, Eq)]
 pub enum Op {
     /// A new edge between two nodes, with its weight.

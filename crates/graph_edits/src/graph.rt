@@ -131,7 +131,7 @@ impl Graph {
 }
 
 impl Graph {
-    /// Makes all ops in order, or none. Any refusal leaves the graph as it was.
+    /// Makes the whole change, op by op, or nothing of it. Any refusal leaves the graph as it was.
     ///
     /// It costs work in the ops and in the neighbours of the nodes that they name, whatever the size of the graph.
     pub fn apply(&mut self, change: &Change) -> Result<(), EditRefused>

@@ -7,7 +7,7 @@ use std::marker::Model;
 /// The most light ports that a label has.
 pub const MOST_LIGHTS: usize = 13;
 
-/// A member's label in a tree: its number, and the ports of the light edges on the way from the root to it, the
+/// A member's label in a tree: its number, and for each light edge between the root and it that edge's port, the
 /// root's first. Contracts see the number and the list; two labels are equal exactly where both are. It takes 30 bytes:
 /// the places behind the last port hold zeros.
 #[derive(Clone, PartialEq, Eq, Debug, Drop)]

@@ -2,8 +2,8 @@
 //!
 //! A tree's members are numbered in preorder: a member first, then all below its heavy child (that of
 //! the greatest size), then all below its other children by ascending node. Each member gets a
-//! [`Record`] of six small fields and a [`Label`]: its number, and the ports of the light edges on the
-//! way from the root. A light edge halves the size at least, so a label has few ports: at most
+//! [`Record`] of six small fields and a [`Label`]: its number, and for each light edge between the root
+//! and it that edge's port. A light edge halves the size at least, so a label has few ports: at most
 //! [`MOST_LIGHTS`]. [`step`] sends whoever has a label one edge on by the record of the member where
 //! they are (Thorup and Zwick, Compact Routing Schemes; the form of the record is this project's
 //! profile).

@@ -1,4 +1,4 @@
-ghost use Rattle.std.specs.Prelude.{◌≡◌, ◌+◌, ◌++◌, ◌<◌, ◌≤◌, ◌∷◌, [], IfOk, OnOk, length, slice_index_or};
+ghost use Rattle.std.specs.Prelude.{◌≡◌, ◌+◌, ◌++◌, ◌<◌, ◌≤◌, ◌∷◌, [], IfOk, OnOk, drop, length, slice_index_or, suc, take};
 ghost use Rattle.route_tree.specs.Rose.{Tree, tree, of_list, count};
 ghost use Rattle.route_tree.specs.Order.{ascending, HaveEachNodeOnce};
 ghost use Rattle.route_tree.specs.Front.{heavy_to_front};
@@ -80,6 +80,18 @@ fn hang<A: Allocator>(slots: &mut Slots<A>, place: usize, twig: Twig<A>) -> Resu
     Ok(())
 }
 
+/// Takes the last of the slots.
+fn take_last<A: Allocator>(slots: &mut Slots<A>, at: usize) -> Vec<Twig<A>, A>
+    requires { length slots.old.items ≡ at + 1 }
+    ensures value { result ≡ slice_index_or slots.old.items at result }
+    ensures items { slots.new.items ≡ take at slots.old.items ++ drop (suc at) slots.old.items }
+{
+    let Some(children) = slots.pop() else {
+        unreachable!()
+    };
+    children
+}
+
 /// Closes the tree of the last member that has a slot, and hangs it on its parent.
 fn close_last<A: Allocator>(
     slots: &mut Slots<A>,
@@ -94,7 +106,7 @@ fn close_last<A: Allocator>(
     requires waits { Waits members.now (at + 1) slots.old.items }
     ensures { OnOk result (Waits members.now at slots.new.items) }
 {
-    let children = slots.remove(at);
+    let children = take_last(slots, at);
     let twig = close(members[at], children);
     let place = parent_place(places, members, at);
     hang(slots, place, twig)?;
@@ -117,6 +129,6 @@ pub fn grown<A: Allocator + Clone>(
         left -= 1;
         close_last(&mut slots, places, members, left)?;
     }
-    let children = slots.remove(0);
+    let children = take_last(&mut slots, 0);
     Ok(close(members[0], children))
 }

@@ -11,7 +11,9 @@ fn sort_by_node<A: Allocator>(trees: &mut [Twig<A>])
     ensures same { IsPermutation trees.old trees.new }
     ensures ascending { IsNonDecreasingBy (λ t. t.node) trees.new }
 {
-    trees.sort_unstable_by_key(|tree| tree.node());
+    if trees.len() > 1 {
+        trees.sort_unstable_by_key(|tree| tree.node());
+    }
 }
 
 /// The place of the first of the heaviest trees.
@@ -42,7 +44,7 @@ fn front<A: Allocator>(children: &mut [Twig<A>])
     }
 }
 
-/// Puts the heavy child first, and the others behind it by ascending node.
+/// Orders children: the heavy one comes first, behind it the others as their nodes ascend.
 pub fn heavy_first<A: Allocator>(children: &mut [Twig<A>])
     ensures same { IsPermutation children.old children.new }
     ensures order { IsInOrder children.new }

@@ -13,9 +13,9 @@ pub const MOST_MEMBERS: usize = 16_384;
 pub struct Member {
     pub node: u16,
     pub parent: Option<u16>,
-    /// The port at the node to its parent.
+    /// The node's own port, towards its parent.
     pub up: Option<u16>,
-    /// The parent's port to the node.
+    /// Its parent's port, towards the node.
     pub down: Option<u16>,
 }
 

@@ -53,7 +53,7 @@ pub(crate) const FIVE: [Member; 5] = [
     },
 ];
 
-/// Node i has the children 2i + 1 and 2i + 2; ports by ascending neighbours.
+/// Below node i hang 2i + 1 and 2i + 2. Ports go by ascending neighbours.
 pub(crate) fn in_pairs(i: u16) -> Member {
     match i {
         0 => root(0),

@@ -56,7 +56,7 @@ fn path_of_five(rt: HostRuntime) {
     same(&rt, seen(last), (4, Some(0), Some(1), 1, 0), "the last end");
 }
 
-/// Each member i has the children 2i + 1 and 2i + 2, the smaller first.
+/// Below each i hang 2i + 1 and 2i + 2, the smaller first.
 fn expect_pairs<A: Allocator>(rt: &impl Abort, tree: &RouteTree<A>) {
     same(rt, tree.size(), 16_383, "the size");
     let mut twig = tree.root();

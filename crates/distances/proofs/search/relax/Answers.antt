@@ -1,12 +1,13 @@
-use Rattle.std.proofs.Common.{◌≡◌, ◌<◌, ◌+◌, ◌&&◌, length, get_or, set, arith, subst, refl, sym, ap, ◌∙◌, length-set}
+use Rattle.std.proofs.Common.{◌≡◌, ◌<◌, ◌+◌, ◌&&◌, true, None, length, get_or, set, arith, subst, refl, sym, ap, ◌∙◌, length-set}
 use Rattle.std.specs.BinaryHeap.{heap_items}
+use Rattle.std.proofs.lemmas.List.{set-get_or}
 use Rattle.distances.specs.Search.{number_at, is_below, is_better, offered}
 use Rattle.distances.specs.Waiting.{IsJoined}
-use Rattle.distances.proofs.Turns.{IsRelaxing, neighbour_at, neighbour_below, relaxing_step, relaxing_done}
+use Rattle.distances.proofs.Turns.{IsRelaxing, late_offer, neighbour_at, neighbour_below, relaxing_step, relaxing_done}
 use Rattle.graph_edits.specs.Edges.{degree_of}
 use Rattle.graph_edits.specs.Laws.{IsRising, rising_neighbours, rising_place}
-use Rattle.distances.specs.Arrivals.{arrival_at, arrived}
-use Rattle.distances.proofs.Arrived.{AreArriving, arriving_step, arriving_done}
+use Rattle.distances.specs.Arrivals.{arrival_at, arrived, is_nearer}
+use Rattle.distances.proofs.Arrived.{AreArriving, late_arrival, arriving_step, arriving_done}
 use Rattle.distances.proofs.Queues.{queue_offered, queue_same, joined_few}
 use Rattle.distances.proofs.search.relax.Goals as goal
 
@@ -80,3 +81,38 @@ returns-clause-relaxed c =
 
 pub returns-in_err-tentative-clause-queue : goal.returns-in_err-tentative-clause-queue
 returns-in_err-tentative-clause-queue c = λ done h. queue_same c.args.graph.now.nodes (number_at c.loop-port.tentative) done (heap_items c.loop-port.waiting) (heap_items c.offer.new.waiting) c.in_err-tentative.ensures.refused (c.loop-port.invariant.queue done h)
+
+pub loop-port-preserved-then-is_nearer : goal.loop-port-preserved-then-is_nearer
+loop-port-preserved-then-is_nearer c =
+    let es = c.neighbours-node-items.result.now in
+    let k = c.loop-port.port in
+    let y = (get_or es k (0, 0)).0 in
+    let w = (get_or es k (0, 0)).1 in
+    let i = c.loop-port.invariant in
+    let g = c.args.graph.now in
+    let limits = number_at c.args.limits.now in
+    let d = c.args.from.distance in
+    let lt = neighbour_below g c.args.from.node es k c.neighbours-node-items.ensures.sound c.neighbours-node-items.ensures.list c.loop-port-test.true in
+    let within : (get_or es k (0, 0)).0 < length c.loop-port.tentative = omega (arith, i.tentatives, lt) in
+    let fits : (get_or es k (0, 0)).0 < length c.loop-port.arrivals = omega (arith, i.places, lt) in
+    let low : k < degree_of g c.args.from.node = omega (arith, c.loop-port-test.true, ap length c.neighbours-node-items.ensures.list) in
+    let late : is_nearer (number_at c.loop-port.tentative y) (d + w) ≡ true = sym c.is_nearer.ensures ∙ c.if-is_nearer.true in
+    let number : set c.loop-port.tentative y (offered (limits y) (d + w) (number_at c.loop-port.tentative y)) ≡ c.loop-port.tentative =
+    ap (set c.loop-port.tentative y) (late_offer (limits y) (d + w) _ late) ∙ set-get_or c.loop-port.tentative y None in
+    let new = arrived (limits y) (d + w) (number_at c.loop-port.tentative y) (arrival_at c.loop-port.arrivals y) (record { parent = c.args.from.node; down = k }) in
+    let arrivals : set c.loop-port.arrivals y new ≡ c.loop-port.arrivals =
+    ap (set c.loop-port.arrivals y) (late_arrival (limits y) (d + w) _ (arrival_at c.loop-port.arrivals y) _ late) ∙ set-get_or c.loop-port.arrivals y None in
+    record {
+      relaxing = subst (λ l. IsRelaxing g.edges limits c.args.from.node d (number_at c.args.tentative.now) (number_at l) es (k + 1)) number
+          (relaxing_step g.edges limits c.args.from.node d (number_at c.args.tentative.now) es k y w c.loop-port.tentative i.relaxing refl
+          (neighbour_at g c.args.from.node es k c.neighbours-node-items.ensures.list c.loop-port-test.true) within);
+      order = i.order;
+      queue = i.queue;
+      counted = omega (arith, i.counted);
+      arriving = subst (λ l. AreArriving g limits c.args.from.node d (number_at c.args.tentative.now) (number_at c.loop-port.tentative) (arrival_at c.args.arrivals.now) (arrival_at l) (k + 1)) arrivals
+          (subst (λ l. AreArriving g limits c.args.from.node d (number_at c.args.tentative.now) (number_at l) (arrival_at c.args.arrivals.now) (arrival_at (set c.loop-port.arrivals y new)) (k + 1)) number
+          (arriving_step g limits c.args.from.node d (number_at c.args.tentative.now) (arrival_at c.args.arrivals.now) k y w c.loop-port.tentative c.loop-port.arrivals i.arriving low
+          (ap (λ l. get_or l k (0, 0)) (sym c.neighbours-node-items.ensures.list)) fits (offered (limits y) (d + w) (number_at c.loop-port.tentative y)) new refl));
+      places = i.places;
+      tentatives = i.tentatives;
+    }
