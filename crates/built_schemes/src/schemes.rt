@@ -9,9 +9,8 @@ use node_table::{Scheme, build};
 use std::alloc::{AllocError, Allocator, Global};
 
 /// The scheme of a graph, with the landmarks that these words give and this generation. Of the words the first count, one
-/// for each node, and for each that is missing the greatest. The tree of each root lies in an arena of its own over the
-/// scratch, and nothing of the scratch stays in the scheme. An `Err` means that memory was refused, by the scratch or
-/// beside it.
+/// for each node, and for each that is missing the greatest. Each root's tree is grown in an arena made for it over the
+/// scratch, and the scheme keeps nothing of that. An `Err` means that memory was refused, by the scratch or beside it.
 pub fn scheme_of<A: Allocator + Clone>(
     alloc: Global,
     graph: &Graph,

@@ -15,7 +15,7 @@ pub enum Fault {
     Edges = 2,
     /// An entry's distance isn't its parent's and the edge, or a smaller neighbour gives the same.
     Parents = 3,
-    /// An entry for a root that is no landmark is no nearer than the nearest landmark.
+    /// A member of a cluster's tree is no nearer to its root than to the nearest landmark.
     Strict = 4,
     /// A nearest landmark isn't the least of the entries for landmarks.
     Nearest = 5,

@@ -8,7 +8,7 @@
 //! | K1 Shape | every list has its places, ports are the graph's, entries ascend by root, parents have entries |
 //! | K2 Edges | over every edge an entry leads to one that is no farther, or to where a landmark is as near |
 //! | K3 Parents | an entry's distance is its parent's and the edge, the first of all neighbours that gives it |
-//! | K4 Strict | an entry for a root that is no landmark is nearer than the nearest landmark |
+//! | K4 Strict | who is in a cluster's tree is nearer to its root than to the nearest landmark |
 //! | K5 Nearest | a nearest landmark is the least of the entries for landmarks |
 //! | K6 Records | every record is that of the tree that the parents give |
 //! | K7 Labels | every label is that of its tree |

@@ -1,4 +1,4 @@
-// Strict: an entry for a root that is no landmark is nearer to it than to every landmark.
+// Strict: who is in a cluster's tree is nearer to its root than to every landmark.
 ghost use Rattle.std.specs.Prelude.{◌≡◌, ◌<◌, ◌↔◌, ℕ, IsTrue};
 ghost use Rattle.std.specs.List.{All};
 ghost use Rattle.certificate.specs.Entries.{EachEntry, IsStrictAt};

@@ -340,7 +340,7 @@ fn empty_parts(
     })
 }
 
-/// One root more: its tree lies in an arena of its own over the scratch, and is gone when its rows are in the tables.
+/// One root more: its tree is grown in an arena made for it over the scratch, and both are gone when its rows are in the tables.
 fn add_root<A: Allocator>(
     alloc: Global,
     graph: &Graph,
@@ -403,9 +403,9 @@ fn add_roots<A: Allocator + Clone>(
     Ok(())
 }
 
-/// The scheme of a graph with these landmarks: all eight rules hold of it, so it serves the graph. Each root's tree lies in
-/// an arena of its own over the scratch, and nothing of the scratch stays in the scheme, which is the same for every
-/// scratch. An `Err` means that memory was refused.
+/// The scheme of a graph with these landmarks: all eight rules hold of it, so it serves the graph. Each root's tree is grown
+/// in an arena made for it over the scratch; the scheme keeps nothing of that, and is the same for every scratch. An `Err`
+/// means that memory was refused.
 pub fn build<A: Allocator + Clone>(
     alloc: Global,
     graph: &Graph,
@@ -425,6 +425,6 @@ pub fn build<A: Allocator + Clone>(
     let mut parts = empty_parts(alloc, graph, landmarks, &nearest, generation)?;
     graph_is_sound(graph);
     add_roots(alloc, graph, landmarks, &nearest, &mut parts, scratch)?;
-    let scheme = Scheme::assemble(alloc, parts)?;
+    let scheme = Scheme::with_numbers_apart(alloc, parts)?;
     Ok(scheme)
 }

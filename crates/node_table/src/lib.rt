@@ -1,10 +1,10 @@
 //! Schemes: the tables by which nodes carry packets over at most three times the shortest way.
 //!
 //! A scheme has two levels, landmarks and clusters (after Thorup and Zwick, Compact Routing Schemes;
-//! the tables, the limits and the order of refusals are this project's profile). Each node is the root
-//! of one tree: a landmark's spans all that it reaches, another node's its cluster. A node keeps an
-//! entry for each tree that it is in; a node that is no landmark also keeps a directory, the labels in
-//! its own tree. The address of a node names its nearest landmark and its label in that landmark's tree.
+//! the tables, the limits and the order of refusals are this project's profile). From every node as root
+//! there is a tree: over all that it reaches, where it is a landmark, else over its cluster. A node keeps
+//! an entry for each tree that it is in; a node that is no landmark also keeps a directory, the labels in
+//! its own tree. An address is a node with its nearest landmark and the label that it has there.
 //!
 //! The contract that the layers above use is that of [`build`]: all eight rules (`IsChecked` of
 //! `specs/Checks`) hold of the scheme, so it serves the graph (`Serves` of `specs/Service`, which names
@@ -12,8 +12,8 @@
 //! the generation that were handed in. That the rules give good service is a law, proved once, as is what
 //! holds of a packet on its way: [`scheme_laws`].
 //!
-//! [`Scheme::assemble`] takes any tables. All its calls are total for any of them and take no memory, but
-//! for [`Scheme::carry`], which takes that of its trail.
+//! [`Scheme::assemble`] takes any tables, and takes no memory. All calls of a scheme are total for any tables and take none
+//! either, but for [`Scheme::carry`], which takes that of its trail.
 //!
 //! ```text
 //! let scheme = build(alloc, &graph, &landmarks, generation, &heap)?;
@@ -26,6 +26,7 @@
 mod building;
 mod columns;
 mod laws;
+mod numbers_apart;
 mod packet;
 mod parts;
 mod ports;

@@ -7,53 +7,56 @@ ghost use Rattle.node_table.specs.Ports.{index_of};
 ghost use Rattle.node_table.specs.Service.{address_given, decide as packet_given, forward_over, home_of, node_step as move_given, one_less, packet_by, IsOfGeneration};
 ghost use Rattle.node_table.specs.Tables.{AreAscending, entries_at, first_entry, first_listed, directory_at, nodes_of, or_none, roots_of, tables, ports_at};
 
+use crate::numbers_apart::NumbersApart;
 use crate::packet::{Address, Home, Move, Packet, Refused};
 use crate::parts::{Entry, Listed, Near, Parts};
-use crate::search::{all_numbers, directories_ascend, entries_ascend, first_place, numbers_at};
+use crate::search::{first_place, tables_ascend};
 use heavy_labels::{Label, TreeStep, step};
 use std::alloc::{AllocError, Global};
 use std::marker::Model;
 
-/// A scheme: its tables, and whether they can be searched by halving. What it is searched by stands apart: the roots of each
-/// node's entries and the nodes of each directory, two bytes a number. Contracts see the tables.
+/// A scheme: its tables, and whether they can be searched by halving. What it is searched by stands apart in a scheme that was
+/// built; an assembled one is searched in its tables. Contracts see the tables.
 #[derive(Drop)]
 pub struct Scheme {
     parts: Parts,
-    roots: Vec<Vec<u16>>,
-    members: Vec<Vec<u16>>,
+    apart: Option<NumbersApart>,
     ascending: bool,
 }
 
 impl Model for Scheme {
-    ghost use Rattle.std.specs.Prelude.{◌↔◌, IsTrue};
+    ghost use Rattle.std.specs.Prelude.{◌↔◌, IfSome, IsTrue};
     ghost use Rattle.node_table.specs.declared.parts.Parts.{Parts};
-    ghost use Rattle.node_table.specs.Apart.{AreNumbersOf};
+    ghost use Rattle.node_table.specs.Apart.{AreApart};
     ghost use Rattle.node_table.specs.Tables.{AreAscending};
 
     ghost Value = { Parts };
 
     ghost view = { λ s. s.parts };
 
-    ghost invariant = { λ s. (IsTrue s.ascending ↔ AreAscending s.parts)
-        × (AreNumbersOf (λ e. e.root) s.parts.entries.items s.roots.items × AreNumbersOf (λ e. e.node) s.parts.directories.items s.members.items) };
+    ghost invariant = { λ s. (IsTrue s.ascending ↔ AreAscending s.parts) × IfSome s.apart (λ a. AreApart s.parts a) };
 }
 
 impl Scheme {
-    /// A scheme of any tables. What it is searched by is made here, and whether the tables ascend is found, once.
-    /// An `Err` means that memory was refused.
-    pub fn assemble(alloc: Global, parts: Parts) -> Result<Scheme, AllocError>
+    /// A scheme of any tables. Whether they ascend is found here, once.
+    pub fn assemble(parts: Parts) -> Scheme
+        ensures { result ≡ parts }
+    {
+        let ascending = tables_ascend(&parts);
+        Scheme {
+            parts,
+            apart: None,
+            ascending,
+        }
+    }
+
+    /// A scheme of any tables, with the numbers that it is searched by apart. An `Err` means that memory was refused.
+    pub(crate) fn with_numbers_apart(alloc: Global, parts: Parts) -> Result<Scheme, AllocError>
         ensures { IfOk result (λ scheme. scheme ≡ parts) }
     {
-        let ascending = entries_ascend(parts.entries.as_slice())
-            && directories_ascend(parts.directories.as_slice());
-        let roots = all_numbers(alloc, parts.entries.as_slice())?;
-        let members = all_numbers(alloc, parts.directories.as_slice())?;
-        Ok(Scheme {
-            parts,
-            roots,
-            members,
-            ascending,
-        })
+        let mut scheme = Scheme::assemble(parts);
+        scheme.apart = Some(NumbersApart::of(alloc, &scheme.parts)?);
+        Ok(scheme)
     }
 
     /// The tables.
@@ -63,18 +66,27 @@ impl Scheme {
         &self.parts
     }
 
-    /// The roots of a node's entries.
-    fn roots_of(&self, x: u16) -> &[u16]
-        ensures { result.now ≡ roots_of (entries_at self.now x) }
+    /// The place of a node's first entry for a root, and how many entries were looked at.
+    fn place_of_entry(&self, x: u16, root: u16) -> (Option<usize>, u32)
+        ensures place { result.0 ≡ index_of root (roots_of (entries_at self.now x)) }
+        ensures some { AreAscending self.now → 0 < length (entries_at self.now x) → 0 < result.1 }
+        ensures few { AreAscending self.now → (k : ℕ) → length (entries_at self.now x) < 2 ^ k → result.1 ≤ k }
     {
-        numbers_at(self.roots.as_slice(), x)
+        match &self.apart {
+            Some(apart) => first_place(apart.roots_at(x), root, self.ascending),
+            None => first_place(self.entries_of(x), root, self.ascending),
+        }
     }
 
-    /// The nodes of a node's directory.
-    fn members_of(&self, u: u16) -> &[u16]
-        ensures { result.now ≡ nodes_of (directory_at self.now u) }
+    /// The place of a node's first label in a directory.
+    fn place_of_label(&self, u: u16, v: u16) -> Option<usize>
+        ensures { result ≡ index_of v (nodes_of (directory_at self.now u)) }
     {
-        numbers_at(self.members.as_slice(), u)
+        let (place, _) = match &self.apart {
+            Some(apart) => first_place(apart.members_at(u), v, self.ascending),
+            None => first_place(self.directory_of(u), v, self.ascending),
+        };
+        place
     }
 
     /// In how many trees a node has an entry.
@@ -93,7 +105,7 @@ impl Scheme {
         ensures some { AreAscending self.now → 0 < length (entries_at self.now x) → 0 < result.1 }
         ensures few { AreAscending self.now → (k : ℕ) → length (entries_at self.now x) < 2 ^ k → result.1 ≤ k }
     {
-        first_place(self.roots_of(x), root, self.ascending)
+        self.place_of_entry(x, root)
     }
 
     /// A node's first entry for a root.
@@ -101,7 +113,7 @@ impl Scheme {
     pub fn entry(&self, x: u16, root: u16) -> Option<&Entry>
         ensures { MatchOption result (first_entry root (entries_at self.now x) ≡ None) (λ e. first_entry root (entries_at self.now x) ≡ Some e.now) }
     {
-        let (place, _) = first_place(self.roots_of(x), root, self.ascending);
+        let (place, _) = self.place_of_entry(x, root);
         match place {
             Some(i) => Some(&self.entries_of(x)[i]),
             None => None,
@@ -123,8 +135,7 @@ impl Scheme {
     pub fn listed(&self, u: u16, v: u16) -> Option<&Label>
         ensures { MatchOption result (first_listed v (directory_at self.now u) ≡ None) (λ l. first_listed v (directory_at self.now u) ≡ Some l.now) }
     {
-        let (place, _) = first_place(self.members_of(u), v, self.ascending);
-        match place {
+        match self.place_of_label(u, v) {
             Some(i) => Some(&self.directory_of(u)[i].label),
             None => None,
         }

@@ -1,15 +1,12 @@
-// How the lists of a scheme are searched: by their numbers, which stand apart; by halving where these strictly ascend, else from
-// the front.
-ghost use Rattle.std.specs.Prelude.{◌≡◌, ◌<◌, ◌≤◌, ◌^◌, ◌↔◌, IfOk, IsTrue, ℕ, length, map};
+// How the lists of a scheme are searched, each item by a number of its own: by halving where the numbers strictly ascend, else
+// from the front. The numbers alone are searched in the same way.
+ghost use Rattle.std.specs.Prelude.{◌≡◌, ◌<◌, ◌≤◌, ◌^◌, ◌↔◌, IsTrue, ℕ, length, map};
 ghost use Rattle.std.specs.List.{All};
 ghost use Rattle.std.specs.List.Sorted.{IsStrictlyIncreasing};
 ghost use Rattle.node_table.specs.Ports.{index_of};
-ghost use Rattle.node_table.specs.Apart.{AreNumbersOf};
-ghost use Rattle.node_table.specs.Building.{items_at};
-ghost use Rattle.node_table.specs.Tables.{nodes_of, roots_of};
+ghost use Rattle.node_table.specs.Tables.{AreAscending, nodes_of, roots_of};
 
-use crate::parts::{Entry, Listed};
-use std::alloc::{AllocError, Global};
+use crate::parts::{Entry, Listed, Parts};
 
 /// What stands in a list under a number of its own.
 pub(crate) trait Keyed {
@@ -36,6 +33,14 @@ impl Keyed for Listed {
     }
 }
 
+impl Keyed for u16 {
+    ghost key = { λ number. number };
+
+    fn key(&self) -> u16 {
+        *self
+    }
+}
+
 /// Whether the numbers of a list strictly ascend.
 pub(crate) fn do_ascend<T: Keyed>(items: &[T]) -> bool
     ensures { IsTrue result ↔ IsStrictlyIncreasing (map T.key items.now) }
@@ -51,63 +56,39 @@ fn all_ascend<T: Keyed>(lists: &[Vec<T>]) -> bool
 }
 
 /// Whether all lists of entries strictly ascend by root.
-pub(crate) fn entries_ascend(lists: &[Vec<Entry>]) -> bool
+fn entries_ascend(lists: &[Vec<Entry>]) -> bool
     ensures { IsTrue result ↔ All (λ list. IsStrictlyIncreasing (roots_of list.items)) lists.now }
 {
     all_ascend(lists)
 }
 
 /// Whether all directories strictly ascend by node.
-pub(crate) fn directories_ascend(lists: &[Vec<Listed>]) -> bool
+fn directories_ascend(lists: &[Vec<Listed>]) -> bool
     ensures { IsTrue result ↔ All (λ list. IsStrictlyIncreasing (nodes_of list.items)) lists.now }
 {
     all_ascend(lists)
 }
 
-/// The numbers of a list, apart.
-fn numbers_of<T: Keyed>(alloc: Global, items: &[T]) -> Result<Vec<u16>, AllocError>
-    ensures { IfOk result (λ numbers. numbers.items ≡ map T.key items.now) }
+/// Whether tables ascend: all lists of entries by root, and all directories by node.
+pub(crate) fn tables_ascend(parts: &Parts) -> bool
+    ensures { IsTrue result ↔ AreAscending parts.now }
 {
-    items.iter().map(|item| item.key()).collect(alloc)
-}
-
-/// The numbers of each list, apart.
-pub(crate) fn all_numbers<T: Keyed>(
-    alloc: Global,
-    lists: &[Vec<T>],
-) -> Result<Vec<Vec<u16>>, AllocError>
-    ensures { IfOk result (λ all. AreNumbersOf T.key lists.now all.items) }
-{
-    let mut all = Vec::with_capacity(alloc, lists.len())?;
-    for list in lists {
-        all.push(numbers_of(alloc, list.as_slice())?)?;
-    }
-    Ok(all)
-}
-
-/// The numbers at a place, none where it isn't there.
-pub(crate) fn numbers_at(all: &[Vec<u16>], x: u16) -> &[u16]
-    ensures { result.now ≡ items_at all.now x }
-{
-    match all.get(x as usize) {
-        Some(numbers) => numbers.as_slice(),
-        None => &[],
-    }
+    entries_ascend(parts.entries.as_slice()) && directories_ascend(parts.directories.as_slice())
 }
 
 /// The place of a number among ascending ones, and how many places were looked at.
-fn place_by_halving(numbers: &[u16], number: u16) -> (Option<usize>, u32)
-    requires { IsStrictlyIncreasing numbers.now }
-    ensures place { result.0 ≡ index_of number numbers.now }
-    ensures some { 0 < length numbers.now → 0 < result.1 }
-    ensures few { (k : ℕ) → length numbers.now < 2 ^ k → result.1 ≤ k }
+fn place_by_halving<T: Keyed>(items: &[T], number: u16) -> (Option<usize>, u32)
+    requires { IsStrictlyIncreasing (map T.key items.now) }
+    ensures place { result.0 ≡ index_of number (map T.key items.now) }
+    ensures some { 0 < length items.now → 0 < result.1 }
+    ensures few { (k : ℕ) → length items.now < 2 ^ k → result.1 ≤ k }
 {
     let mut low = 0;
-    let mut high = numbers.len();
+    let mut high = items.len();
     let mut probes = 0;
     while low < high {
         let middle = low + (high - low) / 2;
-        let there = numbers[middle];
+        let there = items[middle].key();
         probes += 1;
         if there == number {
             return (Some(middle), probes);
@@ -122,13 +103,13 @@ fn place_by_halving(numbers: &[u16], number: u16) -> (Option<usize>, u32)
 }
 
 /// The first place of a number among others, and how many places were looked at.
-fn place_from_front(numbers: &[u16], number: u16) -> (Option<usize>, u32)
-    ensures { result.0 ≡ index_of number numbers.now }
+fn place_from_front<T: Keyed>(items: &[T], number: u16) -> (Option<usize>, u32)
+    ensures { result.0 ≡ index_of number (map T.key items.now) }
 {
     let mut probes: u32 = 0;
-    for (place, there) in numbers.iter().enumerate() {
+    for (place, item) in items.iter().enumerate() {
         probes = probes.saturating_add(1);
-        if *there == number {
+        if item.key() == number {
             return (Some(place), probes);
         }
     }
@@ -136,15 +117,19 @@ fn place_from_front(numbers: &[u16], number: u16) -> (Option<usize>, u32)
 }
 
 /// The first place of a number among others, and how many places were looked at; by halving where told that they ascend.
-pub(crate) fn first_place(numbers: &[u16], number: u16, ascending: bool) -> (Option<usize>, u32)
-    requires { IsTrue ascending → IsStrictlyIncreasing numbers.now }
-    ensures place { result.0 ≡ index_of number numbers.now }
-    ensures some { IsTrue ascending → 0 < length numbers.now → 0 < result.1 }
-    ensures few { IsTrue ascending → (k : ℕ) → length numbers.now < 2 ^ k → result.1 ≤ k }
+pub(crate) fn first_place<T: Keyed>(
+    items: &[T],
+    number: u16,
+    ascending: bool,
+) -> (Option<usize>, u32)
+    requires { IsTrue ascending → IsStrictlyIncreasing (map T.key items.now) }
+    ensures place { result.0 ≡ index_of number (map T.key items.now) }
+    ensures some { IsTrue ascending → 0 < length items.now → 0 < result.1 }
+    ensures few { IsTrue ascending → (k : ℕ) → length items.now < 2 ^ k → result.1 ≤ k }
 {
     if ascending {
-        place_by_halving(numbers, number)
+        place_by_halving(items, number)
     } else {
-        place_from_front(numbers, number)
+        place_from_front(items, number)
     }
 }

@@ -4,9 +4,12 @@
 //! scheme is judged twice: by [`certificate::check`], and by a second checker that stands here. That one is slow and
 //! plain. It reads the tables by going through them, makes the tree of every root as the parents give it, and goes
 //! over all roots, nodes and edges. It shares no code with the first, and both must name the same fault. The trees of
-//! drawn graphs are compared with plain distances too.
+//! drawn graphs are compared with plain distances too. A scheme that was built and one that was assembled of the same tables
+//! are asked the same.
 #![tactic(auto)]
 
+#[cfg(test)]
+mod alike;
 #[cfg(test)]
 mod changes;
 #[cfg(test)]

@@ -141,7 +141,7 @@ impl PlainTree {
         self.number(x)?.checked_add(self.size(x))?.checked_sub(1)
     }
 
-    /// The ports of the light edges on the way from the root to a node.
+    /// From the root down to a node, each light edge's port.
     fn lights(
         &self,
         alloc: Global,

@@ -57,7 +57,7 @@ fn judge_changes(
         let mut parts = copied(alloc, scheme.parts())?;
         change(rng, &mut parts, part)?;
         let want = first_fault(alloc, plain, &parts)?;
-        let fault = check(&graph, &Scheme::assemble(alloc, parts)?).err();
+        let fault = check(&graph, &Scheme::assemble(parts)).err();
         assert_eq!(rt; fault, want, "change {turn}, of {part:?}");
         tally.count(want);
     }

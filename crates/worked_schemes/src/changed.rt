@@ -164,7 +164,7 @@ fn path_with(rt: &impl Abort, alloc: Global, changed: Changed) -> Scheme {
         directories: directories_of_path(rt, alloc, changed),
         homes: homes_of_path(rt, alloc, changed),
     };
-    got(rt, Scheme::assemble(alloc, parts))
+    Scheme::assemble(parts)
 }
 
 /// Each change, and what a check says then.
@@ -228,7 +228,7 @@ fn an_empty_scheme_has_no_shape(rt: HostRuntime) {
             directories: Vec::new(alloc),
             homes: Vec::new(alloc),
         };
-        let scheme = got(&rt, Scheme::assemble(alloc, parts));
+        let scheme = Scheme::assemble(parts);
         same(&rt, check(&graph, &scheme), Err(Fault::Shape), "no tables");
     }
 }
@@ -257,7 +257,7 @@ fn single(rt: &impl Abort, alloc: Global, landmark: bool, listed_too: bool) -> S
             vec![in alloc; if landmark { Some(label(0, &[])) } else { None }],
         ),
     };
-    got(rt, Scheme::assemble(alloc, parts))
+    Scheme::assemble(parts)
 }
 
 /// Whether the node is a landmark, whether it is listed, and what a check says.

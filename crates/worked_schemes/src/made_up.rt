@@ -69,7 +69,7 @@ const BETWEEN_TWO: [(u16, u16, &[u16], &[u16], u64); 3] = [
 
 #[test]
 fn carries_between_two_nodes(rt: HostRuntime) {
-    let scheme = got(&rt, Scheme::assemble(rt.alloc(), two(&rt, rt.alloc(), 7)));
+    let scheme = Scheme::assemble(two(&rt, rt.alloc(), 7));
     for (from, to, nodes, ports, length) in &BETWEEN_TWO {
         let address = got(&rt, scheme.address(*to));
         let trail = got(&rt, scheme.carry(rt.alloc(), *from, &address));
@@ -96,7 +96,7 @@ const REFUSALS: [(&str, u16, (u16, u16, u16, u16), Refused); 6] = [
 
 #[test]
 fn refuses_in_order(rt: HostRuntime) {
-    let scheme = got(&rt, Scheme::assemble(rt.alloc(), two(&rt, rt.alloc(), 7)));
+    let scheme = Scheme::assemble(two(&rt, rt.alloc(), 7));
     for (what, at, sent, refused) in &REFUSALS {
         let (destination, root, first, hops_left) = *sent;
         let sent = packet(destination, root, first, hops_left);
@@ -159,7 +159,7 @@ fn expect_refused(
 #[test]
 fn decides_by_the_directory_first(rt: HostRuntime) {
     let alloc = rt.alloc();
-    let scheme = got(&rt, Scheme::assemble(alloc, two(&rt, alloc, 7)));
+    let scheme = Scheme::assemble(two(&rt, alloc, 7));
     same(
         &rt,
         decided(&scheme, 1, &through(1, 0)),
@@ -197,7 +197,7 @@ fn first_place_counts(rt: HostRuntime) {
     );
     let lists = got(&rt, vec![in rt.alloc(); Vec::new(rt.alloc()), entries]);
     let parts = two_with(&rt, rt.alloc(), lists);
-    let scheme = Scheme::assemble(rt.alloc(), parts).expect(&rt, "memory");
+    let scheme = Scheme::assemble(parts);
     same(&rt, scheme.find(1, 0), (Some(1), 2), "root 0");
     same(&rt, scheme.find(1, 1), (Some(0), 1), "root 1");
     same(&rt, scheme.find(1, 7), (None, 4), "root 7");
@@ -213,7 +213,7 @@ fn finds_by_halving(rt: HostRuntime) {
     }
     let lists = got(&rt, vec![in rt.alloc(); many]);
     let parts = two_with(&rt, rt.alloc(), lists);
-    let scheme = Scheme::assemble(rt.alloc(), parts).expect(&rt, "memory");
+    let scheme = Scheme::assemble(parts);
     for root in 0..310u16 {
         let (place, probes) = scheme.find(0, root);
         let want = if root % 3 == 1 && root < 300 {
@@ -228,14 +228,11 @@ fn finds_by_halving(rt: HostRuntime) {
 
 #[test]
 fn a_length_stays_at_the_greatest(rt: HostRuntime) {
-    let scheme = got(
-        &rt,
-        Scheme::assemble(rt.alloc(), two(&rt, rt.alloc(), u64::MAX)),
-    );
+    let scheme = Scheme::assemble(two(&rt, rt.alloc(), u64::MAX));
     let address = got(&rt, scheme.address(1));
     let trail = got(&rt, scheme.carry(rt.alloc(), 0, &address));
     same(&rt, trail.length, u64::MAX, "the length");
-    let other = got(&rt, Scheme::assemble(rt.alloc(), two(&rt, rt.alloc(), 7)));
+    let other = Scheme::assemble(two(&rt, rt.alloc(), 7));
     let refused = other.carry(rt.alloc(), 5, &address);
     same(
         &rt,

@@ -16,6 +16,10 @@ use Rattle.node_table.specs.Tables.{roots_of, nodes_of, first_entry, first_liste
 pub key_at : {X : Type 0} (key : X → ℕ) (xs : List X) (i : ℕ) (d : X) → i < length xs → slice_index (map key xs) i ≡ key (get_or xs i d)
 key_at key xs i d l = get_or-map key xs i d 0 l
 
+-- what stands at a place, and the number that was read of it
+pub key_there : {X : Type 0} (key : X → ℕ) (xs : List X) (i : ℕ) (x : X) (k : ℕ) → i < length xs → x ≡ get_or xs i x → k ≡ key x → slice_index (map key xs) i ≡ k
+key_there key xs i x k l e h = key_at key xs i x l ∙ (sym (ap key e) ∙ sym h)
+
 pub keys_length : {X : Type 0} (key : X → ℕ) (xs : List X) → length (map key xs) ≡ length xs
 keys_length key xs = length-map xs key
 
