@@ -14,7 +14,7 @@ use Rattle.recovery.specs.Standing.{StandsFor, StandsForNone}
 use Rattle.recovery.proofs.Texts.{text_fits}
 use Rattle.recovery.proofs.Folds.{after-nil}
 use Rattle.checkpoint.specs.Rolling.{area_text, padding}
-use Rattle.checkpoint.specs.Whole.{without_tickets, IsForeign, IsAllForeign, IsShut, IsWritten, IsWriting, StandsForNoneOr}
+use Rattle.checkpoint.specs.Whole.{without_tickets, IsFreshWith, IsForeign, IsAllForeign, IsShut, IsWritten, IsWriting, StandsForNoneOr}
 
 -- ---- what an image stands for
 
@@ -83,14 +83,9 @@ module _ (count : ℕ) (graph : Network) (sound : IsSound graph) (fits : count �
       ∙ sym (byte_of image (slot_start 0 + 1) checkpoint_room 528383 1 (omega arith))
       ∙ ap (λ (l : List ℕ). get_or l 528383 1) w.behind ∙ last
 
-  pub written_stands : (image : List ℕ) → IsWritten graph.nodes text image → StandsFor state image
-  written_stands image w = record {
-    slot = 0;
-    epoch = 1;
-    base = state;
-    groups = [];
-    is_slot = omega arith;
-    by = record {
+  pub written_fresh : (image : List ℕ) → IsWritten graph.nodes text image → IsFreshWith state image
+  written_fresh image w = record {
+    first = record {
       as_long = w.as_long;
       head = w.head;
       gate = w.gate;
@@ -106,6 +101,17 @@ module _ (count : ℕ) (graph : Network) (sound : IsSound graph) (fits : count �
         within = lit< tt;
       };
     };
+    second = w.other;
+  }
+
+  pub written_stands : (image : List ℕ) → IsWritten graph.nodes text image → StandsFor state image
+  written_stands image w = record {
+    slot = 0;
+    epoch = 1;
+    base = state;
+    groups = [];
+    is_slot = omega arith;
+    by = (written_fresh image w).first;
     folds = after-nil state;
     in_turn = (tt, tt);
     count_fits = fits;

@@ -1,15 +1,21 @@
 -- A state written whole to a device that wasn't one of this layout.
-use Rattle.std.specs.Prelude.{◌≡◌, ◌≢◌, ◌⊎◌, ◌+◌, ℕ, List, length, get_or, replicate}
+use Rattle.std.specs.Prelude.{◌≡◌, ◌≢◌, ◌⊎◌, ◌+◌, ℕ, List, [], length, get_or, replicate}
 use Rattle.disk_trait.specs.Disk.{DiskView, MayLeave, bytes_at}
 use Rattle.graph_edits.specs.Edges.{Network}
 use Rattle.recovery.specs.Fronts.{HasThisVersion}
 use Rattle.recovery.specs.Layout.{checkpoint_room, device_len, header, sessions, slot_start}
 use Rattle.recovery.specs.State.{State, state_with}
-use Rattle.recovery.specs.Standing.{StandsFor, StandsForNone}
+use Rattle.recovery.specs.Standing.{StandsBy, StandsFor, StandsForNone}
 
 -- this count and this network, of which no change carried a ticket
 abbrev pub without_tickets : ℕ → Network → State
 without_tickets count graph = state_with count graph (replicate sessions 0)
+
+-- the image is as a device that has just been written holds this state: slot 0 is open with its checkpoint, of the first epoch, there are
+-- no records, and slot 1 is closed
+pub record IsFreshWith (state : State) (image : List ℕ) : Type 0 where
+  pub first : StandsBy 0 1 state [] image
+  pub second : get_or image (slot_start 1) 0 ≢ 1
 
 -- the front isn't that of a device of this layout, so the image stands for nothing, whatever else it has
 abbrev pub IsForeign : List ℕ → Type 0

@@ -1,6 +1,6 @@
 //! Making a device ready.
 ghost use Rattle.std.specs.Prelude.{◌≡◌, ◌≢◌, ◌≤◌, ◌<◌, ◌+◌, ◌↔◌, ◌∷◌, ℕ, List, length, get_or, IsTrue, OnOk, OnErr, IsErr, IsErrOf};
-ghost use Rattle.disk_trait.specs.Disk.{MayLeave, IsSameDevice, IsSettled, Torn, overwritten, bytes_at};
+ghost use Rattle.disk_trait.specs.Disk.{MayLeave, AtMostCalls, IsSameDevice, IsSettled, Torn, overwritten, bytes_at};
 ghost use Rattle.recovery.specs.Layout.{device_len, most_nodes, edges_start, header, journal_start, slot_start};
 ghost use Rattle.recovery_parts.specs.Heads.{head_text};
 ghost use Rattle.recovery_parts.specs.Refusals.{header_len};
@@ -52,6 +52,7 @@ fn put<D: Disk>(disk: &mut D, at: usize, bytes: &[u8]) -> Result<(), DeviceFault
     requires { at + length bytes.now ≤ length (D.view disk.old).content }
     ensures written { IsTrue (D.view disk.old).keeps_model → OnOk result ((D.view disk.new).content ≡ overwritten (D.view disk.old).content at bytes.now) }
     ensures ran { IsSameDevice (D.view disk.old) (D.view disk.new) }
+    ensures calls { AtMostCalls 1 (D.view disk.old) (D.view disk.new) }
     ensures fault { OnErr result ((D.view disk.old).failures < (D.view disk.new).failures) }
     ensures no_failure { OnOk result ((D.view disk.new).failures ≡ (D.view disk.old).failures) }
     ensures there { IsTrue (D.view disk.old).keeps_model → OnOk result (bytes_at (D.view disk.new).content at (length bytes.now) ≡ bytes.now) }
@@ -69,6 +70,7 @@ fn put_front<D: Disk>(disk: &mut D, nodes: u16) -> Result<(), DeviceFault>
     ensures fault { OnErr result ((D.view disk.old).failures < (D.view disk.new).failures) }
     ensures no_failure { OnOk result ((D.view disk.new).failures ≡ (D.view disk.old).failures) }
     ensures ran { IsSameDevice (D.view disk.old) (D.view disk.new) }
+    ensures calls { AtMostCalls 2 (D.view disk.old) (D.view disk.new) }
 {
     match put(disk, 0, &header_of(nodes)) {
         Ok(()) => {}
@@ -90,6 +92,7 @@ fn put_gates<D: Disk>(disk: &mut D) -> Result<(), DeviceFault>
     ensures fault { OnErr result ((D.view disk.old).failures < (D.view disk.new).failures) }
     ensures no_failure { OnOk result ((D.view disk.new).failures ≡ (D.view disk.old).failures) }
     ensures ran { IsSameDevice (D.view disk.old) (D.view disk.new) }
+    ensures calls { AtMostCalls 2 (D.view disk.old) (D.view disk.new) }
 {
     match put(disk, SLOTS_START + CHECKPOINT_ROOM, &[CLOSED_GATE]) {
         Ok(()) => {}
@@ -112,6 +115,7 @@ fn put_all<D: Disk>(disk: &mut D, nodes: u16) -> Result<(), DeviceFault>
     ensures fault { OnErr result ((D.view disk.old).failures < (D.view disk.new).failures) }
     ensures no_failure { OnOk result ((D.view disk.new).failures ≡ (D.view disk.old).failures) }
     ensures ran { IsSameDevice (D.view disk.old) (D.view disk.new) }
+    ensures calls { AtMostCalls 5 (D.view disk.old) (D.view disk.new) }
 {
     match put_front(disk, nodes) {
         Ok(()) => {}
@@ -128,8 +132,9 @@ fn put_all<D: Disk>(disk: &mut D, nodes: u16) -> Result<(), DeviceFault>
 }
 
 /// Makes a device hold a network of so many nodes and no edges, and no session's ticket. It takes no
-/// memory. It writes the header, head and tickets of slot 0, the gate of that slot's first record and the
-/// gate of slot 1; each other byte stays (`written`). Where the device fails, it holds no store.
+/// memory, and has at most five calls of the device. It writes the header, head and tickets of slot 0,
+/// the gate of that slot's first record and the gate of slot 1; each other byte stays (`written`). Where
+/// the device fails, it holds no store.
 pub fn format<D: Disk>(disk: &mut D, n: u16) -> Result<(), FormatRefused>
     ensures written { IsTrue (D.view disk.old).keeps_model → OnOk result ((D.view disk.new).content ≡ formatted n (D.view disk.old).content) }
     ensures ok { IsTrue (D.view disk.old).keeps_model → OnOk result (StandsFor (first_state n) (D.view disk.new).content) }
@@ -140,6 +145,7 @@ pub fn format<D: Disk>(disk: &mut D, n: u16) -> Result<(), FormatRefused>
     ensures device { IsErrOf result FormatRefused.Device → (D.view disk.old).failures < (D.view disk.new).failures }
     ensures no_failure { OnOk result ((D.view disk.new).failures ≡ (D.view disk.old).failures) }
     ensures ran { IsSameDevice (D.view disk.old) (D.view disk.new) }
+    ensures calls { AtMostCalls 5 (D.view disk.old) (D.view disk.new) }
 {
     if n < 1 || n > MOST_NODES {
         return Err(FormatRefused::BadSize);

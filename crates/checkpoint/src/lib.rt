@@ -7,18 +7,18 @@
 //! The contract that the layer above uses is that of [`Store`], and it names no slot, gate, epoch or area:
 //!
 //! - [`format`] makes a device stand for no changes, no edges and no tickets.
-//! - [`write_state`] makes a device stand for a count and a network without tickets. Where it had no front of this layout before, a crash
-//!   at any moment of the call leaves an image that stands for nothing or for the whole state.
+//! - [`write_state`] makes a device stand for a count and a network without tickets. Where it had no front of this layout before, whenever
+//!   a crash comes, what it leaves stands for nothing or for the whole state.
 //! - [`Store::open`] gives the state that the content stands for, and writes nothing. NotFormatted, BadVersion or Damaged it says only
 //!   where the content stands for none, and of these the one that its front tells (`LacksMagic`, `HasOtherVersion` and `HasThisVersion`
 //!   of `recovery`'s specs/Fronts.antt, one of which holds).
-//! - [`Store::commit`] takes a group of requests, each in turn: at any moment of the call a crash leaves an image that stands for the old state or for
-//!   the new one with the whole group, and after Ok for the new one alone (the law `stands_now` of specs/StoreWords.antt). Every refusal
+//! - [`Store::commit`] takes a group of requests, each in turn: whenever a crash comes, what it leaves stands for the state of before, or for that with
+//!   all of the group added, and from Ok on for the latter alone (the law `stands_now` of specs/StoreWords.antt). Every refusal
 //!   but Device leaves the device as it was. NeedsRoll comes exactly where the journal has no room for the group, on a store that is up
 //!   and whose count stays within its limit. After Device the store is down until it is opened again.
 //! - [`Store::resume`] and [`Store::starts`] answer the last tickets: a request is in turn where its ticket is above its session's.
 //! - [`Store::roll`] makes the state the checkpoint of the slot that isn't in use, so that the journal is empty and no commit is refused
-//!   as NeedsRoll: at any moment of the call a crash leaves an image that stands for the same state, whatever the answer.
+//!   as NeedsRoll: whatever it answers and whenever a crash comes, what is left stands for the same state.
 //!
 //! ```text
 //! format(&mut disk, 5)?;

@@ -2,7 +2,7 @@
 ghost use Rattle.std.specs.Prelude.{◌≡◌, ◌≢◌, ◌≤◌, ◌<◌, ◌+◌, ◌^◌, ◌↔◌, ◌++◌, ℕ, List, length, get_or, take, IsTrue, IfOk, OnOk, OnErr, IsErr, IsErrOf, true, false};
 ghost use Rattle.std.specs.List.{flat_map};
 ghost use Rattle.std.specs.FinMap.{len};
-ghost use Rattle.disk_trait.specs.Disk.{IsSameDevice, MayLeave, LeavesOnly};
+ghost use Rattle.disk_trait.specs.Disk.{AtMostCalls, IsSameDevice, MayLeave, LeavesOnly};
 ghost use Rattle.recovery.specs.Layout.{checkpoint_room};
 ghost use Rattle.recovery.specs.State.{state_with, tickets_text, IsLawful};
 ghost use Rattle.recovery_parts.specs.EdgeTexts.{edge_text, edges_text};
@@ -119,6 +119,7 @@ fn close_open<D: Disk>(disk: &mut D, gate: usize, byte: u8) -> Result<(), Device
     ensures ran { IsSameDevice (D.view disk.old) (D.view disk.new) }
     ensures fault { OnErr result ((D.view disk.old).failures < (D.view disk.new).failures) }
     ensures no_failure { OnOk result ((D.view disk.new).failures ≡ (D.view disk.old).failures) }
+    ensures calls { AtMostCalls 2 (D.view disk.old) (D.view disk.new) }
     ensures any_moment { IsTrue (D.view disk.old).keeps_model → LeavesOnly (D.view disk.old) (D.view disk.new) (IsClosing (D.view disk.old) gate byte) }
     ensures ok { IsTrue (D.view disk.old).keeps_model → byte ≡ 1 → OnOk result ((image : List ℕ) → MayLeave (D.view disk.new) image → get_or image gate 0 ≡ 0) }
 {
@@ -132,8 +133,8 @@ impl<D: Disk> Store<D> {
     ghost use Rattle.checkpoint.specs.StoreWords.{state_of, view_of, is_down, IsDurable, HasRolled, IsWornOut};
 
     /// Writes the network and the last tickets as a new checkpoint, so that the journal is empty again:
-    /// after it a commit isn't refused as `NeedsRoll`. It reads nothing. Count, network and tickets stay,
-    /// whatever it answers.
+    /// after it a commit isn't refused as `NeedsRoll`. It reads nothing, and has at most six
+    /// calls of the device. Count, network and tickets stay, whatever it answers.
     ///
     /// Errors, in the order in which they are tested: `Down`, `Worn`, exactly where the epoch stands at
     /// `WORN_LIMIT`, and `Memory`, before any write; these leave the store as it was. `Device`, where a
@@ -150,6 +151,7 @@ impl<D: Disk> Store<D> {
         ensures stays_up { is_down self.old ≡ false → ¬ (IsErrOf result RollRefused.Device) → is_down self.new ≡ false }
         ensures ran { IsSameDevice (view_of self.old) (view_of self.new) }
         ensures untouched { IsErr result → ¬ (IsErrOf result RollRefused.Device) → self.new ≡ self.old }
+        ensures calls { AtMostCalls 6 (view_of self.old) (view_of self.new) }
         ensures any_moment { IsTrue (view_of self.old).keeps_model → is_down self.old ≡ false → LeavesOnly (view_of self.old) (view_of self.new) (StandsFor (state_of self.old)) }
     {
         if self.down {

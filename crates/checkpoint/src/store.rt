@@ -1,6 +1,6 @@
 //! The store.
 ghost use Rattle.std.specs.Prelude.{◌≡◌, ◌≢◌, ◌⊎◌, ◌≤◌, ◌<◌, ◌+◌, ◌*◌, ◌^◌, ◌↔◌, ◌++◌, [], ◌∷◌, ℕ, List, length, IsTrue, IfOk, IfErr, OnOk, OnErr, IsErrOf, IsErr, IsSome, Some, false, true, map};
-ghost use Rattle.disk_trait.specs.Disk.{IsSameDevice, LeavesOnly, OnlyRead, Unchanged};
+ghost use Rattle.disk_trait.specs.Disk.{AtMostCalls, IsSameDevice, LeavesOnly, OnlyRead, Unchanged};
 ghost use Rattle.graph_edits.specs.Changes.{fold};
 ghost use Rattle.journal.specs.Layout.{most_entries};
 ghost use Rattle.requests.specs.Tickets.{sessions, last_of, tickets_after};
@@ -160,7 +160,7 @@ impl<D: Disk> Store<D> {
         self.disk
     }
 
-    /// Takes requests: all of them, or none. They count from `Ok` on.
+    /// Takes requests: all of them, or none. They count from `Ok` on. At most four calls of the device.
     pub fn commit(&mut self, alloc: Global, requests: &[Request]) -> Result<(), CommitRefused>
         requires some { 1 ≤ length requests.now }
         requires few { length requests.now ≤ most_entries }
@@ -183,6 +183,7 @@ impl<D: Disk> Store<D> {
         ensures worn_out { IsWornOut self.new ↔ IsWornOut self.old }
         ensures ran { IsSameDevice (view_of self.old) (view_of self.new) }
         ensures untouched { IsErr result → ¬ (IsErrOf result CommitRefused.Device) → self.new ≡ self.old }
+        ensures calls { AtMostCalls 4 (view_of self.old) (view_of self.new) }
         ensures any_moment { IsTrue (view_of self.old).keeps_model → is_down self.old ≡ false → (next : State) → after (state_of self.old) requests.now ≡ Some next
             → LeavesOnly (view_of self.old) (view_of self.new) (λ image. StandsFor (state_of self.old) image ⊎ StandsFor next image) }
     {

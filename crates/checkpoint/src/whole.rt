@@ -1,9 +1,9 @@
 //! Writing a whole state at once: a count and a network, as a fresh device holds them.
 ghost use Rattle.std.specs.Prelude.{◌≡◌, ◌≤◌, ◌<◌, ◌+◌, ◌↔◌, ℕ, List, length, get_or, IsTrue, OnOk, OnErr, IsErrOf};
-ghost use Rattle.disk_trait.specs.Disk.{MayLeave, IsSameDevice, IsSettled, LeavesOnly, IsTornFrom, bytes_at};
+ghost use Rattle.disk_trait.specs.Disk.{MayLeave, AtMostCalls, IsSameDevice, IsSettled, LeavesOnly, IsTornFrom, bytes_at};
 ghost use Rattle.recovery.specs.Layout.{checkpoint_room, device_len, slot_room, slot_start, slots_start, worn_limit};
 ghost use Rattle.recovery.specs.Standing.{StandsFor};
-ghost use Rattle.checkpoint.specs.Whole.{without_tickets, IsAllForeign, IsShut, IsWriting, IsWritten, StandsForNoneOr};
+ghost use Rattle.checkpoint.specs.Whole.{without_tickets, IsAllForeign, IsFreshWith, IsShut, IsWriting, IsWritten, StandsForNoneOr};
 
 use crate::formatting::header_of;
 use crate::roll::text_of;
@@ -28,6 +28,7 @@ fn put_synced<D: Disk>(disk: &mut D, at: usize, bytes: &[u8]) -> Result<(), Devi
     ensures ran { IsSameDevice (D.view disk.old) (D.view disk.new) }
     ensures fault { OnErr result ((D.view disk.old).failures < (D.view disk.new).failures) }
     ensures no_failure { OnOk result ((D.view disk.new).failures ≡ (D.view disk.old).failures) }
+    ensures calls { AtMostCalls 2 (D.view disk.old) (D.view disk.new) }
     ensures any_moment { IsTrue (D.view disk.old).keeps_model → LeavesOnly (D.view disk.old) (D.view disk.new) (IsTornFrom (D.view disk.old) at (length bytes.now)) }
     ensures settled { IsTrue (D.view disk.old).keeps_model → OnOk result (IsSettled (D.view disk.new)) }
     ensures there { IsTrue (D.view disk.old).keeps_model → OnOk result (bytes_at (D.view disk.new).content at (length bytes.now) ≡ bytes.now) }
@@ -48,6 +49,7 @@ fn shut_slots<D: Disk>(disk: &mut D) -> Result<(), DeviceFault>
     ensures ran { IsSameDevice (D.view disk.old) (D.view disk.new) }
     ensures fault { OnErr result ((D.view disk.old).failures < (D.view disk.new).failures) }
     ensures no_failure { OnOk result ((D.view disk.new).failures ≡ (D.view disk.old).failures) }
+    ensures calls { AtMostCalls 4 (D.view disk.old) (D.view disk.new) }
     ensures any_moment { IsTrue (D.view disk.old).keeps_model → LeavesOnly (D.view disk.old) (D.view disk.new) (IsTornFrom (D.view disk.old) slots_start (slot_room + 1)) }
     ensures ok { IsTrue (D.view disk.old).keeps_model → OnOk result ((image : List ℕ) → MayLeave (D.view disk.new) image → IsShut image) }
 {
@@ -69,6 +71,7 @@ fn put_whole<D: Disk>(disk: &mut D, nodes: u16, text: &[u8]) -> Result<(), Devic
     ensures ran { IsSameDevice (D.view disk.old) (D.view disk.new) }
     ensures fault { OnErr result ((D.view disk.old).failures < (D.view disk.new).failures) }
     ensures no_failure { OnOk result ((D.view disk.new).failures ≡ (D.view disk.old).failures) }
+    ensures calls { AtMostCalls 10 (D.view disk.old) (D.view disk.new) }
     ensures any_moment { IsTrue (D.view disk.old).keeps_model → IsAllForeign (D.view disk.old) → LeavesOnly (D.view disk.old) (D.view disk.new) (IsWriting nodes text.now) }
     ensures ok { IsTrue (D.view disk.old).keeps_model → OnOk result ((image : List ℕ) → MayLeave (D.view disk.new) image → IsWritten nodes text.now image) }
 {
@@ -87,7 +90,8 @@ fn put_whole<D: Disk>(disk: &mut D, nodes: u16, text: &[u8]) -> Result<(), Devic
 }
 
 /// Makes a device hold this count and this network, as a fresh device does: in slot 0, with the first
-/// epoch, an empty journal and all last tickets 0. Whatever it held before is lost.
+/// epoch, an empty journal and all last tickets 0 (`fresh`). Whatever it held before is lost. At most
+/// ten calls of the device.
 ///
 /// Where no image that a crash may leave of the device at entry has the front of this layout, as on a
 /// new device of zeros, a crash at any moment leaves an image that stands for nothing or for the whole
@@ -105,10 +109,13 @@ pub fn write_state<D: Disk>(
     requires count { count ≤ worn_limit }
     ensures ok { IsTrue (D.view disk.old).keeps_model → OnOk result (StandsFor (without_tickets count graph.now) (D.view disk.new).content) }
     ensures left { IsTrue (D.view disk.old).keeps_model → OnOk result ((image : List ℕ) → MayLeave (D.view disk.new) image → StandsFor (without_tickets count graph.now) image) }
+    ensures fresh { IsTrue (D.view disk.old).keeps_model → OnOk result (IsFreshWith (without_tickets count graph.now) (D.view disk.new).content) }
+    ensures fresh_left { IsTrue (D.view disk.old).keeps_model → OnOk result ((image : List ℕ) → MayLeave (D.view disk.new) image → IsFreshWith (without_tickets count graph.now) image) }
     ensures memory { IsErrOf result WriteRefused.Memory → disk.new ≡ disk.old }
     ensures device { IsErrOf result WriteRefused.Device → (D.view disk.old).failures < (D.view disk.new).failures }
     ensures no_failure { OnOk result ((D.view disk.new).failures ≡ (D.view disk.old).failures) }
     ensures ran { IsSameDevice (D.view disk.old) (D.view disk.new) }
+    ensures calls { AtMostCalls 10 (D.view disk.old) (D.view disk.new) }
     ensures any_moment { IsTrue (D.view disk.old).keeps_model → IsAllForeign (D.view disk.old) → LeavesOnly (D.view disk.old) (D.view disk.new) (StandsForNoneOr (without_tickets count graph.now)) }
 {
     graph.sound();

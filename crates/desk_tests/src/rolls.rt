@@ -15,12 +15,12 @@ const FITS: [usize; 21] = [
     16, 16, 16, 16, 16, 16, 16, 16, 16, 16, 16, 16, 16, 16, 16, 16, 16, 16, 16, 8, 8,
 ];
 
-const LACKS: [usize; 22] = [
+pub(crate) const LACKS: [usize; 22] = [
     16, 16, 16, 16, 16, 16, 16, 16, 16, 16, 16, 16, 16, 16, 16, 16, 16, 16, 16, 13, 1, 1,
 ];
 
 // Gives the next changes of session 0, of so many ops each.
-fn give_sized(rt: &impl Abort, desk: &mut Desk<MemDisk>, sizes: &[usize]) {
+pub(crate) fn give_sized(rt: &impl Abort, desk: &mut Desk<MemDisk>, sizes: &[usize]) {
     let ops = [Op::Set(0, 1, 1); 16];
     let mut ticket = desk.resume(0);
     for size in sizes {
@@ -31,7 +31,7 @@ fn give_sized(rt: &impl Abort, desk: &mut Desk<MemDisk>, sizes: &[usize]) {
 }
 
 // A device whose journal holds 106 groups of 64 changes of 16 ops.
-fn full(rt: &impl Abort, alloc: Global) -> Vec<u8> {
+pub(crate) fn full(rt: &impl Abort, alloc: Global) -> Vec<u8> {
     let mut desk = fresh(rt, alloc);
     let mut first = [Op::Set(0, 1, 1); 16];
     first[0] = Op::Add(0, 1, 1);
@@ -84,7 +84,13 @@ fn rolls_where_the_journal_has_no_room(rt: HostRuntime) {
 }
 
 // A full device with another byte at a place.
-fn full_but(rt: &impl Abort, alloc: Global, full: &[u8], at: usize, bytes: &[u8]) -> MemDisk {
+pub(crate) fn full_but(
+    rt: &impl Abort,
+    alloc: Global,
+    full: &[u8],
+    at: usize,
+    bytes: &[u8],
+) -> MemDisk {
     let mut disk = copied(rt, alloc, full);
     assert!(rt; bytes.len() <= 8 && at <= SECOND_SLOT && SECOND_SLOT + 8 <= disk.len());
     got(rt, disk.write_at(at, bytes));

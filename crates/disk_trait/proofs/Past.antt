@@ -57,6 +57,7 @@ module _ (past : List Cells) (before after : Cells) (f g at n : ℕ) where
   pub called : (result : Result (Unit {0}) DeviceFault) → Torn at n before.bytes.items after.bytes.items → ((image : List ℕ) → IsImageOf after image → (was : List ℕ) × IsImageOf before was × Torn at n was image) → f ≤ g → (IsErr result → f < g) → OnOk result (g ≡ f) → IsDeviceCall at n old new result
   called result content torn no_fewer fault served = record {
     ran = record { as_long = content.as_long; model = refl; no_fewer = no_fewer };
+    counted = omega (arith, length-append past (before ∷ []));
     fault = fault;
     served = served;
     moves = λ _. moves content torn;

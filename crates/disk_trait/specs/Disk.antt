@@ -1,8 +1,8 @@
 -- The disk model: what contracts see of a disk, what its calls do, and what a crash may leave.
 --
--- A disk has a content and the ranges that writes have covered since the last sync that succeeded. A crash now may leave any
--- image of the same length that agrees with the content outside these ranges. A write covers its whole range, be it in
--- progress, done, failed or cut. A sync that succeeds empties the ranges; one that fails promises nothing.
+-- A disk has a content, and ranges in which it isn't safe. Each write adds the range that it names, whole, however far it came;
+-- only a sync that answers Ok takes the ranges away. What a crash leaves is as long as the content and differs from it at most
+-- inside the ranges.
 --
 -- Contracts don't see the ranges. They see which images a crash may leave, and each call says how these come from those of before.
 use Rattle.std.specs.Prelude.{◌≡◌, ◌⊎◌, ◌<◌, ◌≤◌, ◌+◌, ℕ, List, ◌++◌, length, get_or, take, drop, Bool, IsTrue, Result, IsErr, OnOk, refl}
@@ -14,7 +14,7 @@ use Rattle.disk_trait.specs.declared.disk.DeviceFault.{DeviceFault}
 pub record DiskView : Type 1 where
   -- what a read gives
   pub content : List ℕ
-  -- the moment, as a number that doesn't fall
+  -- the moment, as a number: each call of the device moves it on by one, and nothing back
   pub clock : ℕ
   -- what a crash at some moment from that one on, until now, may have left, be it during a call or between two
   pub left_since : ℕ → List ℕ → Type 0
@@ -27,7 +27,7 @@ pub record DiskView : Type 1 where
 abbrev pub MayLeave : DiskView → List ℕ → Type 0
 MayLeave disk image = disk.left_since disk.clock image
 
--- a crash leaves what a read gives
+-- whatever a crash leaves, it is the content
 abbrev pub IsSettled : DiskView → Type 0
 IsSettled disk = (image : List ℕ) → MayLeave disk image → image ≡ disk.content
 
@@ -67,10 +67,11 @@ pub record IsSameDevice (old new : DiskView) : Type 0 where
   pub model : new.keeps_model ≡ old.keeps_model
   pub no_fewer : old.failures ≤ new.failures
 
--- what every call does, where it writes the n places from at on; a fault is answered only where the disk has failed in the call, and
--- Ok only where it hasn't
+-- what every call does, where it writes the n places from at on; it counts as one, be it served or not; a fault is answered only where
+-- the disk has failed in the call, and Ok only where it hasn't
 pub record IsDeviceCall (at n : ℕ) (old new : DiskView) (result : Result (Unit {0}) DeviceFault) : Type 0 where
   pub ran : IsSameDevice old new
+  pub counted : new.clock ≡ old.clock + 1
   pub fault : IsErr result → old.failures < new.failures
   pub served : OnOk result (new.failures ≡ old.failures)
   pub moves : IsTrue old.keeps_model → WritesWithin at n old new
@@ -85,6 +86,10 @@ pub record Unchanged (old new : DiskView) : Type 0 where
   pub model : new.keeps_model ≡ old.keeps_model
 
 -- ---- runs of calls
+
+-- from old to new the device had at most n calls
+abbrev pub AtMostCalls : ℕ → DiskView → DiskView → Type 0
+AtMostCalls n old new = new.clock ≤ old.clock + n
 
 -- from old to new, a crash at any moment leaves an image that has P
 pub record LeavesOnly (old new : DiskView) (P : List ℕ → Type 0) : Type 0 where

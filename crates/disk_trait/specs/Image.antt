@@ -40,9 +40,9 @@ word_bytes word k = to_be_bytes w64 (mix_u64 (state_after word k)).0
 abbrev pub word_byte : ℕ → ℕ → ℕ
 word_byte word k = get_or (word_bytes word (k / 8)) (k % 8) 0
 
--- What a crash leaves by the word: settled bytes as a read gives them, and the unsettled ones as after the last sync that
--- succeeded (0), as a read gives them (1), all equal to the word less 256 (256 to 511), or the bytes of the words of a
--- SplitMix64 whose state begins as the word (any other).
+-- What a crash leaves: settled bytes are those of the content. Over the unsettled ones the word decides: with 0 they are what the
+-- last good sync left there, with 1 the content, with 256 to 511 each is the word less 256, and with any other word they are what
+-- a SplitMix64 puts out that starts at it.
 abbrev pub image_by : ℕ → List Bool → List ℕ → List ℕ → List ℕ
 image_by word unsettled bytes synced =
     if word == 0 then synced

@@ -34,7 +34,7 @@ mem_view disk = view_of disk.past.items disk.cells (length disk.failures.items)
 abbrev pub plan_of : MemDisk → Plan
 plan_of disk = disk.plan
 
--- for each byte, whether a write has covered it since the last sync that succeeded
+-- for each byte, whether it is unsettled: a write has been there, and no good sync behind it
 abbrev pub unsettled_of : MemDisk → List Bool
 unsettled_of disk = disk.cells.unsettled.items
 

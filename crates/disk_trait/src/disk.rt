@@ -12,12 +12,12 @@ pub struct DeviceFault;
 /// A disk of fixed length.
 ///
 /// A range that a call is given lies inside the disk, as its `requires` says. `len` is no call of the
-/// device; each other call answers a fault only where the disk has failed in that call, and Ok only where
-/// it hasn't.
+/// device; each other call moves the clock on by one, served or not, and answers a fault only where the
+/// disk has failed in that call, and Ok only where it hasn't.
 ///
 /// Whoever writes an impl gives a `view` and proves the clauses. A disk that can't answer for its
 /// content, as a file, says that it doesn't keep the model, and then owes the clauses' other parts
-/// alone: the length stays and a fault is counted, and nothing else is.
+/// alone: the length stays, and the calls and the faults are counted.
 pub trait Disk {
     /// What contracts see of the disk.
     ghost view: { Self → DiskView };
@@ -40,7 +40,7 @@ pub trait Disk {
         ensures written { IsTrue (view self.old).keeps_model →
             OnOk result ((view self.new).content ≡ overwritten (view self.old).content at bytes.now) };
 
-    /// After Ok a crash leaves what a read gives. After a fault it leaves what it could leave before.
+    /// After Ok a crash leaves the content. After a fault it leaves what it could leave before.
     fn sync(&mut self) -> Result<(), DeviceFault>
         ensures call { IsDeviceCall 0 0 (view self.old) (view self.new) result }
         ensures settled { IsTrue (view self.old).keeps_model →

@@ -23,6 +23,8 @@ use std::rt::Files;
 pub struct FileDisk {
     file: File,
     len: usize,
+    // For contracts alone: they have no bytes.
+    calls: Log<()>,
     failures: Log<()>,
 }
 
@@ -45,13 +47,24 @@ impl FileDisk {
         Ok(FileDisk {
             file,
             len,
+            calls: Log::new(),
             failures: Log::new(),
         })
+    }
+
+    // One call more.
+    fn begin(&mut self)
+        ensures len { self.new.len ≡ self.old.len }
+        ensures calls { self.new.calls.items ≡ self.old.calls.items ++ tt ∷ [] }
+        ensures failures { self.new.failures.items ≡ self.old.failures.items }
+    {
+        self.calls = self.calls.with_entry(&());
     }
 
     // One failure more.
     fn fault(&mut self) -> DeviceFault
         ensures len { self.new.len ≡ self.old.len }
+        ensures calls { self.new.calls.items ≡ self.old.calls.items }
         ensures failures { self.new.failures.items ≡ self.old.failures.items ++ tt ∷ [] }
     {
         self.failures = self.failures.with_entry(&());
@@ -71,6 +84,7 @@ impl Disk for FileDisk {
     }
 
     fn read(&mut self, at: usize, bytes: &mut [u8]) -> Result<(), DeviceFault> {
+        self.begin();
         match self.file.read_exact_at(bytes, at as u64) {
             Ok(()) => Ok(()),
             Err(_) => Err(self.fault()),
@@ -78,6 +92,7 @@ impl Disk for FileDisk {
     }
 
     fn write_at(&mut self, at: usize, bytes: &[u8]) -> Result<(), DeviceFault> {
+        self.begin();
         match self.file.write_all_at(bytes, at as u64) {
             Ok(()) => Ok(()),
             Err(_) => Err(self.fault()),
@@ -85,6 +100,7 @@ impl Disk for FileDisk {
     }
 
     fn sync(&mut self) -> Result<(), DeviceFault> {
+        self.begin();
         match self.file.sync_all() {
             Ok(()) => Ok(()),
             Err(_) => Err(self.fault()),

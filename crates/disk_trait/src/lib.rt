@@ -2,36 +2,38 @@
 //!
 //! # What is believed of a disk
 //!
-//! A disk has a fixed number of bytes, its *content*: what a read gives. A write that is Ok puts its
-//! bytes there. A write that fails, or that is cut by a crash, leaves any bytes in its range and all
-//! others as they were. What a write has covered since the last sync that succeeded isn't safe: after
-//! a crash each such range, whole, may hold any bytes. After a sync that succeeds a crash leaves what a
-//! read gives; a sync that fails promises nothing. Any call may fail, and says so.
+//! A disk has a fixed number of bytes, its *content*: what one reads. Where a write answers Ok, its
+//! bytes are the content there. Where it fails, or a crash cuts it off, nobody knows what stands in its
+//! range; outside of it nothing has changed. A range is safe once a sync behind its write has answered
+//! Ok, and until then a crash may leave anything in it, the whole range long. Where all is safe, a
+//! crash leaves the content. A sync that failed makes nothing safe. Any call may fail, and says so.
 //!
 //! All of this is one value that contracts see of a disk, a `DiskView` (specs/Disk.antt):
 //!
 //! | Field | What it says |
 //! |---|---|
 //! | `content` | what a read gives |
-//! | `clock` | the moment, a number that doesn't fall |
-//! | `left_since t image` | a crash at some moment since `t` may have left this image |
+//! | `clock` | the moment, a number that each call of the device moves on by one |
+//! | `left_since t image` | whether some crash from `t` on, until now, may have left this image |
 //! | `failures` | how often the disk has failed |
 //! | `keeps_model` | whether the above is promised of it; no call changes this |
 //!
-//! `MayLeave view image` is `left_since` at the clock: what a crash now may leave. Each call's clause
+//! `MayLeave view image` is `left_since` at the clock: what one may leave this moment. Each call's clause
 //! `call` is one word, `IsDeviceCall at n`: after a call that writes the n places from `at` on (none,
 //! for a read or a sync) each image that a crash may leave is one of before, with any bytes in these
 //! places; a crash at an earlier moment, also one inside the call, may have left these and those of
-//! before, and nothing else; and a fault is answered only where the count of failures rose in the call,
-//! Ok only where it didn't. It says the same of the images whatever the call answers, since a write that
-//! is in progress, that failed or that was cut counts its whole range. What Ok adds is a clause of its
-//! own: `bytes`, `written`, `settled`.
+//! before, and nothing else; the clock is one further; and a fault is answered only where the count of
+//! failures rose in the call, Ok only where it didn't. It says the same of the images whatever the call
+//! answers, since a write that is in progress, that failed or that was cut counts its whole range. What
+//! Ok adds is a clause of its own: `bytes`, `written`, `settled`.
 //!
 //! The ranges are no part of the view, and need not be: an image of now is one of before, torn in the
 //! call's range, so over many calls it is torn in any of their ranges, and a sync that succeeds leaves
 //! one image alone.
 //!
 //! # What the layers above use
+//!
+//! `AtMostCalls n old new` says that the device had at most n calls between two views.
 //!
 //! `LeavesOnly old new P` says that a crash at any moment between two views leaves an image that has
 //! `P`. It composes by the laws `started`, `one_call_more`, `joined` and `weaker`; a run that only read

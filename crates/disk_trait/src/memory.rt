@@ -12,7 +12,7 @@ use std::alloc::{AllocError, Global};
 
 /// A disk in memory. It keeps the disk model, and takes memory only where it is made.
 ///
-/// Its record of past calls and its count of failures are for contracts alone: they have no bytes.
+/// What it records of past calls, and how often it failed, is there for contracts and has no bytes.
 #[derive(Drop)]
 pub struct MemDisk {
     cells: Cells,

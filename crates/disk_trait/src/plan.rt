@@ -1,7 +1,7 @@
 //! Which call of a disk in memory is to fail.
 ghost use Rattle.std.specs.Prelude.{◌≡◌, ◌↔◌, ℕ, min, IsTrue, IsSome, IfSome, IfNone};
 
-/// Which calls fail. Calls are counted from 1, from the moment the plan was set.
+/// Which calls fail. The first call behind the setting of a plan is number 1.
 #[derive(Clone, Copy, Debug, PartialEq, Eq, Drop)]
 pub enum Plan {
     /// No call fails.

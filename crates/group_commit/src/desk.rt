@@ -1,6 +1,6 @@
 //! The desk: requests are held, settled in order, and committed as one group.
 ghost use Rattle.std.specs.Prelude.{◌≡◌, ◌≢◌, ◌⊎◌, ◌≤◌, ◌<◌, ◌↔◌, ◌++◌, [], ◌∷◌, length, option_copied, IsTrue, IfOk, OnOk, OnErr, IsErrOf, IsErr, None, false, true};
-ghost use Rattle.disk_trait.specs.Disk.{IsSameDevice, LeavesOnly, Unchanged};
+ghost use Rattle.disk_trait.specs.Disk.{AtMostCalls, IsSameDevice, LeavesOnly, Unchanged};
 ghost use Rattle.requests.specs.Tickets.{sessions, last_of};
 ghost use Rattle.recovery.specs.State.{AreInTurn};
 ghost use Rattle.recovery.specs.Standing.{StandsFor};
@@ -125,10 +125,13 @@ impl<D: Disk> Desk<D> {
         ensures worn { IsErrOf result DeskRefused.Worn → IsPastLimits self.old }
         ensures past_limits { is_down (store_of self.old) ≡ false → IsPastLimits self.old → IsErrOf result DeskRefused.Worn ⊎ IsErrOf result DeskRefused.Memory }
         ensures worn_leaves { IsErrOf result DeskRefused.Worn → store_of self.new ≡ store_of self.old }
-        // A roll may have been done before memory ran out.
+        // Where memory ran out, the store may have rolled.
         ensures memory_leaves { IsErrOf result DeskRefused.Memory → (store_of self.new ≡ store_of self.old) ⊎ (LacksRoomFor (store_of self.old) (settled_of self.old).accepted × HasRolled (store_of self.old) (store_of self.new)) }
         ensures stays_up { is_down (store_of self.old) ≡ false → ¬ (IsErrOf result DeskRefused.Device) → is_down (store_of self.new) ≡ false }
         ensures ran { IsSameDevice (view_of (store_of self.old)) (view_of (store_of self.new)) }
+        // A record takes four calls of the device at most, and a roll before it six.
+        ensures calls { AtMostCalls 10 (view_of (store_of self.old)) (view_of (store_of self.new)) }
+        ensures calls_with_room { HasRoomFor (store_of self.old) (settled_of self.old).accepted → AtMostCalls 4 (view_of (store_of self.old)) (view_of (store_of self.new)) }
         // A crash at any moment of the call leaves the old state, or the new one with the whole group.
         ensures any_moment { IsTrue (view_of (store_of self.old)).keeps_model → is_down (store_of self.old) ≡ false
             → LeavesOnly (view_of (store_of self.old)) (view_of (store_of self.new)) (λ image. StandsFor (state_of (store_of self.old)) image ⊎ StandsFor (settled_of self.old).state image) }

@@ -35,9 +35,9 @@
 //! (`refused`). These clauses join with those of the calls before and behind it. Where nothing is accepted,
 //! the store isn't touched (`idle`), so nothing is written. Where something is, the group stands behind the
 //! groups of before if the journal has room for it (`appended`), and only else has the store rolled
-//! (`rolled`). `Worn` comes only where the count would pass its limit, or where the group needs a roll and
-//! the epoch stands at its limit; and there it is `Worn`, or `Memory` while the group is settled
-//! (`past_limits`).
+//! (`rolled`). `Worn` tells that numbers have run out: the count has no room for the accepted requests, or a
+//! roll is needed and there is no epoch after this one. Where that is so, the answer is `Worn`, or `Memory`
+//! while the group is settled (`past_limits`).
 //!
 //! [`settling_law`] says what a settling is good for: it goes by parts; the accepted requests lead to its
 //! state, whose count is up by their number, and whose last tickets go on by theirs; of requests in turn

@@ -1,7 +1,7 @@
 //! The journal of an area: what is scanned, and what is appended.
 ghost use Rattle.std.specs.Prelude.{◌≡◌, ◌≤◌, ◌<◌, ◌+◌, ◌^◌, ◌↔◌, ◌++◌, [], ◌∷◌, ℕ, List, length, map, IsTrue, IfOk, OnOk, OnErr, IsErrOf};
 ghost use Rattle.std.specs.Bool.{OnTrue, OnFalse};
-ghost use Rattle.disk_trait.specs.Disk.{IsSameDevice, LeavesOnly, OnlyRead};
+ghost use Rattle.disk_trait.specs.Disk.{AtMostCalls, IsSameDevice, LeavesOnly, OnlyRead};
 ghost use Rattle.journal.specs.Records.{Spells, AllSpell, SpellsNothing, IsBeforeOrAfter, entries_of, record_of, records};
 ghost use Rattle.journal.specs.JournalView.{JournalView, HasRoom, LacksRoom, groups_in};
 ghost use Rattle.journal.specs.declared.journal.AppendRefused.TheVariants.{Memory};
@@ -133,9 +133,9 @@ impl<E: Entry> Journal<E> {
 
     /// Puts a group of 1 to 64 entries at the end of the list, as one record.
     ///
-    /// At most four calls of the device: a write of length, payload and closed next gate in one, a sync, a write of
-    /// the gate, a sync. The clauses on crashes hold where each image that a crash at entry may leave spells the
-    /// groups of this journal.
+    /// At most four calls of the device: one write takes the length, the payload and the gate behind it, which is
+    /// closed, and is synced; then the record's own gate is opened, and synced too. What is said of crashes holds where
+    /// at entry every image that one may leave spells the groups of this journal.
     ///
     /// Errors, in the order in which they are tested: `NoRoom`, exactly where the record and the next gate don't fit,
     /// and `Memory`, before any write; both leave disk and journal as they were. `Device`, where a call of the device
@@ -158,6 +158,7 @@ impl<E: Entry> Journal<E> {
         ensures no_room_same { IsErrOf result AppendRefused.NoRoom → disk.new ≡ disk.old }
         ensures device { IsErrOf result AppendRefused.Device → (D.view disk.old).failures < (D.view disk.new).failures }
         ensures memory_same { IsErrOf result AppendRefused.Memory → disk.new ≡ disk.old }
+        ensures calls { AtMostCalls 4 (D.view disk.old) (D.view disk.new) }
         ensures any_moment { IsTrue (D.view disk.old).keeps_model → AllSpell E.form (D.view disk.old) self.old.area self.old.groups
             → LeavesOnly (D.view disk.old) (D.view disk.new)
             (IsBeforeOrAfter E.form (D.view disk.old) self.old.area self.old.groups entries.now) }

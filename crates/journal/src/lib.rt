@@ -16,10 +16,10 @@
 //! change. The layout is this project's own; the sizes are named in `src/layout.rt`.
 //!
 //! [`Journal::append`] writes one record for a group: length, payload and the next gate behind the
-//! closed gate, a sync, the gate, a sync. The contract that the layer above uses: at every moment of
-//! the call a crash leaves the disk as it was outside the area, and an area that spells the old list,
-//! or the old list and the whole group; after Ok it is the latter. [`Journal::scan`] finds the list
-//! again. That an area spells at most one list is the contract of [`spelling_laws`].
+//! closed gate, a sync, the gate, a sync. The contract that the layer above uses: wherever in the call
+//! a crash comes, the area then spells the list of before, or that list with the group, whole, behind
+//! it, and outside the area nothing has changed; from Ok on it spells the longer one. [`Journal::scan`]
+//! finds the list again. That an area spells at most one list is the contract of [`spelling_laws`].
 //!
 //! ```text
 //! let area = Area { start: 139_264, room: 1_048_576 };

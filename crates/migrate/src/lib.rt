@@ -6,7 +6,7 @@
 //! The contract that the layer above uses is that of [`bring_over`], of two disks that keep the disk model ([`migrate`] is the same call, with the count alone
 //! as its answer):
 //!
-//! - The old device is synced and read, and never written: at every exit its content is as before, and at every moment a crash leaves
+//! - Of the old device there is one sync and then reads alone: at every exit its content is as before, and at every moment a crash leaves
 //!   what one could leave before (`only_read`).
 //! - Ok gives a count and a number of edges ([`Moved`]): the old content stands for this count and a network of so many edges, and the
 //!   new device, by its content and by every image that a crash may leave from then on, for the same count and network, no ticket taken

@@ -1,7 +1,7 @@
 //! Bringing a state over.
 ghost use Rattle.std.specs.Prelude.{◌≡◌, ◌≢◌, ◌≤◌, ◌<◌, ◌↔◌, ℕ, List, length, IsTrue, IfOk, OnOk, IsErr, IsErrOf};
 ghost use Rattle.std.specs.FinMap.{len};
-ghost use Rattle.disk_trait.specs.Disk.{IsSameDevice, LeavesOnly, OnlyRead};
+ghost use Rattle.disk_trait.specs.Disk.{AtMostCalls, IsSameDevice, LeavesOnly, OnlyRead};
 ghost use Rattle.graph_edits.specs.Edges.{Network};
 ghost use Rattle.recovery_1.specs.Fronts.{HasOtherVersion, HasThisVersion, LacksMagic};
 ghost use Rattle.recovery_1.specs.Standing.{StandsForNone};
@@ -53,7 +53,7 @@ fn read_old<O: Disk>(alloc: Global, old: &mut O) -> Result<(u64, Graph), Migrate
 /// Brings the count and the network of a device of layout 1 to a device that then has layout 2, with the
 /// first epoch and all last tickets 0, and answers how much that was. Whatever the new device held before is lost.
 ///
-/// The old device is synced and read, and never written. At its peak it holds one network and, beside it,
+/// The old device gets a sync and reads, and no write. At its peak it holds one network and, beside it,
 /// the records of one journal or the buffer of one checkpoint's area.
 ///
 /// Errors, in the order in which they are tested: `BadLength`, exactly where the new device hasn't
@@ -80,6 +80,7 @@ pub fn bring_over<O: Disk, N: Disk>(
     ensures only_read { IsTrue (O.view old.old).keeps_model → OnlyRead (O.view old.old) (O.view old.new) }
     ensures not_opened { IsErrOf result MigrateRefused.BadLength → old.new ≡ old.old }
     ensures untouched { IsErr result → ¬ (IsErrOf result MigrateRefused.NewDevice) → new.new ≡ new.old }
+    ensures calls { AtMostCalls 10 (N.view new.old) (N.view new.new) }
     ensures any_moment { IsTrue (O.view old.old).keeps_model → IsTrue (N.view new.old).keeps_model → IsAllForeign (N.view new.old)
         → LeavesOnly (N.view new.old) (N.view new.new) (HoldsNoneOrAllOf (O.view old.old).content) }
     ensures ran_old { IsSameDevice (O.view old.old) (O.view old.new) }
@@ -119,6 +120,7 @@ pub fn migrate<O: Disk, N: Disk>(
     ensures only_read { IsTrue (O.view old.old).keeps_model → OnlyRead (O.view old.old) (O.view old.new) }
     ensures not_opened { IsErrOf result MigrateRefused.BadLength → old.new ≡ old.old }
     ensures untouched { IsErr result → ¬ (IsErrOf result MigrateRefused.NewDevice) → new.new ≡ new.old }
+    ensures calls { AtMostCalls 10 (N.view new.old) (N.view new.new) }
     ensures any_moment { IsTrue (O.view old.old).keeps_model → IsTrue (N.view new.old).keeps_model → IsAllForeign (N.view new.old)
         → LeavesOnly (N.view new.old) (N.view new.new) (HoldsNoneOrAllOf (O.view old.old).content) }
     ensures ran_old { IsSameDevice (O.view old.old) (O.view old.new) }

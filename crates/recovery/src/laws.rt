@@ -1,11 +1,12 @@
 //! The laws of standing and of the layout.
 ghost use Rattle.std.specs.Prelude.{◌≡◌};
-ghost use Rattle.recovery.specs.Layout.{device_len, worn_limit, sessions, head_len, tickets_len, edges_start, most_nodes, most_edges, checkpoint_room, journal_room, slot_room, version, slot_start, journal_start};
+ghost use Rattle.recovery.specs.Layout.{device_len, worn_limit, sessions, magic, header_len, slots_start, head_len, tickets_len, edges_start, most_nodes, most_edges, checkpoint_room, journal_room, slot_room, version, slot_start, journal_start};
 ghost use Rattle.recovery.specs.Standing.{OneState};
 
 use crate::layout::{
-    CHECKPOINT_ROOM, DEVICE_LEN, EDGES_START, HEAD_LEN, JOURNAL_ROOM, MOST_EDGES, MOST_NODES,
-    SLOT_ROOM, TICKETS_LEN, VERSION, WORN_LIMIT,
+    CHECKPOINT_ROOM, CLOSED_GATE, DEVICE_LEN, EDGES_START, FIRST_EPOCH, HEAD_LEN, HEADER_LEN,
+    JOURNAL_ROOM, MAGIC, MOST_EDGES, MOST_NODES, OPEN_GATE, SLOT_ROOM, SLOTS_START, TICKETS_LEN,
+    VERSION, WORN_LIMIT,
 };
 use requests::SESSIONS;
 
@@ -19,6 +20,11 @@ pub fn layout_law()
     ensures worn_limit { WORN_LIMIT ≡ worn_limit }
     ensures sessions { SESSIONS ≡ sessions }
     ensures version { VERSION ≡ version }
+    ensures magic { MAGIC ≡ magic }
+    ensures header { HEADER_LEN ≡ header_len }
+    ensures gates { (OPEN_GATE ≡ 1) × (CLOSED_GATE ≡ 0) }
+    ensures first_epoch { FIRST_EPOCH ≡ 1 }
+    ensures slots { SLOTS_START ≡ slots_start }
     ensures head { HEAD_LEN ≡ head_len }
     ensures tickets { TICKETS_LEN ≡ tickets_len }
     ensures edges { EDGES_START ≡ edges_start }

@@ -4,7 +4,7 @@ use Rattle.std.specs.Int.{w16, w64, to_be_bytes, from_be_bytes}
 use Rattle.disk_trait.specs.Disk.{bytes_at}
 use Rattle.journal.specs.declared.area.Area.{Area}
 pub use Rattle.recovery_parts.specs.Heads.{slots_start, other}
-pub use Rattle.recovery_parts.specs.Refusals.{header_len, magic}
+pub use Rattle.recovery_parts.specs.Refusals.{magic}
 
 -- the greatest count and the greatest epoch
 abbrev pub worn_limit : ℕ

@@ -2,7 +2,7 @@
 use Rattle.std.specs.Prelude.{◌≡◌, ◌+◌, ◌≤◌, ℕ, List, ◌++◌, length, Option, Some}
 use Rattle.std.specs.Int.{w16, w32, w64, to_be_bytes}
 use Rattle.std.specs.Option.{option_map}
-use Rattle.std.specs.FinMap.{entries, get, empty}
+use Rattle.std.specs.FinMap.{entries, get}
 use Rattle.recovery_1.specs.Records.{Entry}
 use Rattle.graph_edits.specs.Edges.{Network}
 use Rattle.recovery_1.specs.Layout.{most_nodes, most_edges}
@@ -17,10 +17,6 @@ pub record State : Type 0 where
 -- the state of a count and a network
 abbrev pub counted : ℕ → Network → State
 counted count graph = record { count = count; graph = graph }
-
--- no edges yet
-abbrev pub first_state : ℕ → State
-first_state nodes = counted 0 (record { nodes = nodes; edges = empty })
 
 -- the network after changes in order, each accepted by this layout's limit of edges
 abbrev pub fold : Network → List Entry → Option Network

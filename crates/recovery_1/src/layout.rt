@@ -8,12 +8,6 @@ pub const WORN_LIMIT: u64 = 9_223_372_036_854_775_807;
 /// The layout that is described here.
 pub const VERSION: [u8; 2] = *b"01";
 
-/// The byte that closes a gate.
-pub const CLOSED_GATE: u8 = 0;
-
-/// The epoch of the first checkpoint.
-pub const FIRST_EPOCH: u64 = 1;
-
 /// The most nodes of a device's network.
 pub const MOST_NODES: u16 = 4096;
 

@@ -89,7 +89,7 @@ fn rolls_to_the_last_epoch(rt: HostRuntime) {
     );
 }
 
-// A device that has rolled once, with one change committed since.
+// A device with one roll behind it, and one change behind that.
 fn rolled_once(rt: &impl Abort, alloc: Global) -> MemDisk {
     let mut store = opened(rt, alloc, with_edge(rt, alloc));
     rolls(rt, alloc, &mut store);

@@ -14,6 +14,8 @@ returns-in-Ok-write_state-clause-ok g c old_model new_model = record {
   held = c.in-Ok.ensures.ok old_model;
   holds = c.in-Ok-write_state.ensures.ok new_model;
   left = c.in-Ok-write_state.ensures.left new_model;
+  fresh = c.in-Ok-write_state.ensures.fresh new_model;
+  fresh_left = c.in-Ok-write_state.ensures.fresh_left new_model;
 }
 
 pub returns-in-Ok-write_state-clause-any_moment : goal.returns-in-Ok-write_state-clause-any_moment

@@ -1,0 +1,74 @@
+// Each of the ten calls of the longest commit, failing and stopping in turn: it closes the other slot, rolls into it, and writes its
+// record there.
+use crate::helpers::{SECOND_SLOT, fails, last_tickets, left, opened, same};
+use crate::rolls::{LACKS, full, full_but, give_sized};
+use disk_trait::{CrashDisk, Plan};
+use std::alloc::Global;
+use std::process::Abort;
+
+// What is there before the group and behind it: how many changes, the last tickets, and the weight of the edge 0-1.
+type Found = (u64, [u64; 3], Option<u32>);
+
+const BEFORE: Found = (6784, [6783, 1, 0], Some(1));
+
+const BEHIND: Found = (6806, [6805, 1, 0], Some(1));
+
+const WORDS: [u64; 5] = [0, 1, 7, 256, 257];
+
+// What meets the commit, and whether the group is there after a crash by each of the words. Until its record's gate is on its way it
+// can't be; from then on the gate's byte decides, which is 1 where the crash leaves what was written or ones alone.
+const CALLS: [(Plan, [bool; 5]); 20] = [
+    // The gate of the other slot is closed.
+    (Plan::Fail(1), [false; 5]),
+    (Plan::Stop(1, 1), [false; 5]),
+    (Plan::Fail(2), [false; 5]),
+    (Plan::Stop(2, 0), [false; 5]),
+    // The checkpoint, up to its journal's first gate.
+    (Plan::Fail(3), [false; 5]),
+    (Plan::Stop(3, 264_192), [false; 5]),
+    (Plan::Fail(4), [false; 5]),
+    (Plan::Stop(4, 0), [false; 5]),
+    // Its gate: whichever slot counts then, the same stands there.
+    (Plan::Fail(5), [false; 5]),
+    (Plan::Stop(5, 1), [false; 5]),
+    (Plan::Fail(6), [false; 5]),
+    (Plan::Stop(6, 0), [false; 5]),
+    // The record, up to the next gate.
+    (Plan::Fail(7), [false; 5]),
+    (Plan::Stop(7, 9), [false; 5]),
+    (Plan::Fail(8), [false; 5]),
+    (Plan::Stop(8, 0), [false; 5]),
+    // Its gate: one that fails by plan puts nothing.
+    (Plan::Fail(9), [false, false, false, false, true]),
+    (Plan::Stop(9, 1), [false, true, false, false, true]),
+    (Plan::Fail(10), [false, true, false, false, true]),
+    (Plan::Stop(10, 0), [false, true, false, false, true]),
+];
+
+// What a full device opens to, a group of 22 changes having met this plan, after a crash by this word.
+fn found(rt: &impl Abort, alloc: Global, full: &[u8], plan: Plan, word: u64) -> Found {
+    let disk = full_but(rt, alloc, full, SECOND_SLOT, &[1]);
+    let mut desk = opened(rt, alloc, disk);
+    desk.arm(plan);
+    give_sized(rt, &mut desk, &LACKS);
+    fails(rt, alloc, &mut desk, 22, 6784);
+    let desk = opened(rt, alloc, desk.into_store().into_disk().crash(word));
+    let (count, weight) = left(&desk);
+    (count, last_tickets(&desk), weight)
+}
+
+#[test]
+fn each_call_of_a_rolling_commit_fails_and_stops(rt: HostRuntime) {
+    let before = full(&rt, rt.alloc());
+    for (plan, there) in &CALLS {
+        for (word, there) in WORDS.iter().zip(there.iter()) {
+            let state = if *there { BEHIND } else { BEFORE };
+            same(
+                &rt,
+                (*plan, *word, found(&rt, rt.alloc(), &before, *plan, *word)),
+                (*plan, *word, state),
+                "a crash",
+            );
+        }
+    }
+}
