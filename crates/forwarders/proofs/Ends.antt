@@ -1,5 +1,5 @@
 -- Every packet comes to an end.
-use Rattle.std.proofs.Common.{◌≡◌, ℕ, zero, suc, ◌-◌, ◌<◌, max, eqb, ltb, Option, Some, None, Result, Ok, Err, refl, sym, subst, arith}
+use Rattle.std.proofs.Common.{◌≡◌, ℕ, zero, suc, ◌-◌, ◌<◌, max, eqb, ltb, Option, Some, None, Result, Ok, Err, refl, sym, subst, inl, inr, arith}
 use Rattle.std.proofs.lemmas.Bool.{cond_both, ltb-true, eqb-false}
 use Rattle.heavy_labels.specs.Numbering.{Step, arrived, port, no_parent, no_light, step}
 use Rattle.heavy_labels.specs.Stepped.{record_of}
@@ -14,8 +14,8 @@ use Rattle.node_table.specs.Tables.{Tables, tables}
 use Rattle.node_table.specs.Service.{node_step, move_at, move_by, forward_over, one_less}
 use Rattle.generations.specs.Boards.{scheme_of}
 use Rattle.forwarders.specs.declared.refused.Refused.{Refused}
-use Rattle.forwarders.specs.Answers.{Shelf, by, by_name, hop_at}
-use Rattle.forwarders.specs.Laws.{EndsUnless, EndsWithin, EveryPacketEnds, nodes_of}
+use Rattle.forwarders.specs.Answers.{Shelf, IsAnswer, by, by_name, hop_at}
+use Rattle.forwarders.specs.Laws.{EndsUnless, EndsWithin, EveryPacketEnds, later, nodes_of}
 
 -- ---- one hop less
 
@@ -73,23 +73,26 @@ ends_by Next n k (Err e) h next = tt
 ends_by Next n k (Ok Delivered) h next = tt
 ends_by Next n k (Ok (Forward q y j)) h next = subst (Next y) (sym h.0) (next y h.1.0 h.1.1)
 
-ends_left : (n : ℕ) (shelf : Shelf) (x : ℕ) (k : Packet) (p : Parts) → scheme_of k.generation shelf ≡ Some p → k.hops_left < n → EndsWithin n shelf x k
-ends_left zero shelf x k p e lt = absurd (omega (arith, lt))
-ends_left (suc n) shelf x k p e lt =
-    subst (λ (o : Option Parts). EndsUnless (EndsWithin n shelf) (by (λ t. node_step t x k) o)) (sym e)
-    (ends_by (EndsWithin n shelf) p.nodes k (by_name (node_step (tables p) x k)) (as_named p.nodes k (node_step (tables p) x k) (stepped (tables p) x k))
-    (λ y some few. ends_left n shelf y (one_less k) p e (omega (arith, some, lt))))
+-- whichever of these the answer is
+by_answer : (Next : ℕ → Packet → Type 0) (shelf : Shelf) (x : ℕ) (k : Packet) (answer : Result Move Refused) → IsAnswer shelf x k answer
+    → ((y : ℕ) → 0 < k.hops_left → k.hops_left < nodes_of (scheme_of k.generation shelf) → Next y (one_less k)) → EndsUnless Next answer
+by_answer Next shelf x k answer (inl shut) next = subst (EndsUnless Next) (sym shut) tt
+by_answer Next shelf x k answer (inr hop) next =
+    subst (EndsUnless Next) (sym hop) (ends_by Next (nodes_of (scheme_of k.generation shelf)) k (hop_at x k shelf) (hop_has_one_less shelf x k) next)
 
-ends : (shelf : Shelf) (x : ℕ) (k : Packet) (o : Option Parts) → scheme_of k.generation shelf ≡ o → EndsWithin (nodes_of o) shelf x k
-ends shelf x k None e = subst (λ (o : Option Parts). EndsUnless (EndsWithin 0 shelf) (by (λ t. node_step t x k) o)) (sym e) tt
-ends shelf x k (Some p) e =
-    let n = max 1 p.nodes - 1 in
-    let all : suc n ≡ max 1 p.nodes = omega arith in
-    subst (λ m. EndsWithin m shelf x k) all (
-    subst (λ (o : Option Parts). EndsUnless (EndsWithin n shelf) (by (λ t. node_step t x k) o)) (sym e)
-    (ends_by (EndsWithin n shelf) p.nodes k (by_name (node_step (tables p) x k)) (as_named p.nodes k (node_step (tables p) x k) (stepped (tables p) x k))
-    (λ y some few. ends_left n shelf y (one_less k) p e (omega (arith, some, few))))
-    )
+ends_left : (n : ℕ) (shelves : ℕ → Shelf) (x : ℕ) (k : Packet) → k.hops_left < n → EndsWithin n shelves x k
+ends_left zero shelves x k lt = absurd (omega (arith, lt))
+ends_left (suc n) shelves x k lt = λ answer is.
+    by_answer (EndsWithin n (later shelves)) (shelves 0) x k answer is (λ y some few. ends_left n (later shelves) y (one_less k) (omega (arith, some, lt)))
+
+some_node : (o : Option Parts) → 0 < nodes_of o
+some_node None = omega arith
+some_node (Some p) = omega arith
 
 pub every_packet_ends : EveryPacketEnds
-every_packet_ends shelf x k = ends shelf x k (scheme_of k.generation shelf) refl
+every_packet_ends shelves x k =
+    let most = nodes_of (scheme_of k.generation (shelves 0)) in
+    let n = most - 1 in
+    let all : suc n ≡ most = omega (arith, some_node (scheme_of k.generation (shelves 0))) in
+    subst (λ m. EndsWithin m shelves x k) all (λ answer is.
+    by_answer (EndsWithin n (later shelves)) (shelves 0) x k answer is (λ y some few. ends_left n (later shelves) y (one_less k) (omega (arith, some, few))))

@@ -1,5 +1,5 @@
 -- What a forwarder answers by a shelf.
-use Rattle.std.specs.Prelude.{◌≡◌, ℕ, List, Option, Some, None, Result, Ok, Err, slice_get}
+use Rattle.std.specs.Prelude.{◌≡◌, ◌⊎◌, ℕ, List, Option, Some, None, Result, Ok, Err, slice_get}
 use Rattle.node_table.specs.declared.parts.Parts.{Parts}
 use Rattle.node_table.specs.declared.packet.Address.{Address}
 use Rattle.node_table.specs.declared.packet.Packet.{Packet}
@@ -10,7 +10,7 @@ use Rattle.node_table.specs.Tables.{Tables, tables}
 use Rattle.node_table.specs.Service.{address_given, decide, node_step}
 use Rattle.generations.specs.Boards.{scheme_of}
 use Rattle.forwarders.specs.declared.refused.Refused.{Refused}
-use Rattle.forwarders.specs.declared.refused.Refused.TheVariants.{GenerationGone, NoNode, Unreachable, Stray, Spent}
+use Rattle.forwarders.specs.declared.refused.Refused.TheVariants.{BoardShut, GenerationGone, NoNode, Unreachable, Stray, Spent}
 
 -- the places of a shelf: the generations that stand there, each a number and a scheme's tables
 abbrev pub Shelf : Type 0
@@ -48,6 +48,10 @@ launch_at u a shelf = by (λ t. decide t u a) (scheme_of a.generation shelf)
 -- what x does with a packet, in the packet's generation
 abbrev pub hop_at : ℕ → Packet → Shelf → Result Move Refused
 hop_at x k shelf = by (λ t. node_step t x k) (scheme_of k.generation shelf)
+
+-- what a forwarder that looks at this shelf, if the board gives a look, answers to a packet at x
+abbrev pub IsAnswer : Shelf → ℕ → Packet → Result Move Refused → Type 0
+IsAnswer shelf x k answer = (answer ≡ Err BoardShut) ⊎ (answer ≡ hop_at x k shelf)
 
 -- an answer to a packet, which comes back where it is refused
 abbrev pub handed_back : Packet → Result Move Refused → Result Move (Refused × Packet)

@@ -62,10 +62,6 @@ abbrev pub AnswersBytes : Option WireRefused → Result ByteMove BytesRefused �
 AnswersBytes None result OfPacket = OfPacket
 AnswersBytes (Some refused) result OfPacket = IsUnreadAnswer refused result
 
--- what x does with bytes by a shelf
-abbrev pub IsByteHop : Shelf → ℕ → List ℕ → Result ByteMove BytesRefused → Type 0
-IsByteHop shelf x bytes result = AnswersBytes (packet_refusal bytes) result (IsHopOf shelf x bytes result)
-
--- the same where a packet may also be refused because the board gave no look
+-- what a forwarder that looks at this shelf, if the board gives a look, answers to bytes at x
 abbrev pub IsByteAnswer : Shelf → ℕ → List ℕ → Result ByteMove BytesRefused → Type 0
 IsByteAnswer shelf x bytes result = AnswersBytes (packet_refusal bytes) result ((result ≡ Err BoardShut) ⊎ IsHopOf shelf x bytes result)

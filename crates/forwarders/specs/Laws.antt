@@ -1,4 +1,4 @@
--- Laws of forwarding at one board.
+-- Laws of forwarding: every way ends, whichever shelf each call looks at, and when a generation is gone.
 use Rattle.std.specs.Prelude.{◌≡◌, ◌↔◌, ℕ, zero, suc, List, Option, Some, None, Result, Ok, Err, max}
 use Rattle.node_table.specs.declared.parts.Parts.{Parts}
 use Rattle.node_table.specs.declared.packet.Address.{Address}
@@ -14,8 +14,8 @@ use Rattle.forwarders.specs.declared.refused.Refused.TheVariants.{GenerationGone
 use Rattle.forwarders.specs.declared.refused.BytesRefused.{BytesRefused}
 use Rattle.forwarders.specs.declared.in_bytes.ByteMove.{ByteMove}
 use Rattle.forwarders.specs.declared.in_bytes.ByteMove.TheVariants.{Delivered, Forward}
-use Rattle.forwarders.specs.Answers.{Shelf, IsOnShelf, address_at, launch_at, hop_at}
-use Rattle.forwarders.specs.ByteAnswers.{IsByteHop}
+use Rattle.forwarders.specs.Answers.{Shelf, IsOnShelf, IsAnswer, address_at, launch_at, hop_at}
+use Rattle.forwarders.specs.ByteAnswers.{IsByteAnswer}
 
 -- the number of nodes of a generation's scheme, and at least 1
 abbrev pub nodes_of : Option Parts → ℕ
@@ -28,10 +28,14 @@ EndsUnless Next (Err e) = Unit {0}
 EndsUnless Next (Ok packets.Delivered) = Unit {0}
 EndsUnless Next (Ok (packets.Forward port y k)) = Next y k
 
--- passed from node to node, the packet is delivered or refused by one of the next n calls
-abbrev pub EndsWithin : ℕ → Shelf → ℕ → Packet → Type 0
-EndsWithin zero shelf x k = ⊥
-EndsWithin (suc n) shelf x k = EndsUnless (EndsWithin n shelf) (hop_at x k shelf)
+-- the shelves that the calls after the first one look at, each call at the next
+abbrev pub later : (ℕ → Shelf) → ℕ → Shelf
+later shelves = λ call. shelves (suc call)
+
+-- passed from node to node, each call looking at the next shelf, the packet is delivered or refused by one of the next n calls
+abbrev pub EndsWithin : ℕ → (ℕ → Shelf) → ℕ → Packet → Type 0
+EndsWithin zero shelves x k = ⊥
+EndsWithin (suc n) shelves x k = (answer : Result Move Refused) → IsAnswer (shelves 0) x k answer → EndsUnless (EndsWithin n (later shelves)) answer
 
 -- the same of bytes
 abbrev pub BytesEndUnless : (ℕ → List ℕ → Type 0) → Result ByteMove BytesRefused → Type 0
@@ -40,21 +44,21 @@ BytesEndUnless Next (Ok Delivered) = Unit {0}
 BytesEndUnless Next (Ok (Forward port y bytes)) = Next y bytes
 
 -- the same of bytes: passed from node to node, they are delivered or refused by one of the next n calls
-abbrev pub BytesEndWithin : ℕ → Shelf → ℕ → List ℕ → Type 0
-BytesEndWithin zero shelf x bytes = ⊥
-BytesEndWithin (suc n) shelf x bytes = (result : Result ByteMove BytesRefused) → IsByteHop shelf x bytes result → BytesEndUnless (BytesEndWithin n shelf) result
+abbrev pub BytesEndWithin : ℕ → (ℕ → Shelf) → ℕ → List ℕ → Type 0
+BytesEndWithin zero shelves x bytes = ⊥
+BytesEndWithin (suc n) shelves x bytes = (result : Result ByteMove BytesRefused) → IsByteAnswer (shelves 0) x bytes result → BytesEndUnless (BytesEndWithin n (later shelves)) result
 
--- every packet comes to an end within as many calls as its generation has nodes, whatever it holds
+-- every packet comes to an end within as many calls as its generation has nodes on the first shelf, whatever it and the shelves hold
 abbrev pub EveryPacketEnds : Type 0
-EveryPacketEnds = (shelf : Shelf) (x : ℕ) (k : Packet) → EndsWithin (nodes_of (scheme_of k.generation shelf)) shelf x k
+EveryPacketEnds = (shelves : ℕ → Shelf) (x : ℕ) (k : Packet) → EndsWithin (nodes_of (scheme_of k.generation (shelves 0))) shelves x k
 
 -- bytes that are no packet are refused by the first call
 abbrev pub UnreadBytesEnd : Type 0
-UnreadBytesEnd = (shelf : Shelf) (x : ℕ) (bytes : List ℕ) (refused : WireRefused) → packet_refusal bytes ≡ Some refused → BytesEndWithin 1 shelf x bytes
+UnreadBytesEnd = (shelves : ℕ → Shelf) (x : ℕ) (bytes : List ℕ) (refused : WireRefused) → packet_refusal bytes ≡ Some refused → BytesEndWithin 1 shelves x bytes
 
--- a packet's bytes come to an end within as many calls as its generation has nodes
+-- a packet's bytes come to an end within as many calls as its generation has nodes on the first shelf
 abbrev pub PacketBytesEnd : Type 0
-PacketBytesEnd = (shelf : Shelf) (x : ℕ) (bytes : List ℕ) (k : Packet) → SpellsPacket bytes k → BytesEndWithin (nodes_of (scheme_of k.generation shelf)) shelf x bytes
+PacketBytesEnd = (shelves : ℕ → Shelf) (x : ℕ) (bytes : List ℕ) (k : Packet) → SpellsPacket bytes k → BytesEndWithin (nodes_of (scheme_of k.generation (shelves 0))) shelves x bytes
 
 -- a generation is gone exactly where no place of the shelf has its number
 abbrev pub HopGone : Type 0

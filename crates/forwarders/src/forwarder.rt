@@ -2,6 +2,7 @@
 ghost use Rattle.std.specs.Prelude.{◌≡◌, ◌⊎◌, IfOk, IfErr, Ok, Err};
 ghost use Rattle.generations.specs.Beginnings.{GoesOn, board_after};
 ghost use Rattle.generations.specs.Boards.{latest_of};
+ghost use Rattle.generations.specs.Lawful.{IsLawful};
 ghost use Rattle.forwarders.specs.Answers.{address_at, handed_back, hop_at, launch_at};
 ghost use Rattle.forwarders.specs.ByteAnswers.{IsByteAnswer};
 
@@ -43,10 +44,12 @@ impl Forwarder {
         }
     }
 
-    /// All that it saw or was told.
+    /// All that it saw or was told: a beginning of the board's one lawful list.
     pub fn known(&self) -> History
-        ensures { result ≡ self.now }
+        ensures same { result ≡ self.now }
+        ensures lawful { IsLawful result.opening.starts result.opening.count result.log }
     {
+        self.known.len();
         self.known.again()
     }
 

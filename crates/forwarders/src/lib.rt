@@ -8,8 +8,11 @@
 //! The contract that the layers above use: each answer is that of the board after the beginning of its list that the
 //! forwarder then knows, which goes on from all that it saw or was told; or it is [`Refused::BoardShut`].
 //! [`Forwarder::hop_bytes`] does the same with packets in bytes: what it writes is the spelling of the packet that
-//! [`Forwarder::hop`] gives. No call takes memory or waits. That every packet comes to an end, whatever it holds, is the
-//! contract of [`forwarding_laws`].
+//! [`Forwarder::hop`] gives. No call takes memory or waits. What a forwarder knows is lawful ([`Forwarder::known`]).
+//!
+//! What follows for a packet's whole way, whatever the board publishes between its hops, is the contract of
+//! [`forwarding_laws`]: every packet comes to an end, whatever it holds; and one that was launched is delivered over a good
+//! trip (`specs/Arrivals`), where each call that doesn't carry it on says that the board was shut or its generation is gone.
 //!
 //! ```text
 //! let mut forwarder = Forwarder::new(reader);

@@ -78,7 +78,7 @@ pub(crate) fn empty_scheme(
         directories: Vec::new(alloc),
         homes: Vec::new(alloc),
     };
-    let scheme = Scheme::assemble(alloc, parts)?;
+    let scheme = Scheme::assemble(parts);
     Ok(Arc::new(alloc, scheme)?)
 }
 

@@ -5,7 +5,7 @@ use Rattle.logbook.specs.Pages.{Book}
 use Rattle.generations.specs.declared.posting.Notice.{Notice}
 use Rattle.generations.specs.Boards.{BoardState, board_of}
 
--- which board it is: its book, where each session's tickets begin, and the count from which Accepted counts go on
+-- which board it is: its book, where each session's tickets begin, and the count behind which those of its marks begin
 pub record Opening : Type 0 where
   pub book : Book
   pub starts : List ℕ

@@ -123,8 +123,8 @@ pub(crate) fn open(starts: &[u64; SESSIONS], count: u64) -> (Head, History)
 }
 
 impl History {
-    /// How many notices it has.
-    pub(crate) fn len(&self) -> u64
+    /// How many notices it has. They are lawful: a history is a beginning of a board's one list.
+    pub fn len(&self) -> u64
         ensures length { result ≡ length self.now.log }
         ensures lawful { IsLawful self.now.opening.starts self.now.opening.count self.now.log }
     {

@@ -23,7 +23,7 @@
 //! | [`BoardWriter::post`] | `Ok`: the list is one longer. `Back`: the posting comes back and nothing changed. `Kept`: the writer keeps it, and no reader sees it |
 //! | [`BoardWriter::retry`] | `Ok`: the list has what was kept. `Kept`: it stays kept |
 //! | [`BoardWriter::tell`] | all that was posted |
-//! | [`BoardReader::look`] | a board that is the fold of a beginning of the list, which holds all that this reader saw or learnt; or `Shut` |
+//! | [`BoardReader::look`] | the fold of the list up to some place, behind all that this reader has seen or learnt of it; or `Shut` |
 //!
 //! `look`, `learn`, `leave` and `tell` take neither memory nor a handle to wait by. A look is `Shut` where `left_right` refused the
 //! entry; or `Behind`, where it let the reader into a board that ends before what was told. By the order of the steps that never

@@ -184,7 +184,7 @@ impl BoardReader {
 }
 
 impl Look {
-    /// The board as it was at one step of the writer.
+    /// The board as the writer had it between two postings.
     pub fn board(&self) -> &Board
         ensures fold { result.now ≡ board_after self.now }
         ensures lawful { IsLawful self.now.opening.starts self.now.opening.count self.now.log }

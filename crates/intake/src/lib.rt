@@ -9,9 +9,10 @@
 //!
 //! # The contract
 //!
-//! What was taken, followed by what waits, has each editor's submitted requests, in that editor's order, each once, with its ticket
-//! and change, and nothing else ([`Taker::end`] says it of one editor); and of all that was taken each session's tickets rise
-//! above its start ([`Taker::take`]). Where the taker finds nothing, all that the editor submitted that was ended last was taken.
+//! Taken and waiting requests together are those that were submitted and no others: all that an editor submitted is among them, as
+//! it submitted it, no request twice and none before an earlier one of that editor ([`Taker::end`] says it of one editor); and of all
+//! that was taken each session's tickets rise above its start ([`Taker::take`]). Where the taker finds nothing, all that the editor
+//! submitted that was ended last was taken.
 //! An editor that has ended leaves a [`Watcher`], which goes on looking at the board.
 //!
 //! | Call | What it says |

@@ -27,7 +27,7 @@ pub enum Outcome {
 pub enum SubmitRefused {
     /// The board can't be looked at.
     BoardShut = 3,
-    /// The last change isn't settled on the board as looked at.
+    /// By what the board shows the session's last change is still open.
     Busy = 1,
     /// The ticket is at most the session's last accepted one on the board as looked at, or its start.
     AlreadyIn = 5,
@@ -35,7 +35,7 @@ pub enum SubmitRefused {
     OldTicket = 6,
     /// The ticket is past the worn limit.
     Worn = 4,
-    /// The queue was full at a moment of the call.
+    /// No place of the queue was free.
     QueueFull = 2,
 }
 

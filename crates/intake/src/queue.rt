@@ -192,7 +192,7 @@ impl Sender {
         self.start
     }
 
-    /// Puts one request at the queue's end. It comes back only where the queue was full at a moment of the call.
+    /// Puts one request at the queue's end. It comes back where no place was free.
     pub(crate) fn put<R: Wait>(&mut self, rt: &R, request: Request) -> Result<(), Request>
         requires session { request.session ≡ self.old.session }
         requires ticket { last_or_start self.old.start self.old.put < request.ticket }
@@ -224,8 +224,8 @@ impl Taker {
         self.queue.pop_as::<Takes, R>(rt, &mut self.pass)
     }
 
-    /// Takes the request at the front. There is none only where the queue was empty at a moment of the call: then all that the
-    /// editor submitted that was ended last has been taken.
+    /// Takes the request at the front. Where the queue was found empty there is none, and all that the editor submitted that was
+    /// ended last has been taken.
     pub fn take<R: Wait>(&mut self, rt: &R) -> Option<Request>
         ensures same { (self.new.queue ≡ self.old.queue) × (self.new.starts ≡ self.old.starts) }
         ensures ended { self.new.ended ≡ self.old.ended }

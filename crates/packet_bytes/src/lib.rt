@@ -10,9 +10,10 @@
 //! ```
 //!
 //! The layout is this project's own; `src/layout.rt` names its sizes. The contract that the layers above use is that of
-//! [`Wire`]: what is written is the spelling (`specs/Spelling`), and what is read has exactly these bytes as its spelling,
-//! or is refused by the first case that holds (`specs/Refusals`). That each spelling is read, as the one value that it is
-//! of, is the contract of [`spelling_laws`]. No call takes memory. Numbers of nodes and hops aren't tested here.
+//! [`Wire`]: a value is written as its spelling (`specs/Spelling`), and bytes are read as a value whose spelling they are,
+//! or are refused for the first thing that is wrong with them (`specs/Refusals`). That each spelling is read, as the one
+//! value that it is of, is the contract of [`spelling_laws`]. No call takes memory. Whether a network has such nodes, and
+//! such a way so many hops, isn't asked here.
 //!
 //! ```text
 //! let bytes = packet.to_bytes();              // [u8; PACKET_SIZE]

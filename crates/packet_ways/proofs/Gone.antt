@@ -63,7 +63,7 @@ stays_gone : (i : ℕ) (way : Trip) (event : Event) (m : Machine) (reply : Reply
 stays_gone i way (Submit s t change) m r n h gone =
     (same_ways i way m n (adds_or_memory (submit m (record { session = s; ticket = t; change = change })) m r n h (submit_adds m (record { session = s; ticket = t; change = change }))) gone, tt)
 stays_gone i way (Look s at) m r n h gone = (same_ways i way m n (adds_or_memory (look m s at) m r n h (look_adds m s at)) gone, tt)
-stays_gone i way Take m r n h gone = (same_ways i way m n (adds_or_memory (take_one m) m r n h (take_adds m)) gone, tt)
+stays_gone i way Take m r n h gone = (same_ways i way m n (adds_or_memory (take_one m) m r n (inl h) (take_adds m)) gone, tt)
 stays_gone i way Commit m r n h gone = (same_ways i way m n (commit_adds m r n h) gone, tt)
 stays_gone i way Post m r n h gone = (same_ways i way m n (adds_or_memory (post m) m r n h (post_adds m)) gone, tt)
 stays_gone i way (Rebuild words) m r n h gone = (same_ways i way m n (rebuild_adds words.items m r n h) gone, tt)

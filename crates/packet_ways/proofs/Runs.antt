@@ -1,5 +1,5 @@
 -- Packets stay on their way by each event, and over a run.
-use Rattle.std.proofs.Common.{[], ◌∷◌, sym, subst}
+use Rattle.std.proofs.Common.{[], ◌∷◌, inl, sym, subst}
 use Rattle.event_runs.specs.declared.event.Event.TheVariants.{Submit, Look, Take, Commit, Post, Rebuild, Launch, Hop}
 use Rattle.event_runs.specs.Machines.{Machine}
 use Rattle.event_runs.specs.Answers.{submit, look, take_one, post, launch, hop}
@@ -30,7 +30,7 @@ pub events_keep : Laws → EventsKeepWays
 events_keep laws first (Submit s t change) m r n is ways h =
     both m n (adds_or_memory (submit m (record { session = s; ticket = t; change = change })) m r n h (submit_adds m (record { session = s; ticket = t; change = change }))) ways
 events_keep laws first (Look s at) m r n is ways h = both m n (adds_or_memory (look m s at) m r n h (look_adds m s at)) ways
-events_keep laws first Take m r n is ways h = both m n (adds_or_memory (take_one m) m r n h (take_adds m)) ways
+events_keep laws first Take m r n is ways h = both m n (adds_or_memory (take_one m) m r n (inl h) (take_adds m)) ways
 events_keep laws first Commit m r n is ways h = both m n (commit_adds m r n h) ways
 events_keep laws first Post m r n is ways h = both m n (adds_or_memory (post m) m r n h (post_adds m)) ways
 events_keep laws first (Rebuild words) m r n is ways h = both m n (rebuild_adds words.items m r n h) ways
