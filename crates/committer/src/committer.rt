@@ -137,8 +137,8 @@ impl<D: Disk, R: Wait + Drop> Committer<D, R> {
         self.outbox.told()
     }
 
-    /// Posts what is due, takes at most [`MOST_HELD`] requests if it holds none, commits them, and posts their marks. Where all are
-    /// refused nothing is written, and of no request nothing is posted.
+    /// Posts what is due; takes up to [`MOST_HELD`] requests, unless a group is held; commits the group, and posts its marks. Nothing
+    /// is written for a group of which no change is accepted, and a round that has no request posts no marks.
     pub fn round<W: Wait>(&mut self, alloc: Global, rt: &W) -> Result<Round, RoundRefused>
         // What is taken is the front of the queue.
         ensures front { got_of self.new ≡ got_of self.old ++ taken self.old self.new }

@@ -28,8 +28,9 @@
 //!
 //! On a device that keeps the disk model a crash at any moment of a round leaves the state of before, or the one after the whole
 //! group (`any_moment`); and a crash between two calls leaves the store's state, or the one with the whole group that is held,
-//! also after a failure of the device (`whole`). No posted Accepted count is above the store's (`tells`), so each image has every
-//! change that was told. How what was taken, held, posted and stored go together is one record, `IsTied` ([`Committer::told`]).
+//! also after a failure of the device (`whole`). What was posted as accepted has a count that the store has reached (`tells`), so each
+//! image has every change that was told. How what was taken, held, posted and stored go together is one record, `IsTied`
+//! ([`Committer::told`]).
 //!
 //! ```text
 //! let (writer, readers) = board(alloc, rt, 1, &desk.starts(), desk.store().count())?;

@@ -3,7 +3,7 @@
 /// Why a round is refused. `Down` is tested first, then what is due (`Board`); the rest is the commit's answer, and `Board` behind it.
 #[derive(Clone, Copy, Debug, PartialEq, Eq, Drop)]
 pub enum RoundRefused {
-    /// A call of the device failed. The group stays held; after a crash it is there wholly or not at all.
+    /// A call of the device failed. The group stays held; a later opening finds all of it, or nothing.
     Device = 1,
     /// The device failed before.
     Down = 2,
@@ -11,8 +11,8 @@ pub enum RoundRefused {
     Memory = 3,
     /// The board took no posting. It stays due, and what was committed stays committed.
     Board = 4,
-    /// The count would pass its limit, or the group needs a roll and the epoch stands at its limit. The group stays held, and
-    /// nothing of it is on the device.
+    /// Numbers have run out: the count has no room for the group, or a roll is needed and there is no epoch after this one. The
+    /// group stays held, and nothing of it is on the device.
     Worn = 5,
 }
 

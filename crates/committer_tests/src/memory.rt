@@ -1,6 +1,8 @@
-// Rounds and a rebuild of which an allocation is refused.
+// Rounds, and a rebuild, of which an allocation is refused.
+use crate::rounds::{TWO, both_come_back};
 use crate::seats::{AT_TWO, PATH, Seats, fresh, got, same, seated};
 use committer::{RebuildRefused, Round, RoundRefused};
+use graph_edits::Op;
 use intake::Outcome;
 use linked_list_allocator::LocalHeap;
 use std::alloc::{AllocError, Global};
@@ -12,15 +14,16 @@ const SETTLED: Round = Round {
     accepted: 1,
 };
 
-// The first change, in one round, or in two where memory is refused: it stays held then, or its mark stays due.
-fn settles_first<R: Wait + Abort + Drop>(rt: &R, alloc: Global, at: &mut Seats<R>) {
+// The next change of an editor, behind so many, in one round, or in two where memory is refused: it stays held then, or its mark
+// stays due.
+fn settles_next<R: Wait + Abort + Drop>(rt: &R, alloc: Global, at: &mut Seats<R>, before: u64) {
     let first = at.round(rt, alloc);
     let (count, accepted) = match first {
         Ok(_) => return same(rt, first, Ok(SETTLED), "the round"),
-        Err(RoundRefused::Memory) => (0, 1),
+        Err(RoundRefused::Memory) => (before, 1),
         Err(_) => {
             same(rt, first, Err(RoundRefused::Board), "the round");
-            (1, 0)
+            (before.saturating_add(1), 0)
         }
     };
     same(rt, at.committer.store().count(), count, "the count");
@@ -55,7 +58,7 @@ fn settles_then_builds<R: Wait + Abort + Drop>(
 ) {
     let mut at = at;
     at.submits(rt, 0, 1, &PATH);
-    settles_first(rt, alloc, &mut at);
+    settles_next(rt, alloc, &mut at, 0);
     at.hears(0);
     let (ticket, count) = (1, 1);
     at.has(rt, 0, Outcome::Accepted { ticket, count });
@@ -81,5 +84,40 @@ fn settles_and_builds<R: Wait + Abort + Copy + Drop>(
 fn settles_and_builds_once_memory_is_there(rt: HostRuntime) {
     if settles_and_builds(rt, rt.alloc()).is_err() {
         got(&rt, settles_and_builds(rt, rt.alloc()));
+    }
+}
+
+// Two editors over one place. What comes back is told as it would be with memory.
+fn settles_both<R: Wait + Abort + Drop>(rt: &R, alloc: Global, at: Seats<R>) {
+    let mut at = at;
+    at.submits(rt, 0, 1, &[Op::Add(0, 1, 1)]);
+    both_come_back(rt, &mut at);
+    settles_next(rt, alloc, &mut at, 0);
+    at.submits(rt, 1, 1, &TWO);
+    settles_next(rt, alloc, &mut at, 1);
+    at.hears(0);
+    at.hears(1);
+    let (ticket, count) = (1, 1);
+    at.has(rt, 0, Outcome::Accepted { ticket, count });
+    let count = 2;
+    at.has(rt, 1, Outcome::Accepted { ticket, count });
+    same(rt, at.committer.store().count(), 2, "the count");
+    let _disk = at.into_disk();
+}
+
+fn settles_two_editors<R: Wait + Abort + Copy + Drop>(
+    rt: R,
+    alloc: Global,
+) -> Result<(), AllocError> {
+    let at = seated(rt, alloc, fresh(&rt, alloc), 1)?;
+    settles_both(&rt, alloc, at);
+    Ok(())
+}
+
+// Run with each allocation refused in turn too (`./refuse-memory`): a round that had no memory, made again, settles what it held.
+#[test]
+fn settles_two_editors_once_memory_is_there(rt: HostRuntime) {
+    if settles_two_editors(rt, rt.alloc()).is_err() {
+        got(&rt, settles_two_editors(rt, rt.alloc()));
     }
 }

@@ -21,10 +21,10 @@ fn refuses_a_change_whole(rt: HostRuntime) {
     same(&rt, at.journal(&rt), [0; 64], "the journal");
 }
 
-const TWO: [Op; 1] = [Op::Add(1, 2, 1)];
+pub(crate) const TWO: [Op; 1] = [Op::Add(1, 2, 1)];
 
 // The one place is taken, and the first editor's change isn't settled.
-fn both_come_back<R: Wait + Abort + Drop>(rt: &R, at: &mut Seats<R>) {
+pub(crate) fn both_come_back<R: Wait + Abort + Drop>(rt: &R, at: &mut Seats<R>) {
     comes_back(rt, &mut at.second, 1, &TWO, SubmitRefused::QueueFull);
     comes_back(rt, &mut at.first, 2, &TWO, SubmitRefused::Busy);
 }

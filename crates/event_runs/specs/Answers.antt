@@ -85,14 +85,14 @@ post_by m (Some notice) = answer Posted (with_posted (record m { due = None }) n
 abbrev pub post : Machine → Answer
 post m = post_by m m.due
 
--- a commit is answered as the desk answers it
+-- a commit is answered as the desk answers it; Worn stands only where something of what is held is accepted
 abbrev pub CommitAnswers : Machine → Reply → Machine → Type 0
 CommitAnswers m Idle n = (held m ≡ []) × (n ≡ m)
 CommitAnswers m (Committed accepted) n = (held m ≢ []) × (m.down ≡ false) × (accepted ≡ length (settling m).accepted) × (n ≡ committed m)
 CommitAnswers m (NotCommitted Device) n = (held m ≢ []) × (m.down ≡ false) × (n ≡ lost m)
 CommitAnswers m (NotCommitted Down) n = (held m ≢ []) × (m.down ≡ true) × (n ≡ m)
-CommitAnswers m (NotCommitted Worn) n = (held m ≢ []) × (m.down ≡ false) × (n ≡ grouped m)
-CommitAnswers m Memory n = n ≡ m
+CommitAnswers m (NotCommitted Worn) n = ((settling m).accepted ≢ []) × (m.down ≡ false) × (n ≡ grouped m)
+CommitAnswers m Memory n = (held m ≢ []) × (n ≡ m)
 CommitAnswers m reply n = ⊥
 
 -- the number of the newest generation
@@ -141,15 +141,19 @@ hop m i at = hop_by m i at (slice_get m.ways i)
 
 -- ---- all events
 
+-- this answer and no other
+abbrev pub Exactly : Answer → Reply → Machine → Type 0
+Exactly a reply n = (reply ≡ a.reply) × (n ≡ a.after)
+
 -- this answer; or Memory, and then all is as it was
 abbrev pub OrMemory : Answer → Machine → Reply → Machine → Type 0
-OrMemory a m reply n = ((reply ≡ a.reply) × (n ≡ a.after)) ⊎ ((reply ≡ Memory) × (n ≡ m))
+OrMemory a m reply n = Exactly a reply n ⊎ ((reply ≡ Memory) × (n ≡ m))
 
 -- this event may be answered so in m, and then the machine is n
 abbrev pub Answers : Event → Machine → Reply → Machine → Type 0
 Answers (Submit session ticket change) m reply n = OrMemory (submit m (record { session = session; ticket = ticket; change = change })) m reply n
 Answers (Look session at) m reply n = OrMemory (look m session at) m reply n
-Answers Take m reply n = OrMemory (take_one m) m reply n
+Answers Take m reply n = Exactly (take_one m) reply n
 Answers Commit m reply n = CommitAnswers m reply n
 Answers Post m reply n = OrMemory (post m) m reply n
 Answers (Rebuild words) m reply n = RebuildAnswers words.items m reply n

@@ -44,7 +44,7 @@ hop_reply (Ok packets.Delivered) = Delivered
 hop_reply (Ok (packets.Forward port next packet)) = Forwarded port next
 hop_reply (Err e) = NotRouted e
 
--- the way after it: a packet that is delivered isn't there any more, and one that is refused stays where it is
+-- the way after it: delivery takes the packet away, and a refusal leaves it where it was
 abbrev pub hop_way : Trip → Result Move Refused → Trip
 hop_way way (Ok packets.Delivered) = record way { there = false }
 hop_way way (Ok (packets.Forward port next packet)) = record way { visited = way.visited ++ next ∷ []; at = next; packet = packet }

@@ -4,3 +4,4 @@ pub mod Ways
 pub mod Lists
 pub mod Steps
 pub mod Going
+pub mod Desks

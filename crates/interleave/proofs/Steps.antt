@@ -17,11 +17,15 @@ use Rattle.event_runs.specs.declared.reply.Reply.{Reply}
 use Rattle.event_runs.specs.declared.reply.Reply.TheVariants.{Submitted, NotSubmitted, Looked, Taken, Idle, NoActor}
 use Rattle.event_runs.specs.Trips.{Trip, launch_by}
 use Rattle.event_runs.specs.Machines.{Machine, held, waiting, board_at, let_in, with_session}
-use Rattle.event_runs.specs.Answers.{Answer, answer, OrMemory, submit, submit_by, unless_refused, queue_by, look, look_by, further, take_one, take_by, launch, launch_as, looked, sees, hop, hop_by, hop_as}
+use Rattle.event_runs.specs.Answers.{Answer, answer, Exactly, OrMemory, submit, submit_by, unless_refused, queue_by, look, look_by, further, take_one, take_by, launch, launch_as, looked, sees, hop, hop_by, hop_as}
 
 -- it is answered as it should be
+pub exactly : (a b : Answer) (reply : Reply) (n : Machine) → a ≡ b → reply ≡ b.reply → n ≡ b.after → Exactly a reply n
+exactly a b reply n same r after = (r ∙ sym (ap (λ (x : Answer). x.reply) same), after ∙ sym (ap (λ (x : Answer). x.after) same))
+
+-- .. where it may also have no memory
 pub answered : (a b : Answer) (m : Machine) (reply : Reply) (n : Machine) → a ≡ b → reply ≡ b.reply → n ≡ b.after → OrMemory a m reply n
-answered a b m reply n same r after = inl (r ∙ sym (ap (λ (x : Answer). x.reply) same), after ∙ sym (ap (λ (x : Answer). x.after) same))
+answered a b m reply n same r after = inl (exactly a b reply n same r after)
 
 -- ---- the committer takes
 

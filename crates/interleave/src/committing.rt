@@ -8,7 +8,7 @@ ghost use Rattle.built_schemes.specs.Schemes.{IsSchemeOf};
 ghost use Rattle.generations.specs.Notices.{notice_of};
 ghost use Rattle.histories.specs.Happenings.{Happens, took};
 ghost use Rattle.event_runs.specs.Machines.{with_posted};
-ghost use Rattle.event_runs.specs.Answers.{OrMemory, CommitAnswers, RebuildAnswers, newest_number, post, take_one};
+ghost use Rattle.event_runs.specs.Answers.{Exactly, OrMemory, CommitAnswers, RebuildAnswers, newest_number, post, take_one};
 ghost use Rattle.event_runs.specs.Moments.{number_of};
 ghost use Rattle.listed_runs.specs.Listed.{IsListed};
 ghost use Rattle.packet_ways.specs.Ways.{AreOnWay};
@@ -29,13 +29,14 @@ use std::sync::Arc;
 
 impl<D: Disk> World<D> {
     ghost use Rattle.interleave.specs.WorldWords.{desk_of, lists_of, machine_of, world_store, world_view};
+    ghost use Rattle.interleave.specs.Desks.{DeskCommits};
 
-    /// The committer moves a request from the queue to the desk.
+    /// The committer moves a request from the queue to the desk. It takes no memory.
     pub(crate) fn take(&mut self) -> Reply
         ensures store { world_store self.new ≡ world_store self.old }
         ensures lists { (more : List Asked) × (lists_of self.new ≡ took (lists_of self.old) more) }
         ensures number { number_of result ≡ 0 }
-        ensures answers { OrMemory (take_one (machine_of self.old)) (machine_of self.old) result (machine_of self.new) }
+        ensures answers { Exactly (take_one (machine_of self.old)) result (machine_of self.new) }
     {
         if self.stored.taken >= self.stored.asked.len()
             || self.desk.due().is_some()
@@ -55,6 +56,7 @@ impl<D: Disk> World<D> {
     pub(crate) fn commit(&mut self, alloc: Global) -> Reply
         ensures ran { IsSameDevice (world_view self.old) (world_view self.new) }
         ensures happens { IsTrue (world_view self.old).keeps_model → Happens (world_view self.old) (world_view self.new) (lists_of self.old) (lists_of self.new) (number_of result) }
+        ensures commits { DeskCommits (desk_of self.old) result (desk_of self.new) }
         ensures answers { CommitAnswers (machine_of self.old) result (machine_of self.new) }
     {
         if self.desk.held() == 0 {

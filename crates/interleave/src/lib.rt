@@ -15,7 +15,8 @@
 //!
 //! | Claim | Clauses | What it says |
 //! |---|---|---|
-//! | replies | `answers` | each reply is the answer of the call that its event stands for (`Run` of the crate `event_runs`): `Idle` only where there is nothing to do, `Memory` only with all as before, but for what was due at a rebuild and a roll at a commit |
+//! | replies | `answers` | to each event the reply is what its call may answer there (`Run` of the crate `event_runs`): `Idle` only where there is nothing to do, `Memory` only with all as before, but for what was due at a rebuild and a roll at a commit |
+//! | disk | `desks` | each commit is answered by the desk, from how its disk was before to how it is after (`WorldRun`, specs/Desks.antt): `Device` only where the disk has failed in that very commit, `Down` only where it had failed before, `Worn` only where the group is past a limit, Ok only where the disk hasn't failed; at every other event the store stays, with its disk |
 //! | crashes | `crashes` | there is one moment after each event, a clock and the count that commits have answered for, the clock the same but at a commit; and every crash since a moment leaves a prefix state of the history that holds all that was answered for by then (`GoneOn`, specs/Crashes.antt; `IsRun` of the crate `histories`) |
 //! | lists | `lists`, `asked` | the postings are lawful, the queue keeps its history, the marks posted and due are those of settling, every posted generation is durable (`IsListed` of the crate `listed_runs`) |
 //! | ways | `ways`, `routed_well` | each packet goes over the one trip that its own generation's scheme has in the graph of that generation; a hop is refused only because that generation has left the shelf, a launch for its named reason (crate `packet_ways`) |

@@ -25,11 +25,13 @@ use packet_ways::ways_law;
 use std::alloc::{AllocError, Global};
 
 impl<D: Disk> World<D> {
-    ghost use Rattle.interleave.specs.WorldWords.{lists_of, machine_of, world_store, world_view};
+    ghost use Rattle.interleave.specs.WorldWords.{desk_of, lists_of, machine_of, world_store, world_view};
+    ghost use Rattle.interleave.specs.Desks.{DeskCommits, WorldRun};
 
     // One event.
     fn step(&mut self, alloc: Global, event: &Event) -> Reply
         ensures still { event.now ≢ Event.Commit → world_store self.new ≡ world_store self.old }
+        ensures commits { event.now ≡ Event.Commit → DeskCommits (desk_of self.old) result (desk_of self.new) }
         ensures ran { IsSameDevice (world_view self.old) (world_view self.new) }
         ensures happens { IsTrue (world_view self.old).keeps_model → Happens (world_view self.old) (world_view self.new) (lists_of self.old) (lists_of self.new) (number_of result) }
         ensures answers { Answers event.now (machine_of self.old) result (machine_of self.new) }
@@ -56,6 +58,7 @@ impl<D: Disk> World<D> {
         requires none { replies.old.items ≡ [] }
         ensures ran { IsSameDevice (world_view self.old) (world_view self.new) }
         ensures answers { Run (machine_of self.old) events.now replies.new.items (machine_of self.new) }
+        ensures desks { WorldRun self.old events.now replies.new.items self.new }
         ensures crashes { IsTrue (world_view self.old).keeps_model → (first : State) (before : List (ℕ × ℕ)) → IsRun first (world_view self.old) (lists_of self.old) before
             → GoneOn first (moment_of (world_view self.old) (lists_of self.old)) (world_view self.new) (lists_of self.new) events.now replies.new.items before }
         ensures lists { (first : State) → IsListed first (machine_of self.old) → IsListed first (machine_of self.new) }
@@ -77,10 +80,11 @@ impl<D: Disk> World<D> {
         }
     }
 
-    /// Runs the events: one reply for each, in their order. Room for all replies is made first; where there is none, nothing happened.
+    /// Runs the events: one reply for each, in their order. Where there isn't room for so many replies, nothing happens.
     pub fn run(&mut self, alloc: Global, events: &[Event]) -> Result<Vec<Reply>, AllocError>
         ensures ran { IsSameDevice (world_view self.old) (world_view self.new) }
         ensures answers { IfOk result (λ replies. Run (machine_of self.old) events.now replies.items (machine_of self.new)) }
+        ensures desks { IfOk result (λ replies. WorldRun self.old events.now replies.items self.new) }
         ensures crashes { IsTrue (world_view self.old).keeps_model → (first : State) (before : List (ℕ × ℕ)) → IsRun first (world_view self.old) (lists_of self.old) before
             → IfOk result (λ replies. GoneOn first (moment_of (world_view self.old) (lists_of self.old)) (world_view self.new) (lists_of self.new) events.now replies.items before) }
         ensures lists { (first : State) → IsListed first (machine_of self.old) → OnOk result (IsListed first (machine_of self.new)) }

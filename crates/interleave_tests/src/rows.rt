@@ -1,5 +1,5 @@
 // What befalls a committer and its editors, as events with the answers worked out by hand.
-use crate::worlds::{answer, fresh, rebuild_at_two, submit};
+use crate::worlds::{answer, counted, rebuild_at_two, submit};
 use disk_trait::Plan;
 use event_runs::{Event, Reply};
 use forwarders::Refused;
@@ -11,9 +11,11 @@ use std::alloc::{AllocError, Global};
 use std::process::Abort;
 use std::test::Fail;
 
-/// Events with their answers, and what is there in the end: the count, how many postings, and the last ticket of session 0.
+/// Events with their answers over a device that has a count at first, and what is there in the end: the count, how many postings, and
+/// the last ticket of session 0.
 #[derive(Drop)]
 struct Row {
+    first: u64,
     sessions: usize,
     capacity: usize,
     plan: Plan,
@@ -26,6 +28,7 @@ struct Row {
 
 fn empty_row(alloc: Global, sessions: usize, plan: Plan) -> Row {
     Row {
+        first: 0,
         sessions,
         capacity: 1,
         plan,
@@ -241,6 +244,40 @@ fn idle(rt: &impl Abort, alloc: Global) -> Result<Row, AllocError> {
     Ok(row)
 }
 
+// The last change that the count has room for, one that is refused and needs none, and one more, which is committed in vain.
+fn worn_out(rt: &impl Abort, alloc: Global) -> Result<Row, AllocError> {
+    let mut row = empty_row(alloc, 1, Plan::None);
+    for (ticket, op, accepted) in [(1u64, Op::Add(0, 1, 1), 1usize), (2, Op::Cut(2, 3), 0)] {
+        row.asks(rt, 0, ticket, &[op])?;
+        row.takes(0, ticket)?;
+        row.add(Event::Commit, Reply::Committed { accepted })?;
+        row.add(Event::Post, Reply::Posted)?;
+        row.looks(0, 9, last_outcome(ticket))?;
+    }
+    row.asks(rt, 0, 3, &[Op::Add(1, 2, 1)])?;
+    row.takes(0, 3)?;
+    for _ in 0..2u16 {
+        row.add(Event::Commit, Reply::NotCommitted(DeskRefused::Worn))?;
+    }
+    row.add(Event::Post, Reply::Idle)?;
+    row.looks(0, 9, Outcome::Waiting)?;
+    row.first = WORN_LIMIT - 1;
+    row.count = WORN_LIMIT;
+    row.postings = 2;
+    row.last = 1;
+    Ok(row)
+}
+
+// What became of the first of these, and of the second.
+fn last_outcome(ticket: u64) -> Outcome {
+    let (op, code, count) = (0, Code::NoEdge, WORN_LIMIT);
+    if ticket == 1 {
+        Outcome::Accepted { ticket, count }
+    } else {
+        Outcome::Refused { ticket, op, code }
+    }
+}
+
 fn rows(rt: &impl Abort, alloc: Global) -> Result<Vec<Row>, AllocError> {
     let mut rows = Vec::new(alloc);
     rows.push(refused_whole(rt, alloc)?)?;
@@ -251,25 +288,43 @@ fn rows(rt: &impl Abort, alloc: Global) -> Result<Vec<Row>, AllocError> {
     Ok(rows)
 }
 
+// Runs the events of a row, one by one.
+fn answers(rt: &impl Abort, alloc: Global, number: usize, row: &Row) {
+    assert!(rt; 1 <= row.sessions && row.sessions <= 64 && 1 <= row.capacity && row.capacity <= 64);
+    let mut world = counted(
+        rt,
+        alloc,
+        5,
+        row.first,
+        row.sessions,
+        row.capacity,
+        row.plan,
+    );
+    for (place, (event, want)) in row.events.chunks(1).zip(row.replies.iter()).enumerate() {
+        let reply = answer(rt, alloc, &mut world, event);
+        assert!(rt; reply == *want, "row {number}, event {place}");
+    }
+    let (stored, desk) = world.into_parts();
+    let store = desk.store();
+    assert!(rt;
+        store.count() == row.count && store.resume(0) == row.last,
+        "row {number}"
+    );
+    assert!(rt; stored.postings.len() == row.postings, "row {number}");
+}
+
 #[test]
 fn answers_by_hand(rt: HostRuntime) -> Result<(), Fail> {
     let alloc = rt.alloc();
     for (number, row) in rows(&rt, alloc)?.iter().enumerate() {
-        assert!(rt;
-            1 <= row.sessions && row.sessions <= 64 && 1 <= row.capacity && row.capacity <= 64
-        );
-        let mut world = fresh(&rt, alloc, 5, row.sessions, row.capacity, row.plan);
-        for (place, (event, want)) in row.events.chunks(1).zip(row.replies.iter()).enumerate() {
-            let reply = answer(&rt, alloc, &mut world, event);
-            assert!(rt; reply == *want, "row {number}, event {place}");
-        }
-        let (stored, desk) = world.into_parts();
-        let store = desk.store();
-        assert!(rt;
-            store.count() == row.count && store.resume(0) == row.last,
-            "row {number}"
-        );
-        assert!(rt; stored.postings.len() == row.postings, "row {number}");
+        answers(&rt, alloc, number, row);
     }
+    Ok(())
+}
+
+#[test]
+fn wears_out_at_the_last_count(rt: HostRuntime) -> Result<(), Fail> {
+    let row = worn_out(&rt, rt.alloc())?;
+    answers(&rt, rt.alloc(), 0, &row);
     Ok(())
 }

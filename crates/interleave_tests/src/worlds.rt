@@ -3,7 +3,7 @@ ghost use Rattle.std.specs.Prelude.{◌≡◌, ◌≤◌, [], None};
 ghost use Rattle.group_commit.specs.DeskWords.{held_of, due_of};
 
 use checkpoint::{DEVICE_LEN, Store, format};
-use disk_trait::{MemDisk, Plan};
+use disk_trait::{Disk, MemDisk, Plan};
 use event_runs::{Event, Reply};
 use graph_edits::{Change, Op};
 use group_commit::Desk;
@@ -11,26 +11,59 @@ use interleave::World;
 use std::alloc::{AllocError, Global};
 use std::process::Abort;
 
+// Where the checkpoint of a fresh device has its count.
+const COUNT: usize = 4105;
+
+// A fresh device for so many nodes, but for its count.
+fn device(alloc: Global, nodes: u16, count: u64) -> Result<MemDisk, AllocError> {
+    let mut disk = MemDisk::new(alloc, DEVICE_LEN)?;
+    let Ok(()) = format(&mut disk, nodes) else {
+        return Err(AllocError);
+    };
+    if disk.len() < COUNT + 8 || disk.write_at(COUNT, &count.to_be_bytes()).is_err() {
+        return Err(AllocError);
+    }
+    Ok(disk)
+}
+
 fn made(
     alloc: Global,
     nodes: u16,
+    count: u64,
     sessions: usize,
     capacity: usize,
 ) -> Result<World<MemDisk>, AllocError>
     requires sessions { (1 ≤ sessions) × (sessions ≤ 64) }
     requires capacity { (1 ≤ capacity) × (capacity ≤ 64) }
 {
-    let mut disk = MemDisk::new(alloc, DEVICE_LEN)?;
-    let Ok(()) = format(&mut disk, nodes) else {
-        return Err(AllocError);
-    };
-    let Ok(store) = Store::open(alloc, disk) else {
+    let Ok(store) = Store::open(alloc, device(alloc, nodes, count)?) else {
         return Err(AllocError);
     };
     World::new(alloc, Desk::new(store), sessions, capacity)
 }
 
-/// A world over a fresh device for so many nodes; made once more where memory was refused.
+/// A world over a fresh device for so many nodes, but for its count; made once more where memory was refused.
+pub(crate) fn counted(
+    rt: &impl Abort,
+    alloc: Global,
+    nodes: u16,
+    count: u64,
+    sessions: usize,
+    capacity: usize,
+    plan: Plan,
+) -> World<MemDisk>
+    requires sessions { (1 ≤ sessions) × (sessions ≤ 64) }
+    requires capacity { (1 ≤ capacity) × (capacity ≤ 64) }
+{
+    let mut world = match made(alloc, nodes, count, sessions, capacity) {
+        Ok(world) => world,
+        Err(_) => made(alloc, nodes, count, sessions, capacity).expect(rt, "a world"),
+    };
+    world.arm(plan);
+    world
+}
+
+/// A world over a fresh device for so many nodes.
 pub(crate) fn fresh(
     rt: &impl Abort,
     alloc: Global,
@@ -42,12 +75,7 @@ pub(crate) fn fresh(
     requires sessions { (1 ≤ sessions) × (sessions ≤ 64) }
     requires capacity { (1 ≤ capacity) × (capacity ≤ 64) }
 {
-    let mut world = match made(alloc, nodes, sessions, capacity) {
-        Ok(world) => world,
-        Err(_) => made(alloc, nodes, sessions, capacity).expect(rt, "a world"),
-    };
-    world.arm(plan);
-    world
+    counted(rt, alloc, nodes, 0, sessions, capacity, plan)
 }
 
 /// What one event is answered. It is run once more where memory was refused.

@@ -3,9 +3,9 @@
 //! # What it is
 //!
 //! A life of a device is what happened between an opening and the next one. It leaves some of its accepted changes on the device,
-//! and the next life begins with the state after these. The joined list of some lives is, life after life, the changes that
-//! the next life opened to, and of the last life those that a commit answered Ok for. It has no code: it says what that list is
-//! (specs/Lives.antt), and proves what holds of it (specs/Laws.antt).
+//! and the next life begins with the state after these. Joined, lives that follow one another give one list: of each life those
+//! of its changes with which the next one began, and of the last one those for which a commit answered Ok. There is no code here:
+//! the crate says what that list is (specs/Lives.antt), and proves what holds of it (specs/Laws.antt).
 //!
 //! # The contract
 //!

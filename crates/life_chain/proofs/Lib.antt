@@ -1,3 +1,4 @@
 pub mod RoomLemmas
+pub mod GroupLemmas
 pub mod LifeLemmas
 pub mod ChainLemmas

@@ -1,24 +1,27 @@
 -- What a report of a life says, taken apart and put together.
-use Rattle.std.proofs.Common.{◌≡◌, ℕ, List, sym, ap, ◌∙◌, subst, ⊎_elim, false, Option, Some, None}
+use Rattle.std.proofs.Common.{◌≡◌, ◌++◌, ℕ, List, sym, ap, ◌∙◌, subst, ⊎_elim, false, Option, Some, None}
 use Rattle.std.proofs.lemmas.List.{take-take}
 use Rattle.graph_edits.specs.Edges.{Network}
 use Rattle.requests.specs.declared.request.Request.{Request}
 use Rattle.recovery.specs.State.{State, state_with}
 use Rattle.group_commit.specs.Settling.{settle}
-use Rattle.histories.specs.History.{state_at}
+use Rattle.histories.specs.History.{state_at, Whole}
 use Rattle.event_runs.specs.declared.reply.Reply.{Reply}
 use Rattle.event_runs.specs.declared.reply.Reply.TheVariants.{Rebuilt}
 use Rattle.event_runs.specs.Machines.{Machine, begun}
 use Rattle.event_runs.specs.Answers.{RebuildAnswers}
 use Rattle.event_runs.specs.Moments.{AreMoments}
 use Rattle.listed_runs.specs.Listed.{IsListed}
+use Rattle.listed_runs.specs.Queues.{all_let_in}
 use Rattle.packet_ways.specs.Courses.{AreRoutedWell}
 use Rattle.packet_ways.specs.Replies.{RunRoutes}
 use Rattle.interleave.specs.Crashes.{HoldsAcknowledged}
 use Rattle.life_chain.specs.declared.life.Life.{Life}
 use Rattle.life_chain.specs.declared.report.LifeReport.{LifeReport}
+use Rattle.life_chain.specs.Groups.{groups_given}
 use Rattle.life_chain.specs.Reports.{opened_of, taken_of, ended_with}
 use Rattle.life_chain.specs.Lived.{IsLived, IsServed}
+use Rattle.life_chain.proofs.GroupLemmas.{nothing_yet, life_fits}
 
 -- the store's state at the end is that after the settled requests
 pub settled_is : (life : Life) (report : LifeReport) (content : List ℕ) → (lived : IsLived (opened_of report) life report content) → lived.state ≡ state_at (opened_of report) (taken_of report) report.stored.done
@@ -41,21 +44,31 @@ served first capacity n words reply built is = tt
 -- a life that ended as the machine m, of which the report has all but what was due and the store
 pub lived_is : (first : State) (life : Life) (report : LifeReport) (content : List ℕ) (built m : Machine) (began crashed : ℕ) (moments : List (ℕ × ℕ))
     → m ≡ ended_with report m.due m.state m.down → RebuildAnswers life.words.items (begun life.capacity life.sessions first false) report.rebuilt built
-    → RunRoutes first built life.events.items report.replies.items m → IsListed first m → AreRoutedWell first m
+    → m.asked ≡ built.asked ++ all_let_in life.events.items report.replies.items → RunRoutes first built life.events.items report.replies.items m → IsListed first m → AreRoutedWell first m
     → AreMoments (began, first.count) life.events.items report.replies.items moments (crashed, m.state.count) → HoldsAcknowledged first m content → IsLived first life report content
-lived_is first life report content built m began crashed moments e rebuilt answers listed well are left = record {
-  built = built;
-  rebuilt = rebuilt;
-  served = served first life.capacity life.sessions life.words.items report.rebuilt built rebuilt;
-  due = m.due;
-  state = m.state;
-  down = m.down;
-  answers = subst (λ (n : Machine). RunRoutes first built life.events.items report.replies.items n) e answers;
-  listed = subst (λ (n : Machine). IsListed first n) e listed;
-  routed_well = subst (λ (n : Machine). AreRoutedWell first n) e well;
-  began = began;
-  moments = moments;
-  crashed = crashed;
-  are = are;
-  left = subst (λ (n : Machine). HoldsAcknowledged first n content) e left;
-}
+lived_is first life report content built m began crashed moments e rebuilt asked_is answers listed well are left =
+    let fits = life_fits first life.capacity life.sessions life.words.items report.rebuilt built life.events.items report.replies.items m rebuilt answers in
+    let whole : Whole left.prefix.at (groups_given life.events.items report.replies.items) = fits.whole left.prefix.at left.prefix.whole left.prefix.answered in
+    let ended : (here : HoldsAcknowledged first (ended_with report m.due m.state m.down) content) × Whole here.prefix.at (groups_given life.events.items report.replies.items) =
+    subst (λ (n : Machine). (here : HoldsAcknowledged first n content) × Whole here.prefix.at (groups_given life.events.items report.replies.items)) e (left, whole) in
+    record {
+      built = built;
+      rebuilt = rebuilt;
+      served = served first life.capacity life.sessions life.words.items report.rebuilt built rebuilt;
+      due = m.due;
+      state = m.state;
+      down = m.down;
+      answers = subst (λ (n : Machine). RunRoutes first built life.events.items report.replies.items n) e answers;
+      asked =
+          sym (ap (λ (n : Machine). n.asked) e) ∙ (asked_is ∙ ap (λ (l : List Request). l ++ all_let_in life.events.items report.replies.items) (nothing_yet first life.capacity life.sessions life.words.items report.rebuilt built rebuilt).0);
+      taken = sym (ap (λ (n : Machine). n.taken) e) ∙ fits.taken;
+      done = sym (ap (λ (n : Machine). n.done) e) ∙ fits.done;
+      listed = subst (λ (n : Machine). IsListed first n) e listed;
+      routed_well = subst (λ (n : Machine). AreRoutedWell first n) e well;
+      began = began;
+      moments = moments;
+      crashed = crashed;
+      are = are;
+      left = ended.0;
+      whole = ended.1;
+    }

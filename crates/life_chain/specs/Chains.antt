@@ -6,7 +6,9 @@ use Rattle.recovery_parts.specs.declared.refusals.OpenRefused.{OpenRefused}
 use Rattle.histories.specs.History.{state_at, Whole}
 use Rattle.listed_runs.specs.Acknowledged.{AreAcknowledged}
 use Rattle.joined_lists.specs.Laws.{IsExactlyOnce}
+use Rattle.life_chain.specs.declared.life.Life.{Life}
 use Rattle.life_chain.specs.declared.report.LifeReport.{LifeReport}
+use Rattle.life_chain.specs.Groups.{groups_given}
 use Rattle.life_chain.specs.Reports.{opened_of, taken_of, posted_of, life_of}
 
 -- the first life opened to what the first disk stood for
@@ -16,19 +18,22 @@ IsFirst (life ∷ rest) content = StandsFor (opened_of life) content
 
 -- The next life opened to a prefix state of this one: the state after some of the requests that it took, no group in part, with all
 -- that its commits answered Ok for, and all that it posted as accepted.
-pub record IsNextOf (life next : LifeReport) : Type 0 where
+pub record IsNextOf (life : Life) (report next : LifeReport) : Type 0 where
   pub at : ℕ
-  pub within : at ≤ length (taken_of life)
-  pub state : opened_of next ≡ state_at (opened_of life) (taken_of life) at
-  pub whole : Whole at life.stored.groups.items
-  pub holds : (state_at (opened_of life) (taken_of life) life.stored.done).count ≤ next.count
-  pub acknowledged : AreAcknowledged (opened_of life) (taken_of life) at (posted_of life)
+  pub within : at ≤ length (taken_of report)
+  pub state : opened_of next ≡ state_at (opened_of report) (taken_of report) at
+  pub whole : Whole at report.stored.groups.items
+  -- .. nor any that events and replies tell of
+  pub given_whole : Whole at (groups_given life.events.items report.replies.items)
+  pub holds : (state_at (opened_of report) (taken_of report) report.stored.done).count ≤ next.count
+  pub acknowledged : AreAcknowledged (opened_of report) (taken_of report) at (posted_of report)
 
--- each life is the next one of the life before
-abbrev pub AreChained : List LifeReport → Type 0
-AreChained [] = Unit {0}
-AreChained (life ∷ []) = Unit {0}
-AreChained (life ∷ (next ∷ rest)) = IsNextOf life next × AreChained (next ∷ rest)
+-- each of these lives is the next one of the life before
+abbrev pub AreChained : List Life → List LifeReport → Type 0
+AreChained lives [] = Unit {0}
+AreChained lives (report ∷ []) = Unit {0}
+AreChained [] (report ∷ (next ∷ rest)) = ⊥
+AreChained (life ∷ lives) (report ∷ (next ∷ rest)) = IsNextOf life report next × AreChained lives (next ∷ rest)
 
 -- for these lives, and each beginning of them, each ticket is in at most once, and exactly once where it is acknowledged
 abbrev pub AreExactlyOnce : List LifeReport → Type 0

@@ -1,6 +1,7 @@
 -- What a report of a life says.
 use Rattle.std.specs.Prelude.{◌≡◌, ℕ, List, [], ◌∷◌, Option, Some, None, Bool, false}
 use Rattle.recovery.specs.State.{State}
+use Rattle.recovery.specs.Standing.{StandsFor}
 use Rattle.recovery_parts.specs.declared.refusals.OpenRefused.{OpenRefused}
 use Rattle.node_table.specs.declared.parts.Parts.{Parts}
 use Rattle.generations.specs.declared.posting.Notice.{Notice}
@@ -11,12 +12,15 @@ use Rattle.event_runs.specs.declared.reply.Reply.TheVariants.{Rebuilt}
 use Rattle.event_runs.specs.Machines.{Machine, begun}
 use Rattle.event_runs.specs.Answers.{RebuildAnswers}
 use Rattle.event_runs.specs.Moments.{AreMoments}
+use Rattle.histories.specs.History.{Whole}
 use Rattle.listed_runs.specs.Listed.{IsListed}
+use Rattle.listed_runs.specs.Queues.{all_let_in}
 use Rattle.packet_ways.specs.Courses.{AreRoutedWell}
 use Rattle.packet_ways.specs.Replies.{RunRoutes}
 use Rattle.interleave.specs.Crashes.{HoldsAcknowledged}
 use Rattle.life_chain.specs.declared.life.Life.{Life}
 use Rattle.life_chain.specs.declared.report.LifeReport.{LifeReport}
+use Rattle.life_chain.specs.Groups.{nothing_given, given_by, groups_given}
 use Rattle.life_chain.specs.Reports.{opened_of, ended_with}
 
 -- a rebuild that is answered with a number has it from the count, and what is posted then is a scheme of the network by these words
@@ -37,6 +41,10 @@ pub record IsLived (first : State) (life : Life) (report : LifeReport) (content 
   pub down : Bool
   -- each reply is the answer of its event, and those to launches and hops say where packets went
   pub answers : RunRoutes first built life.events.items report.replies.items (ended_with report due state down)
+  -- the requests, and how many of them are taken and settled, are those that events and replies tell
+  pub asked : report.stored.asked.items ≡ all_let_in life.events.items report.replies.items
+  pub taken : report.stored.taken ≡ (given_by nothing_given life.events.items report.replies.items).taken
+  pub done : report.stored.done ≡ (given_by nothing_given life.events.items report.replies.items).done
   -- the lists are kept, and each packet goes over the one trip of its generation
   pub listed : IsListed first (ended_with report due state down)
   pub routed_well : AreRoutedWell first (ended_with report due state down)
@@ -47,10 +55,14 @@ pub record IsLived (first : State) (life : Life) (report : LifeReport) (content 
   pub are : AreMoments (began, first.count) life.events.items report.replies.items moments (crashed, state.count)
   -- the content stands for a prefix state with all that commits answered Ok for, and all that was posted as accepted
   pub left : HoldsAcknowledged first (ended_with report due state down) content
+  -- .. and none in part of the groups that events and replies tell of
+  pub whole : Whole left.prefix.at (groups_given life.events.items report.replies.items)
 
--- Each report is that of its life, up to all lives, or to the first that couldn't open.
-abbrev pub AreLived : List Life → List LifeReport → Option OpenRefused → Type 0
-AreLived [] [] None = Unit {0}
-AreLived (life ∷ lives) [] (Some refused) = Unit {0}
-AreLived (life ∷ lives) (report ∷ reports) refused = ((content : List ℕ) × IsLived (opened_of report) life report content) × AreLived lives reports refused
-AreLived lives reports refused = ⊥
+-- On a device with this content each life opens to what the content stands for that is there then, at first this one and later what
+-- the crash before left; and each report is that of its life, up to all lives, or to the first that couldn't open.
+abbrev pub AreLived : List ℕ → List Life → List LifeReport → Option OpenRefused → Type 0
+AreLived content [] [] None = Unit {0}
+AreLived content (life ∷ lives) [] (Some refused) = Unit {0}
+AreLived content (life ∷ lives) (report ∷ reports) refused =
+    StandsFor (opened_of report) content × ((left : List ℕ) × (IsLived (opened_of report) life report left × AreLived left lives reports refused))
+AreLived content lives reports refused = ⊥

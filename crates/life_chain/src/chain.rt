@@ -15,15 +15,18 @@ use joined_lists::exactly_once_laws;
 use listed_runs::tickets_law;
 use std::alloc::{AllocError, Global};
 
-/// Each life opens the device, builds its generation by its words, has its plan armed, runs its events and crashes by its word. Room
-/// for all replies is made first; where there is none, nothing was done. A life that can't open ends the list.
+/// Lives one after another: the device is opened, a generation is built by the life's words, its plan is armed; then come the events,
+/// and a crash as its word says. Before the first life there has to be room for every reply, else nothing is done. Behind a life that
+/// couldn't open there is none.
 ///
 /// On a disk that keeps the model:
 ///
-/// - each report is that of its life: what it opened to, what the rebuild and the events were answered, what its world stored
-///   (`lived`);
-/// - the first life opened to what the disk stood for (`first`), and each next one to the state after some of the requests that the one
-///   before took, no group in part, with all that its commits answered Ok for and all that it told an editor was accepted (`chained`);
+/// - each report is that of its life: what it opened to, what the rebuild and the events were answered, what its world stored; the
+///   first life opened to what the disk stood for, and each next one to what the very content stood for that the crash of the one
+///   before had left (`lived`);
+/// - so the first life opened to what the disk stood for (`first`), and each next one to the state after some of the requests that the
+///   one before took, none of the groups in part that its events and replies say it gave to commits, with all that its commits answered Ok for and
+///   all that it told an editor was accepted (`chained`);
 /// - over all these lives each session's ticket is in at most once, and exactly once where an editor was told (`exactly_once`);
 /// - a life that couldn't open had no memory or a device that failed, where the disk stood for anything at first (`refused`).
 pub fn lives<D: CrashDisk + Drop>(
@@ -32,8 +35,8 @@ pub fn lives<D: CrashDisk + Drop>(
     lives: &[Life],
 ) -> Result<LivesReport, AllocError>
     ensures first { IsTrue (D.view disk).keeps_model → IfOk result (λ report. IsFirst report.lives.items (D.view disk).content) }
-    ensures lived { IsTrue (D.view disk).keeps_model → IfOk result (λ report. AreLived lives.now report.lives.items report.refused) }
-    ensures chained { IsTrue (D.view disk).keeps_model → IfOk result (λ report. AreChained report.lives.items) }
+    ensures lived { IsTrue (D.view disk).keeps_model → IfOk result (λ report. AreLived (D.view disk).content lives.now report.lives.items report.refused) }
+    ensures chained { IsTrue (D.view disk).keeps_model → IfOk result (λ report. AreChained lives.now report.lives.items) }
     ensures exactly_once { IsTrue (D.view disk).keeps_model → IfOk result (λ report. AreExactlyOnce report.lives.items) }
     ensures refused { IsTrue (D.view disk).keeps_model → (s : State) → StandsFor s (D.view disk).content → IfOk result (λ report. IsLastRefused report.refused) }
 {

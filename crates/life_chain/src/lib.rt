@@ -13,8 +13,8 @@
 //! | Clause | What it says |
 //! |---|---|
 //! | `first` | the first life opens to what the disk stands for |
-//! | `lived` | each report is that of its life (`IsLived`, specs/Lived.antt): what the rebuild and each event were answered, each by the call that it stands for; the lists are kept; each packet goes over the one trip of its own generation, at most three times as long as any other; and what the crash left stands for a prefix state with all that commits answered Ok for, and all that is acknowledged. There is one for each life, up to the first that couldn't open |
-//! | `chained` | each next life opens to such a prefix state of the one before (`IsNextOf`, specs/Chains.antt): whole changes and whole groups |
+//! | `lived` | each report is that of its life (`IsLived`, specs/Lived.antt): what the rebuild and each event were answered, each by the call that it stands for; what was asked, taken and settled is what events and replies tell; the lists are kept; each packet goes over the one trip of its own generation, at most three times as long as any other; and what the crash left stands for a prefix state with all that commits answered Ok for, all that is acknowledged, and none in part of the groups that events and replies say were given to commits (specs/Groups.antt). The content that a crash left is the one that the next life opened. There is one for each life, up to the first that couldn't open |
+//! | `chained` | each next life opens to such a prefix state of the one before (`IsNextOf`, specs/Chains.antt): whole changes and whole groups, those that events and replies tell of |
 //! | `exactly_once` | over these lives, and each beginning of them, each session's ticket is in at most once, only above the first disk's last one, and exactly once where it is acknowledged; each life opens to the last tickets of what is in (`IsExactlyOnce` of `joined_lists`) |
 //! | `refused` | where the disk stands for anything, an opening is refused by `Device` or `Memory` alone |
 //!

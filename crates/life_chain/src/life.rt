@@ -14,7 +14,7 @@ pub struct Life {
     /// The landmark words of its rebuild.
     pub words: Vec<u64>,
     pub events: Vec<Event>,
-    /// Which calls of the device fail. They are counted from 1, from the first event on.
+    /// Which calls of the device fail. Number 1 is the first that an event makes.
     pub plan: Plan,
     /// What the crash leaves, of the images that it may leave.
     pub word: u64,

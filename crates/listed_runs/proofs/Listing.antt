@@ -1,5 +1,5 @@
 -- The machine's lists go on by each event.
-use Rattle.std.proofs.Common.{◌≡◌, ◌≢◌, ⊎_elim, ◌≤◌, ◌+◌, ◌||◌, ℕ, Bool, true, false, cond, nat_le, is_some, List, [], ◌∷◌, ◌++◌, length, take, drop, Option, Some, None, option_to_list, slice_get, Result, Ok, Err, refl, sym, ap, ◌∙◌, subst, arith, append-nil}
+use Rattle.std.proofs.Common.{◌≡◌, ◌≢◌, ⊎_elim, inl, ◌≤◌, ◌+◌, ◌||◌, ℕ, Bool, true, false, cond, nat_le, is_some, List, [], ◌∷◌, ◌++◌, length, take, drop, Option, Some, None, option_to_list, slice_get, Result, Ok, Err, refl, sym, ap, ◌∙◌, subst, arith, append-nil}
 use Rattle.std.proofs.lemmas.List.{take-append-le, length-take-le, drop_all}
 use Rattle.std.proofs.lemmas.Option.{slice_get_within}
 use Rattle.requests.specs.Tickets.{sessions, last_of}
@@ -180,7 +180,7 @@ commit_on first m (Committed accepted) n h is = same_lists first (committed m) n
 commit_on first m (NotCommitted Device) n h is = same_lists first (lost m) n h.2 (lost_on first m is h.0 h.1)
 commit_on first m (NotCommitted Down) n h is = same_lists first m n h.2 is
 commit_on first m (NotCommitted Worn) n h is = same_lists first (grouped m) n h.2 (record { wide = is.wide; starts = is.starts; start = is.start; lists = is.lists; last = is.last; due = is.due })
-commit_on first m Memory n h is = same_lists first m n h is
+commit_on first m Memory n h is = same_lists first m n h.1 is
 commit_on first m reply n h is = absurd h
 
 -- ---- rebuild
@@ -244,7 +244,7 @@ answers_on first (Submit session ticket change) m reply n is h =
     let r : Request = record { session = session; ticket = ticket; change = change } in
     or_memory (IsListed first) (submit m r) m reply n h is (submit_on first m r is)
 answers_on first (Look session at) m reply n is h = or_memory (IsListed first) (look m session at) m reply n h is (look_on first m session at is)
-answers_on first Take m reply n is h = or_memory (IsListed first) (take_one m) m reply n h is (take_on first m is)
+answers_on first Take m reply n is h = or_memory (IsListed first) (take_one m) m reply n (inl h) is (take_on first m is)
 answers_on first Commit m reply n is h = commit_on first m reply n h is
 answers_on first Post m reply n is h = or_memory (IsListed first) (post m) m reply n h is (post_on first m is)
 answers_on first (Rebuild words) m reply n is h = rebuild_on first words.items m reply n is h

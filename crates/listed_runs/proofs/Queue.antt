@@ -1,5 +1,5 @@
 -- What replies say of the queue.
-use Rattle.std.proofs.Common.{◌≡◌, ⊎_elim, ◌≤◌, ◌+◌, ◌||◌, ℕ, Bool, true, false, cond, nat_le, is_some, List, [], ◌∷◌, ◌++◌, length, take, Option, Some, None, slice_get, Result, Ok, Err, refl, sym, ap, ◌∙◌, subst, append-nil, append_assoc}
+use Rattle.std.proofs.Common.{◌≡◌, ⊎_elim, inl, ◌≤◌, ◌+◌, ◌||◌, ℕ, Bool, true, false, cond, nat_le, is_some, List, [], ◌∷◌, ◌++◌, length, take, Option, Some, None, slice_get, Result, Ok, Err, refl, sym, ap, ◌∙◌, subst, append-nil, append_assoc}
 use Rattle.std.proofs.lemmas.List.{take-append-le, take_more, map-append}
 use Rattle.std.proofs.lemmas.Option.{slice_get_within, get_or_from_slice_get}
 use Rattle.graph_edits.specs.declared.edits.Op.{Op}
@@ -109,7 +109,7 @@ commit_queue m (Committed accepted) n h = stays m n (ap (λ (x : Machine). x.ask
 commit_queue m (NotCommitted Device) n h = stays m n (ap (λ (x : Machine). x.asked) h.2) (ap (λ (x : Machine). x.taken) h.2)
 commit_queue m (NotCommitted Down) n h = same m n h.2
 commit_queue m (NotCommitted Worn) n h = stays m n (ap (λ (x : Machine). x.asked) h.2) (ap (λ (x : Machine). x.taken) h.2)
-commit_queue m Memory n h = same m n h
+commit_queue m Memory n h = same m n h.1
 commit_queue m reply n h = absurd h
 
 -- what was due is posted: requests stay
@@ -159,7 +159,7 @@ hop_queue m i at = by (slice_get m.ways i)
 queued : (event : Event) (m : Machine) (reply : Reply) (n : Machine) → Answers event m reply n → Queued m (let_in_by event reply) (taken_by reply) n
 queued (Submit session ticket change) m reply n h = or_memory (Submit session ticket change) (submit m (record { session = session; ticket = ticket; change = change })) m reply n h refl (submit_queue m session ticket change)
 queued (Look session at) m reply n h = or_memory (Look session at) (look m session at) m reply n h refl (look_queue m session at)
-queued Take m reply n h = or_memory Take (take_one m) m reply n h refl (take_queue m)
+queued Take m reply n h = or_memory Take (take_one m) m reply n (inl h) refl (take_queue m)
 queued Commit m reply n h = commit_queue m reply n h
 queued Post m reply n h = or_memory Post (post m) m reply n h refl (post_queue m)
 queued (Rebuild words) m reply n h = rebuild_queue words.items m reply n h

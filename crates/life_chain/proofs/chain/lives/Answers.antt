@@ -8,22 +8,20 @@ use Rattle.life_chain.specs.Rooms.{HaveRooms}
 use Rattle.life_chain.specs.Lived.{AreLived}
 use Rattle.life_chain.specs.Chains.{AreChained, IsFirst}
 use Rattle.life_chain.proofs.RoomLemmas.{first_room}
-use Rattle.life_chain.proofs.ChainLemmas.{LeftBy, SoFar, chained_push, left_push, so_far_push, all_lived, lived_up_to, first_push, stands_left, none_pushed, exactly_once}
+use Rattle.life_chain.proofs.ChainLemmas.{SoFar, so_far_push, all_lived, lived_up_to, first_opened, stands_left, are_chained, exactly_once}
 use Rattle.life_chain.proofs.chain.lives.Goals as goal
 
 pub loop-life-init : goal.loop-life-init
 loop-life-init g c =
+    let first : List ℕ = (g.D.Disk.view c.args.disk).content in
     let e = sym c.in_ok-report.ensures.items in
     record {
       room = c.in_ok-rooms.ensures;
       spare = search rules;
       model = λ m. m;
-      begins = λ _. refl;
-      first = λ m. subst (λ l. IsFirst l (g.D.Disk.view c.args.disk).content) e tt;
-      lived = λ m. subst (λ l. SoFar [] l) e tt;
-      chained = λ m. subst (λ l. AreChained l) e tt;
-      left = λ m. subst (λ l. LeftBy l (g.D.Disk.view c.args.disk).content) e tt;
-      stands = λ m s st. (s, st);
+      lived = λ m. subst (λ l. SoFar first [] l first) e refl;
+      first = λ m. subst (λ l. IsFirst l first) e tt;
+      chained = λ m. subst (λ l. AreChained c.args.lives.now l) e tt;
     }
 
 pub returns-in-Err-clause-lived : goal.returns-in-Err-clause-lived
@@ -32,23 +30,23 @@ returns-in-Err-clause-lived g c model =
     let ls : List Life = c.args.lives.now in
     let rest_ls : drop i ls ≡ c.life-item.result ∷ drop (i + 1) ls = drop_more ls i c.life-item.result c.loop-life-test.true ∙ ap (λ x. x ∷ drop (i + 1) ls) (sym c.life-item.is) in
     let whole : take i ls ++ c.life-item.result ∷ drop (i + 1) ls ≡ ls = ap (λ l. take i ls ++ l) (sym rest_ls) ∙ take-append-drop i ls in
-    subst (λ (l : List Life). AreLived l c.loop-life.report.items (Some c.in-Err.refused)) whole (lived_up_to (take i ls) c.loop-life.report.items c.life-item.result (drop (i + 1) ls) c.in-Err.refused (c.loop-life.invariant.lived model))
+    subst (λ (l : List Life). AreLived (g.D.Disk.view c.args.disk).content l c.loop-life.report.items (Some c.in-Err.refused)) whole (lived_up_to (g.D.Disk.view c.args.disk).content (take i ls) c.loop-life.report.items (g.D.Disk.view c.loop-life.disk).content c.life-item.result (drop (i + 1) ls) c.in-Err.refused (c.loop-life.invariant.lived model))
 
 pub returns-in-Err-clause-exactly_once : goal.returns-in-Err-clause-exactly_once
-returns-in-Err-clause-exactly_once g c model = exactly_once c.tickets_law.ensures.life c.exactly_once_laws.ensures.exactly_once (take c.loop-life.life-index c.args.lives.now) c.loop-life.report.items (c.loop-life.invariant.lived model) (c.loop-life.invariant.chained model)
+returns-in-Err-clause-exactly_once g c model = exactly_once c.tickets_law.ensures.life c.exactly_once_laws.ensures.exactly_once c.standing_law.ensures (g.D.Disk.view c.args.disk).content (take c.loop-life.life-index c.args.lives.now) c.loop-life.report.items (g.D.Disk.view c.loop-life.disk).content (c.loop-life.invariant.lived model)
 
 pub returns-in-Err-clause-refused : goal.returns-in-Err-clause-refused
 returns-in-Err-clause-refused g c model s st fault =
-    let t = c.loop-life.invariant.stands model s st in
+    let t = stands_left (g.D.Disk.view c.args.disk).content (take c.loop-life.life-index c.args.lives.now) c.loop-life.report.items (g.D.Disk.view c.loop-life.disk).content (c.loop-life.invariant.lived model) (s, st) in
     c.in-Err.ensures.refused (c.loop-life.invariant.model model) fault t.0 t.1
 
 pub returns-clause-lived : goal.returns-clause-lived
 returns-clause-lived g c model =
     let i = c.loop-life.life-index in
-    subst (λ (l : List Life). AreLived l c.loop-life.report.items None) (take_all i c.args.lives.now (omega arith)) (all_lived (take i c.args.lives.now) c.loop-life.report.items (c.loop-life.invariant.lived model))
+    subst (λ (l : List Life). AreLived (g.D.Disk.view c.args.disk).content l c.loop-life.report.items None) (take_all i c.args.lives.now (omega arith)) (all_lived (g.D.Disk.view c.args.disk).content (take i c.args.lives.now) c.loop-life.report.items (g.D.Disk.view c.loop-life.disk).content (c.loop-life.invariant.lived model))
 
 pub returns-clause-exactly_once : goal.returns-clause-exactly_once
-returns-clause-exactly_once g c model = exactly_once c.tickets_law.ensures.life c.exactly_once_laws.ensures.exactly_once (take c.loop-life.life-index c.args.lives.now) c.loop-life.report.items (c.loop-life.invariant.lived model) (c.loop-life.invariant.chained model)
+returns-clause-exactly_once g c model = exactly_once c.tickets_law.ensures.life c.exactly_once_laws.ensures.exactly_once c.standing_law.ensures (g.D.Disk.view c.args.disk).content (take c.loop-life.life-index c.args.lives.now) c.loop-life.report.items (g.D.Disk.view c.loop-life.disk).content (c.loop-life.invariant.lived model)
 
 pub returns-in-Err-live-clause-lived : goal.returns-in-Err-live-clause-lived
 returns-in-Err-live-clause-lived g c model =
@@ -56,10 +54,10 @@ returns-in-Err-live-clause-lived g c model =
     let ls : List Life = c.args.lives.now in
     let rest_ls : drop i ls ≡ c.life-item.result ∷ drop (i + 1) ls = drop_more ls i c.life-item.result c.loop-life-test.true ∙ ap (λ x. x ∷ drop (i + 1) ls) (sym c.life-item.is) in
     let whole : take i ls ++ c.life-item.result ∷ drop (i + 1) ls ≡ ls = ap (λ l. take i ls ++ l) (sym rest_ls) ∙ take-append-drop i ls in
-    subst (λ (l : List Life). AreLived l c.loop-life.report.items (Some Memory)) whole (lived_up_to (take i ls) c.loop-life.report.items c.life-item.result (drop (i + 1) ls) Memory (c.loop-life.invariant.lived model))
+    subst (λ (l : List Life). AreLived (g.D.Disk.view c.args.disk).content l c.loop-life.report.items (Some Memory)) whole (lived_up_to (g.D.Disk.view c.args.disk).content (take i ls) c.loop-life.report.items (g.D.Disk.view c.loop-life.disk).content c.life-item.result (drop (i + 1) ls) Memory (c.loop-life.invariant.lived model))
 
 pub returns-in-Err-live-clause-exactly_once : goal.returns-in-Err-live-clause-exactly_once
-returns-in-Err-live-clause-exactly_once g c model = exactly_once c.tickets_law.ensures.life c.exactly_once_laws.ensures.exactly_once (take c.loop-life.life-index c.args.lives.now) c.loop-life.report.items (c.loop-life.invariant.lived model) (c.loop-life.invariant.chained model)
+returns-in-Err-live-clause-exactly_once g c model = exactly_once c.tickets_law.ensures.life c.exactly_once_laws.ensures.exactly_once c.standing_law.ensures (g.D.Disk.view c.args.disk).content (take c.loop-life.life-index c.args.lives.now) c.loop-life.report.items (g.D.Disk.view c.loop-life.disk).content (c.loop-life.invariant.lived model)
 
 pub loop-life-preserved : goal.loop-life-preserved
 loop-life-preserved g c =
@@ -69,6 +67,7 @@ loop-life-preserved g c =
     let i = c.loop-life.life-index in
     let life : Life = c.life-item.result in
     let ls : List Life = c.args.lives.now in
+    let first : List ℕ = (g.D.Disk.view c.args.disk).content in
     let content : List ℕ = (g.D.Disk.view c.loop-life.disk).content in
     let after : List ℕ = (g.D.Disk.view c.in-Ok-live.after).content in
     let kept = λ (m : IsTrue (g.D.Disk.view c.args.disk).keeps_model). subst IsTrue (sym c.in-Ok.ensures.ran.model) (inv.model m) in
@@ -77,16 +76,15 @@ loop-life-preserved g c =
     let e = sym c.add.ensures.items in
     let now_ls : take (i + 1) ls ≡ take i ls ++ life ∷ [] = take_more ls i life c.loop-life-test.true ∙ ap (λ x. take i ls ++ x ∷ []) (sym c.life-item.is) in
     let rest_ls : drop i ls ≡ life ∷ drop (i + 1) ls = drop_more ls i life c.loop-life-test.true ∙ ap (λ x. x ∷ drop (i + 1) ls) (sym c.life-item.is) in
+    let pushed : IsTrue (g.D.Disk.view c.args.disk).keeps_model → SoFar first (take (i + 1) ls) (reports ++ one ∷ []) after =
+    λ m. subst (λ (l : List Life). SoFar first l (reports ++ one ∷ []) after) (sym now_ls) (so_far_push first (take i ls) reports content life one after (inv.lived m) (stands m) (lived m)) in
     record {
       room =
           let had = subst (λ (l : List Life). HaveRooms c.loop-life.rooms.items l) rest_ls inv.room in
           subst (λ l. HaveRooms l (drop (i + 1) ls)) (sym c.remove-replies.ensures.items) (first_room c.loop-life.rooms.items life (drop (i + 1) ls) c.remove-replies.result had c.remove-replies.ensures.value).1;
       spare = let a = c.add.ensures.len in let b = c.add.ensures.capacity in let d = inv.spare in omega (arith, c.loop-life-test.true);
       model = λ m. subst IsTrue (sym c.in-Ok-live.ensures.ran.model) (kept m);
-      begins = λ none. absurd (none_pushed reports one (e ∙ none));
-      first = λ m. subst (λ l. IsFirst l (g.D.Disk.view c.args.disk).content) e (first_push reports one (g.D.Disk.view c.args.disk).content content (inv.first m) inv.begins (stands m));
-      lived = λ m. subst (λ l. SoFar (take (i + 1) ls) l) e (subst (λ (l : List Life). SoFar l (reports ++ one ∷ [])) (sym now_ls) (so_far_push (take i ls) reports life one after (inv.lived m) (lived m)));
-      chained = λ m. subst (λ l. AreChained l) e (chained_push c.standing_law.ensures reports one content (inv.chained m) (inv.left m) (stands m));
-      left = λ m. subst (λ l. LeftBy l after) e (left_push reports one after life (lived m));
-      stands = λ m s st. stands_left one after life (lived m);
+      lived = λ m. subst (λ l. SoFar first (take (i + 1) ls) l after) e (pushed m);
+      first = λ m. subst (λ l. IsFirst l first) e (first_opened first (take (i + 1) ls) (reports ++ one ∷ []) after (pushed m));
+      chained = λ m. subst (λ l. AreChained ls l) e (subst (λ (l : List Life). AreChained l (reports ++ one ∷ [])) (take-append-drop (i + 1) ls) (are_chained c.standing_law.ensures first (take (i + 1) ls) (reports ++ one ∷ []) after (drop (i + 1) ls) (pushed m)));
     }

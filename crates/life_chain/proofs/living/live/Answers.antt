@@ -1,4 +1,4 @@
-use Rattle.std.proofs.Common.{◌≡◌, [], ℕ, List, subst, sym, ap, ◌∙◌, IsTrue, Bool, false}
+use Rattle.std.proofs.Common.{◌≡◌, ◌++◌, [], ℕ, List, subst, sym, ap, ◌∙◌, IsTrue, Bool, false}
 use Rattle.std.specs.Option.{option_map}
 use Rattle.disk_trait.specs.Disk.{MayLeave}
 use Rattle.recovery.specs.State.{State}
@@ -13,6 +13,7 @@ use Rattle.event_runs.specs.Answers.{RebuildAnswers}
 use Rattle.event_runs.specs.Moments.{AreMoments}
 use Rattle.listed_runs.specs.Listed.{IsListed}
 use Rattle.listed_runs.specs.Lives.{history_of}
+use Rattle.listed_runs.specs.Queues.{all_let_in}
 use Rattle.packet_ways.specs.Ways.{AreOnWay}
 use Rattle.packet_ways.specs.Replies.{RunRoutes}
 use Rattle.interleave.specs.declared.stored.Stored.{Stored}
@@ -75,9 +76,12 @@ returns-clause-lived g c model =
     let answers : RunRoutes s (machine_of built) life.events.items replies.items (machine_of end) =
     subst (λ (l : List Event). RunRoutes s (machine_of built) l replies.items (machine_of end)) c.as_slice-2.ensures.value
     (subst (λ (m : Machine). RunRoutes s m c.as_slice-2.result.now replies.items (machine_of end)) c.arm.ensures.machine (c.run_into.ensures.ways s listed_armed ways_armed).1) in
+    let asked_is : (machine_of end).asked ≡ (machine_of built).asked ++ all_let_in life.events.items replies.items =
+    subst (λ (l : List Event). (machine_of end).asked ≡ (machine_of built).asked ++ all_let_in l replies.items) c.as_slice-2.ensures.value
+    (subst (λ (m : Machine). (machine_of end).asked ≡ m.asked ++ all_let_in c.as_slice-2.result.now replies.items) c.arm.ensures.machine c.run_into.ensures.asked) in
     let disk_is : c.into_disk.result ≡ disk_of (world_store end) = c.into_disk.ensures ∙ ap (λ st. disk_of st) (c.into_store.ensures ∙ ap (λ d. store_of d) c.into_parts-stored.ensures.desk) in
     let left : MayLeave (world_view end) content = (subst (λ d. IsTrue (g.D.Disk.view d).keeps_model → MayLeave (g.D.Disk.view d) content) disk_is c.crash-disk.ensures.image) model_end in
     let opened : opened_of report ≡ s = by_parts c.count-count.result s.count c.in_ok-graph.graph s.graph c.starts-tickets.result s.tickets c.count-count.ensures.same (c.in_ok-graph.ensures ∙ c.graph.ensures) c.starts-tickets.ensures in
     subst (λ (f : State). IsLived f life report content) (sym opened)
-    (lived_is s life report content (machine_of built) (machine_of end) clock (world_view end).clock gone.moments (ap (λ (x : Stored). machine_with x due state down) (sym c.into_parts-stored.ensures.stored)) rebuilt answers
+    (lived_is s life report content (machine_of built) (machine_of end) clock (world_view end).clock gone.moments (ap (λ (x : Stored). machine_with x due state down) (sym c.into_parts-stored.ensures.stored)) rebuilt asked_is answers
     (c.run_into.ensures.lists s listed_armed) (c.run_into.ensures.routed_well s listed_armed ways_armed) are (c.run_into.ensures.acknowledged model_armed s [] armed_run listed_armed content left))

@@ -1,4 +1,4 @@
-use Rattle.std.proofs.Common.{◌≡◌, ◌⊎◌, ◌++◌, ◌∷◌, [], List, length, take, subst, sym, ap, ◌∙◌, refl, true, false, IsTrue}
+use Rattle.std.proofs.Common.{◌≡◌, ◌⊎◌, ⊎_elim, ◌++◌, ◌∷◌, [], List, length, take, subst, sym, ap, ◌∙◌, refl, true, false, IsTrue}
 use Rattle.std.specs.Prelude.{Err}
 use Rattle.std.proofs.lemmas.List.{length-take-le}
 use Rattle.disk_trait.specs.Disk.{LeavesOnly}
@@ -72,3 +72,16 @@ returns-in-Err-Device-clause-happens g c model =
       lists = lists_are a.taken a.done a.done c.add-in-Err-Device.new.list.items (a.groups ++ (a.done, length a.taken) ∷ []) (state_of new) a.state (is_down new) true refl groups c.in-Err-Device.ensures.err (c.commit.ensures.lost is);
       none = refl;
     })
+
+pub returns-in-Ok-clause-commits : goal.returns-in-Ok-clause-commits
+returns-in-Ok-clause-commits g c =
+    let store = store_of c.args.self.now.desk in
+    let up : is_down store ≡ false = not_true (is_down store) (λ e. let d = c.commit.ensures.down.1 e in let is = c.in-Ok.is in cc) in
+    record {
+      served = c.in-Ok.ensures.no_failure;
+      durable = c.in-Ok.ensures.durable;
+      within = λ past. ⊎_elim (λ worn. let is = c.in-Ok.is in cc) (λ memory. let is = c.in-Ok.is in cc) (c.commit.ensures.past_limits up past);
+      none = c.commit.ensures.idle;
+      appended = c.in-Ok.ensures.appended;
+      rolled = c.in-Ok.ensures.rolled;
+    }

@@ -11,7 +11,9 @@ use Rattle.event_runs.specs.Moments.{number_of}
 use Rattle.event_runs.proofs.Pushes.{run_push}
 use Rattle.interleave.specs.Crashes.{GoneOn}
 use Rattle.interleave.specs.WorldWords.{lists_of, machine_of, world_store, world_view}
+use Rattle.interleave.specs.Desks.{WorldStep, WorldRun}
 use Rattle.interleave.proofs.Going.{one_more, none_yet, ran_on}
+use Rattle.interleave.proofs.Desks.{desks_push}
 use Rattle.interleave.proofs.world.World.run_into.Goals as goal
 
 pub loop-event-init : goal.loop-event-init
@@ -28,6 +30,7 @@ loop-event-init g c =
       ran = record { as_long = refl; model = refl; no_fewer = le_refl v.failures };
       crashes = λ model first before run. subst (λ (rs : List Reply). GoneOn first (moment_of v (lists_of world)) v (lists_of world) [] rs before) (sym none) (none_yet first v (lists_of world) before run);
       answers = subst (λ (rs : List Reply). Run m [] rs m) (sym none) refl;
+      desks = subst (λ (rs : List Reply). WorldRun world [] rs world) (sym none) refl;
     }
 
 pub loop-event-preserved : goal.loop-event-preserved
@@ -68,6 +71,10 @@ loop-event-preserved g c =
       answers =
           let more = run_push m (machine_of c.loop-event.self) (take i es) rs e r n inv.answers c.step-reply.ensures.answers in
           subst (λ (l : List Reply). Run m (take (i + 1) es) l n) (sym c.add.ensures.items) (subst (λ (l : List Event). Run m l (rs ++ r ∷ []) n) (sym now_es) more);
+      desks =
+          let step : WorldStep e c.loop-event.self r c.step-reply.new.self = record { ran = c.step-reply.ensures.ran; still = c.step-reply.ensures.still; commits = c.step-reply.ensures.commits; answers = c.step-reply.ensures.answers } in
+          let more = desks_push c.args.self.now c.loop-event.self (take i es) rs e r c.step-reply.new.self inv.desks step in
+          subst (λ (l : List Reply). WorldRun c.args.self.now (take (i + 1) es) l c.step-reply.new.self) (sym c.add.ensures.items) (subst (λ (l : List Event). WorldRun c.args.self.now l (rs ++ r ∷ []) c.step-reply.new.self) (sym now_es) more);
     }
 
 pub returns-clause-answers : goal.returns-clause-answers
@@ -76,6 +83,13 @@ returns-clause-answers g c =
     let i : ℕ = c.loop-event.event-index in
     let all : take i es ≡ es = take_all i es (let past = c.loop-event-test.false in omega (arith, past)) in
     subst (λ (l : List Event). Run (machine_of c.args.self.now) l c.loop-event.replies.items (machine_of c.loop-event.self)) all c.loop-event.invariant.answers
+
+pub returns-clause-desks : goal.returns-clause-desks
+returns-clause-desks g c =
+    let es : List Event = c.args.events.now in
+    let i : ℕ = c.loop-event.event-index in
+    let all : take i es ≡ es = take_all i es (let past = c.loop-event-test.false in omega (arith, past)) in
+    subst (λ (l : List Event). WorldRun c.args.self.now l c.loop-event.replies.items c.loop-event.self) all c.loop-event.invariant.desks
 
 pub returns-clause-crashes : goal.returns-clause-crashes
 returns-clause-crashes g c model first before run =

@@ -11,7 +11,7 @@ use Rattle.event_runs.specs.declared.reply.Reply.TheVariants.{Taken}
 use Rattle.event_runs.specs.Machines.{Machine, held}
 use Rattle.event_runs.specs.Answers.{answer, take_one}
 use Rattle.interleave.specs.WorldWords.{machine_of}
-use Rattle.interleave.proofs.Steps.{answered, takes}
+use Rattle.interleave.proofs.Steps.{exactly, takes}
 use Rattle.interleave.proofs.Tickets.{next_here}
 use Rattle.interleave.proofs.world.World.take.Goals as goal
 
@@ -42,5 +42,5 @@ returns-clause-answers g c =
     let state : state_of (store_of c.give.new.self) ≡ m.state = ap (λ st. state_of st) c.give.ensures.store in
     let down : is_down (store_of c.give.new.self) ≡ m.down = ap (λ st. is_down st) c.give.ensures.store in
     let after : option_map notice_of (due_of c.give.new.self) ≡ m.due = ap (option_map notice_of) (c.give.ensures.due ∙ sym none) in
-    answered (take_one m) (answer (Taken r.session r.ticket) (record m { taken = m.taken + 1 })) m (Taken r.session r.ticket) _ (takes m r there due room) refl
+    exactly (take_one m) (answer (Taken r.session r.ticket) (record m { taken = m.taken + 1 })) (Taken r.session r.ticket) _ (takes m r there due room) refl
     (λ i. record m { taken = m.taken + 1; due = after i; state = state i; down = down i })
