@@ -1,0 +1,7 @@
+use denote.Param.Send.{sendable}
+use Rattle.std.proofs.Crossing.{crosses}
+use Rattle.served_tests.proofs.Sends.{file_send}
+use Rattle.served_tests.proofs.judged.printed_of.Goals as goal
+
+pub run-status-requires-send-D : goal.run-status-requires-send-D
+run-status-requires-send-D g c κs = search (crosses, sendable, file_send) depth 60
