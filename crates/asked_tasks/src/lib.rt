@@ -11,8 +11,8 @@
 //! | `migrate OLD NEW` | [`Task::Migrate`] |
 //! | `serve DEVICE --words W --editors E --forwarders F --queue Q` | [`Task::Serve`], of 1 to 64 each; without them 2, 2 and 64 |
 //!
-//! The words are read with `clap`, one level of subcommands, each value as a text; numbers, OPs and W are read from these texts by
-//! [`given_words`]. No file is opened and nothing is printed.
+//! `clap` reads the words: each command is a subcommand, with none below it, and each value is a text. Numbers, OPs and W are read
+//! from these texts by [`given_words`]. No file is opened and nothing is printed.
 //!
 //! The contract that the layer above uses: [`understood`] answers a task that the words ask for by the program's grammar
 //! (`IsAskedFor` of `specs/Asked`, over clap's own account of a parse); the words ask for no other; and where they ask for one

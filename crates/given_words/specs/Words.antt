@@ -9,7 +9,7 @@ use Rattle.given_words.specs.declared.words.LandmarkWords.TheVariants.{Greatest,
 abbrev pub greatest : ℕ
 greatest = 2 ^ 64 - 1
 
--- the state whose 32 bytes are the first four words of a SplitMix64 that begins at the seed
+-- the state that a SplitMix64, begun at the seed, gives in 32 bytes
 unfoldable pub first_state : ℕ → List ℕ
 first_state seed = of_seed (splitmix_seed 32 seed)
 

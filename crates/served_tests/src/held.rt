@@ -39,7 +39,7 @@ const ROW: Asked<'static> = Asked {
 
 const PRINTED: &str = "accepted count=1\naccepted count=2\ngeneration=1 route 0 1 length 1\n";
 
-/// The gate holds the launch until the second commit's first sync has begun.
+/// No packet starts before the second commit has come to its first sync.
 #[derive(Drop)]
 struct HeldGate<'a>(&'a Signs);
 
@@ -58,7 +58,7 @@ impl<'a> Gate for HeldGate<'a> {
 /// Opening syncs once, and each commit twice: the second commit's first sync is the fourth.
 const SECOND: u64 = 4;
 
-/// The disk holds that sync until a hop in generation 1 was answered, and fails it where none was.
+/// That sync doesn't end before a hop in generation 1 was answered; where none is, it fails.
 #[derive(Drop)]
 struct HeldDisk {
     disk: MemDisk,

@@ -135,7 +135,7 @@ fn edit<J: Naming, R: Wait>(
     settled(rt, meeting, editor)
 }
 
-/// Submits the changes in their order, each once the one before is settled, and answers their verdicts. Where all stop, some lack.
+/// Submits the changes one by one, none before the last one's mark is there, and answers their verdicts. Where all stop, some lack.
 pub(crate) fn edit_all<J: Naming, R: Wait>(
     rt: &R,
     alloc: Global,

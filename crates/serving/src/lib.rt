@@ -2,8 +2,8 @@
 //!
 //! # What it is
 //!
-//! [`serve_on`] runs a script on a device. Each session has an editor, which submits its changes in the script's order, each once
-//! the one before is settled, under the tickets after the session's last one. The committer takes them in rounds, and builds a
+//! [`serve_on`] runs a script on a device. Each session has an editor, which submits its changes as the script has them, none before
+//! the last one's mark is there, under the tickets after the session's last one. The committer takes them in rounds, and builds a
 //! generation of routing schemes before all else and after each round that accepted something. The k-th route goes to forwarder
 //! `k` modulo their number, which launches a packet in the newest generation and carries it there to its end; where that
 //! generation has left the shelf meanwhile, it starts again from the source.

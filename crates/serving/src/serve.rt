@@ -203,8 +203,8 @@ fn serve_there<'a, D: Disk + Drop + Send, G: Gate + Sync, R: Threads + Wait + Sy
 /// Runs a script on a device, and answers each of its lines, in their order.
 ///
 /// The committer runs in a thread whose stack has [`STACK_LEN`] bytes, each editor and each forwarder in one of its own. A
-/// generation is built before these begin, and after each round that accepted something. The k-th route, from 0, goes to the
-/// forwarder `k` modulo their number. The device comes back, unless no thread could be made for it.
+/// generation is built before there are any of these, and again behind a round that changed the graph. The k-th route, from 0, goes
+/// to the forwarder `k` modulo their number. The device comes back, unless no thread could be made for it.
 ///
 /// With a fault there are no answers; what was accepted before it stays on the device.
 pub fn serve_on<'a, D: Disk + Drop + Send, G: Gate + Sync, R: Threads + Wait + Sync>(

@@ -132,7 +132,11 @@ const ASCENDING: &str = "format @ 16384 -> 0 formatted nodes=16384
 edit @ add:16383:0:1000000 add:2:1:3 add:0:3:5 add:10:9:1 -> 0 accepted count=1
 show @ -> 0 count=1 edges=4|0 3 5|0 16383 1000000|1 2 3|9 10 1
 edit @ set:3:0:6 cut:1:2 add:1:2:4 -> 0 accepted count=2
-show @ -> 0 count=2 edges=4|0 3 6|0 16383 1000000|1 2 4|9 10 1";
+show @ -> 0 count=2 edges=4|0 3 6|0 16383 1000000|1 2 4|9 10 1
+format @ 5 -> 0 formatted nodes=5
+edit @ add:0:1:7 -> 0 accepted count=1
+edit @ set:1:0:9 cut:0:1 add:3:2:5 -> 0 accepted count=2
+show @ -> 0 count=2 edges=1|2 3 5";
 
 #[test]
 fn edges_in_ascending_order(rt: HostRuntime) -> io::Result<()> {
@@ -209,7 +213,12 @@ edit @ add --ticket 0 -> 2 tznode: usage
 route @ 0 1 --words none 2 -> 2 tznode: usage
 check @ --words at: -> 2 tznode: words not understood
 route @ 0 1 --words at: -> 2 tznode: words not understood
+route @ 0 1 --words at:65536 -> 2 tznode: words not understood
 edit @ add:0:1:1 add -> 2 tznode: op not understood
+edit @ cut:0:65536 -> 2 tznode: op not understood
+edit @ set:0:1:4294967296 -> 2 tznode: op not understood
+edit @ cut:0:1 cut:0:1 cut:0:1 cut:0:1 cut:0:1 cut:0:1 cut:0:1 cut:0:1 cut:0:1 cut:0:1 cut:0:1 cut:0:1 cut:0:1 cut:0:1 cut:0:1 cut:0:1 cut:0:1 -> 1 tznode: change too long
+edit @ cut:0:1 cut:0:1 cut:0:1 cut:0:1 cut:0:1 cut:0:1 cut:0:1 cut:0:1 cut:0:1 cut:0:1 cut:0:1 cut:0:1 cut:0:1 cut:0:1 cut:0:1 cut:0:1 cut:0 -> 2 tznode: op not understood
 edit @ add:0:1:1 --ticket 1 -> 1 tznode: device file cannot be used
 resume @ 63 -> 1 tznode: device file cannot be used
 check @ --words at:5 -> 1 tznode: device file cannot be used";
