@@ -1,6 +1,8 @@
 -- What a report of a life says, taken apart and put together.
 use Rattle.std.proofs.Common.{◌≡◌, ◌++◌, ℕ, List, sym, ap, ◌∙◌, subst, ⊎_elim, false, Option, Some, None}
 use Rattle.std.proofs.lemmas.List.{take-take}
+use Rattle.disk_trait.specs.Disk.{MayLeave}
+use Rattle.disk_trait.specs.declared.disk.Disk.{Ghosts}
 use Rattle.graph_edits.specs.Edges.{Network}
 use Rattle.requests.specs.declared.request.Request.{Request}
 use Rattle.recovery.specs.State.{State, state_with}
@@ -15,7 +17,10 @@ use Rattle.listed_runs.specs.Listed.{IsListed}
 use Rattle.listed_runs.specs.Queues.{all_let_in}
 use Rattle.packet_ways.specs.Courses.{AreRoutedWell}
 use Rattle.packet_ways.specs.Replies.{RunRoutes}
+use Rattle.interleave.specs.declared.world.World.{World}
+use Rattle.interleave.specs.WorldWords.{machine_of, world_view}
 use Rattle.interleave.specs.Crashes.{HoldsAcknowledged}
+use Rattle.interleave.specs.Desks.{WorldRun}
 use Rattle.life_chain.specs.declared.life.Life.{Life}
 use Rattle.life_chain.specs.declared.report.LifeReport.{LifeReport}
 use Rattle.life_chain.specs.Groups.{groups_given}
@@ -24,8 +29,8 @@ use Rattle.life_chain.specs.Lived.{IsLived, IsServed}
 use Rattle.life_chain.proofs.GroupLemmas.{nothing_yet, life_fits}
 
 -- the store's state at the end is that after the settled requests
-pub settled_is : (life : Life) (report : LifeReport) (content : List ℕ) → (lived : IsLived (opened_of report) life report content) → lived.state ≡ state_at (opened_of report) (taken_of report) report.stored.done
-settled_is life report content lived =
+pub settled_is : {D : Type 0} → (model : Ghosts D) → (life : Life) (report : LifeReport) (content : List ℕ) → (lived : IsLived model (opened_of report) life report content) → lived.state ≡ state_at (opened_of report) (taken_of report) report.stored.done
+settled_is model life report content lived =
     lived.listed.lists.state_is
     ∙ ap (λ (l : List Request). (settle (opened_of report) l).state) (sym (take-take report.stored.done report.stored.taken report.stored.asked.items lived.listed.lists.started))
 
@@ -42,11 +47,12 @@ served first capacity n words (Rebuilt generation) built is = ⊎_elim
 served first capacity n words reply built is = tt
 
 -- a life that ended as the machine m, of which the report has all but what was due and the store
-pub lived_is : (first : State) (life : Life) (report : LifeReport) (content : List ℕ) (built m : Machine) (began crashed : ℕ) (moments : List (ℕ × ℕ))
+pub lived_is : {D : Type 0} → (model : Ghosts D) → (started stopped : World D model) → (first : State) (life : Life) (report : LifeReport) (content : List ℕ) (built m : Machine) (began crashed : ℕ) (moments : List (ℕ × ℕ))
     → m ≡ ended_with report m.due m.state m.down → RebuildAnswers life.words.items (begun life.capacity life.sessions first false) report.rebuilt built
     → m.asked ≡ built.asked ++ all_let_in life.events.items report.replies.items → RunRoutes first built life.events.items report.replies.items m → IsListed first m → AreRoutedWell first m
-    → AreMoments (began, first.count) life.events.items report.replies.items moments (crashed, m.state.count) → HoldsAcknowledged first m content → IsLived first life report content
-lived_is first life report content built m began crashed moments e rebuilt asked_is answers listed well are left =
+    → AreMoments (began, first.count) life.events.items report.replies.items moments (crashed, m.state.count) → HoldsAcknowledged first m content
+    → WorldRun started life.events.items report.replies.items stopped → machine_of started ≡ built → machine_of stopped ≡ m → MayLeave (world_view stopped) content → IsLived model first life report content
+lived_is model started stopped first life report content built m began crashed moments e rebuilt asked_is answers listed well are left desks from to crash =
     let fits = life_fits first life.capacity life.sessions life.words.items report.rebuilt built life.events.items report.replies.items m rebuilt answers in
     let whole : Whole left.prefix.at (groups_given life.events.items report.replies.items) = fits.whole left.prefix.at left.prefix.whole left.prefix.answered in
     let ended : (here : HoldsAcknowledged first (ended_with report m.due m.state m.down) content) × Whole here.prefix.at (groups_given life.events.items report.replies.items) =
@@ -59,6 +65,12 @@ lived_is first life report content built m began crashed moments e rebuilt asked
       state = m.state;
       down = m.down;
       answers = subst (λ (n : Machine). RunRoutes first built life.events.items report.replies.items n) e answers;
+      started = started;
+      stopped = stopped;
+      desks = desks;
+      from = from;
+      to = to ∙ e;
+      crash = crash;
       asked =
           sym (ap (λ (n : Machine). n.asked) e) ∙ (asked_is ∙ ap (λ (l : List Request). l ++ all_let_in life.events.items report.replies.items) (nothing_yet first life.capacity life.sessions life.words.items report.rebuilt built rebuilt).0);
       taken = sym (ap (λ (n : Machine). n.taken) e) ∙ fits.taken;

@@ -1,5 +1,7 @@
 -- What a report of a life says.
 use Rattle.std.specs.Prelude.{◌≡◌, ℕ, List, [], ◌∷◌, Option, Some, None, Bool, false}
+use Rattle.disk_trait.specs.Disk.{MayLeave}
+use Rattle.disk_trait.specs.declared.disk.Disk.{Ghosts}
 use Rattle.recovery.specs.State.{State}
 use Rattle.recovery.specs.Standing.{StandsFor}
 use Rattle.recovery_parts.specs.declared.refusals.OpenRefused.{OpenRefused}
@@ -17,7 +19,10 @@ use Rattle.listed_runs.specs.Listed.{IsListed}
 use Rattle.listed_runs.specs.Queues.{all_let_in}
 use Rattle.packet_ways.specs.Courses.{AreRoutedWell}
 use Rattle.packet_ways.specs.Replies.{RunRoutes}
+use Rattle.interleave.specs.declared.world.World.{World}
+use Rattle.interleave.specs.WorldWords.{machine_of, world_view}
 use Rattle.interleave.specs.Crashes.{HoldsAcknowledged}
+use Rattle.interleave.specs.Desks.{WorldRun}
 use Rattle.life_chain.specs.declared.life.Life.{Life}
 use Rattle.life_chain.specs.declared.report.LifeReport.{LifeReport}
 use Rattle.life_chain.specs.Groups.{nothing_given, given_by, groups_given}
@@ -29,8 +34,8 @@ IsServed first words (Rebuilt generation) built =
     (generation ≡ first.count) × ((scheme : Parts) × (IsSchemeOf first.graph words first.count scheme × (built.postings ≡ Built first.count scheme ∷ [])))
 IsServed first words reply built = Unit {0}
 
--- The report is that of this life, which opened to `first`, and whose crash left this content.
-pub record IsLived (first : State) (life : Life) (report : LifeReport) (content : List ℕ) : Type 0 where
+-- The report is that of this life, which opened to `first`, and whose crash left this content; `model` is how contracts see the disk.
+pub record IsLived {D : Type 0} (model : Ghosts D) (first : State) (life : Life) (report : LifeReport) (content : List ℕ) : Type 0 where
   -- after the rebuild the machine was this one, whose generation serves what was opened
   pub built : Machine
   pub rebuilt : RebuildAnswers life.words.items (begun life.capacity life.sessions first false) report.rebuilt built
@@ -41,6 +46,14 @@ pub record IsLived (first : State) (life : Life) (report : LifeReport) (content 
   pub down : Bool
   -- each reply is the answer of its event, and those to launches and hops say where packets went
   pub answers : RunRoutes first built life.events.items report.replies.items (ended_with report due state down)
+  -- a world ran the events from the one machine to the other: each commit was answered by its desk, over its disk, and it is from that
+  -- disk that the crash left the content
+  pub started : World D model
+  pub stopped : World D model
+  pub desks : WorldRun started life.events.items report.replies.items stopped
+  pub from : machine_of started ≡ built
+  pub to : machine_of stopped ≡ ended_with report due state down
+  pub crash : MayLeave (world_view stopped) content
   -- the requests, and how many of them are taken and settled, are those that events and replies tell
   pub asked : report.stored.asked.items ≡ all_let_in life.events.items report.replies.items
   pub taken : report.stored.taken ≡ (given_by nothing_given life.events.items report.replies.items).taken
@@ -60,9 +73,9 @@ pub record IsLived (first : State) (life : Life) (report : LifeReport) (content 
 
 -- On a device with this content each life opens to what the content stands for that is there then, at first this one and later what
 -- the crash before left; and each report is that of its life, up to all lives, or to the first that couldn't open.
-abbrev pub AreLived : List ℕ → List Life → List LifeReport → Option OpenRefused → Type 0
-AreLived content [] [] None = Unit {0}
-AreLived content (life ∷ lives) [] (Some refused) = Unit {0}
-AreLived content (life ∷ lives) (report ∷ reports) refused =
-    StandsFor (opened_of report) content × ((left : List ℕ) × (IsLived (opened_of report) life report left × AreLived left lives reports refused))
-AreLived content lives reports refused = ⊥
+abbrev pub AreLived : {D : Type 0} → Ghosts D → List ℕ → List Life → List LifeReport → Option OpenRefused → Type 0
+AreLived model content [] [] None = Unit {0}
+AreLived model content (life ∷ lives) [] (Some refused) = Unit {0}
+AreLived model content (life ∷ lives) (report ∷ reports) refused =
+    StandsFor (opened_of report) content × ((left : List ℕ) × (IsLived model (opened_of report) life report left × AreLived model left lives reports refused))
+AreLived model content lives reports refused = ⊥

@@ -35,7 +35,7 @@ pub fn lives<D: CrashDisk + Drop>(
     lives: &[Life],
 ) -> Result<LivesReport, AllocError>
     ensures first { IsTrue (D.view disk).keeps_model → IfOk result (λ report. IsFirst report.lives.items (D.view disk).content) }
-    ensures lived { IsTrue (D.view disk).keeps_model → IfOk result (λ report. AreLived (D.view disk).content lives.now report.lives.items report.refused) }
+    ensures lived { IsTrue (D.view disk).keeps_model → IfOk result (λ report. AreLived D.Disk (D.view disk).content lives.now report.lives.items report.refused) }
     ensures chained { IsTrue (D.view disk).keeps_model → IfOk result (λ report. AreChained lives.now report.lives.items) }
     ensures exactly_once { IsTrue (D.view disk).keeps_model → IfOk result (λ report. AreExactlyOnce report.lives.items) }
     ensures refused { IsTrue (D.view disk).keeps_model → (s : State) → StandsFor s (D.view disk).content → IfOk result (λ report. IsLastRefused report.refused) }

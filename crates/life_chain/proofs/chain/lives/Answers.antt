@@ -19,7 +19,7 @@ loop-life-init g c =
       room = c.in_ok-rooms.ensures;
       spare = search rules;
       model = λ m. m;
-      lived = λ m. subst (λ l. SoFar first [] l first) e refl;
+      lived = λ m. subst (λ l. SoFar g.D.Disk first [] l first) e refl;
       first = λ m. subst (λ l. IsFirst l first) e tt;
       chained = λ m. subst (λ l. AreChained c.args.lives.now l) e tt;
     }
@@ -30,23 +30,23 @@ returns-in-Err-clause-lived g c model =
     let ls : List Life = c.args.lives.now in
     let rest_ls : drop i ls ≡ c.life-item.result ∷ drop (i + 1) ls = drop_more ls i c.life-item.result c.loop-life-test.true ∙ ap (λ x. x ∷ drop (i + 1) ls) (sym c.life-item.is) in
     let whole : take i ls ++ c.life-item.result ∷ drop (i + 1) ls ≡ ls = ap (λ l. take i ls ++ l) (sym rest_ls) ∙ take-append-drop i ls in
-    subst (λ (l : List Life). AreLived (g.D.Disk.view c.args.disk).content l c.loop-life.report.items (Some c.in-Err.refused)) whole (lived_up_to (g.D.Disk.view c.args.disk).content (take i ls) c.loop-life.report.items (g.D.Disk.view c.loop-life.disk).content c.life-item.result (drop (i + 1) ls) c.in-Err.refused (c.loop-life.invariant.lived model))
+    subst (λ (l : List Life). AreLived g.D.Disk (g.D.Disk.view c.args.disk).content l c.loop-life.report.items (Some c.in-Err.refused)) whole (lived_up_to g.D.Disk (g.D.Disk.view c.args.disk).content (take i ls) c.loop-life.report.items (g.D.Disk.view c.loop-life.disk).content c.life-item.result (drop (i + 1) ls) c.in-Err.refused (c.loop-life.invariant.lived model))
 
 pub returns-in-Err-clause-exactly_once : goal.returns-in-Err-clause-exactly_once
-returns-in-Err-clause-exactly_once g c model = exactly_once c.tickets_law.ensures.life c.exactly_once_laws.ensures.exactly_once c.standing_law.ensures (g.D.Disk.view c.args.disk).content (take c.loop-life.life-index c.args.lives.now) c.loop-life.report.items (g.D.Disk.view c.loop-life.disk).content (c.loop-life.invariant.lived model)
+returns-in-Err-clause-exactly_once g c model = exactly_once g.D.Disk c.tickets_law.ensures.life c.exactly_once_laws.ensures.exactly_once c.standing_law.ensures (g.D.Disk.view c.args.disk).content (take c.loop-life.life-index c.args.lives.now) c.loop-life.report.items (g.D.Disk.view c.loop-life.disk).content (c.loop-life.invariant.lived model)
 
 pub returns-in-Err-clause-refused : goal.returns-in-Err-clause-refused
 returns-in-Err-clause-refused g c model s st fault =
-    let t = stands_left (g.D.Disk.view c.args.disk).content (take c.loop-life.life-index c.args.lives.now) c.loop-life.report.items (g.D.Disk.view c.loop-life.disk).content (c.loop-life.invariant.lived model) (s, st) in
+    let t = stands_left g.D.Disk (g.D.Disk.view c.args.disk).content (take c.loop-life.life-index c.args.lives.now) c.loop-life.report.items (g.D.Disk.view c.loop-life.disk).content (c.loop-life.invariant.lived model) (s, st) in
     c.in-Err.ensures.refused (c.loop-life.invariant.model model) fault t.0 t.1
 
 pub returns-clause-lived : goal.returns-clause-lived
 returns-clause-lived g c model =
     let i = c.loop-life.life-index in
-    subst (λ (l : List Life). AreLived (g.D.Disk.view c.args.disk).content l c.loop-life.report.items None) (take_all i c.args.lives.now (omega arith)) (all_lived (g.D.Disk.view c.args.disk).content (take i c.args.lives.now) c.loop-life.report.items (g.D.Disk.view c.loop-life.disk).content (c.loop-life.invariant.lived model))
+    subst (λ (l : List Life). AreLived g.D.Disk (g.D.Disk.view c.args.disk).content l c.loop-life.report.items None) (take_all i c.args.lives.now (omega arith)) (all_lived g.D.Disk (g.D.Disk.view c.args.disk).content (take i c.args.lives.now) c.loop-life.report.items (g.D.Disk.view c.loop-life.disk).content (c.loop-life.invariant.lived model))
 
 pub returns-clause-exactly_once : goal.returns-clause-exactly_once
-returns-clause-exactly_once g c model = exactly_once c.tickets_law.ensures.life c.exactly_once_laws.ensures.exactly_once c.standing_law.ensures (g.D.Disk.view c.args.disk).content (take c.loop-life.life-index c.args.lives.now) c.loop-life.report.items (g.D.Disk.view c.loop-life.disk).content (c.loop-life.invariant.lived model)
+returns-clause-exactly_once g c model = exactly_once g.D.Disk c.tickets_law.ensures.life c.exactly_once_laws.ensures.exactly_once c.standing_law.ensures (g.D.Disk.view c.args.disk).content (take c.loop-life.life-index c.args.lives.now) c.loop-life.report.items (g.D.Disk.view c.loop-life.disk).content (c.loop-life.invariant.lived model)
 
 pub returns-in-Err-live-clause-lived : goal.returns-in-Err-live-clause-lived
 returns-in-Err-live-clause-lived g c model =
@@ -54,10 +54,10 @@ returns-in-Err-live-clause-lived g c model =
     let ls : List Life = c.args.lives.now in
     let rest_ls : drop i ls ≡ c.life-item.result ∷ drop (i + 1) ls = drop_more ls i c.life-item.result c.loop-life-test.true ∙ ap (λ x. x ∷ drop (i + 1) ls) (sym c.life-item.is) in
     let whole : take i ls ++ c.life-item.result ∷ drop (i + 1) ls ≡ ls = ap (λ l. take i ls ++ l) (sym rest_ls) ∙ take-append-drop i ls in
-    subst (λ (l : List Life). AreLived (g.D.Disk.view c.args.disk).content l c.loop-life.report.items (Some Memory)) whole (lived_up_to (g.D.Disk.view c.args.disk).content (take i ls) c.loop-life.report.items (g.D.Disk.view c.loop-life.disk).content c.life-item.result (drop (i + 1) ls) Memory (c.loop-life.invariant.lived model))
+    subst (λ (l : List Life). AreLived g.D.Disk (g.D.Disk.view c.args.disk).content l c.loop-life.report.items (Some Memory)) whole (lived_up_to g.D.Disk (g.D.Disk.view c.args.disk).content (take i ls) c.loop-life.report.items (g.D.Disk.view c.loop-life.disk).content c.life-item.result (drop (i + 1) ls) Memory (c.loop-life.invariant.lived model))
 
 pub returns-in-Err-live-clause-exactly_once : goal.returns-in-Err-live-clause-exactly_once
-returns-in-Err-live-clause-exactly_once g c model = exactly_once c.tickets_law.ensures.life c.exactly_once_laws.ensures.exactly_once c.standing_law.ensures (g.D.Disk.view c.args.disk).content (take c.loop-life.life-index c.args.lives.now) c.loop-life.report.items (g.D.Disk.view c.loop-life.disk).content (c.loop-life.invariant.lived model)
+returns-in-Err-live-clause-exactly_once g c model = exactly_once g.D.Disk c.tickets_law.ensures.life c.exactly_once_laws.ensures.exactly_once c.standing_law.ensures (g.D.Disk.view c.args.disk).content (take c.loop-life.life-index c.args.lives.now) c.loop-life.report.items (g.D.Disk.view c.loop-life.disk).content (c.loop-life.invariant.lived model)
 
 pub loop-life-preserved : goal.loop-life-preserved
 loop-life-preserved g c =
@@ -76,15 +76,15 @@ loop-life-preserved g c =
     let e = sym c.add.ensures.items in
     let now_ls : take (i + 1) ls ≡ take i ls ++ life ∷ [] = take_more ls i life c.loop-life-test.true ∙ ap (λ x. take i ls ++ x ∷ []) (sym c.life-item.is) in
     let rest_ls : drop i ls ≡ life ∷ drop (i + 1) ls = drop_more ls i life c.loop-life-test.true ∙ ap (λ x. x ∷ drop (i + 1) ls) (sym c.life-item.is) in
-    let pushed : IsTrue (g.D.Disk.view c.args.disk).keeps_model → SoFar first (take (i + 1) ls) (reports ++ one ∷ []) after =
-    λ m. subst (λ (l : List Life). SoFar first l (reports ++ one ∷ []) after) (sym now_ls) (so_far_push first (take i ls) reports content life one after (inv.lived m) (stands m) (lived m)) in
+    let pushed : IsTrue (g.D.Disk.view c.args.disk).keeps_model → SoFar g.D.Disk first (take (i + 1) ls) (reports ++ one ∷ []) after =
+    λ m. subst (λ (l : List Life). SoFar g.D.Disk first l (reports ++ one ∷ []) after) (sym now_ls) (so_far_push g.D.Disk first (take i ls) reports content life one after (inv.lived m) (stands m) (lived m)) in
     record {
       room =
           let had = subst (λ (l : List Life). HaveRooms c.loop-life.rooms.items l) rest_ls inv.room in
           subst (λ l. HaveRooms l (drop (i + 1) ls)) (sym c.remove-replies.ensures.items) (first_room c.loop-life.rooms.items life (drop (i + 1) ls) c.remove-replies.result had c.remove-replies.ensures.value).1;
       spare = let a = c.add.ensures.len in let b = c.add.ensures.capacity in let d = inv.spare in omega (arith, c.loop-life-test.true);
       model = λ m. subst IsTrue (sym c.in-Ok-live.ensures.ran.model) (kept m);
-      lived = λ m. subst (λ l. SoFar first (take (i + 1) ls) l after) e (pushed m);
-      first = λ m. subst (λ l. IsFirst l first) e (first_opened first (take (i + 1) ls) (reports ++ one ∷ []) after (pushed m));
-      chained = λ m. subst (λ l. AreChained ls l) e (subst (λ (l : List Life). AreChained l (reports ++ one ∷ [])) (take-append-drop (i + 1) ls) (are_chained c.standing_law.ensures first (take (i + 1) ls) (reports ++ one ∷ []) after (drop (i + 1) ls) (pushed m)));
+      lived = λ m. subst (λ l. SoFar g.D.Disk first (take (i + 1) ls) l after) e (pushed m);
+      first = λ m. subst (λ l. IsFirst l first) e (first_opened g.D.Disk first (take (i + 1) ls) (reports ++ one ∷ []) after (pushed m));
+      chained = λ m. subst (λ l. AreChained ls l) e (subst (λ (l : List Life). AreChained l (reports ++ one ∷ [])) (take-append-drop (i + 1) ls) (are_chained g.D.Disk c.standing_law.ensures first (take (i + 1) ls) (reports ++ one ∷ []) after (drop (i + 1) ls) (pushed m)));
     }

@@ -1,4 +1,4 @@
-use Rattle.std.proofs.Common.{◌≡◌, ◌++◌, [], ℕ, List, subst, sym, ap, ◌∙◌, IsTrue, Bool, false}
+use Rattle.std.proofs.Common.{◌≡◌, ◌++◌, [], ℕ, List, refl, subst, sym, ap, ◌∙◌, IsTrue, Bool, false}
 use Rattle.std.specs.Option.{option_map}
 use Rattle.disk_trait.specs.Disk.{MayLeave}
 use Rattle.recovery.specs.State.{State}
@@ -19,6 +19,7 @@ use Rattle.packet_ways.specs.Replies.{RunRoutes}
 use Rattle.interleave.specs.declared.stored.Stored.{Stored}
 use Rattle.interleave.specs.Stores.{machine_with}
 use Rattle.interleave.specs.WorldWords.{lists_of, machine_of, world_view, world_store, desk_of}
+use Rattle.interleave.specs.Desks.{WorldRun}
 use Rattle.life_chain.specs.declared.life.Life.{Life}
 use Rattle.life_chain.specs.declared.report.LifeReport.{LifeReport}
 use Rattle.life_chain.specs.Reports.{opened_of}
@@ -82,6 +83,8 @@ returns-clause-lived g c model =
     let disk_is : c.into_disk.result ≡ disk_of (world_store end) = c.into_disk.ensures ∙ ap (λ st. disk_of st) (c.into_store.ensures ∙ ap (λ d. store_of d) c.into_parts-stored.ensures.desk) in
     let left : MayLeave (world_view end) content = (subst (λ d. IsTrue (g.D.Disk.view d).keeps_model → MayLeave (g.D.Disk.view d) content) disk_is c.crash-disk.ensures.image) model_end in
     let opened : opened_of report ≡ s = by_parts c.count-count.result s.count c.in_ok-graph.graph s.graph c.starts-tickets.result s.tickets c.count-count.ensures.same (c.in_ok-graph.ensures ∙ c.graph.ensures) c.starts-tickets.ensures in
-    subst (λ (f : State). IsLived f life report content) (sym opened)
-    (lived_is s life report content (machine_of built) (machine_of end) clock (world_view end).clock gone.moments (ap (λ (x : Stored). machine_with x due state down) (sym c.into_parts-stored.ensures.stored)) rebuilt asked_is answers
-    (c.run_into.ensures.lists s listed_armed) (c.run_into.ensures.routed_well s listed_armed ways_armed) are (c.run_into.ensures.acknowledged model_armed s [] armed_run listed_armed content left))
+    let desks : WorldRun armed life.events.items replies.items end = subst (λ (l : List Event). WorldRun armed l replies.items end) c.as_slice-2.ensures.value c.run_into.ensures.desks in
+    subst (λ (f : State). IsLived g.D.Disk f life report content) (sym opened)
+    (lived_is g.D.Disk armed end s life report content (machine_of built) (machine_of end) clock (world_view end).clock gone.moments (ap (λ (x : Stored). machine_with x due state down) (sym c.into_parts-stored.ensures.stored)) rebuilt asked_is answers
+    (c.run_into.ensures.lists s listed_armed) (c.run_into.ensures.routed_well s listed_armed ways_armed) are (c.run_into.ensures.acknowledged model_armed s [] armed_run listed_armed content left)
+    desks c.arm.ensures.machine refl left)
