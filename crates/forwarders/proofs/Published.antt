@@ -16,7 +16,7 @@ use Rattle.forwarders.specs.Arrivals.{IsLawfulList, IsPublished}
 -- ---- one of many generations
 
 -- the generation is one of these
-abbrev Among : List (ℕ × Parts) → ℕ → Parts → Type 0
+abbrev pub Among : List (ℕ × Parts) → ℕ → Parts → Type 0
 Among [] n p = ⊥
 Among (g ∷ gs) n p = ((g.0 ≡ n) × (g.1 ≡ p)) ⊎ Among gs n p
 
@@ -25,7 +25,7 @@ among_at [] n p k lt e = absurd (omega (arith, lt))
 among_at (g ∷ gs) n p zero lt e = (let same : g ≡ (n, p) = e in inl (ap (λ (h : ℕ × Parts). h.0) same, ap (λ (h : ℕ × Parts). h.1) same))
 among_at (g ∷ gs) n p (suc k) lt e = inr (among_at gs n p k (omega (arith, lt)) e)
 
-among_before : (gs hs : List (ℕ × Parts)) (n : ℕ) (p : Parts) → Among gs n p → Among (gs ++ hs) n p
+pub among_before : (gs hs : List (ℕ × Parts)) (n : ℕ) (p : Parts) → Among gs n p → Among (gs ++ hs) n p
 among_before [] hs n p h = absurd h
 among_before (g ∷ gs) hs n p h = ⊎_elim (λ x. inl x) (λ x. inr (among_before gs hs n p x)) h
 
@@ -37,7 +37,7 @@ among_prefix log longer n p prefix h =
 -- ---- the shelf
 
 -- each generation on the shelf is one of these
-abbrev AreAmong : List (ℕ × Parts) → List (Option (ℕ × Parts)) → Type 0
+abbrev pub AreAmong : List (ℕ × Parts) → List (Option (ℕ × Parts)) → Type 0
 AreAmong gs [] = Unit {0}
 AreAmong gs (None ∷ shelf) = AreAmong gs shelf
 AreAmong gs (Some g ∷ shelf) = Among gs g.0 g.1 × AreAmong gs shelf
@@ -53,7 +53,7 @@ are_drop gs (suc k) [] h = h
 are_drop gs (suc k) (None ∷ xs) h = are_drop gs k xs h
 are_drop gs (suc k) (Some g ∷ xs) h = are_drop gs k xs h.1
 
-shelf_fold : (gs : List (ℕ × Parts)) (log : List Notice) (b : BoardState) → AreAmong gs b.shelf → ((n : ℕ) (p : Parts) → Among (generations_in log) n p → Among gs n p) → AreAmong gs (fold after b log).shelf
+pub shelf_fold : (gs : List (ℕ × Parts)) (log : List Notice) (b : BoardState) → AreAmong gs b.shelf → ((n : ℕ) (p : Parts) → Among (generations_in log) n p → Among gs n p) → AreAmong gs (fold after b log).shelf
 shelf_fold gs [] b h sub = h
 shelf_fold gs (Marked ms ∷ log) b h sub = shelf_fold gs log (after b (Marked ms)) h sub
 shelf_fold gs (Failed ∷ log) b h sub = shelf_fold gs log (after b Failed) h sub
@@ -62,7 +62,7 @@ shelf_fold gs (Built n p ∷ log) b h sub =
     (are_drop gs (length (b.shelf ++ Some (n, p) ∷ []) - most_shelved) (b.shelf ++ Some (n, p) ∷ []) (are_append gs b.shelf (Some (n, p) ∷ []) h (sub n p (inl (refl, refl)), tt)))
     (λ m q x. sub m q (inr x))
 
-found_among : (gs : List (ℕ × Parts)) (shelf : List (Option (ℕ × Parts))) (n : ℕ) (p : Parts) → AreAmong gs shelf → scheme_of n shelf ≡ Some p → Among gs n p
+pub found_among : (gs : List (ℕ × Parts)) (shelf : List (Option (ℕ × Parts))) (n : ℕ) (p : Parts) → AreAmong gs shelf → scheme_of n shelf ≡ Some p → Among gs n p
 found_among gs [] n p h e = absurd (let f : ◌≡◌ {A = Option Parts} None (Some p) = e in cc)
 found_among gs (None ∷ shelf) n p h e = found_among gs shelf n p h e
 found_among gs (Some g ∷ shelf) n p h e = by (g.0 == n) refl e (λ f. found_among gs shelf n p h.1 f)
@@ -89,7 +89,7 @@ greater x (g ∷ gs) n p rises h =
     ⊎_elim (λ at. subst (λ (k : ℕ). x < k) at.0 less)
     (λ behind. (let more : g.0 < n = greater g.0 gs n p (tail_rises x (g.0 ∷ map (λ g. g.0) gs) rises) behind in omega arith)) h
 
-one_among : (gs : List (ℕ × Parts)) (n : ℕ) (p q : Parts) → IsStrictlyIncreasing (map (λ g. g.0) gs) → Among gs n p → Among gs n q → p ≡ q
+pub one_among : (gs : List (ℕ × Parts)) (n : ℕ) (p q : Parts) → IsStrictlyIncreasing (map (λ g. g.0) gs) → Among gs n p → Among gs n q → p ≡ q
 one_among [] n p q rises a b = absurd a
 one_among (g ∷ gs) n p q rises (inl a) (inl b) = sym a.1 ∙ b.1
 one_among (g ∷ gs) n p q rises (inl a) (inr b) = (let same : g.0 ≡ n = a.0 in let less : g.0 < n = greater g.0 gs n q rises b in absurd (omega arith))
