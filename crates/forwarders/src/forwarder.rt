@@ -49,6 +49,7 @@ impl Forwarder {
         ensures same { result ≡ self.now }
         ensures lawful { IsLawful result.opening.starts result.opening.count result.log }
     {
+        // That its list is lawful is known with its length.
         self.known.len();
         self.known.again()
     }

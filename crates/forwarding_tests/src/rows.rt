@@ -244,8 +244,10 @@ fn expect_launches(rt: &impl Abort, forwarder: &mut Forwarder) {
 fn launches_by_address(rt: HostRuntime) -> Result<(), Fail> {
     let (mut writer, mut forwarder) = one_forwarder(rt.alloc(), rt)?;
     same(&rt, forwarder.latest(), Ok(None), "none");
+    same(&rt, forwarder.known().len(), 0, "no notice");
     post_next(&rt, rt.alloc(), &mut writer, 0);
     forwarder.learn(&writer.tell());
+    same(&rt, forwarder.known().len(), 1, "what was told");
     same(&rt, forwarder.latest(), Ok(Some(1)), "the first");
     expect_launches(&rt, &mut forwarder);
     Ok(())
