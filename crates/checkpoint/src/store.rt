@@ -9,7 +9,7 @@ ghost use Rattle.recovery.specs.State.{State, state_with, changes_of, asked, aft
 ghost use Rattle.recovery.specs.Standing.{StandsFor, StandsForNone};
 ghost use Rattle.recovery_parts.specs.Refusals.{LacksMagic};
 ghost use Rattle.recovery.specs.Fronts.{HasOtherVersion, HasThisVersion};
-ghost use Rattle.recovery_parts.specs.Refusals.{IsFormatFault};
+ghost use Rattle.recovery_parts.specs.Refusals.{IsFormatFault, IsNoDeviceFault};
 ghost use Rattle.checkpoint.specs.Kept.{IsKept, kept_props};
 
 use crate::refusals::CommitRefused;
@@ -86,6 +86,7 @@ impl<D: Disk> Store<D> {
         ensures bad_version { IsTrue (D.view disk).keeps_model → IfErr result (λ e. e.0 ≡ OpenRefused.BadVersion → HasOtherVersion (D.view disk).content) }
         ensures damaged { IsTrue (D.view disk).keeps_model → IfErr result (λ e. e.0 ≡ OpenRefused.Damaged → HasThisVersion (D.view disk).content) }
         ensures memory { IsTrue (D.view disk).keeps_model → IfErr result (λ e. e.0 ≡ OpenRefused.Memory → HasThisVersion (D.view disk).content) }
+        ensures served { IfErr result (λ e. IsNoDeviceFault e.0 → (D.view e.1).failures ≡ (D.view disk).failures) }
         ensures device { IfErr result (λ e. e.0 ≡ OpenRefused.Device → (D.view disk).failures < (D.view e.1).failures) }
         ensures reads_err { IsTrue (D.view disk).keeps_model → IfErr result (λ e. OnlyRead (D.view disk) (D.view e.1)) }
         ensures ran_err { IfErr result (λ e. IsSameDevice (D.view disk) (D.view e.1)) }

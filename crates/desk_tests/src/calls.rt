@@ -1,5 +1,5 @@
 // Each of the ten calls of the longest commit, failing and stopping in turn: it closes the other slot, rolls into it, and writes its
-// record there.
+// record there. And calls of one that finds that slot closed.
 use crate::helpers::{SECOND_SLOT, fails, last_tickets, left, opened, same};
 use crate::rolls::{LACKS, full, full_but, give_sized};
 use disk_trait::{CrashDisk, Plan};
@@ -15,39 +15,47 @@ const BEHIND: Found = (6806, [6805, 1, 0], Some(1));
 
 const WORDS: [u64; 5] = [0, 1, 7, 256, 257];
 
-// What meets the commit, and whether the group is there after a crash by each of the words. Until its record's gate is on its way it
-// can't be; from then on the gate's byte decides, which is 1 where the crash leaves what was written or ones alone.
-const CALLS: [(Plan, [bool; 5]); 20] = [
+// The gate of the other slot before, what meets the commit, and whether the group is there after a crash by each of the words. Until its
+// record's gate is on its way it can't be; from then on the gate's byte decides, which is 1 where the crash leaves what was written or
+// ones alone.
+const CALLS: [(u8, Plan, [bool; 5]); 26] = [
     // The gate of the other slot is closed.
-    (Plan::Fail(1), [false; 5]),
-    (Plan::Stop(1, 1), [false; 5]),
-    (Plan::Fail(2), [false; 5]),
-    (Plan::Stop(2, 0), [false; 5]),
+    (1, Plan::Fail(1), [false; 5]),
+    (1, Plan::Stop(1, 1), [false; 5]),
+    (1, Plan::Fail(2), [false; 5]),
+    (1, Plan::Stop(2, 0), [false; 5]),
     // The checkpoint, up to its journal's first gate.
-    (Plan::Fail(3), [false; 5]),
-    (Plan::Stop(3, 264_192), [false; 5]),
-    (Plan::Fail(4), [false; 5]),
-    (Plan::Stop(4, 0), [false; 5]),
+    (1, Plan::Fail(3), [false; 5]),
+    (1, Plan::Stop(3, 264_192), [false; 5]),
+    (1, Plan::Fail(4), [false; 5]),
+    (1, Plan::Stop(4, 0), [false; 5]),
     // Its gate: whichever slot counts then, the same stands there.
-    (Plan::Fail(5), [false; 5]),
-    (Plan::Stop(5, 1), [false; 5]),
-    (Plan::Fail(6), [false; 5]),
-    (Plan::Stop(6, 0), [false; 5]),
+    (1, Plan::Fail(5), [false; 5]),
+    (1, Plan::Stop(5, 1), [false; 5]),
+    (1, Plan::Fail(6), [false; 5]),
+    (1, Plan::Stop(6, 0), [false; 5]),
     // The record, up to the next gate.
-    (Plan::Fail(7), [false; 5]),
-    (Plan::Stop(7, 9), [false; 5]),
-    (Plan::Fail(8), [false; 5]),
-    (Plan::Stop(8, 0), [false; 5]),
+    (1, Plan::Fail(7), [false; 5]),
+    (1, Plan::Stop(7, 9), [false; 5]),
+    (1, Plan::Fail(8), [false; 5]),
+    (1, Plan::Stop(8, 0), [false; 5]),
     // Its gate: one that fails by plan puts nothing.
-    (Plan::Fail(9), [false, false, false, false, true]),
-    (Plan::Stop(9, 1), [false, true, false, false, true]),
-    (Plan::Fail(10), [false, true, false, false, true]),
-    (Plan::Stop(10, 0), [false, true, false, false, true]),
+    (1, Plan::Fail(9), [false, false, false, false, true]),
+    (1, Plan::Stop(9, 1), [false, true, false, false, true]),
+    (1, Plan::Fail(10), [false, true, false, false, true]),
+    (1, Plan::Stop(10, 0), [false, true, false, false, true]),
+    // Two calls fewer where the other slot is closed: the checkpoint, its gate, the record, and its gate.
+    (0, Plan::Fail(1), [false; 5]),
+    (0, Plan::Fail(3), [false; 5]),
+    (0, Plan::Fail(4), [false; 5]),
+    (0, Plan::Fail(5), [false; 5]),
+    (0, Plan::Fail(7), [false, false, false, false, true]),
+    (0, Plan::Fail(8), [false, true, false, false, true]),
 ];
 
-// What a full device opens to, a group of 22 changes having met this plan, after a crash by this word.
-fn found(rt: &impl Abort, alloc: Global, full: &[u8], plan: Plan, word: u64) -> Found {
-    let disk = full_but(rt, alloc, full, SECOND_SLOT, &[1]);
+// What a full device opens to whose other slot has this gate, a group of 22 changes having met this plan, after a crash by this word.
+fn found(rt: &impl Abort, alloc: Global, full: &[u8], gate: u8, plan: Plan, word: u64) -> Found {
+    let disk = full_but(rt, alloc, full, SECOND_SLOT, &[gate]);
     let mut desk = opened(rt, alloc, disk);
     desk.arm(plan);
     give_sized(rt, &mut desk, &LACKS);
@@ -60,13 +68,14 @@ fn found(rt: &impl Abort, alloc: Global, full: &[u8], plan: Plan, word: u64) -> 
 #[test]
 fn each_call_of_a_rolling_commit_fails_and_stops(rt: HostRuntime) {
     let before = full(&rt, rt.alloc());
-    for (plan, there) in &CALLS {
+    for (gate, plan, there) in &CALLS {
         for (word, there) in WORDS.iter().zip(there.iter()) {
             let state = if *there { BEHIND } else { BEFORE };
+            let after = found(&rt, rt.alloc(), &before, *gate, *plan, *word);
             same(
                 &rt,
-                (*plan, *word, found(&rt, rt.alloc(), &before, *plan, *word)),
-                (*plan, *word, state),
+                (*gate, *plan, *word, after),
+                (*gate, *plan, *word, state),
                 "a crash",
             );
         }

@@ -1,10 +1,10 @@
-// A full journal: the roll before a commit, its failures, and a worn store.
+// A full journal: the roll before a commit, a want of memory, and a worn store.
 use crate::helpers::{
-    COUNT, EPOCH, FIRST_SLOT, SECOND_SLOT, byte_at, bytes_of, commit_at_last, copied, fails, fresh,
-    give, got, last_tickets, left, opened, same, whole,
+    COUNT, EPOCH, FIRST_SLOT, SECOND_SLOT, byte_at, bytes_of, commit_at_last, copied, fresh, give,
+    got, last_tickets, left, opened, same, whole,
 };
 use checkpoint::WORN_LIMIT;
-use disk_trait::{CrashDisk, Disk, MemDisk, Plan};
+use disk_trait::{Disk, MemDisk};
 use graph_edits::Op;
 use group_commit::{Desk, DeskRefused};
 use std::alloc::Global;
@@ -83,6 +83,21 @@ fn rolls_where_the_journal_has_no_room(rt: HostRuntime) {
     );
 }
 
+// Run by `./refuse-memory`, which refuses each of the last allocations in turn. Behind the second commit there is none.
+#[test]
+fn rolls_later_what_had_no_memory(rt: HostRuntime) {
+    let before = full(&rt, rt.alloc());
+    let mut desk = opened(&rt, rt.alloc(), copied(&rt, rt.alloc(), &before));
+    give_sized(&rt, &mut desk, &LACKS);
+    let answer = commit_at_last(&rt, rt.alloc(), &mut desk);
+    same(&rt, answer, Ok(22), "rolled");
+    same(&rt, left(&desk), (6806, Some(1)), "rolled");
+    same(&rt, last_tickets(&desk), [6805, 1, 0], "rolled");
+    let mut disk = desk.into_store().into_disk();
+    let gate = byte_at(&rt, &mut disk, SECOND_SLOT);
+    same(&rt, gate, 1, "the second slot");
+}
+
 // A full device with another byte at a place.
 pub(crate) fn full_but(
     rt: &impl Abort,
@@ -95,38 +110,6 @@ pub(crate) fn full_but(
     assert!(rt; bytes.len() <= 8 && at <= SECOND_SLOT && SECOND_SLOT + 8 <= disk.len());
     got(rt, disk.write_at(at, bytes));
     disk
-}
-
-// The roll makes four calls, and the commit behind it makes four; where the other slot stands open, the roll makes two more. That
-// slot's gate, the call that fails, the word of the crash, and how many changes are there then.
-const FAILURES: [(u8, u64, u64, u64); 8] = [
-    (0, 1, 257, 6784),
-    (0, 3, 257, 6784),
-    (0, 4, 1, 6784),
-    (0, 5, 257, 6784),
-    (0, 7, 257, 6806),
-    (0, 8, 0, 6784),
-    (1, 9, 257, 6806),
-    (1, 10, 0, 6784),
-];
-
-#[test]
-fn keeps_its_state_through_a_failure_in_a_roll(rt: HostRuntime) {
-    let before = full(&rt, rt.alloc());
-    for (gate, call, word, want) in &FAILURES {
-        let disk = full_but(&rt, rt.alloc(), &before, SECOND_SLOT, &[*gate]);
-        let mut desk = opened(&rt, rt.alloc(), disk);
-        desk.arm(Plan::Fail(*call));
-        give_sized(&rt, &mut desk, &LACKS);
-        fails(&rt, rt.alloc(), &mut desk, 22, 6784);
-        let desk = opened(&rt, rt.alloc(), desk.into_store().into_disk().crash(*word));
-        same(
-            &rt,
-            (*call, desk.store().count()),
-            (*call, *want),
-            "a failure",
-        );
-    }
 }
 
 // Where a number is written, the number, and the count that the desk has then. Where the first is written, the group needs a roll and

@@ -33,6 +33,22 @@ pub(crate) fn scan_of<E: Entry>(
     Journal::scan(alloc, disk, area)
 }
 
+#[test]
+fn refusals_have_their_numbers(rt: HostRuntime) {
+    let append = [
+        AppendRefused::NoRoom as u8,
+        AppendRefused::Device as u8,
+        AppendRefused::Memory as u8,
+    ];
+    same(&rt, append, [1, 2, 3], "append");
+    let scan = [
+        ScanRefused::Damaged as u8,
+        ScanRefused::Device as u8,
+        ScanRefused::Memory as u8,
+    ];
+    same(&rt, scan, [1, 2, 3], "scan");
+}
+
 /// A group of so many changes of so many ops each.
 fn group_of(rt: &impl Abort, alloc: Global, parts: &[(usize, usize)]) -> Vec<Change> {
     let ops = [Op::Set(0, 1, 1); 16];

@@ -39,19 +39,3 @@ settled_of desk = settle (state_of desk.store) desk.held.items
 -- Its group is past a limit: something is accepted, and the count would pass the limit, or a roll is needed and the epoch stands there.
 abbrev pub IsPastLimits : {D : Type 0} {V : _} → Desk D V → Type 0
 IsPastLimits desk = ((settled_of desk).accepted ≢ []) × ((worn_limit < (settled_of desk).state.count) ⊎ (LacksRoomFor desk.store (settled_of desk).accepted × IsWornOut desk.store))
-
--- it holds no more than there is room for
-pub few_held : {D : Type 0} {V : _} → (desk : Desk D V) → length (held_of desk) ≤ most_held
-few_held desk = desk.few
-
--- what it holds is in turn
-pub held_in_turn : {D : Type 0} {V : _} → (desk : Desk D V) → AreInTurn (state_of (store_of desk)).tickets (held_of desk)
-held_in_turn desk = desk.in_turn
-
--- while marks are due, nothing is held
-pub none_held : {D : Type 0} {V : _} → (desk : Desk D V) → AreMarksDue (due_of desk) → held_of desk ≡ []
-none_held desk due = desk.told_first due
-
--- where Down is due, the store is down
-pub is_lost : {D : Type 0} {V : _} → (desk : Desk D V) → IsDownDue (due_of desk) → is_down (store_of desk) ≡ true
-is_lost desk due = desk.lost due

@@ -203,6 +203,8 @@ impl<E: Entry> Journal<E> {
             → IfOk result (λ r. Spells E.form area r.0.groups (D.view disk.old).content) }
         ensures damaged { IsTrue (D.view disk.old).keeps_model → IsErrOf result ScanRefused.Damaged
             → SpellsNothing E.form area (D.view disk.old).content }
+        ensures damaged_served { IsErrOf result ScanRefused.Damaged → (D.view disk.new).failures ≡ (D.view disk.old).failures }
+        ensures memory_served { IsErrOf result ScanRefused.Memory → (D.view disk.new).failures ≡ (D.view disk.old).failures }
         ensures device { IsErrOf result ScanRefused.Device → (D.view disk.old).failures < (D.view disk.new).failures }
     {
         let Ok(mut window) = Window::new(alloc, WINDOW.min(area.room)) else {

@@ -34,6 +34,7 @@ fn read_old<O: Disk>(alloc: Global, old: &mut O) -> Result<(u64, Graph), Migrate
     ensures bad_version { IsTrue (O.view old.old).keeps_model → IsErrOf result MigrateRefused.BadVersion → HasOtherVersion (O.view old.old).content × StandsForNone (O.view old.old).content }
     ensures damaged { IsTrue (O.view old.old).keeps_model → IsErrOf result MigrateRefused.Damaged → HasThisVersion (O.view old.old).content × StandsForNone (O.view old.old).content }
     ensures memory { IsTrue (O.view old.old).keeps_model → IsErrOf result MigrateRefused.Memory → HasThisVersion (O.view old.old).content }
+    ensures old_served { IsErr result → ¬ (IsErrOf result MigrateRefused.OldDevice) → (O.view old.new).failures ≡ (O.view old.old).failures }
     ensures old_device { IsErrOf result MigrateRefused.OldDevice → (O.view old.old).failures < (O.view old.new).failures }
     ensures others { ¬ (IsErrOf result MigrateRefused.BadLength) × ¬ (IsErrOf result MigrateRefused.NewDevice) }
     ensures no_failure { OnOk result ((O.view old.new).failures ≡ (O.view old.old).failures) }
@@ -74,6 +75,7 @@ pub fn bring_over<O: Disk, N: Disk>(
     ensures bad_version { IsTrue (O.view old.old).keeps_model → IsErrOf result MigrateRefused.BadVersion → HasOtherVersion (O.view old.old).content × StandsForNone (O.view old.old).content }
     ensures damaged { IsTrue (O.view old.old).keeps_model → IsErrOf result MigrateRefused.Damaged → HasThisVersion (O.view old.old).content × StandsForNone (O.view old.old).content }
     ensures memory { IsTrue (O.view old.old).keeps_model → IsErrOf result MigrateRefused.Memory → HasThisVersion (O.view old.old).content }
+    ensures old_served { IsErr result → ¬ (IsErrOf result MigrateRefused.OldDevice) → (O.view old.new).failures ≡ (O.view old.old).failures }
     ensures old_device { IsErrOf result MigrateRefused.OldDevice → (O.view old.old).failures < (O.view old.new).failures }
     ensures new_device { IsErrOf result MigrateRefused.NewDevice → (N.view new.old).failures < (N.view new.new).failures }
     ensures no_failure { OnOk result (((O.view old.new).failures ≡ (O.view old.old).failures) × ((N.view new.new).failures ≡ (N.view new.old).failures)) }
@@ -114,6 +116,7 @@ pub fn migrate<O: Disk, N: Disk>(
     ensures bad_version { IsTrue (O.view old.old).keeps_model → IsErrOf result MigrateRefused.BadVersion → HasOtherVersion (O.view old.old).content × StandsForNone (O.view old.old).content }
     ensures damaged { IsTrue (O.view old.old).keeps_model → IsErrOf result MigrateRefused.Damaged → HasThisVersion (O.view old.old).content × StandsForNone (O.view old.old).content }
     ensures memory { IsTrue (O.view old.old).keeps_model → IsErrOf result MigrateRefused.Memory → HasThisVersion (O.view old.old).content }
+    ensures old_served { IsErr result → ¬ (IsErrOf result MigrateRefused.OldDevice) → (O.view old.new).failures ≡ (O.view old.old).failures }
     ensures old_device { IsErrOf result MigrateRefused.OldDevice → (O.view old.old).failures < (O.view old.new).failures }
     ensures new_device { IsErrOf result MigrateRefused.NewDevice → (N.view new.old).failures < (N.view new.new).failures }
     ensures no_failure { OnOk result (((O.view old.new).failures ≡ (O.view old.old).failures) × ((N.view new.new).failures ≡ (N.view new.old).failures)) }

@@ -4,7 +4,7 @@ use crate::helpers::{
     same, same_bytes, settled,
 };
 use checkpoint::format;
-use disk_trait::MemDisk;
+use disk_trait::{Disk, MemDisk};
 use migrate::{MigrateRefused, bring_over};
 use std::alloc::Global;
 use std::process::Abort;
@@ -184,6 +184,20 @@ const LENGTHS: [(usize, &[u8], usize, MigrateRefused); 8] = [
     (OLD_LEN, &FRONT, NEW_LEN, MigrateRefused::Damaged),
 ];
 
+// The sync of the old device comes behind the new one's length and before all that the old one holds: where it fails, that is told,
+// whatever stands there.
+fn tells_the_sync(rt: &impl Abort, alloc: Global, old: &mut MemDisk, new: &mut MemDisk) {
+    old.fail_at(1);
+    let refused = bring_over(alloc, old, new).err();
+    let right = new.len() == NEW_LEN;
+    let want = if right {
+        MigrateRefused::OldDevice
+    } else {
+        MigrateRefused::BadLength
+    };
+    same(rt, (right, refused), (right, Some(want)), "a failed sync");
+}
+
 #[test]
 fn tells_lengths_and_layouts_in_order(rt: HostRuntime) {
     for (len, front, new_len, want) in &LENGTHS {
@@ -196,6 +210,7 @@ fn tells_lengths_and_layouts_in_order(rt: HostRuntime) {
             (*len, *new_len, Some(*want)),
             "lengths",
         );
+        tells_the_sync(&rt, rt.alloc(), &mut old, &mut new);
     }
 }
 

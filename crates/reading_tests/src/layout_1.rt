@@ -1,10 +1,8 @@
 // Images of layout 1 written by hand: what stands on them, and what their fronts tell.
-use crate::helpers::{OLD_LEN, Text, device, got, same};
+use crate::helpers::{FRONT, OLD_LEN, Text, device, got, same};
 use recovery_1::{Loaded, OpenRefused, layout_law, load, standing_law};
 use std::alloc::Global;
 use std::process::Abort;
-
-const FRONT: &[u8] = b"TZNODE01\x00\x05";
 
 // Gate, epoch 9, count 2, five nodes, one edge: 0 to 1 with weight 7.
 const HEAD: [u8; 31] = [
@@ -25,7 +23,7 @@ const NEWER: [u8; 23] = [
 // What is loaded of the first slot, its record, and such a text where the second slot begins.
 fn loaded(rt: &impl Abort, alloc: Global, second: &[u8]) -> Loaded {
     let texts: [Text; 4] = [
-        (0, FRONT),
+        (0, &FRONT),
         (4096, &HEAD),
         (139_264, &RECORD),
         (1_187_840, second),

@@ -1,10 +1,8 @@
 // Images of layout 2 written by hand: what stands on them, and what their fronts tell.
-use crate::helpers::{Text, device, got, same};
+use crate::helpers::{NEW_LEN, Text, device, got, same};
 use recovery::{Loaded, OpenRefused, layout_law, load, standing_law};
 use std::alloc::Global;
 use std::process::Abort;
-
-const FRONT: &[u8] = b"TZNODE02\x00\x05";
 
 // Slot 0: gate, epoch 9, count 2, five nodes, one edge.
 const HEAD: [u8; 23] = [
@@ -27,24 +25,25 @@ const NEWER: [u8; 23] = [
     1, 0, 0, 0, 0, 0, 0, 0, 10, 0, 0, 0, 0, 0, 0, 0, 4, 0, 5, 0, 0, 0, 0,
 ];
 
-// What is loaded of the checkpoint with ticket 3 of session 0 and ticket 258 of session 63, the record behind it, and one text more.
-fn loaded(rt: &impl Abort, alloc: Global, more: Text) -> Result<Loaded, OpenRefused> {
+// What is loaded of the first slot, whose checkpoint has ticket 3 of session 0 and ticket 258 of session 63, its record, and such a text
+// where the second slot begins.
+fn loaded(rt: &impl Abort, alloc: Global, second: &[u8]) -> Loaded {
     let texts: [Text; 7] = [
-        (0, FRONT),
+        (0, b"TZNODE02\x00\x05"),
         (4096, &HEAD),
         (4126, &[3]),
         (4629, &[1, 2]),
         (4631, &EDGE),
         (532_480, &RECORD),
-        more,
+        (1_581_056, second),
     ];
-    let mut disk = device(rt, alloc, 3_158_016, &texts);
-    load(alloc, &mut disk)
+    let mut disk = device(rt, alloc, NEW_LEN, &texts);
+    got(rt, load(alloc, &mut disk))
 }
 
 #[test]
 fn loads_images_written_by_hand(rt: HostRuntime) {
-    let l = got(&rt, loaded(&rt, rt.alloc(), (1_581_056, &OLDER)));
+    let l = loaded(&rt, rt.alloc(), &OLDER);
     same(&rt, (l.slot, l.epoch, l.other_gate), (0, 9, 1), "the slot");
     let counts = (l.base_count, l.count, l.graph.nodes());
     same(&rt, counts, (2, 3, 5), "the counts");
@@ -52,7 +51,7 @@ fn loads_images_written_by_hand(rt: HostRuntime) {
     same(&rt, edges, (2, Some(7), Some(3)), "the edges");
     let tickets = [l.tickets[0], l.tickets[1], l.tickets[63]];
     same(&rt, tickets, [3, 0, 259], "the tickets");
-    let l = got(&rt, loaded(&rt, rt.alloc(), (1_581_056, &NEWER)));
+    let l = loaded(&rt, rt.alloc(), &NEWER);
     same(
         &rt,
         (l.slot, l.epoch, l.other_gate),
@@ -64,32 +63,6 @@ fn loads_images_written_by_hand(rt: HostRuntime) {
     same(&rt, l.tickets[63], 0, "the other tickets");
     standing_law();
     layout_law();
-}
-
-// A place, the bytes there, and what they are.
-const DAMAGED: [(usize, &[u8], &str); 14] = [
-    (8, &[0, 0], "no nodes"),
-    (8, &[0, 6], "another number of nodes in the slot"),
-    (4096, &[0], "no slot is open"),
-    (4097, &[0x80], "an epoch past the limit"),
-    (4105, &[0x80], "a count past the limit"),
-    (4119, &[0x80], "a last ticket past the limit"),
-    (4623, &[0x80], "the last session's"),
-    (4631, &[0, 1], "an edge to itself"),
-    (532_482, &[0, 0x10], "a length past the area"),
-    (532_487, &[64], "a session above 63"),
-    (532_488, &[0x80], "a ticket past the limit"),
-    (532_495, &[2], "a ticket equal to the session's last one"),
-    (532_495, &[1], "a ticket below it"),
-    (532_496, &[0], "no ops"),
-];
-
-#[test]
-fn tells_what_is_damaged(rt: HostRuntime) {
-    for (at, bytes, what) in &DAMAGED {
-        let refused = loaded(&rt, rt.alloc(), (*at, *bytes)).err();
-        same(&rt, refused, Some(OpenRefused::Damaged), what);
-    }
 }
 
 // How long a device is, what it begins with, and the refusal.
@@ -115,19 +88,5 @@ fn tells_the_front_first(rt: HostRuntime) {
             (*len, *front, Some(*want)),
             "a front",
         );
-    }
-}
-
-// Each call of the device fails in turn: the sync, and the reads of header, heads, tickets, edges and records.
-#[test]
-fn tells_each_fault_of_the_device(rt: HostRuntime) {
-    let texts: [Text; 3] = [(0, FRONT), (4096, &HEAD), (4631, &EDGE)];
-    for call in 1..=8u64 {
-        let mut disk = device(&rt, rt.alloc(), 3_158_016, &texts);
-        disk.fail_at(call);
-        let refused = load(rt.alloc(), &mut disk).err();
-        let fault = Some(OpenRefused::Device);
-        let want = if call < 8 { fault } else { None };
-        same(&rt, (call, refused), (call, want), "a fault");
     }
 }

@@ -43,10 +43,3 @@ pub text_push : (ts : List ℕ) (t : ℕ) (rest behind bytes : List ℕ) → tic
 text_push ts t rest behind bytes so_far is =
     ap (λ (l : List ℕ). l ++ behind) (flat_map-append (to_be_bytes w64) ts (t ∷ []) ∙ ap (λ (l : List ℕ). tickets_text ts ++ l) (flat_map-cons (to_be_bytes w64) t [] ∙ append-nil (to_be_bytes w64 t)))
     ∙ append_assoc (tickets_text ts) (to_be_bytes w64 t) behind ∙ ap (λ (l : List ℕ). tickets_text ts ++ l) (sym is) ∙ so_far
-
--- requests are in turn where the first is next and the others are in turn after it
-pub first_next : (tickets : List ℕ) (r : Entry) (rs : List Entry) → AreInTurn tickets (r ∷ rs) → IsNext tickets r × AreInTurn (raise tickets (asked_by r)) rs
-first_next tickets r rs is = ((is.0.0, is.0.1, is.1.0), (is.0.2, is.1.1))
-
-pub next_first : (tickets : List ℕ) (r : Entry) (rs : List Entry) → IsNext tickets r → AreInTurn (raise tickets (asked_by r)) rs → AreInTurn tickets (r ∷ rs)
-next_first tickets r rs next is = ((next.0, next.1, is.0), (next.2, is.1))

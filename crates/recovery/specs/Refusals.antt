@@ -1,7 +1,7 @@
 -- Why an opening is refused.
 use Rattle.std.specs.Prelude.{ℕ, List}
 use Rattle.recovery_parts.specs.declared.refusals.OpenRefused.{OpenRefused}
-pub use Rattle.recovery_parts.specs.Refusals.{IsFormatFault, IsFrontFault}
+pub use Rattle.recovery_parts.specs.Refusals.{IsFormatFault, IsFrontFault, IsNoDeviceFault}
 use Rattle.recovery_parts.specs.Refusals.{TellsOfLayout}
 use Rattle.recovery.specs.Layout.{version}
 

@@ -4,7 +4,7 @@ ghost use Rattle.disk_trait.specs.Disk.{IsSameDevice, OnlyRead, bytes_at};
 ghost use Rattle.recovery.specs.Layout.{device_len, most_nodes, magic, version, header};
 ghost use Rattle.recovery.specs.Standing.{StandsForNone};
 ghost use Rattle.recovery.specs.Fronts.{HasThisVersion};
-ghost use Rattle.recovery.specs.Refusals.{IsFormatFault, TellsOf};
+ghost use Rattle.recovery.specs.Refusals.{IsFormatFault, IsNoDeviceFault, TellsOf};
 
 use crate::layout::{DEVICE_LEN, HEADER_LEN, MOST_NODES};
 use disk_trait::Disk;
@@ -21,6 +21,7 @@ pub(crate) fn read_header<D: Disk>(disk: &mut D) -> Result<u16, OpenRefused>
     ensures this_version { IsTrue (D.view disk.old).keeps_model → OnOk result (HasThisVersion (D.view disk.old).content) }
     ensures tells { IsTrue (D.view disk.old).keeps_model → IfErr result (λ e. TellsOf e (D.view disk.old).content) }
     ensures refused { IsTrue (D.view disk.old).keeps_model → IfErr result (λ e. IsFormatFault e → StandsForNone (D.view disk.old).content) }
+    ensures served { IfErr result (λ e. IsNoDeviceFault e → (D.view disk.new).failures ≡ (D.view disk.old).failures) }
     ensures device { IsErrOf result OpenRefused.Device → (D.view disk.old).failures < (D.view disk.new).failures }
 {
     let len = disk.len();

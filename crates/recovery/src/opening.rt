@@ -7,7 +7,7 @@ ghost use Rattle.recovery.specs.Layout.{device_len, worn_limit, journal_of};
 ghost use Rattle.recovery.specs.State.{state_with, changes_of, asked, after, AreInTurn};
 ghost use Rattle.recovery.specs.Standing.{StandsForNone};
 ghost use Rattle.recovery.specs.Fronts.{HasThisVersion};
-ghost use Rattle.recovery.specs.Refusals.{IsFormatFault, IsFrontFault, TellsOf};
+ghost use Rattle.recovery.specs.Refusals.{IsFormatFault, IsFrontFault, IsNoDeviceFault, TellsOf};
 ghost use Rattle.recovery.specs.InUse.{IsInUse};
 ghost use Rattle.recovery.specs.Slots.{HasBase, LeadsNowhere};
 ghost use Rattle.recovery.specs.Records.{entries_of, Spells};
@@ -24,7 +24,7 @@ use requests::{Request, SESSIONS};
 use std::alloc::Global;
 use std::snapshot::Snapshot;
 
-/// What stands on a device: the state, and where the next group is written.
+/// What stands on a device: the state, and the slot, the checkpoint and the journal that it comes from.
 #[derive(Drop)]
 pub struct Loaded {
     /// The journal of the slot in use.
@@ -104,6 +104,7 @@ fn load_records<D: Disk>(
     ensures ran { IsSameDevice (D.view disk.old) (D.view disk.new) }
     ensures no_failure { OnOk result ((D.view disk.new).failures ≡ (D.view disk.old).failures) }
     ensures reads { IsTrue (D.view disk.old).keeps_model → OnlyRead (D.view disk.old) (D.view disk.new) }
+    ensures served { IfErr result (λ e. IsNoDeviceFault e → (D.view disk.new).failures ≡ (D.view disk.old).failures) }
     ensures device { IsErrOf result OpenRefused.Device → (D.view disk.old).failures < (D.view disk.new).failures }
     ensures later { IfErr result (λ e. ¬ (IsFrontFault e)) }
     ensures slot { IfOk result (λ l. (l.slot ≡ slot) × (l.epoch ≡ epoch) × (l.other_gate ≡ other_gate) × (l.base_count ≡ base_count) × (l.base.value ≡ base) × (l.base_tickets.value ≡ base_tickets)) }
@@ -153,6 +154,7 @@ fn read_checkpoint<D: Disk>(
     ensures ran { IsSameDevice (D.view disk.old) (D.view disk.new) }
     ensures no_failure { OnOk result ((D.view disk.new).failures ≡ (D.view disk.old).failures) }
     ensures reads { IsTrue (D.view disk.old).keeps_model → OnlyRead (D.view disk.old) (D.view disk.new) }
+    ensures served { IfErr result (λ e. IsNoDeviceFault e → (D.view disk.new).failures ≡ (D.view disk.old).failures) }
     ensures device { IsErrOf result OpenRefused.Device → (D.view disk.old).failures < (D.view disk.new).failures }
     ensures long { OnOk result (length (D.view disk.old).content ≡ device_len) }
     ensures slot { IfOk result (λ r. r.0.slot < 2) }
@@ -182,6 +184,7 @@ pub fn load<D: Disk>(alloc: Global, disk: &mut D) -> Result<Loaded, OpenRefused>
     ensures ran { IsSameDevice (D.view disk.old) (D.view disk.new) }
     ensures no_failure { OnOk result ((D.view disk.new).failures ≡ (D.view disk.old).failures) }
     ensures reads { IsTrue (D.view disk.old).keeps_model → OnlyRead (D.view disk.old) (D.view disk.new) }
+    ensures served { IfErr result (λ e. IsNoDeviceFault e → (D.view disk.new).failures ≡ (D.view disk.old).failures) }
     ensures device { IsErrOf result OpenRefused.Device → (D.view disk.old).failures < (D.view disk.new).failures }
     ensures long { OnOk result (length (D.view disk.old).content ≡ device_len) }
     ensures slot { IfOk result (λ l. l.slot < 2) }

@@ -3,20 +3,11 @@ ghost use Rattle.std.specs.Prelude.{◌≡◌, ◌<◌, ◌≤◌, ◌*◌, ◌^
 ghost use Rattle.std.specs.List.{AllByRecursion};
 ghost use Rattle.recovery.specs.Layout.{sessions, worn_limit};
 ghost use Rattle.recovery.specs.State.{tickets_text, IsNext, AreTickets};
-ghost use Rattle.std.specs.Int.{w64, to_be_bytes};
 
 use crate::layout::{TICKET_LEN, WORN_LIMIT};
 use arrayvec::ArrayVec;
+use recovery_parts::u64_of;
 use requests::{Request, SESSIONS};
-
-fn ticket_of(bytes: &[u8]) -> u64
-    requires { length bytes.now ≡ 8 }
-    ensures { to_be_bytes w64 result ≡ bytes.now }
-{
-    u64::from_be_bytes([
-        bytes[0], bytes[1], bytes[2], bytes[3], bytes[4], bytes[5], bytes[6], bytes[7],
-    ])
-}
 
 /// The last tickets that the bytes list.
 pub(crate) fn tickets_of(bytes: &[u8]) -> [u64; SESSIONS]
@@ -28,7 +19,7 @@ pub(crate) fn tickets_of(bytes: &[u8]) -> [u64; SESSIONS]
     let mut rest = bytes;
     for _ in 0..SESSIONS {
         let (front, behind) = rest.split_at(TICKET_LEN);
-        tickets.push(ticket_of(front));
+        tickets.push(u64_of(front));
         rest = behind;
     }
     match tickets.into_inner() {

@@ -5,7 +5,7 @@ use Rattle.recovery_1.specs.Layout.{slot_start, other, epoch_at}
 use Rattle.recovery_1.specs.State.{State}
 use Rattle.recovery_1.specs.Standing.{StandsBy}
 
--- this slot's checkpoint and records count, and the other slot's gate byte is this one, if it is open
+-- This slot's checkpoint and records count. The other slot is closed where this byte isn't 1; where it is, the epoch behind its gate is smaller.
 pub record IsInUse (slot epoch other_gate : ℕ) (base : State) (groups : List (List Entry)) (image : List ℕ) : Type 0 where
   pub stands : StandsBy slot epoch base groups image
   -- a byte that isn't an open gate stands in the other slot on the device

@@ -4,7 +4,7 @@ ghost use Rattle.disk_trait.specs.Disk.{IsSameDevice, OnlyRead, bytes_at};
 ghost use Rattle.recovery_1.specs.Layout.{device_len, worn_limit, most_nodes, most_edges, slot_start, header};
 ghost use Rattle.recovery_1.specs.State.{IsLawful};
 ghost use Rattle.recovery_1.specs.Standing.{StandsForNone};
-ghost use Rattle.recovery_1.specs.Refusals.{IsFormatFault, IsFrontFault};
+ghost use Rattle.recovery_1.specs.Refusals.{IsFormatFault, IsFrontFault, IsNoDeviceFault};
 ghost use Rattle.recovery_1.specs.Slots.{HasHead, IsNewest, HasCheckpoint};
 
 use crate::layout::{EDGE_LEN, HEAD_LEN, MOST_EDGES, SLOT_ROOM, SLOTS_START, WORN_LIMIT};
@@ -37,6 +37,7 @@ pub(crate) fn read_base<D: Disk>(
     ensures ran { IsSameDevice (D.view disk.old) (D.view disk.new) }
     ensures no_failure { OnOk result ((D.view disk.new).failures ≡ (D.view disk.old).failures) }
     ensures reads { IsTrue (D.view disk.old).keeps_model → OnlyRead (D.view disk.old) (D.view disk.new) }
+    ensures served { IfErr result (λ e. IsNoDeviceFault e → (D.view disk.new).failures ≡ (D.view disk.old).failures) }
     ensures device { IsErrOf result OpenRefused.Device → (D.view disk.old).failures < (D.view disk.new).failures }
     ensures later { IfErr result (λ e. ¬ (IsFrontFault e)) }
     ensures epoch { OnOk result (chosen.head.epoch ≤ worn_limit) }

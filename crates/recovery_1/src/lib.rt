@@ -13,7 +13,7 @@
 //!   are right (specs/Fronts.antt); of the three, each comes only where the content stands for no state. Device comes only where a
 //!   call of the device failed.
 //!
-//! `checkpoint` stands on this crate: it writes what is read here. Nothing above `checkpoint` names a gate, a slot or an epoch.
+//! Nothing writes this layout any more: `migrate` reads an old device by it.
 //!
 //! ```text
 //! let loaded = load(alloc, &mut disk)?;

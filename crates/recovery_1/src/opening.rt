@@ -5,7 +5,7 @@ ghost use Rattle.recovery_1.specs.Layout.{device_len, worn_limit, journal_of};
 ghost use Rattle.recovery_1.specs.State.{after, fold};
 ghost use Rattle.recovery_1.specs.Standing.{StandsForNone};
 ghost use Rattle.recovery_1.specs.Fronts.{HasThisVersion};
-ghost use Rattle.recovery_1.specs.Refusals.{IsFormatFault, IsFrontFault, TellsOf};
+ghost use Rattle.recovery_1.specs.Refusals.{IsFormatFault, IsFrontFault, IsNoDeviceFault, TellsOf};
 ghost use Rattle.recovery_1.specs.InUse.{IsInUse};
 ghost use Rattle.recovery_1.specs.Slots.{HasBase, LeadsNowhere};
 ghost use Rattle.recovery_1.specs.Records.{entries_of, Spells};
@@ -22,7 +22,7 @@ use recovery_parts::{Chosen, OpenRefused, choose_slot};
 use std::alloc::Global;
 use std::snapshot::Snapshot;
 
-/// What stands on a device: the state, and where the next group is written.
+/// What stands on a device: the state, and the slot, the checkpoint and the journal that it comes from.
 #[derive(Drop)]
 pub struct Loaded {
     /// The journal of the slot in use.
@@ -87,6 +87,7 @@ fn load_records<D: Disk>(
     ensures ran { IsSameDevice (D.view disk.old) (D.view disk.new) }
     ensures no_failure { OnOk result ((D.view disk.new).failures ≡ (D.view disk.old).failures) }
     ensures reads { IsTrue (D.view disk.old).keeps_model → OnlyRead (D.view disk.old) (D.view disk.new) }
+    ensures served { IfErr result (λ e. IsNoDeviceFault e → (D.view disk.new).failures ≡ (D.view disk.old).failures) }
     ensures device { IsErrOf result OpenRefused.Device → (D.view disk.old).failures < (D.view disk.new).failures }
     ensures later { IfErr result (λ e. ¬ (IsFrontFault e)) }
     ensures slot { IfOk result (λ l. (l.slot ≡ slot) × (l.epoch ≡ epoch) × (l.other_gate ≡ other_gate) × (l.base_count ≡ base_count) × (l.base.value ≡ base)) }
@@ -128,6 +129,7 @@ fn read_checkpoint<D: Disk>(alloc: Global, disk: &mut D) -> Result<(Chosen, Grap
     ensures ran { IsSameDevice (D.view disk.old) (D.view disk.new) }
     ensures no_failure { OnOk result ((D.view disk.new).failures ≡ (D.view disk.old).failures) }
     ensures reads { IsTrue (D.view disk.old).keeps_model → OnlyRead (D.view disk.old) (D.view disk.new) }
+    ensures served { IfErr result (λ e. IsNoDeviceFault e → (D.view disk.new).failures ≡ (D.view disk.old).failures) }
     ensures device { IsErrOf result OpenRefused.Device → (D.view disk.old).failures < (D.view disk.new).failures }
     ensures long { OnOk result (length (D.view disk.old).content ≡ device_len) }
     ensures slot { IfOk result (λ r. r.0.slot < 2) }
@@ -156,6 +158,7 @@ pub fn load<D: Disk>(alloc: Global, disk: &mut D) -> Result<Loaded, OpenRefused>
     ensures ran { IsSameDevice (D.view disk.old) (D.view disk.new) }
     ensures no_failure { OnOk result ((D.view disk.new).failures ≡ (D.view disk.old).failures) }
     ensures reads { IsTrue (D.view disk.old).keeps_model → OnlyRead (D.view disk.old) (D.view disk.new) }
+    ensures served { IfErr result (λ e. IsNoDeviceFault e → (D.view disk.new).failures ≡ (D.view disk.old).failures) }
     ensures device { IsErrOf result OpenRefused.Device → (D.view disk.old).failures < (D.view disk.new).failures }
     ensures long { OnOk result (length (D.view disk.old).content ≡ device_len) }
     ensures slot { IfOk result (λ l. l.slot < 2) }

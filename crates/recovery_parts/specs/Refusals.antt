@@ -13,6 +13,14 @@ IsFormatFault Damaged = Unit {0}
 IsFormatFault Device = ⊥
 IsFormatFault Memory = ⊥
 
+-- the refusals that come only where every call of the device was served
+abbrev pub IsNoDeviceFault : OpenRefused → Type 0
+IsNoDeviceFault NotFormatted = Unit {0}
+IsNoDeviceFault BadVersion = Unit {0}
+IsNoDeviceFault Damaged = Unit {0}
+IsNoDeviceFault Device = ⊥
+IsNoDeviceFault Memory = Unit {0}
+
 -- the refusals that come at the front alone
 abbrev pub IsFrontFault : OpenRefused → Type 0
 IsFrontFault NotFormatted = Unit {0}

@@ -2,7 +2,7 @@
 ghost use Rattle.std.specs.Prelude.{◌≡◌, ◌≢◌, ◌≤◌, ◌<◌, ◌+◌, ◌*◌, ◌^◌, ◌↔◌, ℕ, List, length, IsTrue, IfOk, IfErr, IfSome, OnOk, OnErr, IsErrOf, None};
 ghost use Rattle.std.specs.Int.{w16, w32, w64, to_be_bytes};
 ghost use Rattle.disk_trait.specs.Disk.{IsSameDevice, OnlyRead};
-ghost use Rattle.recovery_parts.specs.Refusals.{IsFormatFault, IsFrontFault};
+ghost use Rattle.recovery_parts.specs.Refusals.{IsFormatFault, IsFrontFault, IsNoDeviceFault};
 ghost use Rattle.recovery_parts.specs.Heads.{head_text, start_of, HasHeadIn, IsNewestIn, HasNoNewest};
 
 use crate::layout::{OPEN_GATE, SLOTS_START};
@@ -28,7 +28,8 @@ pub struct Chosen {
     pub other_gate: u8,
 }
 
-fn u64_of(bytes: &[u8]) -> u64
+/// The number that 8 bytes spell.
+pub fn u64_of(bytes: &[u8]) -> u64
     requires { length bytes.now ≡ 8 }
     ensures { to_be_bytes w64 result ≡ bytes.now }
 {
@@ -122,6 +123,7 @@ pub fn choose_slot<D: Disk>(disk: &mut D, room: usize) -> Result<Chosen, OpenRef
     ensures ran { IsSameDevice (D.view disk.old) (D.view disk.new) }
     ensures no_failure { OnOk result ((D.view disk.new).failures ≡ (D.view disk.old).failures) }
     ensures reads { IsTrue (D.view disk.old).keeps_model → OnlyRead (D.view disk.old) (D.view disk.new) }
+    ensures served { IfErr result (λ e. IsNoDeviceFault e → (D.view disk.new).failures ≡ (D.view disk.old).failures) }
     ensures device { IsErrOf result OpenRefused.Device → (D.view disk.old).failures < (D.view disk.new).failures }
     ensures slot { IfOk result (λ c. c.slot < 2) }
     ensures ok { IsTrue (D.view disk.old).keeps_model → IfOk result (λ c. HasHeadIn room c.slot c.head.gate c.head.epoch c.head.count c.head.nodes c.head.edges (D.view disk.old).content × IsNewestIn room c.slot c.other_gate (D.view disk.old).content) }

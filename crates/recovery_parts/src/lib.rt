@@ -19,6 +19,6 @@ mod reading;
 mod refusals;
 
 pub use edges::read_edges;
-pub use heads::{Chosen, SlotHead, choose_slot};
+pub use heads::{Chosen, SlotHead, choose_slot, u64_of};
 pub use reading::{header_nodes, read_array, read_bytes};
 pub use refusals::OpenRefused;

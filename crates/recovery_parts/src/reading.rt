@@ -1,7 +1,7 @@
 //! Reading bytes of a device, and its header.
 ghost use Rattle.std.specs.Prelude.{◌≡◌, ◌≢◌, ◌≤◌, ◌<◌, ◌+◌, ◌*◌, ◌^◌, ℕ, List, length, get_or, IsTrue, IfOk, IfErr, OnOk, OnErr, IsErrOf};
 ghost use Rattle.disk_trait.specs.Disk.{IsSameDevice, OnlyRead, bytes_at};
-ghost use Rattle.recovery_parts.specs.Refusals.{magic, version_of, header_with, IsFormatFault, IsFrontFault, TellsOfLayout};
+ghost use Rattle.recovery_parts.specs.Refusals.{magic, version_of, header_with, IsFormatFault, IsFrontFault, IsNoDeviceFault, TellsOfLayout};
 
 use crate::layout::MAGIC;
 use crate::refusals::OpenRefused;
@@ -33,6 +33,7 @@ pub fn read_bytes<D: Disk>(
     ensures ran { IsSameDevice (D.view disk.old) (D.view disk.new) }
     ensures no_failure { OnOk result ((D.view disk.new).failures ≡ (D.view disk.old).failures) }
     ensures reads { IsTrue (D.view disk.old).keeps_model → OnlyRead (D.view disk.old) (D.view disk.new) }
+    ensures served { IfErr result (λ e. IsNoDeviceFault e → (D.view disk.new).failures ≡ (D.view disk.old).failures) }
     ensures device { IsErrOf result OpenRefused.Device → (D.view disk.old).failures < (D.view disk.new).failures }
     ensures no_fault { IfErr result (λ e. ¬ (IsFormatFault e)) }
     ensures later { IfErr result (λ e. ¬ (IsFrontFault e)) }

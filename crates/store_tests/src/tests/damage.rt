@@ -141,7 +141,7 @@ fn with_edges(rt: &impl Abort, alloc: Global, nodes: u16, edges: u32) -> MemDisk
 }
 
 // Two edges of a checkpoint for five nodes, and whether they may stand there.
-const EDGES: [(&str, Edge, Edge, bool); 16] = [
+const EDGES: [(&str, Edge, Edge, bool); 17] = [
     ("nodes not in order", (0, 1, 7), (2, 1, 1), false),
     ("nodes in order", (0, 1, 7), (1, 2, 1), true),
     ("one node twice", (0, 1, 7), (2, 2, 1), false),
@@ -163,6 +163,7 @@ const EDGES: [(&str, Edge, Edge, bool); 16] = [
     ("a greater first node", (0, 3, 7), (1, 2, 7), true),
     ("the first without weight", (0, 1, 0), (1, 2, 1), false),
     ("the first not in order", (1, 0, 7), (1, 2, 1), false),
+    ("the first at one node", (1, 1, 7), (1, 2, 1), false),
 ];
 
 // What the store of a device shows of two edges, if it can be opened.

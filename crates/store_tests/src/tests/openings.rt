@@ -24,16 +24,37 @@ const CUTS: [(usize, OpenRefused); 3] = [
     (3_158_015, OpenRefused::Damaged),
 ];
 
+// The sync of an opening comes first: where it fails, that is told, whatever stands on the device.
+fn tells_the_sync(rt: &impl Abort, alloc: Global, disk: MemDisk) {
+    let mut disk = disk;
+    disk.fail_at(1);
+    same(
+        rt,
+        refusal(alloc, disk),
+        Some(OpenRefused::Device),
+        "a sync that fails",
+    );
+}
+
+// A device of so many bytes that begins with what a text spells.
+fn begun(rt: &impl Abort, alloc: Global, len: usize, text: &str) -> MemDisk {
+    let mut disk = blank(rt, alloc, len);
+    put_text(rt, &mut disk, 0, text);
+    disk
+}
+
 #[test]
 fn refuses_what_is_no_store(rt: HostRuntime) {
     for (len, text, want) in &NO_STORES {
-        let mut disk = blank(&rt, rt.alloc(), *len);
-        put_text(&rt, &mut disk, 0, text);
+        let disk = begun(&rt, rt.alloc(), *len, text);
         same(&rt, refusal(rt.alloc(), disk), Some(*want), text);
+        tells_the_sync(&rt, rt.alloc(), begun(&rt, rt.alloc(), *len, text));
     }
     for (len, want) in &CUTS {
         let cut = cut_to(&rt, rt.alloc(), with_edge(&rt, rt.alloc()), *len);
         same(&rt, refusal(rt.alloc(), cut), Some(*want), "cut");
+        let cut = cut_to(&rt, rt.alloc(), with_edge(&rt, rt.alloc()), *len);
+        tells_the_sync(&rt, rt.alloc(), cut);
     }
 }
 
@@ -42,18 +63,6 @@ fn refused(rt: &impl Abort, alloc: Global, disk: MemDisk) -> (OpenRefused, MemDi
     match open_again(alloc, disk) {
         Ok(_) => panic!(rt; "opened though a call failed"),
         Err(refused) => refused,
-    }
-}
-
-#[test]
-fn each_call_of_an_opening_fails(rt: HostRuntime) {
-    // a sync, the header, two heads, the tickets, the edges, and the records
-    for call in 1..8u64 {
-        let mut disk = with_edge(&rt, rt.alloc());
-        disk.fail_at(call);
-        let (answer, disk) = refused(&rt, rt.alloc(), disk);
-        same(&rt, answer, OpenRefused::Device, "a call fails");
-        same(&rt, opened(&rt, rt.alloc(), disk).count(), 1, "again");
     }
 }
 

@@ -51,7 +51,7 @@ fn record(rt: &impl Abort, alloc: Global, ticket: u64, runs: &[(u16, u8)]) -> Ve
 }
 
 // Bytes from the area's start on, and what is opened. An op is a kind, two nodes and a weight.
-const RECORDS: [(&str, &str, Option<Shown>); 15] = [
+const RECORDS: [(&str, &str, Option<Shown>); 17] = [
     ("closed by 0", "00 09090909", Some((3, 1, Some(7)))),
     ("closed by 2", "02 09090909", Some((3, 1, Some(7)))),
     ("closed by 255", "ff 09090909", Some((3, 1, Some(7)))),
@@ -113,6 +113,16 @@ const RECORDS: [(&str, &str, Option<Shown>); 15] = [
     (
         "one op more than counted",
         "01 0000001e 0001 00 0000000000000001 01 02 0000 0001 00000008 02 0000 0001 00000009",
+        None,
+    ),
+    (
+        "two records",
+        "01 00000015 0001 00 0000000000000001 01 02 0000 0001 00000008 01 00000015 0001 00 0000000000000002 01 02 0000 0001 00000009",
+        Some((5, 1, Some(9))),
+    ),
+    (
+        "a second record that sets no edge",
+        "01 00000015 0001 00 0000000000000001 01 02 0000 0001 00000008 01 00000015 0001 00 0000000000000002 01 02 0001 0002 00000009",
         None,
     ),
 ];
@@ -179,24 +189,6 @@ fn tells_damaged_ops(rt: HostRuntime) {
             "01 00000015 0001 00 0000000000000001 01",
         );
         put_op(&rt, &mut disk, 532_497, *kind, *edge);
-        assert_opens(&rt, rt.alloc(), disk, *want, name);
-    }
-}
-
-#[test]
-fn tells_damaged_ops_of_a_second_record(rt: HostRuntime) {
-    // the same behind another record, which by itself is sound
-    for (name, kind, edge, want) in &OPS {
-        let mut disk = one_edge(&rt, rt.alloc(), 2);
-        let first = "01 00000015 0001 00 0000000000000001 01 02 0000 0001 00000007";
-        put_text(&rt, &mut disk, FIRST_AREA, first);
-        put_text(
-            &rt,
-            &mut disk,
-            532_506,
-            "01 00000015 0001 00 0000000000000002 01",
-        );
-        put_op(&rt, &mut disk, 532_523, *kind, *edge);
         assert_opens(&rt, rt.alloc(), disk, *want, name);
     }
 }
