@@ -51,6 +51,7 @@ abbrev pub submit_by : Machine → Request → Option Session → Answer
 submit_by m r None = answer NoActor m
 submit_by m r (Some x) = unless_refused m x r (refusal_on (board_at m x.seen) r.session (last_of m.starts r.session) x.last r.ticket)
 
+-- what a request is answered, and what the machine is then
 abbrev pub submit : Machine → Request → Answer
 submit m r = submit_by m r (slice_get m.sessions r.session)
 
@@ -64,6 +65,7 @@ look_by m s at None = answer NoActor m
 look_by m s at (Some x) =
     answer (Looked (outcome_on (board_at m (further m x.seen at)) s x.last)) (with_session m s (record { seen = further m x.seen at; last = x.last }))
 
+-- what a session is answered that looks at so many postings
 abbrev pub look : Machine → ℕ → ℕ → Answer
 look m s at = look_by m s at (slice_get m.sessions s)
 
@@ -74,6 +76,7 @@ abbrev pub take_by : Machine → Option Request → Answer
 take_by m None = answer Idle m
 take_by m (Some r) = cond (is_some m.due || nat_le most_held (length (held m))) (answer Idle m) (answer (Taken r.session r.ticket) (record m { taken = m.taken + 1 }))
 
+-- what the committer is answered that takes one request
 abbrev pub take_one : Machine → Answer
 take_one m = take_by m (slice_get m.asked m.taken)
 
@@ -82,6 +85,7 @@ abbrev pub post_by : Machine → Option Notice → Answer
 post_by m None = answer Idle m
 post_by m (Some notice) = answer Posted (with_posted (record m { due = None }) notice)
 
+-- what the committer is answered that posts what is due
 abbrev pub post : Machine → Answer
 post m = post_by m m.due
 
@@ -117,6 +121,7 @@ RebuildAnswers words m reply n = ⊥
 abbrev pub sees : Machine → ℕ → ℕ
 sees m at = further m m.seen at
 
+-- the machine after the forwarder has looked at so many
 abbrev pub looked : Machine → ℕ → Machine
 looked m at = record m { seen = sees m at }
 
@@ -125,6 +130,7 @@ abbrev pub launch_as : Machine → ℕ → ℕ → Result Packet Refused → Ans
 launch_as m u v (Ok packet) = answer (Launched (length m.ways)) (record m { ways = m.ways ++ sent u v packet ∷ [] })
 launch_as m u v (Err refused) = answer (NotRouted refused) m
 
+-- what a packet's launch from one node to another is answered
 abbrev pub launch : Machine → ℕ → ℕ → ℕ → Answer
 launch m u v at = launch_as (looked m at) u v (launch_by (board_at m (sees m at)).shelf u v)
 
@@ -132,10 +138,12 @@ launch m u v at = launch_as (looked m at) u v (launch_by (board_at m (sees m at)
 abbrev pub hop_as : Machine → ℕ → Trip → Result Move Refused → Answer
 hop_as m i way move = answer (hop_reply move) (record m { ways = slice_set m.ways i (hop_way way move) })
 
+-- what the hop of a way is answered, where there is such a way
 abbrev pub hop_by : Machine → ℕ → ℕ → Option Trip → Answer
 hop_by m i at None = answer NoActor m
 hop_by m i at (Some way) = cond way.there (hop_as (looked m at) i way (hop_at way.at way.packet (board_at m (sees m at)).shelf)) (answer NoActor m)
 
+-- what the hop of a packet is answered
 abbrev pub hop : Machine → ℕ → ℕ → Answer
 hop m i at = hop_by m i at (slice_get m.ways i)
 

@@ -9,6 +9,7 @@ use Rattle.group_commit.specs.Settling.{Settled, settle}
 use Rattle.event_runs.specs.declared.session.Session.{Session}
 use Rattle.event_runs.specs.Trips.{Trip}
 
+-- All that the event machine holds.
 pub record Machine : Type 0 where
   -- each session's last ticket and the count, as they were opened
   pub starts : List ℕ

@@ -20,10 +20,12 @@
 //! | crashes | `crashes` | there is one moment after each event, a clock and the count that commits have answered for, the clock the same but at a commit; and every crash since a moment leaves a prefix state of the history that holds all that was answered for by then (`GoneOn`, specs/Crashes.antt; `IsRun` of the crate `histories`) |
 //! | lists | `lists`, `asked` | the postings are lawful, the queue keeps its history, the marks posted and due are those of settling, every posted generation is durable (`IsListed` of the crate `listed_runs`) |
 //! | ways | `ways`, `routed_well` | each packet goes over the one trip that its own generation's scheme has in the graph of that generation; a hop is refused only because that generation has left the shelf, a launch for its named reason (crate `packet_ways`) |
-//! | acknowledged | `acknowledged` | each image that a crash leaves has every change whose Accepted mark stands in a posting |
+//! | acknowledged | `acknowledged` | each image that a crash leaves now has every change whose Accepted mark stands in a posting |
 //!
 //! `crashes` names no posting, and `lists` and `ways` name no disk: the one is put together from what each event does to disk and
-//! history, the others follow from `answers` alone, by the laws of the crates below.
+//! history, the others follow from `answers` alone, by the laws of the crates below. That a crash since an earlier moment leaves all
+//! that was acknowledged by then is no clause: it follows from `crashes`, `lists` and `answers`, by `acknowledged_law` of the crate
+//! `listed_runs`.
 //!
 //! ```rust
 //! use disk_trait::Disk;

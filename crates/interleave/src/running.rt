@@ -81,6 +81,10 @@ impl<D: Disk> World<D> {
     }
 
     /// Runs the events: one reply for each, in their order. Where there isn't room for so many replies, nothing happens.
+    ///
+    /// On a disk that keeps the model, a crash since any moment of the run, or of those before, leaves all that a commit had answered Ok
+    /// for by then (`crashes`), and so, by [`listed_runs::acknowledged_law`], all that was acknowledged by then. For a crash now a clause
+    /// says that itself (`acknowledged`).
     pub fn run(&mut self, alloc: Global, events: &[Event]) -> Result<Vec<Reply>, AllocError>
         ensures ran { IsSameDevice (world_view self.old) (world_view self.new) }
         ensures answers { IfOk result (λ replies. Run (machine_of self.old) events.now replies.items (machine_of self.new)) }

@@ -1,11 +1,12 @@
 -- What is acknowledged is in every state that has as many changes as the store.
-use Rattle.std.proofs.Common.{◌≡◌, ⊎_elim, ◌≤◌, ◌<◌, ◌+◌, ℕ, zero, suc, List, [], ◌∷◌, length, take, drop, option_to_list, Contains, sym, ap, ◌∙◌, subst, arith}
+use Rattle.std.proofs.Common.{◌≡◌, ⊎_elim, ◌≤◌, ◌<◌, ◌+◌, ℕ, zero, suc, List, [], ◌∷◌, length, take, drop, option_to_list, Contains, sym, ap, ◌∙◌, subst, arith, length-append}
 use Rattle.std.specs.List.{range_with_len, slice_index_or}
-use Rattle.std.proofs.lemmas.List.{take-take}
+use Rattle.std.proofs.lemmas.List.{take-take, take-append-le, length-take-le, length-map}
 use Rattle.std.proofs.lemmas.List.Elements.{Contains-append_left, Contains-append_cases}
+use Rattle.requests.specs.Requests.{asked_by}
 use Rattle.requests.specs.declared.request.Request.{Request}
 use Rattle.requests.proofs.TicketLemmas.{either_way}
-use Rattle.recovery.specs.State.{State}
+use Rattle.recovery.specs.State.{State, asked}
 use Rattle.generations.specs.declared.posting.Mark.{Mark}
 use Rattle.generations.specs.declared.posting.Verdict.{Verdict}
 use Rattle.generations.specs.declared.posting.Verdict.TheVariants.{Accepted, Refused}
@@ -13,12 +14,18 @@ use Rattle.generations.specs.Notices.{count_and, counts_of, marks_in}
 use Rattle.generations.proofs.Lawfulness.{marks_append}
 use Rattle.group_commit.specs.Settling.{Settled, settle}
 use Rattle.group_commit.proofs.SettlingLemmas.{settled_count, counts_go_on}
-use Rattle.histories.specs.History.{IsPrefixState}
+use Rattle.histories.specs.History.{IsPrefixState, state_at}
+use Rattle.event_runs.specs.declared.event.Event.{Event}
+use Rattle.event_runs.specs.declared.reply.Reply.{Reply}
 use Rattle.event_runs.specs.Machines.{Machine}
+use Rattle.event_runs.specs.Runs.{Run}
 use Rattle.listed_runs.specs.Listed.{IsListed, all_told}
 use Rattle.listed_runs.specs.Lives.{history_of}
+use Rattle.listed_runs.specs.Queues.{all_let_in, all_taken}
 use Rattle.listed_runs.specs.Acknowledged.{AreAcknowledged}
 use Rattle.listed_runs.proofs.Steps.{settled_on}
+use Rattle.listed_runs.proofs.Listing.{run_on}
+use Rattle.listed_runs.proofs.Queue.{asked_in_order, taken_in_order}
 
 -- a verdict that tells no count accepts nothing
 refuses : (v : Verdict) (counts : List ℕ) → count_and v counts ≡ [] → (counts ≡ []) × ((count : ℕ) → v ≡ Accepted count → ⊥)
@@ -56,16 +63,47 @@ stays_in first requests done at holds mark count v has =
     (Contains-append_cases some.marks rest.marks mark (subst (λ (t : Settled). Contains t.marks mark) whole has)))
     (either_way done at)
 
--- what is acknowledged is in every state after some of the taken requests whose count is at least the store's
-pub acknowledged : (first : State) (m : Machine) (at : ℕ) → IsListed first m → m.state.count ≤ (settle first (take at (take m.taken m.asked))).state.count → AreAcknowledged first (take m.taken m.asked) at m.postings
-acknowledged first m at is holds mark count v posted =
-    let taken : List Request = take m.taken m.asked in
-    let same : take m.done taken ≡ take m.done m.asked = take-take m.done m.taken m.asked is.lists.started in
-    let state : m.state ≡ (settle first (take m.done taken)).state = is.lists.state_is ∙ ap (λ (l : List Request). (settle first l).state) (sym same) in
+-- what is acknowledged is in every state after some requests, of which the settled ones are the first, whose count is at least the store's
+is_in : (first : State) (m : Machine) (requests : List Request) (at : ℕ) → IsListed first m → take m.done requests ≡ take m.done m.asked → m.state.count ≤ (settle first (take at requests)).state.count
+    → AreAcknowledged first requests at m.postings
+is_in first m requests at is same holds mark count v posted =
+    let state : m.state ≡ (settle first (take m.done requests)).state = is.lists.state_is ∙ ap (λ (l : List Request). (settle first l).state) (sym same) in
     let told : Contains (marks_in (all_told m)) mark = subst (λ (l : List Mark). Contains l mark) (sym (marks_append m.postings (option_to_list m.due))) (Contains-append_left (marks_in m.postings) (marks_in (option_to_list m.due)) mark posted) in
-    let settled : Contains (settle first (take m.done taken)).marks mark = subst (λ (l : List Mark). Contains l mark) (is.lists.marks ∙ ap (λ (l : List Request). (settle first l).marks) (sym same)) told in
-    stays_in first taken m.done at (subst (λ (s : State). s.count ≤ (settle first (take at taken)).state.count) state holds) mark count v settled
+    let settled : Contains (settle first (take m.done requests)).marks mark = subst (λ (l : List Mark). Contains l mark) (is.lists.marks ∙ ap (λ (l : List Request). (settle first l).marks) (sym same)) told in
+    stays_in first requests m.done at (subst (λ (s : State). s.count ≤ (settle first (take at requests)).state.count) state holds) mark count v settled
+
+-- so is it where they are those that were taken
+pub acknowledged : (first : State) (m : Machine) (at : ℕ) → IsListed first m → m.state.count ≤ (settle first (take at (take m.taken m.asked))).state.count → AreAcknowledged first (take m.taken m.asked) at m.postings
+acknowledged first m at is holds = is_in first m (take m.taken m.asked) at is (take-take m.done m.taken m.asked is.lists.started) holds
 
 -- and so in each prefix state that holds as many
 pub prefix_holds : (first : State) (m : Machine) (image : List ℕ) → IsListed first m → (prefix : IsPrefixState first (history_of m) m.state.count image) → AreAcknowledged first (history_of m).taken prefix.at m.postings
 prefix_holds first m image is prefix = acknowledged first m prefix.at is prefix.holds
+
+-- ---- over a run
+
+-- as many were taken as sessions and tickets of what was taken
+many_taken : (first : State) (m : Machine) → IsListed first m → length (asked (take m.taken m.asked)) ≡ m.taken
+many_taken first m is = length-map (take m.taken m.asked) asked_by ∙ length-take-le m.taken m.asked is.lists.within
+
+-- no fewer are taken later
+taken_rises : (first : State) (m : Machine) (events : List Event) (replies : List Reply) (n : Machine) → IsListed first m → Run m events replies n → m.taken ≤ n.taken
+taken_rises first m events replies n is run =
+    let before = many_taken first m is in
+    let now = many_taken first n (run_on first m events replies n is run) in
+    let grown = ap (λ (l : List (ℕ × ℕ)). length l) (taken_in_order first m events replies n is run) ∙ length-append (asked (take m.taken m.asked)) (all_taken replies) in
+    omega (arith, before, now, grown)
+
+-- what was settled is the first of what is taken later
+still_first : (first : State) (m : Machine) (events : List Event) (replies : List Reply) (n : Machine) → IsListed first m → Run m events replies n → take m.done (take n.taken n.asked) ≡ take m.done m.asked
+still_first first m events replies n is run =
+    let started = is.lists.started in
+    let within = is.lists.within in
+    let rises = taken_rises first m events replies n is run in
+    take-take m.done n.taken n.asked (omega (arith, started, rises))
+    ∙ (ap (take m.done) (asked_in_order m events replies n run) ∙ take-append-le m.done m.asked (all_let_in events replies) (omega (arith, started, within)))
+
+-- what was acknowledged at an earlier moment of a run is in every state that holds as many as the store did then
+pub acknowledged_stay : (first : State) (m : Machine) (events : List Event) (replies : List Reply) (n : Machine) (at : ℕ) → IsListed first m → Run m events replies n
+    → m.state.count ≤ (state_at first (take n.taken n.asked) at).count → AreAcknowledged first (take n.taken n.asked) at m.postings
+acknowledged_stay first m events replies n at is run holds = is_in first m (take n.taken n.asked) at is (still_first first m events replies n is run) holds

@@ -6,7 +6,7 @@ use Rattle.graph_edits.specs.declared.edits.Op.{Op}
 use Rattle.generations.specs.Lawful.{IsLawful}
 use Rattle.group_commit.specs.Settling.{settle}
 use Rattle.intake.specs.declared.outcome.SubmitRefused.TheVariants.{AlreadyIn, Busy}
-use Rattle.histories.specs.History.{IsPrefixState}
+use Rattle.histories.specs.History.{IsPrefixState, state_at}
 use Rattle.joined_lists.specs.Lives.{IsLife}
 use Rattle.event_runs.specs.declared.event.Event.{Event}
 use Rattle.event_runs.specs.declared.event.Event.TheVariants.{Submit}
@@ -68,6 +68,11 @@ AcknowledgedAreIn = (first : State) (m : Machine) (at : ℕ) → IsListed first 
 -- so it is of each prefix state that holds as many changes as the store
 abbrev pub PrefixHoldsAcknowledged : Type 0
 PrefixHoldsAcknowledged = (first : State) (m : Machine) (image : List ℕ) → IsListed first m → (prefix : IsPrefixState first (history_of m) m.state.count image) → AreAcknowledged first (history_of m).taken prefix.at m.postings
+
+-- a state that holds as many accepted changes as the store had at an earlier moment of the run holds all that was posted as accepted by then
+abbrev pub AcknowledgedStay : Type 0
+AcknowledgedStay = (first : State) (m : Machine) (events : List Event) (replies : List Reply) (n : Machine) (at : ℕ) → IsListed first m → Run m events replies n
+    → m.state.count ≤ (state_at first (take n.taken n.asked) at).count → AreAcknowledged first (take n.taken n.asked) at m.postings
 
 -- ---- tickets that are in
 

@@ -1,5 +1,5 @@
 //! The laws of a run's lists.
-ghost use Rattle.listed_runs.specs.Laws.{BeginsListed, AnswersKeep, RebuildKeeps, RunKeeps, PostingsAreLawful, PostingsAreDurable, QueueKeeps, TakesInOrder, AcknowledgedAreIn, PrefixHoldsAcknowledged, IsOneLife, AlreadyInIsIn, InIsRefused};
+ghost use Rattle.listed_runs.specs.Laws.{BeginsListed, AnswersKeep, RebuildKeeps, RunKeeps, PostingsAreLawful, PostingsAreDurable, QueueKeeps, TakesInOrder, AcknowledgedAreIn, PrefixHoldsAcknowledged, AcknowledgedStay, IsOneLife, AlreadyInIsIn, InIsRefused};
 
 /// A life begins with lists that are kept; what answers an event keeps them, a rebuild does, and so does a run; and then the postings
 /// are lawful, and each generation among them is durable.
@@ -20,10 +20,12 @@ pub fn queue_law()
 {}
 
 /// What is acknowledged is in every state after some of the taken requests whose count is at least the store's, and so in each prefix
-/// state that holds all that commits answered Ok for.
+/// state that holds all that commits answered Ok for. It stays in as a run goes on: what was acknowledged by an earlier moment is in
+/// every state after some of the requests taken up to now whose count is at least what the store's was then.
 pub fn acknowledged_law()
     ensures states { AcknowledgedAreIn }
     ensures prefixes { PrefixHoldsAcknowledged }
+    ensures later { AcknowledgedStay }
 {}
 
 /// The lists are those of a life that others may follow. A ticket is refused as already in only where it is at most the last accepted

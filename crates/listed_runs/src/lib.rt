@@ -17,7 +17,7 @@
 //! |---|---|
 //! | [`lists_law`] | a life begins so; each answer keeps it, and so does a run; the postings alone are lawful, and their generations durable |
 //! | [`queue_law`] | what was asked is what replies let in, in their order; what was taken is the front of it, in the order of the replies |
-//! | [`acknowledged_law`] | an Accepted mark that was posted is one of the marks of the first requests, of as many as lead to a state whose count is at least the store's; so each prefix state (the crate `histories`) that holds all that commits answered Ok for has all that is acknowledged |
+//! | [`acknowledged_law`] | an Accepted mark that was posted is one of the marks of the first requests, of as many as lead to a state whose count is at least the store's; so each prefix state (the crate `histories`) that holds all that commits answered Ok for has all that is acknowledged; and one that holds all that they had answered for by an earlier moment of a run has all that was acknowledged by that moment |
 //! | [`tickets_law`] | the lists are those of a life in a chain of lives (the crate `joined_lists`); a ticket is refused as already in only where it is at most the last accepted one of its session in the store, and a ticket that is at most that is let in by no reply |
 //!
 //! ```rust

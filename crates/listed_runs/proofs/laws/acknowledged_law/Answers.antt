@@ -1,4 +1,4 @@
-use Rattle.listed_runs.proofs.Acked.{acknowledged, prefix_holds}
+use Rattle.listed_runs.proofs.Acked.{acknowledged, prefix_holds, acknowledged_stay}
 use Rattle.listed_runs.proofs.laws.acknowledged_law.Goals as goal
 
 pub returns-clause-states : goal.returns-clause-states
@@ -6,3 +6,6 @@ returns-clause-states c = acknowledged
 
 pub returns-clause-prefixes : goal.returns-clause-prefixes
 returns-clause-prefixes c = prefix_holds
+
+pub returns-clause-later : goal.returns-clause-later
+returns-clause-later c = acknowledged_stay
