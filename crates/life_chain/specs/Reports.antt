@@ -13,10 +13,11 @@ use Rattle.life_chain.specs.declared.report.LifeReport.{LifeReport}
 abbrev pub opened_of : LifeReport → State
 opened_of report = state_with report.count report.graph report.tickets
 
--- the requests that the committer took, and those that it left in the queue
+-- the requests that the committer took
 abbrev pub taken_of : LifeReport → List Request
 taken_of report = take report.stored.taken report.stored.asked.items
 
+-- the requests that it left in the queue
 abbrev pub waiting_of : LifeReport → List Request
 waiting_of report = drop report.stored.taken report.stored.asked.items
 

@@ -21,9 +21,10 @@ use std::alloc::{AllocError, Global};
 ///
 /// On a disk that keeps the model:
 ///
-/// - each report is that of its life: what it opened to, what the rebuild and the events were answered, what its world stored; the
-///   first life opened to what the disk stood for, and each next one to what the very content stood for that the crash of the one
-///   before had left (`lived`);
+/// - each report is that of its life: what it opened to, what the rebuild and the events were answered, what its world stored, and what
+///   a crash would have left at any moment of it; the first life opened to what the disk stood for, and each next one to what the very
+///   content stood for that the crash of the one before had left; a life that couldn't open tells of that content's front, or of a device
+///   that failed in the opening (`lived`);
 /// - so the first life opened to what the disk stood for (`first`), and each next one to the state after some of the requests that the
 ///   one before took, none of the groups in part that its events and replies say it gave to commits, with all that its commits answered Ok for and
 ///   all that it told an editor was accepted (`chained`);
@@ -35,7 +36,7 @@ pub fn lives<D: CrashDisk + Drop>(
     lives: &[Life],
 ) -> Result<LivesReport, AllocError>
     ensures first { IsTrue (D.view disk).keeps_model → IfOk result (λ report. IsFirst report.lives.items (D.view disk).content) }
-    ensures lived { IsTrue (D.view disk).keeps_model → IfOk result (λ report. AreLived D.Disk (D.view disk).content lives.now report.lives.items report.refused) }
+    ensures lived { IsTrue (D.view disk).keeps_model → IfOk result (λ report. AreLived D.Disk (D.view disk).content (D.view disk).failures lives.now report.lives.items report.refused) }
     ensures chained { IsTrue (D.view disk).keeps_model → IfOk result (λ report. AreChained lives.now report.lives.items) }
     ensures exactly_once { IsTrue (D.view disk).keeps_model → IfOk result (λ report. AreExactlyOnce report.lives.items) }
     ensures refused { IsTrue (D.view disk).keeps_model → (s : State) → StandsFor s (D.view disk).content → IfOk result (λ report. IsLastRefused report.refused) }
@@ -49,7 +50,7 @@ pub fn lives<D: CrashDisk + Drop>(
     for life in lives {
         let replies = rooms.remove(0);
         match Store::open(alloc, disk) {
-            Err((refused, _)) => {
+            Err((refused, _after)) => {
                 return Ok(LivesReport {
                     lives: report,
                     refused: Some(refused),

@@ -29,7 +29,7 @@ pub(crate) fn live<D: CrashDisk + Drop>(
     ensures ran { IfOk result (λ r. IsSameDevice (view_of store) (D.view r.1)) }
     ensures settled { IsTrue (view_of store).keeps_model → IfOk result (λ r. IsSettled (D.view r.1)) }
     ensures opened { IfOk result (λ r. opened_of r.0 ≡ state_of store) }
-    ensures lived { IsTrue (view_of store).keeps_model → IfOk result (λ r. IsLived D.Disk (opened_of r.0) life.now r.0 (D.view r.1).content) }
+    ensures lived { IsTrue (view_of store).keeps_model → IfOk result (λ r. IsLived D.Disk (opened_of r.0) (view_of store).failures life.now r.0 (D.view r.1).content (D.view r.1).failures) }
 {
     history_law::<D>();
     let count = store.count();

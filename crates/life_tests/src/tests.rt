@@ -1,7 +1,7 @@
 // Lives whose answers are written out, failures of the device in an opening, a commit and a roll, tickets over crashes, drawn lives, and
 // lives of which an allocation is refused.
 use checkpoint::{DEVICE_LEN, OpenRefused, format};
-use disk_trait::{CrashDisk, DeviceFault, Disk, MemDisk, Plan};
+use disk_trait::{Disk, MemDisk, Plan};
 use event_runs::{Event, Reply};
 use forwarders::Refused as RouteRefused;
 use graph_edits::{Change, Code, Op};
@@ -9,13 +9,11 @@ use group_commit::DeskRefused;
 use intake::{Outcome, SubmitRefused};
 use life_chain::{Life, LifeReport, LivesReport, lives};
 use std::alloc::{AllocError, Global};
-use std::cell::Cell;
 use std::fmt::Debug;
 use std::process::Abort;
 
 mod drawn;
 mod failures;
-mod gates;
 mod helpers;
 mod judge;
 mod memory;
@@ -24,4 +22,3 @@ mod rolls;
 mod worked;
 
 use helpers::*;
-use rolls::rolled;

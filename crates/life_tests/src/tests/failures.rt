@@ -29,15 +29,7 @@ const TAKEN: Reply = Reply::Taken {
     ticket: 1,
 };
 
-const DOWN: [Reply; 5] = [
-    SUBMITTED,
-    TAKEN,
-    Reply::NotCommitted(DeskRefused::Device),
-    Reply::Posted,
-    Reply::Looked(Outcome::Down),
-];
-
-const DOWN_TWICE: [Reply; 6] = [
+const DOWN: [Reply; 6] = [
     SUBMITTED,
     TAKEN,
     Reply::NotCommitted(DeskRefused::Device),
@@ -85,7 +77,8 @@ const PLANS: [(Plan, [u64; 4]); 7] = [
 fn device_fails_in_a_commit(rt: HostRuntime) {
     for (plan, counts) in &PLANS {
         for (word, count) in [0, 1, 256, 257].iter().zip(counts.iter()) {
-            fails(&rt, rt.alloc(), life(&ASKS, *plan, *word), &DOWN, *count);
+            let asked = life(&TRIES_AGAIN, *plan, *word);
+            fails(&rt, rt.alloc(), asked, &DOWN, *count);
         }
     }
 }
@@ -95,19 +88,5 @@ fn commits_without_a_failure(rt: HostRuntime) {
     // no fifth call is made
     for word in WORDS {
         fails(&rt, rt.alloc(), life(&ASKS, Plan::Fail(5), word), &UP, 1);
-    }
-}
-
-#[test]
-fn first_sync_fails(rt: HostRuntime) {
-    // the gate isn't written yet, so the group isn't there, whatever the crash leaves
-    for word in WORDS {
-        fails(
-            &rt,
-            rt.alloc(),
-            life(&TRIES_AGAIN, Plan::Fail(2), word),
-            &DOWN_TWICE,
-            0,
-        );
     }
 }

@@ -56,7 +56,7 @@ fn put(rt: &impl Abort, disk: &mut MemDisk, at: usize, bytes: &[u8]) {
 }
 
 // A device for five nodes that has rolled once, with an edge, and so many records since.
-pub(super) fn rolled(rt: &impl Abort, alloc: Global, records: u64) -> MemDisk {
+fn rolled(rt: &impl Abort, alloc: Global, records: u64) -> MemDisk {
     let mut disk = formatted(rt, alloc, 5);
     for (at, bytes) in &SECOND_SLOT {
         put(rt, &mut disk, *at, bytes);

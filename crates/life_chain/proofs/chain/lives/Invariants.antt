@@ -9,7 +9,7 @@ invariant-loop-life g l = record {
   room : HaveRooms l.rooms.items (drop l.life-index l.lives);
   spare : vec_len l.report + (length l.lives - l.life-index) ≤ vec_capacity l.report;
   model : IsTrue (g.D.Disk.view l.fn.disk).keeps_model → IsTrue (g.D.Disk.view l.disk).keeps_model;
-  lived : IsTrue (g.D.Disk.view l.fn.disk).keeps_model → SoFar g.D.Disk (g.D.Disk.view l.fn.disk).content (take l.life-index l.lives) l.report.items (g.D.Disk.view l.disk).content;
+  lived : IsTrue (g.D.Disk.view l.fn.disk).keeps_model → SoFar g.D.Disk (g.D.Disk.view l.fn.disk).content (g.D.Disk.view l.fn.disk).failures (take l.life-index l.lives) l.report.items (g.D.Disk.view l.disk).content (g.D.Disk.view l.disk).failures;
   first : IsTrue (g.D.Disk.view l.fn.disk).keeps_model → IsFirst l.report.items (g.D.Disk.view l.fn.disk).content;
   chained : IsTrue (g.D.Disk.view l.fn.disk).keeps_model → AreChained l.lives l.report.items;
 }

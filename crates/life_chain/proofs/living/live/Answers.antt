@@ -1,4 +1,4 @@
-use Rattle.std.proofs.Common.{◌≡◌, ◌++◌, [], ℕ, List, refl, subst, sym, ap, ◌∙◌, IsTrue, Bool, false}
+use Rattle.std.proofs.Common.{◌≡◌, ◌≤◌, ◌++◌, [], ◌∷◌, ℕ, List, refl, subst, sym, ap, ◌∙◌, IsTrue, Bool, false}
 use Rattle.std.specs.Option.{option_map}
 use Rattle.disk_trait.specs.Disk.{MayLeave}
 use Rattle.recovery.specs.State.{State}
@@ -10,7 +10,6 @@ use Rattle.histories.specs.Runs.{IsRun, moment_of}
 use Rattle.event_runs.specs.declared.event.Event.{Event}
 use Rattle.event_runs.specs.Machines.{Machine, begun}
 use Rattle.event_runs.specs.Answers.{RebuildAnswers}
-use Rattle.event_runs.specs.Moments.{AreMoments}
 use Rattle.listed_runs.specs.Listed.{IsListed}
 use Rattle.listed_runs.specs.Lives.{history_of}
 use Rattle.listed_runs.specs.Queues.{all_let_in}
@@ -19,6 +18,7 @@ use Rattle.packet_ways.specs.Replies.{RunRoutes}
 use Rattle.interleave.specs.declared.stored.Stored.{Stored}
 use Rattle.interleave.specs.Stores.{machine_with}
 use Rattle.interleave.specs.WorldWords.{lists_of, machine_of, world_view, world_store, desk_of}
+use Rattle.interleave.specs.Crashes.{GoneOn}
 use Rattle.interleave.specs.Desks.{WorldRun}
 use Rattle.life_chain.specs.declared.life.Life.{Life}
 use Rattle.life_chain.specs.declared.report.LifeReport.{LifeReport}
@@ -66,11 +66,10 @@ returns-clause-lived g c model =
     subst (λ st. IsRun s (view_of st) (none_yet s) []) (sym built_is) (c.history_law.ensures.begins s (disk_of store) (stands_now store model c.requires.up)) in
     let armed_run : IsRun s (world_view armed) (lists_of armed) [] =
     subst (λ (a : Lists). IsRun s (world_view armed) a []) (sym lists_is) (c.history_law.ensures.stays_run s (disk_of (world_store built)) (disk_of (world_store armed)) (none_yet s) [] begun_run c.arm.ensures.same) in
-    let gone = c.run_into.ensures.crashes model_armed s [] armed_run in
-    let clock : ℕ = (world_view armed).clock in
-    let are : AreMoments (clock, s.count) life.events.items replies.items gone.moments (moment_of (world_view end) (lists_of end)) =
-    subst (λ (l : List Event). AreMoments (clock, s.count) l replies.items gone.moments (moment_of (world_view end) (lists_of end))) c.as_slice-2.ensures.value
-    (subst (λ (n : ℕ). AreMoments (clock, n) c.as_slice-2.result.now replies.items gone.moments (moment_of (world_view end) (lists_of end))) (ap (λ (a : Lists). a.state.count) lists_is) gone.are) in
+    let now = moment_of (world_view armed) (lists_of armed) in
+    let counted : IsRun s (world_view armed) (lists_of armed) (now ∷ []) = c.history_law.ensures.now_counts s (disk_of (world_store armed)) (lists_of armed) [] armed_run in
+    let crashes : GoneOn s now (world_view end) (lists_of end) life.events.items replies.items (now ∷ []) =
+    subst (λ (l : List Event). GoneOn s now (world_view end) (lists_of end) l replies.items (now ∷ [])) c.as_slice-2.ensures.value (c.run_into.ensures.crashes model_armed s (now ∷ []) counted) in
     let listed_built : IsListed s (machine_of built) = c.rebuild-rebuilt.ensures.listed s (subst (λ st. IsListed (state_of st) (machine_of world)) c.new.ensures.store c.in_ok-world.ensures.listed) in
     let listed_armed : IsListed s (machine_of armed) = subst (λ (m : Machine). IsListed s m) (sym c.arm.ensures.machine) listed_built in
     let ways_armed : AreOnWay (machine_of armed) = subst (λ (m : Machine). AreOnWay m) (sym c.arm.ensures.machine) (c.rebuild-rebuilt.ensures.ways c.in_ok-world.ensures.on_way) in
@@ -84,7 +83,10 @@ returns-clause-lived g c model =
     let left : MayLeave (world_view end) content = (subst (λ d. IsTrue (g.D.Disk.view d).keeps_model → MayLeave (g.D.Disk.view d) content) disk_is c.crash-disk.ensures.image) model_end in
     let opened : opened_of report ≡ s = by_parts c.count-count.result s.count c.in_ok-graph.graph s.graph c.starts-tickets.result s.tickets c.count-count.ensures.same (c.in_ok-graph.ensures ∙ c.graph.ensures) c.starts-tickets.ensures in
     let desks : WorldRun armed life.events.items replies.items end = subst (λ (l : List Event). WorldRun armed l replies.items end) c.as_slice-2.ensures.value c.run_into.ensures.desks in
-    subst (λ (f : State). IsLived g.D.Disk f life report content) (sym opened)
-    (lived_is g.D.Disk armed end s life report content (machine_of built) (machine_of end) clock (world_view end).clock gone.moments (ap (λ (x : Stored). machine_with x due state down) (sym c.into_parts-stored.ensures.stored)) rebuilt asked_is answers
-    (c.run_into.ensures.lists s listed_armed) (c.run_into.ensures.routed_well s listed_armed ways_armed) are (c.run_into.ensures.acknowledged model_armed s [] armed_run listed_armed content left)
-    desks c.arm.ensures.machine refl left)
+    let after : ℕ = (g.D.Disk.view c.crash-disk.result).failures in
+    let unfailed : (world_view armed).failures ≡ (view_of store).failures = c.arm.ensures.same.failures ∙ ap (λ st. (view_of st).failures) built_is in
+    let risen : (world_view end).failures ≤ after = subst (λ d. (g.D.Disk.view d).failures ≤ after) disk_is c.crash-disk.ensures.ran.no_fewer in
+    subst (λ (f : State). IsLived g.D.Disk f (view_of store).failures life report content after) (sym opened)
+    (lived_is g.D.Disk armed end s life report content (machine_of built) (machine_of end) (view_of store).failures after (ap (λ (x : Stored). machine_with x due state down) (sym c.into_parts-stored.ensures.stored)) rebuilt asked_is answers
+    (c.run_into.ensures.lists s listed_armed) (c.run_into.ensures.routed_well s listed_armed ways_armed) crashes (c.run_into.ensures.acknowledged model_armed s [] armed_run listed_armed content left)
+    desks c.arm.ensures.machine refl left unfailed risen)
