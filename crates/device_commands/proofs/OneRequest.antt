@@ -1,5 +1,5 @@
 -- One request alone: its mark, and the state after it.
-use Rattle.std.proofs.Common.{refl, ap, sym, ◌∙◌, ◌≡◌, ◌≢◌, ◌+◌, ◌⊎◌, inl, ℕ, List, [], ◌∷◌, Option, Some, Result, Ok, Err, IsTrue, IfOk, OnOk, false, subst}
+use Rattle.std.proofs.Common.{refl, ap, sym, ◌∙◌, ◌≡◌, ◌≢◌, ◌<◌, ◌≤◌, ◌+◌, ◌⊎◌, inl, ℕ, List, [], ◌∷◌, Option, Some, Result, Ok, Err, IsTrue, IfOk, OnOk, false, subst, arith}
 use Rattle.std.specs.Result.{IsOk}
 use Rattle.disk_trait.specs.Disk.{LeavesOnly, OnlyRead, joined, reading_leaves, started}
 use Rattle.graph_edits.specs.declared.edits.Op.{Op}
@@ -30,6 +30,13 @@ accepted_is_taken s ticket change = elim (graph_after s.graph change) as (λ o. 
   | Err at ↦ λ some. absurd (some refl)
 ]
 
+-- where the graph refuses the change, nothing of it is accepted
+pub refused_is_idle : (s : State) (ticket : ℕ) (change : List Op) → ¬ (IsTaken s change) → (settle s (request_of ticket change ∷ [])).accepted ≡ []
+refused_is_idle s ticket change = elim (graph_after s.graph change) as (λ o. ¬ (IsOk o) → (elim o as (λ _. Settled) [ Ok graph ↦ accept (request_of ticket change) (s.count + 1) (settle (one_more s (request_of ticket change) graph) []) | Err at ↦ refuse (request_of ticket change) at (settle s []) ]).accepted ≡ []) [
+  | Ok graph ↦ λ refused. absurd (refused refl)
+  | Err at ↦ λ refused. refl
+]
+
 -- ---- what settling one request leaves, said of the store that the committer was made of
 
 pub settles_leaves : {D : Type 0} {V : _} → (store was done result : Store D V) (put : List Request) (ticket : ℕ) (change : List Op) → was ≡ store → put ≡ request_of ticket change ∷ [] → result ≡ done
@@ -39,6 +46,12 @@ settles_leaves {D = D} {V = V} store was done result put ticket change same one 
     let moved : IsTrue (view_of store).keeps_model → LeavesOnly (view_of store) (view_of result) (λ image. StandsFor (state_of store) image ⊎ StandsFor (settle (state_of store) (request_of ticket change ∷ [])).state image)
     = subst (λ (x : Store D V × (Store D V × List Request)). IsTrue (view_of x.0).keeps_model → LeavesOnly (view_of x.0) (view_of x.1.0) (λ image. StandsFor (state_of x.0) image ⊎ StandsFor (settle (state_of x.0) x.1.1).state image)) (λ i. (same i, (sym to i, one i))) run in
     subst (λ (next : State). IsTrue (view_of store).keeps_model → LeavesOnly (view_of store) (view_of result) (λ image. StandsFor (state_of store) image ⊎ StandsFor next image)) (one_state (state_of store) ticket change) moved
+
+-- a change that the graph refuses leaves the store
+pub settles_idle : {D : Type 0} {V : _} → (store was done result : Store D V) (put : List Request) (ticket : ℕ) (change : List Op) → was ≡ store → put ≡ request_of ticket change ∷ [] → result ≡ done
+    → ((settle (state_of was) put).accepted ≡ [] → done ≡ was) → ¬ (IsTaken (state_of store) change) → result ≡ store
+settles_idle {D = D} {V = V} store was done result put ticket change same one to stays refused =
+    to ∙ (stays (ap (λ (x : Store D V × List Request). (settle (state_of x.0) x.1).accepted) (λ i. (same i, one i)) ∙ refused_is_idle (state_of store) ticket change refused) ∙ same)
 
 -- a store that nothing was asked of leaves its state
 pub untouched_leaves : {D : Type 0} {V : _} → (store result : Store D V) (next : State) → result ≡ store → IsTrue (view_of store).keeps_model → is_down store ≡ false
@@ -70,6 +83,10 @@ edit_leaves {V = V} disk back store done state next same is reads keeps run =
 pub edit_reads : {D : Type 0} {V : _} → (disk back : D) (store done : Store D V) → done ≡ store → back ≡ disk_of done → OnlyRead (V.view disk) (view_of store) → OnlyRead (V.view disk) (V.view back)
 edit_reads {V = V} disk back store done same is reads =
     subst (λ d. OnlyRead (V.view disk) (V.view d)) (sym is) (subst (λ s. OnlyRead (V.view disk) (view_of s)) (sym same) reads)
+
+-- a disk that failed behind its opening has failed more often than before
+pub edit_fails : {D : Type 0} {V : _} → (disk back : D) (store done : Store D V) → back ≡ disk_of done → (V.view disk).failures ≤ (view_of store).failures → (view_of store).failures < (view_of done).failures → (V.view disk).failures < (V.view back).failures
+edit_fails {D = D} {V = V} disk back store done is grows fails = subst (λ (d : D). (V.view disk).failures < (V.view d).failures) (sym is) (omega (arith, grows, fails))
 
 pub edit_keeps : {D : Type 0} {V : _} → (back : D) (done : Store D V) (r : Result Verdict Fault) (state : State) → back ≡ disk_of done → IsTrue (view_of done).keeps_model
     → OnOk r (state_of done ≡ state) → OnOk r (is_down done ≡ false) → OnOk r (KeepsThrough (V.view back) state)

@@ -50,6 +50,15 @@ pub round_accepts : {D R : Type 0} {V : _} → (start mid done : Committer D R V
 round_accepts {D = D} {V = V} start mid done put same all still held past =
     subst (λ (x : Store D V × List Request). (settle (state_of x.0) x.1).accepted ≢ []) (λ i. ((still ∙ same) i, (held ∙ all) i)) past.0
 
+-- where nothing is accepted, the store stays
+pub round_idle : {D R : Type 0} {V : _} → (start mid done : Committer D R V) (put : List Request) → store_of mid ≡ store_of start → asked mid done ≡ put → ((settled mid done).accepted ≡ [] → store_of done ≡ store_of mid)
+    → (settle (state_of (store_of start)) put).accepted ≡ [] → store_of done ≡ store_of start
+round_idle {D = D} {V = V} start mid done put same all stays none = stays (ap (λ (x : Store D V × List Request). (settle (state_of x.0) x.1).accepted) (λ i. (same i, all i)) ∙ none) ∙ same
+
+-- what is told where the device failed in the round, from before it
+pub round_fails : {D R : Type 0} {V : _} → (start mid done : Committer D R V) → store_of mid ≡ store_of start → (view_of (store_of mid)).failures < (view_of (store_of done)).failures → (view_of (store_of start)).failures < (view_of (store_of done)).failures
+round_fails {D = D} {V = V} start mid done same fails = subst (λ (s : Store D V). (view_of s).failures < (view_of (store_of done)).failures) same fails
+
 pub round_leaves : {D R : Type 0} {V : _} → (start mid done : Committer D R V) (put : List Request) → store_of mid ≡ store_of start → asked mid done ≡ put
     → (IsTrue (view_of (store_of mid)).keeps_model → is_down (store_of mid) ≡ false
     → LeavesOnly (view_of (store_of mid)) (view_of (store_of done)) (λ image. StandsFor (state_of (store_of mid)) image ⊎ StandsFor (settled mid done).state image))

@@ -1,5 +1,5 @@
 -- What faults tell of a content.
-use Rattle.std.proofs.Common.{◌≡◌, ℕ, List, refl}
+use Rattle.std.proofs.Common.{◌≡◌, ℕ, List, Result, Ok, Err, IfErr, IsErrOf, refl, ap}
 use Rattle.recovery_parts.specs.declared.refusals.OpenRefused.{OpenRefused}
 use Rattle.recovery_parts.specs.declared.refusals.OpenRefused.TheVariants.{NotFormatted, BadVersion, Damaged, Device, Memory}
 use Rattle.recovery_parts.specs.Refusals.{LacksMagic}
@@ -8,7 +8,7 @@ use Rattle.recovery_parts.specs.Refusals.{IsFormatFault}
 use Rattle.recovery.specs.Standing.{StandsForNone}
 use Rattle.printed_lines.specs.declared.fault.Fault.{Fault}
 use Rattle.printed_lines.specs.declared.fault.Fault.TheVariants as fault
-use Rattle.device_commands.specs.Openings.{IsChangeFault, IsDeskFault, IsEditFault, IsOpenFault, TellsOf, open_fault}
+use Rattle.device_commands.specs.Openings.{IsChangeFault, IsDeskFault, IsEditFault, IsOpenFault, IsUnwrittenFault, TellsOf, open_fault}
 
 -- a refused opening's fault tells what the refusal does
 pub opening_tells : (refused : OpenRefused) (content : List ℕ) → (IsFormatFault refused → StandsForNone content) → (refused ≡ NotFormatted → LacksMagic content)
@@ -50,6 +50,18 @@ change_edits fault.Memory is = tt
 change_edits fault.Worn is = tt
 change_edits fault.AlreadyIn is = tt
 change_edits _ is = absurd is
+
+-- of them this one alone is told where nothing was written
+unwritten_by : (f : Fault) (P : Type 0) → IsChangeFault f → (f ≡ fault.AlreadyIn → P) → IsUnwrittenFault f → P
+unwritten_by fault.Device P is told un = absurd un
+unwritten_by fault.Memory P is told un = absurd un
+unwritten_by fault.Worn P is told un = absurd un
+unwritten_by fault.AlreadyIn P is told un = told refl
+unwritten_by _ P is told un = absurd is
+
+pub change_unwritten : {A : Type 0} (r : Result A Fault) (P : Type 0) → IfErr r (λ f. IsChangeFault f) → (IsErrOf r fault.AlreadyIn → P) → IfErr r (λ f. IsUnwrittenFault f → P)
+change_unwritten (Ok a) P is told = tt
+change_unwritten (Err f) P is told = unwritten_by f P is (λ same. told (ap Err same))
 
 -- a desk's are among them
 pub desk_changes : (fault : Fault) → IsDeskFault fault → IsChangeFault fault

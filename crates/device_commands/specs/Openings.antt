@@ -57,3 +57,11 @@ abbrev pub IsEditFault : Fault → Type 0
 IsEditFault Worn = Unit {0}
 IsEditFault AlreadyIn = Unit {0}
 IsEditFault fault = IsOpenFault fault
+
+-- the faults of an edit behind which the device was only read
+abbrev pub IsUnwrittenFault : Fault → Type 0
+IsUnwrittenFault NotFormatted = Unit {0}
+IsUnwrittenFault LayoutNotKnown = Unit {0}
+IsUnwrittenFault Damaged = Unit {0}
+IsUnwrittenFault AlreadyIn = Unit {0}
+IsUnwrittenFault fault = ⊥

@@ -6,7 +6,7 @@ ghost use Rattle.recovery.specs.State.{State};
 ghost use Rattle.recovery.specs.Standing.{StandsFor};
 ghost use Rattle.checkpoint.specs.StoreWords.{state_of, view_of, is_down};
 ghost use Rattle.device_commands.specs.Answer.{verdict_of, state_after, state_under, last_ticket, ticket_of, IsNew, IsTaken, KeepsThrough};
-ghost use Rattle.device_commands.specs.Openings.{IsChangeFault, IsDeskFault, IsEditFault, TellsOf};
+ghost use Rattle.device_commands.specs.Openings.{IsChangeFault, IsDeskFault, IsEditFault, IsUnwrittenFault, TellsOf};
 
 use crate::one_editor::{seated, settled, submitted};
 use crate::opening::open;
@@ -36,7 +36,10 @@ pub fn edit<D: Disk, R: Threads + Wait + Sync>(
     ensures of_one { IfOk result.0 (λ verdict. (state : State) × IsNew state named × (verdict ≡ verdict_of state change)) }
     // A ticket that was taken changes nothing.
     ensures already_in { IsTrue (D.view disk).keeps_model → (state : State) → StandsFor state (D.view disk).content → IsErrOf result.0 Fault.AlreadyIn → ¬ (IsNew state named) }
-    ensures unwritten { IsTrue (D.view disk).keeps_model → IsErrOf result.0 Fault.AlreadyIn → OnlyRead (D.view disk) (D.view result.1) }
+    ensures unwritten { IsTrue (D.view disk).keeps_model → IfErr result.0 (λ fault. IsUnwrittenFault fault → OnlyRead (D.view disk) (D.view result.1)) }
+    // A change that the graph refuses writes nothing.
+    ensures refused { IsTrue (D.view disk).keeps_model → (state : State) → StandsFor state (D.view disk).content → ¬ (IsTaken state change) → OnlyRead (D.view disk) (D.view result.1) }
+    ensures device { IsErrOf result.0 Fault.Device → (D.view disk).failures < (D.view result.1).failures }
     ensures worn { IsTrue (D.view disk).keeps_model → (state : State) → StandsFor state (D.view disk).content → IsErrOf result.0 Fault.Worn
         → IsNew state named × ((worn_limit < ticket_of (last_ticket state) named) ⊎ IsTaken state change) }
     ensures left { IsTrue (D.view disk).keeps_model → (state : State) → StandsFor state (D.view disk).content → OnOk result.0 (KeepsThrough (D.view result.1) (state_after state named change)) }
@@ -69,6 +72,8 @@ fn settle_one<D: Disk, R: Threads + Wait + Sync>(
     ensures new { OnOk result.0 (IsNew (state_of store) named) }
     ensures already_in { IsErrOf result.0 Fault.AlreadyIn → ¬ (IsNew (state_of store) named) }
     ensures unwritten { IsErrOf result.0 Fault.AlreadyIn → result.1 ≡ store }
+    ensures refused { ¬ (IsTaken (state_of store) change) → result.1 ≡ store }
+    ensures device { IsErrOf result.0 Fault.Device → (view_of store).failures < (view_of result.1).failures }
     ensures worn { IsErrOf result.0 Fault.Worn → IsNew (state_of store) named × ((worn_limit < ticket_of (last_ticket (state_of store)) named) ⊎ IsTaken (state_of store) change) }
     ensures state { OnOk result.0 (state_of result.1 ≡ state_after (state_of store) named change) }
     ensures up { OnOk result.0 (is_down result.1 ≡ false) }
@@ -112,6 +117,8 @@ fn commit_one<D: Disk, R: Threads + Wait + Sync>(
     requires { is_down store ≡ false }
     ensures verdict { IfOk result.0 (λ verdict. verdict ≡ verdict_of (state_of store) change) }
     ensures worn { IsErrOf result.0 Fault.Worn → IsTaken (state_of store) change }
+    ensures refused { ¬ (IsTaken (state_of store) change) → result.1 ≡ store }
+    ensures device { IsErrOf result.0 Fault.Device → (view_of store).failures < (view_of result.1).failures }
     ensures state { OnOk result.0 (state_of result.1 ≡ state_under (state_of store) ticket change) }
     ensures up { OnOk result.0 (is_down result.1 ≡ false) }
     ensures ran { IsSameDevice (view_of store) (view_of result.1) }

@@ -23,8 +23,6 @@ mod editing;
 mod moving;
 mod one_editor;
 mod opening;
-#[cfg(test)]
-mod tests;
 
 pub use editing::edit;
 pub use moving::migrate;

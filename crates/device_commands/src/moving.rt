@@ -1,5 +1,5 @@
 //! Bringing over what a device of layout 1 holds.
-ghost use Rattle.std.specs.Prelude.{◌≡◌, ◌≢◌, ◌↔◌, length, IsTrue, IfOk, IfErr, IsErr, IsErrOf};
+ghost use Rattle.std.specs.Prelude.{◌≡◌, ◌≢◌, ◌<◌, ◌⊎◌, ◌↔◌, length, IsTrue, IfOk, IfErr, IsErr, IsErrOf, OnOk};
 ghost use Rattle.std.specs.FinMap.{len};
 ghost use Rattle.disk_trait.specs.Disk.{IsSameDevice, LeavesOnly, OnlyRead};
 ghost use Rattle.graph_edits.specs.Edges.{Network};
@@ -24,6 +24,8 @@ pub fn migrate<O: Disk, N: Disk>(alloc: Global, old: &mut O, new: &mut N) -> Res
     ensures any_moment { IsTrue (O.view old.old).keeps_model → IsTrue (N.view new.old).keeps_model → IsAllForeign (N.view new.old)
         → LeavesOnly (N.view new.old) (N.view new.new) (HoldsNoneOrAllOf (O.view old.old).content) }
     ensures device_length { IsErrOf result Fault.DeviceLength ↔ (length (N.view new.old).content ≢ device_len) }
+    ensures device { IsErrOf result Fault.Device → ((O.view old.old).failures < (O.view old.new).failures) ⊎ ((N.view new.old).failures < (N.view new.new).failures) }
+    ensures no_failure { OnOk result (((O.view old.new).failures ≡ (O.view old.old).failures) × ((N.view new.new).failures ≡ (N.view new.old).failures)) }
     ensures tells { IsTrue (O.view old.old).keeps_model → IfErr result (λ fault. TellsOfOld fault (O.view old.old).content) }
     ensures faults { IfErr result (λ fault. IsMoveFault fault) }
     ensures ran_old { IsSameDevice (O.view old.old) (O.view old.new) }

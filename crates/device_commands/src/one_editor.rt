@@ -1,5 +1,5 @@
 //! One change on an open store: an editor in a thread of its own submits it, and the committer makes one round.
-ghost use Rattle.std.specs.Prelude.{◌≡◌, ◌≢◌, ◌⊎◌, length, IsTrue, IfOk, IfErr, IfSome, IsErrOf, OnOk, [], Some, false};
+ghost use Rattle.std.specs.Prelude.{◌≡◌, ◌≢◌, ◌<◌, ◌⊎◌, length, IsTrue, IfOk, IfErr, IfSome, IsErrOf, OnOk, [], Some, false};
 ghost use Rattle.std.specs.Thread.{IsSync};
 ghost use Rattle.disk_trait.specs.Disk.{IsSameDevice, LeavesOnly};
 ghost use Rattle.requests.specs.Tickets.{sessions};
@@ -104,6 +104,9 @@ pub fn settled<D: Disk, R: Wait + Drop, W: Wait>(
     requires one_change { IsOne editor.put }
     ensures verdict { IfOk result (λ verdict. first_verdict (settle (state_of (store_of committer.old)) editor.put).marks ≡ Some verdict) }
     ensures worn { IsErrOf result Fault.Worn → (settle (state_of (store_of committer.old)) editor.put).accepted ≢ [] }
+    // Nothing is written where nothing is accepted.
+    ensures idle { (settle (state_of (store_of committer.old)) editor.put).accepted ≡ [] → store_of committer.new ≡ store_of committer.old }
+    ensures device { IsErrOf result Fault.Device → (view_of (store_of committer.old)).failures < (view_of (store_of committer.new)).failures }
     ensures state { OnOk result (state_of (store_of committer.new) ≡ (settle (state_of (store_of committer.old)) editor.put).state) }
     ensures up { OnOk result (is_down (store_of committer.new) ≡ false) }
     ensures ran { IsSameDevice (view_of (store_of committer.old)) (view_of (store_of committer.new)) }
@@ -145,6 +148,7 @@ fn verdict_shown(watcher: Watcher) -> Result<Verdict, Fault>
 fn fault_of(refused: RoundRefused) -> Fault
     ensures desk { IsDeskFault result }
     ensures worn { result ≡ Fault.Worn → refused ≡ RoundRefused.Worn }
+    ensures device { result ≡ Fault.Device → (refused ≡ RoundRefused.Device) ⊎ (refused ≡ RoundRefused.Down) }
 {
     match refused {
         RoundRefused::Device | RoundRefused::Down => Fault::Device,

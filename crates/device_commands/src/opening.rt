@@ -1,5 +1,5 @@
 //! Formatting a device, opening one, and telling what it holds.
-ghost use Rattle.std.specs.Prelude.{◌≡◌, ◌≢◌, ◌≤◌, ◌<◌, ◌↔◌, length, IsTrue, IfOk, IfErr, IsErrOf, OnOk, false};
+ghost use Rattle.std.specs.Prelude.{◌≡◌, ◌≢◌, ◌≤◌, ◌<◌, ◌↔◌, length, IsTrue, IfOk, IfErr, IsErr, IsErrOf, OnOk, false};
 ghost use Rattle.std.specs.String.{string_bytes};
 ghost use Rattle.disk_trait.specs.Disk.{IsSameDevice, MayLeave, OnlyRead};
 ghost use Rattle.graph_edits.specs.Edges.{most_nodes};
@@ -23,8 +23,12 @@ pub fn format<D: Disk>(disk: &mut D, nodes: u16) -> Result<(), Fault>
     ensures left { IsTrue (D.view disk.old).keeps_model → OnOk result (KeepsThrough (D.view disk.new) (first_state nodes)) }
     ensures node_count { IsErrOf result Fault.NodeCount ↔ (¬ ((1 ≤ nodes) × (nodes ≤ most_nodes))) }
     ensures device_length { IsErrOf result Fault.DeviceLength ↔ ((1 ≤ nodes) × (nodes ≤ most_nodes) × (length (D.view disk.old).content ≢ device_len)) }
+    // Where it isn't told that the device failed, it is as it was.
+    ensures untouched { IsErr result → ¬ (IsErrOf result Fault.Device) → disk.new ≡ disk.old }
     ensures device { IsErrOf result Fault.Device → (D.view disk.old).failures < (D.view disk.new).failures }
+    ensures no_failure { OnOk result ((D.view disk.new).failures ≡ (D.view disk.old).failures) }
     ensures faults { IfErr result (λ fault. IsFormatFault nodes fault) }
+    ensures ran { IsSameDevice (D.view disk.old) (D.view disk.new) }
 {
     match checkpoint::format(disk, nodes) {
         Ok(()) => Ok(()),

@@ -13,7 +13,7 @@ use node_table::{CarryRefused, Scheme, Trail, graph_is_sound};
 use std::alloc::{AllocError, Global};
 
 /// How many bytes the trees of a scheme that is being built may take.
-pub const SCRATCH_LEN: usize = 16_777_216;
+pub const SCRATCH_LEN: usize = 67_108_864;
 
 /// What became of a packet.
 #[derive(Drop)]

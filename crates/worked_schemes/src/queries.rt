@@ -3,7 +3,7 @@ use crate::helpers::{
     PAIRS, PATH, TRIANGLE, Way, ends_of, expect_trail, got, graph_of, same, words_at,
 };
 use node_table::Trail;
-use scheme_queries::{Checked, Route, carry_packet, check_scheme};
+use scheme_queries::{Checked, Route, SCRATCH_LEN, carry_packet, check_scheme};
 use std::alloc::Global;
 use std::process::Abort;
 
@@ -41,6 +41,7 @@ const WAYS: [Way<'static>; 3] = [
 #[test]
 fn routes_by_query(rt: HostRuntime) {
     let alloc = rt.alloc();
+    same(&rt, SCRATCH_LEN, 67_108_864, "what the trees may take");
     for way in &WAYS {
         let (nodes, edges, at, through, _, _) = *way;
         let Some(trail) = trail_of(&rt, alloc, nodes, edges, at, ends_of(through)) else {

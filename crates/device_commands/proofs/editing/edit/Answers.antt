@@ -1,10 +1,12 @@
 use Rattle.std.proofs.Common.{sym, ◌≡◌, ◌<◌, ◌⊎◌, ◌∙◌, subst, IsTrue, IfOk, OnOk, IsErrOf}
+use Rattle.disk_trait.specs.Disk.{OnlyRead}
 use Rattle.requests.specs.Tickets.{worn_limit}
 use Rattle.recovery.specs.State.{State}
 use Rattle.checkpoint.specs.StoreWords.{state_of, view_of}
 use Rattle.printed_lines.specs.declared.fault.Fault.TheVariants.{AlreadyIn, Worn}
 use Rattle.device_commands.specs.Answer.{KeepsThrough, IsNew, IsTaken, last_ticket, state_after, ticket_of, verdict_of}
-use Rattle.device_commands.proofs.OneRequest.{edit_keeps, edit_leaves, edit_reads, of_one_state}
+use Rattle.device_commands.proofs.OneRequest.{edit_fails, edit_keeps, edit_leaves, edit_reads, of_one_state}
+use Rattle.device_commands.proofs.OpenFaults.{change_unwritten}
 use Rattle.device_commands.proofs.editing.edit.Goals as goal
 
 pub returns-in-Ok-clause-verdict : goal.returns-in-Ok-clause-verdict
@@ -26,8 +28,18 @@ returns-in-Ok-clause-already_in g c model state stands =
     subst (λ s. IsErrOf c.settle_one-answer.result.0 AlreadyIn → ¬ (IsNew s c.args.named)) same c.settle_one-answer.ensures.already_in
 
 pub returns-in-Ok-clause-unwritten : goal.returns-in-Ok-clause-unwritten
-returns-in-Ok-clause-unwritten g c model is =
-    edit_reads c.args.disk c.into_disk.result c.in-Ok.store c.settle_one-answer.result.1 (c.settle_one-answer.ensures.unwritten is) c.into_disk.ensures (c.in-Ok.ensures.reads model)
+returns-in-Ok-clause-unwritten g c model =
+    change_unwritten c.settle_one-answer.result.0 (OnlyRead (g.D.Disk.view c.args.disk) (g.D.Disk.view c.into_disk.result)) c.settle_one-answer.ensures.faults
+    (λ is. edit_reads c.args.disk c.into_disk.result c.in-Ok.store c.settle_one-answer.result.1 (c.settle_one-answer.ensures.unwritten is) c.into_disk.ensures (c.in-Ok.ensures.reads model))
+
+pub returns-in-Ok-clause-refused : goal.returns-in-Ok-clause-refused
+returns-in-Ok-clause-refused g c model state stands refused =
+    let same : state_of c.in-Ok.store ≡ state = c.standing_law.ensures (state_of c.in-Ok.store) state _ (c.in-Ok.ensures.stands model) stands in
+    edit_reads c.args.disk c.into_disk.result c.in-Ok.store c.settle_one-answer.result.1 (c.settle_one-answer.ensures.refused (subst (λ s. ¬ (IsTaken s c.args.change)) (sym same) refused)) c.into_disk.ensures (c.in-Ok.ensures.reads model)
+
+pub returns-in-Ok-clause-device : goal.returns-in-Ok-clause-device
+returns-in-Ok-clause-device g c is =
+    edit_fails c.args.disk c.into_disk.result c.in-Ok.store c.settle_one-answer.result.1 c.into_disk.ensures c.in-Ok.ensures.ran.no_fewer (c.settle_one-answer.ensures.device is)
 
 pub returns-in-Ok-clause-worn : goal.returns-in-Ok-clause-worn
 returns-in-Ok-clause-worn g c model state stands =

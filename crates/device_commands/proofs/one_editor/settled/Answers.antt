@@ -1,4 +1,4 @@
-use Rattle.std.proofs.Common.{◌≡◌, ℕ, List, [], length, Some, Err, false, inr, ap, sym, ◌∙◌, subst}
+use Rattle.std.proofs.Common.{◌≡◌, ℕ, List, [], length, Some, Err, true≢false, false, inr, ⊎_elim, ap, sym, ◌∙◌, subst}
 use Rattle.requests.specs.declared.request.Request.{Request}
 use Rattle.checkpoint.specs.StoreWords.{state_of, is_down}
 use Rattle.generations.specs.declared.posting.Verdict.{Verdict}
@@ -13,7 +13,7 @@ use Rattle.committer.specs.Rounds.{with_marks_of}
 use Rattle.printed_lines.specs.declared.fault.Fault.TheVariants as fault
 use Rattle.device_commands.specs.Answer.{first_verdict}
 use Rattle.device_commands.specs.Editors.{IsShown}
-use Rattle.device_commands.proofs.OneRound.{round_takes, round_state, round_accepts, round_leaves, opened_by, shown_first, each_ok}
+use Rattle.device_commands.proofs.OneRound.{round_takes, round_state, round_accepts, round_fails, round_idle, round_leaves, opened_by, shown_first, each_ok}
 use Rattle.device_commands.proofs.one_editor.settled.Goals as goal
 
 pub learn-requires : goal.learn-requires
@@ -97,3 +97,42 @@ returns-in-Err-clause-any_moment g c =
     let all : asked mid done ≡ put = round_takes mid done put (was.same.0 ∙ c.requires.held) (was.same.1.0 ∙ c.requires.got) up (ap (λ (o : Outgoing). o.due) posts) (was.made ∙ c.requires.one_editor)
     (was.ended ∙ ap (λ (s : ℕ). Some (s, put)) c.requires.session) (ap length c.requires.one_change.1.0) c.round.ensures.taken c.round.ensures.fewer in
     round_leaves start mid done put was.store all c.round.ensures.any_moment up
+
+pub returns-in-Ok-clause-idle : goal.returns-in-Ok-clause-idle
+returns-in-Ok-clause-idle g c =
+    let start = c.args.committer.now in
+    let mid = c.end-watcher.new.self in
+    let done = c.round.new.self in
+    let put : List Request = c.args.editor.put in
+    let was = c.end-watcher.ensures in
+    let posts : posts_of mid ≡ record { opening = c.args.editor.known.opening; posted = []; due = [] } = was.same.1.1.1 ∙ c.requires.posts in
+    let up : is_down (store_of mid) ≡ false = ap is_down was.store ∙ c.requires.up in
+    let all : asked mid done ≡ put = round_takes mid done put (was.same.0 ∙ c.requires.held) (was.same.1.0 ∙ c.requires.got) up (ap (λ (o : Outgoing). o.due) posts) (was.made ∙ c.requires.one_editor)
+    (was.ended ∙ ap (λ (s : ℕ). Some (s, put)) c.requires.session) (ap length c.requires.one_change.1.0) c.round.ensures.taken c.round.ensures.fewer in
+    round_idle start mid done put was.store all c.round.ensures.idle
+
+pub returns-in-Err-clause-idle : goal.returns-in-Err-clause-idle
+returns-in-Err-clause-idle g c =
+    let start = c.args.committer.now in
+    let mid = c.end-watcher.new.self in
+    let done = c.round.new.self in
+    let put : List Request = c.args.editor.put in
+    let was = c.end-watcher.ensures in
+    let posts : posts_of mid ≡ record { opening = c.args.editor.known.opening; posted = []; due = [] } = was.same.1.1.1 ∙ c.requires.posts in
+    let up : is_down (store_of mid) ≡ false = ap is_down was.store ∙ c.requires.up in
+    let all : asked mid done ≡ put = round_takes mid done put (was.same.0 ∙ c.requires.held) (was.same.1.0 ∙ c.requires.got) up (ap (λ (o : Outgoing). o.due) posts) (was.made ∙ c.requires.one_editor)
+    (was.ended ∙ ap (λ (s : ℕ). Some (s, put)) c.requires.session) (ap length c.requires.one_change.1.0) c.round.ensures.taken c.round.ensures.fewer in
+    round_idle start mid done put was.store all c.round.ensures.idle
+
+pub returns-in-Err-clause-device : goal.returns-in-Err-clause-device
+returns-in-Err-clause-device g c is =
+    let start = c.args.committer.now in
+    let mid = c.end-watcher.new.self in
+    let done = c.round.new.self in
+    let was = c.end-watcher.ensures in
+    let up : is_down (store_of mid) ≡ false = ap is_down was.store ∙ c.requires.up in
+    let told : c.fault_of.result ≡ fault.Device = cc in
+    ⊎_elim
+    (λ failed. round_fails start mid done was.store (c.in-Err.ensures.device_lost (ap Err failed)).1)
+    (λ down. absurd (true≢false (sym (c.in-Err.ensures.down.0 (ap Err down)) ∙ up)))
+    (c.fault_of.ensures.device told)

@@ -1,0 +1,125 @@
+-- Which faults may end a run.
+use Rattle.std.specs.Prelude.{◌≡◌, ℕ, List, ◌⊎◌}
+use Rattle.clap.specs.Walk.{Text}
+use Rattle.given_words.specs.declared.words.LandmarkWords.{LandmarkWords}
+use Rattle.given_words.specs.declared.words.LandmarkWords.TheVariants.{Greatest, ZeroAt, Drawn}
+use Rattle.printed_lines.specs.declared.fault.Fault.{Fault}
+use Rattle.printed_lines.specs.declared.fault.Fault.TheVariants as told
+use Rattle.device_commands.specs.Openings.{IsEditFault, IsFormatFault, IsOpenFault}
+use Rattle.device_commands.specs.Moves.{IsMoveFault}
+use Rattle.served_lines.specs.ServedLines.{IsServeFault}
+use Rattle.asked_tasks.specs.Asked.{IsAskedFor, IsInRange}
+use Rattle.asked_tasks.specs.declared.refused.WordsRefused.{WordsRefused}
+use Rattle.asked_tasks.specs.declared.refused.WordsRefused.TheVariants as why
+use Rattle.asked_tasks.specs.declared.task.Task.{Task}
+use Rattle.asked_tasks.specs.declared.task.Task.TheVariants.{Format, Show, Edit, Resume, Route, Check, Migrate, Serve}
+
+-- what is told of words that are no task
+abbrev pub words_fault : WordsRefused → Fault
+words_fault why.Usage = told.Usage
+words_fault why.Words = told.Words
+words_fault why.Op = told.Op
+words_fault why.TooLong = told.ChangeTooLong
+words_fault why.Memory = told.Memory
+
+-- the faults of words that are no task
+abbrev pub IsWordsFault : Fault → Type 0
+IsWordsFault told.Usage = Unit {0}
+IsWordsFault told.Words = Unit {0}
+IsWordsFault told.Op = Unit {0}
+IsWordsFault told.ChangeTooLong = Unit {0}
+IsWordsFault told.Memory = Unit {0}
+IsWordsFault fault = ⊥
+
+-- landmark words that name nodes, of which a device may lack one
+abbrev pub NamesNodes : LandmarkWords → Type 0
+NamesNodes Greatest = ⊥
+NamesNodes (ZeroAt nodes) = Unit {0}
+NamesNodes (Drawn seed) = ⊥
+
+-- the faults that may end `format`
+abbrev pub EndsFormat : ℕ → Fault → Type 0
+EndsFormat nodes told.DeviceFile = Unit {0}
+EndsFormat nodes told.Output = Unit {0}
+EndsFormat nodes fault = IsFormatFault nodes fault
+
+-- those that may end `show` and `resume`
+abbrev pub EndsShow : Fault → Type 0
+EndsShow told.DeviceFile = Unit {0}
+EndsShow told.Output = Unit {0}
+EndsShow fault = IsOpenFault fault
+
+-- those that may end `edit`
+abbrev pub EndsEdit : Fault → Type 0
+EndsEdit told.DeviceFile = Unit {0}
+EndsEdit told.Output = Unit {0}
+EndsEdit fault = IsEditFault fault
+
+-- those that may end `migrate`
+abbrev pub EndsMigrate : Fault → Type 0
+EndsMigrate told.DeviceFile = Unit {0}
+EndsMigrate told.Output = Unit {0}
+EndsMigrate fault = IsMoveFault fault
+
+-- the faults of a check of a device: the words are not understood only where they name nodes
+abbrev pub IsCheckDeviceFault : LandmarkWords → Fault → Type 0
+IsCheckDeviceFault words told.Words = NamesNodes words
+IsCheckDeviceFault words fault = IsOpenFault fault
+
+-- and of a route on one
+abbrev pub IsRouteDeviceFault : LandmarkWords → Fault → Type 0
+IsRouteDeviceFault words told.NoNode = Unit {0}
+IsRouteDeviceFault words fault = IsCheckDeviceFault words fault
+
+-- those that may end `check`
+abbrev pub EndsCheck : LandmarkWords → Fault → Type 0
+EndsCheck words told.DeviceFile = Unit {0}
+EndsCheck words told.Output = Unit {0}
+EndsCheck words fault = IsCheckDeviceFault words fault
+
+-- those that may end `route`
+abbrev pub EndsRoute : LandmarkWords → Fault → Type 0
+EndsRoute words told.DeviceFile = Unit {0}
+EndsRoute words told.Output = Unit {0}
+EndsRoute words fault = IsRouteDeviceFault words fault
+
+-- the faults of a script: it can't be read, or isn't understood
+abbrev pub IsScriptFault : Fault → Type 0
+IsScriptFault told.Script = Unit {0}
+IsScriptFault told.Memory = Unit {0}
+IsScriptFault told.Output = Unit {0}
+IsScriptFault fault = ⊥
+
+-- those that may end `serve`
+abbrev pub EndsServe : Fault → Type 0
+EndsServe told.DeviceFile = Unit {0}
+EndsServe told.Script = Unit {0}
+EndsServe fault = IsServeFault fault
+
+-- the faults of the words for a graph, and of a query under them
+abbrev pub IsWordsOrMemory : LandmarkWords → Fault → Type 0
+IsWordsOrMemory words told.Words = NamesNodes words
+IsWordsOrMemory words told.Memory = Unit {0}
+IsWordsOrMemory words fault = ⊥
+
+-- and of a route between two nodes
+abbrev pub IsRouteFault : LandmarkWords → Fault → Type 0
+IsRouteFault words told.NoNode = Unit {0}
+IsRouteFault words fault = IsWordsOrMemory words fault
+
+-- those that may end a task that is under way
+abbrev pub MayEnd : Task → Fault → Type 0
+MayEnd (Format device nodes) fault = EndsFormat nodes fault
+MayEnd (Show device) fault = EndsShow fault
+MayEnd (Edit device ticket change) fault = EndsEdit fault
+MayEnd (Resume device session) fault = EndsShow fault
+MayEnd (Route device from to words) fault = EndsRoute words fault
+MayEnd (Check device words) fault = EndsCheck words fault
+MayEnd (Migrate old new) fault = EndsMigrate fault
+MayEnd (Serve device editors forwarders places words) fault = EndsServe fault
+
+-- The words are no task that is in range, or memory ran out while they were read; or they ask for a task, and the fault is one that
+-- may end it.
+abbrev pub IsFaultFor : List Text → Fault → Type 0
+IsFaultFor words fault =
+    (IsWordsFault fault × ((task : Task) → IsAskedFor words task → IsInRange task → fault ≡ told.Memory)) ⊎ ((task : Task) × IsAskedFor words task × MayEnd task fault)

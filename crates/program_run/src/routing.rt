@@ -1,0 +1,109 @@
+//! What a graph answers under landmark words, each question in a thread of its own: trees are as deep as a graph has nodes.
+ghost use Rattle.std.specs.Prelude.{◌≡◌, ◌<◌, length};
+ghost use Rattle.scheme_queries.specs.Queries.{IsCheckAnswer};
+ghost use Rattle.program_run.specs.SchemeAnswers.{IsRouteBy};
+
+use graph_edits::Graph;
+use scheme_queries::{Checked, Route, carry_packet, check_scheme};
+use std::alloc::{AllocError, Global};
+use std::snapshot::Snapshot;
+use std::thread::{Builder, Promise, Threads};
+
+/// How many bytes of stack a thread has that builds a scheme.
+const STACK_LEN: usize = 67_108_864;
+
+// That a thread answers for a packet as `carry_packet` does.
+#[derive(Drop)]
+struct RoutePromise {
+    graph: Snapshot<Graph>,
+    words: Snapshot<Vec<u64>>,
+    generation: u64,
+    from: u16,
+    to: u16,
+}
+
+impl Promise<Result<Route, AllocError>> for RoutePromise {
+    ghost use Rattle.program_run.specs.SchemeAnswers.{IsRouteBy};
+
+    ghost kept_by = { λ p r. IsRouteBy p.graph.value p.words.value.items p.generation p.from p.to r };
+}
+
+// That a thread answers as `check_scheme` does.
+#[derive(Drop)]
+struct CheckPromise {
+    graph: Snapshot<Graph>,
+    words: Snapshot<Vec<u64>>,
+    generation: u64,
+}
+
+impl Promise<Result<Checked, AllocError>> for CheckPromise {
+    ghost use Rattle.scheme_queries.specs.Queries.{IsCheckAnswer};
+
+    ghost kept_by = { λ p r. IsCheckAnswer p.graph.value p.words.value.items p.generation r };
+}
+
+/// Carries a packet in a graph, in a thread of its own. Where no thread can be made, memory has run out.
+pub(crate) fn route_in_thread<R: Threads>(
+    rt: &R,
+    alloc: Global,
+    graph: Graph,
+    words: Vec<u64>,
+    generation: u64,
+    from: u16,
+    to: u16,
+) -> Result<Route, AllocError>
+    requires words { length words.items ≡ graph.nodes }
+    requires from { from < graph.nodes }
+    requires to { to < graph.nodes }
+    ensures { IsRouteBy graph words.items generation from to result }
+{
+    let promise = RoutePromise {
+        graph: Snapshot::of(&graph),
+        words: Snapshot::of(&words),
+        generation,
+        from,
+        to,
+    };
+    let job = move || -> Result<Route, AllocError>
+        requires words { length words.items ≡ graph.nodes }
+        requires from { from < graph.nodes }
+        requires to { to < graph.nodes }
+        ensures { IsRouteBy graph words.items generation from to result }
+    { carry_packet(alloc, &graph, &words, generation, from, to) };
+    match Builder::new()
+        .stack_size(STACK_LEN)
+        .spawn_with(rt, promise, job)
+    {
+        Ok(thread) => thread.join(rt),
+        Err(_) => Err(AllocError),
+    }
+}
+
+/// Checks the scheme of a graph, in a thread of its own. Where no thread can be made, memory has run out.
+pub(crate) fn check_in_thread<R: Threads>(
+    rt: &R,
+    alloc: Global,
+    graph: Graph,
+    words: Vec<u64>,
+    generation: u64,
+) -> Result<Checked, AllocError>
+    requires { length words.items ≡ graph.nodes }
+    ensures { IsCheckAnswer graph words.items generation result }
+{
+    let promise = CheckPromise {
+        graph: Snapshot::of(&graph),
+        words: Snapshot::of(&words),
+        generation,
+    };
+    let job = move || -> Result<Checked, AllocError>
+        requires { length words.items ≡ graph.nodes }
+        ensures { IsCheckAnswer graph words.items generation result }
+    { check_scheme(alloc, &graph, &words, generation) };
+    match Builder::new()
+        .stack_size(STACK_LEN)
+        .spawn_with(rt, promise, job)
+    {
+        Ok(thread) => thread.join(rt),
+        Err(_) => Err(AllocError),
+    }
+}

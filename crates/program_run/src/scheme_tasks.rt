@@ -1,0 +1,227 @@
+//! The commands `route` and `check`.
+ghost use Rattle.std.specs.Prelude.{◌≡◌, ◌≢◌, ◌<◌, List, ℕ, IsTrue, IfOk, IfErr, IsErrOf, OnOk};
+ghost use Rattle.std.specs.Io.KnownBytes.{Appends};
+ghost use Rattle.disk_trait.specs.Disk.{DiskView};
+ghost use Rattle.recovery.specs.State.{State};
+ghost use Rattle.recovery.specs.Standing.{StandsFor};
+ghost use Rattle.given_words.specs.Words.{AreWords, IsWithin};
+ghost use Rattle.printed_lines.specs.Lines.{line};
+ghost use Rattle.device_commands.specs.Openings.{TellsOf};
+ghost use Rattle.program_run.specs.Endings.{EndsCheck, EndsRoute, IsCheckDeviceFault, IsRouteDeviceFault, IsRouteFault, IsWordsOrMemory};
+ghost use Rattle.program_run.specs.SchemeAnswers.{IsRouteOf, IsCheckOf, answered_text, checks_text, ended_along, ended_at};
+
+use crate::files::open_file;
+use crate::routing::{check_in_thread, route_in_thread};
+use checkpoint::standing_law;
+use device_commands::open;
+use disk_trait::Disk;
+use given_words::LandmarkWords;
+use graph_edits::Graph;
+use printed_lines::{
+    BrokenLine, CheckedLine, Ended, Fault, RouteLine, UnreachableLine, print_line,
+};
+use scheme_queries::{Checked, Route};
+use std::alloc::Global;
+use std::fs::File;
+use std::io::Write;
+use std::rt::Files;
+use std::thread::Threads;
+
+/// The landmark words of a graph's nodes, as they were asked for. A node that is named and that the graph hasn't isn't understood.
+fn words_of(alloc: Global, graph: &Graph, asked: &LandmarkWords) -> Result<Vec<u64>, Fault>
+    ensures within { IfOk result (λ _. IsWithin asked.now graph.now.nodes) }
+    ensures words { IfOk result (λ words. AreWords asked.now graph.now.nodes words.items) }
+    ensures not_within { IsErrOf result Fault.Words → ¬ IsWithin asked.now graph.now.nodes }
+    ensures fault { IfErr result (λ fault. IsWordsOrMemory asked.now fault) }
+{
+    let nodes = graph.nodes();
+    if !asked.is_within(nodes) {
+        return Err(Fault::Words);
+    }
+    Ok(asked.of_nodes(alloc, nodes)?)
+}
+
+/// What becomes of a packet in a graph.
+fn route_in_graph<R: Threads + AllocGlobal>(
+    rt: &R,
+    graph: &Graph,
+    generation: u64,
+    asked: &LandmarkWords,
+    from: u16,
+    to: u16,
+) -> Result<Route, Fault>
+    ensures route { IfOk result (λ route. IsRouteOf graph.now generation asked.now from to route) }
+    ensures no_node { IsErrOf result Fault.NoNode → IsWithin asked.now graph.now.nodes × (from < graph.now.nodes → to < graph.now.nodes → ⊥) }
+    ensures not_within { IsErrOf result Fault.Words → ¬ IsWithin asked.now graph.now.nodes }
+    ensures fault { IfErr result (λ fault. IsRouteFault asked.now fault) }
+{
+    let alloc = rt.alloc();
+    let words = words_of(alloc, graph, asked)?;
+    let nodes = graph.nodes();
+    if from >= nodes || to >= nodes {
+        return Err(Fault::NoNode);
+    }
+    let own = graph.try_clone(alloc)?;
+    Ok(route_in_thread(rt, alloc, own, words, generation, from, to)?)
+}
+
+/// What the checks say of the scheme of a graph.
+fn check_in_graph<R: Threads + AllocGlobal>(
+    rt: &R,
+    graph: &Graph,
+    generation: u64,
+    asked: &LandmarkWords,
+) -> Result<Checked, Fault>
+    ensures check { IfOk result (λ checked. IsCheckOf graph.now generation asked.now checked) }
+    ensures not_within { IsErrOf result Fault.Words → ¬ IsWithin asked.now graph.now.nodes }
+    ensures fault { IfErr result (λ fault. IsWordsOrMemory asked.now fault) }
+{
+    let alloc = rt.alloc();
+    let words = words_of(alloc, graph, asked)?;
+    let own = graph.try_clone(alloc)?;
+    Ok(check_in_thread(rt, alloc, own, words, generation)?)
+}
+
+/// The generation of a device's graph, and what becomes of a packet from a node to a node in the scheme by the words that were
+/// asked for. Judged in this order: the device, the nodes that the words name, the two nodes.
+pub fn route_device<R: Threads + AllocGlobal, D: Disk + Drop>(
+    rt: &R,
+    disk: D,
+    asked: &LandmarkWords,
+    from: u16,
+    to: u16,
+) -> Result<(u64, Route), Fault>
+    ensures generation { IsTrue (D.view disk).keeps_model → (state : State) → StandsFor state (D.view disk).content → IfOk result (λ answer. answer.0 ≡ state.count) }
+    ensures route { IsTrue (D.view disk).keeps_model → (state : State) → StandsFor state (D.view disk).content → IfOk result (λ answer. IsRouteOf state.graph state.count asked.now from to answer.1) }
+    ensures no_node { IsTrue (D.view disk).keeps_model → (state : State) → StandsFor state (D.view disk).content → IsErrOf result Fault.NoNode
+        → IsWithin asked.now state.graph.nodes × (from < state.graph.nodes → to < state.graph.nodes → ⊥) }
+    ensures not_within { IsTrue (D.view disk).keeps_model → (state : State) → StandsFor state (D.view disk).content → IsErrOf result Fault.Words → ¬ IsWithin asked.now state.graph.nodes }
+    // Also of a disk that doesn't keep the model the answer is that of a state.
+    ensures of_one { IfOk result (λ answer. (state : State) × (answer.0 ≡ state.count) × IsRouteOf state.graph state.count asked.now from to answer.1) }
+    ensures tells { IsTrue (D.view disk).keeps_model → IfErr result (λ fault. TellsOf fault (D.view disk).content) }
+    ensures fault { IfErr result (λ fault. IsRouteDeviceFault asked.now fault) }
+{
+    standing_law();
+    match open(rt.alloc(), disk) {
+        Ok(store) => {
+            let generation = store.count();
+            let route = route_in_graph(rt, store.graph(), generation, asked, from, to)?;
+            Ok((generation, route))
+        }
+        Err((fault, _)) => Err(fault),
+    }
+}
+
+/// The generation of a device's graph, and what the checks say of the scheme by the words that were asked for. Judged in this
+/// order: the device, the nodes that the words name.
+pub fn check_device<R: Threads + AllocGlobal, D: Disk + Drop>(
+    rt: &R,
+    disk: D,
+    asked: &LandmarkWords,
+) -> Result<(u64, Checked), Fault>
+    ensures generation { IsTrue (D.view disk).keeps_model → (state : State) → StandsFor state (D.view disk).content → IfOk result (λ answer. answer.0 ≡ state.count) }
+    ensures check { IsTrue (D.view disk).keeps_model → (state : State) → StandsFor state (D.view disk).content → IfOk result (λ answer. IsCheckOf state.graph state.count asked.now answer.1) }
+    ensures not_within { IsTrue (D.view disk).keeps_model → (state : State) → StandsFor state (D.view disk).content → IsErrOf result Fault.Words → ¬ IsWithin asked.now state.graph.nodes }
+    // Also of a disk that doesn't keep the model the answer is that of a state.
+    ensures of_one { IfOk result (λ answer. (state : State) × (answer.0 ≡ state.count) × IsCheckOf state.graph state.count asked.now answer.1) }
+    ensures tells { IsTrue (D.view disk).keeps_model → IfErr result (λ fault. TellsOf fault (D.view disk).content) }
+    ensures fault { IfErr result (λ fault. IsCheckDeviceFault asked.now fault) }
+{
+    standing_law();
+    match open(rt.alloc(), disk) {
+        Ok(store) => {
+            let generation = store.count();
+            let checked = check_in_graph(rt, store.graph(), generation, asked)?;
+            Ok((generation, checked))
+        }
+        Err((fault, _)) => Err(fault),
+    }
+}
+
+/// Prints the route of a packet from a node to a node of a device, or that there is none.
+pub(crate) fn run_route<R, O>(
+    rt: &R,
+    device: &str,
+    from: u16,
+    to: u16,
+    asked: &LandmarkWords,
+    out: &mut O,
+) -> Result<Ended, Fault>
+where
+    R: Files<File = File> + AllocGlobal + Threads,
+    O: Write,
+    ensures printed { IfOk result (λ ended. (state : State) × (route : Route) × IsRouteOf state.graph state.count asked.now from to route × (ended ≡ ended_along route) × Appends (O.contents out.old) (O.contents out.new) (line (answered_text state.count route))) }
+    ensures fault { IfErr result (λ fault. EndsRoute asked.now fault) }
+    ensures untouched { IfErr result (λ fault. fault ≢ Fault.Output → out.new ≡ out.old) }
+{
+    let (generation, route) = route_device(rt, open_file(rt, device)?, asked, from, to)?;
+    print_route(out, generation, &route)
+}
+
+fn print_route<O: Write>(out: &mut O, generation: u64, route: &Route) -> Result<Ended, Fault>
+    ensures ended { IfOk result (λ ended. ended ≡ ended_along route.now) }
+    ensures printed { OnOk result (Appends (O.contents out.old) (O.contents out.new) (line (answered_text generation route.now))) }
+    ensures fault { IfErr result (λ fault. fault ≡ Fault.Output) }
+{
+    match route {
+        Route::Along(trail) => {
+            print_line(
+                out,
+                RouteLine {
+                    generation,
+                    nodes: &trail.nodes,
+                    length: trail.length,
+                },
+            )?;
+            Ok(Ended::Done)
+        }
+        Route::Unreachable => {
+            print_line(out, UnreachableLine { generation })?;
+            Ok(Ended::Refused)
+        }
+    }
+}
+
+/// Prints what the checks say of the scheme of a device's graph.
+pub(crate) fn run_check<R, O>(
+    rt: &R,
+    device: &str,
+    asked: &LandmarkWords,
+    out: &mut O,
+) -> Result<Ended, Fault>
+where
+    R: Files<File = File> + AllocGlobal + Threads,
+    O: Write,
+    ensures printed { IfOk result (λ ended. (state : State) × (checked : Checked) × IsCheckOf state.graph state.count asked.now checked × (ended ≡ ended_at checked.fault) × Appends (O.contents out.old) (O.contents out.new) (line (checks_text state.count checked.landmarks checked.fault))) }
+    ensures fault { IfErr result (λ fault. EndsCheck asked.now fault) }
+    ensures untouched { IfErr result (λ fault. fault ≢ Fault.Output → out.new ≡ out.old) }
+{
+    let (generation, checked) = check_device(rt, open_file(rt, device)?, asked)?;
+    print_check(out, generation, checked.landmarks, checked.fault)
+}
+
+fn print_check<O: Write>(
+    out: &mut O,
+    generation: u64,
+    landmarks: usize,
+    fault: Option<certificate::Fault>,
+) -> Result<Ended, Fault>
+    ensures ended { IfOk result (λ ended. ended ≡ ended_at fault) }
+    ensures printed { OnOk result (Appends (O.contents out.old) (O.contents out.new) (line (checks_text generation landmarks fault))) }
+    ensures fault { IfErr result (λ fault. fault ≡ Fault.Output) }
+{
+    match fault {
+        None => {
+            let checked = CheckedLine {
+                generation,
+                landmarks,
+            };
+            print_line(out, checked)?;
+            Ok(Ended::Done)
+        }
+        Some(fault) => {
+            print_line(out, BrokenLine { check: fault })?;
+            Ok(Ended::Refused)
+        }
+    }
+}

@@ -1,0 +1,78 @@
+//! The command `serve`.
+ghost use Rattle.std.specs.Prelude.{◌≡◌, ◌≢◌, List, IfOk, IfErr};
+ghost use Rattle.printed_lines.specs.declared.fault.Fault.{Fault};
+ghost use Rattle.scripts.specs.Scripts.{AreOfSessions};
+ghost use Rattle.scripts.specs.declared.line.ScriptLine.{ScriptLine};
+ghost use Rattle.serving.specs.Seating.{AreSeats};
+ghost use Rattle.served_lines.specs.ServedLines.{IsServed};
+ghost use Rattle.program_run.specs.Endings.{EndsServe, IsScriptFault};
+ghost use Rattle.program_run.specs.ServedScripts.{IsScriptOf};
+
+use crate::files::open_file;
+use given_words::LandmarkWords;
+use printed_lines::{Ended, Fault};
+use scripts::{ScriptLine, script};
+use served_lines::serve_lines;
+use serving::{Seats, Ungated};
+use std::alloc::Global;
+use std::fs::File;
+use std::io;
+use std::io::{ErrorKind, Read, Write};
+use std::rt::Files;
+use std::sync::Wait;
+use std::thread::Threads;
+
+// The script that a reader gives, read to its end.
+fn read_script<S: Read>(alloc: Global, from: &mut S, editors: u8) -> Result<Vec<ScriptLine>, Fault>
+    ensures found { IfOk result (λ lines. IsScriptOf (S.remaining from.old) editors lines.items) }
+    ensures sessions { IfOk result (λ lines. AreOfSessions editors lines.items) }
+    ensures fault { IfErr result IsScriptFault }
+{
+    let mut bytes = Vec::new(alloc);
+    if let Err(error) = from.read_to_end(&mut bytes) {
+        return Err(reading_fault(error));
+    }
+    let Ok(text) = str::from_utf8(&bytes) else {
+        return Err(Fault::Script);
+    };
+    match script(alloc, text, editors)? {
+        Some(lines) => Ok(lines),
+        None => Err(Fault::Script),
+    }
+}
+
+// What is told of a script that can't be read.
+fn reading_fault(error: io::Error) -> Fault
+    ensures { IsScriptFault result }
+{
+    match error.kind() {
+        ErrorKind::OutOfMemory => Fault::Memory,
+        _ => Fault::Output,
+    }
+}
+
+/// Runs the script that a reader gives on a device, and prints a line for each of its lines. The script is judged before the device
+/// is opened, and a node that the words name right after that.
+pub(crate) fn run_serve<R, S, O>(
+    rt: &R,
+    device: &str,
+    words: LandmarkWords,
+    seats: Seats,
+    script: &mut S,
+    out: &mut O,
+) -> Result<Ended, Fault>
+where
+    R: Files<File = File> + AllocGlobal + Threads + Wait + Sync,
+    S: Read,
+    O: Write,
+    requires { AreSeats seats }
+    ensures printed { IfOk result (λ ended. (ended ≡ Ended.Done) × (lines : List ScriptLine) × IsScriptOf (S.remaining script.old) seats.editors lines × IsServed lines (O.contents out.old) (O.contents out.new)) }
+    ensures fault { IfErr result EndsServe }
+    ensures untouched { IfErr result (λ fault. fault ≢ Fault.Output → out.new ≡ out.old) }
+{
+    let lines = read_script(rt.alloc(), script, seats.editors)?;
+    let disk = open_file(rt, device)?;
+    let (served, _) = serve_lines(rt, rt.alloc(), disk, words, seats, lines, &Ungated, out);
+    served?;
+    Ok(Ended::Done)
+}

@@ -1,0 +1,20 @@
+//! Tests of the program, as one call over its words, on real files, and of the commands on a disk in memory.
+//!
+//! There is nothing here but tests: so the crates below are proved once in the gate, and not again with their tests. Each command's
+//! texts and status, the bytes of devices, files that are no device, numbers at their limit, outputs and inputs that fail, routes and
+//! checks, devices of layout 1 that are brought over, and scripts of services. Expected texts and bytes are written out from the
+//! tables of docs/FORMATS.md, and lines are worked out by hand.
+#![tactic(auto)]
+
+#[cfg(test)]
+mod commands;
+#[cfg(test)]
+mod devices;
+#[cfg(test)]
+mod helpers;
+#[cfg(test)]
+mod migrations;
+#[cfg(test)]
+mod routes;
+#[cfg(test)]
+mod services;

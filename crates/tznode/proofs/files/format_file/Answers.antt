@@ -1,7 +1,0 @@
-use Rattle.device_commands.specs.Openings.{IsFormatFault}
-use Rattle.tznode.specs.Endings.{EndsFormat}
-use Rattle.tznode.proofs.Faults.{each_fault, format_formats}
-use Rattle.tznode.proofs.files.format_file.Goals as goal
-
-pub returns : goal.returns
-returns g c = each_fault c.format.result (IsFormatFault c.args.nodes) (EndsFormat c.args.nodes) (format_formats c.args.nodes) c.format.ensures.faults

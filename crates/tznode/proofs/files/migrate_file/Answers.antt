@@ -1,7 +1,0 @@
-use Rattle.device_commands.specs.Moves.{IsMoveFault}
-use Rattle.tznode.specs.Endings.{EndsMigrate}
-use Rattle.tznode.proofs.Faults.{each_fault, move_moves}
-use Rattle.tznode.proofs.files.migrate_file.Goals as goal
-
-pub returns-clause-fault : goal.returns-clause-fault
-returns-clause-fault g c = each_fault c.migrate.result IsMoveFault EndsMigrate move_moves c.migrate.ensures.faults
