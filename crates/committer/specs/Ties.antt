@@ -13,7 +13,7 @@ use Rattle.generations.specs.Beginnings.{Opening}
 use Rattle.generations.specs.Boards.{accepting}
 use Rattle.generations.specs.Lawful.{IsLawful}
 
--- log is what is posted and what is due
+-- What was taken, what is held, what is posted and what is due behind it (the log), and the store's state go together.
 pub record IsTied (opening : Opening) (log : List Notice) (newest : Option ℕ) (held got : List Request) (state : State) (down : Bool) : Type 0 where
   pub lawful : IsLawful opening.starts opening.count log
   -- what was taken is in each editor's order

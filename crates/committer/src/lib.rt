@@ -8,8 +8,8 @@
 //! under the store's count.
 //!
 //! A post may be refused. What isn't posted yet is due, at most one posting at a time, and each later call tries it before all
-//! else; meanwhile nothing is taken. A group whose commit had no memory, or met a limit, stays held, and the next round goes on
-//! with it.
+//! else; meanwhile nothing is taken. A group whose commit had no memory, or met a limit, is kept, and a later round settles it
+//! before it takes another.
 //!
 //! # The contract
 //!

@@ -9,7 +9,7 @@ pub enum RoundRefused {
     Down = 2,
     /// Memory ran out. The group stays held, and nothing of it is on the device.
     Memory = 3,
-    /// The board took no posting. It stays due, and what was committed stays committed.
+    /// The board took no posting. It waits for the next call; no commit is undone.
     Board = 4,
     /// Numbers have run out: the count has no room for the group, or a roll is needed and there is no epoch after this one. The
     /// group stays held, and nothing of it is on the device.

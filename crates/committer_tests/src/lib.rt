@@ -1,7 +1,7 @@
 //! Tests of the committer, with editors and forwarders.
 //!
 //! There is nothing here but tests. Over a disk in memory editors submit changes, the committer makes its rounds and builds
-//! generations, and forwarders send packets in them: alone and in threads, with each call of the device failing, and with each
+//! generations, and forwarders send packets in them: alone and in threads, with a call of the device failing, and with each
 //! allocation refused in turn.
 #![tactic(auto)]
 

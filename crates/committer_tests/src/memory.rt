@@ -1,9 +1,8 @@
 // Rounds, and a rebuild, of which an allocation is refused.
-use crate::rounds::{TWO, both_come_back};
-use crate::seats::{AT_TWO, PATH, Seats, fresh, got, same, seated};
+use crate::seats::{AT_TWO, PATH, Seats, comes_back, fresh, got, same, seated};
 use committer::{RebuildRefused, Round, RoundRefused};
 use graph_edits::Op;
-use intake::Outcome;
+use intake::{Outcome, SubmitRefused};
 use linked_list_allocator::LocalHeap;
 use std::alloc::{AllocError, Global};
 use std::process::Abort;
@@ -87,7 +86,16 @@ fn settles_and_builds_once_memory_is_there(rt: HostRuntime) {
     }
 }
 
-// Two editors over one place. What comes back is told as it would be with memory.
+const TWO: [Op; 1] = [Op::Add(1, 2, 1)];
+
+// The one place is taken, and the first editor's change isn't settled.
+fn both_come_back<R: Wait + Abort + Drop>(rt: &R, at: &mut Seats<R>) {
+    comes_back(rt, &mut at.second, 1, &TWO, SubmitRefused::QueueFull);
+    comes_back(rt, &mut at.first, 2, &TWO, SubmitRefused::Busy);
+}
+
+// Two editors over one place: the second one's change comes back until the first one's is taken. What comes back is told as it would be
+// with memory.
 fn settles_both<R: Wait + Abort + Drop>(rt: &R, alloc: Global, at: Seats<R>) {
     let mut at = at;
     at.submits(rt, 0, 1, &[Op::Add(0, 1, 1)]);
@@ -95,6 +103,7 @@ fn settles_both<R: Wait + Abort + Drop>(rt: &R, alloc: Global, at: Seats<R>) {
     settles_next(rt, alloc, &mut at, 0);
     at.submits(rt, 1, 1, &TWO);
     settles_next(rt, alloc, &mut at, 1);
+    at.settles(rt, alloc, 0, 0);
     at.hears(0);
     at.hears(1);
     let (ticket, count) = (1, 1);

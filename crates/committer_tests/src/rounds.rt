@@ -1,8 +1,8 @@
 // Worked rounds: marks, bytes and outcomes.
-use crate::seats::{Left, Seats, armed, comes_back, left, same};
+use crate::seats::{Left, armed, left, same};
 use disk_trait::Plan;
 use graph_edits::{Code, Op};
-use intake::{Outcome, SubmitRefused};
+use intake::Outcome;
 use std::alloc::Global;
 use std::process::Abort;
 use std::sync::Wait;
@@ -19,34 +19,6 @@ fn refuses_a_change_whole(rt: HostRuntime) {
     let nothing = (0, 0, 0, [None, None]);
     same(&rt, left(at.committer.store()), nothing, "what is left");
     same(&rt, at.journal(&rt), [0; 64], "the journal");
-}
-
-pub(crate) const TWO: [Op; 1] = [Op::Add(1, 2, 1)];
-
-// The one place is taken, and the first editor's change isn't settled.
-pub(crate) fn both_come_back<R: Wait + Abort + Drop>(rt: &R, at: &mut Seats<R>) {
-    comes_back(rt, &mut at.second, 1, &TWO, SubmitRefused::QueueFull);
-    comes_back(rt, &mut at.first, 2, &TWO, SubmitRefused::Busy);
-}
-
-// One place: the second editor's change comes back until the first one's is taken.
-#[test]
-fn settles_two_editors_over_one_place(rt: HostRuntime) {
-    let alloc = rt.alloc();
-    let mut at = armed(rt, alloc, 1, Plan::None);
-    at.submits(&rt, 0, 1, &[Op::Add(0, 1, 1)]);
-    both_come_back(&rt, &mut at);
-    at.settles(&rt, alloc, 1, 1);
-    at.submits(&rt, 1, 1, &TWO);
-    at.settles(&rt, alloc, 1, 1);
-    at.settles(&rt, alloc, 0, 0);
-    at.hears(0);
-    at.hears(1);
-    let (ticket, count) = (1, 1);
-    at.has(&rt, 0, Outcome::Accepted { ticket, count });
-    let count = 2;
-    at.has(&rt, 1, Outcome::Accepted { ticket, count });
-    let _disk = at.into_disk();
 }
 
 /// What each of two sessions asks for, how many changes are accepted, what becomes of each, what is left, and the first bytes of

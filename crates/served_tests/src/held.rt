@@ -1,23 +1,58 @@
-// A route that is answered while the device holds a commit.
+// Routes that are launched or carried on just where the device holds a commit.
 use crate::helpers::{Asked, fresh, got, run, same, text_of};
 use disk_trait::{DeviceFault, Disk, MemDisk};
 use serving::Gate;
 use std::alloc::Global;
-use std::sync::Arc;
+use std::process::Abort;
 use std::sync::atomic::{AtomicBool, AtomicU64, Ordering};
+use std::sync::{Arc, Wait};
 use std::thread;
+use std::thread::Threads;
 
-/// What the gate and the disk tell each other.
+/// A sync that doesn't end before a hop in this generation was answered; where none is, it fails.
+#[derive(Clone, Copy, Drop)]
+struct Hold {
+    sync: u64,
+    generation: u64,
+}
+
+// Opening syncs once, and each commit twice: the second commit's first sync is the fourth, the sixth commit's the twelfth. The
+// newest generation then is that of the commit before.
+const SECOND: Hold = Hold {
+    sync: 4,
+    generation: 1,
+};
+
+const SIXTH: Hold = Hold {
+    sync: 12,
+    generation: 5,
+};
+
+/// What the gate and the disk tell each other, and what is held: no packet starts before the first hold, and none goes on behind a
+/// hop before the last.
 #[derive(Drop)]
 struct Signs {
+    first: Hold,
+    last: Hold,
     syncs: AtomicU64,
-    hops: AtomicU64,
+    // In which generation a hop was answered last.
+    hopped: AtomicU64,
     late: AtomicBool,
 }
 
 const TURNS: usize = 1_000_000;
 
 impl Signs {
+    fn new(first: Hold, last: Hold) -> Signs {
+        Signs {
+            first,
+            last,
+            syncs: AtomicU64::new(0),
+            hopped: AtomicU64::new(0),
+            late: AtomicBool::new(false),
+        }
+    }
+
     // Whether it came before the turns ran out.
     fn comes(&self, word: &AtomicU64, least: u64) -> bool {
         for _ in 0..TURNS {
@@ -29,36 +64,33 @@ impl Signs {
         self.late.store(true, Ordering::SeqCst);
         false
     }
+
+    // Whether the sync of this number ends well: it isn't held, or the hop came that it is held for.
+    fn ends(&self, sync: u64) -> bool {
+        if sync == self.first.sync {
+            return self.comes(&self.hopped, self.first.generation);
+        }
+        if sync == self.last.sync {
+            return self.comes(&self.hopped, self.last.generation);
+        }
+        true
+    }
 }
 
-const ROW: Asked<'static> = Asked {
-    words: "at:0",
-    numbers: (2, 2, 64),
-    script: "0 add:0:1:1\n0 set:0:1:2\nroute 0 1\n",
-};
-
-const PRINTED: &str = "accepted count=1\naccepted count=2\ngeneration=1 route 0 1 length 1\n";
-
-/// No packet starts before the second commit has come to its first sync.
 #[derive(Drop)]
 struct HeldGate<'a>(&'a Signs);
 
 impl<'a> Gate for HeldGate<'a> {
     fn launches(&self) {
-        let _came = self.0.comes(&self.0.syncs, SECOND);
+        let _came = self.0.comes(&self.0.syncs, self.0.first.sync);
     }
 
     fn hopped(&self, generation: u64) {
-        if generation == 1 {
-            self.0.hops.fetch_add(1, Ordering::SeqCst);
-        }
+        self.0.hopped.store(generation, Ordering::SeqCst);
+        let _came = self.0.comes(&self.0.syncs, self.0.last.sync);
     }
 }
 
-/// Opening syncs once, and each commit twice: the second commit's first sync is the fourth.
-const SECOND: u64 = 4;
-
-/// That sync doesn't end before a hop in generation 1 was answered; where none is, it fails.
 #[derive(Drop)]
 struct HeldDisk {
     disk: MemDisk,
@@ -90,38 +122,92 @@ impl Disk for HeldDisk {
             .syncs
             .fetch_add(1, Ordering::SeqCst)
             .wrapping_add(1);
-        if begun == SECOND && !self.signs.comes(&self.signs.hops, 1) {
+        if !self.signs.ends(begun) {
             self.disk.fail_at(1);
         }
         self.disk.sync()
     }
 }
 
-fn no_signs() -> Signs {
-    Signs {
-        syncs: AtomicU64::new(0),
-        hops: AtomicU64::new(0),
-        late: AtomicBool::new(false),
-    }
+/// A script on a fresh device of so many nodes, what is held, and its lines.
+struct Row {
+    nodes: u16,
+    first: Hold,
+    last: Hold,
+    asked: Asked<'static>,
+    printed: &'static str,
 }
 
-#[test]
-fn a_route_while_a_commit_is_held(rt: HostRuntime) {
-    let alloc = rt.alloc();
-    let signs = got(&rt, Arc::new(alloc, no_signs()));
+// Runs the script, and sees that no turns ran out, the status and all that is printed and told.
+fn expect_row<R: Threads + Wait + Abort + Sync>(rt: &R, alloc: Global, row: &Row) {
+    let signs = got(rt, Arc::new(alloc, Signs::new(row.first, row.last)));
     let disk = HeldDisk {
-        disk: fresh(&rt, alloc, 5),
-        signs: got(&rt, Arc::try_clone(&signs)),
+        disk: fresh(rt, alloc, row.nodes),
+        signs: got(rt, Arc::try_clone(&signs)),
     };
     let gate = HeldGate(&signs);
     let (mut out, mut err) = (Vec::new(alloc), Vec::new(alloc));
-    let (status, _disk) = run(&rt, alloc, disk, &ROW, &gate, &mut out, &mut err);
+    let (status, _disk) = run(rt, alloc, disk, &row.asked, &gate, &mut out, &mut err);
     same(
-        &rt,
+        rt,
         signs.late.load(Ordering::SeqCst),
         false,
         "turns that ran out",
     );
-    let found = (status, text_of(&rt, &out), text_of(&rt, &err));
-    same(&rt, found, (0, PRINTED, ""), "the row");
+    let found = (status, text_of(rt, &out), text_of(rt, &err));
+    same(rt, found, (0, row.printed, ""), "the row");
+}
+
+const WHILE_HELD: Row = Row {
+    nodes: 5,
+    first: SECOND,
+    last: SECOND,
+    asked: Asked {
+        words: "at:0",
+        numbers: (2, 2, 64),
+        script: "0 add:0:1:1\n0 set:0:1:2\nroute 0 1\n",
+    },
+    printed: "accepted count=1\naccepted count=2\ngeneration=1 route 0 1 length 1\n",
+};
+
+#[test]
+fn a_route_while_a_commit_is_held(rt: HostRuntime) {
+    expect_row(&rt, rt.alloc(), &WHILE_HELD);
+}
+
+// Of three nodes the first words of the seed make 0 and 1 landmarks, the next 0 and 2, those behind them 1. Where 0 and 2 are, the
+// way from 2 to 1 is that of the tree of 0, in which the parent of 2 is 0; in the other two it goes over the edge between them.
+const NEXT_WORDS: Row = Row {
+    nodes: 3,
+    first: SECOND,
+    last: SECOND,
+    asked: Asked {
+        words: "draw:7",
+        numbers: (2, 2, 64),
+        script: "0 add:0:1:1 add:1:2:1 add:0:2:2\n0 set:0:1:1\nroute 2 1\n",
+    },
+    printed: "accepted count=1\naccepted count=2\ngeneration=1 route 2 0 1 length 3\n",
+};
+
+#[test]
+fn each_generation_draws_the_next_words(rt: HostRuntime) {
+    expect_row(&rt, rt.alloc(), &NEXT_WORDS);
+}
+
+// The packet makes its first hop in generation 1, and the next where the shelf holds 2 to 5.
+const ANEW: Row = Row {
+    nodes: 5,
+    first: SECOND,
+    last: SIXTH,
+    asked: Asked {
+        words: "at:0",
+        numbers: (2, 2, 64),
+        script: "0 add:0:1:1 add:1:2:1\n0 set:0:1:2\n0 set:0:1:3\n0 set:0:1:4\n0 set:0:1:5\n0 set:0:1:6\nroute 0 2\n",
+    },
+    printed: "accepted count=1\naccepted count=2\naccepted count=3\naccepted count=4\naccepted count=5\naccepted count=6\ngeneration=5 route 0 1 2 length 6\n",
+};
+
+#[test]
+fn a_packet_whose_generation_is_gone_starts_anew(rt: HostRuntime) {
+    expect_row(&rt, rt.alloc(), &ANEW);
 }

@@ -1,6 +1,6 @@
 // What may hold up a launch.
 
-/// Asked before each launch, and told of each hop that was answered.
+/// Is called ahead of a launch, and behind an answered hop.
 pub trait Gate {
     /// A forwarder is about to look up the newest generation for a launch.
     fn launches(&self);

@@ -6,7 +6,7 @@
 //! the last one's mark is there, under the tickets after the session's last one. The committer takes them in rounds, and builds a
 //! generation of routing schemes before all else and after each round that accepted something. The k-th route goes to forwarder
 //! `k` modulo their number, which launches a packet in the newest generation and carries it there to its end; where that
-//! generation has left the shelf meanwhile, it starts again from the source.
+//! generation has left the shelf meanwhile, the packet is launched anew.
 //!
 //! Editors wait for the committer, and the committer for editors, at one [`std::sync::Mutex`] with two conditions. Nobody asks
 //! again and again but where the board gives no look, or a generation is gone. The first fault stops all.

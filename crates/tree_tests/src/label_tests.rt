@@ -59,6 +59,21 @@ const ROWS: [Row<'static>; 5] = [
     (4, (4, 4, 4, 1), Some(0), None, &[1]),
 ];
 
+/// What a step answers, and the number of its refusal.
+const NUMBERS: [(TreeStep, Option<u8>); 4] = [
+    (TreeStep::Arrived, None),
+    (TreeStep::NoParent, Some(1)),
+    (TreeStep::NoLight, Some(2)),
+    (TreeStep::Port(1), None),
+];
+
+#[test]
+fn refusals_have_their_numbers(rt: HostRuntime) {
+    for (step, number) in &NUMBERS {
+        same(&rt, step.refusal(), *number, "a refusal");
+    }
+}
+
 #[test]
 fn numbers_of_five_nodes(rt: HostRuntime) {
     let all = numbered(&rt, rt.alloc(), &FIVE);
