@@ -66,11 +66,11 @@ route @ 0 9 --words at:4 -> 1 tznode: no node";
 
 #[test]
 fn nodes_of_words_that_a_device_has_not(rt: HostRuntime) {
-    expect_on_device(
+    let folder = got(
         &rt,
-        "nodes_of_words_that_a_device_has_not",
-        NODES_THAT_ARE_NOT_THERE,
+        make_folder(&rt, "nodes_of_words_that_a_device_has_not"),
     );
+    expect_on_device(&rt, folder.as_str(), NODES_THAT_ARE_NOT_THERE);
 }
 
 // Of five nodes a word below 6148914691236517205 makes a landmark: with seed 0 at nodes 0 and 3, with 8 nowhere.
