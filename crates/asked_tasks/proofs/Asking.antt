@@ -1,5 +1,5 @@
 -- What the program's words ask for.
-use Rattle.std.proofs.Common.{◌≡◌, ◌∙◌, ◌<◌, arith, ℕ, zero, suc, refl, sym, ap, ap₂, List, [], ◌∷◌, map, length, Option, Some, None, IsSomeAnd, option_map, true, get_or, take, ◌++◌, inl, inr, subst, is_some}
+use Rattle.std.proofs.Common.{◌≡◌, ◌∙◌, ◌<◌, ◌⊎◌, Result, Ok, Err, IfErr, arith, ℕ, zero, suc, refl, sym, ap, ap₂, List, [], ◌∷◌, map, length, Option, Some, None, IsSomeAnd, option_map, true, get_or, take, ◌++◌, inl, inr, subst, is_some}
 use Rattle.std.specs.Borrow.{Bor}
 use Rattle.std.specs.List.{AllByRecursion}
 use Rattle.std.specs.Prelude.{Box}
@@ -11,7 +11,7 @@ use Rattle.clap.specs.Kinds.{HasKind, Kinds}
 use Rattle.clap.specs.Values.{kind_of}
 use Rattle.clap.specs.declared.error.Error.{Error}
 use Rattle.clap.specs.declared.error.kind.ErrorKind.TheVariants.{OutOfMemory}
-use Rattle.clap.specs.Simple.{is_simple, subcommand_rows, subcommand_rows_of}
+use Rattle.clap.specs.Simple.{is_simple, subcommand_of, subcommand_rows, subcommand_rows_of}
 use Rattle.clap.specs.Walk.{Row, Text, all_of, first_of, rows_of, texts}
 use Rattle.clap.specs.Words.{first_value, matched_of, raw_values, subcommand_name_of}
 use Rattle.clap.specs.declared.parser.matches.ArgMatches.{ArgMatches}
@@ -21,8 +21,9 @@ use Rattle.clap.proofs.WalkLemmas.{first_value-rows, raw_values-rows}
 use Rattle.graph_edits.specs.declared.edits.Op.{Op}
 use Rattle.given_words.specs.OpText.{Fits, op_text}
 use Rattle.asked_tasks.specs.Grammar.{program}
-use Rattle.asked_tasks.specs.Asked.{Gives, IsSeats, IsTask}
-use Rattle.asked_tasks.specs.declared.task.Task.{Task}
+use Rattle.asked_tasks.specs.Asked.{Gives, IsCause, IsCommand, IsRefusedFor, IsSeats, IsShapedAs}
+use Rattle.asked_tasks.specs.declared.refused.WordsRefused.{WordsRefused}
+use Rattle.asked_tasks.specs.declared.refused.WordsRefused.TheVariants as why
 
 -- the grammar is one whose matches and faults are known
 pub program_is_simple : is_simple program ≡ true
@@ -95,10 +96,34 @@ pub found_is : (m : ArgMatches) (name : Text) (rows : List Row) → Some name �
 found_is m name rows first second = pair_up (subcommand_rows_of m) name rows (first ∙ name_in (out-ArgMatches m).subcommand) second
 
 -- words name one command
-pub one_command : (o : Option (Text × List Row)) (p q : Text × List Row) → o ≡ Some p → o ≡ Some q → (task : Task) → IsTask q.0 q.1 task → IsTask p.0 p.1 task
-one_command o p q here there task is =
+pub one_command : (P : Text × List Row → Type 0) (o : Option (Text × List Row)) (p q : Text × List Row) → o ≡ Some p → o ≡ Some q → P q → P p
+one_command P o p q here there is =
     let same : q ≡ p = cc in
-    subst (λ (r : Text × List Row). IsTask r.0 r.1 task) same is
+    subst P same is
+
+-- a command's cause is that of the words that name it
+words_cause : (words : List Text) (name : Text) (rows : List Row) (refused : WordsRefused) → IsCommand words name rows → IsCause name rows refused → IsRefusedFor words refused
+words_cause words name rows why.Usage is cause =
+    λ other others there task shape. cause task (one_command (λ r. IsShapedAs r.0 r.1 task) (subcommand_of program words) (name, rows) (other, others) is.1 there.1 shape)
+words_cause words name rows why.Words is cause = (name, rows, is, cause)
+words_cause words name rows why.Op is cause = (name, rows, is, cause)
+words_cause words name rows why.TooLong is cause = (name, rows, is, cause)
+words_cause words name rows why.Memory is cause = tt
+
+pub caused : {T : Type 0} (r : Result T WordsRefused) (words : List Text) (name : Text) (rows : List Row) → IsCommand words name rows → IfErr r (λ refused. IsCause name rows refused)
+    → IfErr r (λ refused. IsRefusedFor words refused)
+caused (Ok task) words name rows is cause = tt
+caused (Err refused) words name rows is cause = words_cause words name rows refused is cause
+
+-- words that the grammar refuses are no command, or memory ran out
+pub by_grammar : (words : List Text) (refused : WordsRefused) → (refused ≡ why.Usage) ⊎ (refused ≡ why.Memory) → ((name : Text) → (rows : List Row) → IsCommand words name rows → refused ≡ why.Memory)
+    → IsRefusedFor words refused
+by_grammar words refused (inl usage) read =
+    subst (λ (r : WordsRefused). IsRefusedFor words r) (sym usage)
+    (λ name rows is task shape.
+    let same : why.Usage ≡ why.Memory = sym usage ∙ read name rows is in
+    absurd (cc))
+by_grammar words refused (inr memory) read = subst (λ (r : WordsRefused). IsRefusedFor words r) (sym memory) tt
 
 -- a subcommand with rows is there
 pub has_rows : {Z : Type 0} (sub : Option (Box SubCommand Z)) (p : Text × List Row) → subcommand_rows sub ≡ Some p → is_some sub ≡ true

@@ -1,5 +1,5 @@
 -- What the program's words ask for.
-use Rattle.std.specs.Prelude.{◌≡◌, ◌≤◌, ◌<◌, ◌^◌, ℕ, List, [], Option, Some, None, codes, decimal, map, option_map, length, All}
+use Rattle.std.specs.Prelude.{◌≡◌, ◌≢◌, ◌≤◌, ◌<◌, ◌^◌, ℕ, List, [], Option, Some, None, codes, decimal, map, option_map, length, All}
 use Rattle.clap.specs.Walk.{Row, Text, first_of, all_of}
 use Rattle.clap.specs.Simple.{subcommand_of}
 use Rattle.clap.specs.Faults.{fault_of}
@@ -9,6 +9,8 @@ use Rattle.requests.specs.Tickets.{sessions, worn_limit}
 use Rattle.given_words.specs.declared.words.LandmarkWords.{LandmarkWords}
 use Rattle.given_words.specs.OpText.{Fits, op_text}
 use Rattle.given_words.specs.WordsText.{IsAsked, IsSame, words_text}
+use Rattle.asked_tasks.specs.declared.refused.WordsRefused.{WordsRefused}
+use Rattle.asked_tasks.specs.declared.refused.WordsRefused.TheVariants as why
 use Rattle.asked_tasks.specs.declared.task.Task.{Task}
 use Rattle.asked_tasks.specs.declared.task.Task.TheVariants.{Format, Show, Edit, Resume, Route, Check, Migrate, Serve}
 use Rattle.asked_tasks.specs.Grammar.{program}
@@ -121,3 +123,79 @@ IsSameTask (Check device words) (Check other asked) = (device.now ≡ other.now)
 IsSameTask (Migrate old new) (Migrate other made) = (old.now ≡ other.now) × (new.now ≡ made.now)
 IsSameTask (Serve device editors forwarders places words) (Serve other e f q asked) = (device.now ≡ other.now) × (editors ≡ e) × (forwarders ≡ f) × (places ≡ q) × IsSame words asked
 IsSameTask task other = ⊥
+
+-- ---- why words are no task
+
+-- the argument has a text, whatever it says
+abbrev pub IsGiven : List Row → Text → Type 0
+IsGiven rows id = (text : Text) × Gives rows id text
+
+-- there is a text in the place of an op, whatever they say
+abbrev pub AreOpsGiven : List Row → Type 0
+AreOpsGiven rows = (given : List Text) × (given ≢ []) × (all_of (codes "ops") rows ≡ Some given)
+
+-- A command of this name, with these texts of its arguments, is this task as far as its name and numbers go: each of these is in range,
+-- and where the task has landmark words or ops, there are texts for them.
+abbrev pub IsShapedAs : Text → List Row → Task → Type 0
+IsShapedAs name rows (Format device nodes) = (name ≡ codes "format") × Gives rows (codes "device") device.now × Gives rows (codes "nodes") (decimal nodes) × (nodes < 2 ^ 16)
+IsShapedAs name rows (Show device) = IsShow name rows device.now
+IsShapedAs name rows (Edit device ticket change) = (name ≡ codes "edit") × Gives rows (codes "device") device.now × IsTicketAsked rows ticket × AreOpsGiven rows
+IsShapedAs name rows (Resume device session) = IsResume name rows device.now session
+IsShapedAs name rows (Route device from to words) =
+    (name ≡ codes "route") × Gives rows (codes "device") device.now × Gives rows (codes "from") (decimal from) × Gives rows (codes "to") (decimal to) × IsGiven rows (codes "words") × (from < 2 ^ 16)
+    × (to < 2 ^ 16)
+IsShapedAs name rows (Check device words) = (name ≡ codes "check") × Gives rows (codes "device") device.now × IsGiven rows (codes "words")
+IsShapedAs name rows (Migrate old new) = IsMigrate name rows old.now new.now
+IsShapedAs name rows (Serve device editors forwarders places words) =
+    (name ≡ codes "serve") × Gives rows (codes "device") device.now × IsSeats (first_of (codes "editors") rows) usual_seats editors × IsSeats (first_of (codes "forwarders") rows) usual_seats forwarders
+    × IsSeats (first_of (codes "queue") rows) usual_places places
+    × IsGiven rows (codes "words")
+
+-- what stands behind `--words` is of none of the forms
+abbrev pub LacksWords : List Row → Type 0
+LacksWords rows = (words : LandmarkWords) → AreWordsAsked rows words → ⊥
+
+-- a text in the place of an op isn't one
+abbrev pub LacksOps : List Row → Type 0
+LacksOps rows = (change : List Op) → All Fits change → all_of (codes "ops") rows ≡ Some (map op_text change) → ⊥
+
+-- there are more ops than a change may have
+abbrev pub HasTooManyOps : List Row → Type 0
+HasTooManyOps rows = (change : List Op) × (most_ops < length change) × (all_of (codes "ops") rows ≡ Some (map op_text change))
+
+-- why landmark words can't be read
+abbrev pub IsWordsCause : List Row → WordsRefused → Type 0
+IsWordsCause rows why.Usage = IsGiven rows (codes "words") → ⊥
+IsWordsCause rows why.Words = IsGiven rows (codes "words") × LacksWords rows
+IsWordsCause rows why.Memory = Unit {0}
+IsWordsCause rows refused = ⊥
+
+-- why ops can't be read as a change
+abbrev pub IsOpsCause : List Row → WordsRefused → Type 0
+IsOpsCause rows why.Usage = AreOpsGiven rows → ⊥
+IsOpsCause rows why.Op = AreOpsGiven rows × LacksOps rows
+IsOpsCause rows why.TooLong = AreOpsGiven rows × HasTooManyOps rows
+IsOpsCause rows why.Memory = Unit {0}
+IsOpsCause rows refused = ⊥
+
+-- what a command that is shaped as a task is refused for
+abbrev pub IsLacking : List Row → Task → WordsRefused → Type 0
+IsLacking rows (Edit device ticket change) why.Op = LacksOps rows
+IsLacking rows (Edit device ticket change) why.TooLong = HasTooManyOps rows
+IsLacking rows (Route device from to words) why.Words = LacksWords rows
+IsLacking rows (Check device words) why.Words = LacksWords rows
+IsLacking rows (Serve device editors forwarders places words) why.Words = LacksWords rows
+IsLacking rows task refused = ⊥
+
+-- why a command of this name, with these texts of its arguments, is no task
+abbrev pub IsCause : Text → List Row → WordsRefused → Type 0
+IsCause name rows why.Usage = (task : Task) → IsShapedAs name rows task → ⊥
+IsCause name rows why.Memory = Unit {0}
+IsCause name rows refused = (task : Task) × IsShapedAs name rows task × IsLacking rows task refused
+
+-- Why words are no task: they are no command, or a number of theirs is out of range, or a text of theirs is no landmark words or no op, or
+-- there are too many ops, or memory ran out.
+abbrev pub IsRefusedFor : List Text → WordsRefused → Type 0
+IsRefusedFor words why.Usage = (name : Text) → (rows : List Row) → IsCommand words name rows → IsCause name rows why.Usage
+IsRefusedFor words why.Memory = Unit {0}
+IsRefusedFor words refused = (name : Text) × (rows : List Row) × IsCommand words name rows × IsCause name rows refused

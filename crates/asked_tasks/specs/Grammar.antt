@@ -63,13 +63,10 @@ serve_app =
 abbrev pub bare_app : App
 bare_app = on_top (λ s. record s { no_binary_name = true; subcommand_required = true }) (new_app (codes "tznode"))
 
+-- the commands that take no landmark words, but `migrate`
+abbrev pub plain_program : App
+plain_program = with_subcommand (with_subcommand (with_subcommand (with_subcommand bare_app format_app.top) show_app.top) edit_app.top) resume_app.top
+
 -- the program's grammar
 unfoldable pub program : App
-program =
-    with_subcommand
-    (with_subcommand
-    (with_subcommand
-    (with_subcommand (with_subcommand (with_subcommand (with_subcommand (with_subcommand bare_app format_app.top) show_app.top) edit_app.top) resume_app.top) route_app.top)
-    check_app.top)
-    migrate_app.top)
-    serve_app.top
+program = with_subcommand (with_subcommand (with_subcommand (with_subcommand plain_program route_app.top) check_app.top) migrate_app.top) serve_app.top

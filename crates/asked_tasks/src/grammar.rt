@@ -3,7 +3,7 @@ ghost use Rattle.std.specs.Prelude.{◌≡◌, IfOk, false};
 ghost use Rattle.clap.specs.Walk.{rule_of};
 ghost use Rattle.clap.specs.Words.{app_of, with_rule};
 ghost use Rattle.clap.specs.declared.builder.command.Command.TheViews.{out-Command};
-ghost use Rattle.asked_tasks.specs.Grammar.{edit_app, on_device_app, option_rule, program, serve_app, text_rule, words_rule};
+ghost use Rattle.asked_tasks.specs.Grammar.{check_app, edit_app, on_device_app, option_rule, plain_program, program, route_app, serve_app, text_rule, words_rule};
 
 use clap::{Arg, ArgAction, Command};
 use std::alloc::{AllocError, Global};
@@ -74,28 +74,41 @@ fn with_words<'a>(alloc: Global, command: Command<'a>) -> Result<Command<'a>, Al
     command.arg(text(alloc, "words").long("words"))
 }
 
+fn route_command<'a>(alloc: Global) -> Result<Command<'a>, AllocError>
+    ensures app { IfOk result (λ command. app_of command ≡ route_app) }
+    ensures local { IfOk result (λ command. (out-Command command).has_globals ≡ false) }
+{
+    let ends = on_device_with(alloc, "route", "from")?.arg(text(alloc, "to"))?;
+    with_words(alloc, ends)
+}
+
+fn check_command<'a>(alloc: Global) -> Result<Command<'a>, AllocError>
+    ensures app { IfOk result (λ command. app_of command ≡ check_app) }
+    ensures local { IfOk result (λ command. (out-Command command).has_globals ≡ false) }
+{
+    with_words(alloc, on_device(alloc, "check")?)
+}
+
+// The first commands. One at a time is joined to those before, so that an exit has few of them to drop.
+fn plain_commands<'a>(alloc: Global) -> Result<Command<'a>, AllocError>
+    ensures { IfOk result (λ command. app_of command ≡ plain_program) }
+{
+    let bare = Command::new(alloc, "tznode")
+        .no_binary_name(true)
+        .subcommand_required(true);
+    let formats = bare.subcommand(on_device_with(alloc, "format", "nodes")?)?;
+    let shows = formats.subcommand(on_device(alloc, "show")?)?;
+    let edits = shows.subcommand(edit_command(alloc)?)?;
+    edits.subcommand(on_device_with(alloc, "resume", "session")?)
+}
+
 /// The grammar, as clap takes it.
 pub(crate) fn grammar<'a>(alloc: Global) -> Result<Command<'a>, AllocError>
     ensures { IfOk result (λ command. app_of command ≡ program) }
 {
-    let format = on_device_with(alloc, "format", "nodes")?;
-    let show = on_device(alloc, "show")?;
-    let edit = edit_command(alloc)?;
-    let resume = on_device_with(alloc, "resume", "session")?;
-    let ends = on_device_with(alloc, "route", "from")?.arg(text(alloc, "to"))?;
-    let route = with_words(alloc, ends)?;
-    let check = with_words(alloc, on_device(alloc, "check")?)?;
-    let migrate = on_device_with(alloc, "migrate", "new")?;
-    let serve = serve_command(alloc)?;
-    Command::new(alloc, "tznode")
-        .no_binary_name(true)
-        .subcommand_required(true)
-        .subcommand(format)?
-        .subcommand(show)?
-        .subcommand(edit)?
-        .subcommand(resume)?
-        .subcommand(route)?
-        .subcommand(check)?
-        .subcommand(migrate)?
-        .subcommand(serve)
+    let plain = plain_commands(alloc)?;
+    let routes = plain.subcommand(route_command(alloc)?)?;
+    let checks = routes.subcommand(check_command(alloc)?)?;
+    let migrates = checks.subcommand(on_device_with(alloc, "migrate", "new")?)?;
+    migrates.subcommand(serve_command(alloc)?)
 }

@@ -7,7 +7,7 @@ ghost use Rattle.requests.specs.Tickets.{sessions};
 ghost use Rattle.given_words.specs.declared.words.LandmarkWords.{LandmarkWords};
 ghost use Rattle.given_words.specs.OpText.{Fits, op_text};
 ghost use Rattle.given_words.specs.WordsText.{IsAsked, IsSame, words_text};
-ghost use Rattle.asked_tasks.specs.Asked.{IsAskedFor, IsInRange, IsSameTask, IsSeats, IsTask, IsTicket};
+ghost use Rattle.asked_tasks.specs.Asked.{IsAskedFor, IsCause, IsInRange, IsOpsCause, IsRefusedFor, IsSameTask, IsSeats, IsTask, IsTicket, IsWordsCause};
 ghost use Rattle.asked_tasks.specs.declared.task.Task.{Task};
 
 use crate::grammar::grammar;
@@ -15,7 +15,7 @@ use crate::refused::WordsRefused;
 use clap::error::ErrorKind;
 use clap::{ArgMatches, Error};
 use given_words::{LandmarkWords, landmark_words, node, number, op};
-use graph_edits::{Change, MOST_OPS, Op, Shape};
+use graph_edits::{Change, Op, Shape};
 use requests::{SESSIONS, WORN_LIMIT};
 use std::alloc::{AllocError, Global};
 
@@ -88,6 +88,8 @@ pub fn understood<'a>(alloc: Global, words: &'a [&'a str]) -> Result<Task<'a>, W
     // Where the words ask for a task whose numbers are in range, it is the answer, or memory ran out.
     ensures only { (task : Task) → IsAskedFor (texts words.entry.now) task → IsInRange task → IfOk result (λ read. IsSameTask read task) }
     ensures refused { (task : Task) → IsAskedFor (texts words.entry.now) task → IsInRange task → IfErr result (λ refused. refused ≡ WordsRefused.Memory) }
+    // And each refusal has its cause in the words, the first one in the order of the tests.
+    ensures cause { IfErr result (λ refused. IsRefusedFor (texts words.entry.now) refused) }
 {
     let matches = match grammar(alloc)?.try_get_matches_from(words) {
         Ok(matches) => matches,
@@ -101,7 +103,8 @@ pub fn understood<'a>(alloc: Global, words: &'a [&'a str]) -> Result<Task<'a>, W
 
 // What becomes of words that the grammar refuses.
 fn refused_for(error: Error) -> WordsRefused
-    ensures { kind_of error ≡ ErrorKind.OutOfMemory → result ≡ WordsRefused.Memory }
+    ensures memory { kind_of error ≡ ErrorKind.OutOfMemory → result ≡ WordsRefused.Memory }
+    ensures refusals { (result ≡ WordsRefused.Usage) ⊎ (result ≡ WordsRefused.Memory) }
 {
     match error.kind() {
         ErrorKind::OutOfMemory => WordsRefused::Memory,
@@ -114,6 +117,7 @@ fn task_of<'a>(alloc: Global, name: &str, found: &ArgMatches<'a>) -> Result<Task
     ensures asked { IfOk result (λ task. IsTask name.now (rows_of (found_of found.entry.now)) task) }
     ensures only { (task : Task) → IsTask name.now (rows_of (found_of found.entry.now)) task → IsInRange task → IfOk result (λ read. IsSameTask read task) }
     ensures refused { (task : Task) → IsTask name.now (rows_of (found_of found.entry.now)) task → IsInRange task → IfErr result (λ refused. refused ≡ WordsRefused.Memory) }
+    ensures cause { IfErr result (λ refused. IsCause name.now (rows_of (found_of found.entry.now)) refused) }
 {
     let Some(device) = found.get_str("device") else {
         return Err(WordsRefused::Usage);
@@ -168,7 +172,7 @@ fn serve_of<'a>(
 ) -> Result<Task<'a>, WordsRefused>
     ensures asked { first_of (codes "device") (rows_of (found_of found.entry.now)) ≡ Some device.entry.now → IfOk result (λ task. IsTask (codes "serve") (rows_of (found_of found.entry.now)) task) }
     ensures only { first_of (codes "device") (rows_of (found_of found.entry.now)) ≡ Some device.entry.now → (task : Task) → IsTask (codes "serve") (rows_of (found_of found.entry.now)) task → IfOk result (λ read. IsSameTask read task) }
-    ensures refused { (task : Task) → IsTask (codes "serve") (rows_of (found_of found.entry.now)) task → IfErr result (λ refused. refused ≡ WordsRefused.Memory) }
+    ensures cause { first_of (codes "device") (rows_of (found_of found.entry.now)) ≡ Some device.entry.now → IfErr result (λ refused. IsCause (codes "serve") (rows_of (found_of found.entry.now)) refused) }
 {
     let editors = seats(alloc, found, "editors", USUAL_SEATS)?;
     let forwarders = seats(alloc, found, "forwarders", USUAL_SEATS)?;
@@ -188,6 +192,7 @@ fn seats(alloc: Global, found: &ArgMatches<'_>, id: &str, usual: u8) -> Result<u
     ensures found { IfOk result (λ n. IsSeats (first_value (found_of found.entry.now) id.now) usual n) }
     ensures same { (n : ℕ) → IsSeats (first_value (found_of found.entry.now) id.now) usual n → IfOk result (λ m. m ≡ n) }
     ensures only { (n : ℕ) → IsSeats (first_value (found_of found.entry.now) id.now) usual n → IfErr result (λ refused. refused ≡ WordsRefused.Memory) }
+    ensures refusals { IfErr result (λ refused. (refused ≡ WordsRefused.Usage) ⊎ (refused ≡ WordsRefused.Memory)) }
 {
     let Some(text) = found.get_str(id) else {
         return Ok(usual);
@@ -202,6 +207,7 @@ fn seats(alloc: Global, found: &ArgMatches<'_>, id: &str, usual: u8) -> Result<u
 fn text<'a>(found: &ArgMatches<'a>, id: &str) -> Result<&'a str, WordsRefused>
     ensures found { IfOk result (λ text. first_value (found_of found.entry.now) id.now ≡ Some text.now) }
     ensures none { IfErr result (λ _. first_value (found_of found.entry.now) id.now ≡ None) }
+    ensures refusal { IfErr result (λ refused. refused ≡ WordsRefused.Usage) }
 {
     match found.get_str(id) {
         Some(text) => Ok(text),
@@ -262,9 +268,7 @@ fn words_asked(alloc: Global, found: &ArgMatches<'_>) -> Result<LandmarkWords, W
     ensures found { IfOk result (λ words. first_value (found_of found.entry.now) (codes "words") ≡ Some (words_text words)) }
     ensures fits { IfOk result IsAsked }
     ensures same { (words : LandmarkWords) → IsAsked words → first_value (found_of found.entry.now) (codes "words") ≡ Some (words_text words) → IfOk result (λ read. IsSame read words) }
-    ensures only { (words : LandmarkWords) → IsAsked words → first_value (found_of found.entry.now) (codes "words") ≡ Some (words_text words) → IfErr result (λ refused. refused ≡ WordsRefused.Memory) }
-    ensures usage { IsErrOf result WordsRefused.Usage → first_value (found_of found.entry.now) (codes "words") ≡ None }
-    ensures refusals { IfErr result (λ refused. (refused ≡ WordsRefused.Usage) ⊎ ((refused ≡ WordsRefused.Words) ⊎ (refused ≡ WordsRefused.Memory))) }
+    ensures cause { IfErr result (λ refused. IsWordsCause (rows_of (found_of found.entry.now)) refused) }
 {
     let Some(text) = found.get_str("words") else {
         return Err(WordsRefused::Usage);
@@ -278,11 +282,7 @@ fn words_asked(alloc: Global, found: &ArgMatches<'_>) -> Result<LandmarkWords, W
 fn change(alloc: Global, found: &ArgMatches<'_>) -> Result<Change, WordsRefused>
     ensures found { IfOk result (λ change. option_map raw_values (matched_of (found_of found.entry.now) (codes "ops")) ≡ Some (map op_text change)) }
     ensures same { (ops : List Op) → All Fits ops → option_map raw_values (matched_of (found_of found.entry.now) (codes "ops")) ≡ Some (map op_text ops) → IfOk result (λ change. change ≡ ops) }
-    ensures only { (ops : List Op) → All Fits ops → 1 ≤ length ops → length ops ≤ MOST_OPS → option_map raw_values (matched_of (found_of found.entry.now) (codes "ops")) ≡ Some (map op_text ops) → IfErr result (λ refused. refused ≡ WordsRefused.Memory) }
-    ensures op { IsErrOf result WordsRefused.Op → (ops : List Op) → All Fits ops → option_map raw_values (matched_of (found_of found.entry.now) (codes "ops")) ≡ Some (map op_text ops) → ⊥ }
-    ensures too_long { IsErrOf result WordsRefused.TooLong → (ops : List Op) × (MOST_OPS < length ops) × (option_map raw_values (matched_of (found_of found.entry.now) (codes "ops")) ≡ Some (map op_text ops)) }
-    ensures usage { IsErrOf result WordsRefused.Usage → (option_map raw_values (matched_of (found_of found.entry.now) (codes "ops")) ≡ None) ⊎ (option_map raw_values (matched_of (found_of found.entry.now) (codes "ops")) ≡ Some []) }
-    ensures refusals { IfErr result (λ refused. (refused ≡ WordsRefused.Usage) ⊎ ((refused ≡ WordsRefused.Op) ⊎ ((refused ≡ WordsRefused.TooLong) ⊎ (refused ≡ WordsRefused.Memory)))) }
+    ensures cause { IfErr result (λ refused. IsOpsCause (rows_of (found_of found.entry.now)) refused) }
 {
     let Some(texts) = found.get_strs("ops") else {
         return Err(WordsRefused::Usage);
@@ -299,9 +299,7 @@ fn change(alloc: Global, found: &ArgMatches<'_>) -> Result<Change, WordsRefused>
 fn ops_of(alloc: Global, given: &[&str]) -> Result<Vec<Op>, WordsRefused>
     ensures ops { IfOk result (λ ops. map op_text ops.items ≡ texts given.now) }
     ensures same { (ops : List Op) → All Fits ops → map op_text ops ≡ texts given.now → IfOk result (λ read. read.items ≡ ops) }
-    ensures only { (ops : List Op) → All Fits ops → map op_text ops ≡ texts given.now → IfErr result (λ refused. refused ≡ WordsRefused.Memory) }
-    ensures op { IsErrOf result WordsRefused.Op → (ops : List Op) → All Fits ops → map op_text ops ≡ texts given.now → ⊥ }
-    ensures refusals { IfErr result (λ refused. (refused ≡ WordsRefused.Op) ⊎ (refused ≡ WordsRefused.Memory)) }
+    ensures cause { IfErr result (λ refused. (refused ≡ WordsRefused.Memory) ⊎ ((refused ≡ WordsRefused.Op) × ((ops : List Op) → All Fits ops → map op_text ops ≡ texts given.now → ⊥))) }
 {
     let mut ops = Vec::new(alloc);
     for text in given {

@@ -1,4 +1,4 @@
-use Rattle.std.proofs.Common.{rules, ◌≡◌, ◌+◌, ◌∙◌, ◌++◌, ◌∷◌, [], suc, sym, ap, ap₂, arith, List, take, Some}
+use Rattle.std.proofs.Common.{rules, ◌≡◌, ◌+◌, ◌∙◌, ◌++◌, ◌∷◌, [], inr, refl, suc, sym, ap, ap₂, arith, List, take, Some}
 use Rattle.std.proofs.lemmas.Grind.{common_steps}
 use Rattle.std.proofs.lemmas.List.Elements.{recursion_from_All}
 use Rattle.graph_edits.specs.declared.edits.Op.{Op}
@@ -6,15 +6,14 @@ use Rattle.given_words.specs.OpText.{Fits}
 use Rattle.asked_tasks.proofs.Asking.{op_at}
 use Rattle.asked_tasks.proofs.task.ops_of.Goals as goal
 
-pub returns-in_default-clause-only : goal.returns-in_default-clause-only
-returns-in_default-clause-only c ops fit same =
-    let written = op_at ops c.args.given.now c.loop-text.text-index (record { ref_ptr = (0, 0); now = [] }) (omega arith) (recursion_from_All Fits ops fit) same in
-    absurd (c.in_default.not-Some written.0 (c.in_ok-op.ensures.only written.0 written.1 written.2))
-
-pub returns-in_default-clause-op : goal.returns-in_default-clause-op
-returns-in_default-clause-op c is ops fit same =
-    let written = op_at ops c.args.given.now c.loop-text.text-index (record { ref_ptr = (0, 0); now = [] }) (omega arith) (recursion_from_All Fits ops fit) same in
-    c.in_default.not-Some written.0 (c.in_ok-op.ensures.only written.0 written.1 written.2)
+pub returns-in_default-clause-cause : goal.returns-in_default-clause-cause
+returns-in_default-clause-cause c =
+    inr (
+      refl,
+      λ ops fit same.
+          let written = op_at ops c.args.given.now c.loop-text.text-index (record { ref_ptr = (0, 0); now = [] }) (omega arith) (recursion_from_All Fits ops fit) same in
+          c.in_default.not-Some written.0 (c.in_ok-op.ensures.only written.0 written.1 written.2),
+    )
 
 pub loop-text-preserved : goal.loop-text-preserved
 loop-text-preserved c = record {

@@ -1,17 +1,22 @@
-use Rattle.std.proofs.Common.{rules, codes, IfOk, Some, subst, ◌≡◌, ◌∙◌, sym}
+use Rattle.std.proofs.Common.{rules, arith, inl, codes, IfErr, IfOk, Some, subst, ◌≡◌, ◌∙◌, sym}
 use Rattle.clap.specs.Words.{first_value, found_of}
 use Rattle.clap.proofs.WalkLemmas.{first_value-rows}
 use Rattle.clap.specs.Walk.{Text, rows_of}
-use Rattle.asked_tasks.specs.Asked.{IsTask}
+use Rattle.given_words.specs.declared.words.LandmarkWords.TheVariants.{Greatest}
+use Rattle.asked_tasks.specs.declared.task.Task.TheVariants.{Check, Route}
+use Rattle.asked_tasks.specs.Asked.{IsCause, IsTask}
 use Rattle.asked_tasks.proofs.Asking.{given, given_all, gives, gives_all}
-use Rattle.asked_tasks.proofs.OneTask.{change_refused, format_refused, from_refused, handed_up, has_device, new_given, none_given, none_missing, resume_refused, same_check, same_edit, same_format, same_migrate, same_resume, same_route, same_show, ticket_refused, to_refused, words_of_check_refused, words_of_route_refused}
+use Rattle.asked_tasks.proofs.OneTask.{check_words, from_refused, handed_on, has_device, new_given, nodes_refused, none_made, none_missing, of_number, of_ops, of_words, only_memory, route_words, same_check, same_edit, same_format, same_migrate, same_resume, same_route, same_show, session_refused, shaped, ticket_refused, to_refused}
 use Rattle.asked_tasks.proofs.task.task_of.Goals as goal
 
-pub returns-in_default-clause-refused : goal.returns-in_default-clause-refused
-returns-in_default-clause-refused c task is fits =
+pub returns-in_default-clause-cause : goal.returns-in_default-clause-cause
+returns-in_default-clause-cause c task is =
     let f = found_of c.args.found.now in
     let device = has_device c.args.name.now (rows_of f) task is in
-    absurd (none_given c.get_str.result device.0 c.in_default.not-Some (c.get_str.ensures ∙ given f _ _ device.1))
+    none_made c.get_str.result _ device.0 c.in_default.not-Some (c.get_str.ensures ∙ given f _ _ device.1)
+
+pub returns-in_default-clause-refused : goal.returns-in_default-clause-refused
+returns-in_default-clause-refused c task is fits = absurd (returns-in_default-clause-cause c task (shaped c.args.name.now (rows_of (found_of c.args.found.now)) task is fits))
 
 pub returns-in_ok-whole-clause-asked : goal.returns-in_ok-whole-clause-asked
 returns-in_ok-whole-clause-asked c =
@@ -95,61 +100,97 @@ returns-in_ok-words_asked-2-clause-only c task is fits =
     same_check c.args.name.now (rows_of f) c.in-Some.device c.in_ok-words_asked-2.field-0 task named (gives f _ _ device)
     (λ words asked there. c.in_ok-words_asked-2.ensures.same words asked (given f _ _ there)) is
 
-pub returns-in_err-whole-clause-refused : goal.returns-in_err-whole-clause-refused
-returns-in_err-whole-clause-refused c task is fits =
+pub returns-in_err-whole-clause-cause : goal.returns-in_err-whole-clause-cause
+returns-in_err-whole-clause-cause c =
     let f = found_of c.args.found.now in
     let named : c.args.name.now ≡ codes "format" = search rules in
-    handed_up c.from_residual.result c.in_err-whole.field-0.0 c.from_residual.ensures.1
-    (format_refused c.args.name.now (rows_of f) c.in_err-whole.field-0.0 task named (λ n lt there. c.in_err-whole.ensures.only n lt (given f _ _ there)) is fits)
+    handed_on c.from_residual.result (λ refused. IsCause c.args.name.now (rows_of f) refused) c.in_err-whole.field-0.0 c.from_residual.ensures.1
+    (of_number c.args.name.now (rows_of f) c.in_err-whole.field-0.0 c.in_err-whole.ensures.refusals
+    (nodes_refused c.args.name.now (rows_of f) c.in_err-whole.field-0.0 named (λ n lt there. c.in_err-whole.ensures.only n lt (given f _ _ there))))
+
+pub returns-in_err-whole-clause-refused : goal.returns-in_err-whole-clause-refused
+returns-in_err-whole-clause-refused c task is fits = only_memory c.from_residual.result c.args.name.now (rows_of (found_of c.args.found.now)) task is fits (returns-in_err-whole-clause-cause c)
+
+pub returns-in_err-ticket-clause-cause : goal.returns-in_err-ticket-clause-cause
+returns-in_err-ticket-clause-cause c =
+    let f = found_of c.args.found.now in
+    let named : c.args.name.now ≡ codes "edit" = search rules in
+    handed_on c.from_residual-in_err-ticket.result (λ refused. IsCause c.args.name.now (rows_of f) refused) c.in_err-ticket.field-0.0 c.from_residual-in_err-ticket.ensures.1
+    (of_number c.args.name.now (rows_of f) c.in_err-ticket.field-0.0 c.in_err-ticket.ensures.refusals
+    (ticket_refused c.args.name.now (rows_of f) c.in_err-ticket.field-0.0 named (λ asked there_is there. c.in_err-ticket.ensures.only asked there_is (first_value-rows f (codes "ticket") ∙ there))))
 
 pub returns-in_err-ticket-clause-refused : goal.returns-in_err-ticket-clause-refused
-returns-in_err-ticket-clause-refused c task is fits =
+returns-in_err-ticket-clause-refused c task is fits = only_memory c.from_residual-in_err-ticket.result c.args.name.now (rows_of (found_of c.args.found.now)) task is fits (returns-in_err-ticket-clause-cause c)
+
+pub returns-in_err-change-clause-cause : goal.returns-in_err-change-clause-cause
+returns-in_err-change-clause-cause c =
     let f = found_of c.args.found.now in
     let named : c.args.name.now ≡ codes "edit" = search rules in
-    handed_up c.from_residual-in_err-ticket.result c.in_err-ticket.field-0.0 c.from_residual-in_err-ticket.ensures.1
-    (ticket_refused c.args.name.now (rows_of f) c.in_err-ticket.field-0.0 task named (λ asked there_is there. c.in_err-ticket.ensures.only asked there_is (first_value-rows f (codes "ticket") ∙ there)) is)
+    let device : first_value f (codes "device") ≡ Some c.in-Some.device.now = search rules in
+    handed_on c.from_residual-in_err-change.result (λ refused. IsCause c.args.name.now (rows_of f) refused) c.in_err-change.field-0.0 c.from_residual-in_err-change.ensures.1
+    (of_ops c.args.name.now (rows_of f) c.in_err-change.field-0.0 c.in-Some.device c.in_ok-ticket.field-0 named (gives f _ _ device) (sym (first_value-rows f (codes "ticket")) ∙ c.in_ok-ticket.ensures.found, c.in_ok-ticket.ensures.fits)
+    c.in_err-change.ensures.cause)
 
 pub returns-in_err-change-clause-refused : goal.returns-in_err-change-clause-refused
-returns-in_err-change-clause-refused c task is fits =
-    let f = found_of c.args.found.now in
-    let named : c.args.name.now ≡ codes "edit" = search rules in
-    handed_up c.from_residual-in_err-change.result c.in_err-change.field-0.0 c.from_residual-in_err-change.ensures.1
-    (change_refused c.args.name.now (rows_of f) c.in_err-change.field-0.0 task named (λ ops fit some few there. c.in_err-change.ensures.only ops fit some few (given_all f _ _ there)) is fits)
+returns-in_err-change-clause-refused c task is fits = only_memory c.from_residual-in_err-change.result c.args.name.now (rows_of (found_of c.args.found.now)) task is fits (returns-in_err-change-clause-cause c)
 
-pub returns-in_err-session-clause-refused : goal.returns-in_err-session-clause-refused
-returns-in_err-session-clause-refused c task is fits =
+pub returns-in_err-session-clause-cause : goal.returns-in_err-session-clause-cause
+returns-in_err-session-clause-cause c =
     let f = found_of c.args.found.now in
     let named : c.args.name.now ≡ codes "resume" = search rules in
-    handed_up c.from_residual-in_err-session.result c.in_err-session.field-0.0 c.from_residual-in_err-session.ensures.1
-    (resume_refused c.args.name.now (rows_of f) c.in_err-session.field-0.0 task named (λ n lt there. c.in_err-session.ensures.only n lt (given f _ _ there)) is)
+    handed_on c.from_residual-in_err-session.result (λ refused. IsCause c.args.name.now (rows_of f) refused) c.in_err-session.field-0.0 c.from_residual-in_err-session.ensures.1
+    (of_number c.args.name.now (rows_of f) c.in_err-session.field-0.0 c.in_err-session.ensures.refusals
+    (session_refused c.args.name.now (rows_of f) c.in_err-session.field-0.0 named (λ n lt there. c.in_err-session.ensures.only n lt (given f _ _ there))))
+
+pub returns-in_err-session-clause-refused : goal.returns-in_err-session-clause-refused
+returns-in_err-session-clause-refused c task is fits = only_memory c.from_residual-in_err-session.result c.args.name.now (rows_of (found_of c.args.found.now)) task is fits (returns-in_err-session-clause-cause c)
+
+pub returns-in_err-whole-2-clause-cause : goal.returns-in_err-whole-2-clause-cause
+returns-in_err-whole-2-clause-cause c =
+    let f = found_of c.args.found.now in
+    let named : c.args.name.now ≡ codes "route" = search rules in
+    handed_on c.from_residual-in_err-whole-2.result (λ refused. IsCause c.args.name.now (rows_of f) refused) c.in_err-whole-2.field-0.0 c.from_residual-in_err-whole-2.ensures.1
+    (of_number c.args.name.now (rows_of f) c.in_err-whole-2.field-0.0 c.in_err-whole-2.ensures.refusals
+    (from_refused c.args.name.now (rows_of f) c.in_err-whole-2.field-0.0 named (λ n lt there. c.in_err-whole-2.ensures.only n lt (given f _ _ there))))
 
 pub returns-in_err-whole-2-clause-refused : goal.returns-in_err-whole-2-clause-refused
-returns-in_err-whole-2-clause-refused c task is fits =
+returns-in_err-whole-2-clause-refused c task is fits = only_memory c.from_residual-in_err-whole-2.result c.args.name.now (rows_of (found_of c.args.found.now)) task is fits (returns-in_err-whole-2-clause-cause c)
+
+pub returns-in_err-whole-3-clause-cause : goal.returns-in_err-whole-3-clause-cause
+returns-in_err-whole-3-clause-cause c =
     let f = found_of c.args.found.now in
     let named : c.args.name.now ≡ codes "route" = search rules in
-    handed_up c.from_residual-in_err-whole-2.result c.in_err-whole-2.field-0.0 c.from_residual-in_err-whole-2.ensures.1
-    (from_refused c.args.name.now (rows_of f) c.in_err-whole-2.field-0.0 task named (λ n lt there. c.in_err-whole-2.ensures.only n lt (given f _ _ there)) is fits)
+    handed_on c.from_residual-in_err-whole-3.result (λ refused. IsCause c.args.name.now (rows_of f) refused) c.in_err-whole-3.field-0.0 c.from_residual-in_err-whole-3.ensures.1
+    (of_number c.args.name.now (rows_of f) c.in_err-whole-3.field-0.0 c.in_err-whole-3.ensures.refusals
+    (to_refused c.args.name.now (rows_of f) c.in_err-whole-3.field-0.0 named (λ n lt there. c.in_err-whole-3.ensures.only n lt (given f _ _ there))))
 
 pub returns-in_err-whole-3-clause-refused : goal.returns-in_err-whole-3-clause-refused
-returns-in_err-whole-3-clause-refused c task is fits =
+returns-in_err-whole-3-clause-refused c task is fits = only_memory c.from_residual-in_err-whole-3.result c.args.name.now (rows_of (found_of c.args.found.now)) task is fits (returns-in_err-whole-3-clause-cause c)
+
+pub returns-in_err-words_asked-clause-cause : goal.returns-in_err-words_asked-clause-cause
+returns-in_err-words_asked-clause-cause c =
     let f = found_of c.args.found.now in
     let named : c.args.name.now ≡ codes "route" = search rules in
-    handed_up c.from_residual-in_err-whole-3.result c.in_err-whole-3.field-0.0 c.from_residual-in_err-whole-3.ensures.1
-    (to_refused c.args.name.now (rows_of f) c.in_err-whole-3.field-0.0 task named (λ n lt there. c.in_err-whole-3.ensures.only n lt (given f _ _ there)) is fits)
+    let device : first_value f (codes "device") ≡ Some c.in-Some.device.now = search rules in
+    handed_on c.from_residual-in_err-words_asked.result (λ refused. IsCause c.args.name.now (rows_of f) refused) c.in_err-words_asked.field-0.0 c.from_residual-in_err-words_asked.ensures.1
+    (of_words c.args.name.now (rows_of f) c.in_err-words_asked.field-0.0 (Route c.in-Some.device c.in_ok-whole-2.field-0 c.in_ok-whole-3.field-0 Greatest) c.in_err-words_asked.ensures.cause
+    (λ task is. route_words c.args.name.now (rows_of f) named task is)
+    (λ words. (named, gives f _ _ device, gives f _ _ c.in_ok-whole-2.ensures.found, gives f _ _ c.in_ok-whole-3.ensures.found, words, omega arith, omega arith)) (λ lacks. lacks))
 
 pub returns-in_err-words_asked-clause-refused : goal.returns-in_err-words_asked-clause-refused
-returns-in_err-words_asked-clause-refused c task is fits =
-    let f = found_of c.args.found.now in
-    let named : c.args.name.now ≡ codes "route" = search rules in
-    handed_up c.from_residual-in_err-words_asked.result c.in_err-words_asked.field-0.0 c.from_residual-in_err-words_asked.ensures.1
-    (words_of_route_refused c.args.name.now (rows_of f) c.in_err-words_asked.field-0.0 task named (λ words asked there. c.in_err-words_asked.ensures.only words asked (given f _ _ there)) is)
+returns-in_err-words_asked-clause-refused c task is fits = only_memory c.from_residual-in_err-words_asked.result c.args.name.now (rows_of (found_of c.args.found.now)) task is fits (returns-in_err-words_asked-clause-cause c)
 
-pub returns-in_err-words_asked-2-clause-refused : goal.returns-in_err-words_asked-2-clause-refused
-returns-in_err-words_asked-2-clause-refused c task is fits =
+pub returns-in_err-words_asked-2-clause-cause : goal.returns-in_err-words_asked-2-clause-cause
+returns-in_err-words_asked-2-clause-cause c =
     let f = found_of c.args.found.now in
     let named : c.args.name.now ≡ codes "check" = search rules in
-    handed_up c.from_residual-in_err-words_asked-2.result c.in_err-words_asked-2.field-0.0 c.from_residual-in_err-words_asked-2.ensures.1
-    (words_of_check_refused c.args.name.now (rows_of f) c.in_err-words_asked-2.field-0.0 task named (λ words asked there. c.in_err-words_asked-2.ensures.only words asked (given f _ _ there)) is)
+    let device : first_value f (codes "device") ≡ Some c.in-Some.device.now = search rules in
+    handed_on c.from_residual-in_err-words_asked-2.result (λ refused. IsCause c.args.name.now (rows_of f) refused) c.in_err-words_asked-2.field-0.0 c.from_residual-in_err-words_asked-2.ensures.1
+    (of_words c.args.name.now (rows_of f) c.in_err-words_asked-2.field-0.0 (Check c.in-Some.device Greatest) c.in_err-words_asked-2.ensures.cause
+    (λ task is. check_words c.args.name.now (rows_of f) named task is) (λ words. (named, gives f _ _ device, words)) (λ lacks. lacks))
+
+pub returns-in_err-words_asked-2-clause-refused : goal.returns-in_err-words_asked-2-clause-refused
+returns-in_err-words_asked-2-clause-refused c task is fits = only_memory c.from_residual-in_err-words_asked-2.result c.args.name.now (rows_of (found_of c.args.found.now)) task is fits (returns-in_err-words_asked-2-clause-cause c)
 
 pub returns-in_ok-text-clause-asked : goal.returns-in_ok-text-clause-asked
 returns-in_ok-text-clause-asked c =
@@ -164,12 +205,18 @@ returns-in_ok-text-clause-only c task is fits =
     let device : first_value f (codes "device") ≡ Some c.in-Some.device.now = search rules in
     same_migrate c.args.name.now (rows_of f) c.in-Some.device c.in_ok-text.field-0 task named (gives f _ _ device) (gives f _ _ c.in_ok-text.ensures.found) is
 
-pub returns-in_err-text-clause-refused : goal.returns-in_err-text-clause-refused
-returns-in_err-text-clause-refused c task is fits =
+pub returns-in_err-text-clause-cause : goal.returns-in_err-text-clause-cause
+returns-in_err-text-clause-cause c =
     let f = found_of c.args.found.now in
     let named : c.args.name.now ≡ codes "migrate" = search rules in
-    let new = new_given c.args.name.now (rows_of f) task named is in
-    absurd (none_missing _ new.0 (given f _ _ new.1) c.in_err-text.ensures.none)
+    handed_on c.from_residual-in_err-text.result (λ refused. IsCause c.args.name.now (rows_of f) refused) c.in_err-text.field-0.0 c.from_residual-in_err-text.ensures.1
+    (of_number c.args.name.now (rows_of f) c.in_err-text.field-0.0 (inl c.in_err-text.ensures.refusal)
+    (λ task is.
+    let new = new_given c.args.name.now (rows_of f) named task is in
+    absurd (none_missing _ new.0 (given f _ _ new.1) c.in_err-text.ensures.none)))
+
+pub returns-in_err-text-clause-refused : goal.returns-in_err-text-clause-refused
+returns-in_err-text-clause-refused c task is fits = only_memory c.from_residual-in_err-text.result c.args.name.now (rows_of (found_of c.args.found.now)) task is fits (returns-in_err-text-clause-cause c)
 
 pub returns-then-eq-8-clause-asked : goal.returns-then-eq-8-clause-asked
 returns-then-eq-8-clause-asked c =
@@ -184,3 +231,13 @@ returns-then-eq-8-clause-only c task is fits =
     let named : c.args.name.now ≡ codes "serve" = search rules in
     let device : first_value f (codes "device") ≡ Some c.in-Some.device.now = search rules in
     c.serve_of.ensures.only (gives f _ _ device) task (subst (λ (name : Text). IsTask name (rows_of f) task) named is)
+
+pub returns-then-eq-8-clause-cause : goal.returns-then-eq-8-clause-cause
+returns-then-eq-8-clause-cause c =
+    let f = found_of c.args.found.now in
+    let named : c.args.name.now ≡ codes "serve" = search rules in
+    let device : first_value f (codes "device") ≡ Some c.in-Some.device.now = search rules in
+    subst (λ (name : Text). IfErr c.serve_of.result (λ refused. IsCause name (rows_of f) refused)) (sym named) (c.serve_of.ensures.cause (gives f _ _ device))
+
+pub returns-then-eq-8-clause-refused : goal.returns-then-eq-8-clause-refused
+returns-then-eq-8-clause-refused c task is fits = only_memory c.serve_of.result c.args.name.now (rows_of (found_of c.args.found.now)) task is fits (returns-then-eq-8-clause-cause c)
