@@ -1,5 +1,5 @@
 -- What faults tell of a content.
-use Rattle.std.proofs.Common.{◌≡◌, ℕ, List, Result, Ok, Err, IfErr, IsErrOf, refl, ap}
+use Rattle.std.proofs.Common.{◌≡◌, ℕ, List, Result, Ok, Err, IfErr, IsErrOf, refl, ap, subst, sym}
 use Rattle.recovery_parts.specs.declared.refusals.OpenRefused.{OpenRefused}
 use Rattle.recovery_parts.specs.declared.refusals.OpenRefused.TheVariants.{NotFormatted, BadVersion, Damaged, Device, Memory}
 use Rattle.recovery_parts.specs.Refusals.{LacksMagic}
@@ -80,3 +80,13 @@ open_edits fault.Damaged is = tt
 open_edits fault.Device is = tt
 open_edits fault.Memory is = tt
 open_edits _ is = absurd is
+
+-- where memory alone ran out, all that holds of that holds of the fault
+pub of_memory : {A : Type 0} (r : Result A Fault) (P : Fault → Type 0) → P fault.Memory → IfErr r (λ f. f ≡ fault.Memory) → IfErr r P
+of_memory (Ok a) P has is = tt
+of_memory (Err f) P has is = subst P (sym is) has
+
+pub never_device : {A : Type 0} (r : Result A Fault) → IfErr r (λ f. f ≡ fault.Memory) → IsErrOf r fault.Device → ⊥
+never_device {A = A} r is same =
+    let memory : fault.Device ≡ fault.Memory = subst (λ (x : Result A Fault). IfErr x (λ f. f ≡ fault.Memory)) same is in
+    absurd (cc)

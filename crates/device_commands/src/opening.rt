@@ -15,7 +15,7 @@ ghost use Rattle.device_commands.specs.Openings.{IsFormatFault, IsOpenFault, Tel
 use checkpoint::{FormatRefused, OpenRefused, Store, standing_law};
 use disk_trait::Disk;
 use printed_lines::{Fault, listing_of};
-use std::alloc::{AllocError, Global};
+use std::alloc::Global;
 
 /// Formats a device for so many nodes.
 pub fn format<D: Disk>(disk: &mut D, nodes: u16) -> Result<(), Fault>
@@ -69,39 +69,46 @@ fn fault_of(refused: OpenRefused) -> Fault
     }
 }
 
-/// All that `show` prints of a device.
-pub fn listing<D: Disk + Drop>(alloc: Global, disk: D) -> Result<String, Fault>
-    ensures text { IsTrue (D.view disk).keeps_model → (state : State) → StandsFor state (D.view disk).content → IfOk result (λ text. string_bytes text ≡ listing_text state.count state.graph) }
+/// All that `show` prints of a device, and the device, which was only read.
+pub fn listing<D: Disk>(alloc: Global, disk: D) -> (Result<String, Fault>, D)
+    ensures text { IsTrue (D.view disk).keeps_model → (state : State) → StandsFor state (D.view disk).content → IfOk result.0 (λ text. string_bytes text ≡ listing_text state.count state.graph) }
     // Also of a disk that doesn't keep the model the listing is that of a state.
-    ensures of_one { IfOk result (λ text. (state : State) × (string_bytes text ≡ listing_text state.count state.graph)) }
-    ensures tells { IsTrue (D.view disk).keeps_model → IfErr result (λ fault. TellsOf fault (D.view disk).content) }
-    ensures faults { IfErr result (λ fault. IsOpenFault fault) }
+    ensures of_one { IfOk result.0 (λ text. (state : State) × (string_bytes text ≡ listing_text state.count state.graph)) }
+    ensures tells { IsTrue (D.view disk).keeps_model → IfErr result.0 (λ fault. TellsOf fault (D.view disk).content) }
+    ensures device { IsErrOf result.0 Fault.Device → (D.view disk).failures < (D.view result.1).failures }
+    ensures faults { IfErr result.0 (λ fault. IsOpenFault fault) }
+    ensures reads { IsTrue (D.view disk).keeps_model → OnlyRead (D.view disk) (D.view result.1) }
+    ensures ran { IsSameDevice (D.view disk) (D.view result.1) }
 {
     standing_law();
     match open(alloc, disk) {
-        Ok(store) => Ok(listing_of_store(alloc, &store)?),
-        Err((fault, _)) => Err(fault),
+        Ok(store) => (listing_of_store(alloc, &store), store.into_disk()),
+        Err((fault, disk)) => (Err(fault), disk),
     }
 }
 
-fn listing_of_store<D: Disk>(alloc: Global, store: &Store<D>) -> Result<String, AllocError>
-    ensures { IfOk result (λ text. string_bytes text ≡ listing_text (state_of store.now).count (state_of store.now).graph) }
+fn listing_of_store<D: Disk>(alloc: Global, store: &Store<D>) -> Result<String, Fault>
+    ensures text { IfOk result (λ text. string_bytes text ≡ listing_text (state_of store.now).count (state_of store.now).graph) }
+    ensures memory { IfErr result (λ fault. fault ≡ Fault.Memory) }
 {
-    listing_of(alloc, store.count(), store.graph())
+    Ok(listing_of(alloc, store.count(), store.graph())?)
 }
 
-/// The last ticket that was taken of a session, 0 where there is none.
-pub fn resume<D: Disk + Drop>(alloc: Global, disk: D, session: u8) -> Result<u64, Fault>
+/// The last ticket that was taken of a session, 0 where there is none, and the device, which was only read.
+pub fn resume<D: Disk>(alloc: Global, disk: D, session: u8) -> (Result<u64, Fault>, D)
     requires { session < sessions }
-    ensures ticket { IsTrue (D.view disk).keeps_model → (state : State) → StandsFor state (D.view disk).content → IfOk result (λ ticket. ticket ≡ last_of state.tickets session) }
+    ensures ticket { IsTrue (D.view disk).keeps_model → (state : State) → StandsFor state (D.view disk).content → IfOk result.0 (λ ticket. ticket ≡ last_of state.tickets session) }
     // Also of a disk that doesn't keep the model the ticket is that of a state.
-    ensures of_one { IfOk result (λ ticket. (state : State) × (ticket ≡ last_of state.tickets session)) }
-    ensures tells { IsTrue (D.view disk).keeps_model → IfErr result (λ fault. TellsOf fault (D.view disk).content) }
-    ensures faults { IfErr result (λ fault. IsOpenFault fault) }
+    ensures of_one { IfOk result.0 (λ ticket. (state : State) × (ticket ≡ last_of state.tickets session)) }
+    ensures tells { IsTrue (D.view disk).keeps_model → IfErr result.0 (λ fault. TellsOf fault (D.view disk).content) }
+    ensures device { IsErrOf result.0 Fault.Device → (D.view disk).failures < (D.view result.1).failures }
+    ensures faults { IfErr result.0 (λ fault. IsOpenFault fault) }
+    ensures reads { IsTrue (D.view disk).keeps_model → OnlyRead (D.view disk) (D.view result.1) }
+    ensures ran { IsSameDevice (D.view disk) (D.view result.1) }
 {
     standing_law();
     match open(alloc, disk) {
-        Ok(store) => Ok(store.resume(session)),
-        Err((fault, _)) => Err(fault),
+        Ok(store) => (Ok(store.resume(session)), store.into_disk()),
+        Err((fault, disk)) => (Err(fault), disk),
     }
 }

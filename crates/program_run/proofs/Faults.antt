@@ -1,5 +1,5 @@
 -- Which faults may end a run.
-use Rattle.std.proofs.Common.{◌≡◌, ◌≢◌, ◌⊎◌, ℕ, List, inl, inr, refl, sym, subst, Result, Ok, Err, IfErr, IsErrAnd}
+use Rattle.std.proofs.Common.{◌≡◌, ◌≢◌, ◌∙◌, ◌⊎◌, ℕ, List, inl, inr, refl, sym, subst, Result, Ok, Err, IfErr, IsErrAnd, IsErrOf}
 use Rattle.clap.specs.Walk.{Text}
 use Rattle.given_words.specs.declared.words.LandmarkWords.{LandmarkWords}
 use Rattle.given_words.specs.declared.words.LandmarkWords.TheVariants.{Greatest, ZeroAt, Drawn}
@@ -8,13 +8,13 @@ use Rattle.printed_lines.specs.declared.fault.Fault.{Fault}
 use Rattle.printed_lines.specs.declared.fault.Fault.TheVariants as told
 use Rattle.device_commands.specs.Openings.{IsEditFault, IsFormatFault, IsOpenFault, TellsOf}
 use Rattle.device_commands.specs.Moves.{IsMoveFault}
-use Rattle.asked_tasks.specs.Asked.{IsAskedFor, IsInRange}
+use Rattle.asked_tasks.specs.Asked.{IsAskedFor, IsInRange, IsRefusedFor}
 use Rattle.asked_tasks.specs.declared.refused.WordsRefused.{WordsRefused}
 use Rattle.asked_tasks.specs.declared.refused.WordsRefused.TheVariants as why
 use Rattle.asked_tasks.specs.declared.task.Task.{Task}
 use Rattle.printed_lines.specs.Faults.{IsNotUnderstood}
 use Rattle.served_lines.specs.ServedLines.{IsServeFault}
-use Rattle.program_run.specs.Endings.{EndsCheck, EndsEdit, EndsFormat, EndsMigrate, EndsRoute, EndsServe, EndsShow, IsCheckDeviceFault, IsRouteDeviceFault, IsFaultFor, IsRouteFault, IsScriptFault, IsWordsFault, IsWordsOrMemory, MayEnd, NamesNodes, words_fault}
+use Rattle.program_run.specs.Endings.{EndsCheck, EndsEdit, EndsFormat, EndsMigrate, EndsRoute, EndsServe, EndsShow, IsCheckDeviceFault, IsRouteDeviceFault, IsFaultFor, IsRouteFault, IsScriptFault, IsWordsOrMemory, MayEnd, NamesNodes, words_fault}
 
 -- words of which a graph lacks a node name nodes
 pub names_nodes : (words : LandmarkWords) (nodes : ℕ) → ¬ IsWithin words nodes → NamesNodes words
@@ -167,13 +167,6 @@ route_tells words _ content is = absurd is
 
 -- ---- words that are no task
 
-pub is_words_fault : (refused : WordsRefused) → IsWordsFault (words_fault refused)
-is_words_fault why.Usage = tt
-is_words_fault why.Words = tt
-is_words_fault why.Op = tt
-is_words_fault why.TooLong = tt
-is_words_fault why.Memory = tt
-
 pub memory_alone : (refused : WordsRefused) → refused ≡ why.Memory → words_fault refused ≡ told.Memory
 memory_alone why.Memory is = refl
 memory_alone why.Usage is = absurd (cc)
@@ -182,15 +175,18 @@ memory_alone why.Op is = absurd (cc)
 memory_alone why.TooLong is = absurd (cc)
 
 -- words that are refused are so by a fault for them
-pub refused_for : (words : List Text) (refused : WordsRefused) (fault : Fault) → fault ≡ words_fault refused → ((task : Task) → IsAskedFor words task → IsInRange task → refused ≡ why.Memory)
-    → IsFaultFor words fault
-refused_for words refused fault is memory =
-    subst (λ (f : Fault). IsFaultFor words f) (sym is) (inl (is_words_fault refused, λ task asked fits. memory_alone refused (memory task asked fits)))
+pub refused_for : (words : List Text) (refused : WordsRefused) (fault : Fault) → fault ≡ words_fault refused → IsRefusedFor words refused
+    → ((task : Task) → IsAskedFor words task → IsInRange task → refused ≡ why.Memory) → IsFaultFor words fault
+refused_for words refused fault is cause memory = inl (refused, is, cause, λ task asked fits. is ∙ memory_alone refused (memory task asked fits))
 
 -- a fault of a part, where it is handed up
 pub each_fault : {T : Type 0} (r : Result T Fault) (P Q : Fault → Type 0) → ((fault : Fault) → P fault → Q fault) → IfErr r P → IfErr r Q
 each_fault (Ok x) P Q is has = tt
 each_fault (Err fault) P Q is has = is fault has
+
+-- a fault that can't come doesn't
+pub not_told : {T : Type 0} (r : Result T Fault) (fault : Fault) (P : Fault → Type 0) → (P fault → ⊥) → IfErr r P → IsErrOf r fault → ⊥
+not_told r fault P never may is = never (subst (λ x. IfErr x P) is may)
 
 -- a fault that may end the task that was understood is one for the words
 pub ends_task : {T : Type 0} (r : Result T Fault) (words : List Text) (understood task : Task) → IsAskedFor words understood → understood ≡ task → IfErr r (λ fault. MayEnd task fault)

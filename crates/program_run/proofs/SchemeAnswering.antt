@@ -2,7 +2,10 @@
 use Rattle.std.proofs.Common.{sym, subst, ◌≡◌, ℕ, ◌<◌, List, Option, Result, Ok, Err, IfOk, OnOk, IsErrAnd}
 use Rattle.std.specs.declared.alloc.AllocError.{AllocError}
 use Rattle.std.specs.Io.KnownBytes.{Appends}
+use Rattle.disk_trait.specs.Disk.{OnlyRead}
 use Rattle.recovery.specs.State.{State}
+use Rattle.checkpoint.specs.StoreWords.{disk_of, view_of}
+use Rattle.checkpoint.specs.declared.store.Store.{Store}
 use Rattle.given_words.specs.declared.words.LandmarkWords.{LandmarkWords}
 use Rattle.given_words.specs.Words.{AreWords, IsWithin}
 use Rattle.graph_edits.specs.Edges.{Network}
@@ -17,6 +20,10 @@ use Rattle.program_run.specs.SchemeAnswers.{IsRouteBy, IsRouteOf, IsCheckOf, ans
 -- the fault that is handed up is the one that came
 pub passed_up : {T : Type 0} (r : Result T Fault) (fault other : Fault) → IsErrAnd r (λ e. e ≡ fault) → r ≡ Err other → fault ≡ other
 passed_up r fault other by is = sym (subst (λ x. IsErrAnd x (λ e. e ≡ fault)) is by)
+
+-- a disk that came out of a store as it stands was only read
+pub only_read : {D : Type 0} {V : _} → (disk back : D) (store : Store D V) → back ≡ disk_of store → OnlyRead (V.view disk) (view_of store) → OnlyRead (V.view disk) (V.view back)
+only_read {V = V} disk back store is reads = subst (λ d. OnlyRead (V.view disk) (V.view d)) (sym is) reads
 
 -- an answer by the words is one for what was asked
 pub route_of : (graph own : Network) (generation : ℕ) (asked : LandmarkWords) (words : List ℕ) (u v : ℕ) (answer : Result Route AllocError) → own ≡ graph → IsWithin asked graph.nodes

@@ -8,7 +8,7 @@ use Rattle.printed_lines.specs.declared.fault.Fault.TheVariants as told
 use Rattle.device_commands.specs.Openings.{IsEditFault, IsFormatFault, IsOpenFault}
 use Rattle.device_commands.specs.Moves.{IsMoveFault}
 use Rattle.served_lines.specs.ServedLines.{IsServeFault}
-use Rattle.asked_tasks.specs.Asked.{IsAskedFor, IsInRange}
+use Rattle.asked_tasks.specs.Asked.{IsAskedFor, IsInRange, IsRefusedFor}
 use Rattle.asked_tasks.specs.declared.refused.WordsRefused.{WordsRefused}
 use Rattle.asked_tasks.specs.declared.refused.WordsRefused.TheVariants as why
 use Rattle.asked_tasks.specs.declared.task.Task.{Task}
@@ -21,15 +21,6 @@ words_fault why.Words = told.Words
 words_fault why.Op = told.Op
 words_fault why.TooLong = told.ChangeTooLong
 words_fault why.Memory = told.Memory
-
--- the faults of words that are no task
-abbrev pub IsWordsFault : Fault → Type 0
-IsWordsFault told.Usage = Unit {0}
-IsWordsFault told.Words = Unit {0}
-IsWordsFault told.Op = Unit {0}
-IsWordsFault told.ChangeTooLong = Unit {0}
-IsWordsFault told.Memory = Unit {0}
-IsWordsFault fault = ⊥
 
 -- landmark words that name nodes, of which a device may lack one
 abbrev pub NamesNodes : LandmarkWords → Type 0
@@ -118,8 +109,9 @@ MayEnd (Check device words) fault = EndsCheck words fault
 MayEnd (Migrate old new) fault = EndsMigrate fault
 MayEnd (Serve device editors forwarders places words) fault = EndsServe fault
 
--- The words are no task that is in range, or memory ran out while they were read; or they ask for a task, and the fault is one that
--- may end it.
+-- The words are no task that is in range, and the fault is the one for what is wrong with them, or memory ran out while they were read;
+-- or they ask for a task, and the fault is one that may end it.
 abbrev pub IsFaultFor : List Text → Fault → Type 0
 IsFaultFor words fault =
-    (IsWordsFault fault × ((task : Task) → IsAskedFor words task → IsInRange task → fault ≡ told.Memory)) ⊎ ((task : Task) × IsAskedFor words task × MayEnd task fault)
+    ((refused : WordsRefused) × (fault ≡ words_fault refused) × IsRefusedFor words refused × ((task : Task) → IsAskedFor words task → IsInRange task → fault ≡ told.Memory))
+    ⊎ ((task : Task) × IsAskedFor words task × MayEnd task fault)

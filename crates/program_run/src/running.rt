@@ -160,7 +160,8 @@ where
     ensures fault { IfErr result EndsShow }
     ensures untouched { IfErr result (λ fault. fault ≢ Fault.Output → out.new ≡ out.old) }
 {
-    let text = device_commands::listing(rt.alloc(), open_file(rt, device)?)?;
+    let (answer, _) = device_commands::listing(rt.alloc(), open_file(rt, device)?);
+    let text = answer?;
     print_text(out, text.as_str())?;
     Ok(Ended::Done)
 }
@@ -192,7 +193,8 @@ where
     ensures fault { IfErr result EndsShow }
     ensures untouched { IfErr result (λ fault. fault ≢ Fault.Output → out.new ≡ out.old) }
 {
-    let ticket = device_commands::resume(rt.alloc(), open_file(rt, device)?, session)?;
+    let (answer, _) = device_commands::resume(rt.alloc(), open_file(rt, device)?, session);
+    let ticket = answer?;
     print_line(out, TicketLine { session, ticket })?;
     Ok(Ended::Done)
 }

@@ -1,9 +1,10 @@
 //! The commands `route` and `check`.
 ghost use Rattle.std.specs.Prelude.{◌≡◌, ◌≢◌, ◌<◌, List, ℕ, IsTrue, IfOk, IfErr, IsErrOf, OnOk};
 ghost use Rattle.std.specs.Io.KnownBytes.{Appends};
-ghost use Rattle.disk_trait.specs.Disk.{DiskView};
+ghost use Rattle.disk_trait.specs.Disk.{DiskView, IsSameDevice, OnlyRead};
 ghost use Rattle.recovery.specs.State.{State};
 ghost use Rattle.recovery.specs.Standing.{StandsFor};
+ghost use Rattle.checkpoint.specs.StoreWords.{state_of};
 ghost use Rattle.given_words.specs.Words.{AreWords, IsWithin};
 ghost use Rattle.printed_lines.specs.Lines.{line};
 ghost use Rattle.device_commands.specs.Openings.{TellsOf};
@@ -12,7 +13,7 @@ ghost use Rattle.program_run.specs.SchemeAnswers.{IsRouteOf, IsCheckOf, answered
 
 use crate::files::open_file;
 use crate::routing::{check_in_thread, route_in_thread};
-use checkpoint::standing_law;
+use checkpoint::{Store, standing_law};
 use device_commands::open;
 use disk_trait::Disk;
 use given_words::LandmarkWords;
@@ -82,59 +83,94 @@ fn check_in_graph<R: Threads + AllocGlobal>(
     Ok(check_in_thread(rt, alloc, own, words, generation)?)
 }
 
+// The generation of a store's graph, and what becomes of a packet in it.
+fn route_in_store<R: Threads + AllocGlobal, D: Disk>(
+    rt: &R,
+    store: &Store<D>,
+    asked: &LandmarkWords,
+    from: u16,
+    to: u16,
+) -> Result<(u64, Route), Fault>
+    ensures answer { IfOk result (λ answer. (answer.0 ≡ (state_of store.now).count) × IsRouteOf (state_of store.now).graph (state_of store.now).count asked.now from to answer.1) }
+    ensures no_node { IsErrOf result Fault.NoNode → IsWithin asked.now (state_of store.now).graph.nodes × (from < (state_of store.now).graph.nodes → to < (state_of store.now).graph.nodes → ⊥) }
+    ensures not_within { IsErrOf result Fault.Words → ¬ IsWithin asked.now (state_of store.now).graph.nodes }
+    ensures fault { IfErr result (λ fault. IsRouteFault asked.now fault) }
+{
+    let generation = store.count();
+    let route = route_in_graph(rt, store.graph(), generation, asked, from, to)?;
+    Ok((generation, route))
+}
+
 /// The generation of a device's graph, and what becomes of a packet from a node to a node in the scheme by the words that were
-/// asked for. Judged in this order: the device, the nodes that the words name, the two nodes.
-pub fn route_device<R: Threads + AllocGlobal, D: Disk + Drop>(
+/// asked for. Judged in this order: the device, the nodes that the words name, the two nodes. The device comes back, and was only
+/// read.
+pub fn route_device<R: Threads + AllocGlobal, D: Disk>(
     rt: &R,
     disk: D,
     asked: &LandmarkWords,
     from: u16,
     to: u16,
-) -> Result<(u64, Route), Fault>
-    ensures generation { IsTrue (D.view disk).keeps_model → (state : State) → StandsFor state (D.view disk).content → IfOk result (λ answer. answer.0 ≡ state.count) }
-    ensures route { IsTrue (D.view disk).keeps_model → (state : State) → StandsFor state (D.view disk).content → IfOk result (λ answer. IsRouteOf state.graph state.count asked.now from to answer.1) }
-    ensures no_node { IsTrue (D.view disk).keeps_model → (state : State) → StandsFor state (D.view disk).content → IsErrOf result Fault.NoNode
+) -> (Result<(u64, Route), Fault>, D)
+    ensures generation { IsTrue (D.view disk).keeps_model → (state : State) → StandsFor state (D.view disk).content → IfOk result.0 (λ answer. answer.0 ≡ state.count) }
+    ensures route { IsTrue (D.view disk).keeps_model → (state : State) → StandsFor state (D.view disk).content → IfOk result.0 (λ answer. IsRouteOf state.graph state.count asked.now from to answer.1) }
+    ensures no_node { IsTrue (D.view disk).keeps_model → (state : State) → StandsFor state (D.view disk).content → IsErrOf result.0 Fault.NoNode
         → IsWithin asked.now state.graph.nodes × (from < state.graph.nodes → to < state.graph.nodes → ⊥) }
-    ensures not_within { IsTrue (D.view disk).keeps_model → (state : State) → StandsFor state (D.view disk).content → IsErrOf result Fault.Words → ¬ IsWithin asked.now state.graph.nodes }
+    ensures not_within { IsTrue (D.view disk).keeps_model → (state : State) → StandsFor state (D.view disk).content → IsErrOf result.0 Fault.Words → ¬ IsWithin asked.now state.graph.nodes }
     // Also of a disk that doesn't keep the model the answer is that of a state.
-    ensures of_one { IfOk result (λ answer. (state : State) × (answer.0 ≡ state.count) × IsRouteOf state.graph state.count asked.now from to answer.1) }
-    ensures tells { IsTrue (D.view disk).keeps_model → IfErr result (λ fault. TellsOf fault (D.view disk).content) }
-    ensures fault { IfErr result (λ fault. IsRouteDeviceFault asked.now fault) }
+    ensures of_one { IfOk result.0 (λ answer. (state : State) × (answer.0 ≡ state.count) × IsRouteOf state.graph state.count asked.now from to answer.1) }
+    ensures tells { IsTrue (D.view disk).keeps_model → IfErr result.0 (λ fault. TellsOf fault (D.view disk).content) }
+    ensures device { IsErrOf result.0 Fault.Device → (D.view disk).failures < (D.view result.1).failures }
+    ensures fault { IfErr result.0 (λ fault. IsRouteDeviceFault asked.now fault) }
+    ensures reads { IsTrue (D.view disk).keeps_model → OnlyRead (D.view disk) (D.view result.1) }
+    ensures ran { IsSameDevice (D.view disk) (D.view result.1) }
 {
     standing_law();
     match open(rt.alloc(), disk) {
-        Ok(store) => {
-            let generation = store.count();
-            let route = route_in_graph(rt, store.graph(), generation, asked, from, to)?;
-            Ok((generation, route))
-        }
-        Err((fault, _)) => Err(fault),
+        Ok(store) => (
+            route_in_store(rt, &store, asked, from, to),
+            store.into_disk(),
+        ),
+        Err((fault, disk)) => (Err(fault), disk),
     }
 }
 
+// The generation of a store's graph, and what the checks say of its scheme.
+fn check_in_store<R: Threads + AllocGlobal, D: Disk>(
+    rt: &R,
+    store: &Store<D>,
+    asked: &LandmarkWords,
+) -> Result<(u64, Checked), Fault>
+    ensures answer { IfOk result (λ answer. (answer.0 ≡ (state_of store.now).count) × IsCheckOf (state_of store.now).graph (state_of store.now).count asked.now answer.1) }
+    ensures not_within { IsErrOf result Fault.Words → ¬ IsWithin asked.now (state_of store.now).graph.nodes }
+    ensures fault { IfErr result (λ fault. IsWordsOrMemory asked.now fault) }
+{
+    let generation = store.count();
+    let checked = check_in_graph(rt, store.graph(), generation, asked)?;
+    Ok((generation, checked))
+}
+
 /// The generation of a device's graph, and what the checks say of the scheme by the words that were asked for. Judged in this
-/// order: the device, the nodes that the words name.
-pub fn check_device<R: Threads + AllocGlobal, D: Disk + Drop>(
+/// order: the device, the nodes that the words name. The device comes back, and was only read.
+pub fn check_device<R: Threads + AllocGlobal, D: Disk>(
     rt: &R,
     disk: D,
     asked: &LandmarkWords,
-) -> Result<(u64, Checked), Fault>
-    ensures generation { IsTrue (D.view disk).keeps_model → (state : State) → StandsFor state (D.view disk).content → IfOk result (λ answer. answer.0 ≡ state.count) }
-    ensures check { IsTrue (D.view disk).keeps_model → (state : State) → StandsFor state (D.view disk).content → IfOk result (λ answer. IsCheckOf state.graph state.count asked.now answer.1) }
-    ensures not_within { IsTrue (D.view disk).keeps_model → (state : State) → StandsFor state (D.view disk).content → IsErrOf result Fault.Words → ¬ IsWithin asked.now state.graph.nodes }
+) -> (Result<(u64, Checked), Fault>, D)
+    ensures generation { IsTrue (D.view disk).keeps_model → (state : State) → StandsFor state (D.view disk).content → IfOk result.0 (λ answer. answer.0 ≡ state.count) }
+    ensures check { IsTrue (D.view disk).keeps_model → (state : State) → StandsFor state (D.view disk).content → IfOk result.0 (λ answer. IsCheckOf state.graph state.count asked.now answer.1) }
+    ensures not_within { IsTrue (D.view disk).keeps_model → (state : State) → StandsFor state (D.view disk).content → IsErrOf result.0 Fault.Words → ¬ IsWithin asked.now state.graph.nodes }
     // Also of a disk that doesn't keep the model the answer is that of a state.
-    ensures of_one { IfOk result (λ answer. (state : State) × (answer.0 ≡ state.count) × IsCheckOf state.graph state.count asked.now answer.1) }
-    ensures tells { IsTrue (D.view disk).keeps_model → IfErr result (λ fault. TellsOf fault (D.view disk).content) }
-    ensures fault { IfErr result (λ fault. IsCheckDeviceFault asked.now fault) }
+    ensures of_one { IfOk result.0 (λ answer. (state : State) × (answer.0 ≡ state.count) × IsCheckOf state.graph state.count asked.now answer.1) }
+    ensures tells { IsTrue (D.view disk).keeps_model → IfErr result.0 (λ fault. TellsOf fault (D.view disk).content) }
+    ensures device { IsErrOf result.0 Fault.Device → (D.view disk).failures < (D.view result.1).failures }
+    ensures fault { IfErr result.0 (λ fault. IsCheckDeviceFault asked.now fault) }
+    ensures reads { IsTrue (D.view disk).keeps_model → OnlyRead (D.view disk) (D.view result.1) }
+    ensures ran { IsSameDevice (D.view disk) (D.view result.1) }
 {
     standing_law();
     match open(rt.alloc(), disk) {
-        Ok(store) => {
-            let generation = store.count();
-            let checked = check_in_graph(rt, store.graph(), generation, asked)?;
-            Ok((generation, checked))
-        }
-        Err((fault, _)) => Err(fault),
+        Ok(store) => (check_in_store(rt, &store, asked), store.into_disk()),
+        Err((fault, disk)) => (Err(fault), disk),
     }
 }
 
@@ -154,7 +190,8 @@ where
     ensures fault { IfErr result (λ fault. EndsRoute asked.now fault) }
     ensures untouched { IfErr result (λ fault. fault ≢ Fault.Output → out.new ≡ out.old) }
 {
-    let (generation, route) = route_device(rt, open_file(rt, device)?, asked, from, to)?;
+    let (answer, _) = route_device(rt, open_file(rt, device)?, asked, from, to);
+    let (generation, route) = answer?;
     print_route(out, generation, &route)
 }
 
@@ -196,7 +233,8 @@ where
     ensures fault { IfErr result (λ fault. EndsCheck asked.now fault) }
     ensures untouched { IfErr result (λ fault. fault ≢ Fault.Output → out.new ≡ out.old) }
 {
-    let (generation, checked) = check_device(rt, open_file(rt, device)?, asked)?;
+    let (answer, _) = check_device(rt, open_file(rt, device)?, asked);
+    let (generation, checked) = answer?;
     print_check(out, generation, checked.landmarks, checked.fault)
 }
 

@@ -85,8 +85,18 @@ fn tickets(rt: HostRuntime) {
         same(&rt, answer, *want, "a step");
         disk = left;
     }
-    same(&rt, resume(rt.alloc(), disk, 0), Ok(MOST), "session 0");
-    same(&rt, resume(rt.alloc(), fresh(&rt), 63), Ok(0), "session 63");
+    let (last, left) = resume(rt.alloc(), disk, 0);
+    same(&rt, last, Ok(MOST), "session 0");
+    let (none, left) = resume(rt.alloc(), left, 63);
+    same(&rt, none, Ok(0), "session 63");
+    let (text, _) = listing(rt.alloc(), left);
+    let text = got(&rt, text);
+    same(
+        &rt,
+        text.as_str(),
+        "count=4 edges=1\n0 1 4\n",
+        "the listing",
+    );
 }
 
 // An opening syncs, and then reads; each call of the device fails in turn.
@@ -95,8 +105,8 @@ fn calls_that_fail(rt: HostRuntime) {
     for call in 1..4 {
         let mut disk = fresh(&rt);
         disk.fail_at(call);
-        let told = listing(rt.alloc(), disk).err();
-        same(&rt, told, Some(Fault::Device), "a call");
+        let (told, _) = listing(rt.alloc(), disk);
+        same(&rt, told.err(), Some(Fault::Device), "a call");
     }
 }
 
@@ -161,6 +171,7 @@ fn devices_that_are_brought_over(rt: HostRuntime) {
     put(&rt, &mut old, 4_096, SLOT);
     expect_move(&rt, &mut new, &mut old, Err(Fault::DeviceLength));
     expect_move(&rt, &mut old, &mut new, Ok((258, 0)));
-    let text = got(&rt, listing(rt.alloc(), new));
+    let (text, _) = listing(rt.alloc(), new);
+    let text = got(&rt, text);
     same(&rt, text.as_str(), "count=258 edges=0\n", "the listing");
 }

@@ -36,4 +36,4 @@ returns-in-Ok-Serve-clause-fault g c =
     ends_task c.run_serve.result (texts c.args.words.now) c.in-Ok-Serve.field-0 (Serve c.in-Ok-Serve.device c.in-Ok-Serve.editors c.in-Ok-Serve.forwarders c.in-Ok-Serve.places c.in-Ok-Serve.words) c.in-Ok-Serve.ensures.asked c.in-Ok-Serve.field-0-is c.run_serve.ensures.fault
 
 pub returns-in-Err-clause-fault : goal.returns-in-Err-clause-fault
-returns-in-Err-clause-fault g c = refused_for (texts c.args.words.now) c.in-Err.refused c.fault_of.result c.fault_of.ensures c.in-Err.ensures.refused
+returns-in-Err-clause-fault g c = refused_for (texts c.args.words.now) c.in-Err.refused c.fault_of.result c.fault_of.ensures c.in-Err.ensures.cause c.in-Err.ensures.refused

@@ -1,37 +1,44 @@
-use Rattle.std.proofs.Common.{◌≡◌, ◌∙◌, ap, subst, Err}
+use Rattle.std.proofs.Common.{◌≡◌, ◌∙◌, ◌<◌, ap, refl, subst, IsErrOf, List, ℕ}
+use Rattle.std.proofs.lemmas.Result.{IfOk-weaker}
 use Rattle.recovery.specs.State.{State}
 use Rattle.checkpoint.specs.StoreWords.{state_of}
 use Rattle.given_words.specs.Words.{IsWithin}
-use Rattle.graph_edits.specs.Edges.{Network}
-use Rattle.printed_lines.specs.declared.fault.Fault.{Fault}
-use Rattle.program_run.proofs.SchemeAnswering.{passed_up}
-use Rattle.printed_lines.specs.declared.fault.Fault.TheVariants.{Words}
+use Rattle.printed_lines.specs.declared.fault.Fault.TheVariants.{Device, Words}
+use Rattle.device_commands.specs.Openings.{TellsOf}
+use Rattle.program_run.proofs.Faults.{each_fault, not_told, check_asks, words_tell}
+use Rattle.program_run.proofs.SchemeAnswering.{only_read}
+use Rattle.program_run.specs.Endings.{IsCheckDeviceFault, IsWordsOrMemory}
 use Rattle.program_run.specs.SchemeAnswers.{IsCheckOf}
 use Rattle.program_run.proofs.scheme_tasks.check_device.Goals as goal
-
-pub returns-in_err-checked-in-Ok-clause-not_within : goal.returns-in_err-checked-in-Ok-clause-not_within
-returns-in_err-checked-in-Ok-clause-not_within g c model state stands is =
-    let same : state_of c.in-Ok.store ≡ state = c.standing_law.ensures (state_of c.in-Ok.store) state _ (c.in-Ok.ensures.stands model) stands in
-    let graph : c.graph.result.now ≡ state.graph = c.graph.ensures ∙ ap (λ (s : State). s.graph) same in
-    let fault : c.in_err-checked-in-Ok.field-0.0 ≡ Words = passed_up c.from_residual.result c.in_err-checked-in-Ok.field-0.0 Words c.from_residual.ensures.1 is in
-    let told : c.check_in_graph.result ≡ Err Words = c.in_err-checked-in-Ok.was ∙ ap (λ (f : Fault). Err f) fault in
-    subst (λ (m : Network). ¬ IsWithin c.args.asked.now m.nodes) graph (c.check_in_graph.ensures.not_within told)
 
 pub returns-in-Ok-clause-generation : goal.returns-in-Ok-clause-generation
 returns-in-Ok-clause-generation g c model state stands =
     let same : state_of c.in-Ok.store ≡ state = c.standing_law.ensures (state_of c.in-Ok.store) state _ (c.in-Ok.ensures.stands model) stands in
-    c.count-generation.ensures.same ∙ ap (λ (s : State). s.count) same
+    IfOk-weaker c.check_in_store.result _ _ (λ answer is. is.0 ∙ ap (λ (s : State). s.count) same) c.check_in_store.ensures.answer
 
 pub returns-in-Ok-clause-check : goal.returns-in-Ok-clause-check
 returns-in-Ok-clause-check g c model state stands =
     let same : state_of c.in-Ok.store ≡ state = c.standing_law.ensures (state_of c.in-Ok.store) state _ (c.in-Ok.ensures.stands model) stands in
-    let graph : c.graph.result.now ≡ state.graph = c.graph.ensures ∙ ap (λ (s : State). s.graph) same in
-    let generation : c.count-generation.result ≡ state.count = c.count-generation.ensures.same ∙ ap (λ (s : State). s.count) same in
-    let there = subst (λ (m : Network). IsCheckOf m c.count-generation.result c.args.asked.now c.in_ok-checked-in-Ok.checked) graph c.in_ok-checked-in-Ok.ensures.check in
-    subst (λ n. IsCheckOf state.graph n c.args.asked.now c.in_ok-checked-in-Ok.checked) generation there
+    IfOk-weaker c.check_in_store.result _ _ (λ answer is. subst (λ (s : State). IsCheckOf s.graph s.count c.args.asked.now answer.1) same is.1) c.check_in_store.ensures.answer
+
+pub returns-in-Ok-clause-not_within : goal.returns-in-Ok-clause-not_within
+returns-in-Ok-clause-not_within g c model state stands =
+    let same : state_of c.in-Ok.store ≡ state = c.standing_law.ensures (state_of c.in-Ok.store) state _ (c.in-Ok.ensures.stands model) stands in
+    subst (λ (s : State). IsErrOf c.check_in_store.result Words → ¬ IsWithin c.args.asked.now s.graph.nodes) same c.check_in_store.ensures.not_within
 
 pub returns-in-Ok-clause-of_one : goal.returns-in-Ok-clause-of_one
-returns-in-Ok-clause-of_one g c =
-    let state = state_of c.in-Ok.store in
-    let there = subst (λ (m : Network). IsCheckOf m c.count-generation.result c.args.asked.now c.in_ok-checked-in-Ok.checked) c.graph.ensures c.in_ok-checked-in-Ok.ensures.check in
-    (state, c.count-generation.ensures.same, subst (λ n. IsCheckOf state.graph n c.args.asked.now c.in_ok-checked-in-Ok.checked) c.count-generation.ensures.same there)
+returns-in-Ok-clause-of_one g c = IfOk-weaker c.check_in_store.result _ _ (λ answer is. (state_of c.in-Ok.store, is.0, is.1)) c.check_in_store.ensures.answer
+
+pub returns-in-Ok-clause-tells : goal.returns-in-Ok-clause-tells
+returns-in-Ok-clause-tells g c model =
+    let content : List ℕ = (g.D.Disk.view c.args.disk).content in
+    each_fault c.check_in_store.result (IsWordsOrMemory c.args.asked.now) (λ fault. TellsOf fault content) (λ fault is. words_tell c.args.asked.now fault content is) c.check_in_store.ensures.fault
+
+pub returns-in-Ok-clause-device : goal.returns-in-Ok-clause-device
+returns-in-Ok-clause-device g c is = absurd (not_told c.check_in_store.result Device (IsWordsOrMemory c.args.asked.now) (λ never. never) c.check_in_store.ensures.fault is)
+
+pub returns-in-Ok-clause-fault : goal.returns-in-Ok-clause-fault
+returns-in-Ok-clause-fault g c = each_fault c.check_in_store.result (IsWordsOrMemory c.args.asked.now) (IsCheckDeviceFault c.args.asked.now) (check_asks c.args.asked.now) c.check_in_store.ensures.fault
+
+pub returns-in-Ok-clause-reads : goal.returns-in-Ok-clause-reads
+returns-in-Ok-clause-reads g c model = only_read c.args.disk c.into_disk.result c.in-Ok.store c.into_disk.ensures (c.in-Ok.ensures.reads model)

@@ -1,45 +1,49 @@
-use Rattle.std.proofs.Common.{◌≡◌, ◌∙◌, ◌<◌, ap, subst, Err}
+use Rattle.std.proofs.Common.{◌≡◌, ◌∙◌, ◌<◌, ap, refl, subst, IsErrOf, List, ℕ}
+use Rattle.std.proofs.lemmas.Result.{IfOk-weaker}
 use Rattle.recovery.specs.State.{State}
 use Rattle.checkpoint.specs.StoreWords.{state_of}
 use Rattle.given_words.specs.Words.{IsWithin}
-use Rattle.graph_edits.specs.Edges.{Network}
-use Rattle.printed_lines.specs.declared.fault.Fault.{Fault}
-use Rattle.program_run.proofs.SchemeAnswering.{passed_up}
-use Rattle.printed_lines.specs.declared.fault.Fault.TheVariants.{NoNode, Words}
+use Rattle.printed_lines.specs.declared.fault.Fault.TheVariants.{Device, NoNode, Words}
+use Rattle.device_commands.specs.Openings.{TellsOf}
+use Rattle.program_run.proofs.Faults.{each_fault, not_told, route_asks, route_tells}
+use Rattle.program_run.proofs.SchemeAnswering.{only_read}
+use Rattle.program_run.specs.Endings.{IsRouteDeviceFault, IsRouteFault}
 use Rattle.program_run.specs.SchemeAnswers.{IsRouteOf}
 use Rattle.program_run.proofs.scheme_tasks.route_device.Goals as goal
-
-pub returns-in_err-route-in-Ok-clause-no_node : goal.returns-in_err-route-in-Ok-clause-no_node
-returns-in_err-route-in-Ok-clause-no_node g c model state stands is =
-    let same : state_of c.in-Ok.store ≡ state = c.standing_law.ensures (state_of c.in-Ok.store) state _ (c.in-Ok.ensures.stands model) stands in
-    let graph : c.graph.result.now ≡ state.graph = c.graph.ensures ∙ ap (λ (s : State). s.graph) same in
-    let fault : c.in_err-route-in-Ok.field-0.0 ≡ NoNode = passed_up c.from_residual.result c.in_err-route-in-Ok.field-0.0 NoNode c.from_residual.ensures.1 is in
-    let told : c.route_in_graph.result ≡ Err NoNode = c.in_err-route-in-Ok.was ∙ ap (λ (f : Fault). Err f) fault in
-    subst (λ (m : Network). IsWithin c.args.asked.now m.nodes × (c.args.from < m.nodes → c.args.to < m.nodes → ⊥)) graph (c.route_in_graph.ensures.no_node told)
-
-pub returns-in_err-route-in-Ok-clause-not_within : goal.returns-in_err-route-in-Ok-clause-not_within
-returns-in_err-route-in-Ok-clause-not_within g c model state stands is =
-    let same : state_of c.in-Ok.store ≡ state = c.standing_law.ensures (state_of c.in-Ok.store) state _ (c.in-Ok.ensures.stands model) stands in
-    let graph : c.graph.result.now ≡ state.graph = c.graph.ensures ∙ ap (λ (s : State). s.graph) same in
-    let fault : c.in_err-route-in-Ok.field-0.0 ≡ Words = passed_up c.from_residual.result c.in_err-route-in-Ok.field-0.0 Words c.from_residual.ensures.1 is in
-    let told : c.route_in_graph.result ≡ Err Words = c.in_err-route-in-Ok.was ∙ ap (λ (f : Fault). Err f) fault in
-    subst (λ (m : Network). ¬ IsWithin c.args.asked.now m.nodes) graph (c.route_in_graph.ensures.not_within told)
 
 pub returns-in-Ok-clause-generation : goal.returns-in-Ok-clause-generation
 returns-in-Ok-clause-generation g c model state stands =
     let same : state_of c.in-Ok.store ≡ state = c.standing_law.ensures (state_of c.in-Ok.store) state _ (c.in-Ok.ensures.stands model) stands in
-    c.count-generation.ensures.same ∙ ap (λ (s : State). s.count) same
+    IfOk-weaker c.route_in_store.result _ _ (λ answer is. is.0 ∙ ap (λ (s : State). s.count) same) c.route_in_store.ensures.answer
 
 pub returns-in-Ok-clause-route : goal.returns-in-Ok-clause-route
 returns-in-Ok-clause-route g c model state stands =
     let same : state_of c.in-Ok.store ≡ state = c.standing_law.ensures (state_of c.in-Ok.store) state _ (c.in-Ok.ensures.stands model) stands in
-    let graph : c.graph.result.now ≡ state.graph = c.graph.ensures ∙ ap (λ (s : State). s.graph) same in
-    let generation : c.count-generation.result ≡ state.count = c.count-generation.ensures.same ∙ ap (λ (s : State). s.count) same in
-    let there = subst (λ (m : Network). IsRouteOf m c.count-generation.result c.args.asked.now c.args.from c.args.to c.in_ok-route-in-Ok.route) graph c.in_ok-route-in-Ok.ensures.route in
-    subst (λ n. IsRouteOf state.graph n c.args.asked.now c.args.from c.args.to c.in_ok-route-in-Ok.route) generation there
+    IfOk-weaker c.route_in_store.result _ _ (λ answer is. subst (λ (s : State). IsRouteOf s.graph s.count c.args.asked.now c.args.from c.args.to answer.1) same is.1) c.route_in_store.ensures.answer
+
+pub returns-in-Ok-clause-no_node : goal.returns-in-Ok-clause-no_node
+returns-in-Ok-clause-no_node g c model state stands =
+    let same : state_of c.in-Ok.store ≡ state = c.standing_law.ensures (state_of c.in-Ok.store) state _ (c.in-Ok.ensures.stands model) stands in
+    subst (λ (s : State). IsErrOf c.route_in_store.result NoNode → IsWithin c.args.asked.now s.graph.nodes × (c.args.from < s.graph.nodes → c.args.to < s.graph.nodes → ⊥)) same c.route_in_store.ensures.no_node
+
+pub returns-in-Ok-clause-not_within : goal.returns-in-Ok-clause-not_within
+returns-in-Ok-clause-not_within g c model state stands =
+    let same : state_of c.in-Ok.store ≡ state = c.standing_law.ensures (state_of c.in-Ok.store) state _ (c.in-Ok.ensures.stands model) stands in
+    subst (λ (s : State). IsErrOf c.route_in_store.result Words → ¬ IsWithin c.args.asked.now s.graph.nodes) same c.route_in_store.ensures.not_within
 
 pub returns-in-Ok-clause-of_one : goal.returns-in-Ok-clause-of_one
-returns-in-Ok-clause-of_one g c =
-    let state = state_of c.in-Ok.store in
-    let there = subst (λ (m : Network). IsRouteOf m c.count-generation.result c.args.asked.now c.args.from c.args.to c.in_ok-route-in-Ok.route) c.graph.ensures c.in_ok-route-in-Ok.ensures.route in
-    (state, c.count-generation.ensures.same, subst (λ n. IsRouteOf state.graph n c.args.asked.now c.args.from c.args.to c.in_ok-route-in-Ok.route) c.count-generation.ensures.same there)
+returns-in-Ok-clause-of_one g c = IfOk-weaker c.route_in_store.result _ _ (λ answer is. (state_of c.in-Ok.store, is.0, is.1)) c.route_in_store.ensures.answer
+
+pub returns-in-Ok-clause-tells : goal.returns-in-Ok-clause-tells
+returns-in-Ok-clause-tells g c model =
+    let content : List ℕ = (g.D.Disk.view c.args.disk).content in
+    each_fault c.route_in_store.result (IsRouteFault c.args.asked.now) (λ fault. TellsOf fault content) (λ fault is. route_tells c.args.asked.now fault content is) c.route_in_store.ensures.fault
+
+pub returns-in-Ok-clause-device : goal.returns-in-Ok-clause-device
+returns-in-Ok-clause-device g c is = absurd (not_told c.route_in_store.result Device (IsRouteFault c.args.asked.now) (λ never. never) c.route_in_store.ensures.fault is)
+
+pub returns-in-Ok-clause-fault : goal.returns-in-Ok-clause-fault
+returns-in-Ok-clause-fault g c = each_fault c.route_in_store.result (IsRouteFault c.args.asked.now) (IsRouteDeviceFault c.args.asked.now) (route_asks c.args.asked.now) c.route_in_store.ensures.fault
+
+pub returns-in-Ok-clause-reads : goal.returns-in-Ok-clause-reads
+returns-in-Ok-clause-reads g c model = only_read c.args.disk c.into_disk.result c.in-Ok.store c.into_disk.ensures (c.in-Ok.ensures.reads model)
