@@ -1,9 +1,9 @@
 // Editors, and a committer's part played by hand: requests are taken and answered one by one.
-ghost use Rattle.std.specs.Prelude.{◌≡◌, ◌+◌, ◌<◌, ◌∷◌, [], IfOk, MatchOption};
+ghost use Rattle.std.specs.Prelude.{◌≡◌, ◌+◌, ◌<◌, ◌∷◌, [], IfOk, MatchOption, OnOk};
 ghost use Rattle.generations.specs.declared.posting.Verdict.TheVariants.{Accepted};
 ghost use Rattle.forwarding_tests.specs.Answered.{IsAnswered};
 
-use crate::posted::{post_now, same};
+use crate::posted::{popped, post_now, same};
 use generations::{BoardWriter, Mark, Posting, Verdict, board};
 use graph_edits::{Change, Op};
 use intake::{Editor, Outcome, SubmitRefused, Taker, open_intake};
@@ -55,6 +55,7 @@ fn answer_next<R: Wait + Abort, W: Wait + Drop>(
 }
 
 /// The ends of an intake over one place, with two editors of a board.
+#[derive(Drop)]
 struct Opened<W: Wait + Drop> {
     writer: BoardWriter<W>,
     taker: Taker,
@@ -62,29 +63,47 @@ struct Opened<W: Wait + Drop> {
     second: Editor,
 }
 
-fn two_editors<W: Wait + Drop>(
+fn two_editors<'a, R: Wait + Abort>(
+    rt: &'a R,
     alloc: Global,
-    rt: W,
     starts: &[u64; SESSIONS],
-) -> Result<Opened<W>, AllocError>
+) -> Result<Opened<&'a R>, AllocError>
     ensures answered { IfOk result (λ p. IsAnswered p.taker p.writer 0) }
     ensures first { IfOk result (λ p. p.first.known.opening ≡ p.writer.opening) }
     ensures second { IfOk result (λ p. p.second.known.opening ≡ p.writer.opening) }
 {
     let (writer, readers) = board(alloc, rt, 2, starts, 0)?;
     let (taker, mut editors) = open_intake(alloc, 1, readers, starts)?;
-    let Some(second) = editors.pop() else {
-        return Err(AllocError);
-    };
-    let Some(first) = editors.pop() else {
-        return Err(AllocError);
-    };
+    let second = popped(rt, &mut editors);
+    let first = popped(rt, &mut editors);
     Ok(Opened {
         writer,
         taker,
         first,
         second,
     })
+}
+
+// Takes the next request, which has to be this session's under this ticket, and posts that its change is the next accepted one.
+fn accepts_next<R: Wait + Abort, W: Wait + Drop>(
+    rt: &R,
+    alloc: Global,
+    opened: &mut Opened<W>,
+    settled: u64,
+    want: (u8, u64),
+) -> Result<(), AllocError>
+    requires answered { IsAnswered opened.old.taker opened.old.writer settled }
+    requires few { settled < 10000 }
+    ensures opening { opened.new.writer.opening ≡ opened.old.writer.opening }
+    ensures first { opened.new.first ≡ opened.old.first }
+    ensures second { opened.new.second ≡ opened.old.second }
+    ensures answered { OnOk result (IsAnswered opened.new.taker opened.new.writer (settled + 1)) }
+{
+    match answer_next(rt, alloc, &mut opened.taker, &mut opened.writer, settled)? {
+        Some(found) => same(rt, found, want, "a request"),
+        None => panic!(rt; "nothing to take"),
+    }
+    Ok(())
 }
 
 // A change that was submitted comes back for this reason.
@@ -102,24 +121,25 @@ fn comes_back(
 }
 
 // The first change fills the queue: the second comes back, and so does another one of the first editor.
-fn fills<R: Wait + Abort>(rt: &R, first: &mut Editor, second: &mut Editor)
-    ensures first { first.new.known.opening ≡ first.old.known.opening }
-    ensures second { second.new.known.opening ≡ second.old.known.opening }
+fn fills<R: Wait + Abort, W: Wait + Drop>(rt: &R, opened: &mut Opened<W>)
+    ensures writer { opened.new.writer ≡ opened.old.writer }
+    ensures taker { opened.new.taker ≡ opened.old.taker }
+    ensures first { opened.new.first.known.opening ≡ opened.old.first.known.opening }
+    ensures second { opened.new.second.known.opening ≡ opened.old.second.known.opening }
 {
-    same(rt, (first.session(), second.session()), (0, 1), "sessions");
-    same(rt, first.resume(), 0, "the last ticket");
-    same(rt, first.outcome(), Ok(Outcome::Nothing), "before");
-    same(
-        rt,
-        first.submit(rt, 1, change(rt, 0, 1)).is_ok(),
-        true,
-        "the first",
-    );
-    let answer = second.submit(rt, 1, change(rt, 1, 2));
+    let sessions = (opened.first.session(), opened.second.session());
+    same(rt, sessions, (0, 1), "sessions");
+    same(rt, opened.first.resume(), 0, "the last ticket");
+    let before = opened.first.outcome();
+    same(rt, before, Ok(Outcome::Nothing), "before");
+    let first = opened.first.submit(rt, 1, change(rt, 0, 1));
+    same(rt, first.is_ok(), true, "the first");
+    let answer = opened.second.submit(rt, 1, change(rt, 1, 2));
     comes_back(rt, answer, SubmitRefused::QueueFull, change(rt, 1, 2));
-    let answer = first.submit(rt, 2, change(rt, 2, 3));
+    let answer = opened.first.submit(rt, 2, change(rt, 2, 3));
     comes_back(rt, answer, SubmitRefused::Busy, change(rt, 2, 3));
-    same(rt, first.outcome(), Ok(Outcome::Waiting), "after");
+    let after = opened.first.outcome();
+    same(rt, after, Ok(Outcome::Waiting), "after");
 }
 
 // The first change of this editor is the accepted one of this number.
@@ -130,31 +150,17 @@ fn accepts(rt: &impl Abort, editor: &mut Editor, count: u64) {
 
 // The two editors, with answers by hand.
 fn settles<R: Wait + Abort>(rt: &R, alloc: Global) -> Result<(), AllocError> {
-    let Opened {
-        mut writer,
-        mut taker,
-        mut first,
-        mut second,
-    } = two_editors(alloc, rt, &[0; SESSIONS])?;
-    fills(rt, &mut first, &mut second);
-    let Some(one) = answer_next(rt, alloc, &mut taker, &mut writer, 0)? else {
-        panic!(rt; "nothing to take");
-    };
-    same(rt, one, (0, 1), "the first");
-    same(
-        rt,
-        second.submit(rt, 1, change(rt, 1, 2)).is_ok(),
-        true,
-        "the second",
-    );
-    let Some(two) = answer_next(rt, alloc, &mut taker, &mut writer, 1)? else {
-        panic!(rt; "nothing to take");
-    };
-    same(rt, two, (1, 1), "the second");
-    first.learn(&writer.tell());
-    second.learn(&writer.tell());
-    accepts(rt, &mut first, 1);
-    accepts(rt, &mut second, 2);
+    let mut opened = two_editors(rt, alloc, &[0; SESSIONS])?;
+    fills(rt, &mut opened);
+    accepts_next(rt, alloc, &mut opened, 0, (0, 1))?;
+    let second = opened.second.submit(rt, 1, change(rt, 1, 2));
+    same(rt, second.is_ok(), true, "the second");
+    accepts_next(rt, alloc, &mut opened, 1, (1, 1))?;
+    let news = opened.writer.tell();
+    opened.first.learn(&news);
+    opened.second.learn(&news);
+    accepts(rt, &mut opened.first, 1);
+    accepts(rt, &mut opened.second, 2);
     Ok(())
 }
 

@@ -1,7 +1,7 @@
 // The board as a plain value, over threads, and where an allocation is refused.
 ghost use Rattle.std.specs.Prelude.{◌≡◌, []};
 
-use crate::posted::{empty_scheme, got, newest, post_next, post_seen, post_up_to, same};
+use crate::posted::{empty_scheme, got, newest, popped, post_next, post_seen, post_up_to, same};
 use generations::{Board, BoardReader, MOST_SHELVED, Mark, Posting, Verdict, board};
 use graph_edits::Code;
 use requests::{SESSIONS, WORN_LIMIT};
@@ -103,9 +103,8 @@ fn readers_beside_a_writer_see_all_that_they_were_told(rt: HostRuntime) -> Resul
     let alloc = rt.alloc();
     let (mut writer, mut readers) = board(alloc, &rt, 2, &[0; SESSIONS], 0)?;
     post_next(&rt, alloc, &mut writer, 0);
-    let (Some(mut one), Some(mut two)) = (readers.pop(), readers.pop()) else {
-        panic!(&rt; "no readers");
-    };
+    let mut one = popped(&rt, &mut readers);
+    let mut two = popped(&rt, &mut readers);
     one.learn(&writer.tell());
     two.learn(&writer.tell());
     let first = got(&rt, thread::spawn(&rt, move || looks(one, 1)));
@@ -123,9 +122,7 @@ fn readers_beside_a_writer_see_all_that_they_were_told(rt: HostRuntime) -> Resul
 // Posts five generations. What is kept for want of memory is seen once it is retried, and not before.
 fn posts_five<R: Wait + Abort>(rt: &R, alloc: Global) -> Result<(), AllocError> {
     let (mut writer, mut readers) = board(alloc, rt, 1, &[0; SESSIONS], 0)?;
-    let Some(mut reader) = readers.pop() else {
-        return Err(AllocError);
-    };
+    let mut reader = popped(rt, &mut readers);
     for posted in 0..5u64 {
         let scheme = empty_scheme(alloc, posted + 1)?;
         reader = post_seen(rt, &mut writer, reader, posted, scheme);

@@ -30,6 +30,16 @@ pub(crate) fn got<T, E: Drop>(rt: &impl Abort, answer: Result<T, E>) -> T {
     }
 }
 
+/// The last element of a list that has one.
+pub(crate) fn popped<T: Drop>(rt: &impl Abort, list: &mut Vec<T>) -> T
+    ensures { list.old.items ≡ list.new.items ++ result ∷ [] }
+{
+    match list.pop() {
+        Some(last) => last,
+        None => panic!(rt; "an empty list"),
+    }
+}
+
 /// The edges of a network, each of one weight.
 pub(crate) type Edge = (u16, u16, u32);
 

@@ -1,11 +1,12 @@
 // Drawn lists of a thousand events, judged by the slow machine.
 use crate::slow_machine::SlowMachine;
 use crate::worlds::fresh;
-use disk_trait::Plan;
+use disk_trait::{MemDisk, Plan};
 use event_runs::{Event, Reply};
 use forwarders::Refused;
 use graph_edits::{Change, Op};
 use intake::{Outcome, SubmitRefused};
+use interleave::World;
 use rand_core::{Rng, SeedableRng};
 use rand_xoshiro::Xoshiro256PlusPlus;
 use requests::WORN_LIMIT;
@@ -184,63 +185,105 @@ fn kind(reply: Reply) -> usize {
     }
 }
 
+// A thousand events.
+fn thousand(rt: &impl Abort, alloc: Global, drawer: Drawer) -> Result<Vec<Event>, AllocError> {
+    let mut drawer = drawer;
+    let mut events = Vec::new(alloc);
+    for _ in 0..1000u16 {
+        events.push(drawer.event(rt, alloc)?)?;
+    }
+    Ok(events)
+}
+
+// Each reply is as the slow machine says.
+fn judged(
+    rt: &impl Abort,
+    alloc: Global,
+    slow: &mut SlowMachine,
+    events: &[Event],
+    replies: &[Reply],
+    tally: &mut [u64; 26],
+    list: u64,
+) -> Result<(), AllocError> {
+    assert!(rt; replies.len() == events.len());
+    for (place, (event, reply)) in events.iter().zip(replies.iter()).enumerate() {
+        let good = slow.judges(alloc, event, *reply)?;
+        assert!(rt; good, "list {list}, event {place}");
+        if let Some(times) = tally.get_mut(kind(*reply)) {
+            *times = times.saturating_add(1);
+        }
+    }
+    Ok(())
+}
+
+// What is stored in the end is as the slow machine has it.
+fn end_alike(rt: &impl Abort, world: World<MemDisk>, slow: &SlowMachine, list: u64) {
+    let (stored, desk) = world.into_parts();
+    let store = desk.store();
+    assert!(rt; stored.postings.len() == slow.news.len(), "list {list}");
+    assert!(rt; store.count() == slow.count, "list {list}");
+    assert!(rt;
+        store.graph().edges() == slow.graph.edges.len(),
+        "list {list}"
+    );
+    for (a, b, weight) in &slow.graph.edges {
+        assert!(rt;
+            store.graph().weight(*a, *b) == Some(*weight),
+            "list {list}"
+        );
+    }
+}
+
+// The call of the device that fails, if one does.
+fn failing_call(rng: &mut Xoshiro256PlusPlus, list: u64) -> Option<u64> {
+    if list % 4 == 1 {
+        Some(1 + rng.next_u64() % 24)
+    } else {
+        None
+    }
+}
+
+// Draws a list of events, and runs it in a world and by the slow machine.
+fn one_list(
+    rt: &impl Abort,
+    alloc: Global,
+    rng: &mut Xoshiro256PlusPlus,
+    tally: &mut [u64; 26],
+    list: u64,
+) -> Result<(), AllocError> {
+    let nodes = (1 + rng.next_u64() % 5) as u16;
+    let sessions = (1 + rng.next_u64() % 3) as u16;
+    let capacity = (1 + rng.next_u64() % 3) as usize;
+    let failing = failing_call(rng, list);
+    let drawer = Drawer {
+        rng: Xoshiro256PlusPlus::seed_from_u64(rng.next_u64()),
+        nodes,
+        sessions,
+        tickets: [0; 4],
+        launches: 0,
+    };
+    let events = thousand(rt, alloc, drawer)?;
+    let plan = match failing {
+        Some(call) => Plan::Fail(call),
+        None => Plan::None,
+    };
+    let mut slow = SlowMachine::new(alloc, nodes, sessions as usize, capacity, failing)?;
+    let mut world = fresh(rt, alloc, nodes, sessions as usize, capacity, plan);
+    let replies = world.run(alloc, events.as_slice())?;
+    judged(rt, alloc, &mut slow, &events, &replies, tally, list)?;
+    end_alike(rt, world, &slow, list);
+    Ok(())
+}
+
 #[test]
 fn as_the_slow_machine_says(rt: HostRuntime) -> Result<(), Fail> {
-    let alloc = rt.alloc();
     let mut rng = Xoshiro256PlusPlus::seed_from_u64(27);
     let mut tally = [0u64; 26];
     for list in 0..8u64 {
-        let nodes = (1 + rng.next_u64() % 5) as u16;
-        let sessions = (1 + rng.next_u64() % 3) as u16;
-        let capacity = (1 + rng.next_u64() % 3) as usize;
-        let failing = if list % 4 == 1 {
-            Some(1 + rng.next_u64() % 24)
-        } else {
-            None
-        };
-        let plan = match failing {
-            Some(call) => Plan::Fail(call),
-            None => Plan::None,
-        };
-        let mut drawer = Drawer {
-            rng: Xoshiro256PlusPlus::seed_from_u64(rng.next_u64()),
-            nodes,
-            sessions,
-            tickets: [0; 4],
-            launches: 0,
-        };
-        let mut events = Vec::new(alloc);
-        for _ in 0..1000u16 {
-            events.push(drawer.event(&rt, alloc)?)?;
-        }
-        let mut world = fresh(&rt, alloc, nodes, sessions as usize, capacity, plan);
-        let replies = world.run(alloc, events.as_slice())?;
-        assert!(rt; replies.len() == events.len());
-        let mut slow = SlowMachine::new(alloc, nodes, sessions as usize, capacity, failing)?;
-        for (place, (event, reply)) in events.iter().zip(replies.iter()).enumerate() {
-            let good = slow.judges(alloc, event, *reply)?;
-            assert!(rt; good, "list {list}, event {place}");
-            if let Some(times) = tally.get_mut(kind(*reply)) {
-                *times = times.saturating_add(1);
-            }
-        }
-        let (stored, desk) = world.into_parts();
-        let store = desk.store();
-        assert!(rt; stored.postings.len() == slow.news.len(), "list {list}");
-        assert!(rt; store.count() == slow.count, "list {list}");
-        assert!(rt;
-            store.graph().edges() == slow.graph.edges.len(),
-            "list {list}"
-        );
-        for (a, b, weight) in &slow.graph.edges {
-            assert!(rt;
-                store.graph().weight(*a, *b) == Some(*weight),
-                "list {list}"
-            );
-        }
+        one_list(&rt, rt.alloc(), &mut rng, &mut tally, list)?;
     }
     for (kind, times) in tally.iter().enumerate() {
-        assert!(rt; (*times > 0) == (kind < 25), "{kind}: {times}");
+        assert!(&rt; (*times > 0) == (kind < 25), "{kind}: {times}");
     }
     Ok(())
 }

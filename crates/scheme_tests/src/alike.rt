@@ -3,8 +3,9 @@ use crate::changes::copied;
 use crate::drawn::graph_of;
 use crate::plain_graph::{Edge, PlainGraph};
 use built_schemes::scheme_of;
+use graph_edits::Graph;
 use node_table::Scheme;
-use std::alloc::Global;
+use std::alloc::{AllocError, Global};
 use std::process::Abort;
 use std::test::Fail;
 
@@ -18,14 +19,42 @@ const WORDS: [[u64; 5]; 3] = [
     [0; 5],
 ];
 
+/// The value of an answer that has to have one.
+fn got<T, E: Drop>(rt: &impl Abort, answer: Result<T, E>) -> T {
+    match answer {
+        Ok(value) => value,
+        Err(_) => panic!(rt; "no value"),
+    }
+}
+
+/// Sees that two answers are the same.
+fn same<T: PartialEq + Drop>(rt: &impl Abort, found: T, want: T, name: &str) {
+    assert!(rt; found == want, "{name}");
+}
+
 /// Sees that both find the same in the lists of a node, for each other one and one that isn't there.
 fn expect_found(rt: &impl Abort, built: &Scheme, assembled: &Scheme, x: u16) {
     assert!(rt; x < built.parts().nodes && x < assembled.parts().nodes);
-    assert_eq!(rt; assembled.entries(x), built.entries(x));
+    same(rt, assembled.entries(x), built.entries(x), "entries");
     for other in 0..6u16 {
-        assert_eq!(rt; assembled.find(x, other), built.find(x, other));
-        assert!(rt; assembled.entry(x, other) == built.entry(x, other));
-        assert!(rt; assembled.listed(x, other) == built.listed(x, other));
+        same(
+            rt,
+            assembled.find(x, other),
+            built.find(x, other),
+            "a place",
+        );
+        same(
+            rt,
+            assembled.entry(x, other),
+            built.entry(x, other),
+            "an entry",
+        );
+        same(
+            rt,
+            assembled.listed(x, other),
+            built.listed(x, other),
+            "a label",
+        );
     }
 }
 
@@ -39,18 +68,51 @@ fn expect_carried(
     u: u16,
     v: u16,
 ) {
-    let address = built.address(v).expect(rt, "an address");
-    assert!(rt; assembled.address(v) == built.address(v));
-    let packet = built.decide(u, &address).expect(rt, "a packet");
-    assert!(rt; assembled.decide(u, &address) == built.decide(u, &address));
+    let address = got(rt, built.address(v));
+    same(
+        rt,
+        got(rt, assembled.address(v)),
+        got(rt, built.address(v)),
+        "an address",
+    );
+    let packet = got(rt, built.decide(u, &address));
+    same(
+        rt,
+        assembled.decide(u, &address),
+        built.decide(u, &address),
+        "a packet",
+    );
     for x in 0..6u16 {
-        assert!(rt; assembled.node_step(x, &packet) == built.node_step(x, &packet));
+        same(
+            rt,
+            assembled.node_step(x, &packet),
+            built.node_step(x, &packet),
+            "a step",
+        );
     }
-    let way = assembled.carry(alloc, u, &address).expect(rt, "a way");
-    let want = built.carry(alloc, u, &address).expect(rt, "a way");
-    assert_eq!(rt; way.nodes.as_slice(), want.nodes.as_slice());
-    assert_eq!(rt; way.ports.as_slice(), want.ports.as_slice());
-    assert_eq!(rt; way.length, want.length);
+    let way = got(rt, assembled.carry(alloc, u, &address));
+    let want = got(rt, built.carry(alloc, u, &address));
+    same(rt, way.nodes.as_slice(), want.nodes.as_slice(), "nodes");
+    same(rt, way.ports.as_slice(), want.ports.as_slice(), "ports");
+    same(rt, way.length, want.length, "a length");
+}
+
+/// Sees that both answer alike under these words.
+fn expect_alike(
+    rt: &impl Abort,
+    alloc: Global,
+    graph: &Graph,
+    words: &[u64; 5],
+) -> Result<(), AllocError> {
+    let built = scheme_of(alloc, graph, words.as_slice(), 7, alloc)?;
+    let assembled = Scheme::assemble(copied(alloc, built.parts())?);
+    for u in 0..5u16 {
+        expect_found(rt, &built, &assembled, u);
+        for v in 0..5u16 {
+            expect_carried(rt, alloc, &built, &assembled, u, v);
+        }
+    }
+    Ok(())
 }
 
 #[test]
@@ -59,14 +121,7 @@ fn built_or_assembled_it_answers_alike(rt: HostRuntime) -> Result<(), Fail> {
     let edges = Vec::from_array(alloc, PATH)?;
     let graph = graph_of(&rt, alloc, &PlainGraph::new(alloc, 5, edges)?);
     for words in &WORDS {
-        let built = scheme_of(alloc, &graph, words.as_slice(), 7, alloc)?;
-        let assembled = Scheme::assemble(copied(alloc, built.parts())?);
-        for u in 0..5u16 {
-            expect_found(&rt, &built, &assembled, u);
-            for v in 0..5u16 {
-                expect_carried(&rt, alloc, &built, &assembled, u, v);
-            }
-        }
+        expect_alike(&rt, alloc, &graph, words)?;
     }
     Ok(())
 }

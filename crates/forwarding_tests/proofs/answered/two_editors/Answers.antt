@@ -12,13 +12,13 @@ returns-clause-answered g c =
 pub returns-clause-first : goal.returns-clause-first
 returns-clause-first g c =
     let seen = c.in_ok-writer.ensures.seen in
-    let both = both_at c.in_ok-taker.taker.queue c.args.starts.now c.in_ok-writer.readers.items c.in_ok-writer.writer.opening c.in_ok-taker.editors.items c.pop.new.self.items c.pop-2.new.self.items c.in-Some.second c.in-Some-pop.first
-    (λ k d w. ap (λ (b : Knowledge). b.all.opening) (seen k d w)) c.in_ok-taker.ensures.editors c.in-Some.ensures.items c.in-Some-pop.ensures.items in
+    let both = both_at c.in_ok-taker.taker.queue c.args.starts.now c.in_ok-writer.readers.items c.in_ok-writer.writer.opening c.in_ok-taker.editors.items c.popped-second.new.list.items c.popped-first.new.list.items c.popped-second.result c.popped-first.result
+    (λ k d w. ap (λ (b : Knowledge). b.all.opening) (seen k d w)) c.in_ok-taker.ensures.editors c.popped-second.ensures c.popped-first.ensures in
     both.1
 
 pub returns-clause-second : goal.returns-clause-second
 returns-clause-second g c =
     let seen = c.in_ok-writer.ensures.seen in
-    let both = both_at c.in_ok-taker.taker.queue c.args.starts.now c.in_ok-writer.readers.items c.in_ok-writer.writer.opening c.in_ok-taker.editors.items c.pop.new.self.items c.pop-2.new.self.items c.in-Some.second c.in-Some-pop.first
-    (λ k d w. ap (λ (b : Knowledge). b.all.opening) (seen k d w)) c.in_ok-taker.ensures.editors c.in-Some.ensures.items c.in-Some-pop.ensures.items in
+    let both = both_at c.in_ok-taker.taker.queue c.args.starts.now c.in_ok-writer.readers.items c.in_ok-writer.writer.opening c.in_ok-taker.editors.items c.popped-second.new.list.items c.popped-first.new.list.items c.popped-second.result c.popped-first.result
+    (λ k d w. ap (λ (b : Knowledge). b.all.opening) (seen k d w)) c.in_ok-taker.ensures.editors c.popped-second.ensures c.popped-first.ensures in
     both.0
