@@ -1,3 +1,4 @@
 pub mod Outcomes
 pub mod Seated
 pub mod Turned
+pub mod Openings

@@ -2,7 +2,7 @@
 ghost use Rattle.std.specs.Prelude.{◌≡◌, OnOk};
 ghost use Rattle.committer.specs.CommitterWords.{posts_of};
 
-use crate::fault::Fault;
+use crate::halt::Halt;
 use crate::kept::Kept;
 use crate::meeting::Meeting;
 use crate::told::{Naming, ToldOf};
@@ -22,7 +22,7 @@ fn rebuild<J: Naming, D: Disk, R: Wait + Drop>(
     committer: &mut Committer<D, R>,
     source: &mut WordSource,
     kept: &mut Vec<Kept>,
-) -> Result<(), Fault>
+) -> Result<(), Halt>
     requires { (posts_of committer.old).opening ≡ J.opening }
     ensures { OnOk result ((posts_of committer.new).opening ≡ J.opening) }
 {
@@ -54,7 +54,7 @@ fn turn<J: Naming, D: Disk, R: Wait + Drop, S: Wait>(
     committer: &mut Committer<D, R>,
     source: &mut WordSource,
     kept: &mut Vec<Kept>,
-) -> Result<Round, Fault>
+) -> Result<Round, Halt>
     requires { (posts_of committer.old).opening ≡ J.opening }
     ensures { OnOk result ((posts_of committer.new).opening ≡ J.opening) }
 {
@@ -89,8 +89,8 @@ pub(crate) fn commit_all<J: Naming, D: Disk, R: Wait + Drop, S: Wait>(
             Ok(round) if round.taken > 0 => {}
             Ok(_) if work.editing == 0 => return,
             Ok(_) => meeting.await_work(rt, work.asked),
-            Err(fault) => {
-                meeting.stop(rt, fault);
+            Err(halt) => {
+                meeting.stop(rt, halt);
                 return;
             }
         }
@@ -104,7 +104,7 @@ pub(crate) fn opened<J: Naming, D: Disk, R: Wait + Drop>(
     source: &mut WordSource,
     kept: &mut Vec<Kept>,
     editing: usize,
-) -> Result<Meeting<J>, Fault>
+) -> Result<Meeting<J>, Halt>
     requires { (posts_of committer.old).opening ≡ J.opening }
     ensures { OnOk result ((posts_of committer.new).opening ≡ J.opening) }
 {

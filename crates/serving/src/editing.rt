@@ -2,7 +2,7 @@
 ghost use Rattle.std.specs.Prelude.{◌≡◌, ◌++◌, ◌∷◌, [], IfSome};
 ghost use Rattle.serving.specs.Settled.{IsMarkOf};
 
-use crate::fault::Fault;
+use crate::halt::Halt;
 use crate::meeting::Meeting;
 use crate::told::Naming;
 use generations::{Mark, Verdict};
@@ -73,7 +73,7 @@ fn put<J: Naming, R: Wait>(
                 ticket = ticket.saturating_add(1);
             }
             Err((SubmitRefused::Worn, _)) => {
-                meeting.stop(rt, Fault::Worn);
+                meeting.stop(rt, Halt::Worn);
                 return None;
             }
         }
@@ -152,7 +152,7 @@ pub(crate) fn edit_all<J: Naming, R: Wait>(
         };
         last = mark.ticket;
         if verdicts.push_back(mark.verdict).is_err() {
-            meeting.stop(rt, Fault::Memory);
+            meeting.stop(rt, Halt::Memory);
             break;
         }
     }

@@ -1,9 +1,8 @@
 // Why a script gets no answers.
 ghost use Rattle.std.specs.Prelude.{◌≡◌};
 
+use crate::halt::Halt;
 use checkpoint::OpenRefused;
-use committer::{RebuildRefused, RoundRefused};
-use std::alloc::{AllocError, AllocFailed};
 
 /// Why a script gets no answers. The first four are the opening's, in the order of its tests; what was accepted before any other
 /// one stays accepted.
@@ -27,26 +26,6 @@ pub enum Fault {
     Board,
 }
 
-impl From<AllocError> for Fault {
-    ghost use Rattle.serving.specs.declared.fault.Fault.TheVariants.{Memory};
-
-    ghost from_gives = { λ _ e. e ≡ Memory };
-
-    fn from(_: AllocError) -> Self {
-        Fault::Memory
-    }
-}
-
-impl<T: Drop> From<AllocFailed<T>> for Fault {
-    ghost use Rattle.serving.specs.declared.fault.Fault.TheVariants.{Memory};
-
-    ghost from_gives = { λ _ e. e ≡ Memory };
-
-    fn from(_: AllocFailed<T>) -> Self {
-        Fault::Memory
-    }
-}
-
 impl From<OpenRefused> for Fault {
     ghost use Rattle.serving.specs.Faults.{opening_fault};
 
@@ -63,32 +42,17 @@ impl From<OpenRefused> for Fault {
     }
 }
 
-// After the first failure of a device no round is asked for, so `Down` is the device's too.
-impl From<RoundRefused> for Fault {
-    ghost use Rattle.serving.specs.Faults.{round_fault};
+impl From<Halt> for Fault {
+    ghost use Rattle.serving.specs.Faults.{halt_fault};
 
-    ghost from_gives = { λ refused fault. fault ≡ round_fault refused };
+    ghost from_gives = { λ halt fault. fault ≡ halt_fault halt };
 
-    fn from(refused: RoundRefused) -> Self {
-        match refused {
-            RoundRefused::Device | RoundRefused::Down => Fault::Device,
-            RoundRefused::Memory => Fault::Memory,
-            RoundRefused::Board => Fault::Board,
-            RoundRefused::Worn => Fault::Worn,
-        }
-    }
-}
-
-impl From<RebuildRefused> for Fault {
-    ghost use Rattle.serving.specs.Faults.{rebuild_fault};
-
-    ghost from_gives = { λ refused fault. fault ≡ rebuild_fault refused };
-
-    fn from(refused: RebuildRefused) -> Self {
-        match refused {
-            RebuildRefused::Memory => Fault::Memory,
-            RebuildRefused::Down => Fault::Device,
-            RebuildRefused::Board => Fault::Board,
+    fn from(halt: Halt) -> Self {
+        match halt {
+            Halt::Device => Fault::Device,
+            Halt::Worn => Fault::Worn,
+            Halt::Memory => Fault::Memory,
+            Halt::Board => Fault::Board,
         }
     }
 }

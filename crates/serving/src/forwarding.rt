@@ -1,8 +1,8 @@
 // A forwarder's thread.
 ghost use Rattle.std.specs.Prelude.{◌≡◌};
 
-use crate::fault::Fault;
 use crate::gate::Gate;
+use crate::halt::Halt;
 use crate::meeting::Meeting;
 use crate::told::Naming;
 use forwarders::{Forwarder, Refused};
@@ -158,7 +158,7 @@ fn forward<J: Naming, G: Gate, R: Wait>(
             Launched::Answered(carried) => return Some(carried),
             Launched::Again => thread::yield_now(),
             Launched::Memory => {
-                meeting.stop(rt, Fault::Memory);
+                meeting.stop(rt, Halt::Memory);
                 return None;
             }
         }
@@ -185,7 +185,7 @@ pub(crate) fn forward_all<J: Naming, G: Gate, R: Wait>(
             break;
         };
         if all.push_back(carried).is_err() {
-            meeting.stop(rt, Fault::Memory);
+            meeting.stop(rt, Halt::Memory);
             break;
         }
     }

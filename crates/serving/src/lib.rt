@@ -31,6 +31,7 @@ mod editing;
 mod fault;
 mod forwarding;
 mod gate;
+mod halt;
 mod kept;
 mod meeting;
 mod running;

@@ -1,5 +1,5 @@
 // Where the threads wait for one another.
-use crate::fault::Fault;
+use crate::halt::Halt;
 use crate::told::{Naming, ToldOf};
 use std::sync::{Condvar, Mutex, Wait};
 
@@ -14,7 +14,7 @@ struct Hall<J: Naming> {
     // How many editors are at work.
     editing: usize,
     // Why all stop: the first fault.
-    fault: Option<Fault>,
+    halt: Option<Halt>,
 }
 
 /// What the committer told last.
@@ -46,7 +46,7 @@ impl<J: Naming> Hall<J> {
         News {
             told: self.told.again(),
             turn: self.turn,
-            stopped: self.fault.is_some(),
+            stopped: self.halt.is_some(),
         }
     }
 
@@ -54,7 +54,7 @@ impl<J: Naming> Hall<J> {
         Work {
             asked: self.asked,
             editing: self.editing,
-            stopped: self.fault.is_some(),
+            stopped: self.halt.is_some(),
         }
     }
 
@@ -63,9 +63,9 @@ impl<J: Naming> Hall<J> {
         self.turn = self.turn.wrapping_add(1);
     }
 
-    fn stop(&mut self, fault: Fault) {
-        if self.fault.is_none() {
-            self.fault = Some(fault);
+    fn stop(&mut self, halt: Halt) {
+        if self.halt.is_none() {
+            self.halt = Some(halt);
         }
     }
 
@@ -88,7 +88,7 @@ impl<J: Naming> Meeting<J> {
                 turn: 0,
                 asked: 0,
                 editing,
-                fault: None,
+                halt: None,
             }),
             news: Condvar::new(),
             work: Condvar::new(),
@@ -102,8 +102,8 @@ impl<J: Naming> Meeting<J> {
     }
 
     /// Has all stop. The first fault counts.
-    pub(crate) fn stop<R: Wait>(&self, rt: &R, fault: Fault) {
-        self.hall.lock(rt).stop(fault);
+    pub(crate) fn stop<R: Wait>(&self, rt: &R, halt: Halt) {
+        self.hall.lock(rt).stop(halt);
         self.news.notify_all();
         self.work.notify_all();
     }
@@ -130,7 +130,7 @@ impl<J: Naming> Meeting<J> {
         let _hall = self.news.wait_while(
             rt,
             self.hall.lock(rt),
-            |hall| hall.turn == turn && hall.fault.is_none(),
+            |hall| hall.turn == turn && hall.halt.is_none(),
         );
     }
 
@@ -144,12 +144,12 @@ impl<J: Naming> Meeting<J> {
         let _hall = self.work.wait_while(
             rt,
             self.hall.lock(rt),
-            |hall| hall.asked == asked && hall.fault.is_none(),
+            |hall| hall.asked == asked && hall.halt.is_none(),
         );
     }
 
     /// Why all stopped, where they did.
-    pub(crate) fn fault<R: Wait>(&self, rt: &R) -> Option<Fault> {
-        self.hall.lock(rt).fault
+    pub(crate) fn halt<R: Wait>(&self, rt: &R) -> Option<Halt> {
+        self.hall.lock(rt).halt
     }
 }

@@ -4,9 +4,9 @@ ghost use Rattle.committer.specs.CommitterWords.{posts_of};
 
 use crate::committing::{commit_all, opened};
 use crate::editing::{EditorOf, edit_all};
-use crate::fault::Fault;
 use crate::forwarding::{Carried, ForwarderOf, forward_all};
 use crate::gate::Gate;
+use crate::halt::Halt;
 use crate::kept::Kept;
 use crate::meeting::Meeting;
 use crate::shares::{Shares, Worked};
@@ -123,13 +123,13 @@ fn threads<
     source: WordSource,
     shares: Shares,
     kept: Vec<Kept>,
-) -> (Result<Worked, Fault>, Store<D>)
+) -> (Result<Worked, Halt>, Store<D>)
     requires { (posts_of committer).opening ≡ J.opening }
 {
     thread::scope(
         thread::scope_env(),
         rt,
-        |scope| -> (Result<Worked, Fault>, Store<D>)
+        |scope| -> (Result<Worked, Halt>, Store<D>)
             requires { (posts_of committer).opening ≡ J.opening }
         {
             let mut committer = committer;
@@ -137,14 +137,14 @@ fn threads<
             let mut kept = kept;
             let started = start(scope, rt, alloc, meeting, gate, staff, shares);
             if !started.all {
-                meeting.stop(rt, Fault::Memory);
+                meeting.stop(rt, Halt::Memory);
             }
             commit_all::<J, D, Q, R>(rt, alloc, meeting, &mut committer, &mut source, &mut kept);
             let worked = joined(rt, alloc, started, kept);
-            let result = match (meeting.fault(rt), worked) {
-                (Some(fault), _) => Err(fault),
+            let result = match (meeting.halt(rt), worked) {
+                (Some(halt), _) => Err(halt),
                 (None, Ok(worked)) => Ok(worked),
-                (None, Err(_)) => Err(Fault::Memory),
+                (None, Err(_)) => Err(Halt::Memory),
             };
             (result, committer.into_store())
         },
@@ -166,7 +166,7 @@ pub(crate) fn run<
     source: WordSource,
     shares: Shares,
     gate: &G,
-) -> (Result<Worked, Fault>, Store<D>)
+) -> (Result<Worked, Halt>, Store<D>)
     requires { (posts_of committer).opening ≡ J.opening }
 {
     let mut committer = committer;
@@ -177,6 +177,6 @@ pub(crate) fn run<
         Ok(meeting) => threads::<J, D, G, Q, R>(
             rt, alloc, &meeting, gate, committer, staff, source, shares, kept,
         ),
-        Err(fault) => (Err(fault), committer.into_store()),
+        Err(halt) => (Err(halt), committer.into_store()),
     }
 }

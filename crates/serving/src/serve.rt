@@ -1,8 +1,12 @@
 // The service: a committer, editors and forwarders, each in a thread of its own.
-ghost use Rattle.std.specs.Prelude.{◌≡◌, ◌≤◌, [], All, IfOk, map, vec_len, false};
+ghost use Rattle.std.specs.Prelude.{◌≡◌, ◌≤◌, [], All, IfErr, IfOk, IsTrue, map, vec_len, false};
 ghost use Rattle.checkpoint.specs.StoreWords.{state_of, is_down};
 ghost use Rattle.scripts.specs.Scripts.{AreOfSessions};
-ghost use Rattle.serving.specs.Answers.{is_edit, is_verdict};
+ghost use Rattle.recovery.specs.State.{State};
+ghost use Rattle.recovery.specs.Standing.{StandsFor};
+ghost use Rattle.given_words.specs.Words.{IsWithin};
+ghost use Rattle.serving.specs.Answers.{is_edit, is_editor, is_verdict};
+ghost use Rattle.serving.specs.Faults.{IsLater, TellsOf};
 ghost use Rattle.serving.specs.Seating.{AreSeats};
 
 use crate::answer::Answer;
@@ -10,17 +14,19 @@ use crate::editing::EditorOf;
 use crate::fault::Fault;
 use crate::forwarding::ForwarderOf;
 use crate::gate::Gate;
+use crate::halt::Halt;
 use crate::running::{Staff, run};
-use crate::shares::{Shares, Worked, in_order, shared};
+use crate::shares::{Shares, Turn, Worked, in_order, shared};
 use crate::told::Naming;
 use crate::words::WordSource;
-use checkpoint::Store;
+use checkpoint::{Store, standing_law};
 use committer::Committer;
 use disk_trait::Disk;
 use generations::{BoardReader, BoardWriter, board};
 use given_words::LandmarkWords;
 use group_commit::Desk;
-use intake::{Editor, open_intake};
+use intake::{Editor, Taker, open_intake};
+use requests::SESSIONS;
 use scripts::ScriptLine;
 use std::alloc::{AllocError, Global};
 use std::marker::Brand;
@@ -70,8 +76,31 @@ fn forwarders<J: Naming>(
     Ok(all)
 }
 
-// Seats editors and forwarders at the board that `J` names.
+// The queue's end, and editors and forwarders at the board that `J` names.
 #[tactic(auto, using(crate::proofs::Seated::seated))]
+fn staffed<J: Naming>(
+    alloc: Global,
+    seats: Seats,
+    readers: Vec<BoardReader>,
+    starts: &[u64; SESSIONS],
+) -> Result<(Taker, Staff<J>), AllocError>
+    requires seats { AreSeats seats }
+    requires readers { All (λ r. r.all.opening ≡ J.opening) readers.items }
+    ensures starts { IfOk result (λ r. r.0.starts ≡ starts.now) }
+    ensures got { IfOk result (λ r. r.0.got ≡ []) }
+{
+    let mut readers = readers;
+    let forwarders = forwarders::<J>(alloc, &mut readers, seats.editors as usize)?;
+    let (taker, editors) = open_intake(alloc, seats.places as usize, readers, starts)?;
+    let editors = named::<J>(alloc, editors)?;
+    let staff = Staff {
+        editors,
+        forwarders,
+    };
+    Ok((taker, staff))
+}
+
+// Seats editors and forwarders at the board that `J` names, and runs them.
 fn seat<
     J: Naming + Send + Sync,
     D: Disk + Drop,
@@ -88,7 +117,7 @@ fn seat<
     source: WordSource,
     shares: Shares,
     gate: &G,
-) -> (Result<Worked, Fault>, Store<D>)
+) -> (Result<Worked, Halt>, Store<D>)
     requires seats { AreSeats seats }
     requires named { writer.opening ≡ J.opening }
     requires starts { writer.opening.starts ≡ (state_of store).tickets }
@@ -98,23 +127,13 @@ fn seat<
     requires up { is_down store ≡ false }
     requires readers { All (λ r. r.all.opening ≡ J.opening) readers.items }
 {
-    let mut readers = readers;
-    let Ok(forwarders) = forwarders::<J>(alloc, &mut readers, seats.editors as usize) else {
-        return (Err(Fault::Memory), store);
-    };
-    let starts = store.starts();
-    let Ok((taker, editors)) = open_intake(alloc, seats.places as usize, readers, &starts) else {
-        return (Err(Fault::Memory), store);
-    };
-    let Ok(editors) = named::<J>(alloc, editors) else {
-        return (Err(Fault::Memory), store);
-    };
-    let committer = Committer::new(Desk::new(store), taker, writer);
-    let staff = Staff {
-        editors,
-        forwarders,
-    };
-    run::<J, D, G, Q, R>(rt, alloc, committer, staff, source, shares, gate)
+    match staffed::<J>(alloc, seats, readers, &store.starts()) {
+        Ok((taker, staff)) => {
+            let committer = Committer::new(Desk::new(store), taker, writer);
+            run::<J, D, G, Q, R>(rt, alloc, committer, staff, source, shares, gate)
+        }
+        Err(_) => (Err(Halt::Memory), store),
+    }
 }
 
 // The service on a store, with a board of its own.
@@ -127,7 +146,7 @@ fn serve_store<D: Disk + Drop, G: Gate + Sync, R: Threads + Wait + Sync>(
     source: WordSource,
     shares: Shares,
     gate: &G,
-) -> (Result<Worked, Fault>, Store<D>)
+) -> (Result<Worked, Halt>, Store<D>)
     requires seats { AreSeats seats }
     requires up { is_down store ≡ false }
 {
@@ -137,7 +156,7 @@ fn serve_store<D: Disk + Drop, G: Gate + Sync, R: Threads + Wait + Sync>(
         Ok((writer, readers)) => seat::<Brand, D, G, &R, R>(
             rt, alloc, seats, store, writer, readers, source, shares, gate,
         ),
-        Err(_) => (Err(Fault::Memory), store),
+        Err(_) => (Err(Halt::Memory), store),
     }
 }
 
@@ -146,23 +165,14 @@ fn serve_here<D: Disk + Drop, G: Gate + Sync, R: Threads + Wait + Sync>(
     rt: &R,
     alloc: Global,
     seats: Seats,
-    disk: D,
-    words: LandmarkWords,
+    store: Store<D>,
+    source: WordSource,
     shares: Shares,
     gate: &G,
-) -> (Result<Worked, Fault>, D)
-    requires { AreSeats seats }
+) -> (Result<Worked, Halt>, D)
+    requires seats { AreSeats seats }
+    requires up { is_down store ≡ false }
 {
-    let store = match Store::open(alloc, disk) {
-        Ok(store) => store,
-        Err((refused, disk)) => return (Err(Fault::from(refused)), disk),
-    };
-    if !words.is_within(store.nodes()) {
-        return (Err(Fault::Words), store.into_disk());
-    }
-    let Ok(source) = WordSource::of(alloc, &words, store.nodes()) else {
-        return (Err(Fault::Memory), store.into_disk());
-    };
     let (result, store) = serve_store(rt, alloc, seats, store, source, shares, gate);
     (result, store.into_disk())
 }
@@ -172,32 +182,79 @@ fn serve_there<'a, D: Disk + Drop + Send, G: Gate + Sync, R: Threads + Wait + Sy
     rt: &'a R,
     alloc: Global,
     seats: Seats,
-    disk: D,
-    words: LandmarkWords,
+    store: Store<D>,
+    source: WordSource,
     shares: Shares,
     gate: &'a G,
-) -> (Result<Worked, Fault>, Option<D>)
-    requires { AreSeats seats }
+) -> (Result<Worked, Halt>, Option<D>)
+    requires seats { AreSeats seats }
+    requires up { is_down store ≡ false }
 {
     thread::scope(
         thread::scope_env(),
         rt,
-        |scope| -> (Result<Worked, Fault>, Option<D>)
-            requires { AreSeats seats }
+        |scope| -> (Result<Worked, Halt>, Option<D>)
+            requires seats { AreSeats seats }
+            requires up { is_down store ≡ false }
         {
             let builder = Builder::new().stack_size(STACK_LEN);
-            let job = move || -> (Result<Worked, Fault>, D)
-                requires { AreSeats seats }
-            { serve_here(rt, alloc, seats, disk, words, shares, gate) };
+            let job = move || -> (Result<Worked, Halt>, D)
+                requires seats { AreSeats seats }
+                requires up { is_down store ≡ false }
+            { serve_here(rt, alloc, seats, store, source, shares, gate) };
             match builder.spawn_scoped(scope, job) {
                 Ok(handle) => {
                     let (result, disk) = handle.join(rt);
                     (result, Some(disk))
                 }
-                Err(_) => (Err(Fault::Memory), None),
+                Err(_) => (Err(Halt::Memory), None),
             }
         },
     )
+}
+
+// Opens a device, and reads which landmark words its nodes get. One that is refused was only read, and is handed back.
+fn opened<D: Disk>(
+    alloc: Global,
+    disk: D,
+    words: &LandmarkWords,
+) -> Result<(Store<D>, WordSource), (Fault, D)>
+    ensures up { IfOk result (λ r. is_down r.0 ≡ false) }
+    ensures tells { IsTrue (D.view disk).keeps_model → IfErr result (λ e. TellsOf e.0 (D.view disk).content) }
+    ensures words { IsTrue (D.view disk).keeps_model → (state : State) → StandsFor state (D.view disk).content → IfErr result (λ e. e.0 ≡ Fault.Words → ¬ IsWithin words.now state.graph.nodes) }
+    ensures of_one { IfErr result (λ e. e.0 ≡ Fault.Words → (state : State) × ¬ IsWithin words.now state.graph.nodes) }
+{
+    standing_law();
+    let store = match Store::open(alloc, disk) {
+        Ok(store) => store,
+        Err((refused, disk)) => return Err((Fault::from(refused), disk)),
+    };
+    if !words.is_within(store.nodes()) {
+        return Err((Fault::Words, store.into_disk()));
+    }
+    match WordSource::of(alloc, words, store.nodes()) {
+        Ok(source) => Ok((store, source)),
+        Err(_) => Err((Fault::Memory, store.into_disk())),
+    }
+}
+
+// The answers to a script's lines, in their order.
+fn answers_of(
+    alloc: Global,
+    turns: &[Turn],
+    ended: Result<Worked, Halt>,
+) -> Result<Vec<Answer>, Fault>
+    ensures answers { IfOk result (λ answers. map is_verdict answers.items ≡ map is_editor turns.now) }
+    ensures later { IfErr result (λ fault. IsLater fault) }
+{
+    let worked = match ended {
+        Ok(worked) => worked,
+        Err(halt) => return Err(Fault::from(halt)),
+    };
+    match in_order(alloc, turns, worked) {
+        Ok(Some(answers)) => Ok(answers),
+        Ok(None) | Err(_) => Err(Fault::Memory),
+    }
 }
 
 /// Runs a script on a device, and answers each of its lines, in their order.
@@ -220,18 +277,19 @@ pub fn serve_on<'a, D: Disk + Drop + Send, G: Gate + Sync, R: Threads + Wait + S
     requires sessions { AreOfSessions seats.editors script.items }
     // One answer a line: a verdict just where the line is an edit.
     ensures answers { IfOk result.0 (λ answers. map is_verdict answers.items ≡ map is_edit script.items) }
+    ensures tells { IsTrue (D.view disk).keeps_model → IfErr result.0 (λ fault. TellsOf fault (D.view disk).content) }
+    // The words name a node that the device hasn't; also of a disk that doesn't keep the model, one that a state hasn't.
+    ensures words { IsTrue (D.view disk).keeps_model → (state : State) → StandsFor state (D.view disk).content → IfErr result.0 (λ fault. fault ≡ Fault.Words → ¬ IsWithin words state.graph.nodes) }
+    ensures of_one { IfErr result.0 (λ fault. fault ≡ Fault.Words → (state : State) × ¬ IsWithin words state.graph.nodes) }
 {
     let (turns, shares) = match shared(alloc, seats.editors, seats.forwarders, script) {
         Ok(shared) => shared,
         Err(_) => return (Err(Fault::Memory), Some(disk)),
     };
-    let (result, disk) = serve_there(rt, alloc, seats, disk, words, shares, gate);
-    let answers = match result {
-        Err(fault) => Err(fault),
-        Ok(worked) => match in_order(alloc, &turns, worked) {
-            Ok(Some(answers)) => Ok(answers),
-            Ok(None) | Err(_) => Err(Fault::Memory),
-        },
+    let (store, source) = match opened(alloc, disk, &words) {
+        Ok(opened) => opened,
+        Err((fault, disk)) => return (Err(fault), Some(disk)),
     };
-    (answers, disk)
+    let (result, disk) = serve_there(rt, alloc, seats, store, source, shares, gate);
+    (answers_of(alloc, &turns, result), disk)
 }
