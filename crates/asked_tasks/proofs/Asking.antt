@@ -1,5 +1,5 @@
 -- What the program's words ask for.
-use Rattle.std.proofs.Common.{◌≡◌, ◌∙◌, ◌<◌, ◌⊎◌, Result, Ok, Err, IfErr, arith, ℕ, zero, suc, refl, sym, ap, ap₂, List, [], ◌∷◌, map, length, Option, Some, None, IsSomeAnd, option_map, true, get_or, take, ◌++◌, inl, inr, subst, is_some}
+use Rattle.std.proofs.Common.{codes, ◌≡◌, ◌∙◌, ◌<◌, ◌⊎◌, Result, Ok, Err, IfErr, arith, ℕ, zero, suc, refl, sym, ap, ap₂, List, [], ◌∷◌, map, length, Option, Some, None, IsSomeAnd, option_map, true, get_or, take, ◌++◌, inl, inr, subst, is_some}
 use Rattle.std.specs.Borrow.{Bor}
 use Rattle.std.specs.List.{AllByRecursion}
 use Rattle.std.specs.Prelude.{Box}
@@ -21,7 +21,7 @@ use Rattle.clap.proofs.WalkLemmas.{first_value-rows, raw_values-rows}
 use Rattle.graph_edits.specs.declared.edits.Op.{Op}
 use Rattle.given_words.specs.OpText.{Fits, op_text}
 use Rattle.asked_tasks.specs.Grammar.{program}
-use Rattle.asked_tasks.specs.Asked.{Gives, IsCause, IsCommand, IsRefusedFor, IsSeats, IsShapedAs}
+use Rattle.asked_tasks.specs.Asked.{Gives, IsCause, IsCommand, IsRefusedFor, IsSeats, IsSessionText, IsShapedAs}
 use Rattle.asked_tasks.specs.declared.refused.WordsRefused.{WordsRefused}
 use Rattle.asked_tasks.specs.declared.refused.WordsRefused.TheVariants as why
 
@@ -77,6 +77,12 @@ seats_of f id usual n is = subst (λ (o : Option Text). IsSeats o usual n) (firs
 
 pub seats_given : (f : Found) (id : Text) (usual n : ℕ) → IsSeats (first_of id (rows_of f)) usual n → IsSeats (first_value f id) usual n
 seats_given f id usual n is = subst (λ (o : Option Text). IsSeats o usual n) (sym (first_value-rows f id)) is
+
+pub session_of : (f : Found) (n : ℕ) → IsSessionText (first_value f (codes "session")) n → IsSessionText (first_of (codes "session") (rows_of f)) n
+session_of f n is = subst (λ (o : Option Text). IsSessionText o n) (first_value-rows f (codes "session")) is
+
+pub session_given : (f : Found) (n : ℕ) → IsSessionText (first_of (codes "session") (rows_of f)) n → IsSessionText (first_value f (codes "session")) n
+session_given f n is = subst (λ (o : Option Text). IsSessionText o n) (sym (first_value-rows f (codes "session"))) is
 
 -- a name and rows are those of a pair
 pair_up : (o : Option (Text × List Row)) (name : Text) (rows : List Row) → Some name ≡ option_map (λ p. p.0) o → Some rows ≡ option_map (λ p. p.1) o → o ≡ Some (name, rows)

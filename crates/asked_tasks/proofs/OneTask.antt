@@ -14,7 +14,7 @@ use Rattle.asked_tasks.specs.declared.refused.WordsRefused.{WordsRefused}
 use Rattle.asked_tasks.specs.declared.refused.WordsRefused.TheVariants as why
 use Rattle.asked_tasks.specs.declared.task.Task.{Task}
 use Rattle.asked_tasks.specs.declared.task.Task.TheVariants.{Format, Show, Edit, Resume, Route, Check, Migrate, Serve}
-use Rattle.asked_tasks.specs.Asked.{AreOpsGiven, Gives, IsCause, IsGiven, IsInRange, IsLacking, IsOpsCause, IsSameTask, IsSeats, IsShapedAs, IsTask, IsTicket, IsTicketAsked, IsWordsCause, LacksOps, LacksWords, usual_places, usual_seats}
+use Rattle.asked_tasks.specs.Asked.{AreOpsGiven, Gives, IsCause, IsGiven, IsInRange, IsLacking, IsOpsCause, IsSameTask, IsSeats, IsSessionAsked, IsSessionText, IsShapedAs, IsTask, IsTicket, IsTicketAsked, IsWordsCause, LacksOps, LacksWords, usual_places, usual_seats}
 
 -- one name has one letter at a place
 apart : (i : ℕ) (name a b : Text) → name ≡ a → name ≡ b → (get_or a i 0 == get_or b i 0) ≡ false → ⊥
@@ -34,7 +34,7 @@ one_text rows id a b p q =
 abbrev IsNamed : Text → Task → Type 0
 IsNamed name (Format device nodes) = name ≡ codes "format"
 IsNamed name (Show device) = name ≡ codes "show"
-IsNamed name (Edit device ticket change) = name ≡ codes "edit"
+IsNamed name (Edit device session ticket change) = name ≡ codes "edit"
 IsNamed name (Resume device session) = name ≡ codes "resume"
 IsNamed name (Route device from to words) = name ≡ codes "route"
 IsNamed name (Check device words) = name ≡ codes "check"
@@ -44,7 +44,7 @@ IsNamed name (Serve device editors forwarders places words) = name ≡ codes "se
 task_named : (name : Text) (rows : List Row) (task : Task) → IsTask name rows task → IsNamed name task
 task_named name rows (Format device nodes) is = is.0
 task_named name rows (Show device) is = is.0
-task_named name rows (Edit device ticket change) is = is.0
+task_named name rows (Edit device session ticket change) is = is.0
 task_named name rows (Resume device session) is = is.0
 task_named name rows (Route device from to words) is = is.0
 task_named name rows (Check device words) is = is.0
@@ -54,7 +54,7 @@ task_named name rows (Serve device editors forwarders places words) is = is.0
 shape_named : (name : Text) (rows : List Row) (task : Task) → IsShapedAs name rows task → IsNamed name task
 shape_named name rows (Format device nodes) is = is.0
 shape_named name rows (Show device) is = is.0
-shape_named name rows (Edit device ticket change) is = is.0
+shape_named name rows (Edit device session ticket change) is = is.0
 shape_named name rows (Resume device session) is = is.0
 shape_named name rows (Route device from to words) is = is.0
 shape_named name rows (Check device words) is = is.0
@@ -65,7 +65,7 @@ shape_named name rows (Serve device editors forwarders places words) is = is.0
 pub has_device : (name : Text) (rows : List Row) (task : Task) → IsShapedAs name rows task → (device : Text) × Gives rows (codes "device") device
 has_device name rows (Format device nodes) is = (device.now, is.1)
 has_device name rows (Show device) is = (device.now, is.1)
-has_device name rows (Edit device ticket change) is = (device.now, is.1)
+has_device name rows (Edit device session ticket change) is = (device.now, is.1)
 has_device name rows (Resume device session) is = (device.now, is.1)
 has_device name rows (Route device from to words) is = (device.now, is.1)
 has_device name rows (Check device words) is = (device.now, is.1)
@@ -76,7 +76,7 @@ has_device name rows (Serve device editors forwarders places words) is = (device
 pub is_named : (name : Text) (rows : List Row) (task : Task) → IsShapedAs name rows task → name ≢ codes "format" → name ≢ codes "show" → name ≢ codes "edit" → name ≢ codes "resume" → name ≢ codes "route" → name ≢ codes "check" → name ≢ codes "migrate" → name ≢ codes "serve" → ⊥
 is_named name rows (Format device nodes) is format show edit resume route check migrate serve = format is.0
 is_named name rows (Show device) is format show edit resume route check migrate serve = show is.0
-is_named name rows (Edit device ticket change) is format show edit resume route check migrate serve = edit is.0
+is_named name rows (Edit device session ticket change) is format show edit resume route check migrate serve = edit is.0
 is_named name rows (Resume device session) is format show edit resume route check migrate serve = resume is.0
 is_named name rows (Route device from to words) is format show edit resume route check migrate serve = route is.0
 is_named name rows (Check device words) is format show edit resume route check migrate serve = check is.0
@@ -92,7 +92,7 @@ some_texts (op ∷ change) some = λ same. absurd (cc)
 pub shaped : (name : Text) (rows : List Row) (task : Task) → IsTask name rows task → IsInRange task → IsShapedAs name rows task
 shaped name rows (Format device nodes) is fits = (is.0, is.1, is.2, fits)
 shaped name rows (Show device) is fits = is
-shaped name rows (Edit device ticket change) is fits = (is.0, is.1, is.2, (map op_text change, some_texts change fits.1, is.3))
+shaped name rows (Edit device session ticket change) is fits = (is.0, is.1, is.2, is.3, (map op_text change, some_texts change fits.1, is.4))
 shaped name rows (Resume device session) is fits = is
 shaped name rows (Route device from to words) is fits = (is.0, is.1, is.2, is.3, (words_text words, is.4.0), fits.0, fits.1)
 shaped name rows (Check device words) is fits = (is.0, is.1, (words_text words, is.2.0))
@@ -104,7 +104,7 @@ shaped name rows (Serve device editors forwarders places words) is fits = (is.0,
 only_format : (P : Task → Type 0) (name : Text) (task : Task) → name ≡ codes "format" → IsNamed name task → ((device : Bor Text) (nodes : ℕ) → P (Format device nodes)) → P task
 only_format P name (Format device nodes) named is each = each device nodes
 only_format P name (Show device) named is each = absurd (apart 2 name _ _ named is refl)
-only_format P name (Edit device ticket change) named is each = absurd (apart 2 name _ _ named is refl)
+only_format P name (Edit device session ticket change) named is each = absurd (apart 2 name _ _ named is refl)
 only_format P name (Resume device session) named is each = absurd (apart 2 name _ _ named is refl)
 only_format P name (Route device from to words) named is each = absurd (apart 2 name _ _ named is refl)
 only_format P name (Check device words) named is each = absurd (apart 2 name _ _ named is refl)
@@ -114,17 +114,17 @@ only_format P name (Serve device editors forwarders places words) named is each 
 only_show : (P : Task → Type 0) (name : Text) (task : Task) → name ≡ codes "show" → IsNamed name task → ((device : Bor Text) → P (Show device)) → P task
 only_show P name (Format device nodes) named is each = absurd (apart 2 name _ _ named is refl)
 only_show P name (Show device) named is each = each device
-only_show P name (Edit device ticket change) named is each = absurd (apart 2 name _ _ named is refl)
+only_show P name (Edit device session ticket change) named is each = absurd (apart 2 name _ _ named is refl)
 only_show P name (Resume device session) named is each = absurd (apart 2 name _ _ named is refl)
 only_show P name (Route device from to words) named is each = absurd (apart 2 name _ _ named is refl)
 only_show P name (Check device words) named is each = absurd (apart 2 name _ _ named is refl)
 only_show P name (Migrate old new) named is each = absurd (apart 2 name _ _ named is refl)
 only_show P name (Serve device editors forwarders places words) named is each = absurd (apart 2 name _ _ named is refl)
 
-only_edit : (P : Task → Type 0) (name : Text) (task : Task) → name ≡ codes "edit" → IsNamed name task → ((device : Bor Text) (ticket : Option ℕ) (change : List Op) → P (Edit device ticket change)) → P task
+only_edit : (P : Task → Type 0) (name : Text) (task : Task) → name ≡ codes "edit" → IsNamed name task → ((device : Bor Text) (session : ℕ) (ticket : Option ℕ) (change : List Op) → P (Edit device session ticket change)) → P task
 only_edit P name (Format device nodes) named is each = absurd (apart 2 name _ _ named is refl)
 only_edit P name (Show device) named is each = absurd (apart 2 name _ _ named is refl)
-only_edit P name (Edit device ticket change) named is each = each device ticket change
+only_edit P name (Edit device session ticket change) named is each = each device session ticket change
 only_edit P name (Resume device session) named is each = absurd (apart 2 name _ _ named is refl)
 only_edit P name (Route device from to words) named is each = absurd (apart 2 name _ _ named is refl)
 only_edit P name (Check device words) named is each = absurd (apart 2 name _ _ named is refl)
@@ -134,7 +134,7 @@ only_edit P name (Serve device editors forwarders places words) named is each = 
 only_resume : (P : Task → Type 0) (name : Text) (task : Task) → name ≡ codes "resume" → IsNamed name task → ((device : Bor Text) (session : ℕ) → P (Resume device session)) → P task
 only_resume P name (Format device nodes) named is each = absurd (apart 2 name _ _ named is refl)
 only_resume P name (Show device) named is each = absurd (apart 2 name _ _ named is refl)
-only_resume P name (Edit device ticket change) named is each = absurd (apart 2 name _ _ named is refl)
+only_resume P name (Edit device session ticket change) named is each = absurd (apart 2 name _ _ named is refl)
 only_resume P name (Resume device session) named is each = each device session
 only_resume P name (Route device from to words) named is each = absurd (apart 2 name _ _ named is refl)
 only_resume P name (Check device words) named is each = absurd (apart 2 name _ _ named is refl)
@@ -144,7 +144,7 @@ only_resume P name (Serve device editors forwarders places words) named is each 
 only_route : (P : Task → Type 0) (name : Text) (task : Task) → name ≡ codes "route" → IsNamed name task → ((device : Bor Text) (from : ℕ) (to : ℕ) (words : LandmarkWords) → P (Route device from to words)) → P task
 only_route P name (Format device nodes) named is each = absurd (apart 2 name _ _ named is refl)
 only_route P name (Show device) named is each = absurd (apart 2 name _ _ named is refl)
-only_route P name (Edit device ticket change) named is each = absurd (apart 2 name _ _ named is refl)
+only_route P name (Edit device session ticket change) named is each = absurd (apart 2 name _ _ named is refl)
 only_route P name (Resume device session) named is each = absurd (apart 2 name _ _ named is refl)
 only_route P name (Route device from to words) named is each = each device from to words
 only_route P name (Check device words) named is each = absurd (apart 2 name _ _ named is refl)
@@ -154,7 +154,7 @@ only_route P name (Serve device editors forwarders places words) named is each =
 only_check : (P : Task → Type 0) (name : Text) (task : Task) → name ≡ codes "check" → IsNamed name task → ((device : Bor Text) (words : LandmarkWords) → P (Check device words)) → P task
 only_check P name (Format device nodes) named is each = absurd (apart 2 name _ _ named is refl)
 only_check P name (Show device) named is each = absurd (apart 2 name _ _ named is refl)
-only_check P name (Edit device ticket change) named is each = absurd (apart 2 name _ _ named is refl)
+only_check P name (Edit device session ticket change) named is each = absurd (apart 2 name _ _ named is refl)
 only_check P name (Resume device session) named is each = absurd (apart 2 name _ _ named is refl)
 only_check P name (Route device from to words) named is each = absurd (apart 2 name _ _ named is refl)
 only_check P name (Check device words) named is each = each device words
@@ -164,7 +164,7 @@ only_check P name (Serve device editors forwarders places words) named is each =
 only_migrate : (P : Task → Type 0) (name : Text) (task : Task) → name ≡ codes "migrate" → IsNamed name task → ((old new : Bor Text) → P (Migrate old new)) → P task
 only_migrate P name (Format device nodes) named is each = absurd (apart 2 name _ _ named is refl)
 only_migrate P name (Show device) named is each = absurd (apart 2 name _ _ named is refl)
-only_migrate P name (Edit device ticket change) named is each = absurd (apart 2 name _ _ named is refl)
+only_migrate P name (Edit device session ticket change) named is each = absurd (apart 2 name _ _ named is refl)
 only_migrate P name (Resume device session) named is each = absurd (apart 2 name _ _ named is refl)
 only_migrate P name (Route device from to words) named is each = absurd (apart 2 name _ _ named is refl)
 only_migrate P name (Check device words) named is each = absurd (apart 2 name _ _ named is refl)
@@ -174,7 +174,7 @@ only_migrate P name (Serve device editors forwarders places words) named is each
 only_serve : (P : Task → Type 0) (name : Text) (task : Task) → name ≡ codes "serve" → IsNamed name task → ((device : Bor Text) (editors forwarders places : ℕ) (words : LandmarkWords) → P (Serve device editors forwarders places words)) → P task
 only_serve P name (Format device nodes) named is each = absurd (apart 0 name _ _ named is refl)
 only_serve P name (Show device) named is each = absurd (apart 2 name _ _ named is refl)
-only_serve P name (Edit device ticket change) named is each = absurd (apart 2 name _ _ named is refl)
+only_serve P name (Edit device session ticket change) named is each = absurd (apart 2 name _ _ named is refl)
 only_serve P name (Resume device session) named is each = absurd (apart 2 name _ _ named is refl)
 only_serve P name (Route device from to words) named is each = absurd (apart 2 name _ _ named is refl)
 only_serve P name (Check device words) named is each = absurd (apart 2 name _ _ named is refl)
@@ -192,12 +192,13 @@ pub same_show : (name : Text) (rows : List Row) (device : Bor Text) (task : Task
 same_show name rows device task named gives is =
     only_show (λ t. IsTask name rows t → IsSameTask (Show device) t) name task named (task_named name rows task is) (λ other is. one_text rows _ _ _ gives is.1) is
 
-pub same_edit : (name : Text) (rows : List Row) (device : Bor Text) (ticket : Option ℕ) (change : List Op) (task : Task) → name ≡ codes "edit" → Gives rows (codes "device") device.now
+pub same_edit : (rows : List Row) (device : Bor Text) (session : ℕ) (ticket : Option ℕ) (change : List Op) (task : Task) → Gives rows (codes "device") device.now
+    → ((n : ℕ) → n < sessions → IsSessionText (first_of (codes "session") rows) n → session ≡ n)
     → ((asked : Option ℕ) → IsTicket asked → first_of (codes "ticket") rows ≡ option_map decimal asked → ticket ≡ asked)
-    → ((ops : List Op) → All Fits ops → all_of (codes "ops") rows ≡ Some (map op_text ops) → change ≡ ops) → IsTask name rows task → IsInRange task → IsSameTask (Edit device ticket change) task
-same_edit name rows device ticket change task named gives numbered read is fits =
-    only_edit (λ t. IsTask name rows t → IsInRange t → IsSameTask (Edit device ticket change) t) name task named (task_named name rows task is)
-    (λ other asked ops is fits. (one_text rows _ _ _ gives is.1, numbered asked is.2.1 is.2.0, read ops fits.0 is.3)) is fits
+    → ((ops : List Op) → All Fits ops → all_of (codes "ops") rows ≡ Some (map op_text ops) → change ≡ ops) → IsTask (codes "edit") rows task → IsInRange task → IsSameTask (Edit device session ticket change) task
+same_edit rows device session ticket change task gives counted numbered read is fits =
+    only_edit (λ t. IsTask (codes "edit") rows t → IsInRange t → IsSameTask (Edit device session ticket change) t) (codes "edit") task refl (task_named (codes "edit") rows task is)
+    (λ other s asked ops is fits. (one_text rows _ _ _ gives is.1, counted s is.2.1 is.2.0, numbered asked is.3.1 is.3.0, read ops fits.0 is.4)) is fits
 
 pub same_resume : (name : Text) (rows : List Row) (device : Bor Text) (session : ℕ) (task : Task) → name ≡ codes "resume" → Gives rows (codes "device") device.now
     → ((n : ℕ) → n < sessions → Gives rows (codes "session") (decimal n) → session ≡ n) → IsTask name rows task → IsSameTask (Resume device session) task
@@ -257,16 +258,16 @@ no_words name rows _ task shaped lacks is = absurd lacks
 
 -- nor does one of which a text is no op
 no_ops : (name : Text) (rows : List Row) (shape task : Task) → IsShapedAs name rows shape → IsLacking rows shape why.Op → IsTask name rows task → IsInRange task → ⊥
-no_ops name rows (Edit device ticket change) task shaped lacks is fits =
-    only_edit (λ t. IsTask name rows t → IsInRange t → ⊥) name task shaped.0 (task_named name rows task is) (λ other asked ops is fits. lacks ops fits.0 is.3) is fits
+no_ops name rows (Edit device session ticket change) task shaped lacks is fits =
+    only_edit (λ t. IsTask name rows t → IsInRange t → ⊥) name task shaped.0 (task_named name rows task is) (λ other s asked ops is fits. lacks ops fits.0 is.4) is fits
 no_ops name rows _ task shaped lacks is fits = absurd lacks
 
 -- nor one with more ops than a change may have
 too_many : (name : Text) (rows : List Row) (shape task : Task) → IsShapedAs name rows shape → IsLacking rows shape why.TooLong → IsTask name rows task → IsInRange task → ⊥
-too_many name rows (Edit device ticket change) task shaped lacks is fits =
+too_many name rows (Edit device session ticket change) task shaped lacks is fits =
     only_edit (λ t. IsTask name rows t → IsInRange t → ⊥) name task shaped.0 (task_named name rows task is)
-    (λ other asked ops is fits.
-    let same : length lacks.0 ≡ length ops = one_count (all_of (codes "ops") rows) lacks.0 ops lacks.2 is.3 in
+    (λ other s asked ops is fits.
+    let same : length lacks.0 ≡ length ops = one_count (all_of (codes "ops") rows) lacks.0 ops lacks.2 is.4 in
     let many : most_ops < length lacks.0 = lacks.1 in
     let few : length ops ≤ most_ops = fits.2 in
     absurd (omega arith)) is fits
@@ -300,10 +301,15 @@ pub nodes_refused : (name : Text) (rows : List Row) (refused : WordsRefused) →
 nodes_refused name rows refused named read task is =
     only_format (λ t. IsShapedAs name rows t → refused ≡ why.Memory) name task named (shape_named name rows task is) (λ other count is. read count is.3 is.2) is
 
-pub ticket_refused : (name : Text) (rows : List Row) (refused : WordsRefused) → name ≡ codes "edit"
-    → ((asked : Option ℕ) → IsTicket asked → first_of (codes "ticket") rows ≡ option_map decimal asked → refused ≡ why.Memory) → (task : Task) → IsShapedAs name rows task → refused ≡ why.Memory
-ticket_refused name rows refused named read task is =
-    only_edit (λ t. IsShapedAs name rows t → refused ≡ why.Memory) name task named (shape_named name rows task is) (λ other asked ops is. read asked is.2.1 is.2.0) is
+pub ticket_refused : (rows : List Row) (refused : WordsRefused)
+    → ((asked : Option ℕ) → IsTicket asked → first_of (codes "ticket") rows ≡ option_map decimal asked → refused ≡ why.Memory) → (task : Task) → IsShapedAs (codes "edit") rows task → refused ≡ why.Memory
+ticket_refused rows refused read task is =
+    only_edit (λ t. IsShapedAs (codes "edit") rows t → refused ≡ why.Memory) (codes "edit") task refl (shape_named (codes "edit") rows task is) (λ other s asked ops is. read asked is.3.1 is.3.0) is
+
+pub named_session_refused : (rows : List Row) (refused : WordsRefused)
+    → ((n : ℕ) → n < sessions → IsSessionText (first_of (codes "session") rows) n → refused ≡ why.Memory) → (task : Task) → IsShapedAs (codes "edit") rows task → refused ≡ why.Memory
+named_session_refused rows refused read task is =
+    only_edit (λ t. IsShapedAs (codes "edit") rows t → refused ≡ why.Memory) (codes "edit") task refl (shape_named (codes "edit") rows task is) (λ other s asked ops is. read s is.2.1 is.2.0) is
 
 pub session_refused : (name : Text) (rows : List Row) (refused : WordsRefused) → name ≡ codes "resume" → ((n : ℕ) → n < sessions → Gives rows (codes "session") (decimal n) → refused ≡ why.Memory)
     → (task : Task) → IsShapedAs name rows task → refused ≡ why.Memory
@@ -359,15 +365,15 @@ pub serve_words : (rows : List Row) (task : Task) → IsShapedAs (codes "serve")
 serve_words rows task is =
     only_serve (λ t. IsShapedAs (codes "serve") rows t → IsGiven rows (codes "words")) (codes "serve") task refl (shape_named (codes "serve") rows task is) (λ other e f q asked is. is.5) is
 
--- ops that can't be read, behind a ticket that can
-pub of_ops : (name : Text) (rows : List Row) (refused : WordsRefused) (device : Bor Text) (ticket : Option ℕ) → name ≡ codes "edit" → Gives rows (codes "device") device.now → IsTicketAsked rows ticket
-    → IsOpsCause rows refused → IsCause name rows refused
-of_ops name rows why.Usage device ticket named gives asked why_not =
-    λ task is. why_not (only_edit (λ t. IsShapedAs name rows t → AreOpsGiven rows) name task named (shape_named name rows task is) (λ other number ops is. is.3) is)
-of_ops name rows why.Op device ticket named gives asked why_not = (Edit device ticket [], (named, gives, asked, why_not.0), why_not.1)
-of_ops name rows why.TooLong device ticket named gives asked why_not = (Edit device ticket [], (named, gives, asked, why_not.0), why_not.1)
-of_ops name rows why.Memory device ticket named gives asked why_not = tt
-of_ops name rows _ device ticket named gives asked why_not = absurd why_not
+-- ops that can't be read, behind a session and a ticket that can
+pub of_ops : (rows : List Row) (refused : WordsRefused) (device : Bor Text) (session : ℕ) (ticket : Option ℕ) → Gives rows (codes "device") device.now → IsSessionAsked rows session → IsTicketAsked rows ticket
+    → IsOpsCause rows refused → IsCause (codes "edit") rows refused
+of_ops rows why.Usage device session ticket gives counted asked why_not =
+    λ task is. why_not (only_edit (λ t. IsShapedAs (codes "edit") rows t → AreOpsGiven rows) (codes "edit") task refl (shape_named (codes "edit") rows task is) (λ other s number ops is. is.4) is)
+of_ops rows why.Op device session ticket gives counted asked why_not = (Edit device session ticket [], (refl, gives, counted, asked, why_not.0), why_not.1)
+of_ops rows why.TooLong device session ticket gives counted asked why_not = (Edit device session ticket [], (refl, gives, counted, asked, why_not.0), why_not.1)
+of_ops rows why.Memory device session ticket gives counted asked why_not = tt
+of_ops rows _ device session ticket gives counted asked why_not = absurd why_not
 
 -- what is handed on is what came
 pub handed_on : {T : Type 0} (r : Result T WordsRefused) (P : WordsRefused → Type 0) (refused : WordsRefused) → IsErrAnd r (λ e. e ≡ refused) → P refused → IfErr r P

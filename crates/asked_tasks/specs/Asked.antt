@@ -36,10 +36,23 @@ IsTicket (Some ticket) = (1 ≤ ticket) × (ticket ≤ worn_limit)
 abbrev pub IsTicketAsked : List Row → Option ℕ → Type 0
 IsTicketAsked rows ticket = (first_of (codes "ticket") rows ≡ option_map decimal ticket) × IsTicket ticket
 
--- `edit DEVICE OP.. --ticket T`, with each op of the change, in order, and no other
-abbrev pub IsEdit : Text → List Row → Text → Option ℕ → List Op → Type 0
-IsEdit name rows device ticket change =
-    (name ≡ codes "edit") × Gives rows (codes "device") device × IsTicketAsked rows ticket × (all_of (codes "ops") rows ≡ Some (map op_text change))
+-- the session of an edit where it isn't said
+abbrev pub usual_session : ℕ
+usual_session = 0
+
+-- a number in decimal, or the usual session where there is no text
+abbrev pub IsSessionText : Option Text → ℕ → Type 0
+IsSessionText None session = session ≡ usual_session
+IsSessionText (Some text) session = text ≡ decimal session
+
+-- `--session S`, with S a session in decimal, or none of it
+abbrev pub IsSessionAsked : List Row → ℕ → Type 0
+IsSessionAsked rows session = IsSessionText (first_of (codes "session") rows) session × (session < sessions)
+
+-- `edit DEVICE OP.. --session S --ticket T`, with each op of the change, in order, and no other
+abbrev pub IsEdit : Text → List Row → Text → ℕ → Option ℕ → List Op → Type 0
+IsEdit name rows device session ticket change =
+    (name ≡ codes "edit") × Gives rows (codes "device") device × IsSessionAsked rows session × IsTicketAsked rows ticket × (all_of (codes "ops") rows ≡ Some (map op_text change))
 
 -- `resume DEVICE S`, with S a session in decimal
 abbrev pub IsResume : Text → List Row → Text → ℕ → Type 0
@@ -86,7 +99,7 @@ IsServe name rows device editors forwarders places words =
 abbrev pub IsTask : Text → List Row → Task → Type 0
 IsTask name rows (Format device nodes) = IsFormat name rows device.now nodes
 IsTask name rows (Show device) = IsShow name rows device.now
-IsTask name rows (Edit device ticket change) = IsEdit name rows device.now ticket change
+IsTask name rows (Edit device session ticket change) = IsEdit name rows device.now session ticket change
 IsTask name rows (Resume device session) = IsResume name rows device.now session
 IsTask name rows (Route device from to words) = IsRoute name rows device.now from to words
 IsTask name rows (Check device words) = IsCheck name rows device.now words
@@ -105,7 +118,7 @@ IsAskedFor words task = (name : Text) × (rows : List Row) × IsCommand words na
 abbrev pub IsInRange : Task → Type 0
 IsInRange (Format device nodes) = nodes < 2 ^ 16
 IsInRange (Show device) = Unit {0}
-IsInRange (Edit device ticket change) = All Fits change × (1 ≤ length change) × (length change ≤ most_ops)
+IsInRange (Edit device session ticket change) = All Fits change × (1 ≤ length change) × (length change ≤ most_ops)
 IsInRange (Resume device session) = Unit {0}
 IsInRange (Route device from to words) = (from < 2 ^ 16) × (to < 2 ^ 16)
 IsInRange (Check device words) = Unit {0}
@@ -116,7 +129,7 @@ IsInRange (Serve device editors forwarders places words) = Unit {0}
 abbrev pub IsSameTask : Task → Task → Type 0
 IsSameTask (Format device nodes) (Format other count) = (device.now ≡ other.now) × (nodes ≡ count)
 IsSameTask (Show device) (Show other) = device.now ≡ other.now
-IsSameTask (Edit device ticket change) (Edit other asked ops) = (device.now ≡ other.now) × (ticket ≡ asked) × (change ≡ ops)
+IsSameTask (Edit device session ticket change) (Edit other s asked ops) = (device.now ≡ other.now) × (session ≡ s) × (ticket ≡ asked) × (change ≡ ops)
 IsSameTask (Resume device session) (Resume other asked) = (device.now ≡ other.now) × (session ≡ asked)
 IsSameTask (Route device from to words) (Route other u v asked) = (device.now ≡ other.now) × (from ≡ u) × (to ≡ v) × IsSame words asked
 IsSameTask (Check device words) (Check other asked) = (device.now ≡ other.now) × IsSame words asked
@@ -139,7 +152,7 @@ AreOpsGiven rows = (given : List Text) × (given ≢ []) × (all_of (codes "ops"
 abbrev pub IsShapedAs : Text → List Row → Task → Type 0
 IsShapedAs name rows (Format device nodes) = (name ≡ codes "format") × Gives rows (codes "device") device.now × Gives rows (codes "nodes") (decimal nodes) × (nodes < 2 ^ 16)
 IsShapedAs name rows (Show device) = IsShow name rows device.now
-IsShapedAs name rows (Edit device ticket change) = (name ≡ codes "edit") × Gives rows (codes "device") device.now × IsTicketAsked rows ticket × AreOpsGiven rows
+IsShapedAs name rows (Edit device session ticket change) = (name ≡ codes "edit") × Gives rows (codes "device") device.now × IsSessionAsked rows session × IsTicketAsked rows ticket × AreOpsGiven rows
 IsShapedAs name rows (Resume device session) = IsResume name rows device.now session
 IsShapedAs name rows (Route device from to words) =
     (name ≡ codes "route") × Gives rows (codes "device") device.now × Gives rows (codes "from") (decimal from) × Gives rows (codes "to") (decimal to) × IsGiven rows (codes "words") × (from < 2 ^ 16)
@@ -180,8 +193,8 @@ IsOpsCause rows refused = ⊥
 
 -- what a command that is shaped as a task is refused for
 abbrev pub IsLacking : List Row → Task → WordsRefused → Type 0
-IsLacking rows (Edit device ticket change) why.Op = LacksOps rows
-IsLacking rows (Edit device ticket change) why.TooLong = HasTooManyOps rows
+IsLacking rows (Edit device session ticket change) why.Op = LacksOps rows
+IsLacking rows (Edit device session ticket change) why.TooLong = HasTooManyOps rows
 IsLacking rows (Route device from to words) why.Words = LacksWords rows
 IsLacking rows (Check device words) why.Words = LacksWords rows
 IsLacking rows (Serve device editors forwarders places words) why.Words = LacksWords rows

@@ -33,9 +33,9 @@ format_app = with_rule (on_device_app (codes "format")) (text_rule (codes "nodes
 abbrev pub show_app : App
 show_app = on_device_app (codes "show")
 
--- `edit DEVICE OP.. --ticket T`
+-- `edit DEVICE OP.. --session S --ticket T`
 abbrev pub edit_app : App
-edit_app = with_rule (with_rule (on_device_app (codes "edit")) ops_rule) (option_rule (codes "ticket"))
+edit_app = with_rule (with_rule (with_rule (on_device_app (codes "edit")) ops_rule) (option_rule (codes "session"))) (option_rule (codes "ticket"))
 
 -- `resume DEVICE S`
 abbrev pub resume_app : App

@@ -1,9 +1,9 @@
 //! The program's grammar.
-ghost use Rattle.std.specs.Prelude.{◌≡◌, IfOk, false};
+ghost use Rattle.std.specs.Prelude.{◌≡◌, IfOk, codes, false};
 ghost use Rattle.clap.specs.Walk.{rule_of};
 ghost use Rattle.clap.specs.Words.{app_of, with_rule};
 ghost use Rattle.clap.specs.declared.builder.command.Command.TheViews.{out-Command};
-ghost use Rattle.asked_tasks.specs.Grammar.{check_app, edit_app, on_device_app, option_rule, plain_program, program, route_app, serve_app, text_rule, words_rule};
+ghost use Rattle.asked_tasks.specs.Grammar.{check_app, edit_app, on_device_app, ops_rule, option_rule, plain_program, program, route_app, serve_app, text_rule, words_rule};
 
 use clap::{Arg, ArgAction, Command};
 use std::alloc::{AllocError, Global};
@@ -29,14 +29,20 @@ fn on_device_with<'a>(alloc: Global, name: &'a str, id: &'a str) -> Result<Comma
     on_device(alloc, name)?.arg(text(alloc, id))
 }
 
+fn ops_command<'a>(alloc: Global) -> Result<Command<'a>, AllocError>
+    ensures app { IfOk result (λ command. app_of command ≡ with_rule (on_device_app (codes "edit")) ops_rule) }
+    ensures local { IfOk result (λ command. (out-Command command).has_globals ≡ false) }
+{
+    let ops = text(alloc, "ops").num_args(1..);
+    on_device(alloc, "edit")?.arg(ops)
+}
+
 fn edit_command<'a>(alloc: Global) -> Result<Command<'a>, AllocError>
     ensures app { IfOk result (λ command. app_of command ≡ edit_app) }
     ensures local { IfOk result (λ command. (out-Command command).has_globals ≡ false) }
 {
-    let ops = text(alloc, "ops").num_args(1..);
-    on_device(alloc, "edit")?
-        .arg(ops)?
-        .arg(option(alloc, "ticket"))
+    let named = with_option(alloc, ops_command(alloc)?, "session")?;
+    with_option(alloc, named, "ticket")
 }
 
 fn option<'a>(alloc: Global, id: &'a str) -> Arg<'a>

@@ -4,7 +4,7 @@
 //! |---|---|
 //! | `format DEVICE N` | [`Task::Format`] |
 //! | `show DEVICE` | [`Task::Show`] |
-//! | `edit DEVICE OP.. --ticket T` | [`Task::Edit`], of 1 to 16 OPs; `--ticket T` may be left out |
+//! | `edit DEVICE OP.. --session S --ticket T` | [`Task::Edit`], of 1 to 16 OPs; both options may be left out: session 0, the next ticket |
 //! | `resume DEVICE S` | [`Task::Resume`] |
 //! | `route DEVICE FROM TO --words W` | [`Task::Route`] |
 //! | `check DEVICE --words W` | [`Task::Check`] |

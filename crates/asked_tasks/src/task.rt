@@ -7,7 +7,7 @@ ghost use Rattle.requests.specs.Tickets.{sessions};
 ghost use Rattle.given_words.specs.declared.words.LandmarkWords.{LandmarkWords};
 ghost use Rattle.given_words.specs.OpText.{Fits, op_text};
 ghost use Rattle.given_words.specs.WordsText.{IsAsked, IsSame, words_text};
-ghost use Rattle.asked_tasks.specs.Asked.{IsAskedFor, IsCause, IsInRange, IsOpsCause, IsRefusedFor, IsSameTask, IsSeats, IsTask, IsTicket, IsWordsCause};
+ghost use Rattle.asked_tasks.specs.Asked.{IsAskedFor, IsCause, IsInRange, IsOpsCause, IsRefusedFor, IsSameTask, IsSeats, IsSessionText, IsTask, IsTicket, IsWordsCause};
 ghost use Rattle.asked_tasks.specs.declared.task.Task.{Task};
 
 use crate::grammar::grammar;
@@ -31,9 +31,11 @@ pub enum Task<'a> {
     Show {
         device: &'a str,
     },
-    /// Make one change, under a ticket of its own or under the next one.
+    /// Make one change of a session, under a ticket of its own or under the next one.
     Edit {
         device: &'a str,
+        /// Below the number of sessions.
+        session: u8,
         /// 1 to the greatest ticket, where one is named.
         ticket: Option<u64>,
         change: Change,
@@ -81,6 +83,9 @@ const USUAL_SEATS: u8 = 2;
 
 // And how many places the queue has.
 const USUAL_PLACES: u8 = 64;
+
+// Whose changes an edit makes where it isn't said.
+const USUAL_SESSION: u8 = 0;
 
 /// What the words ask for, or why they are no task.
 pub fn understood<'a>(alloc: Global, words: &'a [&'a str]) -> Result<Task<'a>, WordsRefused>
@@ -130,11 +135,7 @@ fn task_of<'a>(alloc: Global, name: &str, found: &ArgMatches<'a>) -> Result<Task
     } else if name == "show" {
         Ok(Task::Show { device })
     } else if name == "edit" {
-        Ok(Task::Edit {
-            device,
-            ticket: ticket(alloc, found)?,
-            change: change(alloc, found)?,
-        })
+        edit_of(alloc, device, found)
     } else if name == "resume" {
         Ok(Task::Resume {
             device,
@@ -162,6 +163,27 @@ fn task_of<'a>(alloc: Global, name: &str, found: &ArgMatches<'a>) -> Result<Task
     } else {
         Err(WordsRefused::Usage)
     }
+}
+
+// A change of a device.
+fn edit_of<'a>(
+    alloc: Global,
+    device: &'a str,
+    found: &ArgMatches<'a>,
+) -> Result<Task<'a>, WordsRefused>
+    ensures asked { first_of (codes "device") (rows_of (found_of found.entry.now)) ≡ Some device.entry.now → IfOk result (λ task. IsTask (codes "edit") (rows_of (found_of found.entry.now)) task) }
+    ensures only { first_of (codes "device") (rows_of (found_of found.entry.now)) ≡ Some device.entry.now → (task : Task) → IsTask (codes "edit") (rows_of (found_of found.entry.now)) task → IsInRange task → IfOk result (λ read. IsSameTask read task) }
+    ensures cause { first_of (codes "device") (rows_of (found_of found.entry.now)) ≡ Some device.entry.now → IfErr result (λ refused. IsCause (codes "edit") (rows_of (found_of found.entry.now)) refused) }
+{
+    let session = named_session(alloc, found)?;
+    let ticket = ticket(alloc, found)?;
+    let change = change(alloc, found)?;
+    Ok(Task::Edit {
+        device,
+        session,
+        ticket,
+        change,
+    })
 }
 
 // A service of a device.
@@ -240,6 +262,23 @@ fn session(alloc: Global, found: &ArgMatches<'_>) -> Result<u8, WordsRefused>
 {
     let Some(text) = found.get_str("session") else {
         return Err(WordsRefused::Usage);
+    };
+    match number(alloc, text, SESSIONS as u64 - 1)? {
+        Some(session) => Ok(session as u8),
+        None => Err(WordsRefused::Usage),
+    }
+}
+
+// The session of an edit: the one that is named, or else the usual one.
+fn named_session(alloc: Global, found: &ArgMatches<'_>) -> Result<u8, WordsRefused>
+    ensures found { IfOk result (λ n. IsSessionText (first_value (found_of found.entry.now) (codes "session")) n) }
+    ensures fits { IfOk result (λ n. n < sessions) }
+    ensures same { (n : ℕ) → n < sessions → IsSessionText (first_value (found_of found.entry.now) (codes "session")) n → IfOk result (λ m. m ≡ n) }
+    ensures only { (n : ℕ) → n < sessions → IsSessionText (first_value (found_of found.entry.now) (codes "session")) n → IfErr result (λ refused. refused ≡ WordsRefused.Memory) }
+    ensures refusals { IfErr result (λ refused. (refused ≡ WordsRefused.Usage) ⊎ (refused ≡ WordsRefused.Memory)) }
+{
+    let Some(text) = found.get_str("session") else {
+        return Ok(USUAL_SESSION);
     };
     match number(alloc, text, SESSIONS as u64 - 1)? {
         Some(session) => Ok(session as u8),

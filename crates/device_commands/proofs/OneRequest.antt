@@ -10,48 +10,49 @@ use Rattle.recovery.specs.State.{State, state_with}
 use Rattle.recovery.specs.Standing.{StandsFor}
 use Rattle.checkpoint.specs.declared.store.Store.{Store}
 use Rattle.checkpoint.specs.StoreWords.{state_of, view_of, disk_of, is_down, stands_now}
+use Rattle.generations.specs.declared.posting.Mark.{Mark}
 use Rattle.generations.specs.declared.posting.Verdict.{Verdict}
 use Rattle.generations.specs.declared.posting.Verdict.TheVariants.{Accepted, Refused}
 use Rattle.group_commit.specs.Settling.{Settled, settle, accept, refuse, one_more}
 use Rattle.printed_lines.specs.declared.fault.Fault.{Fault}
-use Rattle.device_commands.specs.Answer.{KeepsThrough, IsNew, IsTaken, first_verdict, session, state_under, verdict_of}
-use Rattle.device_commands.specs.Editors.{request_of}
+use Rattle.device_commands.specs.Answer.{KeepsThrough, IsNew, IsTaken, state_under, verdict_of}
 
-pub one_state : (s : State) (ticket : ℕ) (change : List Op) → (settle s (request_of ticket change ∷ [])).state ≡ state_under s ticket change
-one_state s ticket change = elim (graph_after s.graph change) as (λ o. (elim o as (λ _. Settled) [ Ok graph ↦ accept (request_of ticket change) (s.count + 1) (settle (one_more s (request_of ticket change) graph) []) | Err at ↦ refuse (request_of ticket change) at (settle s []) ]).state ≡ elim o as (λ _. State) [ Ok graph ↦ state_with (s.count + 1) graph (raise s.tickets (session, ticket)) | Err at ↦ s ]) [
+-- the state after one request is that under its ticket
+pub one_state : (s : State) (r : Request) → (settle s (r ∷ [])).state ≡ state_under s r.session r.ticket r.change
+one_state s r = elim (graph_after s.graph r.change) as (λ o. (elim o as (λ _. Settled) [ Ok graph ↦ accept r (s.count + 1) (settle (one_more s r graph) []) | Err at ↦ refuse r at (settle s []) ]).state ≡ elim o as (λ _. State) [ Ok graph ↦ state_with (s.count + 1) graph (raise s.tickets (r.session, r.ticket)) | Err at ↦ s ]) [
   | Ok graph ↦ refl
   | Err at ↦ refl
 ]
 
 -- where something of it is accepted, the graph takes the change
-pub accepted_is_taken : (s : State) (ticket : ℕ) (change : List Op) → (settle s (request_of ticket change ∷ [])).accepted ≢ [] → IsTaken s change
-accepted_is_taken s ticket change = elim (graph_after s.graph change) as (λ o. (elim o as (λ _. Settled) [ Ok graph ↦ accept (request_of ticket change) (s.count + 1) (settle (one_more s (request_of ticket change) graph) []) | Err at ↦ refuse (request_of ticket change) at (settle s []) ]).accepted ≢ [] → IsOk o) [
+pub accepted_is_taken : (s : State) (r : Request) → (settle s (r ∷ [])).accepted ≢ [] → IsTaken s r.change
+accepted_is_taken s r = elim (graph_after s.graph r.change) as (λ o. (elim o as (λ _. Settled) [ Ok graph ↦ accept r (s.count + 1) (settle (one_more s r graph) []) | Err at ↦ refuse r at (settle s []) ]).accepted ≢ [] → IsOk o) [
   | Ok graph ↦ λ some. refl
   | Err at ↦ λ some. absurd (some refl)
 ]
 
 -- where the graph refuses the change, nothing of it is accepted
-pub refused_is_idle : (s : State) (ticket : ℕ) (change : List Op) → ¬ (IsTaken s change) → (settle s (request_of ticket change ∷ [])).accepted ≡ []
-refused_is_idle s ticket change = elim (graph_after s.graph change) as (λ o. ¬ (IsOk o) → (elim o as (λ _. Settled) [ Ok graph ↦ accept (request_of ticket change) (s.count + 1) (settle (one_more s (request_of ticket change) graph) []) | Err at ↦ refuse (request_of ticket change) at (settle s []) ]).accepted ≡ []) [
+pub refused_is_idle : (s : State) (r : Request) → ¬ (IsTaken s r.change) → (settle s (r ∷ [])).accepted ≡ []
+refused_is_idle s r = elim (graph_after s.graph r.change) as (λ o. ¬ (IsOk o) → (elim o as (λ _. Settled) [ Ok graph ↦ accept r (s.count + 1) (settle (one_more s r graph) []) | Err at ↦ refuse r at (settle s []) ]).accepted ≡ []) [
   | Ok graph ↦ λ refused. absurd (refused refl)
   | Err at ↦ λ refused. refl
 ]
 
--- ---- what settling one request leaves, said of the store that the committer was made of
+-- its one mark has the verdict on its change
+pub one_mark : (s : State) (r : Request) → (mark : Mark) × (((settle s (r ∷ [])).marks ≡ mark ∷ []) × (mark.verdict ≡ verdict_of s r.change))
+one_mark s r = elim (graph_after s.graph r.change) as (λ o. (mark : Mark) × (((elim o as (λ _. Settled) [ Ok graph ↦ accept r (s.count + 1) (settle (one_more s r graph) []) | Err at ↦ refuse r at (settle s []) ]).marks ≡ mark ∷ []) × (mark.verdict ≡ elim o as (λ _. Verdict) [ Ok graph ↦ Accepted (s.count + 1) | Err at ↦ Refused at.0 at.1 ]))) [
+  | Ok graph ↦ (_, (refl, refl))
+  | Err at ↦ (_, (refl, refl))
+]
 
-pub settles_leaves : {D : Type 0} {V : _} → (store was done result : Store D V) (put : List Request) (ticket : ℕ) (change : List Op) → was ≡ store → put ≡ request_of ticket change ∷ [] → result ≡ done
-    → (IsTrue (view_of was).keeps_model → LeavesOnly (view_of was) (view_of done) (λ image. StandsFor (state_of was) image ⊎ StandsFor (settle (state_of was) put).state image))
-    → IsTrue (view_of store).keeps_model → LeavesOnly (view_of store) (view_of result) (λ image. StandsFor (state_of store) image ⊎ StandsFor (state_under (state_of store) ticket change) image)
-settles_leaves {D = D} {V = V} store was done result put ticket change same one to run =
-    let moved : IsTrue (view_of store).keeps_model → LeavesOnly (view_of store) (view_of result) (λ image. StandsFor (state_of store) image ⊎ StandsFor (settle (state_of store) (request_of ticket change ∷ [])).state image)
-    = subst (λ (x : Store D V × (Store D V × List Request)). IsTrue (view_of x.0).keeps_model → LeavesOnly (view_of x.0) (view_of x.1.0) (λ image. StandsFor (state_of x.0) image ⊎ StandsFor (settle (state_of x.0) x.1.1).state image)) (λ i. (same i, (sym to i, one i))) run in
-    subst (λ (next : State). IsTrue (view_of store).keeps_model → LeavesOnly (view_of store) (view_of result) (λ image. StandsFor (state_of store) image ⊎ StandsFor next image)) (one_state (state_of store) ticket change) moved
-
--- a change that the graph refuses leaves the store
-pub settles_idle : {D : Type 0} {V : _} → (store was done result : Store D V) (put : List Request) (ticket : ℕ) (change : List Op) → was ≡ store → put ≡ request_of ticket change ∷ [] → result ≡ done
-    → ((settle (state_of was) put).accepted ≡ [] → done ≡ was) → ¬ (IsTaken (state_of store) change) → result ≡ store
-settles_idle {D = D} {V = V} store was done result put ticket change same one to stays refused =
-    to ∙ (stays (ap (λ (x : Store D V × List Request). (settle (state_of x.0) x.1).accepted) (λ i. (same i, one i)) ∙ refused_is_idle (state_of store) ticket change refused) ∙ same)
+-- what settling one request leaves, said of the store that the desk was made of
+pub settles_leaves : {D : Type 0} {V : _} → (store was done result : Store D V) (held : List Request) (r : Request) → was ≡ store → held ≡ r ∷ [] → result ≡ done → is_down store ≡ false
+    → (IsTrue (view_of was).keeps_model → is_down was ≡ false → LeavesOnly (view_of was) (view_of done) (λ image. StandsFor (state_of was) image ⊎ StandsFor (settle (state_of was) held).state image))
+    → IsTrue (view_of store).keeps_model → LeavesOnly (view_of store) (view_of result) (λ image. StandsFor (state_of store) image ⊎ StandsFor (state_under (state_of store) r.session r.ticket r.change) image)
+settles_leaves {D = D} {V = V} store was done result held r same one to up run =
+    let moved : IsTrue (view_of store).keeps_model → is_down store ≡ false → LeavesOnly (view_of store) (view_of result) (λ image. StandsFor (state_of store) image ⊎ StandsFor (settle (state_of store) (r ∷ [])).state image)
+    = subst (λ (x : Store D V × (Store D V × List Request)). IsTrue (view_of x.0).keeps_model → is_down x.0 ≡ false → LeavesOnly (view_of x.0) (view_of x.1.0) (λ image. StandsFor (state_of x.0) image ⊎ StandsFor (settle (state_of x.0) x.1.1).state image)) (λ i. (same i, (sym to i, one i))) run in
+    subst (λ (next : State). IsTrue (view_of store).keeps_model → LeavesOnly (view_of store) (view_of result) (λ image. StandsFor (state_of store) image ⊎ StandsFor next image)) (one_state (state_of store) r) (λ model. moved model up)
 
 -- a store that nothing was asked of leaves its state
 pub untouched_leaves : {D : Type 0} {V : _} → (store result : Store D V) (next : State) → result ≡ store → IsTrue (view_of store).keeps_model → is_down store ≡ false
@@ -61,10 +62,10 @@ untouched_leaves store result next same model up =
     (started (view_of store) (λ image. StandsFor (state_of store) image ⊎ StandsFor next image) (λ image left. inl (stands_now store model up image left)))
 
 -- a verdict that is that of a state, under a ticket that is new to it
-pub of_one_state : (r : Result Verdict Fault) (state : State) (named : Option ℕ) (change : List Op) → IfOk r (λ verdict. verdict ≡ verdict_of state change) → OnOk r (IsNew state named)
-    → IfOk r (λ verdict. (s : State) × IsNew s named × (verdict ≡ verdict_of s change))
-of_one_state (Ok verdict) state named change is new = (state, new, is)
-of_one_state (Err fault) state named change is new = tt
+pub of_one_state : (r : Result Verdict Fault) (state : State) (session : ℕ) (named : Option ℕ) (change : List Op) → IfOk r (λ verdict. verdict ≡ verdict_of state change) → OnOk r (IsNew state session named)
+    → IfOk r (λ verdict. (s : State) × IsNew s session named × (verdict ≡ verdict_of s change))
+of_one_state (Ok verdict) state session named change is new = (state, new, is)
+of_one_state (Err fault) state session named change is new = tt
 
 -- ---- from an opened disk to the disk that is handed back
 

@@ -8,7 +8,7 @@ use Rattle.recovery_parts.specs.Refusals.{IsFormatFault}
 use Rattle.recovery.specs.Standing.{StandsForNone}
 use Rattle.printed_lines.specs.declared.fault.Fault.{Fault}
 use Rattle.printed_lines.specs.declared.fault.Fault.TheVariants as fault
-use Rattle.device_commands.specs.Openings.{IsChangeFault, IsDeskFault, IsEditFault, IsOpenFault, IsUnwrittenFault, TellsOf, open_fault}
+use Rattle.device_commands.specs.Openings.{IsChangeFault, IsDeskFault, IsEditFault, IsOpenFault, IsQueueFault, IsUnwrittenFault, TellsOf, open_fault}
 
 -- a refused opening's fault tells what the refusal does
 pub opening_tells : (refused : OpenRefused) (content : List ℕ) → (IsFormatFault refused → StandsForNone content) → (refused ≡ NotFormatted → LacksMagic content)
@@ -39,6 +39,7 @@ device_alone Memory is = absurd (cc)
 pub change_tells : (fault : Fault) (content : List ℕ) → IsChangeFault fault → TellsOf fault content
 change_tells fault.Device content is = tt
 change_tells fault.Memory content is = tt
+change_tells fault.Internal content is = tt
 change_tells fault.Worn content is = tt
 change_tells fault.AlreadyIn content is = tt
 change_tells _ content is = absurd is
@@ -47,26 +48,37 @@ change_tells _ content is = absurd is
 pub change_edits : (fault : Fault) → IsChangeFault fault → IsEditFault fault
 change_edits fault.Device is = tt
 change_edits fault.Memory is = tt
+change_edits fault.Internal is = tt
 change_edits fault.Worn is = tt
 change_edits fault.AlreadyIn is = tt
 change_edits _ is = absurd is
 
--- of them this one alone is told where nothing was written
-unwritten_by : (f : Fault) (P : Type 0) → IsChangeFault f → (f ≡ fault.AlreadyIn → P) → IsUnwrittenFault f → P
-unwritten_by fault.Device P is told un = absurd un
-unwritten_by fault.Memory P is told un = absurd un
-unwritten_by fault.Worn P is told un = absurd un
-unwritten_by fault.AlreadyIn P is told un = told refl
-unwritten_by _ P is told un = absurd is
+-- of them these two alone are told where nothing was written
+unwritten_by : (f : Fault) (P : Type 0) → IsChangeFault f → (f ≡ fault.AlreadyIn → P) → (f ≡ fault.Worn → P) → IsUnwrittenFault f → P
+unwritten_by fault.Device P is told worn un = absurd un
+unwritten_by fault.Memory P is told worn un = absurd un
+unwritten_by fault.Internal P is told worn un = absurd un
+unwritten_by fault.Worn P is told worn un = worn refl
+unwritten_by fault.AlreadyIn P is told worn un = told refl
+unwritten_by _ P is told worn un = absurd is
 
-pub change_unwritten : {A : Type 0} (r : Result A Fault) (P : Type 0) → IfErr r (λ f. IsChangeFault f) → (IsErrOf r fault.AlreadyIn → P) → IfErr r (λ f. IsUnwrittenFault f → P)
-change_unwritten (Ok a) P is told = tt
-change_unwritten (Err f) P is told = unwritten_by f P is (λ same. told (ap Err same))
+pub change_unwritten : {A : Type 0} (r : Result A Fault) (P : Type 0) → IfErr r (λ f. IsChangeFault f) → (IsErrOf r fault.AlreadyIn → P) → (IsErrOf r fault.Worn → P) → IfErr r (λ f. IsUnwrittenFault f → P)
+change_unwritten (Ok a) P is told worn = tt
+change_unwritten (Err f) P is told worn = unwritten_by f P is (λ same. told (ap Err same)) (λ same. worn (ap Err same))
+
+-- a queue's are a desk's
+pub queue_desk : (fault : Fault) → IsQueueFault fault → IsDeskFault fault
+queue_desk fault.Memory is = tt
+queue_desk fault.Internal is = tt
+queue_desk fault.Device is = absurd is
+queue_desk fault.Worn is = absurd is
+queue_desk _ is = absurd is
 
 -- a desk's are among them
 pub desk_changes : (fault : Fault) → IsDeskFault fault → IsChangeFault fault
 desk_changes fault.Device is = tt
 desk_changes fault.Memory is = tt
+desk_changes fault.Internal is = tt
 desk_changes fault.Worn is = tt
 desk_changes _ is = absurd is
 
@@ -74,6 +86,7 @@ desk_changes _ is = absurd is
 pub open_edits : (fault : Fault) → IsOpenFault fault → IsEditFault fault
 open_edits fault.Worn is = tt
 open_edits fault.AlreadyIn is = tt
+open_edits fault.Internal is = tt
 open_edits fault.NotFormatted is = tt
 open_edits fault.LayoutNotKnown is = tt
 open_edits fault.Damaged is = tt

@@ -7,26 +7,21 @@ use Rattle.graph_edits.specs.Changes.{after as graph_after}
 use Rattle.requests.specs.Tickets.{last_of, raise}
 use Rattle.recovery.specs.State.{State, state_with}
 use Rattle.recovery.specs.Standing.{StandsFor}
-use Rattle.generations.specs.declared.posting.Mark.{Mark}
 use Rattle.generations.specs.declared.posting.Verdict.{Verdict}
 use Rattle.generations.specs.declared.posting.Verdict.TheVariants.{Accepted, Refused}
 
--- the session that changes are made under
-abbrev pub session : ℕ
-session = 0
-
--- its last ticket
-abbrev pub last_ticket : State → ℕ
-last_ticket state = last_of state.tickets session
+-- a session's last ticket
+abbrev pub last_ticket : State → ℕ → ℕ
+last_ticket state session = last_of state.tickets session
 
 -- the ticket of a change: the one that is named, or else the next
 abbrev pub ticket_of : ℕ → Option ℕ → ℕ
 ticket_of last None = last + 1
 ticket_of last (Some ticket) = ticket
 
--- the ticket of a change is above the last one, so it was never taken
-abbrev pub IsNew : State → Option ℕ → Type 0
-IsNew state named = last_ticket state < ticket_of (last_ticket state) named
+-- the ticket of a session's change is above its last one, so it was never taken
+abbrev pub IsNew : State → ℕ → Option ℕ → Type 0
+IsNew state session named = last_ticket state session < ticket_of (last_ticket state session) named
 
 -- what becomes of a change: it counts, or its first refused op is named
 abbrev pub verdict_of : State → List Op → Verdict
@@ -36,19 +31,14 @@ verdict_of state change = elim (graph_after state.graph change) [ Ok graph ↦ A
 abbrev pub IsTaken : State → List Op → Type 0
 IsTaken state change = IsOk (graph_after state.graph change)
 
--- the state with the change under a ticket, where it is accepted, else as it was
-abbrev pub state_under : State → ℕ → List Op → State
-state_under state ticket change = elim (graph_after state.graph change) [ Ok graph ↦ state_with (state.count + 1) graph (raise state.tickets (session, ticket)) | Err at ↦ state ]
+-- the state with a session's change under a ticket, where it is accepted, else as it was
+abbrev pub state_under : State → ℕ → ℕ → List Op → State
+state_under state session ticket change = elim (graph_after state.graph change) [ Ok graph ↦ state_with (state.count + 1) graph (raise state.tickets (session, ticket)) | Err at ↦ state ]
 
 -- so under the ticket of the change
-abbrev pub state_after : State → Option ℕ → List Op → State
-state_after state named change = state_under state (ticket_of (last_ticket state) named) change
+abbrev pub state_after : State → ℕ → Option ℕ → List Op → State
+state_after state session named change = state_under state session (ticket_of (last_ticket state session) named) change
 
 -- each image that a crash now may leave stands for the state
 abbrev pub KeepsThrough : DiskView → State → Type 0
 KeepsThrough disk state = (image : List ℕ) → MayLeave disk image → StandsFor state image
-
--- the verdict of the first mark
-abbrev pub first_verdict : List Mark → Option Verdict
-first_verdict [] = None
-first_verdict (mark ∷ marks) = Some mark.verdict

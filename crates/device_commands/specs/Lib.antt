@@ -1,4 +1,3 @@
 pub mod Answer
 pub mod Openings
 pub mod Moves
-pub mod Editors

@@ -7,7 +7,7 @@ use Rattle.recovery_parts.specs.Refusals.{LacksMagic}
 use Rattle.recovery.specs.Fronts.{HasOtherVersion, HasThisVersion}
 use Rattle.recovery.specs.Standing.{StandsForNone}
 use Rattle.printed_lines.specs.declared.fault.Fault.{Fault}
-use Rattle.printed_lines.specs.declared.fault.Fault.TheVariants.{NodeCount, DeviceLength, NotFormatted, LayoutNotKnown, Damaged, Device, Memory, Worn, AlreadyIn}
+use Rattle.printed_lines.specs.declared.fault.Fault.TheVariants.{NodeCount, DeviceLength, NotFormatted, LayoutNotKnown, Damaged, Device, Memory, Internal, Worn, AlreadyIn}
 
 -- the faults of formatting a device for so many nodes
 abbrev pub IsFormatFault : ℕ → Fault → Type 0
@@ -40,12 +40,17 @@ IsOpenFault Device = Unit {0}
 IsOpenFault Memory = Unit {0}
 IsOpenFault fault = ⊥
 
+-- the faults of a change on its way through the queue
+abbrev pub IsQueueFault : Fault → Type 0
+IsQueueFault Memory = Unit {0}
+IsQueueFault Internal = Unit {0}
+IsQueueFault fault = ⊥
+
 -- the faults of a change on a device that is open
 abbrev pub IsDeskFault : Fault → Type 0
 IsDeskFault Device = Unit {0}
-IsDeskFault Memory = Unit {0}
 IsDeskFault Worn = Unit {0}
-IsDeskFault fault = ⊥
+IsDeskFault fault = IsQueueFault fault
 
 -- the faults of a change under a ticket
 abbrev pub IsChangeFault : Fault → Type 0
@@ -56,6 +61,7 @@ IsChangeFault fault = IsDeskFault fault
 abbrev pub IsEditFault : Fault → Type 0
 IsEditFault Worn = Unit {0}
 IsEditFault AlreadyIn = Unit {0}
+IsEditFault Internal = Unit {0}
 IsEditFault fault = IsOpenFault fault
 
 -- the faults of an edit behind which the device was only read
@@ -64,4 +70,5 @@ IsUnwrittenFault NotFormatted = Unit {0}
 IsUnwrittenFault LayoutNotKnown = Unit {0}
 IsUnwrittenFault Damaged = Unit {0}
 IsUnwrittenFault AlreadyIn = Unit {0}
+IsUnwrittenFault Worn = Unit {0}
 IsUnwrittenFault fault = ⊥

@@ -7,22 +7,22 @@
 //! The contract that the layer above uses, of a disk that keeps the disk model: [`listing`] and [`resume`] answer by the state that
 //! the content stands for, and have only read the disk, which comes back; [`edit`] answers what becomes of the change in that state,
 //! leaves a device of which each crash image stands for the state after it, and at any moment one for the state before it or after
-//! it. Its ticket is new to the state: where it isn't, the answer is [`Fault::AlreadyIn`], and nothing is written. An editor in a
-//! thread of its own submits the change, and a committer takes it in one round. Not formatted, layout not known and damaged come
+//! it. Its ticket is new to the state: where it isn't, the answer is [`Fault::AlreadyIn`], and nothing is written. The editor of
+//! its session submits the change, in a thread of its own, and the desk settles it alone in its group. Not formatted, layout not known and damaged come
 //! only where the content stands for no state, each by the content's front (`TellsOf` of `specs/Openings`, and `TellsOfOld` of
 //! `specs/Moves` for [`migrate`], of which the rest is said in the crate `migrate`).
 //!
 //! ```text
 //! format(&mut disk, 5)?;
-//! let (answer, disk) = edit(rt, alloc, disk, None, change);   // Ok(Verdict::Accepted { count: 1 })
-//! let (answer, disk) = edit(rt, alloc, disk, Some(1), other); // Err(Fault::AlreadyIn)
+//! let (answer, disk) = edit(rt, alloc, disk, 0, None, change);   // Ok(Verdict::Accepted { count: 1 })
+//! let (answer, disk) = edit(rt, alloc, disk, 0, Some(1), other); // Err(Fault::AlreadyIn)
 //! let (text, disk) = listing(alloc, disk);                    // Ok: count=1 edges=1, and a line for the edge
 //! ```
 #![tactic(auto)]
 
 mod editing;
 mod moving;
-mod one_editor;
+mod one_request;
 mod opening;
 
 pub use editing::edit;

@@ -3,7 +3,7 @@ use Rattle.std.specs.Prelude.{ℕ, List, [], ◌∷◌, ◌++◌, codes}
 use Rattle.printed_lines.specs.declared.ended.Ended.{Ended}
 use Rattle.printed_lines.specs.declared.ended.Ended.TheVariants.{Done, Refused}
 use Rattle.printed_lines.specs.declared.fault.Fault.{Fault}
-use Rattle.printed_lines.specs.declared.fault.Fault.TheVariants.{Usage, Op, Words, Script, ChangeTooLong, NodeCount, DeviceLength, DeviceFile, NotFormatted, LayoutNotKnown, Damaged, Device, Memory, Worn, AlreadyIn, NoNode, Output}
+use Rattle.printed_lines.specs.declared.fault.Fault.TheVariants.{Usage, Op, Words, Script, ChangeTooLong, NodeCount, DeviceLength, DeviceFile, DeviceInUse, NotFormatted, LayoutNotKnown, Damaged, Device, Memory, NoThread, Internal, Worn, AlreadyIn, NoNode, Output}
 
 -- what is told of a fault
 abbrev pub fault_text : Fault → List ℕ
@@ -15,11 +15,14 @@ fault_text ChangeTooLong = codes "change too long"
 fault_text NodeCount = codes "node count out of range"
 fault_text DeviceLength = codes "device length is wrong"
 fault_text DeviceFile = codes "device file cannot be used"
+fault_text DeviceInUse = codes "device in use"
 fault_text NotFormatted = codes "not formatted"
 fault_text LayoutNotKnown = codes "layout not known"
 fault_text Damaged = codes "damaged"
 fault_text Device = codes "device failed"
 fault_text Memory = codes "out of memory"
+fault_text NoThread = codes "input or output failed"
+fault_text Internal = codes "input or output failed"
 fault_text Worn = codes "worn out"
 fault_text AlreadyIn = codes "already in"
 fault_text NoNode = codes "no node"
@@ -47,11 +50,14 @@ status_of ChangeTooLong = 1
 status_of NodeCount = 1
 status_of DeviceLength = 1
 status_of DeviceFile = 1
+status_of DeviceInUse = 1
 status_of NotFormatted = 1
 status_of LayoutNotKnown = 1
 status_of Damaged = 1
 status_of Device = 1
 status_of Memory = 1
+status_of NoThread = 1
+status_of Internal = 1
 status_of Worn = 1
 status_of AlreadyIn = 1
 status_of NoNode = 1

@@ -25,6 +25,8 @@ pub enum Fault {
     DeviceLength,
     /// The file can't be made or opened.
     DeviceFile,
+    /// Another program has the file's lock.
+    DeviceInUse,
     /// The file's front isn't that of a device.
     NotFormatted,
     /// The device is of another layout.
@@ -35,6 +37,10 @@ pub enum Fault {
     Device,
     /// Memory ran out.
     Memory,
+    /// The system makes no thread.
+    NoThread,
+    /// Two parts of the program disagree. No run is known that ends so.
+    Internal,
     /// The count, the epoch or a session's ticket stands at its limit.
     Worn,
     /// The session has taken this ticket, or a later one.
@@ -59,6 +65,7 @@ impl Fault {
             Fault::NodeCount => "node count out of range",
             Fault::DeviceLength => "device length is wrong",
             Fault::DeviceFile => "device file cannot be used",
+            Fault::DeviceInUse => "device in use",
             Fault::NotFormatted => "not formatted",
             Fault::LayoutNotKnown => "layout not known",
             Fault::Damaged => "damaged",
@@ -67,7 +74,8 @@ impl Fault {
             Fault::Worn => "worn out",
             Fault::AlreadyIn => "already in",
             Fault::NoNode => "no node",
-            Fault::Output => "input or output failed",
+            // No text of their own is among those that scripts know: this one is the nearest.
+            Fault::NoThread | Fault::Internal | Fault::Output => "input or output failed",
         }
     }
 

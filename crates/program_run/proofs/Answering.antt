@@ -19,12 +19,12 @@ use Rattle.program_run.specs.Outcomes.{IsOutcome, status_in}
 use Rattle.program_run.specs.Printed.{AnswersWords, ended_by, verdict_text}
 
 -- a verdict's line is that of what becomes of the change in a state
-pub verdict_line : (r : Result Ended Fault) (old new : Option (List ℕ)) (verdict : Verdict) (named : Option ℕ) (change : List Op) → (state : State) × IsNew state named × (verdict ≡ verdict_of state change)
+pub verdict_line : (r : Result Ended Fault) (old new : Option (List ℕ)) (verdict : Verdict) (session : ℕ) (named : Option ℕ) (change : List Op) → (state : State) × IsNew state session named × (verdict ≡ verdict_of state change)
     → IfOk r (λ ended. ended ≡ ended_by verdict) → OnOk r (Appends old new (line (verdict_text verdict)))
-    → IfOk r (λ ended. (state : State) × IsNew state named × (ended ≡ ended_by (verdict_of state change)) × Appends old new (line (verdict_text (verdict_of state change))))
-verdict_line (Ok ended) old new verdict named change one ends printed =
+    → IfOk r (λ ended. (state : State) × IsNew state session named × (ended ≡ ended_by (verdict_of state change)) × Appends old new (line (verdict_text (verdict_of state change))))
+verdict_line (Ok ended) old new verdict session named change one ends printed =
     (one.0, one.1, ends ∙ ap ended_by one.2, subst (λ (v : Verdict). Appends old new (line (verdict_text v))) one.2 printed)
-verdict_line (Err fault) old new verdict named change one ends printed = tt
+verdict_line (Err fault) old new verdict session named change one ends printed = tt
 
 -- the faults of status 2 are those by which words are not understood
 is_not_understood : (fault : Fault) → status_of fault ≡ 2 → IsNotUnderstood fault
@@ -36,11 +36,14 @@ is_not_understood told.ChangeTooLong is = absurd (cc)
 is_not_understood told.NodeCount is = absurd (cc)
 is_not_understood told.DeviceLength is = absurd (cc)
 is_not_understood told.DeviceFile is = absurd (cc)
+is_not_understood told.DeviceInUse is = absurd (cc)
 is_not_understood told.NotFormatted is = absurd (cc)
 is_not_understood told.LayoutNotKnown is = absurd (cc)
 is_not_understood told.Damaged is = absurd (cc)
 is_not_understood told.Device is = absurd (cc)
 is_not_understood told.Memory is = absurd (cc)
+is_not_understood told.NoThread is = absurd (cc)
+is_not_understood told.Internal is = absurd (cc)
 is_not_understood told.Worn is = absurd (cc)
 is_not_understood told.AlreadyIn is = absurd (cc)
 is_not_understood told.NoNode is = absurd (cc)
@@ -64,11 +67,14 @@ not_done told.ChangeTooLong is = absurd (cc)
 not_done told.NodeCount is = absurd (cc)
 not_done told.DeviceLength is = absurd (cc)
 not_done told.DeviceFile is = absurd (cc)
+not_done told.DeviceInUse is = absurd (cc)
 not_done told.NotFormatted is = absurd (cc)
 not_done told.LayoutNotKnown is = absurd (cc)
 not_done told.Damaged is = absurd (cc)
 not_done told.Device is = absurd (cc)
 not_done told.Memory is = absurd (cc)
+not_done told.NoThread is = absurd (cc)
+not_done told.Internal is = absurd (cc)
 not_done told.Worn is = absurd (cc)
 not_done told.AlreadyIn is = absurd (cc)
 not_done told.NoNode is = absurd (cc)

@@ -14,7 +14,7 @@ use Rattle.asked_tasks.specs.declared.refused.WordsRefused.TheVariants as why
 use Rattle.asked_tasks.specs.declared.task.Task.{Task}
 use Rattle.printed_lines.specs.Faults.{IsNotUnderstood}
 use Rattle.served_lines.specs.ServedLines.{IsServeFault}
-use Rattle.program_run.specs.Endings.{EndsCheck, EndsEdit, EndsFormat, EndsMigrate, EndsRoute, EndsServe, EndsShow, IsCheckDeviceFault, IsRouteDeviceFault, IsFaultFor, IsRouteFault, IsScriptFault, IsWordsOrMemory, MayEnd, NamesNodes, words_fault}
+use Rattle.program_run.specs.Endings.{EndsCheck, EndsEdit, EndsFormat, EndsMigrate, EndsRoute, EndsServe, EndsShow, IsCheckDeviceFault, IsRouteDeviceFault, IsFaultFor, IsFileFault, IsRouteFault, IsScriptFault, IsQueryFault, IsThreadFault, MayEnd, NamesNodes, words_fault}
 
 -- words of which a graph lacks a node name nodes
 pub names_nodes : (words : LandmarkWords) (nodes : ℕ) → ¬ IsWithin words nodes → NamesNodes words
@@ -26,6 +26,7 @@ names_nodes (Drawn seed) nodes lacks = lacks tt
 
 pub format_formats : (nodes : ℕ) (fault : Fault) → IsFormatFault nodes fault → EndsFormat nodes fault
 format_formats nodes told.DeviceFile is = tt
+format_formats nodes told.DeviceInUse is = tt
 format_formats nodes told.Output is = tt
 format_formats nodes told.NodeCount is = is
 format_formats nodes told.DeviceLength is = tt
@@ -34,6 +35,7 @@ format_formats nodes _ is = absurd is
 
 pub show_opens : (fault : Fault) → IsOpenFault fault → EndsShow fault
 show_opens told.DeviceFile is = tt
+show_opens told.DeviceInUse is = tt
 show_opens told.Output is = tt
 show_opens told.NotFormatted is = tt
 show_opens told.LayoutNotKnown is = tt
@@ -44,18 +46,21 @@ show_opens _ is = absurd is
 
 pub edit_edits : (fault : Fault) → IsEditFault fault → EndsEdit fault
 edit_edits told.DeviceFile is = tt
+edit_edits told.DeviceInUse is = tt
 edit_edits told.Output is = tt
 edit_edits told.NotFormatted is = tt
 edit_edits told.LayoutNotKnown is = tt
 edit_edits told.Damaged is = tt
 edit_edits told.Device is = tt
 edit_edits told.Memory is = tt
+edit_edits told.Internal is = tt
 edit_edits told.Worn is = tt
 edit_edits told.AlreadyIn is = tt
 edit_edits _ is = absurd is
 
 pub move_moves : (fault : Fault) → IsMoveFault fault → EndsMigrate fault
 move_moves told.DeviceFile is = tt
+move_moves told.DeviceInUse is = tt
 move_moves told.Output is = tt
 move_moves told.NotFormatted is = tt
 move_moves told.LayoutNotKnown is = tt
@@ -67,6 +72,7 @@ move_moves _ is = absurd is
 
 pub serve_serves : (fault : Fault) → IsServeFault fault → EndsServe fault
 serve_serves told.DeviceFile is = tt
+serve_serves told.DeviceInUse is = tt
 serve_serves told.Script is = tt
 serve_serves told.NotFormatted is = tt
 serve_serves told.LayoutNotKnown is = tt
@@ -75,6 +81,8 @@ serve_serves told.Words is = tt
 serve_serves told.Device is = tt
 serve_serves told.Worn is = tt
 serve_serves told.Memory is = tt
+serve_serves told.Internal is = tt
+serve_serves told.NoThread is = tt
 serve_serves told.Output is = tt
 serve_serves _ is = absurd is
 
@@ -83,6 +91,12 @@ serve_reads told.Script is = tt
 serve_reads told.Memory is = tt
 serve_reads told.Output is = tt
 serve_reads _ is = absurd is
+
+-- a file's fault may end a command that both of its faults may end
+pub of_file : (P : Fault → Type 0) (fault : Fault) → P told.DeviceFile → P told.DeviceInUse → IsFileFault fault → P fault
+of_file P told.DeviceFile file used is = file
+of_file P told.DeviceInUse file used is = used
+of_file P _ file used is = absurd is
 
 -- what isn't understood is no fault of an output
 pub never_output : (fault : Fault) → IsNotUnderstood fault → fault ≢ told.Output
@@ -113,19 +127,22 @@ route_opens words told.Device is = tt
 route_opens words told.Memory is = tt
 route_opens words _ is = absurd is
 
-pub check_asks : (words : LandmarkWords) (fault : Fault) → IsWordsOrMemory words fault → IsCheckDeviceFault words fault
+pub check_asks : (words : LandmarkWords) (fault : Fault) → IsQueryFault words fault → IsCheckDeviceFault words fault
 check_asks words told.Words is = is
 check_asks words told.Memory is = tt
+check_asks words told.NoThread is = tt
 check_asks words _ is = absurd is
 
 pub route_asks : (words : LandmarkWords) (fault : Fault) → IsRouteFault words fault → IsRouteDeviceFault words fault
 route_asks words told.NoNode is = tt
 route_asks words told.Words is = is
 route_asks words told.Memory is = tt
+route_asks words told.NoThread is = tt
 route_asks words _ is = absurd is
 
 pub check_ends : (words : LandmarkWords) (fault : Fault) → IsCheckDeviceFault words fault → EndsCheck words fault
 check_ends words told.DeviceFile is = tt
+check_ends words told.DeviceInUse is = tt
 check_ends words told.Output is = tt
 check_ends words told.Words is = is
 check_ends words told.NotFormatted is = tt
@@ -133,10 +150,12 @@ check_ends words told.LayoutNotKnown is = tt
 check_ends words told.Damaged is = tt
 check_ends words told.Device is = tt
 check_ends words told.Memory is = tt
+check_ends words told.NoThread is = tt
 check_ends words _ is = absurd is
 
 pub route_ends : (words : LandmarkWords) (fault : Fault) → IsRouteDeviceFault words fault → EndsRoute words fault
 route_ends words told.DeviceFile is = tt
+route_ends words told.DeviceInUse is = tt
 route_ends words told.Output is = tt
 route_ends words told.NoNode is = tt
 route_ends words told.Words is = is
@@ -145,24 +164,38 @@ route_ends words told.LayoutNotKnown is = tt
 route_ends words told.Damaged is = tt
 route_ends words told.Device is = tt
 route_ends words told.Memory is = tt
+route_ends words told.NoThread is = tt
 route_ends words _ is = absurd is
 
-pub words_of_route : (words : LandmarkWords) (fault : Fault) → IsWordsOrMemory words fault → IsRouteFault words fault
+pub thread_asks : (words : LandmarkWords) (fault : Fault) → IsThreadFault fault → IsQueryFault words fault
+thread_asks words told.Memory is = tt
+thread_asks words told.NoThread is = tt
+thread_asks words _ is = absurd is
+
+pub thread_routes : (words : LandmarkWords) (fault : Fault) → IsThreadFault fault → IsRouteFault words fault
+thread_routes words told.Memory is = tt
+thread_routes words told.NoThread is = tt
+thread_routes words _ is = absurd is
+
+pub words_of_route : (words : LandmarkWords) (fault : Fault) → IsQueryFault words fault → IsRouteFault words fault
 words_of_route words told.Words is = is
 words_of_route words told.Memory is = tt
+words_of_route words told.NoThread is = tt
 words_of_route words _ is = absurd is
 
 -- ---- the faults of words and queries tell nothing of a content
 
-pub words_tell : (words : LandmarkWords) (fault : Fault) (content : List ℕ) → IsWordsOrMemory words fault → TellsOf fault content
+pub words_tell : (words : LandmarkWords) (fault : Fault) (content : List ℕ) → IsQueryFault words fault → TellsOf fault content
 words_tell words told.Words content is = tt
 words_tell words told.Memory content is = tt
+words_tell words told.NoThread content is = tt
 words_tell words _ content is = absurd is
 
 pub route_tells : (words : LandmarkWords) (fault : Fault) (content : List ℕ) → IsRouteFault words fault → TellsOf fault content
 route_tells words told.NoNode content is = tt
 route_tells words told.Words content is = tt
 route_tells words told.Memory content is = tt
+route_tells words told.NoThread content is = tt
 route_tells words _ content is = absurd is
 
 -- ---- words that are no task

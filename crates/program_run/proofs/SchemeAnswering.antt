@@ -1,6 +1,5 @@
 -- What `route` and `check` answer of a graph.
 use Rattle.std.proofs.Common.{sym, subst, ◌≡◌, ℕ, ◌<◌, List, Option, Result, Ok, Err, IfOk, OnOk, IsErrAnd}
-use Rattle.std.specs.declared.alloc.AllocError.{AllocError}
 use Rattle.std.specs.Io.KnownBytes.{Appends}
 use Rattle.disk_trait.specs.Disk.{OnlyRead}
 use Rattle.recovery.specs.State.{State}
@@ -26,8 +25,8 @@ pub only_read : {D : Type 0} {V : _} → (disk back : D) (store : Store D V) →
 only_read {V = V} disk back store is reads = subst (λ d. OnlyRead (V.view disk) (V.view d)) (sym is) reads
 
 -- an answer by the words is one for what was asked
-pub route_of : (graph own : Network) (generation : ℕ) (asked : LandmarkWords) (words : List ℕ) (u v : ℕ) (answer : Result Route AllocError) → own ≡ graph → IsWithin asked graph.nodes
-    → AreWords asked graph.nodes words → u < graph.nodes → v < graph.nodes → IsRouteBy own words generation u v answer → IfOk answer (λ route. IsRouteOf graph generation asked u v route)
+pub route_of : (graph own : Network) (generation : ℕ) (asked : LandmarkWords) (words : List ℕ) (u v : ℕ) (answer : Result Route Fault) → own ≡ graph → IsWithin asked graph.nodes
+    → AreWords asked graph.nodes words → u < graph.nodes → v < graph.nodes → IfOk answer (λ route. IsRouteBy own words generation u v (Ok route)) → IfOk answer (λ route. IsRouteOf graph generation asked u v route)
 route_of graph own generation asked words u v (Ok route) same within are from to by =
     let is : IsRouteBy graph words generation u v (Ok route) = subst (λ g. IsRouteBy g words generation u v (Ok route)) same by in
     record {
@@ -41,8 +40,8 @@ route_of graph own generation asked words u v (Ok route) same within are from to
 route_of graph own generation asked words u v (Err e) same within are from to by = tt
 
 -- a check by the words is one for what was asked
-pub check_of : (graph own : Network) (generation : ℕ) (asked : LandmarkWords) (words : List ℕ) (answer : Result Checked AllocError) → own ≡ graph → IsWithin asked graph.nodes
-    → AreWords asked graph.nodes words → IsCheckAnswer own words generation answer → IfOk answer (λ checked. IsCheckOf graph generation asked checked)
+pub check_of : (graph own : Network) (generation : ℕ) (asked : LandmarkWords) (words : List ℕ) (answer : Result Checked Fault) → own ≡ graph → IsWithin asked graph.nodes
+    → AreWords asked graph.nodes words → IfOk answer (λ checked. IsCheckAnswer own words generation (Ok checked)) → IfOk answer (λ checked. IsCheckOf graph generation asked checked)
 check_of graph own generation asked words (Ok checked) same within are by =
     let is : IsCheckAnswer graph words generation (Ok checked) = subst (λ g. IsCheckAnswer g words generation (Ok checked)) same by in
     record { within = within; passes = is.passes; count = (words, (are, is.count)); scheme = (words, (are, is.scheme)) }

@@ -28,33 +28,44 @@ NamesNodes Greatest = ⊥
 NamesNodes (ZeroAt nodes) = Unit {0}
 NamesNodes (Drawn seed) = ⊥
 
+-- the faults of a file that is to be opened, made or locked
+abbrev pub IsFileFault : Fault → Type 0
+IsFileFault told.DeviceFile = Unit {0}
+IsFileFault told.DeviceInUse = Unit {0}
+IsFileFault fault = ⊥
+
 -- the faults that may end `format`
 abbrev pub EndsFormat : ℕ → Fault → Type 0
 EndsFormat nodes told.DeviceFile = Unit {0}
+EndsFormat nodes told.DeviceInUse = Unit {0}
 EndsFormat nodes told.Output = Unit {0}
 EndsFormat nodes fault = IsFormatFault nodes fault
 
 -- those that may end `show` and `resume`
 abbrev pub EndsShow : Fault → Type 0
 EndsShow told.DeviceFile = Unit {0}
+EndsShow told.DeviceInUse = Unit {0}
 EndsShow told.Output = Unit {0}
 EndsShow fault = IsOpenFault fault
 
 -- those that may end `edit`
 abbrev pub EndsEdit : Fault → Type 0
 EndsEdit told.DeviceFile = Unit {0}
+EndsEdit told.DeviceInUse = Unit {0}
 EndsEdit told.Output = Unit {0}
 EndsEdit fault = IsEditFault fault
 
 -- those that may end `migrate`
 abbrev pub EndsMigrate : Fault → Type 0
 EndsMigrate told.DeviceFile = Unit {0}
+EndsMigrate told.DeviceInUse = Unit {0}
 EndsMigrate told.Output = Unit {0}
 EndsMigrate fault = IsMoveFault fault
 
 -- the faults of a check of a device: the words are not understood only where they name nodes
 abbrev pub IsCheckDeviceFault : LandmarkWords → Fault → Type 0
 IsCheckDeviceFault words told.Words = NamesNodes words
+IsCheckDeviceFault words told.NoThread = Unit {0}
 IsCheckDeviceFault words fault = IsOpenFault fault
 
 -- and of a route on one
@@ -65,12 +76,14 @@ IsRouteDeviceFault words fault = IsCheckDeviceFault words fault
 -- those that may end `check`
 abbrev pub EndsCheck : LandmarkWords → Fault → Type 0
 EndsCheck words told.DeviceFile = Unit {0}
+EndsCheck words told.DeviceInUse = Unit {0}
 EndsCheck words told.Output = Unit {0}
 EndsCheck words fault = IsCheckDeviceFault words fault
 
 -- those that may end `route`
 abbrev pub EndsRoute : LandmarkWords → Fault → Type 0
 EndsRoute words told.DeviceFile = Unit {0}
+EndsRoute words told.DeviceInUse = Unit {0}
 EndsRoute words told.Output = Unit {0}
 EndsRoute words fault = IsRouteDeviceFault words fault
 
@@ -84,25 +97,33 @@ IsScriptFault fault = ⊥
 -- those that may end `serve`
 abbrev pub EndsServe : Fault → Type 0
 EndsServe told.DeviceFile = Unit {0}
+EndsServe told.DeviceInUse = Unit {0}
 EndsServe told.Script = Unit {0}
 EndsServe fault = IsServeFault fault
 
--- the faults of the words for a graph, and of a query under them
-abbrev pub IsWordsOrMemory : LandmarkWords → Fault → Type 0
-IsWordsOrMemory words told.Words = NamesNodes words
-IsWordsOrMemory words told.Memory = Unit {0}
-IsWordsOrMemory words fault = ⊥
+-- the faults of a query in a thread of its own
+abbrev pub IsThreadFault : Fault → Type 0
+IsThreadFault told.Memory = Unit {0}
+IsThreadFault told.NoThread = Unit {0}
+IsThreadFault fault = ⊥
+
+-- the faults of a query of a graph under landmark words
+abbrev pub IsQueryFault : LandmarkWords → Fault → Type 0
+IsQueryFault words told.Words = NamesNodes words
+IsQueryFault words told.Memory = Unit {0}
+IsQueryFault words told.NoThread = Unit {0}
+IsQueryFault words fault = ⊥
 
 -- and of a route between two nodes
 abbrev pub IsRouteFault : LandmarkWords → Fault → Type 0
 IsRouteFault words told.NoNode = Unit {0}
-IsRouteFault words fault = IsWordsOrMemory words fault
+IsRouteFault words fault = IsQueryFault words fault
 
 -- those that may end a task that is under way
 abbrev pub MayEnd : Task → Fault → Type 0
 MayEnd (Format device nodes) fault = EndsFormat nodes fault
 MayEnd (Show device) fault = EndsShow fault
-MayEnd (Edit device ticket change) fault = EndsEdit fault
+MayEnd (Edit device session ticket change) fault = EndsEdit fault
 MayEnd (Resume device session) fault = EndsShow fault
 MayEnd (Route device from to words) fault = EndsRoute words fault
 MayEnd (Check device words) fault = EndsCheck words fault

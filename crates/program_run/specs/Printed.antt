@@ -35,8 +35,8 @@ verdict_text (Refused op code) = refused_text op code
 abbrev pub PrintedFor : Task → Option (List ℕ) → Ended → Option (List ℕ) → Option (List ℕ) → Type 0
 PrintedFor (Format device nodes) given ended old new = (ended ≡ Done) × Appends old new (line (formatted_text nodes))
 PrintedFor (Show device) given ended old new = (ended ≡ Done) × (state : State) × Appends old new (listing_text state.count state.graph)
-PrintedFor (Edit device ticket change) given ended old new =
-    (state : State) × IsNew state ticket × (ended ≡ ended_by (verdict_of state change)) × Appends old new (line (verdict_text (verdict_of state change)))
+PrintedFor (Edit device session ticket change) given ended old new =
+    (state : State) × IsNew state session ticket × (ended ≡ ended_by (verdict_of state change)) × Appends old new (line (verdict_text (verdict_of state change)))
 PrintedFor (Resume device session) given ended old new = (ended ≡ Done) × (state : State) × Appends old new (line (ticket_text session (last_of state.tickets session)))
 PrintedFor (Route device from to words) given ended old new =
     (state : State) × (route : Found) × IsRouteOf state.graph state.count words from to route × (ended ≡ ended_along route) × Appends old new (line (answered_text state.count route))

@@ -2,14 +2,47 @@
 ghost use Rattle.std.specs.Prelude.{◌≡◌, IfOk, IfErr};
 ghost use Rattle.std.specs.FinMap.{len};
 ghost use Rattle.graph_edits.specs.Edges.{Network};
-ghost use Rattle.program_run.specs.Endings.{EndsFormat, EndsMigrate};
+ghost use Rattle.device_files.specs.DeviceFiles.{lock_of};
+ghost use Rattle.device_files.specs.declared.file.Lock.{Lock};
+ghost use Rattle.program_run.specs.Endings.{EndsFormat, EndsMigrate, IsFileFault};
 
-use disk_trait::FileDisk;
+use device_files::{DeviceFile, FileRefused};
 use migrate::Moved;
 use printed_lines::Fault;
-use std::fs::{File, OpenOptions};
-use std::io;
+use std::fs::File;
 use std::rt::Files;
+
+// What is told of a file that can't be had.
+fn fault_of(refused: FileRefused) -> Fault
+    ensures { IsFileFault result }
+{
+    match refused {
+        FileRefused::InUse => Fault::DeviceInUse,
+        FileRefused::Unusable => Fault::DeviceFile,
+    }
+}
+
+/// Opens a device's file to change it. No other command has it open meanwhile.
+pub(crate) fn open_file<R: Files<File = File>>(files: &R, path: &str) -> Result<DeviceFile, Fault>
+    ensures alone { IfOk result (λ file. lock_of file ≡ Lock.Alone) }
+    ensures fault { IfErr result IsFileFault }
+{
+    match DeviceFile::open(files, path) {
+        Ok(file) => Ok(file),
+        Err(refused) => Err(fault_of(refused)),
+    }
+}
+
+/// Opens a device's file to read it. No command that changes it has it open meanwhile.
+pub(crate) fn read_file<R: Files<File = File>>(files: &R, path: &str) -> Result<DeviceFile, Fault>
+    ensures shared { IfOk result (λ file. lock_of file ≡ Lock.Shared) }
+    ensures fault { IfErr result IsFileFault }
+{
+    match DeviceFile::open_to_read(files, path) {
+        Ok(file) => Ok(file),
+        Err(refused) => Err(fault_of(refused)),
+    }
+}
 
 /// Makes a file anew, and formats it for so many nodes.
 pub(crate) fn format_file<R: Files<File = File>>(
@@ -19,10 +52,21 @@ pub(crate) fn format_file<R: Files<File = File>>(
 ) -> Result<(), Fault>
     ensures { IfErr result (λ fault. EndsFormat nodes fault) }
 {
-    let Ok(mut disk) = make_file(files, path) else {
-        return Err(Fault::DeviceFile);
-    };
-    device_commands::format(&mut disk, nodes)
+    match DeviceFile::make(files, path, checkpoint::DEVICE_LEN) {
+        Ok(mut file) => device_commands::format(&mut file, nodes),
+        Err(refused) => Err(fault_of(refused)),
+    }
+}
+
+// Makes a device's file where nothing stands yet.
+fn new_file<R: Files<File = File>>(files: &R, path: &str) -> Result<DeviceFile, Fault>
+    ensures alone { IfOk result (λ file. lock_of file ≡ Lock.Alone) }
+    ensures fault { IfErr result IsFileFault }
+{
+    match DeviceFile::make_new(files, path, checkpoint::DEVICE_LEN) {
+        Ok(file) => Ok(file),
+        Err(refused) => Err(fault_of(refused)),
+    }
 }
 
 /// Makes a file that isn't there yet, and brings the device of another one, of layout 1, over to it. That one is opened first, and
@@ -35,54 +79,7 @@ pub(crate) fn migrate_file<R: Files<File = File> + AllocGlobal>(
     ensures moved { IfOk result (λ moved. (graph : Network) × (moved.edges ≡ len graph.edges)) }
     ensures fault { IfErr result (λ fault. EndsMigrate fault) }
 {
-    let Ok(mut from) = read_file(rt, old) else {
-        return Err(Fault::DeviceFile);
-    };
-    let Ok(mut to) = make_new_file(rt, new) else {
-        return Err(Fault::DeviceFile);
-    };
+    let mut from = read_file(rt, old)?;
+    let mut to = new_file(rt, new)?;
     device_commands::migrate(rt.alloc(), &mut from, &mut to)
-}
-
-// A device's file, in the place of what stands there.
-fn make_file<R: Files<File = File>>(files: &R, path: &str) -> io::Result<FileDisk> {
-    let file = OpenOptions::new()
-        .read(true)
-        .write(true)
-        .create(true)
-        .truncate(true)
-        .open(files, path)?;
-    of_zeros(file)
-}
-
-// A device's file, where nothing stands yet.
-fn make_new_file<R: Files<File = File>>(files: &R, path: &str) -> io::Result<FileDisk> {
-    let file = OpenOptions::new()
-        .read(true)
-        .write(true)
-        .create_new(true)
-        .open(files, path)?;
-    of_zeros(file)
-}
-
-// An empty file, with as many zero bytes as a device has.
-fn of_zeros(file: File) -> io::Result<FileDisk> {
-    file.set_len(checkpoint::DEVICE_LEN as u64)?;
-    FileDisk::new(file)
-}
-
-// The disk of a file that nothing is written to.
-fn read_file<R: Files<File = File>>(files: &R, path: &str) -> io::Result<FileDisk> {
-    let file = OpenOptions::new().read(true).open(files, path)?;
-    FileDisk::new(file)
-}
-
-/// The disk of a file.
-pub(crate) fn open_file<R: Files<File = File>>(files: &R, path: &str) -> Result<FileDisk, Fault>
-    ensures { IfErr result (λ fault. fault ≡ Fault.DeviceFile) }
-{
-    match FileDisk::open(files, path) {
-        Ok(disk) => Ok(disk),
-        Err(_) => Err(Fault::DeviceFile),
-    }
 }

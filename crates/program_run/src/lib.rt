@@ -4,7 +4,7 @@
 //! |---|---|---|
 //! | `format DEVICE N` | the file is made anew, and formatted for N nodes | `formatted nodes=N` |
 //! | `show DEVICE` | the device is opened | `count=C edges=E`, then `a b w` for each edge |
-//! | `edit DEVICE OP.. --ticket T` | one change of all OPs, whole or not at all, under ticket T of session 0 or the next one | `accepted count=C` or `refused op=I code=K` |
+//! | `edit DEVICE OP.. --session S --ticket T` | one change of all OPs, whole or not at all, under ticket T of session S or the next one; without S, of session 0 | `accepted count=C` or `refused op=I code=K` |
 //! | `resume DEVICE S` | the device is opened | `session=S ticket=T`, the last ticket of session S |
 //! | `route DEVICE FROM TO --words W` | a packet is carried by the scheme that these words give | `generation=G route 0 1 2 length L` or `generation=G unreachable` |
 //! | `check DEVICE --words W` | the scheme that these words give is built and checked | `ok generation=G landmarks=K` or `fault K4` |

@@ -1,9 +1,11 @@
 //! What a graph answers under landmark words, each question in a thread of its own: trees are as deep as a graph has nodes.
-ghost use Rattle.std.specs.Prelude.{◌≡◌, ◌<◌, length};
+ghost use Rattle.std.specs.Prelude.{◌≡◌, ◌<◌, length, IfOk, IfErr, Ok};
 ghost use Rattle.scheme_queries.specs.Queries.{IsCheckAnswer};
+ghost use Rattle.program_run.specs.Endings.{IsThreadFault};
 ghost use Rattle.program_run.specs.SchemeAnswers.{IsRouteBy};
 
 use graph_edits::Graph;
+use printed_lines::Fault;
 use scheme_queries::{Checked, Route, carry_packet, check_scheme};
 use std::alloc::{AllocError, Global};
 use std::snapshot::Snapshot;
@@ -42,7 +44,7 @@ impl Promise<Result<Checked, AllocError>> for CheckPromise {
     ghost kept_by = { λ p r. IsCheckAnswer p.graph.value p.words.value.items p.generation r };
 }
 
-/// Carries a packet in a graph, in a thread of its own. Where no thread can be made, memory has run out.
+/// Carries a packet in a graph, in a thread of its own.
 pub(crate) fn route_in_thread<R: Threads>(
     rt: &R,
     alloc: Global,
@@ -51,11 +53,12 @@ pub(crate) fn route_in_thread<R: Threads>(
     generation: u64,
     from: u16,
     to: u16,
-) -> Result<Route, AllocError>
+) -> Result<Route, Fault>
     requires words { length words.items ≡ graph.nodes }
     requires from { from < graph.nodes }
     requires to { to < graph.nodes }
-    ensures { IsRouteBy graph words.items generation from to result }
+    ensures route { IfOk result (λ route. IsRouteBy graph words.items generation from to (Ok route)) }
+    ensures fault { IfErr result (λ fault. IsThreadFault fault) }
 {
     let promise = RoutePromise {
         graph: Snapshot::of(&graph),
@@ -74,21 +77,22 @@ pub(crate) fn route_in_thread<R: Threads>(
         .stack_size(STACK_LEN)
         .spawn_with(rt, promise, job)
     {
-        Ok(thread) => thread.join(rt),
-        Err(_) => Err(AllocError),
+        Ok(thread) => Ok(thread.join(rt)?),
+        Err(_) => Err(Fault::NoThread),
     }
 }
 
-/// Checks the scheme of a graph, in a thread of its own. Where no thread can be made, memory has run out.
+/// Checks the scheme of a graph, in a thread of its own.
 pub(crate) fn check_in_thread<R: Threads>(
     rt: &R,
     alloc: Global,
     graph: Graph,
     words: Vec<u64>,
     generation: u64,
-) -> Result<Checked, AllocError>
+) -> Result<Checked, Fault>
     requires { length words.items ≡ graph.nodes }
-    ensures { IsCheckAnswer graph words.items generation result }
+    ensures checked { IfOk result (λ checked. IsCheckAnswer graph words.items generation (Ok checked)) }
+    ensures fault { IfErr result (λ fault. IsThreadFault fault) }
 {
     let promise = CheckPromise {
         graph: Snapshot::of(&graph),
@@ -103,7 +107,7 @@ pub(crate) fn check_in_thread<R: Threads>(
         .stack_size(STACK_LEN)
         .spawn_with(rt, promise, job)
     {
-        Ok(thread) => thread.join(rt),
-        Err(_) => Err(AllocError),
+        Ok(thread) => Ok(thread.join(rt)?),
+        Err(_) => Err(Fault::NoThread),
     }
 }

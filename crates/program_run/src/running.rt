@@ -9,6 +9,9 @@ ghost use Rattle.printed_lines.specs.Faults.{IsNotUnderstood, status_of};
 ghost use Rattle.printed_lines.specs.Lines.{formatted_text, listing_text, line, migrated_text, ticket_text};
 ghost use Rattle.printed_lines.specs.declared.fault.Fault.{Fault};
 ghost use Rattle.device_commands.specs.Answer.{IsNew, verdict_of};
+ghost use Rattle.device_commands.specs.Openings.{IsEditFault};
+ghost use Rattle.device_files.specs.DeviceFiles.{lock_of};
+ghost use Rattle.device_files.specs.declared.file.Lock.{Lock};
 ghost use Rattle.asked_tasks.specs.Asked.{IsAskedFor, IsInRange};
 ghost use Rattle.asked_tasks.specs.declared.task.Task.{Task};
 ghost use Rattle.program_run.specs.Endings.{EndsEdit, EndsFormat, EndsMigrate, EndsShow, IsFaultFor, MayEnd, words_fault};
@@ -16,11 +19,12 @@ ghost use Rattle.program_run.specs.Outcomes.{IsOutcome};
 ghost use Rattle.program_run.specs.Printed.{AnswersWords, ended_by, verdict_text};
 ghost use Rattle.program_run.specs.ServedScripts.{AskService};
 
-use crate::files::{format_file, migrate_file, open_file};
+use crate::files::{format_file, migrate_file, open_file, read_file};
 use crate::outcome::Outcome;
 use crate::scheme_tasks::{run_check, run_route};
 use crate::service::run_serve;
 use asked_tasks::{Task, WordsRefused, understood};
+use device_files::DeviceFile;
 use generations::Verdict;
 use graph_edits::Change;
 use printed_lines::{
@@ -91,10 +95,11 @@ where
         Ok(
             Task::Edit {
                 device,
+                session,
                 ticket,
                 change,
             },
-        ) => run_edit(rt, device, ticket, change, out),
+        ) => run_edit(rt, device, session, ticket, change, out),
         Ok(Task::Resume { device, session }) => run_resume(rt, device, session, out),
         Ok(
             Task::Route {
@@ -160,15 +165,32 @@ where
     ensures fault { IfErr result EndsShow }
     ensures untouched { IfErr result (λ fault. fault ≢ Fault.Output → out.new ≡ out.old) }
 {
-    let (answer, _) = device_commands::listing(rt.alloc(), open_file(rt, device)?);
+    let (answer, _) = device_commands::listing(rt.alloc(), read_file(rt, device)?);
     let text = answer?;
     print_text(out, text.as_str())?;
     Ok(Ended::Done)
 }
 
+// Makes one change of a device whose file no other command has open.
+fn edit_alone<R: Threads + Wait + Sync + AllocGlobal>(
+    rt: &R,
+    file: DeviceFile,
+    session: u8,
+    ticket: Option<u64>,
+    change: Change,
+) -> Result<Verdict, Fault>
+    requires alone { lock_of file ≡ Lock.Alone }
+    requires there { session < sessions }
+    ensures verdict { IfOk result (λ verdict. (state : State) × IsNew state session ticket × (verdict ≡ verdict_of state change)) }
+    ensures fault { IfErr result (λ fault. IsEditFault fault) }
+{
+    device_commands::edit(rt, rt.alloc(), file, session, ticket, change).0
+}
+
 fn run_edit<R, O>(
     rt: &R,
     device: &str,
+    session: u8,
     ticket: Option<u64>,
     change: Change,
     out: &mut O,
@@ -176,11 +198,12 @@ fn run_edit<R, O>(
 where
     R: Files<File = File> + AllocGlobal + Threads + Wait + Sync,
     O: Write,
-    ensures printed { IfOk result (λ ended. (state : State) × IsNew state ticket × (ended ≡ ended_by (verdict_of state change)) × Appends (O.contents out.old) (O.contents out.new) (line (verdict_text (verdict_of state change)))) }
+    requires { session < sessions }
+    ensures printed { IfOk result (λ ended. (state : State) × IsNew state session ticket × (ended ≡ ended_by (verdict_of state change)) × Appends (O.contents out.old) (O.contents out.new) (line (verdict_text (verdict_of state change)))) }
     ensures fault { IfErr result EndsEdit }
     ensures untouched { IfErr result (λ fault. fault ≢ Fault.Output → out.new ≡ out.old) }
 {
-    let (answer, _) = device_commands::edit(rt, rt.alloc(), open_file(rt, device)?, ticket, change);
+    let answer = edit_alone(rt, open_file(rt, device)?, session, ticket, change);
     print_verdict(out, answer?)
 }
 
@@ -193,7 +216,7 @@ where
     ensures fault { IfErr result EndsShow }
     ensures untouched { IfErr result (λ fault. fault ≢ Fault.Output → out.new ≡ out.old) }
 {
-    let (answer, _) = device_commands::resume(rt.alloc(), open_file(rt, device)?, session);
+    let (answer, _) = device_commands::resume(rt.alloc(), read_file(rt, device)?, session);
     let ticket = answer?;
     print_line(out, TicketLine { session, ticket })?;
     Ok(Ended::Done)

@@ -8,10 +8,10 @@ ghost use Rattle.checkpoint.specs.StoreWords.{state_of};
 ghost use Rattle.given_words.specs.Words.{AreWords, IsWithin};
 ghost use Rattle.printed_lines.specs.Lines.{line};
 ghost use Rattle.device_commands.specs.Openings.{TellsOf};
-ghost use Rattle.program_run.specs.Endings.{EndsCheck, EndsRoute, IsCheckDeviceFault, IsRouteDeviceFault, IsRouteFault, IsWordsOrMemory};
+ghost use Rattle.program_run.specs.Endings.{EndsCheck, EndsRoute, IsCheckDeviceFault, IsRouteDeviceFault, IsRouteFault, IsQueryFault};
 ghost use Rattle.program_run.specs.SchemeAnswers.{IsRouteOf, IsCheckOf, answered_text, checks_text, ended_along, ended_at};
 
-use crate::files::open_file;
+use crate::files::read_file;
 use crate::routing::{check_in_thread, route_in_thread};
 use checkpoint::{Store, standing_law};
 use device_commands::open;
@@ -33,7 +33,7 @@ fn words_of(alloc: Global, graph: &Graph, asked: &LandmarkWords) -> Result<Vec<u
     ensures within { IfOk result (λ _. IsWithin asked.now graph.now.nodes) }
     ensures words { IfOk result (λ words. AreWords asked.now graph.now.nodes words.items) }
     ensures not_within { IsErrOf result Fault.Words → ¬ IsWithin asked.now graph.now.nodes }
-    ensures fault { IfErr result (λ fault. IsWordsOrMemory asked.now fault) }
+    ensures fault { IfErr result (λ fault. IsQueryFault asked.now fault) }
 {
     let nodes = graph.nodes();
     if !asked.is_within(nodes) {
@@ -63,7 +63,7 @@ fn route_in_graph<R: Threads + AllocGlobal>(
         return Err(Fault::NoNode);
     }
     let own = graph.try_clone(alloc)?;
-    Ok(route_in_thread(rt, alloc, own, words, generation, from, to)?)
+    route_in_thread(rt, alloc, own, words, generation, from, to)
 }
 
 /// What the checks say of the scheme of a graph.
@@ -75,12 +75,12 @@ fn check_in_graph<R: Threads + AllocGlobal>(
 ) -> Result<Checked, Fault>
     ensures check { IfOk result (λ checked. IsCheckOf graph.now generation asked.now checked) }
     ensures not_within { IsErrOf result Fault.Words → ¬ IsWithin asked.now graph.now.nodes }
-    ensures fault { IfErr result (λ fault. IsWordsOrMemory asked.now fault) }
+    ensures fault { IfErr result (λ fault. IsQueryFault asked.now fault) }
 {
     let alloc = rt.alloc();
     let words = words_of(alloc, graph, asked)?;
     let own = graph.try_clone(alloc)?;
-    Ok(check_in_thread(rt, alloc, own, words, generation)?)
+    check_in_thread(rt, alloc, own, words, generation)
 }
 
 // The generation of a store's graph, and what becomes of a packet in it.
@@ -142,7 +142,7 @@ fn check_in_store<R: Threads + AllocGlobal, D: Disk>(
 ) -> Result<(u64, Checked), Fault>
     ensures answer { IfOk result (λ answer. (answer.0 ≡ (state_of store.now).count) × IsCheckOf (state_of store.now).graph (state_of store.now).count asked.now answer.1) }
     ensures not_within { IsErrOf result Fault.Words → ¬ IsWithin asked.now (state_of store.now).graph.nodes }
-    ensures fault { IfErr result (λ fault. IsWordsOrMemory asked.now fault) }
+    ensures fault { IfErr result (λ fault. IsQueryFault asked.now fault) }
 {
     let generation = store.count();
     let checked = check_in_graph(rt, store.graph(), generation, asked)?;
@@ -190,7 +190,7 @@ where
     ensures fault { IfErr result (λ fault. EndsRoute asked.now fault) }
     ensures untouched { IfErr result (λ fault. fault ≢ Fault.Output → out.new ≡ out.old) }
 {
-    let (answer, _) = route_device(rt, open_file(rt, device)?, asked, from, to);
+    let (answer, _) = route_device(rt, read_file(rt, device)?, asked, from, to);
     let (generation, route) = answer?;
     print_route(out, generation, &route)
 }
@@ -233,7 +233,7 @@ where
     ensures fault { IfErr result (λ fault. EndsCheck asked.now fault) }
     ensures untouched { IfErr result (λ fault. fault ≢ Fault.Output → out.new ≡ out.old) }
 {
-    let (answer, _) = check_device(rt, open_file(rt, device)?, asked);
+    let (answer, _) = check_device(rt, read_file(rt, device)?, asked);
     let (generation, checked) = answer?;
     print_check(out, generation, checked.landmarks, checked.fault)
 }

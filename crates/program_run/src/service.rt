@@ -1,14 +1,17 @@
 //! The command `serve`.
-ghost use Rattle.std.specs.Prelude.{◌≡◌, ◌≢◌, List, IfOk, IfErr};
+ghost use Rattle.std.specs.Prelude.{◌≡◌, ◌≢◌, List, IfOk, IfErr, OnOk};
 ghost use Rattle.printed_lines.specs.declared.fault.Fault.{Fault};
 ghost use Rattle.scripts.specs.Scripts.{AreOfSessions};
 ghost use Rattle.scripts.specs.declared.line.ScriptLine.{ScriptLine};
 ghost use Rattle.serving.specs.Seating.{AreSeats};
-ghost use Rattle.served_lines.specs.ServedLines.{IsServed};
+ghost use Rattle.device_files.specs.DeviceFiles.{lock_of};
+ghost use Rattle.device_files.specs.declared.file.Lock.{Lock};
+ghost use Rattle.served_lines.specs.ServedLines.{IsServed, IsServeFault};
 ghost use Rattle.program_run.specs.Endings.{EndsServe, IsScriptFault};
 ghost use Rattle.program_run.specs.ServedScripts.{IsScriptOf};
 
 use crate::files::open_file;
+use device_files::DeviceFile;
 use given_words::LandmarkWords;
 use printed_lines::{Ended, Fault};
 use scripts::{ScriptLine, script};
@@ -71,8 +74,29 @@ where
     ensures untouched { IfErr result (λ fault. fault ≢ Fault.Output → out.new ≡ out.old) }
 {
     let lines = read_script(rt.alloc(), script, seats.editors)?;
-    let disk = open_file(rt, device)?;
-    let (served, _) = serve_lines(rt, rt.alloc(), disk, words, seats, lines, &Ungated, out);
-    served?;
+    let file = open_file(rt, device)?;
+    serve_alone(rt, file, words, seats, lines, out)?;
     Ok(Ended::Done)
+}
+
+// Runs a script on a device whose file no other command has open, and prints a line for each of its lines.
+fn serve_alone<R, O>(
+    rt: &R,
+    file: DeviceFile,
+    words: LandmarkWords,
+    seats: Seats,
+    lines: Vec<ScriptLine>,
+    out: &mut O,
+) -> Result<(), Fault>
+where
+    R: AllocGlobal + Threads + Wait + Sync,
+    O: Write,
+    requires alone { lock_of file ≡ Lock.Alone }
+    requires seats { AreSeats seats }
+    requires sessions { AreOfSessions seats.editors lines.items }
+    ensures printed { OnOk result (IsServed lines.items (O.contents out.old) (O.contents out.new)) }
+    ensures fault { IfErr result (λ fault. IsServeFault fault) }
+    ensures untouched { IfErr result (λ fault. fault ≢ Fault.Output → out.new ≡ out.old) }
+{
+    serve_lines(rt, rt.alloc(), file, words, seats, lines, &Ungated, out).0
 }

@@ -258,6 +258,10 @@ const NO_DEVICE: &str = "show @ -> 1 tznode: device file cannot be used
 edit @ add:0:1:1 -> 1 tznode: device file cannot be used
 resume @ 0 -> 1 tznode: device file cannot be used";
 
+const READABLE: &str = "show @ -> 1 tznode: not formatted
+edit @ add:0:1:1 -> 1 tznode: device file cannot be used
+resume @ 0 -> 1 tznode: not formatted";
+
 const NO_FORMAT: &str = "format @ 5 -> 1 tznode: device file cannot be used";
 
 // It can't be made longer, and has no sync.
@@ -285,9 +289,9 @@ fn paths_that_are_no_device(rt: HostRuntime) {
     expect_no_file(&rt, folder.as_str());
     expect_no_file(&rt, device_in(&rt, absent.as_str()).as_str());
     expect_no_file(&rt, device_in(&rt, plain.as_str()).as_str());
-    // What is only opened isn't made. A program that runs can't be written, whoever runs it.
+    // What is only opened isn't made. A program that runs can be read, and can't be written, whoever runs it.
     expect_script(&rt, absent.as_str(), NO_DEVICE);
-    expect_script(&rt, "/proc/self/exe", NO_DEVICE);
+    expect_script(&rt, "/proc/self/exe", READABLE);
     let there = got(&rt, fs::exists(&rt, absent.as_str()));
     same(&rt, there, false, "a file that is only opened");
     expect_script(&rt, "/dev/null", NULL_DEVICE);

@@ -31,8 +31,8 @@ fn put(rt: &impl Abort, disk: &mut MemDisk, at: usize, bytes: &[u8]) {
     got(rt, disk.write_at(at, bytes));
 }
 
-// One op under a ticket or the next one, and what is answered.
-type Step = (Option<u64>, Op, Result<Verdict, Fault>);
+// A session's op under a ticket or the next one, and what is answered.
+type Step = (u8, Option<u64>, Op, Result<Verdict, Fault>);
 
 const THERE: Result<Verdict, Fault> = Ok(Verdict::Refused {
     op: 0,
@@ -41,60 +41,92 @@ const THERE: Result<Verdict, Fault> = Ok(Verdict::Refused {
 
 const MOST: u64 = 9_223_372_036_854_775_807;
 
-const TICKETS: [Step; 10] = [
-    (Some(0), Op::Add(0, 1, 1), Err(Fault::AlreadyIn)),
+const TICKETS: [Step; 14] = [
+    (0, Some(0), Op::Add(0, 1, 1), Err(Fault::AlreadyIn)),
     (
+        0,
         Some(5),
         Op::Add(0, 1, 1),
         Ok(Verdict::Accepted { count: 1 }),
     ),
-    (Some(5), Op::Add(1, 2, 1), Err(Fault::AlreadyIn)),
-    (Some(6), Op::Add(0, 1, 1), THERE),
+    (0, Some(5), Op::Add(1, 2, 1), Err(Fault::AlreadyIn)),
+    (0, Some(6), Op::Add(0, 1, 1), THERE),
     (
+        0,
         Some(6),
         Op::Set(0, 1, 2),
         Ok(Verdict::Accepted { count: 2 }),
     ),
-    (None, Op::Set(0, 1, 3), Ok(Verdict::Accepted { count: 3 })),
-    (Some(7), Op::Set(0, 1, 4), Err(Fault::AlreadyIn)),
-    (Some(MOST + 1), Op::Set(0, 1, 4), Err(Fault::Worn)),
     (
-        Some(MOST),
-        Op::Set(0, 1, 4),
+        0,
+        None,
+        Op::Set(0, 1, 3),
+        Ok(Verdict::Accepted { count: 3 }),
+    ),
+    (0, Some(7), Op::Set(0, 1, 4), Err(Fault::AlreadyIn)),
+    // Each session has tickets of its own.
+    (
+        63,
+        Some(7),
+        Op::Set(0, 1, 5),
         Ok(Verdict::Accepted { count: 4 }),
     ),
-    (None, Op::Set(0, 1, 5), Err(Fault::Worn)),
+    (63, Some(7), Op::Set(0, 1, 6), Err(Fault::AlreadyIn)),
+    (
+        9,
+        None,
+        Op::Set(0, 1, 7),
+        Ok(Verdict::Accepted { count: 5 }),
+    ),
+    (9, Some(1), Op::Set(0, 1, 8), Err(Fault::AlreadyIn)),
+    (0, Some(MOST + 1), Op::Set(0, 1, 4), Err(Fault::Worn)),
+    (
+        0,
+        Some(MOST),
+        Op::Set(0, 1, 4),
+        Ok(Verdict::Accepted { count: 6 }),
+    ),
+    (0, None, Op::Set(0, 1, 5), Err(Fault::Worn)),
 ];
 
 // What an edit answers, and the device that it leaves.
 fn after_step<R: AllocGlobal + Abort + Threads + Wait + Sync>(
     rt: &R,
     disk: MemDisk,
+    session: u8,
     ticket: Option<u64>,
     op: Op,
 ) -> (Result<Verdict, Fault>, MemDisk) {
-    edit(rt, rt.alloc(), disk, ticket, got(rt, Change::new(&[op])))
+    if session > 63 {
+        panic!(rt; "no session");
+    }
+    let change = got(rt, Change::new(&[op]));
+    edit(rt, rt.alloc(), disk, session, ticket, change)
 }
 
 // A ticket is taken once, and only where its change is accepted.
 #[test]
 fn tickets(rt: HostRuntime) {
     let mut disk = fresh(&rt);
-    for (ticket, op, want) in &TICKETS {
-        let (answer, left) = after_step(&rt, disk, *ticket, *op);
+    for (session, ticket, op, want) in &TICKETS {
+        let (answer, left) = after_step(&rt, disk, *session, *ticket, *op);
         same(&rt, answer, *want, "a step");
         disk = left;
     }
     let (last, left) = resume(rt.alloc(), disk, 0);
     same(&rt, last, Ok(MOST), "session 0");
-    let (none, left) = resume(rt.alloc(), left, 63);
-    same(&rt, none, Ok(0), "session 63");
+    let (other, left) = resume(rt.alloc(), left, 63);
+    same(&rt, other, Ok(7), "session 63");
+    let (named, left) = resume(rt.alloc(), left, 9);
+    same(&rt, named, Ok(1), "session 9");
+    let (none, left) = resume(rt.alloc(), left, 62);
+    same(&rt, none, Ok(0), "session 62");
     let (text, _) = listing(rt.alloc(), left);
     let text = got(&rt, text);
     same(
         &rt,
         text.as_str(),
-        "count=4 edges=1\n0 1 4\n",
+        "count=6 edges=1\n0 1 4\n",
         "the listing",
     );
 }

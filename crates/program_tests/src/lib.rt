@@ -2,7 +2,7 @@
 //!
 //! There is nothing here but tests: so the crates below are proved once in the gate, and not again with their tests. Each command's
 //! texts and status, the bytes of devices, files that are no device, numbers at their limit, outputs and inputs that fail, routes and
-//! checks, devices of layout 1 that are brought over, and scripts of services. Expected texts and bytes are written out from the
+//! checks, devices of layout 1 that are brought over, devices that another program holds, and scripts of services. Expected texts and bytes are written out from the
 //! tables of docs/FORMATS.md, and lines are worked out by hand.
 #![tactic(auto)]
 
@@ -12,6 +12,8 @@ mod commands;
 mod devices;
 #[cfg(test)]
 mod helpers;
+#[cfg(test)]
+mod locks;
 #[cfg(test)]
 mod migrations;
 #[cfg(test)]

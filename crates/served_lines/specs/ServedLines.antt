@@ -43,6 +43,8 @@ told_fault why.Device = told.Device
 told_fault why.Worn = told.Worn
 told_fault why.Memory = told.Memory
 told_fault why.Board = told.Memory
+told_fault why.NoThread = told.NoThread
+told_fault why.Internal = told.Internal
 
 -- the faults of a service
 abbrev pub IsServeFault : Fault → Type 0
@@ -53,6 +55,8 @@ IsServeFault told.Words = Unit {0}
 IsServeFault told.Device = Unit {0}
 IsServeFault told.Worn = Unit {0}
 IsServeFault told.Memory = Unit {0}
+IsServeFault told.NoThread = Unit {0}
+IsServeFault told.Internal = Unit {0}
 IsServeFault told.Output = Unit {0}
 IsServeFault fault = ⊥
 

@@ -32,6 +32,8 @@ fn fault_of(fault: serving::Fault) -> Fault
         serving::Fault::Device => Fault::Device,
         serving::Fault::Worn => Fault::Worn,
         serving::Fault::Memory | serving::Fault::Board => Fault::Memory,
+        serving::Fault::NoThread => Fault::NoThread,
+        serving::Fault::Internal => Fault::Internal,
     }
 }
 

@@ -32,6 +32,8 @@ later_tell fault.Device content is = tt
 later_tell fault.Worn content is = tt
 later_tell fault.Memory content is = tt
 later_tell fault.Board content is = tt
+later_tell fault.NoThread content is = tt
+later_tell fault.Internal content is = tt
 later_tell _ content is = absurd is
 
 pub later_tells : {T : Type 0} (r : Result T Fault) (content : List ℕ) → IfErr r (λ f. IsLater f) → IfErr r (λ f. TellsOf f content)
@@ -45,6 +47,8 @@ later_word fault.Device P is same = absurd (cc)
 later_word fault.Worn P is same = absurd (cc)
 later_word fault.Memory P is same = absurd (cc)
 later_word fault.Board P is same = absurd (cc)
+later_word fault.NoThread P is same = absurd (cc)
+later_word fault.Internal P is same = absurd (cc)
 later_word _ P is same = absurd is
 
 pub later_words : {T : Type 0} (r : Result T Fault) (P : Type 0) → IfErr r (λ f. IsLater f) → IfErr r (λ f. f ≡ fault.Words → P)

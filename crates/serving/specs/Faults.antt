@@ -10,7 +10,7 @@ use Rattle.committer.specs.declared.refused.RoundRefused.TheVariants as rounds
 use Rattle.committer.specs.declared.refused.RebuildRefused.{RebuildRefused}
 use Rattle.committer.specs.declared.refused.RebuildRefused.TheVariants as rebuilds
 use Rattle.serving.specs.declared.fault.Fault.{Fault}
-use Rattle.serving.specs.declared.fault.Fault.TheVariants.{NotFormatted, BadVersion, Damaged, Device, Worn, Memory, Board}
+use Rattle.serving.specs.declared.fault.Fault.TheVariants.{NotFormatted, BadVersion, Damaged, Device, Worn, Memory, Board, NoThread, Internal}
 use Rattle.serving.specs.declared.halt.Halt.{Halt}
 use Rattle.serving.specs.declared.halt.Halt.TheVariants as halt
 
@@ -28,6 +28,8 @@ halt_fault halt.Device = Device
 halt_fault halt.Worn = Worn
 halt_fault halt.Memory = Memory
 halt_fault halt.Board = Board
+halt_fault halt.NoThread = NoThread
+halt_fault halt.Internal = Internal
 
 -- why threads stop at a round
 abbrev pub round_halt : RoundRefused → Halt
@@ -56,4 +58,6 @@ IsLater Device = Unit {0}
 IsLater Worn = Unit {0}
 IsLater Memory = Unit {0}
 IsLater Board = Unit {0}
+IsLater NoThread = Unit {0}
+IsLater Internal = Unit {0}
 IsLater fault = ⊥

@@ -111,7 +111,10 @@ fn settled<J: Naming, R: Wait>(rt: &R, meeting: &Meeting<J>, editor: &mut Editor
                 });
             }
             Ok(Outcome::Waiting) | Ok(Outcome::Down) => meeting.await_news(rt, news.turn),
-            Ok(Outcome::Nothing) => return None,
+            Ok(Outcome::Nothing) => {
+                meeting.stop(rt, Halt::Internal);
+                return None;
+            }
             Err(_) => thread::yield_now(),
         }
     }

@@ -20,10 +20,14 @@ pub enum Fault {
     Device,
     /// The count, the epoch or a session's ticket stands at its limit.
     Worn,
-    /// Memory ran out, or no thread could be made.
+    /// Memory ran out.
     Memory,
     /// The board took no posting.
     Board,
+    /// The system made no thread.
+    NoThread,
+    /// Two parts of the service disagree. No run is known that ends so.
+    Internal,
 }
 
 impl From<OpenRefused> for Fault {
@@ -53,6 +57,8 @@ impl From<Halt> for Fault {
             Halt::Worn => Fault::Worn,
             Halt::Memory => Fault::Memory,
             Halt::Board => Fault::Board,
+            Halt::NoThread => Fault::NoThread,
+            Halt::Internal => Fault::Internal,
         }
     }
 }

@@ -5,6 +5,7 @@ use crate::gate::Gate;
 use crate::halt::Halt;
 use crate::meeting::Meeting;
 use crate::told::Naming;
+use built_schemes::length_over;
 use forwarders::{Forwarder, Refused};
 use generations::BoardReader;
 use node_table::{Move, Packet};
@@ -24,10 +25,17 @@ pub struct Trip {
 /// What became of a packet.
 #[derive(Drop)]
 pub enum Carried {
-    /// It went over these nodes, its first and last among them, in this generation alone.
-    Along { generation: u64, nodes: Vec<u16> },
+    /// It went over these nodes, its first and last among them, in this generation alone. The length is the way's in the graph of
+    /// that generation.
+    Along {
+        generation: u64,
+        nodes: Vec<u16>,
+        length: u64,
+    },
     /// This generation has no tree for it.
-    Unreachable { generation: u64 },
+    Unreachable {
+        generation: u64,
+    },
     /// A node isn't one of the device's.
     NoNode,
 }
@@ -55,16 +63,17 @@ impl<J: Naming> ForwarderOf<J> {
 #[derive(Drop)]
 enum Launched {
     Answered(Carried),
-    // It is to be launched again.
+    // It is to be launched again, unless all stop.
     Again,
-    // Memory ran out.
-    Memory,
+    // Nothing can come of it: all are to stop.
+    Halted(Halt),
 }
 
-// Carries a packet to its end.
-fn carry<G: Gate, R: Wait>(
+// Carries a packet to its end, in the graph of its generation.
+fn carry<J: Naming, G: Gate, R: Wait>(
     rt: &R,
     alloc: Global,
+    meeting: &Meeting<J>,
     gate: &G,
     forwarder: &mut Forwarder,
     from: u16,
@@ -73,9 +82,13 @@ fn carry<G: Gate, R: Wait>(
     ensures { forwarder.new.opening ≡ forwarder.old.opening }
 {
     let generation = packet.generation;
+    // One that isn't shown any more has left the shelf, or is about to.
+    let Some(shown) = meeting.graph_of(rt, generation) else {
+        return Launched::Again;
+    };
     let mut nodes = Vec::new(alloc);
     if nodes.push(from).is_err() {
-        return Launched::Memory;
+        return Launched::Halted(Halt::Memory);
     }
     let mut at = from;
     let mut packet = packet;
@@ -83,7 +96,12 @@ fn carry<G: Gate, R: Wait>(
         match forwarder.hop(at, packet) {
             Ok(Move::Delivered) => {
                 gate.hopped(generation);
-                return Launched::Answered(Carried::Along { generation, nodes });
+                let length = length_over(&shown.graph, &nodes);
+                return Launched::Answered(Carried::Along {
+                    generation,
+                    nodes,
+                    length,
+                });
             }
             Ok(
                 Move::Forward {
@@ -94,25 +112,31 @@ fn carry<G: Gate, R: Wait>(
             ) => {
                 gate.hopped(generation);
                 if nodes.push(next).is_err() {
-                    return Launched::Memory;
+                    return Launched::Halted(Halt::Memory);
                 }
                 at = next;
                 packet = on;
             }
             Err((Refused::BoardShut, back)) => {
+                if meeting.stopped(rt) {
+                    return Launched::Again;
+                }
                 packet = back;
                 thread::yield_now();
             }
-            Err(_) => return Launched::Again,
+            Err((Refused::GenerationGone, _)) => return Launched::Again,
+            // No tables of this service refuse a packet of their own on its way.
+            Err(_) => return Launched::Halted(Halt::Internal),
         }
     }
     unreachable!()
 }
 
 // Launches a packet in the newest generation.
-fn launch<G: Gate, R: Wait>(
+fn launch<J: Naming, G: Gate, R: Wait>(
     rt: &R,
     alloc: Global,
+    meeting: &Meeting<J>,
     gate: &G,
     forwarder: &mut Forwarder,
     trip: Trip,
@@ -124,14 +148,21 @@ fn launch<G: Gate, R: Wait>(
     };
     let address = match forwarder.address(generation, trip.to) {
         Ok(address) => address,
-        Err(Refused::NoNode) => return Launched::Answered(Carried::NoNode),
-        Err(_) => return Launched::Again,
+        Err(refused) => return refused_at(generation, refused),
     };
     match forwarder.launch(trip.from, &address) {
-        Ok(packet) => carry(rt, alloc, gate, forwarder, trip.from, packet),
-        Err(Refused::NoNode) => Launched::Answered(Carried::NoNode),
-        Err(Refused::Unreachable) => Launched::Answered(Carried::Unreachable { generation }),
-        Err(_) => Launched::Again,
+        Ok(packet) => carry(rt, alloc, meeting, gate, forwarder, trip.from, packet),
+        Err(refused) => refused_at(generation, refused),
+    }
+}
+
+// What becomes of a packet that isn't launched.
+fn refused_at(generation: u64, refused: Refused) -> Launched {
+    match refused {
+        Refused::NoNode => Launched::Answered(Carried::NoNode),
+        Refused::Unreachable => Launched::Answered(Carried::Unreachable { generation }),
+        Refused::BoardShut | Refused::GenerationGone => Launched::Again,
+        Refused::Stray | Refused::Spent => Launched::Halted(Halt::Internal),
     }
 }
 
@@ -154,11 +185,11 @@ fn forward<J: Naming, G: Gate, R: Wait>(
             return None;
         }
         forwarder.learn(news.told.told());
-        match launch(rt, alloc, gate, forwarder, trip) {
+        match launch(rt, alloc, meeting, gate, forwarder, trip) {
             Launched::Answered(carried) => return Some(carried),
             Launched::Again => thread::yield_now(),
-            Launched::Memory => {
-                meeting.stop(rt, Halt::Memory);
+            Launched::Halted(halt) => {
+                meeting.stop(rt, halt);
                 return None;
             }
         }

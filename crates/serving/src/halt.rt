@@ -11,10 +11,14 @@ pub enum Halt {
     Device,
     /// The count, the epoch or a session's ticket stands at its limit.
     Worn,
-    /// Memory ran out, or no thread could be made.
+    /// Memory ran out.
     Memory,
     /// The board took no posting.
     Board,
+    /// The system made no thread.
+    NoThread,
+    /// Two parts of the service disagree. No run is known that ends so.
+    Internal,
 }
 
 impl From<AllocError> for Halt {

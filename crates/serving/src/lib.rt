@@ -9,7 +9,11 @@
 //! generation has left the shelf meanwhile, the packet is launched anew.
 //!
 //! Editors wait for the committer, and the committer for editors, at one [`std::sync::Mutex`] with two conditions. Nobody asks
-//! again and again but where the board gives no look, or a generation is gone. The first fault stops all.
+//! again and again but where the board gives no look, or a generation is gone, and whoever does sees when all stop. The first fault
+//! stops all. Room for all threads' handles is made before the first thread, so each thread is waited for.
+//!
+//! What is held doesn't grow with the number of rounds: one heap serves all rebuilds, and the graphs of the newest four generations
+//! are held, besides those in which a packet is on its way.
 //!
 //! # The contract
 //!
@@ -31,8 +35,8 @@ mod editing;
 mod fault;
 mod forwarding;
 mod gate;
+mod graphs;
 mod halt;
-mod kept;
 mod meeting;
 mod running;
 mod serve;

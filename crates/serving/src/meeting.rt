@@ -1,12 +1,16 @@
 // Where the threads wait for one another.
+use crate::graphs::{GenerationGraph, Graphs};
 use crate::halt::Halt;
 use crate::told::{Naming, ToldOf};
-use std::sync::{Condvar, Mutex, Wait};
+use std::alloc::Global;
+use std::sync::{Arc, Condvar, Mutex, Wait};
 
 // What lies under the lock.
 #[derive(Drop)]
 struct Hall<J: Naming> {
     told: ToldOf<J>,
+    // Those of the newest generations.
+    graphs: Graphs,
     // How often the committer told something.
     turn: u64,
     // How often an editor submitted a change or left.
@@ -81,10 +85,11 @@ impl<J: Naming> Hall<J> {
 
 impl<J: Naming> Meeting<J> {
     /// A meeting of so many editors, to which this was told.
-    pub(crate) fn new(told: ToldOf<J>, editing: usize) -> Meeting<J> {
+    pub(crate) fn new(told: ToldOf<J>, graphs: Graphs, editing: usize) -> Meeting<J> {
         Meeting {
             hall: Mutex::new(Hall {
                 told,
+                graphs,
                 turn: 0,
                 asked: 0,
                 editing,
@@ -99,6 +104,20 @@ impl<J: Naming> Meeting<J> {
     pub(crate) fn tell<R: Wait>(&self, rt: &R, told: ToldOf<J>) {
         self.hall.lock(rt).tell(told);
         self.news.notify_all();
+    }
+
+    /// Shows the graph of a generation that is about to be posted.
+    pub(crate) fn show<R: Wait>(&self, rt: &R, graph: Arc<GenerationGraph, Global>) {
+        let _oldest = self.hall.lock(rt).graphs.push(graph);
+    }
+
+    /// The graph of a generation, where it is one of the newest.
+    pub(crate) fn graph_of<R: Wait>(
+        &self,
+        rt: &R,
+        generation: u64,
+    ) -> Option<Arc<GenerationGraph, Global>> {
+        self.hall.lock(rt).graphs.of(generation)
     }
 
     /// Has all stop. The first fault counts.
@@ -146,6 +165,11 @@ impl<J: Naming> Meeting<J> {
             self.hall.lock(rt),
             |hall| hall.asked == asked && hall.halt.is_none(),
         );
+    }
+
+    /// Whether all stop.
+    pub(crate) fn stopped<R: Wait>(&self, rt: &R) -> bool {
+        self.hall.lock(rt).halt.is_some()
     }
 
     /// Why all stopped, where they did.

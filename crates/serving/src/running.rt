@@ -1,13 +1,12 @@
 // The threads: the committer in the caller's, and one for each editor and each forwarder.
-ghost use Rattle.std.specs.Prelude.{◌≡◌};
+ghost use Rattle.std.specs.Prelude.{◌≡◌, ◌≤◌, [], IfOk, vec_capacity};
 ghost use Rattle.committer.specs.CommitterWords.{posts_of};
 
-use crate::committing::{commit_all, opened};
+use crate::committing::{Rebuilds, commit_all, opened};
 use crate::editing::{EditorOf, edit_all};
-use crate::forwarding::{Carried, ForwarderOf, forward_all};
+use crate::forwarding::{Carried, ForwarderOf, Trip, forward_all};
 use crate::gate::Gate;
 use crate::halt::Halt;
-use crate::kept::Kept;
 use crate::meeting::Meeting;
 use crate::shares::{Shares, Worked};
 use crate::told::Naming;
@@ -16,18 +15,18 @@ use checkpoint::Store;
 use committer::Committer;
 use disk_trait::Disk;
 use generations::Verdict;
+use graph_edits::Change;
 use std::alloc::{AllocError, Global};
 use std::collections::VecDeque;
 use std::sync::Wait;
 use std::thread;
 use std::thread::{JoinHandle, Scope, Threads};
 
-// The threads of editors and forwarders, and whether all were made.
+// The threads of editors and forwarders that were made.
 #[derive(Drop)]
 struct Started {
     editing: Vec<JoinHandle<VecDeque<Verdict>>>,
     forwarding: Vec<JoinHandle<VecDeque<Carried>>>,
-    all: bool,
 }
 
 /// The editors and forwarders at the board that `J` names.
@@ -37,54 +36,74 @@ pub struct Staff<J: Naming> {
     pub forwarders: Vec<ForwarderOf<J>>,
 }
 
-// Starts the threads of editors and forwarders.
-fn start<'s, E, J: Naming + Send + Sync, G: Gate + Sync, R: Wait + Sync>(
+// Room for the handles of all threads. It is there before the first thread is made: a handle that found none would be dropped,
+// and nobody would wait for its thread.
+fn room(alloc: Global, editing: usize, forwarding: usize) -> Result<Started, AllocError>
+    ensures editing { IfOk result (λ s. (s.editing.items ≡ []) × (editing ≤ vec_capacity s.editing)) }
+    ensures forwarding { IfOk result (λ s. (s.forwarding.items ≡ []) × (forwarding ≤ vec_capacity s.forwarding)) }
+{
+    let editing = Vec::with_capacity(alloc, editing)?;
+    let forwarding = Vec::with_capacity(alloc, forwarding)?;
+    Ok(Started {
+        editing,
+        forwarding,
+    })
+}
+
+// Starts the editors' threads. Where one can't be made all stop.
+fn start_editors<'s, E, J: Naming + Send + Sync, R: Wait + Sync>(
+    scope: &Scope<'s, E>,
+    rt: &'s R,
+    alloc: Global,
+    meeting: &'s Meeting<J>,
+    editors: Vec<EditorOf<J>>,
+    changes: Vec<Vec<Change>>,
+    handles: &mut Vec<JoinHandle<VecDeque<Verdict>>>,
+) {
+    for (seat, changes) in editors.into_iter().zip(changes) {
+        if handles.len() == handles.capacity() {
+            return;
+        }
+        match scope.spawn(move || edit_all(rt, alloc, meeting, seat, changes)) {
+            Ok(handle) => handles.push_reserved(handle),
+            Err(_) => {
+                meeting.stop(rt, Halt::NoThread);
+                return;
+            }
+        }
+    }
+}
+
+// Starts the forwarders' threads. Where one can't be made all stop.
+fn start_forwarders<'s, E, J: Naming + Send + Sync, G: Gate + Sync, R: Wait + Sync>(
     scope: &Scope<'s, E>,
     rt: &'s R,
     alloc: Global,
     meeting: &'s Meeting<J>,
     gate: &'s G,
-    staff: Staff<J>,
-    shares: Shares,
-) -> Started {
-    let Staff {
-        editors,
-        forwarders,
-    } = staff;
-    let Shares { changes, trips } = shares;
-    let mut editing = Vec::new(alloc);
-    let mut forwarding = Vec::new(alloc);
-    let mut all = true;
-    for (seat, changes) in editors.into_iter().zip(changes) {
-        match scope.spawn(move || edit_all(rt, alloc, meeting, seat, changes)) {
-            Ok(handle) => all = editing.push(handle).is_ok() && all,
-            Err(_) => all = false,
-        }
-    }
+    forwarders: Vec<ForwarderOf<J>>,
+    trips: Vec<Vec<Trip>>,
+    handles: &mut Vec<JoinHandle<VecDeque<Carried>>>,
+) {
     for (seat, trips) in forwarders.into_iter().zip(trips) {
-        match scope.spawn(move || forward_all(rt, alloc, meeting, gate, seat, trips)) {
-            Ok(handle) => all = forwarding.push(handle).is_ok() && all,
-            Err(_) => all = false,
+        if handles.len() == handles.capacity() {
+            return;
         }
-    }
-    Started {
-        editing,
-        forwarding,
-        all,
+        match scope.spawn(move || forward_all(rt, alloc, meeting, gate, seat, trips)) {
+            Ok(handle) => handles.push_reserved(handle),
+            Err(_) => {
+                meeting.stop(rt, Halt::NoThread);
+                return;
+            }
+        }
     }
 }
 
 // What the threads answered. All of them have ended then, also where memory ran out: the board must outlive them.
-fn joined<R: Threads>(
-    rt: &R,
-    alloc: Global,
-    started: Started,
-    kept: Vec<Kept>,
-) -> Result<Worked, AllocError> {
+fn joined<R: Threads>(rt: &R, alloc: Global, started: Started) -> Result<Worked, AllocError> {
     let Started {
         editing,
         forwarding,
-        all: _,
     } = started;
     let mut verdicts = Vec::new(alloc);
     let mut carried = Vec::new(alloc);
@@ -98,11 +117,7 @@ fn joined<R: Threads>(
     if !all {
         return Err(AllocError);
     }
-    Ok(Worked {
-        verdicts,
-        carried,
-        kept,
-    })
+    Ok(Worked { verdicts, carried })
 }
 
 // Runs all threads, the committer in the caller's, and gives the store back.
@@ -120,9 +135,8 @@ fn threads<
     gate: &'a G,
     committer: Committer<D, Q>,
     staff: Staff<J>,
-    source: WordSource,
+    rebuilds: Rebuilds,
     shares: Shares,
-    kept: Vec<Kept>,
 ) -> (Result<Worked, Halt>, Store<D>)
     requires { (posts_of committer).opening ≡ J.opening }
 {
@@ -133,14 +147,36 @@ fn threads<
             requires { (posts_of committer).opening ≡ J.opening }
         {
             let mut committer = committer;
-            let mut source = source;
-            let mut kept = kept;
-            let started = start(scope, rt, alloc, meeting, gate, staff, shares);
-            if !started.all {
-                meeting.stop(rt, Halt::Memory);
-            }
-            commit_all::<J, D, Q, R>(rt, alloc, meeting, &mut committer, &mut source, &mut kept);
-            let worked = joined(rt, alloc, started, kept);
+            let mut rebuilds = rebuilds;
+            let Staff {
+                editors,
+                forwarders,
+            } = staff;
+            let Shares { changes, trips } = shares;
+            let Ok(mut started) = room(alloc, editors.len(), forwarders.len()) else {
+                return (Err(Halt::Memory), committer.into_store());
+            };
+            start_editors(
+                scope,
+                rt,
+                alloc,
+                meeting,
+                editors,
+                changes,
+                &mut started.editing,
+            );
+            start_forwarders(
+                scope,
+                rt,
+                alloc,
+                meeting,
+                gate,
+                forwarders,
+                trips,
+                &mut started.forwarding,
+            );
+            commit_all::<J, D, Q, R>(rt, alloc, meeting, &mut committer, &mut rebuilds);
+            let worked = joined(rt, alloc, started);
             let result = match (meeting.halt(rt), worked) {
                 (Some(halt), _) => Err(halt),
                 (None, Ok(worked)) => Ok(worked),
@@ -170,12 +206,13 @@ pub(crate) fn run<
     requires { (posts_of committer).opening ≡ J.opening }
 {
     let mut committer = committer;
-    let mut source = source;
-    let mut kept = Vec::new(alloc);
+    let Ok(mut rebuilds) = Rebuilds::new(alloc, source) else {
+        return (Err(Halt::Memory), committer.into_store());
+    };
     let editing = staff.editors.len();
-    match opened::<J, D, Q>(alloc, &mut committer, &mut source, &mut kept, editing) {
+    match opened::<J, D, Q>(alloc, &mut committer, &mut rebuilds, editing) {
         Ok(meeting) => threads::<J, D, G, Q, R>(
-            rt, alloc, &meeting, gate, committer, staff, source, shares, kept,
+            rt, alloc, &meeting, gate, committer, staff, rebuilds, shares,
         ),
         Err(halt) => (Err(halt), committer.into_store()),
     }

@@ -207,7 +207,7 @@ fn serve_there<'a, D: Disk + Drop + Send, G: Gate + Sync, R: Threads + Wait + Sy
                     let (result, disk) = handle.join(rt);
                     (result, Some(disk))
                 }
-                Err(_) => (Err(Halt::Memory), None),
+                Err(_) => (Err(Halt::NoThread), None),
             }
         },
     )
@@ -253,7 +253,8 @@ fn answers_of(
     };
     match in_order(alloc, turns, worked) {
         Ok(Some(answers)) => Ok(answers),
-        Ok(None) | Err(_) => Err(Fault::Memory),
+        Ok(None) => Err(Fault::Internal),
+        Err(_) => Err(Fault::Memory),
     }
 }
 

@@ -5,8 +5,6 @@ ghost use Rattle.serving.specs.Answers.{is_edit, is_verdict, is_editor};
 
 use crate::answer::Answer;
 use crate::forwarding::{Carried, Trip};
-use crate::kept::Kept;
-use built_schemes::length_over;
 use generations::Verdict;
 use graph_edits::Change;
 use scripts::ScriptLine;
@@ -32,7 +30,6 @@ pub struct Shares {
 pub struct Worked {
     pub verdicts: Vec<VecDeque<Verdict>>,
     pub carried: Vec<VecDeque<Carried>>,
-    pub kept: Vec<Kept>,
 }
 
 // So many empty lists.
@@ -77,27 +74,22 @@ pub(crate) fn shared(
     Ok((turns, Shares { changes, trips }))
 }
 
-// The graph of a generation.
-fn graph_of(kept: &[Kept], generation: u64) -> Option<&Kept> {
-    kept.iter().rev().find(|kept| kept.generation == generation)
-}
-
-// What became of a packet, with the length of its way. None where no graph of its generation is kept.
-fn answer_of(carried: Carried, kept: &[Kept]) -> Option<Answer>
-    ensures { IfSome result (λ answer. is_verdict answer ≡ false) }
+// What became of a packet, as an answer.
+fn answer_of(carried: Carried) -> Answer
+    ensures { is_verdict result ≡ false }
 {
     match carried {
-        Carried::Along { generation, nodes } => {
-            let kept = graph_of(kept, generation)?;
-            let length = length_over(&kept.graph, &nodes);
-            Some(Answer::Along {
-                generation,
-                nodes,
-                length,
-            })
-        }
-        Carried::Unreachable { generation } => Some(Answer::Unreachable { generation }),
-        Carried::NoNode => Some(Answer::NoNode),
+        Carried::Along {
+            generation,
+            nodes,
+            length,
+        } => Answer::Along {
+            generation,
+            nodes,
+            length,
+        },
+        Carried::Unreachable { generation } => Answer::Unreachable { generation },
+        Carried::NoNode => Answer::NoNode,
     }
 }
 
@@ -112,7 +104,7 @@ fn next_answer(turn: Turn, worked: &mut Worked) -> Option<Answer>
         }
         Turn::Forwarder(place) => {
             let carried = worked.carried.get_mut(place)?.pop_front()?;
-            answer_of(carried, &worked.kept)
+            Some(answer_of(carried))
         }
     }
 }

@@ -54,21 +54,27 @@ fn tasks(rt: HostRuntime) -> io::Result<()> {
         "edit|d|add:0:1:7|cut:2:3",
         Task::Edit {
             device,
+            session: 0,
             ticket: None,
             change,
         },
     )?;
-    for (line, ticket) in [
-        ("edit|d|cut:2:3|--ticket|1", 1),
+    for (line, session, ticket) in [
+        ("edit|d|cut:2:3|--ticket|1", 0, Some(1)),
         (
             "edit|--ticket=9223372036854775807|d|cut:2:3",
-            9_223_372_036_854_775_807,
+            0,
+            Some(9_223_372_036_854_775_807),
         ),
+        ("edit|d|cut:2:3|--session|0", 0, None),
+        ("edit|d|--session=63|cut:2:3", 63, None),
+        ("edit|d|--ticket|2|--session|7|cut:2:3", 7, Some(2)),
     ] {
         let change = Change::new(&[Op::Cut(2, 3)]).expect(&rt, "one op");
         let edit = Task::Edit {
             device,
-            ticket: Some(ticket),
+            session,
+            ticket,
             change,
         };
         expect_task(&rt, line, edit)?;
@@ -145,6 +151,15 @@ edit|d|cut:0:1|--ticket|x
 edit|d|cut:0:1|--ticket|9223372036854775808
 edit|d|cut:0:1|--ticket|18446744073709551617
 edit|d|cut:0:1|--ticket|1|--ticket|2
+edit|d|cut:0:1|--session
+edit|d|cut:0:1|--session|
+edit|d|cut:0:1|--session|64
+edit|d|cut:0:1|--session|256
+edit|d|cut:0:1|--session|00
+edit|d|cut:0:1|--session|-1
+edit|d|cut:0:1|--session|1|--session|2
+edit|d|cut|--session|64
+show|d|--session|1
 edit|d|cut|--ticket|0
 resume
 resume|d

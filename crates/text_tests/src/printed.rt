@@ -69,28 +69,34 @@ fn listing_of_a_graph(rt: HostRuntime) -> io::Result<()> {
     Ok(())
 }
 
+// Each fault, its text and its status.
+const FAULTS: [(Fault, &str, u8); 20] = [
+    (Fault::Usage, "usage", 2),
+    (Fault::Op, "op not understood", 2),
+    (Fault::Words, "words not understood", 2),
+    (Fault::Script, "script not understood", 2),
+    (Fault::ChangeTooLong, "change too long", 1),
+    (Fault::NodeCount, "node count out of range", 1),
+    (Fault::DeviceLength, "device length is wrong", 1),
+    (Fault::DeviceFile, "device file cannot be used", 1),
+    (Fault::DeviceInUse, "device in use", 1),
+    (Fault::NotFormatted, "not formatted", 1),
+    (Fault::LayoutNotKnown, "layout not known", 1),
+    (Fault::Damaged, "damaged", 1),
+    (Fault::Device, "device failed", 1),
+    (Fault::Memory, "out of memory", 1),
+    (Fault::NoThread, "input or output failed", 1),
+    (Fault::Internal, "input or output failed", 1),
+    (Fault::Worn, "worn out", 1),
+    (Fault::AlreadyIn, "already in", 1),
+    (Fault::NoNode, "no node", 1),
+    (Fault::Output, "input or output failed", 1),
+];
+
 #[test]
 fn texts_of_faults(rt: HostRuntime) -> io::Result<()> {
-    let faults = [
-        (Fault::Usage, "usage", 2),
-        (Fault::Op, "op not understood", 2),
-        (Fault::Words, "words not understood", 2),
-        (Fault::Script, "script not understood", 2),
-        (Fault::ChangeTooLong, "change too long", 1),
-        (Fault::NodeCount, "node count out of range", 1),
-        (Fault::DeviceLength, "device length is wrong", 1),
-        (Fault::DeviceFile, "device file cannot be used", 1),
-        (Fault::NotFormatted, "not formatted", 1),
-        (Fault::LayoutNotKnown, "layout not known", 1),
-        (Fault::Damaged, "damaged", 1),
-        (Fault::Device, "device failed", 1),
-        (Fault::Memory, "out of memory", 1),
-        (Fault::Worn, "worn out", 1),
-        (Fault::AlreadyIn, "already in", 1),
-        (Fault::NoNode, "no node", 1),
-        (Fault::Output, "input or output failed", 1),
-    ];
-    for (fault, text, status) in faults {
+    for (fault, text, status) in &FAULTS {
+        let (fault, text, status) = (*fault, *text, *status);
         let shown = format!(in rt.alloc(); "{fault}")?;
         assert_eq!(&rt; shown.as_str(), text);
         assert_eq!(&rt; fault.status(), status, "{text}");

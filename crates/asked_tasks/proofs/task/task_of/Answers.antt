@@ -1,12 +1,11 @@
 use Rattle.std.proofs.Common.{rules, arith, inl, codes, IfErr, IfOk, Some, subst, ◌≡◌, ◌∙◌, sym}
 use Rattle.clap.specs.Words.{first_value, found_of}
-use Rattle.clap.proofs.WalkLemmas.{first_value-rows}
 use Rattle.clap.specs.Walk.{Text, rows_of}
 use Rattle.given_words.specs.declared.words.LandmarkWords.TheVariants.{Greatest}
 use Rattle.asked_tasks.specs.declared.task.Task.TheVariants.{Check, Route}
 use Rattle.asked_tasks.specs.Asked.{IsCause, IsTask}
-use Rattle.asked_tasks.proofs.Asking.{given, given_all, gives, gives_all}
-use Rattle.asked_tasks.proofs.OneTask.{check_words, from_refused, handed_on, has_device, new_given, nodes_refused, none_made, none_missing, of_number, of_ops, of_words, only_memory, route_words, same_check, same_edit, same_format, same_migrate, same_resume, same_route, same_show, session_refused, shaped, ticket_refused, to_refused}
+use Rattle.asked_tasks.proofs.Asking.{given, gives}
+use Rattle.asked_tasks.proofs.OneTask.{check_words, from_refused, handed_on, has_device, new_given, nodes_refused, none_made, none_missing, of_number, of_words, only_memory, route_words, same_check, same_format, same_migrate, same_resume, same_route, same_show, session_refused, shaped, to_refused}
 use Rattle.asked_tasks.proofs.task.task_of.Goals as goal
 
 pub returns-in_default-clause-cause : goal.returns-in_default-clause-cause
@@ -43,20 +42,6 @@ returns-then-eq-2-clause-only c task is fits =
     let named : c.args.name.now ≡ codes "show" = search rules in
     let device : first_value f (codes "device") ≡ Some c.in-Some.device.now = search rules in
     same_show c.args.name.now (rows_of f) c.in-Some.device task named (gives f _ _ device) is
-
-pub returns-in_ok-change-clause-asked : goal.returns-in_ok-change-clause-asked
-returns-in_ok-change-clause-asked c =
-    let f = found_of c.args.found.now in
-    let device : first_value f (codes "device") ≡ Some c.in-Some.device.now = search rules in
-    (search rules, gives f _ _ device, (sym (first_value-rows f (codes "ticket")) ∙ c.in_ok-ticket.ensures.found, c.in_ok-ticket.ensures.fits), gives_all f _ _ c.in_ok-change.ensures.found)
-
-pub returns-in_ok-change-clause-only : goal.returns-in_ok-change-clause-only
-returns-in_ok-change-clause-only c task is fits =
-    let f = found_of c.args.found.now in
-    let named : c.args.name.now ≡ codes "edit" = search rules in
-    let device : first_value f (codes "device") ≡ Some c.in-Some.device.now = search rules in
-    same_edit c.args.name.now (rows_of f) c.in-Some.device c.in_ok-ticket.field-0 c.in_ok-change.field-0 task named (gives f _ _ device)
-    (λ asked there_is there. c.in_ok-ticket.ensures.same asked there_is (first_value-rows f (codes "ticket") ∙ there)) (λ ops fit there. c.in_ok-change.ensures.same ops fit (given_all f _ _ there)) is fits
 
 pub returns-in_ok-session-clause-asked : goal.returns-in_ok-session-clause-asked
 returns-in_ok-session-clause-asked c =
@@ -110,29 +95,6 @@ returns-in_err-whole-clause-cause c =
 
 pub returns-in_err-whole-clause-refused : goal.returns-in_err-whole-clause-refused
 returns-in_err-whole-clause-refused c task is fits = only_memory c.from_residual.result c.args.name.now (rows_of (found_of c.args.found.now)) task is fits (returns-in_err-whole-clause-cause c)
-
-pub returns-in_err-ticket-clause-cause : goal.returns-in_err-ticket-clause-cause
-returns-in_err-ticket-clause-cause c =
-    let f = found_of c.args.found.now in
-    let named : c.args.name.now ≡ codes "edit" = search rules in
-    handed_on c.from_residual-in_err-ticket.result (λ refused. IsCause c.args.name.now (rows_of f) refused) c.in_err-ticket.field-0.0 c.from_residual-in_err-ticket.ensures.1
-    (of_number c.args.name.now (rows_of f) c.in_err-ticket.field-0.0 c.in_err-ticket.ensures.refusals
-    (ticket_refused c.args.name.now (rows_of f) c.in_err-ticket.field-0.0 named (λ asked there_is there. c.in_err-ticket.ensures.only asked there_is (first_value-rows f (codes "ticket") ∙ there))))
-
-pub returns-in_err-ticket-clause-refused : goal.returns-in_err-ticket-clause-refused
-returns-in_err-ticket-clause-refused c task is fits = only_memory c.from_residual-in_err-ticket.result c.args.name.now (rows_of (found_of c.args.found.now)) task is fits (returns-in_err-ticket-clause-cause c)
-
-pub returns-in_err-change-clause-cause : goal.returns-in_err-change-clause-cause
-returns-in_err-change-clause-cause c =
-    let f = found_of c.args.found.now in
-    let named : c.args.name.now ≡ codes "edit" = search rules in
-    let device : first_value f (codes "device") ≡ Some c.in-Some.device.now = search rules in
-    handed_on c.from_residual-in_err-change.result (λ refused. IsCause c.args.name.now (rows_of f) refused) c.in_err-change.field-0.0 c.from_residual-in_err-change.ensures.1
-    (of_ops c.args.name.now (rows_of f) c.in_err-change.field-0.0 c.in-Some.device c.in_ok-ticket.field-0 named (gives f _ _ device) (sym (first_value-rows f (codes "ticket")) ∙ c.in_ok-ticket.ensures.found, c.in_ok-ticket.ensures.fits)
-    c.in_err-change.ensures.cause)
-
-pub returns-in_err-change-clause-refused : goal.returns-in_err-change-clause-refused
-returns-in_err-change-clause-refused c task is fits = only_memory c.from_residual-in_err-change.result c.args.name.now (rows_of (found_of c.args.found.now)) task is fits (returns-in_err-change-clause-cause c)
 
 pub returns-in_err-session-clause-cause : goal.returns-in_err-session-clause-cause
 returns-in_err-session-clause-cause c =
@@ -217,6 +179,30 @@ returns-in_err-text-clause-cause c =
 
 pub returns-in_err-text-clause-refused : goal.returns-in_err-text-clause-refused
 returns-in_err-text-clause-refused c task is fits = only_memory c.from_residual-in_err-text.result c.args.name.now (rows_of (found_of c.args.found.now)) task is fits (returns-in_err-text-clause-cause c)
+
+pub returns-then-eq-3-clause-asked : goal.returns-then-eq-3-clause-asked
+returns-then-eq-3-clause-asked c =
+    let f = found_of c.args.found.now in
+    let named : c.args.name.now ≡ codes "edit" = search rules in
+    let device : first_value f (codes "device") ≡ Some c.in-Some.device.now = search rules in
+    subst (λ (name : Text). IfOk c.edit_of.result (λ task. IsTask name (rows_of f) task)) (sym named) (c.edit_of.ensures.asked (gives f _ _ device))
+
+pub returns-then-eq-3-clause-only : goal.returns-then-eq-3-clause-only
+returns-then-eq-3-clause-only c task is fits =
+    let f = found_of c.args.found.now in
+    let named : c.args.name.now ≡ codes "edit" = search rules in
+    let device : first_value f (codes "device") ≡ Some c.in-Some.device.now = search rules in
+    c.edit_of.ensures.only (gives f _ _ device) task (subst (λ (name : Text). IsTask name (rows_of f) task) named is) fits
+
+pub returns-then-eq-3-clause-cause : goal.returns-then-eq-3-clause-cause
+returns-then-eq-3-clause-cause c =
+    let f = found_of c.args.found.now in
+    let named : c.args.name.now ≡ codes "edit" = search rules in
+    let device : first_value f (codes "device") ≡ Some c.in-Some.device.now = search rules in
+    subst (λ (name : Text). IfErr c.edit_of.result (λ refused. IsCause name (rows_of f) refused)) (sym named) (c.edit_of.ensures.cause (gives f _ _ device))
+
+pub returns-then-eq-3-clause-refused : goal.returns-then-eq-3-clause-refused
+returns-then-eq-3-clause-refused c task is fits = only_memory c.edit_of.result c.args.name.now (rows_of (found_of c.args.found.now)) task is fits (returns-then-eq-3-clause-cause c)
 
 pub returns-then-eq-8-clause-asked : goal.returns-then-eq-8-clause-asked
 returns-then-eq-8-clause-asked c =

@@ -13,7 +13,7 @@ returns-in-Ok-Show-clause-fault g c =
 
 pub returns-in-Ok-Edit-clause-fault : goal.returns-in-Ok-Edit-clause-fault
 returns-in-Ok-Edit-clause-fault g c =
-    ends_task c.run_edit.result (texts c.args.words.now) c.in-Ok-Edit.field-0 (Edit c.in-Ok-Edit.device c.in-Ok-Edit.ticket c.in-Ok-Edit.change) c.in-Ok-Edit.ensures.asked c.in-Ok-Edit.field-0-is c.run_edit.ensures.fault
+    ends_task c.run_edit.result (texts c.args.words.now) c.in-Ok-Edit.field-0 (Edit c.in-Ok-Edit.device c.in-Ok-Edit.session c.in-Ok-Edit.ticket c.in-Ok-Edit.change) c.in-Ok-Edit.ensures.asked c.in-Ok-Edit.field-0-is c.run_edit.ensures.fault
 
 pub returns-in-Ok-Resume-clause-fault : goal.returns-in-Ok-Resume-clause-fault
 returns-in-Ok-Resume-clause-fault g c =

@@ -7,7 +7,7 @@ use Rattle.printed_lines.specs.declared.fault.Fault.TheVariants.{Device, Words}
 use Rattle.device_commands.specs.Openings.{TellsOf}
 use Rattle.program_run.proofs.Faults.{each_fault, not_told, check_asks, words_tell}
 use Rattle.program_run.proofs.SchemeAnswering.{only_read}
-use Rattle.program_run.specs.Endings.{IsCheckDeviceFault, IsWordsOrMemory}
+use Rattle.program_run.specs.Endings.{IsCheckDeviceFault, IsQueryFault}
 use Rattle.program_run.specs.SchemeAnswers.{IsCheckOf}
 use Rattle.program_run.proofs.scheme_tasks.check_device.Goals as goal
 
@@ -32,13 +32,13 @@ returns-in-Ok-clause-of_one g c = IfOk-weaker c.check_in_store.result _ _ (λ an
 pub returns-in-Ok-clause-tells : goal.returns-in-Ok-clause-tells
 returns-in-Ok-clause-tells g c model =
     let content : List ℕ = (g.D.Disk.view c.args.disk).content in
-    each_fault c.check_in_store.result (IsWordsOrMemory c.args.asked.now) (λ fault. TellsOf fault content) (λ fault is. words_tell c.args.asked.now fault content is) c.check_in_store.ensures.fault
+    each_fault c.check_in_store.result (IsQueryFault c.args.asked.now) (λ fault. TellsOf fault content) (λ fault is. words_tell c.args.asked.now fault content is) c.check_in_store.ensures.fault
 
 pub returns-in-Ok-clause-device : goal.returns-in-Ok-clause-device
-returns-in-Ok-clause-device g c is = absurd (not_told c.check_in_store.result Device (IsWordsOrMemory c.args.asked.now) (λ never. never) c.check_in_store.ensures.fault is)
+returns-in-Ok-clause-device g c is = absurd (not_told c.check_in_store.result Device (IsQueryFault c.args.asked.now) (λ never. never) c.check_in_store.ensures.fault is)
 
 pub returns-in-Ok-clause-fault : goal.returns-in-Ok-clause-fault
-returns-in-Ok-clause-fault g c = each_fault c.check_in_store.result (IsWordsOrMemory c.args.asked.now) (IsCheckDeviceFault c.args.asked.now) (check_asks c.args.asked.now) c.check_in_store.ensures.fault
+returns-in-Ok-clause-fault g c = each_fault c.check_in_store.result (IsQueryFault c.args.asked.now) (IsCheckDeviceFault c.args.asked.now) (check_asks c.args.asked.now) c.check_in_store.ensures.fault
 
 pub returns-in-Ok-clause-reads : goal.returns-in-Ok-clause-reads
 returns-in-Ok-clause-reads g c model = only_read c.args.disk c.into_disk.result c.in-Ok.store c.into_disk.ensures (c.in-Ok.ensures.reads model)

@@ -1,7 +1,11 @@
-use Rattle.std.proofs.Common.{Ok}
+use Rattle.program_run.specs.Endings.{IsQueryFault, IsThreadFault}
+use Rattle.program_run.proofs.Faults.{each_fault, thread_asks}
 use Rattle.program_run.proofs.SchemeAnswering.{check_of}
 use Rattle.program_run.proofs.scheme_tasks.check_in_graph.Goals as goal
 
 pub returns-clause-check : goal.returns-clause-check
 returns-clause-check g c =
-    check_of c.args.graph.now c.in_ok-own.own c.args.generation c.args.asked.now c.in_ok-words.words.items (Ok c.in_ok-check_in_thread.field-0) c.in_ok-own.ensures c.in_ok-words.ensures.within c.in_ok-words.ensures.words c.in_ok-check_in_thread.ensures
+    check_of c.args.graph.now c.in_ok-own.own c.args.generation c.args.asked.now c.in_ok-words.words.items c.check_in_thread.result c.in_ok-own.ensures c.in_ok-words.ensures.within c.in_ok-words.ensures.words c.check_in_thread.ensures.checked
+
+pub returns-clause-fault : goal.returns-clause-fault
+returns-clause-fault g c = each_fault c.check_in_thread.result IsThreadFault (IsQueryFault c.args.asked.now) (thread_asks c.args.asked.now) c.check_in_thread.ensures.fault

@@ -6,7 +6,7 @@ use Rattle.clap.specs.declared.builder.range.ValueRange.{ValueRange}
 use Rattle.clap.specs.declared.builder.arg.Arg.{Arg}
 use Rattle.asked_tasks.specs.Grammar.{ops_rule}
 use Rattle.asked_tasks.proofs.Asking.{some_range}
-use Rattle.asked_tasks.proofs.grammar.edit_command.Goals as goal
+use Rattle.asked_tasks.proofs.grammar.ops_command.Goals as goal
 
 pub returns-clause-app : goal.returns-clause-app
 returns-clause-app c =
@@ -14,11 +14,9 @@ returns-clause-app c =
     let ops_is : rule_of c.num_args-ops.result ≡ ops_rule =
     ap rule_of c.num_args-ops.ensures.0 ∙ ap₂ (λ (rule : Rule) (range : Option ValueRange). record rule { range = range }) c.text.ensures.rule range in
     let ops_local : c.num_args-ops.result.global ≡ false = ap (λ (arg : Arg). arg.global) c.num_args-ops.ensures.0 ∙ c.text.ensures.local in
-    let with_ops = c.in_ok-arg.ensures.shape ops_local ∙ ap₂ with_rule c.in_ok-on_device.ensures.app ops_is in
-    IfOk-weaker c.arg-2.result _ _ (λ command added. added.shape c.option.ensures.local ∙ ap₂ with_rule with_ops c.option.ensures.rule) c.arg-2.ensures
+    IfOk-weaker c.arg.result _ _ (λ command added. added.shape ops_local ∙ ap₂ with_rule c.in_ok-on_device.ensures.app ops_is) c.arg.ensures
 
 pub returns-clause-local : goal.returns-clause-local
 returns-clause-local c =
     let ops_local : c.num_args-ops.result.global ≡ false = ap (λ (arg : Arg). arg.global) c.num_args-ops.ensures.0 ∙ c.text.ensures.local in
-    let with_ops_local = c.in_ok-arg.ensures.globals ∙ ap₂ ◌||◌ c.in_ok-on_device.ensures.local ops_local in
-    IfOk-weaker c.arg-2.result _ _ (λ command added. added.globals ∙ ap₂ ◌||◌ with_ops_local c.option.ensures.local) c.arg-2.ensures
+    IfOk-weaker c.arg.result _ _ (λ command added. added.globals ∙ ap₂ ◌||◌ c.in_ok-on_device.ensures.local ops_local) c.arg.ensures

@@ -1,0 +1,186 @@
+//! A disk on a file that is locked.
+ghost use Rattle.std.specs.Prelude.{◌≡◌, IfOk};
+
+use crate::refused::FileRefused;
+use disk_trait::{DeviceFault, Disk, FileDisk};
+use std::fs::{File, OpenOptions, TryLockError};
+use std::io;
+use std::os::unix::fs::FileExt;
+use std::path::Path;
+use std::rt::Files;
+
+// How many zeros are written at a time.
+const PART_LEN: usize = 16_384;
+
+/// Whom a lock keeps out.
+#[derive(Clone, Copy, Debug, PartialEq, Eq, Drop)]
+pub enum Lock {
+    /// All others.
+    Alone,
+    /// Those that want the file alone.
+    Shared,
+}
+
+/// A disk on a file that this program has locked.
+///
+/// It is a disk as `FileDisk` is one: what the file holds isn't claimed by any clause.
+#[derive(Drop)]
+pub struct DeviceFile {
+    disk: FileDisk,
+    lock: Lock,
+}
+
+// Takes a lock on an open file, without waiting.
+fn take(file: &File, lock: Lock) -> Result<(), FileRefused> {
+    let taken = match lock {
+        Lock::Alone => file.try_lock(),
+        Lock::Shared => file.try_lock_shared(),
+    };
+    match taken {
+        Ok(()) => Ok(()),
+        Err(TryLockError::WouldBlock) => Err(FileRefused::InUse),
+        Err(TryLockError::Error(_)) => Err(FileRefused::Unusable),
+    }
+}
+
+// Empties a file, fills it with so many zeros, and syncs it.
+fn fill(file: &File, len: usize) -> io::Result<()> {
+    let zeros = [0; PART_LEN];
+    file.set_len(0)?;
+    for at in (0..len).step_by(PART_LEN) {
+        let part = PART_LEN.min(len - at);
+        file.write_all_at(&zeros[..part], at as u64)?;
+    }
+    file.sync_all()
+}
+
+// Syncs the folder in which a file stands, so that its name is kept.
+fn sync_folder<R: Files<File = File>>(files: &R, path: &str) -> io::Result<()> {
+    let folder = match Path::new(path).parent() {
+        Some(folder) if !folder.as_os_str().is_empty() => folder.as_os_str(),
+        _ => ".",
+    };
+    OpenOptions::new()
+        .read(true)
+        .open(files, folder)?
+        .sync_all()
+}
+
+impl DeviceFile {
+    ghost use Rattle.device_files.specs.DeviceFiles.{lock_of};
+
+    // The disk of an open file, under this lock.
+    fn locked(file: File, lock: Lock) -> Result<DeviceFile, FileRefused>
+        ensures { IfOk result (λ device. lock_of device ≡ lock) }
+    {
+        take(&file, lock)?;
+        let disk = FileDisk::new(file)?;
+        Ok(DeviceFile { disk, lock })
+    }
+
+    // The disk of an open file that is emptied and filled with so many zeros, once it is locked alone.
+    fn filled<R: Files<File = File>>(
+        files: &R,
+        path: &str,
+        file: File,
+        len: usize,
+    ) -> Result<DeviceFile, FileRefused>
+        ensures { IfOk result (λ device. lock_of device ≡ Lock.Alone) }
+    {
+        take(&file, Lock::Alone)?;
+        fill(&file, len)?;
+        sync_folder(files, path)?;
+        let disk = FileDisk::new(file)?;
+        Ok(DeviceFile {
+            disk,
+            lock: Lock::Alone,
+        })
+    }
+
+    /// Opens a file that is there, for reading and writing, and locks it alone.
+    pub fn open<R: Files<File = File>>(files: &R, path: &str) -> Result<DeviceFile, FileRefused>
+        ensures alone { IfOk result (λ device. lock_of device ≡ Lock.Alone) }
+    {
+        let file = OpenOptions::new().read(true).write(true).open(files, path)?;
+        DeviceFile::locked(file, Lock::Alone)
+    }
+
+    /// Opens a file that is there, for reading only, and locks it shared with other readers. A write to this disk fails.
+    pub fn open_to_read<R: Files<File = File>>(
+        files: &R,
+        path: &str,
+    ) -> Result<DeviceFile, FileRefused>
+        ensures shared { IfOk result (λ device. lock_of device ≡ Lock.Shared) }
+    {
+        let file = OpenOptions::new().read(true).open(files, path)?;
+        // A folder can be opened to read.
+        if file.metadata()?.is_dir() {
+            return Err(FileRefused::Unusable);
+        }
+        DeviceFile::locked(file, Lock::Shared)
+    }
+
+    /// Makes a file of so many zeros, in the place of what stands there, and locks it alone. What stands there is emptied only once
+    /// it is locked.
+    pub fn make<R: Files<File = File>>(
+        files: &R,
+        path: &str,
+        len: usize,
+    ) -> Result<DeviceFile, FileRefused>
+        ensures alone { IfOk result (λ device. lock_of device ≡ Lock.Alone) }
+    {
+        let file = OpenOptions::new()
+            .read(true)
+            .write(true)
+            .create(true)
+            .open(files, path)?;
+        DeviceFile::filled(files, path, file, len)
+    }
+
+    /// Makes a file of so many zeros where none stands yet, and locks it alone.
+    pub fn make_new<R: Files<File = File>>(
+        files: &R,
+        path: &str,
+        len: usize,
+    ) -> Result<DeviceFile, FileRefused>
+        ensures alone { IfOk result (λ device. lock_of device ≡ Lock.Alone) }
+    {
+        let file = OpenOptions::new()
+            .read(true)
+            .write(true)
+            .create_new(true)
+            .open(files, path)?;
+        DeviceFile::filled(files, path, file, len)
+    }
+
+    /// Its lock.
+    pub fn lock(&self) -> Lock
+        ensures { result ≡ lock_of self.now }
+    {
+        self.lock
+    }
+}
+
+impl Disk for DeviceFile {
+    ghost use Rattle.device_files.specs.DeviceFiles.{device_view, device_present};
+
+    ghost view = { device_view };
+
+    ghost present = { device_present };
+
+    fn len(&self) -> usize {
+        self.disk.len()
+    }
+
+    fn read(&mut self, at: usize, bytes: &mut [u8]) -> Result<(), DeviceFault> {
+        self.disk.read(at, bytes)
+    }
+
+    fn write_at(&mut self, at: usize, bytes: &[u8]) -> Result<(), DeviceFault> {
+        self.disk.write_at(at, bytes)
+    }
+
+    fn sync(&mut self) -> Result<(), DeviceFault> {
+        self.disk.sync()
+    }
+}

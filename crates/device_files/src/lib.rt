@@ -1,0 +1,34 @@
+//! Device files: a disk on a file of the system, held under the system's lock.
+//!
+//! A [`DeviceFile`] is a `FileDisk` whose file this program has locked. There are four ways to one, and no other:
+//!
+//! | Call | The file | Its lock |
+//! |---|---|---|
+//! | [`DeviceFile::open`] | is there, and is opened for reading and writing | alone |
+//! | [`DeviceFile::open_to_read`] | is there, and is opened for reading only | shared |
+//! | [`DeviceFile::make`] | is made, or emptied if it is there, and filled with zeros | alone |
+//! | [`DeviceFile::make_new`] | must not be there; it is made and filled with zeros | alone |
+//!
+//! A lock is taken without waiting. If another program holds one that excludes it, the call answers [`FileRefused::InUse`] and has
+//! touched nothing. The lock ends when the `DeviceFile` is dropped, or with the program, however it ends.
+//!
+//! A lock is advice: it keeps out programs on this machine that ask for it, as all commands of this program do. It doesn't keep out
+//! a program that doesn't ask, and on a network file system it may not reach other machines.
+//!
+//! A file that is made gets all its zeros, so that a full disk shows at once. Then the file is synced, and then the folder in which
+//! it stands, so that a power cut doesn't take the file's name away.
+//!
+//! The contract that the layer above uses: which lock a `DeviceFile` has (`lock_of`), and that it is a disk as `FileDisk` is one.
+//! What the system does on `flock` and `fsync` is believed, and tested.
+//!
+//! ```text
+//! let disk = DeviceFile::open(rt, "d")?;           // alone: no other command can open d until it is dropped
+//! let again = DeviceFile::open_to_read(rt, "d");   // Err(FileRefused::InUse)
+//! ```
+#![tactic(auto)]
+
+mod file;
+mod refused;
+
+pub use file::{DeviceFile, Lock};
+pub use refused::FileRefused;
