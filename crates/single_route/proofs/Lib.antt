@@ -1,0 +1,10 @@
+pub mod Climbs
+pub mod TrailWalks
+pub mod WayPorts
+pub mod TrailLaws
+pub mod ListedTrees
+pub mod RuleLemmas
+pub mod FoundTrails
+pub mod AnswerLemmas
+pub mod Rides
+pub mod CarriedTrails

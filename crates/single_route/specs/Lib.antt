@@ -1,0 +1,7 @@
+pub mod LandmarkTrees
+pub mod LandmarkTrails
+pub mod TrailLaws
+pub mod ListedLines
+pub mod FoundTrees
+pub mod Ways
+pub mod Answers

@@ -1,0 +1,157 @@
+// Drawn graphs: each route against the trail over which the built scheme carries the packet.
+use crate::helpers::{Edge, got, graph_of, landmarks_at, routed, routes_in, same, words_at};
+use built_schemes::scheme_of;
+use graph_edits::Graph;
+use node_table::{CarryRefused, Scheme, Trail};
+use rand_core::{Rng, SeedableRng};
+use rand_xoshiro::Xoshiro256PlusPlus;
+use single_route::{NoTrail, route_of};
+use std::alloc::Global;
+use std::process::Abort;
+
+/// What becomes of a packet to a node's own address in the scheme: its trail, or that there is none.
+fn carried(rt: &impl Abort, alloc: Global, scheme: &Scheme, from: u16, to: u16) -> Option<Trail> {
+    let address = got(rt, scheme.address(to));
+    match scheme.carry(alloc, from, &address) {
+        Ok(trail) => Some(trail),
+        Err(refused) => {
+            same(
+                rt,
+                refused,
+                CarryRefused::Unreachable,
+                "a refusal of a scheme",
+            );
+            None
+        }
+    }
+}
+
+/// The trail of an answer, or that there is none.
+fn trail_of(rt: &impl Abort, answer: Result<Trail, NoTrail>) -> Option<Trail> {
+    match answer {
+        Ok(trail) => Some(trail),
+        Err(refused) => {
+            same(rt, refused, NoTrail::Unreachable, "a refusal of a route");
+            None
+        }
+    }
+}
+
+/// Sees that two trails are the same, or that there is none twice.
+fn same_trail(rt: &impl Abort, found: &Option<Trail>, want: &Option<Trail>) {
+    same(
+        rt,
+        found.is_some(),
+        want.is_some(),
+        "whether there is a trail",
+    );
+    if let (Some(found), Some(want)) = (found, want) {
+        same(rt, found.nodes.as_slice(), want.nodes.as_slice(), "nodes");
+        same(rt, found.ports.as_slice(), want.ports.as_slice(), "ports");
+        same(rt, found.length, want.length, "a length");
+    }
+}
+
+/// Compares all routes of a graph under these landmarks with those of its scheme. Answers how many pairs have none.
+fn compare(rt: &impl Abort, alloc: Global, graph: &Graph, at: &[u16]) -> u32 {
+    let nodes = graph.nodes();
+    let words = words_at(rt, alloc, nodes, at);
+    let scheme = got(rt, scheme_of(alloc, graph, &words, 7, alloc));
+    let landmarks = landmarks_at(rt, alloc, nodes, at);
+    let mut routes = routes_in(rt, alloc, graph, &landmarks);
+    let mut apart = 0u32;
+    for from in 0..nodes {
+        for to in 0..nodes {
+            let want = carried(rt, alloc, &scheme, from, to);
+            let found = trail_of(rt, routed(&mut routes, from, to));
+            same_trail(rt, &found, &want);
+            assert!(rt; landmarks.flags().len() == graph.nodes() as usize);
+            let once = trail_of(rt, route_of(alloc, graph, &landmarks, from, to));
+            same_trail(rt, &once, &want);
+            apart = apart.saturating_add(want.is_none() as u32);
+        }
+    }
+    apart
+}
+
+/// Drawn edges between so many nodes, each pair with an edge of a weight up to `heaviest` by so many chances of ten.
+fn drawn_edges(
+    rt: &impl Abort,
+    alloc: Global,
+    rng: &mut Xoshiro256PlusPlus,
+    nodes: u16,
+    heaviest: u32,
+    chances: u64,
+) -> Vec<Edge> {
+    let mut edges = Vec::new(alloc);
+    for a in 0..nodes {
+        for b in 0..a {
+            let weight = 1 + (rng.next_u64() % heaviest.max(1) as u64) as u32;
+            if rng.next_u64() % 10 < chances {
+                got(rt, edges.push((a, b, weight)));
+            }
+        }
+    }
+    edges
+}
+
+/// Some of the nodes below a number: all of which a draw in `one_of` says so.
+fn drawn_nodes(
+    rt: &impl Abort,
+    alloc: Global,
+    rng: &mut Xoshiro256PlusPlus,
+    nodes: u16,
+    one_of: u64,
+) -> Vec<u16> {
+    let mut at = Vec::new(alloc);
+    for node in 0..nodes {
+        if rng.next_u64() % one_of.max(1) == 0 {
+            got(rt, at.push(node));
+        }
+    }
+    at
+}
+
+/// One drawn graph with three choices of landmarks: none, some and all.
+fn compare_drawn(rt: &impl Abort, alloc: Global, rng: &mut Xoshiro256PlusPlus) -> u32 {
+    let nodes = 1 + (rng.next_u64() % 12) as u16;
+    let heaviest = 1 + (rng.next_u64() % 9) as u32;
+    let edges = drawn_edges(rt, alloc, rng, nodes, heaviest, 3);
+    let graph = graph_of(rt, alloc, nodes, &edges);
+    let some = drawn_nodes(rt, alloc, rng, nodes, 3);
+    let all = drawn_nodes(rt, alloc, rng, nodes, 1);
+    let apart = compare(rt, alloc, &graph, &[]);
+    let second = compare(rt, alloc, &graph, &some);
+    let third = compare(rt, alloc, &graph, &all);
+    same(
+        rt,
+        (second, third),
+        (apart, apart),
+        "how many pairs are apart",
+    );
+    apart
+}
+
+/// Pairs that are apart have to come, and pairs that aren't come anyway: a node and itself.
+#[test]
+fn goes_where_the_scheme_carries_a_packet(rt: HostRuntime) {
+    let mut rng = Xoshiro256PlusPlus::seed_from_u64(48);
+    let mut apart = 0u32;
+    for _ in 0..60u8 {
+        apart = apart.saturating_add(compare_drawn(&rt, rt.alloc(), &mut rng));
+    }
+    assert!(&rt; 100 < apart);
+}
+
+/// A larger graph, in which trees are deeper and landmarks few.
+#[test]
+fn goes_where_the_scheme_carries_a_packet_in_a_larger_graph(rt: HostRuntime) {
+    let alloc = rt.alloc();
+    let mut rng = Xoshiro256PlusPlus::seed_from_u64(96);
+    let edges = drawn_edges(&rt, alloc, &mut rng, 28, 3, 2);
+    let graph = graph_of(&rt, alloc, 28, &edges);
+    for one_of in &[8u64, 3] {
+        let at = drawn_nodes(&rt, alloc, &mut rng, 28, *one_of);
+        let _apart = compare(&rt, alloc, &graph, &at);
+    }
+}
