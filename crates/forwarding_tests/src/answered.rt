@@ -120,6 +120,14 @@ fn comes_back(
     assert!(rt; back == submitted);
 }
 
+// The first change of this editor goes into the queue.
+fn goes_in<R: Wait + Abort>(rt: &R, editor: &mut Editor, submitted: Change, name: &str)
+    ensures { editor.new.known.opening ≡ editor.old.known.opening }
+{
+    let answer = editor.submit(rt, 1, submitted);
+    same(rt, answer.is_ok(), true, name);
+}
+
 // The first change fills the queue: the second comes back, and so does another one of the first editor.
 fn fills<R: Wait + Abort, W: Wait + Drop>(rt: &R, opened: &mut Opened<W>)
     ensures writer { opened.new.writer ≡ opened.old.writer }
@@ -132,8 +140,7 @@ fn fills<R: Wait + Abort, W: Wait + Drop>(rt: &R, opened: &mut Opened<W>)
     same(rt, opened.first.resume(), 0, "the last ticket");
     let before = opened.first.outcome();
     same(rt, before, Ok(Outcome::Nothing), "before");
-    let first = opened.first.submit(rt, 1, change(rt, 0, 1));
-    same(rt, first.is_ok(), true, "the first");
+    goes_in(rt, &mut opened.first, change(rt, 0, 1), "the first");
     let answer = opened.second.submit(rt, 1, change(rt, 1, 2));
     comes_back(rt, answer, SubmitRefused::QueueFull, change(rt, 1, 2));
     let answer = opened.first.submit(rt, 2, change(rt, 2, 3));
@@ -148,20 +155,40 @@ fn accepts(rt: &impl Abort, editor: &mut Editor, count: u64) {
     same(rt, editor.outcome(), Ok(accepted), "an outcome");
 }
 
-// The two editors, with answers by hand.
-fn settles<R: Wait + Abort>(rt: &R, alloc: Global) -> Result<(), AllocError> {
-    let mut opened = two_editors(rt, alloc, &[0; SESSIONS])?;
-    fills(rt, &mut opened);
-    accepts_next(rt, alloc, &mut opened, 0, (0, 1))?;
-    let second = opened.second.submit(rt, 1, change(rt, 1, 2));
-    same(rt, second.is_ok(), true, "the second");
-    accepts_next(rt, alloc, &mut opened, 1, (1, 1))?;
+// Both editors are told, and each knows that its change is accepted.
+fn both_hear<W: Wait + Drop>(rt: &impl Abort, opened: &mut Opened<W>)
+    requires first { opened.old.first.known.opening ≡ opened.old.writer.opening }
+    requires second { opened.old.second.known.opening ≡ opened.old.writer.opening }
+{
     let news = opened.writer.tell();
     opened.first.learn(&news);
     opened.second.learn(&news);
     accepts(rt, &mut opened.first, 1);
     accepts(rt, &mut opened.second, 2);
+}
+
+// Both changes are taken and answered, the second once there is room for it.
+fn settles_both<R: Wait + Abort, W: Wait + Drop>(
+    rt: &R,
+    alloc: Global,
+    opened: &mut Opened<W>,
+) -> Result<(), AllocError>
+    requires answered { IsAnswered opened.old.taker opened.old.writer 0 }
+    requires first { opened.old.first.known.opening ≡ opened.old.writer.opening }
+    requires second { opened.old.second.known.opening ≡ opened.old.writer.opening }
+{
+    fills(rt, opened);
+    accepts_next(rt, alloc, opened, 0, (0, 1))?;
+    goes_in(rt, &mut opened.second, change(rt, 1, 2), "the second");
+    accepts_next(rt, alloc, opened, 1, (1, 1))?;
+    both_hear(rt, opened);
     Ok(())
+}
+
+// The two editors, with answers by hand.
+fn settles<R: Wait + Abort>(rt: &R, alloc: Global) -> Result<(), AllocError> {
+    let mut opened = two_editors(rt, alloc, &[0; SESSIONS])?;
+    settles_both(rt, alloc, &mut opened)
 }
 
 /// Run with each allocation refused in turn too (`./refuse-memory`): what was refused is whole when it is made again.

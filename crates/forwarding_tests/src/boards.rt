@@ -1,8 +1,10 @@
 // The board as a plain value, over threads, and where an allocation is refused.
-ghost use Rattle.std.specs.Prelude.{◌≡◌, []};
+ghost use Rattle.forwarding_tests.specs.InARow.{IsInARow};
 
-use crate::posted::{empty_scheme, got, newest, popped, post_next, post_seen, post_up_to, same};
-use generations::{Board, BoardReader, MOST_SHELVED, Mark, Posting, Verdict, board};
+use crate::posted::{
+    empty_scheme, got, newest, one_reader, post_next, post_seen, post_up_to, same, two_readers,
+};
+use generations::{Board, BoardReader, BoardWriter, MOST_SHELVED, Mark, Posting, Verdict};
 use graph_edits::Code;
 use requests::{SESSIONS, WORN_LIMIT};
 use std::alloc::{AllocError, Global};
@@ -58,24 +60,38 @@ fn expect_shelf(rt: &impl Abort, board: &Board) {
     }
 }
 
-#[test]
-fn folds_marks_generations_and_the_failure(rt: HostRuntime) -> Result<(), Fail> {
-    let mut board = Board::new(&[10; SESSIONS], 5);
+// Folds one posting.
+fn folds(rt: &impl Abort, board: &mut Board, posting: &Posting) {
+    got(rt, board.fold(posting));
+}
+
+// Folds marks, and sees what the board says of their sessions.
+fn folds_marks(rt: &impl Abort, alloc: Global, board: &mut Board) {
     let marks = [
         mark(0, 11, accepted(6)),
         mark(63, WORN_LIMIT, accepted(WORN_LIMIT)),
         mark(0, 12, refused(3)),
     ];
-    board.fold(&Posting::Marks(marks.to_vec(rt.alloc())?))?;
-    expect_marks(&rt, &board, &marks);
+    folds(rt, board, &Posting::Marks(got(rt, marks.to_vec(alloc))));
+    expect_marks(rt, board, &marks);
+}
+
+// Folds five generations, of which the last four stay.
+fn folds_five(rt: &impl Abort, alloc: Global, board: &mut Board) {
     for number in 1..6u64 {
-        let scheme = empty_scheme(rt.alloc(), number)?;
-        board.fold(&Posting::Generation { number, scheme })?;
+        let scheme = got(rt, empty_scheme(alloc, number));
+        folds(rt, board, &Posting::Generation { number, scheme });
     }
-    expect_shelf(&rt, &board);
-    board.fold(&Posting::Down)?;
+    expect_shelf(rt, board);
+}
+
+#[test]
+fn folds_marks_generations_and_the_failure(rt: HostRuntime) {
+    let mut board = Board::new(&[10; SESSIONS], 5);
+    folds_marks(&rt, rt.alloc(), &mut board);
+    folds_five(&rt, rt.alloc(), &mut board);
+    folds(&rt, &mut board, &Posting::Down);
     same(&rt, board.is_down(), true, "down");
-    Ok(())
 }
 
 // Looks many times: how often there was no board, or one that is older than what was told or seen.
@@ -101,10 +117,8 @@ fn looks(mut reader: BoardReader, told: u64) -> usize {
 #[test]
 fn readers_beside_a_writer_see_all_that_they_were_told(rt: HostRuntime) -> Result<(), Fail> {
     let alloc = rt.alloc();
-    let (mut writer, mut readers) = board(alloc, &rt, 2, &[0; SESSIONS], 0)?;
+    let (mut writer, (mut one, mut two)) = two_readers(&rt, alloc)?;
     post_next(&rt, alloc, &mut writer, 0);
-    let mut one = popped(&rt, &mut readers);
-    let mut two = popped(&rt, &mut readers);
     one.learn(&writer.tell());
     two.learn(&writer.tell());
     let first = got(&rt, thread::spawn(&rt, move || looks(one, 1)));
@@ -119,15 +133,27 @@ fn readers_beside_a_writer_see_all_that_they_were_told(rt: HostRuntime) -> Resul
     Ok(())
 }
 
-// Posts five generations. What is kept for want of memory is seen once it is retried, and not before.
-fn posts_five<R: Wait + Abort>(rt: &R, alloc: Global) -> Result<(), AllocError> {
-    let (mut writer, mut readers) = board(alloc, rt, 1, &[0; SESSIONS], 0)?;
-    let mut reader = popped(rt, &mut readers);
+// Posts five generations, each of which the reader sees.
+fn five_seen<W: Wait + Drop>(
+    rt: &impl Abort,
+    alloc: Global,
+    writer: &mut BoardWriter<W>,
+    reader: BoardReader,
+) -> Result<(), AllocError>
+    requires { IsInARow writer.old 0 }
+{
+    let mut reader = reader;
     for posted in 0..5u64 {
         let scheme = empty_scheme(alloc, posted + 1)?;
-        reader = post_seen(rt, &mut writer, reader, posted, scheme);
+        reader = post_seen(rt, writer, reader, posted, scheme);
     }
     Ok(())
+}
+
+// Posts five generations. What is kept for want of memory is seen once it is retried, and not before.
+fn posts_five<R: Wait + Abort>(rt: &R, alloc: Global) -> Result<(), AllocError> {
+    let (mut writer, reader) = one_reader(rt, alloc)?;
+    five_seen(rt, alloc, &mut writer, reader)
 }
 
 /// Run with each allocation refused in turn too (`./refuse-memory`): what was refused is whole when it is made again.

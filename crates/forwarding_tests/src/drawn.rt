@@ -59,18 +59,24 @@ fn sent(
     }
 }
 
-#[test]
-fn a_hundred_thousand_lists_of_bytes(rt: HostRuntime) -> Result<(), Fail> {
-    let (mut writer, mut forwarder) = one_forwarder(rt.alloc(), rt)?;
-    post_next(&rt, rt.alloc(), &mut writer, 0);
+/// How many of so many drawn lists spell a packet, and how many are delivered.
+fn counted(rt: &impl Abort, forwarder: &mut Forwarder, turns: u32) -> (u32, u32) {
     let mut rng = Xoshiro256PlusPlus::seed_from_u64(25);
     let (mut delivered, mut spelled) = (0u32, 0u32);
-    for turn in 0..100_000u32 {
+    for turn in 0..turns {
         let bytes = drawn(&mut rng);
-        let (arrived, read) = sent(&rt, &mut forwarder, (turn % 7) as u16, bytes);
+        let (arrived, read) = sent(rt, forwarder, (turn % 7) as u16, bytes);
         delivered = delivered.saturating_add(arrived as u32);
         spelled = spelled.saturating_add(read as u32);
     }
+    (spelled, delivered)
+}
+
+#[test]
+fn a_hundred_thousand_lists_of_bytes(rt: HostRuntime) -> Result<(), Fail> {
+    let (mut writer, mut forwarder) = one_forwarder(&rt, rt.alloc())?;
+    post_next(&rt, rt.alloc(), &mut writer, 0);
+    let (spelled, delivered) = counted(&rt, &mut forwarder, 100_000);
     same(
         &rt,
         (10_000 < spelled, 100 < delivered),

@@ -1,9 +1,10 @@
 // What a board says of the next ticket and of the last one.
-use crate::posted::same;
+use crate::posted::{got, same};
 use generations::{Board, Mark, Posting, Verdict};
 use graph_edits::Code;
 use intake::{Outcome, SubmitRefused, outcome_of, refusal_of};
 use requests::{SESSIONS, WORN_LIMIT};
+use std::process::Abort;
 use std::test::Fail;
 
 fn mark(session: u8, ticket: u64, verdict: Verdict) -> Mark {
@@ -29,43 +30,63 @@ const REFUSALS: [(u8, Option<u64>, u64, Option<SubmitRefused>); 11] = [
     (0, Some(14), WORN_LIMIT + 1, Some(SubmitRefused::Busy)),
 ];
 
-#[test]
-fn refuses_by_the_first_test_that_holds(rt: HostRuntime) -> Result<(), Fail> {
-    let mut board = Board::new(&[10; SESSIONS], 0);
-    let code = Code::Loop;
-    let marks = [
-        mark(0, 12, Verdict::Accepted { count: 1 }),
-        mark(0, 15, Verdict::Refused { op: 2, code }),
-    ];
-    board.fold(&Posting::Marks(marks.to_vec(rt.alloc())?))?;
+/// Folds one posting.
+fn folds(rt: &impl Abort, board: &mut Board, posting: &Posting) {
+    got(rt, board.fold(posting));
+}
+
+/// Why each next ticket is refused.
+fn expect_refusals(rt: &impl Abort, board: &Board) {
     for (session, last, ticket, want) in &REFUSALS {
-        let found = refusal_of(&board, *session, 10, *last, *ticket);
+        let found = refusal_of(board, *session, 10, *last, *ticket);
         same(
-            &rt,
+            rt,
             (*session, *ticket, found),
             (*session, *ticket, *want),
             "a ticket",
         );
     }
-    let refused = Outcome::Refused {
-        ticket: 15,
-        op: 2,
-        code,
-    };
+}
+
+/// The last ticket that session 0 submitted, and what became of it.
+const OUTCOMES: [(Option<u64>, Outcome); 3] = [
+    (None, Outcome::Nothing),
+    (
+        Some(15),
+        Outcome::Refused {
+            ticket: 15,
+            op: 2,
+            code: Code::Loop,
+        },
+    ),
+    (Some(16), Outcome::Waiting),
+];
+
+/// What became of the last ticket of session 0.
+fn expect_outcome(rt: &impl Abort, board: &Board, last: Option<u64>, want: Outcome) {
     same(
-        &rt,
-        outcome_of(&board, 0, None),
-        Outcome::Nothing,
-        "no ticket",
+        rt,
+        (last, outcome_of(board, 0, last)),
+        (last, want),
+        "a last ticket",
     );
-    same(&rt, outcome_of(&board, 0, Some(15)), refused, "ticket 15");
-    same(
-        &rt,
-        outcome_of(&board, 0, Some(16)),
-        Outcome::Waiting,
-        "ticket 16",
-    );
-    board.fold(&Posting::Down)?;
-    same(&rt, outcome_of(&board, 0, Some(16)), Outcome::Down, "down");
+}
+
+#[test]
+fn refuses_by_the_first_test_that_holds(rt: HostRuntime) -> Result<(), Fail> {
+    let code = Code::Loop;
+    let marks = [
+        mark(0, 12, Verdict::Accepted { count: 1 }),
+        mark(0, 15, Verdict::Refused { op: 2, code }),
+    ];
+    let marks = marks.to_vec(rt.alloc())?;
+    let mut board = Board::new(&[10; SESSIONS], 0);
+    folds(&rt, &mut board, &Posting::Marks(marks));
+    expect_refusals(&rt, &board);
+    for (last, want) in &OUTCOMES {
+        expect_outcome(&rt, &board, *last, *want);
+    }
+    folds(&rt, &mut board, &Posting::Down);
+    expect_outcome(&rt, &board, Some(16), Outcome::Down);
     Ok(())
 }

@@ -45,6 +45,28 @@ pub(crate) type Edge = (u16, u16, u32);
 
 pub(crate) const PATH_OF_FIVE: [Edge; 4] = [(0, 1, 1), (1, 2, 1), (2, 3, 1), (3, 4, 1)];
 
+// The network of these edges.
+fn graph_of(rt: &impl Abort, alloc: Global, nodes: u16, edges: &[Edge]) -> Graph {
+    assert!(rt; 1 <= nodes && nodes <= MOST_NODES);
+    let mut graph = got(rt, Graph::empty(alloc, nodes));
+    for (a, b, weight) in edges {
+        let change = got(rt, Change::new(&[Op::Add(*a, *b, *weight)]));
+        let _taken = graph.apply(&change);
+    }
+    graph
+}
+
+// The choice of one landmark among so many nodes.
+fn one_landmark(rt: &impl Abort, alloc: Global, nodes: u16, landmark: u16) -> Landmarks {
+    let mut words = Vec::new(alloc);
+    for v in 0..nodes {
+        let word = if v == landmark { 0u64 } else { u64::MAX };
+        got(rt, words.push(word));
+    }
+    assert!(rt; 1 <= words.len());
+    got(rt, Landmarks::choose(alloc, words.len(), &words))
+}
+
 /// The scheme of these edges with one landmark.
 pub(crate) fn scheme_of(
     rt: &impl Abort,
@@ -54,19 +76,8 @@ pub(crate) fn scheme_of(
     landmark: u16,
     generation: u64,
 ) -> Scheme {
-    assert!(rt; 1 <= nodes && nodes <= MOST_NODES);
-    let mut graph = got(rt, Graph::empty(alloc, nodes));
-    for (a, b, weight) in edges {
-        let change = got(rt, Change::new(&[Op::Add(*a, *b, *weight)]));
-        let _taken = graph.apply(&change);
-    }
-    let mut words = Vec::new(alloc);
-    for v in 0..nodes {
-        let word = if v == landmark { 0u64 } else { u64::MAX };
-        got(rt, words.push(word));
-    }
-    assert!(rt; 1 <= words.len());
-    let landmarks = got(rt, Landmarks::choose(alloc, words.len(), &words));
+    let graph = graph_of(rt, alloc, nodes, edges);
+    let landmarks = one_landmark(rt, alloc, nodes, landmark);
     let nodes = graph.nodes() as usize;
     let marked = landmarks.flags().len();
     assert!(rt; marked == nodes);
@@ -107,18 +118,43 @@ fn shown(rt: &impl Abort, reader: BoardReader, number: u64) -> BoardReader {
     look.leave()
 }
 
-/// A board with no posting, and a forwarder over its one reader.
-pub(crate) fn one_forwarder<W: Wait + Drop>(
+/// A board with no posting, and its one reader.
+pub(crate) fn one_reader<'a, R: Wait + Abort>(
+    rt: &'a R,
     alloc: Global,
-    handle: W,
-) -> Result<(BoardWriter<W>, Forwarder), AllocError>
+) -> Result<(BoardWriter<&'a R>, BoardReader), AllocError>
+    ensures row { IfOk result (λ r. IsInARow r.0 0) }
+    ensures opening { IfOk result (λ r. r.1.all.opening ≡ r.0.opening) }
+{
+    let (writer, mut readers) = board(alloc, rt, 1, &[0; SESSIONS], 0)?;
+    let reader = popped(rt, &mut readers);
+    Ok((writer, reader))
+}
+
+/// A board with no posting, and its two readers.
+pub(crate) fn two_readers<'a, R: Wait + Abort>(
+    rt: &'a R,
+    alloc: Global,
+) -> Result<(BoardWriter<&'a R>, (BoardReader, BoardReader)), AllocError>
+    ensures row { IfOk result (λ r. IsInARow r.0 0) }
+    ensures one { IfOk result (λ r. r.1.0.all.opening ≡ r.0.opening) }
+    ensures two { IfOk result (λ r. r.1.1.all.opening ≡ r.0.opening) }
+{
+    let (writer, mut readers) = board(alloc, rt, 2, &[0; SESSIONS], 0)?;
+    let one = popped(rt, &mut readers);
+    let two = popped(rt, &mut readers);
+    Ok((writer, (one, two)))
+}
+
+/// A board with no posting, and a forwarder over its one reader.
+pub(crate) fn one_forwarder<'a, R: Wait + Abort>(
+    rt: &'a R,
+    alloc: Global,
+) -> Result<(BoardWriter<&'a R>, Forwarder), AllocError>
     ensures row { IfOk result (λ r. IsInARow r.0 0) }
     ensures opening { IfOk result (λ r. r.1.opening ≡ r.0.opening) }
 {
-    let (writer, mut readers) = board(alloc, handle, 1, &[0; SESSIONS], 0)?;
-    let Some(reader) = readers.pop() else {
-        return Err(AllocError);
-    };
+    let (writer, reader) = one_reader(rt, alloc)?;
     Ok((writer, Forwarder::new(reader)))
 }
 

@@ -1,15 +1,19 @@
 // Worked rows.
 ghost use Rattle.std.specs.Prelude.{◌≡◌};
+ghost use Rattle.forwarding_tests.specs.InARow.{IsInARow};
 
 use crate::posted::{
     PATH_OF_FIVE, got, one_forwarder, post_next, post_up_to, same, scheme_of, way,
 };
 use arrayvec::ArrayVec;
 use forwarders::{ByteMove, BytesRefused, Forwarder, Refused};
+use generations::BoardWriter;
 use heavy_labels::{Label, MOST_LIGHTS};
 use node_table::{Address, Home, Move, Packet};
 use packet_bytes::{ADDRESS_SIZE, PACKET_SIZE, Wire, WireRefused};
+use std::alloc::Global;
 use std::process::Abort;
+use std::sync::Wait;
 use std::test::Fail;
 
 /// The packet from node 0 to node 4 of the path in generation 1, as it is launched: behind these bytes there are zeros.
@@ -164,7 +168,7 @@ fn expect_changed_ways(rt: &impl Abort, forwarder: &mut Forwarder) {
 
 #[test]
 fn hops_of_changed_packets(rt: HostRuntime) -> Result<(), Fail> {
-    let (mut writer, mut forwarder) = one_forwarder(rt.alloc(), rt)?;
+    let (mut writer, mut forwarder) = one_forwarder(&rt, rt.alloc())?;
     post_next(&rt, rt.alloc(), &mut writer, 0);
     expect_changed_ways(&rt, &mut forwarder);
     Ok(())
@@ -240,15 +244,21 @@ fn expect_launches(rt: &impl Abort, forwarder: &mut Forwarder) {
     }
 }
 
+/// How many notices a forwarder knows, and the newest generation.
+fn expect_known(rt: &impl Abort, forwarder: &mut Forwarder, notices: u64, latest: Option<u64>)
+    ensures { forwarder.new.opening ≡ forwarder.old.opening }
+{
+    same(rt, forwarder.known().len(), notices, "what was told");
+    same(rt, forwarder.latest(), Ok(latest), "the newest");
+}
+
 #[test]
 fn launches_by_address(rt: HostRuntime) -> Result<(), Fail> {
-    let (mut writer, mut forwarder) = one_forwarder(rt.alloc(), rt)?;
-    same(&rt, forwarder.latest(), Ok(None), "none");
-    same(&rt, forwarder.known().len(), 0, "no notice");
+    let (mut writer, mut forwarder) = one_forwarder(&rt, rt.alloc())?;
+    expect_known(&rt, &mut forwarder, 0, None);
     post_next(&rt, rt.alloc(), &mut writer, 0);
     forwarder.learn(&writer.tell());
-    same(&rt, forwarder.known().len(), 1, "what was told");
-    same(&rt, forwarder.latest(), Ok(Some(1)), "the first");
+    expect_known(&rt, &mut forwarder, 1, Some(1));
     expect_launches(&rt, &mut forwarder);
     Ok(())
 }
@@ -279,15 +289,28 @@ fn expect_gone(rt: &impl Abort, forwarder: &mut Forwarder, packet: Packet) {
     assert!(rt; packet.to_bytes() == with::<PACKET_SIZE>(&LAUNCHED, 15, 3));
 }
 
+/// Sees that a packet of the first generation goes on beside three more, and not beside four.
+fn expect_four<W: Wait + Drop>(
+    rt: &impl Abort,
+    alloc: Global,
+    writer: &mut BoardWriter<W>,
+    forwarder: &mut Forwarder,
+)
+    requires row { IsInARow writer.old 0 }
+    requires opening { forwarder.old.opening ≡ writer.old.opening }
+{
+    post_up_to(rt, alloc, writer, 0, 4);
+    forwarder.learn(&writer.tell());
+    expect_known(rt, forwarder, 4, Some(4));
+    let packet = first_hop(rt, forwarder);
+    post_next(rt, alloc, writer, 4);
+    forwarder.learn(&writer.tell());
+    expect_gone(rt, forwarder, packet);
+}
+
 #[test]
 fn four_generations_stay(rt: HostRuntime) -> Result<(), Fail> {
-    let (mut writer, mut forwarder) = one_forwarder(rt.alloc(), rt)?;
-    post_up_to(&rt, rt.alloc(), &mut writer, 0, 4);
-    forwarder.learn(&writer.tell());
-    same(&rt, forwarder.latest(), Ok(Some(4)), "the fourth");
-    let packet = first_hop(&rt, &mut forwarder);
-    post_next(&rt, rt.alloc(), &mut writer, 4);
-    forwarder.learn(&writer.tell());
-    expect_gone(&rt, &mut forwarder, packet);
+    let (mut writer, mut forwarder) = one_forwarder(&rt, rt.alloc())?;
+    expect_four(&rt, rt.alloc(), &mut writer, &mut forwarder);
     Ok(())
 }

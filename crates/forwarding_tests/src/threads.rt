@@ -1,11 +1,9 @@
 // Two forwarders in threads while a writer posts.
 ghost use Rattle.std.specs.Prelude.{◌≡◌, []};
 
-use crate::posted::{got, post_next, post_up_to, same};
+use crate::posted::{got, post_next, post_up_to, same, two_readers};
 use forwarders::{Forwarder, Refused};
-use generations::board;
 use node_table::Move;
-use requests::SESSIONS;
 use std::test::Fail;
 use std::thread;
 
@@ -64,11 +62,8 @@ fn trips(mut forwarder: Forwarder) -> usize {
 #[test]
 fn two_forwarders_while_a_writer_posts(rt: HostRuntime) -> Result<(), Fail> {
     let alloc = rt.alloc();
-    let (mut writer, mut readers) = board(alloc, rt, 2, &[0; SESSIONS], 0)?;
+    let (mut writer, (one, two)) = two_readers(&rt, alloc)?;
     post_next(&rt, alloc, &mut writer, 0);
-    let (Some(one), Some(two)) = (readers.pop(), readers.pop()) else {
-        panic!(&rt; "no readers");
-    };
     let (mut one, mut two) = (Forwarder::new(one), Forwarder::new(two));
     one.learn(&writer.tell());
     two.learn(&writer.tell());
