@@ -7,3 +7,5 @@ pub mod TreeMembers
 pub mod MadeRows
 pub mod RowSteps
 pub mod RowColumns
+pub mod JoinedPlaces
+pub mod JoinedRanges

@@ -1,5 +1,5 @@
 -- What each step of a build does to the tables.
-use Rattle.std.specs.Prelude.{◌≡◌, ℕ, ◌<◌, ◌==◌, Bool, true, false, cond, Option, Some, None, List, [], ◌∷◌, ◌++◌, length, nat_eq, slice_get, IsPermutation}
+use Rattle.std.specs.Prelude.{◌≡◌, ℕ, ◌<◌, ◌≤◌, ◌==◌, Bool, true, false, cond, Option, Some, None, List, [], ◌∷◌, ◌++◌, length, nat_eq, slice_get, IsPermutation}
 use Rattle.std.specs.List.{All, IsDistinct}
 use Rattle.std.specs.List.Sorted.{IsStrictlyIncreasing}
 use Rattle.std.specs.declared.vec.Vec.{Vec}
@@ -12,7 +12,7 @@ use Rattle.node_table.specs.declared.parts.Parts.{Parts}
 use Rattle.node_table.specs.declared.parts.Entry.{Entry}
 use Rattle.node_table.specs.declared.parts.Listed.{Listed}
 use Rattle.node_table.specs.Tables.{nodes_of, or_none, or_false}
-use Rattle.node_table.specs.Columns.{IsColumn, IsBuilt}
+use Rattle.node_table.specs.Columns.{IsColumn, IsBuiltBetween}
 use Rattle.node_table.specs.RowLists.{Row, nodes_in, entry_in, label_in}
 
 -- the list at a place, empty where there is none
@@ -80,9 +80,44 @@ pub record IsWith (p : Parts) (r : ℕ) (ws : List Row) (ls : List Listed) (q : 
   pub homes_length : length q.homes.items ≡ length p.homes.items
   pub homes : (v : ℕ) → or_none (slice_get q.homes.items v) ≡ home_after (or_none (slice_get p.nearest.items v)) r ls v (or_none (slice_get p.homes.items v))
 
--- the tables of a build that holds the trees of the first k roots
-pub record IsBuildOf (m : Network) (flags : List Bool) (nearest : List (Option Near)) (generation : ℕ) (p : Parts) (k : ℕ) : Type 0 where
-  pub built : IsBuilt m p k
+-- the tables of a build that holds the trees of the roots from j to below k
+pub record IsBuildOf (m : Network) (flags : List Bool) (nearest : List (Option Near)) (generation : ℕ) (p : Parts) (j k : ℕ) : Type 0 where
+  pub built : IsBuiltBetween m p j k
   pub landmarks : p.landmarks.items ≡ flags
   pub nearest_list : p.nearest.items ≡ nearest
   pub given : p.generation ≡ generation
+
+-- the first list, and the second where the first is empty
+abbrev pub first_list : {X : Type 0} → List X → List X → List X
+first_list [] ys = ys
+first_list (x ∷ xs) ys = x ∷ xs
+
+-- the first value, and the second where there is none
+abbrev pub first_some : {X : Type 0} → Option X → Option X → Option X
+first_some None o = o
+first_some (Some x) o = Some x
+
+-- the lists of both tables have as many places
+pub record AreAsLong (p q : Parts) : Type 0 where
+  pub entries : length p.entries.items ≡ length q.entries.items
+  pub directories : length p.directories.items ≡ length q.directories.items
+  pub homes : length p.homes.items ≡ length q.homes.items
+
+-- the tables p with the entries of q behind theirs, and with the directories and home labels of q where p has none
+pub record IsJoined (p q t : Parts) : Type 0 where
+  pub nodes : t.nodes ≡ p.nodes
+  pub generation : t.generation ≡ p.generation
+  pub landmarks : t.landmarks.items ≡ p.landmarks.items
+  pub ports : t.ports.items ≡ p.ports.items
+  pub nearest : t.nearest.items ≡ p.nearest.items
+  pub entries_length : length t.entries.items ≡ length p.entries.items
+  pub entries : (x : ℕ) → items_at t.entries.items x ≡ items_at p.entries.items x ++ items_at q.entries.items x
+  pub directories_length : length t.directories.items ≡ length p.directories.items
+  pub directories : (x : ℕ) → items_at t.directories.items x ≡ first_list (items_at p.directories.items x) (items_at q.directories.items x)
+  pub homes_length : length t.homes.items ≡ length p.homes.items
+  pub homes : (v : ℕ) → or_none (slice_get t.homes.items v) ≡ first_some (or_none (slice_get p.homes.items v)) (or_none (slice_get q.homes.items v))
+
+-- wherever the roots of q begin where those of p end, the tables t hold the trees of both ranges
+abbrev pub JoinsRanges : Parts → Parts → Parts → Type 0
+JoinsRanges p q t = (m : Network) (flags : List Bool) (nearest : List (Option Near)) (generation first middle last : ℕ) → first ≤ middle → middle ≤ last
+    → IsBuildOf m flags nearest generation p first middle → IsBuildOf m flags nearest generation q middle last → IsBuildOf m flags nearest generation t first last

@@ -114,8 +114,13 @@ abbrev pub AreBelow : ℕ → List ℕ → Type 0
 AreBelow k [] = Unit {0}
 AreBelow k (x ∷ xs) = (x < k) × AreBelow k xs
 
--- the tables hold the trees of the first k roots
-pub record IsBuilt (m : Network) (p : Parts) (k : ℕ) : Type 0 where
+-- each number of a list is j or more
+abbrev pub AreFrom : ℕ → List ℕ → Type 0
+AreFrom j [] = Unit {0}
+AreFrom j (x ∷ xs) = (j ≤ x) × AreFrom j xs
+
+-- the tables hold the trees of the roots from j to below k, and nothing else
+pub record IsBuiltBetween (m : Network) (p : Parts) (j k : ℕ) : Type 0 where
   pub nodes : p.nodes ≡ m.nodes
   pub landmarks : length p.landmarks.items ≡ m.nodes
   pub ports : length p.ports.items ≡ m.nodes
@@ -127,7 +132,10 @@ pub record IsBuilt (m : Network) (p : Parts) (k : ℕ) : Type 0 where
   pub homes : length p.homes.items ≡ m.nodes
   pub ascend : (x : ℕ) → IsStrictlyIncreasing (roots_of (entries_at p x))
   pub below : (x : ℕ) → AreBelow k (roots_of (entries_at p x))
-  pub columns : (r : ℕ) → r < k → HasColumn m p r
+  pub from : (x : ℕ) → AreFrom j (roots_of (entries_at p x))
+  pub columns : (r : ℕ) → j ≤ r → r < k → HasColumn m p r
   pub homes_near : (v : ℕ) → IsSome ((tables p).home v) → IsSome ((tables p).nearest v)
   pub fresh : (u : ℕ) → k ≤ u → directory_at p u ≡ []
+  pub fresh_before : (u : ℕ) → u < j → directory_at p u ≡ []
   pub homes_fresh : (v : ℕ) (q : Near) → (tables p).nearest v ≡ Some q → k ≤ q.landmark → (tables p).home v ≡ None
+  pub homes_before : (v : ℕ) (q : Near) → (tables p).nearest v ≡ Some q → q.landmark < j → (tables p).home v ≡ None

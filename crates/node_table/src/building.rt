@@ -14,6 +14,7 @@ ghost use Rattle.node_table.specs.Tables.{tables, or_none};
 
 use crate::columns::{entry_of, number_reached};
 use crate::laws::graph_is_sound;
+use crate::partial::PartialScheme;
 use crate::parts::{Entry, Listed, Near, Parts};
 use crate::scheme::Scheme;
 use clusters::cluster_in;
@@ -314,18 +315,19 @@ fn flag_list(alloc: Global, landmarks: &Landmarks) -> Result<Vec<bool>, AllocErr
     Ok(all)
 }
 
-/// The tables without a tree.
+/// The tables without a tree: what a range of roots that begins with this one has at first.
 fn empty_parts(
     alloc: Global,
     graph: &Graph,
     landmarks: &Landmarks,
     nearest: &Nearest,
     generation: u64,
+    first: u16,
 ) -> Result<Parts, AllocError>
     requires same_size { length landmarks.now ≡ graph.now.nodes }
     requires nodes { length nearest.now.nearest ≡ graph.now.nodes }
     requires nearest { (v : ℕ) → IsNearestOf graph.now.edges landmarks.now v (slice_index_or nearest.now.nearest v None) }
-    ensures { IfOk result (λ parts. IsBuildOf graph.now landmarks.now nearest.now.nearest generation parts 0) }
+    ensures { IfOk result (λ parts. IsBuildOf graph.now landmarks.now nearest.now.nearest generation parts first first) }
 {
     let nodes = graph.nodes();
     Ok(Parts {
@@ -340,7 +342,8 @@ fn empty_parts(
     })
 }
 
-/// One root more: its tree is grown in an arena made for it over the scratch, and both are gone when its rows are in the tables.
+/// One root more of the range that begins with `first`: its tree is grown in an arena made for it over the scratch, and both
+/// are gone when its rows are in the tables.
 fn add_root<A: Allocator>(
     alloc: Global,
     graph: &Graph,
@@ -349,6 +352,7 @@ fn add_root<A: Allocator>(
     workspace: &mut Workspace,
     places: &mut [u16],
     parts: &mut Parts,
+    first: u16,
     root: u16,
     scratch: A,
 ) -> Result<(), AllocError>
@@ -358,9 +362,10 @@ fn add_root<A: Allocator>(
     requires nearest { (v : ℕ) → IsNearestOf graph.now.edges landmarks.now v (slice_index_or nearest.now.nearest v None) }
     requires workspace { workspace.old.nodes ≡ graph.now.nodes }
     requires places { length places.old ≡ graph.now.nodes }
-    requires built { IsBuildOf graph.now landmarks.now nearest.now.nearest parts.old.generation parts.old root }
+    requires order { first ≤ root }
+    requires built { IsBuildOf graph.now landmarks.now nearest.now.nearest parts.old.generation parts.old first root }
     ensures workspace { workspace.new.nodes ≡ workspace.old.nodes }
-    ensures built { OnOk result (IsBuildOf graph.now landmarks.now nearest.now.nearest parts.old.generation parts.new (root + 1)) }
+    ensures built { OnOk result (IsBuildOf graph.now landmarks.now nearest.now.nearest parts.old.generation parts.new first (root + 1)) }
 {
     let numbered = root_members(
         alloc, graph, landmarks, nearest, workspace, places, root, scratch,
@@ -368,25 +373,29 @@ fn add_root<A: Allocator>(
     add_rows(alloc, parts, root, workspace.members(), places, numbered)
 }
 
-/// The trees of all roots, one after the other, over one workspace.
+/// The trees of the roots from the first to below the last, one after the other, over one workspace.
 fn add_roots<A: Allocator + Clone>(
     alloc: Global,
     graph: &Graph,
     landmarks: &Landmarks,
     nearest: &Nearest,
     parts: &mut Parts,
+    first: u16,
+    last: u16,
     scratch: A,
 ) -> Result<(), AllocError>
     requires same_size { length landmarks.now ≡ graph.now.nodes }
     requires nodes { length nearest.now.nearest ≡ graph.now.nodes }
     requires nearest { (v : ℕ) → IsNearestOf graph.now.edges landmarks.now v (slice_index_or nearest.now.nearest v None) }
-    requires built { IsBuildOf graph.now landmarks.now nearest.now.nearest parts.old.generation parts.old 0 }
-    ensures { OnOk result (IsBuildOf graph.now landmarks.now nearest.now.nearest parts.old.generation parts.new graph.now.nodes) }
+    requires order { first ≤ last }
+    requires inside { last ≤ graph.now.nodes }
+    requires built { IsBuildOf graph.now landmarks.now nearest.now.nearest parts.old.generation parts.old first first }
+    ensures { OnOk result (IsBuildOf graph.now landmarks.now nearest.now.nearest parts.old.generation parts.new first last) }
 {
     let nodes = graph.nodes();
     let mut workspace = Workspace::new(alloc, nodes)?;
     let mut places = vec![in alloc; 0; nodes as usize]?;
-    for root in 0..nodes {
+    for root in first..last {
         let below = scratch.clone()?;
         add_root(
             alloc,
@@ -396,11 +405,38 @@ fn add_roots<A: Allocator + Clone>(
             &mut workspace,
             places.as_mut_slice(),
             parts,
+            first,
             root,
             below,
         )?;
     }
     Ok(())
+}
+
+/// What a build has of the roots from the first to below the last: their trees. Each tree is grown in an arena made for it
+/// over the scratch; nothing of that is kept. An `Err` means that memory was refused.
+pub fn build_between<A: Allocator + Clone>(
+    alloc: Global,
+    graph: &Graph,
+    landmarks: &Landmarks,
+    nearest: &Nearest,
+    generation: u64,
+    first: u16,
+    last: u16,
+    scratch: A,
+) -> Result<PartialScheme, AllocError>
+    requires same_size { length landmarks.now ≡ graph.now.nodes }
+    requires nodes { length nearest.now.nearest ≡ graph.now.nodes }
+    requires nearest { (v : ℕ) → IsNearestOf graph.now.edges landmarks.now v (slice_index_or nearest.now.nearest v None) }
+    requires order { first ≤ last }
+    requires inside { last ≤ graph.now.nodes }
+    ensures { IfOk result (λ partial. IsBuildOf graph.now landmarks.now nearest.now.nearest generation partial first last) }
+{
+    let mut parts = empty_parts(alloc, graph, landmarks, nearest, generation, first)?;
+    add_roots(
+        alloc, graph, landmarks, nearest, &mut parts, first, last, scratch,
+    )?;
+    Ok(PartialScheme::of(parts))
 }
 
 /// The scheme of a graph with these landmarks: all eight rules hold of it, so it serves the graph. Each root's tree is grown
@@ -422,9 +458,16 @@ pub fn build<A: Allocator + Clone>(
     ensures nearest { IfOk result (λ scheme. (x : ℕ) → NearestIsRight graph.now (tables scheme).landmark x ((tables scheme).nearest x)) }
 {
     let nearest = from_landmarks(alloc, graph, landmarks)?;
-    let mut parts = empty_parts(alloc, graph, landmarks, &nearest, generation)?;
-    graph_is_sound(graph);
-    add_roots(alloc, graph, landmarks, &nearest, &mut parts, scratch)?;
-    let scheme = Scheme::with_numbers_apart(alloc, parts)?;
+    let whole = build_between(
+        alloc,
+        graph,
+        landmarks,
+        &nearest,
+        generation,
+        0,
+        graph.nodes(),
+        scratch,
+    )?;
+    let scheme = whole.finish(alloc, graph)?;
     Ok(scheme)
 }

@@ -12,6 +12,9 @@
 //! the generation that were handed in. That the rules give good service is a law, proved once, as is what
 //! holds of a packet on its way: [`scheme_laws`].
 //!
+//! A build can be cut into ranges of roots: [`build_between`] gives what it has of one range, [`PartialScheme::join`] joins
+//! those of ranges that meet, and [`PartialScheme::finish`] makes the scheme of all roots, under the contract of [`build`].
+//!
 //! [`Scheme::assemble`] takes any tables, and takes no memory. All calls of a scheme are total for any tables and take none
 //! either, but for [`Scheme::carry`], which takes that of its trail.
 //!
@@ -28,6 +31,7 @@ mod columns;
 mod laws;
 mod numbers_apart;
 mod packet;
+mod partial;
 mod parts;
 mod ports;
 mod readers;
@@ -35,9 +39,10 @@ mod scheme;
 mod search;
 mod trail;
 
-pub use building::build;
+pub use building::{build, build_between};
 pub use laws::{graph_is_sound, scheme_laws};
 pub use packet::{Address, Home, Move, Packet, Refused};
+pub use partial::PartialScheme;
 pub use parts::{Entry, Listed, Near, Parts};
 pub use ports::port;
 pub use scheme::Scheme;

@@ -19,7 +19,7 @@ use Rattle.node_table.specs.declared.parts.Parts.{Parts}
 use Rattle.node_table.specs.declared.parts.Entry.{Entry}
 use Rattle.node_table.specs.Tables.{tables, entries_at, directory_at, first_entry, roots_of, nodes_of, or_false}
 use Rattle.node_table.specs.Checks.{IsShaped, IsClosed, HasParents, IsStrict, IsNearestThere, HasRecords, HasLabels, IsLabelIn, HasDirectories, IsChecked, tree_at, k1, k2, k3, k4, k5, k6, k7, k8}
-use Rattle.node_table.specs.Columns.{IsParentIn, limit_in, IsBuilt, AreBelow}
+use Rattle.node_table.specs.Columns.{IsParentIn, limit_in, HasColumn, IsBuiltBetween, AreBelow}
 use Rattle.node_table.proofs.Basics.Walks.{symmetric}
 use Rattle.node_table.proofs.Serving.Exact.{Distances}
 use Rattle.node_table.proofs.Serving.CheckedLaw.{first_is_listed}
@@ -102,7 +102,10 @@ below_found k r (x ∷ es) e a g = go (λ h. below_found k r es e a.1 h) (x.root
     go ih true t h = (let q = eqb-true x.root r t in subst (λ z. z < k) q a.0)
     go ih false t h = ih h
 
-module _ (m : Network) (sound : IsSound m) (p : Parts) (h : IsBuilt m p m.nodes) where
+module _ (m : Network) (sound : IsSound m) (p : Parts) (h : IsBuiltBetween m p 0 m.nodes) where
+  column_of : (r : ℕ) → r < m.nodes → HasColumn m p r
+  column_of r l = h.columns r (omega arith) l
+
   inside : (x r : ℕ) (e : Entry) → (tables p).entry x r ≡ Some e → r < m.nodes
   inside x r e g = below_found m.nodes r (entries_at p x) e (h.below x) g
 
@@ -122,12 +125,12 @@ module _ (m : Network) (sound : IsSound m) (p : Parts) (h : IsBuilt m p m.nodes)
   near_limit r x o l g = ap (λ b. cond b None (option_map (λ q. q.distance) ((tables p).nearest x))) l ∙ ap (λ z. option_map (λ q. q.distance) z) g
 
   exact : (x r : ℕ) (e : Entry) → (tables p).entry x r ≡ Some e → IsLeast m.edges (λ s. s ≡ r) x e.distance × (is_below e.distance (limit_in p r x) ≡ true)
-  exact x r e g = (h.columns r (inside x r e g)).column.exact x e g
+  exact x r e g = (column_of r (inside x r e g)).column.exact x e g
 
   -- what a landmark reaches has an entry for it
   landmark_entry : (a x d : ℕ) → (tables p).landmark a ≡ true → IsLeast m.edges (λ s. s ≡ a) x d → (e : Entry) × (((tables p).entry x a ≡ Some e) × (e.distance ≡ d))
   landmark_entry a x d l k =
-      let e = is_there ((tables p).entry x a) ((h.columns a (landmark_inside a l)).column.complete x d k (ap (is_below d) (no_limit a x l))) in
+      let e = is_there ((tables p).entry x a) ((column_of a (landmark_inside a l)).column.complete x d k (ap (is_below d) (no_limit a x l))) in
       (e.0, (e.1, IsLeast-unique m.edges (λ s. s ≡ a) x e.0.distance d (exact x a e.0 e.1).0 k))
 
   -- the limit at the root of a tree
@@ -146,7 +149,7 @@ module _ (m : Network) (sound : IsSound m) (p : Parts) (h : IsBuilt m p m.nodes)
 
   own : (x : ℕ) → x < m.nodes → (e : Entry) × (((tables p).entry x x ≡ Some e) × ((e.distance ≡ 0) × (e.parent ≡ None)))
   own x i =
-      let c = (h.columns x i).column in
+      let c = (column_of x i).column in
       let e = is_there ((tables p).entry x x) (c.complete x 0 (itself m x) (root_within x ((tables p).landmark x) ((tables p).nearest x) refl refl)) in
       (e.0, (e.1, (IsLeast-unique m.edges (λ s. s ≡ x) x e.0.distance 0 (c.exact x e.0 e.1).0 (itself m x), no_parent (λ z. (tables p).entry z x) e.0.distance e.0.parent (c.parents x e.0 e.1))))
     where
@@ -155,13 +158,13 @@ module _ (m : Network) (sound : IsSound m) (p : Parts) (h : IsBuilt m p m.nodes)
       no_parent c d (Some y) k = absurd (k.0 refl)
 
   parent_at : (x y r : ℕ) (e : Entry) → (tables p).entry x r ≡ Some e → e.parent ≡ Some y → IsParentIn m (λ z. (tables p).entry z r) r x e.distance (Some y)
-  parent_at x y r e g q = subst (IsParentIn m (λ z. (tables p).entry z r) r x e.distance) q ((h.columns r (inside x r e g)).column.parents x e g)
+  parent_at x y r e g q = subst (IsParentIn m (λ z. (tables p).entry z r) r x e.distance) q ((column_of r (inside x r e g)).column.parents x e g)
 
   parents : (x r : ℕ) (e : Entry) → (tables p).entry x r ≡ Some e → x ≢ r → (y : ℕ) × ((e.parent ≡ Some y) × (IsSome (weight_in m x y) × IsSome ((tables p).entry y r)))
   parents x r e g ne = go e.parent refl
     where
       go : (o : Option ℕ) → e.parent ≡ o → (y : ℕ) × ((e.parent ≡ Some y) × (IsSome (weight_in m x y) × IsSome ((tables p).entry y r)))
-      go None q = absurd (ne (subst (IsParentIn m (λ z. (tables p).entry z r) r x e.distance) q ((h.columns r (inside x r e g)).column.parents x e g)))
+      go None q = absurd (ne (subst (IsParentIn m (λ z. (tables p).entry z r) r x e.distance) q ((column_of r (inside x r e g)).column.parents x e g)))
       go (Some y) q = (let k = (parent_at x y r e g q).1.0 in (y, (q, (some_is (symmetric m x y ∙ k.1.1.1.0), some_is k.1.1.0))))
 
   tight : HasParents m (tables p)
@@ -189,7 +192,7 @@ module _ (m : Network) (sound : IsSound m) (p : Parts) (h : IsBuilt m p m.nodes)
 
   -- nothing at a distance within the limit lacks an entry
   nothing_least : (r y : ℕ) → r < m.nodes → (tables p).entry y r ≡ None → ((d : ℕ) → IsLeast m.edges (λ s. s ≡ r) y d → is_below d (limit_in p r y) ≡ true) → (zs : List ℕ) → IsWalk m.edges r zs y → ⊥
-  nothing_least r y i none within zs w = no_walk m r y (λ d k. not_some ((tables p).entry y r) none ((h.columns r i).column.complete y d k (within d k))) zs w
+  nothing_least r y i none within zs w = no_walk m r y (λ d k. not_some ((tables p).entry y r) none ((column_of r i).column.complete y d k (within d k))) zs w
 
   closed : IsClosed m (tables p)
   closed x y r w e g k = go ((tables p).entry y r) refl
@@ -291,9 +294,9 @@ module _ (m : Network) (sound : IsSound m) (p : Parts) (h : IsBuilt m p m.nodes)
       or_root x r e g false q = (let y = parents x r e g (λ z. not_both (eq-eqb x r z) q) in inr (y.0, y.1.0))
 
   line_of : (r : ℕ) → (i : r < m.nodes) → (place : Place) (above : Line) → Among (place ∷ above) (tree_lines (tree_at m (tables p) r))
-      → (e : Entry) × (((tables p).entry place.node r ≡ Some e) × ((record_of e.tree_record ≡ place.tree_record) × ((h.columns r i).labels place.node ≡ Some place.label)))
+      → (e : Entry) × (((tables p).entry place.node r ≡ Some e) × ((record_of e.tree_record ≡ place.tree_record) × ((column_of r i).labels place.node ≡ Some place.label)))
   line_of r i place above a =
-      let c = (h.columns r i).column in
+      let c = (column_of r i).column in
       let s = tree_at m (tables p) r in
       let same = grown_tree m (tables p) r distances h.nodes c.members s c.distinct c.begins c.laid in
       c.lines s place above (subst (λ z. Among (place ∷ above) (tree_lines z)) (sym same) a)
@@ -301,20 +304,20 @@ module _ (m : Network) (sound : IsSound m) (p : Parts) (h : IsBuilt m p m.nodes)
   records : HasRecords m (tables p)
   records r place above i a = (let k = line_of r i place above a in (k.0, (k.1.0, k.1.1.0)))
 
-  label_in : (r v : ℕ) → (i : r < m.nodes) → (l : Label) → (h.columns r i).labels v ≡ Some l → IsLabelIn m (tables p) r v l
-  label_in r v i l g place above a is = (let k = line_of r i place above a in same_value k.1.1.1 (ap (h.columns r i).labels is ∙ g))
+  label_in : (r v : ℕ) → (i : r < m.nodes) → (l : Label) → (column_of r i).labels v ≡ Some l → IsLabelIn m (tables p) r v l
+  label_in r v i l g place above a is = (let k = line_of r i place above a in same_value k.1.1.1 (ap (column_of r i).labels is ∙ g))
 
   labels : HasLabels m p
   labels = record {
-    listed = λ u e k s. (let f = is_there ((tables p).entry e.node u) s in let i = inside e.node u f.0 f.1 in label_in u e.node i e.label ((h.columns u i).listed e k));
-    home = λ v q l g n. (let i = landmark_inside q.landmark (nearest_there.there v q n).0 in label_in q.landmark v i l (sym ((h.columns q.landmark i).homes v q n refl) ∙ g));
+    listed = λ u e k s. (let f = is_there ((tables p).entry e.node u) s in let i = inside e.node u f.0 f.1 in label_in u e.node i e.label ((column_of u i).listed e k));
+    home = λ v q l g n. (let i = landmark_inside q.landmark (nearest_there.there v q n).0 in label_in q.landmark v i l (sym ((column_of q.landmark i).homes v q n refl) ∙ g));
   }
 
   directories : HasDirectories m p
   directories = record {
-    landmarks = λ u l. (h.columns u (landmark_inside u l)).landmark l;
+    landmarks = λ u l. (column_of u (landmark_inside u l)).landmark l;
     ascend = λ u. ascend u (nat_lt u m.nodes) refl;
-    exact = λ u v i l. (λ s. to_entry u v i s, λ s. (h.columns u i).complete l v (((h.columns u i).column.labelled v).0 s));
+    exact = λ u v i l. (λ s. to_entry u v i s, λ s. (column_of u i).complete l v (((column_of u i).column.labelled v).0 s));
     homes = λ v i. (h.homes_near v, λ s. home_there v s);
   }
     where
@@ -324,7 +327,7 @@ module _ (m : Network) (sound : IsSound m) (p : Parts) (h : IsBuilt m p m.nodes)
       past (x ∷ xs) (suc i) l = past xs i (omega (arith, l))
 
       ascend : (u : ℕ) (b : Bool) → nat_lt u m.nodes ≡ b → IsStrictlyIncreasing (nodes_of (directory_at p u))
-      ascend u true e = (h.columns u (let l : u < m.nodes = grind (arith, nat_tests) in l)).ascend
+      ascend u true e = (column_of u (let l : u < m.nodes = grind (arith, nat_tests) in l)).ascend
       ascend u false e =
           let l : m.nodes ≤ u = grind (arith, nat_tests) in
           let none = past p.directories.items u (omega (arith, l, h.directories)) in
@@ -335,13 +338,13 @@ module _ (m : Network) (sound : IsSound m) (p : Parts) (h : IsBuilt m p m.nodes)
       to_entry u v i s =
           let l = is_there ((tables p).listed u v) s in
           let e = first_is_listed v (directory_at p u) l.0 l.1 in
-          ((h.columns u i).column.labelled v).1 (subst (λ z. IsSome ((h.columns u i).labels z)) e.1.1.0 (some_is ((h.columns u i).listed e.0 e.1.0)))
+          ((column_of u i).column.labelled v).1 (subst (λ z. IsSome ((column_of u i).labels z)) e.1.1.0 (some_is ((column_of u i).listed e.0 e.1.0)))
 
       home_there : (v : ℕ) → IsSome ((tables p).nearest v) → IsSome ((tables p).home v)
       home_there v s =
           let q = is_there ((tables p).nearest v) s in
           let k = nearest_there.there v q.0 q.1 in
-          let c = h.columns q.0.landmark (landmark_inside q.0.landmark k.0) in
+          let c = column_of q.0.landmark (landmark_inside q.0.landmark k.0) in
           subst IsSome (sym (c.homes v q.0 q.1 refl)) ((c.column.labelled v).0 (some_is k.1.1.0))
 
   pub built_checked : IsChecked m p

@@ -20,7 +20,7 @@ use Rattle.node_table.specs.declared.parts.Entry.{Entry}
 use Rattle.node_table.specs.declared.parts.Listed.{Listed}
 use Rattle.node_table.specs.Tables.{tables, entries_at, directory_at, first_entry, first_listed, roots_of, nodes_of, or_none, or_false}
 use Rattle.node_table.specs.Checks.{IsListed}
-use Rattle.node_table.specs.Columns.{IsColumn, HasColumn, IsBuilt, AreBelow, limit_in}
+use Rattle.node_table.specs.Columns.{IsColumn, HasColumn, IsBuiltBetween, AreBelow, AreFrom, limit_in}
 use Rattle.node_table.specs.RowLists.{Row, nodes_in, nodes_numbered, row_at, row_by, rows_by, entry_in, label_in}
 use Rattle.node_table.specs.Building.{items_at, entries_for, listed_member, home_by, home_after, limit_by, IsDirectoryOf, IsDirectoryAfter, AreRowsOf, IsWith, IsBuildOf}
 use Rattle.node_table.proofs.Builds.MadeRows.{listed_row}
@@ -39,7 +39,7 @@ not_both p q = cc
 unequal : (a b : ℕ) → a < b → (b == a) ≡ false
 unequal a b l = grind (arith, nat_tests)
 
-differ : (a b : ℕ) → (a ≡ b → ⊥) → (a == b) ≡ false
+pub differ : (a b : ℕ) → (a ≡ b → ⊥) → (a == b) ≡ false
 differ a b n = go (a == b) refl
   where
     go : (c : Bool) → (a == b) ≡ c → c ≡ false
@@ -122,11 +122,11 @@ row_own (u ∷ ws) a w i = go (u.node == w.node) refl i (λ j. row_own ws a.1 w 
 
 -- ---- searching appended entries
 
-first_left : (r : ℕ) (es more : List Entry) → first_entry r more ≡ None → first_entry r (es ++ more) ≡ first_entry r es
+pub first_left : (r : ℕ) (es more : List Entry) → first_entry r more ≡ None → first_entry r (es ++ more) ≡ first_entry r es
 first_left r [] more n = n
 first_left r (e ∷ es) more n = ap (λ z. cond (e.root == r) (Some e) z) (first_left r es more n)
 
-first_right : (r : ℕ) (es more : List Entry) → first_entry r es ≡ None → first_entry r (es ++ more) ≡ first_entry r more
+pub first_right : (r : ℕ) (es more : List Entry) → first_entry r es ≡ None → first_entry r (es ++ more) ≡ first_entry r more
 first_right r [] more n = refl
 first_right r (e ∷ es) more n = go (e.root == r) n (first_right r es more)
   where
@@ -138,7 +138,7 @@ none_below : (k : ℕ) (es : List Entry) → AreBelow k (roots_of es) → first_
 none_below k [] b = refl
 none_below k (e ∷ es) b = rw (let l = b.0 in differ e.root k (λ s. omega (arith, l, s))) (none_below k es b.1)
 
-roots_append : (es more : List Entry) → roots_of (es ++ more) ≡ roots_of es ++ roots_of more
+pub roots_append : (es more : List Entry) → roots_of (es ++ more) ≡ roots_of es ++ roots_of more
 roots_append [] more = refl
 roots_append (e ∷ es) more = ap (λ z. e.root ∷ z) (roots_append es more)
 
@@ -212,6 +212,10 @@ limit_same : (b : Bool) (nearest : List (Option Near)) (x : ℕ) → limit_by b 
 limit_same true nearest x = refl
 limit_same false nearest x = ap (λ o. option_map (λ (q : Near). q.distance) o) (near_is nearest x)
 
+pub from_both : (j : ℕ) (xs ys : List ℕ) → AreFrom j xs → AreFrom j ys → AreFrom j (xs ++ ys)
+from_both j [] ys a b = b
+from_both j (x ∷ xs) ys a b = (a.0, from_both j xs ys a.1 b)
+
 less_cases : (r k : ℕ) → r < k + 1 → (r ≡ k) ⊎ (r < k)
 less_cases r k l = go (nat_lt r k) refl
   where
@@ -219,7 +223,7 @@ less_cases r k l = go (nat_lt r k) refl
     go true e = inr (grind (arith, nat_tests))
     go false e = inl (grind (arith, nat_tests))
 
-module _ (m : Network) (p q : Parts) (k : ℕ) (ws : List Row) (h : IsBuilt m p k) (rows : AreRowsOf m p k ws) (w : IsWith p k ws (map listed_row ws) q) where
+module _ (m : Network) (p q : Parts) (j k : ℕ) (ws : List Row) (le : j ≤ k) (h : IsBuiltBetween m p j k) (rows : AreRowsOf m p k ws) (w : IsWith p k ws (map listed_row ws) q) where
   apart_rows : AreApart ws
   apart_rows = apart_of ws rows.apart
 
@@ -282,9 +286,16 @@ module _ (m : Network) (p q : Parts) (k : ℕ) (ws : List Row) (h : IsBuilt m p 
   limit_old : (r x : ℕ) → limit_in p r x ≡ limit_in q r x
   limit_old r x = ap (λ b. cond b None (option_map (λ (z : Near). z.distance) ((tables p).nearest x))) (sym (landmark_same r)) ∙ ap (λ o. cond ((tables q).landmark r) None (option_map (λ (z : Near). z.distance) o)) (sym (nearest_same x))
 
-  old_column : (r : ℕ) → r < k → HasColumn m q r
-  old_column r l =
-      let c = h.columns r l in
+  still_from : (x : ℕ) → AreFrom j (roots_of (entries_at q x))
+  still_from x = subst (λ z. AreFrom j z) (sym (ap roots_of (w.entries x) ∙ roots_append (entries_at p x) (entries_for x ws))) (from_both j (roots_of (entries_at p x)) (roots_of (entries_for x ws)) (h.from x) (all (entries_for x ws) (more_roots x)))
+    where
+      all : (es : List Entry) → ((e : Entry) → IsIn e es → e.root ≡ k) → AreFrom j (roots_of es)
+      all [] f = tt
+      all (e ∷ es) f = ((let s = f e (inl refl) in omega (arith, s, le)), all es (λ z i. f z (inr i)))
+
+  old_column : (r : ℕ) → j ≤ r → r < k → HasColumn m q r
+  old_column r b l =
+      let c = h.columns r b l in
       let apart : r ≡ k → ⊥ = λ s. omega (arith, l, s) in
       let dir : directory_at q r ≡ directory_at p r = w.other_directories r apart in
       record {
@@ -297,9 +308,9 @@ module _ (m : Network) (p q : Parts) (k : ℕ) (ws : List Row) (h : IsBuilt m p 
         homes = λ v z g s. homes v z (sym (nearest_same v) ∙ g) s;
       }
     where
-      homes : (v : ℕ) (z : Near) → (tables p).nearest v ≡ Some z → z.landmark ≡ r → (tables q).home v ≡ (h.columns r l).labels v
+      homes : (v : ℕ) (z : Near) → (tables p).nearest v ≡ Some z → z.landmark ≡ r → (tables q).home v ≡ (h.columns r b l).labels v
       homes v z g s =
-          w.homes v ∙ ap (λ o. home_after o k (map listed_row ws) v ((tables p).home v)) g ∙ home_other z k ws v ((tables p).home v) (differ z.landmark k (λ e. (let a = sym s ∙ e in omega (arith, l, a)))) ∙ (h.columns r l).homes v z g s
+          w.homes v ∙ ap (λ o. home_after o k (map listed_row ws) v ((tables p).home v)) g ∙ home_other z k ws v ((tables p).home v) (differ z.landmark k (λ e. (let a = sym s ∙ e in omega (arith, l, a)))) ∙ (h.columns r b l).homes v z g s
 
   new_column : HasColumn m q k
   new_column = record {
@@ -342,7 +353,11 @@ module _ (m : Network) (p q : Parts) (k : ℕ) (ws : List Row) (h : IsBuilt m p 
   homes_fresh v z g l =
       w.homes v ∙ ap (λ o. home_after o k (map listed_row ws) v ((tables p).home v)) g ∙ home_other z k ws v ((tables p).home v) (unequal k z.landmark (omega (arith, l))) ∙ h.homes_fresh v z g (omega (arith, l))
 
-  pub built_more : IsBuilt m q (k + 1)
+  homes_before : (v : ℕ) (z : Near) → (tables p).nearest v ≡ Some z → z.landmark < j → (tables q).home v ≡ None
+  homes_before v z g l =
+      w.homes v ∙ ap (λ o. home_after o k (map listed_row ws) v ((tables p).home v)) g ∙ home_other z k ws v ((tables p).home v) (differ z.landmark k (λ e. omega (arith, l, le, e))) ∙ h.homes_before v z g l
+
+  pub built_more : IsBuiltBetween m q j (k + 1)
   built_more = record {
     nodes = w.nodes ∙ h.nodes;
     landmarks = ap length w.landmarks ∙ h.landmarks;
@@ -355,27 +370,30 @@ module _ (m : Network) (p q : Parts) (k : ℕ) (ws : List Row) (h : IsBuilt m p 
     homes = w.homes_length ∙ h.homes;
     ascend = still_ascends;
     below = still_below;
-    columns = λ r l. elim (less_cases r k l) [ inl s ↦ subst (HasColumn m q) (sym s) new_column | inr b ↦ old_column r b ];
+    from = still_from;
+    columns = λ r a l. elim (less_cases r k l) [ inl s ↦ subst (HasColumn m q) (sym s) new_column | inr b ↦ old_column r a b ];
     homes_near = λ v s. subst IsSome (sym (nearest_same v)) (homes_near v ((tables p).nearest v) refl s);
     fresh = λ u l. w.other_directories u (λ s. omega (arith, l, s)) ∙ h.fresh u (omega (arith, l));
+    fresh_before = λ u l. w.other_directories u (λ s. omega (arith, l, le, s)) ∙ h.fresh_before u l;
     homes_fresh = λ v z g l. homes_fresh v z (sym (nearest_same v) ∙ g) l;
+    homes_before = λ v z g l. homes_before v z (sym (nearest_same v) ∙ g) l;
   }
 
 -- the same for the tables of a build, with the rows of what was numbered
-pub built_of_more : (m : Network) (flags : List Bool) (nearest : List (Option Near)) (generation : ℕ) (p q : Parts) (k : ℕ) (ks : List Linked) (table : List ℕ) (ns : List NumberedMember) → IsBuildOf m flags nearest generation p k
-    → AreRowsOf m p k (rows_by k ks table ns) → IsWith p k (rows_by k ks table ns) (map listed_member ns) q → IsBuildOf m flags nearest generation q (k + 1)
-built_of_more m flags nearest generation p q k ks table ns h rows w = record {
-  built = built_more m p q k (rows_by k ks table ns) h.built rows (subst (λ ls. IsWith p k (rows_by k ks table ns) ls q) (sym (rows_listed k ks table ns)) w);
+pub built_of_more : (m : Network) (flags : List Bool) (nearest : List (Option Near)) (generation : ℕ) (p q : Parts) (j k : ℕ) (ks : List Linked) (table : List ℕ) (ns : List NumberedMember) → j ≤ k → IsBuildOf m flags nearest generation p j k
+    → AreRowsOf m p k (rows_by k ks table ns) → IsWith p k (rows_by k ks table ns) (map listed_member ns) q → IsBuildOf m flags nearest generation q j (k + 1)
+built_of_more m flags nearest generation p q j k ks table ns le h rows w = record {
+  built = built_more m p q j k (rows_by k ks table ns) le h.built rows (subst (λ ls. IsWith p k (rows_by k ks table ns) ls q) (sym (rows_listed k ks table ns)) w);
   landmarks = w.landmarks ∙ h.landmarks;
   nearest_list = w.nearest ∙ h.nearest_list;
   given = w.generation ∙ h.given;
 }
 
 -- the rows of a root, by the flags and the nearest landmarks that the tables hold
-pub rows_of : (m : Network) (flags : List Bool) (nearest : List (Option Near)) (generation : ℕ) (p : Parts) (k : ℕ) (ks : List Linked) (table : List ℕ) (ns : List NumberedMember) → IsBuildOf m flags nearest generation p k
+pub rows_of : (m : Network) (flags : List Bool) (nearest : List (Option Near)) (generation : ℕ) (p : Parts) (j k : ℕ) (ks : List Linked) (table : List ℕ) (ns : List NumberedMember) → IsBuildOf m flags nearest generation p j k
     → IsDistinct nat_eq (nodes_numbered ns) → All (λ (n : NumberedMember). n.node < m.nodes) ns
     → IsColumn m (limit_by (slice_index_or flags k false) nearest) k (entry_in (rows_by k ks table ns)) (label_in (rows_by k ks table ns)) → AreRowsOf m p k (rows_by k ks table ns)
-rows_of m flags nearest generation p k ks table ns h apart inside column =
+rows_of m flags nearest generation p j k ks table ns h apart inside column =
     record {
       apart = subst (IsDistinct nat_eq) (sym (rows_nodes k ks table ns)) apart;
       inside = All-map (λ (w : Row). w.node < m.nodes) (row_by k ks table) ns inside;
@@ -388,8 +406,8 @@ rows_of m flags nearest generation p k ks table ns h apart inside column =
 pub built_first : (m : Network) (p : Parts) → p.nodes ≡ m.nodes → length p.landmarks.items ≡ m.nodes → length p.ports.items ≡ m.nodes → ((x : ℕ) → x < m.nodes → items_at p.ports.items x ≡ neighbours m x)
     → length p.nearest.items ≡ m.nodes → ((v : ℕ) → IsNearestOf m.edges p.landmarks.items v (slice_index_or p.nearest.items v None))
     → length p.entries.items ≡ m.nodes → ((x : ℕ) → items_at p.entries.items x ≡ []) → length p.directories.items ≡ m.nodes → ((x : ℕ) → items_at p.directories.items x ≡ [])
-    → length p.homes.items ≡ m.nodes → ((v : ℕ) → or_none (slice_get p.homes.items v) ≡ None) → IsBuilt m p 0
-built_first m p nodes landmarks ports each nearest is entries none directories empty homes unset = record {
+    → length p.homes.items ≡ m.nodes → ((v : ℕ) → or_none (slice_get p.homes.items v) ≡ None) → (j : ℕ) → IsBuiltBetween m p j j
+built_first m p nodes landmarks ports each nearest is entries none directories empty homes unset j = record {
   nodes = nodes;
   landmarks = landmarks;
   ports = ports;
@@ -400,9 +418,12 @@ built_first m p nodes landmarks ports each nearest is entries none directories e
   directories = directories;
   homes = homes;
   ascend = λ x. subst (λ z. IsStrictlyIncreasing (roots_of z)) (sym (none x)) (λ k l. absurd (omega (arith, l)));
-  below = λ x. subst (λ z. AreBelow 0 (roots_of z)) (sym (none x)) tt;
-  columns = λ r l. absurd (omega (arith, l));
+  below = λ x. subst (λ z. AreBelow j (roots_of z)) (sym (none x)) tt;
+  from = λ x. subst (λ z. AreFrom j (roots_of z)) (sym (none x)) tt;
+  columns = λ r a l. absurd (omega (arith, a, l));
   homes_near = λ v s. absurd (let b : false ≡ true = subst IsSome (unset v) s in cc);
   fresh = λ u l. empty u;
+  fresh_before = λ u l. empty u;
   homes_fresh = λ v q g l. unset v;
+  homes_before = λ v q g l. unset v;
 }

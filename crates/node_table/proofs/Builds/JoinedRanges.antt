@@ -1,0 +1,183 @@
+-- Two adjacent ranges of roots, joined: tables of the roots from a to below b, with those from b to below c behind them.
+use Rattle.std.proofs.Common.{◌≡◌, ℕ, zero, suc, ◌+◌, ◌≤◌, ◌<◌, ◌⊎◌, inl, inr, Bool, true, false, cond, nat_lt, sym, refl, ap, subst, ◌∙◌, arith, List, [], ◌∷◌, ◌++◌, length}
+use Rattle.std.specs.Prelude.{Option, Some, None, IsSome, slice_get}
+use Rattle.std.specs.Option.{option_map}
+use Rattle.std.specs.List.Sorted.{IsStrictlyIncreasing}
+use Rattle.std.proofs.lemmas.Bool.Decides.{nat_tests}
+use Rattle.graph_edits.specs.Edges.{Network}
+use Rattle.distances.specs.Nearest.{IsNearestOf}
+use Rattle.distances.specs.declared.nearest.Near.{Near}
+use Rattle.heavy_labels.specs.Label.{Label}
+use Rattle.node_table.specs.declared.parts.Parts.{Parts}
+use Rattle.node_table.specs.declared.parts.Entry.{Entry}
+use Rattle.node_table.specs.Tables.{tables, entries_at, directory_at, first_entry, first_listed, roots_of, nodes_of, or_none, or_false}
+use Rattle.node_table.specs.Checks.{IsListed}
+use Rattle.node_table.specs.Columns.{IsColumn, HasColumn, IsBuiltBetween, AreBelow, AreFrom, limit_in}
+use Rattle.node_table.specs.Building.{items_at, first_list, first_some, IsJoined, IsBuildOf}
+use Rattle.node_table.proofs.Builds.RowSteps.{below_more}
+use Rattle.node_table.proofs.Builds.OneRootMore.{first_left, first_right, roots_append, differ, from_both}
+
+-- ---- lists of roots below b and from b
+
+none_from : (b r : ℕ) (es : List Entry) → r < b → AreFrom b (roots_of es) → first_entry r es ≡ None
+none_from b r [] l f = refl
+none_from b r (e ∷ es) l f = rw (let k = f.0 in differ e.root r (λ s. omega (arith, k, l, s))) (none_from b r es l f.1)
+
+none_under : (b r : ℕ) (es : List Entry) → b ≤ r → AreBelow b (roots_of es) → first_entry r es ≡ None
+none_under b r [] l f = refl
+none_under b r (e ∷ es) l f = rw (let k = f.0 in differ e.root r (λ s. omega (arith, k, l, s))) (none_under b r es l f.1)
+
+from_more : (xs : List ℕ) (j k : ℕ) → j ≤ k → AreFrom k xs → AreFrom j xs
+from_more [] j k l b = tt
+from_more (x ∷ xs) j k l b = (omega (arith, l, b.0), from_more xs j k l b.1)
+
+below_both : (k : ℕ) (xs ys : List ℕ) → AreBelow k xs → AreBelow k ys → AreBelow k (xs ++ ys)
+below_both k [] ys a b = b
+below_both k (x ∷ xs) ys a b = (a.0, below_both k xs ys a.1 b)
+
+increasing_both : (b : ℕ) (xs ys : List ℕ) → IsStrictlyIncreasing xs → IsStrictlyIncreasing ys → AreBelow b xs → AreFrom b ys → IsStrictlyIncreasing (xs ++ ys)
+increasing_both b [] ys h g u f k l = g k l
+increasing_both b (x ∷ []) [] h g u f k l = absurd (omega (arith, l))
+increasing_both b (x ∷ []) (y ∷ ys) h g u f zero l = (let p = u.0 in let q = f.0 in omega (arith, p, q))
+increasing_both b (x ∷ []) (y ∷ ys) h g u f (suc k) l = rw shift (g k (omega (arith, l)))
+  where
+    shift : suc k + 1 ≡ suc (k + 1)
+    shift = omega arith
+increasing_both b (x ∷ z ∷ xs) ys h g u f zero l = h 0 (omega arith)
+increasing_both b (x ∷ z ∷ xs) ys h g u f (suc k) l = rw shift (increasing_both b (z ∷ xs) ys rest g u.1 f k (omega (arith, l)))
+  where
+    shift : suc k + 1 ≡ suc (k + 1)
+    shift = omega arith
+
+    rest : IsStrictlyIncreasing (z ∷ xs)
+    rest j i = (let q : suc j + 1 ≡ suc (j + 1) = omega arith in let g = h (suc j) (omega (arith, i)) in rw q at g)
+
+list_left : {X : Type 0} (xs : List X) → first_list xs [] ≡ xs
+list_left [] = refl
+list_left (x ∷ xs) = refl
+
+some_left : {X : Type 0} (o : Option X) → first_some o None ≡ o
+some_left None = refl
+some_left (Some x) = refl
+
+either_side : (r b : ℕ) → (r < b) ⊎ (b ≤ r)
+either_side r b = go (nat_lt r b) refl
+  where
+    go : (c : Bool) → nat_lt r b ≡ c → (r < b) ⊎ (b ≤ r)
+    go true e = inl (grind (arith, nat_tests))
+    go false e = inr (grind (arith, nat_tests))
+
+module _ (m : Network) (p q t : Parts) (a b c : ℕ) (ab : a ≤ b) (bc : b ≤ c) (h : IsBuiltBetween m p a b) (k : IsBuiltBetween m q b c)
+    (flags : q.landmarks.items ≡ p.landmarks.items) (near : q.nearest.items ≡ p.nearest.items) (w : IsJoined p q t) where
+  landmark_p : (x : ℕ) → (tables t).landmark x ≡ (tables p).landmark x
+  landmark_p x = ap (λ z. or_false (slice_get z x)) w.landmarks
+
+  landmark_q : (x : ℕ) → (tables t).landmark x ≡ (tables q).landmark x
+  landmark_q x = landmark_p x ∙ ap (λ z. or_false (slice_get z x)) (sym flags)
+
+  nearest_p : (v : ℕ) → (tables t).nearest v ≡ (tables p).nearest v
+  nearest_p v = ap (λ z. or_none (slice_get z v)) w.nearest
+
+  nearest_q : (v : ℕ) → (tables t).nearest v ≡ (tables q).nearest v
+  nearest_q v = nearest_p v ∙ ap (λ z. or_none (slice_get z v)) (sym near)
+
+  roots_t : (x : ℕ) → roots_of (entries_at t x) ≡ roots_of (entries_at p x) ++ roots_of (entries_at q x)
+  roots_t x = ap roots_of (w.entries x) ∙ roots_append (entries_at p x) (entries_at q x)
+
+  first_p : (r x : ℕ) → r < b → first_entry r (entries_at t x) ≡ first_entry r (entries_at p x)
+  first_p r x l = ap (first_entry r) (w.entries x) ∙ first_left r (entries_at p x) (entries_at q x) (none_from b r (entries_at q x) l (k.from x))
+
+  first_q : (r x : ℕ) → b ≤ r → first_entry r (entries_at t x) ≡ first_entry r (entries_at q x)
+  first_q r x l = ap (first_entry r) (w.entries x) ∙ first_right r (entries_at p x) (entries_at q x) (none_under b r (entries_at p x) l (h.below x))
+
+  directory_p : (u : ℕ) → u < b → directory_at t u ≡ directory_at p u
+  directory_p u l = w.directories u ∙ ap (first_list (directory_at p u)) (k.fresh_before u l) ∙ list_left (directory_at p u)
+
+  directory_q : (u : ℕ) → b ≤ u → directory_at t u ≡ directory_at q u
+  directory_q u l = w.directories u ∙ ap (λ z. first_list z (directory_at q u)) (h.fresh u l)
+
+  home_p : (v : ℕ) (z : Near) → (tables p).nearest v ≡ Some z → z.landmark < b → (tables t).home v ≡ (tables p).home v
+  home_p v z g l = w.homes v ∙ ap (first_some ((tables p).home v)) (k.homes_before v z (sym (nearest_q v) ∙ nearest_p v ∙ g) l) ∙ some_left ((tables p).home v)
+
+  home_q : (v : ℕ) (z : Near) → (tables p).nearest v ≡ Some z → b ≤ z.landmark → (tables t).home v ≡ (tables q).home v
+  home_q v z g l = w.homes v ∙ ap (λ o. first_some o ((tables q).home v)) (h.homes_fresh v z g l)
+
+  limit_p : (r x : ℕ) → limit_in p r x ≡ limit_in t r x
+  limit_p r x = ap (λ b. cond b None (option_map (λ (z : Near). z.distance) ((tables p).nearest x))) (sym (landmark_p r)) ∙ ap (λ o. cond ((tables t).landmark r) None (option_map (λ (z : Near). z.distance) o)) (sym (nearest_p x))
+
+  limit_q : (r x : ℕ) → limit_in q r x ≡ limit_in t r x
+  limit_q r x = ap (λ b. cond b None (option_map (λ (z : Near). z.distance) ((tables q).nearest x))) (sym (landmark_q r)) ∙ ap (λ o. cond ((tables t).landmark r) None (option_map (λ (z : Near). z.distance) o)) (sym (nearest_q x))
+
+  column_p : (r : ℕ) → a ≤ r → r < b → HasColumn m t r
+  column_p r i l =
+      let c = h.columns r i l in
+      let dir : directory_at t r ≡ directory_at p r = directory_p r l in
+      record {
+        labels = c.labels;
+        column = subst (λ f. IsColumn m (limit_in t r) r f c.labels) (λ i x. sym (first_p r x l) i) (subst (λ lim. IsColumn m lim r (λ x. first_entry r (entries_at p x)) c.labels) (λ i x. limit_p r x i) c.column);
+        landmark = λ e. dir ∙ c.landmark (sym (landmark_p r) ∙ e);
+        listed = λ e i. c.listed e (subst (IsListed e) dir i);
+        ascend = subst (λ z. IsStrictlyIncreasing (nodes_of z)) (sym dir) c.ascend;
+        complete = λ e v s. subst (λ z. IsSome (first_listed v z)) (sym dir) (c.complete (sym (landmark_p r) ∙ e) v s);
+        homes = λ v z g s. home_p v z (sym (nearest_p v) ∙ g) (omega (arith, s, l)) ∙ c.homes v z (sym (nearest_p v) ∙ g) s;
+      }
+
+  column_q : (r : ℕ) → b ≤ r → r < c → HasColumn m t r
+  column_q r i l =
+      let c = k.columns r i l in
+      let dir : directory_at t r ≡ directory_at q r = directory_q r i in
+      record {
+        labels = c.labels;
+        column = subst (λ f. IsColumn m (limit_in t r) r f c.labels) (λ j x. sym (first_q r x i) j) (subst (λ lim. IsColumn m lim r (λ x. first_entry r (entries_at q x)) c.labels) (λ i x. limit_q r x i) c.column);
+        landmark = λ e. dir ∙ c.landmark (sym (landmark_q r) ∙ e);
+        listed = λ e i. c.listed e (subst (IsListed e) dir i);
+        ascend = subst (λ z. IsStrictlyIncreasing (nodes_of z)) (sym dir) c.ascend;
+        complete = λ e v s. subst (λ z. IsSome (first_listed v z)) (sym dir) (c.complete (sym (landmark_q r) ∙ e) v s);
+        homes = λ v z g s. home_q v z (sym (nearest_p v) ∙ g) (omega (arith, s, i)) ∙ c.homes v z (sym (nearest_q v) ∙ g) s;
+      }
+
+  homes_near : (v : ℕ) (o : Option Near) → (tables t).nearest v ≡ o → IsSome ((tables t).home v) → IsSome o
+  homes_near v (Some z) g s = refl
+  homes_near v None g s = one ((tables p).home v) ((tables q).home v) (λ i. subst IsSome (sym (nearest_p v) ∙ g) (h.homes_near v i)) (λ i. subst IsSome (sym (nearest_q v) ∙ g) (k.homes_near v i)) (subst IsSome (w.homes v) s)
+    where
+      one : (o u : Option Label) → (IsSome o → false ≡ true) → (IsSome u → false ≡ true) → IsSome (first_some o u) → false ≡ true
+      one None u f g i = g i
+      one (Some x) u f g i = f refl
+
+  homes_after : (v : ℕ) (z : Near) → (tables p).nearest v ≡ Some z → c ≤ z.landmark → (tables t).home v ≡ None
+  homes_after v z g l = home_q v z g (omega (arith, l, bc)) ∙ k.homes_fresh v z (sym (nearest_q v) ∙ nearest_p v ∙ g) l
+
+  homes_first : (v : ℕ) (z : Near) → (tables p).nearest v ≡ Some z → z.landmark < a → (tables t).home v ≡ None
+  homes_first v z g l = home_p v z g (omega (arith, l, ab)) ∙ h.homes_before v z g l
+
+  pub ranges_joined : IsBuiltBetween m t a c
+  ranges_joined = record {
+    nodes = w.nodes ∙ h.nodes;
+    landmarks = ap length w.landmarks ∙ h.landmarks;
+    ports = ap length w.ports ∙ h.ports;
+    neighbours_are = λ x i. ap (λ z. items_at z x) w.ports ∙ h.neighbours_are x i;
+    nearest = ap length w.nearest ∙ h.nearest;
+    nearest_is = λ v. subst (λ o. IsNearestOf m.edges t.landmarks.items v o) (sym (nearest_p v)) (subst (λ z. IsNearestOf m.edges z v ((tables p).nearest v)) (sym w.landmarks) (h.nearest_is v));
+    entries = w.entries_length ∙ h.entries;
+    directories = w.directories_length ∙ h.directories;
+    homes = w.homes_length ∙ h.homes;
+    ascend = λ x. subst IsStrictlyIncreasing (sym (roots_t x)) (increasing_both b (roots_of (entries_at p x)) (roots_of (entries_at q x)) (h.ascend x) (k.ascend x) (h.below x) (k.from x));
+    below = λ x. subst (AreBelow c) (sym (roots_t x)) (below_both c (roots_of (entries_at p x)) (roots_of (entries_at q x)) (below_more (roots_of (entries_at p x)) b c bc (h.below x)) (k.below x));
+    from = λ x. subst (AreFrom a) (sym (roots_t x)) (from_both a (roots_of (entries_at p x)) (roots_of (entries_at q x)) (h.from x) (from_more (roots_of (entries_at q x)) a b ab (k.from x)));
+    columns = λ r i l. elim (either_side r b) [ inl s ↦ column_p r i s | inr s ↦ column_q r s l ];
+    homes_near = λ v s. homes_near v ((tables t).nearest v) refl s;
+    fresh = λ u l. directory_q u (omega (arith, l, bc)) ∙ k.fresh u l;
+    fresh_before = λ u l. directory_p u (omega (arith, l, ab)) ∙ h.fresh_before u l;
+    homes_fresh = λ v z g l. homes_after v z (sym (nearest_p v) ∙ g) l;
+    homes_before = λ v z g l. homes_first v z (sym (nearest_p v) ∙ g) l;
+  }
+
+-- the same for the tables of a build
+pub build_joined : (m : Network) (flags : List Bool) (nearest : List (Option Near)) (generation : ℕ) (p q t : Parts) (a b c : ℕ) → a ≤ b → b ≤ c
+    → IsBuildOf m flags nearest generation p a b → IsBuildOf m flags nearest generation q b c → IsJoined p q t → IsBuildOf m flags nearest generation t a c
+build_joined m flags nearest generation p q t a b c ab bc h k w = record {
+  built = ranges_joined m p q t a b c ab bc h.built k.built (k.landmarks ∙ sym h.landmarks) (k.nearest_list ∙ sym h.nearest_list) w;
+  landmarks = w.landmarks ∙ h.landmarks;
+  nearest_list = w.nearest ∙ h.nearest_list;
+  given = w.generation ∙ h.given;
+}

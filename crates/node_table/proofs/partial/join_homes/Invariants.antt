@@ -1,0 +1,13 @@
+use Rattle.std.proofs.Common.{◌≡◌, length}
+use Rattle.std.specs.Prelude.{slice_get}
+use Rattle.node_table.specs.Building.{first_some}
+use Rattle.node_table.specs.Tables.{or_none}
+use Rattle.node_table.proofs.Builds.JoinedPlaces.{AreJoinedBelow}
+use Rattle.node_table.proofs.partial.join_homes.Given as goal
+
+abbrev pub invariant-loop-v : goal.invariant-loop-v
+invariant-loop-v l = record {
+  size : length l.homes.items ≡ length l.initial.homes.items;
+  left : length l.next.items ≡ length l.initial.next.items;
+  joined : AreJoinedBelow _ _ first_some (λ v. or_none (slice_get l.initial.homes.items v)) (λ v. or_none (slice_get l.homes.items v)) (λ v. or_none (slice_get l.initial.next.items v)) (λ v. or_none (slice_get l.next.items v)) l.v;
+}

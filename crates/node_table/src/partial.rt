@@ -1,0 +1,200 @@
+// What a build has of a range of roots: it is joined with what stands behind, and finished when no root is left.
+ghost use Rattle.std.specs.Prelude.{◌≡◌, ◌<◌, ◌++◌, ◌↔◌, ℕ, IsSome, IfOk, OnOk, length, slice_get};
+ghost use Rattle.node_table.specs.Building.{AreAsLong, IsJoined, JoinsRanges, first_list, first_some, items_at};
+ghost use Rattle.node_table.specs.Checks.{IsChecked};
+ghost use Rattle.node_table.specs.Columns.{IsBuiltBetween};
+ghost use Rattle.node_table.specs.Laws.{IsInTree, NearestIsRight};
+ghost use Rattle.node_table.specs.Service.{Serves};
+ghost use Rattle.node_table.specs.Tables.{tables, or_none};
+
+use crate::laws::graph_is_sound;
+use crate::parts::{Entry, Listed, Parts};
+use crate::scheme::Scheme;
+use graph_edits::Graph;
+use heavy_labels::Label;
+use std::alloc::{AllocError, Global};
+use std::marker::Model;
+use std::mem;
+
+/// The tables of a build that has the trees of a range of roots, and of no other. Contracts see the tables.
+#[derive(Drop)]
+pub struct PartialScheme {
+    parts: Parts,
+}
+
+impl Model for PartialScheme {
+    ghost use Rattle.node_table.specs.declared.parts.Parts.{Parts};
+
+    ghost Value = { Parts };
+
+    ghost view = { λ partial. partial.parts };
+}
+
+impl PartialScheme {
+    /// These tables, of a range.
+    pub(crate) fn of(parts: Parts) -> PartialScheme
+        ensures { result ≡ parts }
+    {
+        PartialScheme { parts }
+    }
+
+    /// What both have, joined. Where the roots of the next one begin where these end, it is what a build has of both ranges.
+    /// An `Err` means that memory was refused.
+    pub fn join(self, next: PartialScheme) -> Result<PartialScheme, AllocError>
+        requires { AreAsLong self next }
+        ensures tables { IfOk result (λ joined. IsJoined self next joined) }
+        ensures ranges { IfOk result (λ joined. JoinsRanges self next joined) }
+    {
+        let parts = join_parts(self.parts, next.parts)?;
+        Ok(PartialScheme { parts })
+    }
+
+    /// The scheme of what has the trees of all roots. An `Err` means that memory was refused.
+    pub fn finish(self, alloc: Global, graph: &Graph) -> Result<Scheme, AllocError>
+        requires { IsBuiltBetween graph.now self 0 graph.now.nodes }
+        ensures checked { IfOk result (λ scheme. IsChecked graph.now scheme) }
+        ensures serves { IfOk result (λ scheme. Serves graph.now (tables scheme)) }
+        ensures landmarks { IfOk result (λ scheme. scheme.landmarks.items ≡ self.landmarks.items) }
+        ensures generation { IfOk result (λ scheme. scheme.generation ≡ self.generation) }
+        ensures trees { IfOk result (λ scheme. (x r : ℕ) → IsSome ((tables scheme).entry x r) ↔ IsInTree graph.now (tables scheme).landmark r x) }
+        ensures nearest { IfOk result (λ scheme. (x : ℕ) → NearestIsRight graph.now (tables scheme).landmark x ((tables scheme).nearest x)) }
+    {
+        graph_is_sound(graph);
+        let scheme = Scheme::with_numbers_apart(alloc, self.parts)?;
+        Ok(scheme)
+    }
+}
+
+/// Both tables, joined.
+fn join_parts(first: Parts, next: Parts) -> Result<Parts, AllocError>
+    requires { AreAsLong first next }
+    ensures { IfOk result (λ joined. IsJoined first next joined) }
+{
+    let Parts {
+        nodes,
+        generation,
+        landmarks,
+        ports,
+        nearest,
+        entries,
+        directories,
+        homes,
+    } = first;
+    Ok(Parts {
+        nodes,
+        generation,
+        landmarks,
+        ports,
+        nearest,
+        entries: join_entries(entries, next.entries)?,
+        directories: join_directories(directories, next.directories),
+        homes: join_homes(homes, next.homes),
+    })
+}
+
+/// The entries of each node, and behind them those of the next range.
+fn join_entries(
+    mut lists: Vec<Vec<Entry>>,
+    mut next: Vec<Vec<Entry>>,
+) -> Result<Vec<Vec<Entry>>, AllocError>
+    requires { length lists.items ≡ length next.items }
+    ensures length { IfOk result (λ joined. length joined.items ≡ length lists.items) }
+    ensures items { IfOk result (λ joined. (x : ℕ) → items_at joined.items x ≡ items_at lists.items x ++ items_at next.items x) }
+{
+    for x in 0..lists.len() {
+        append_at(&mut lists, &mut next, x)?;
+    }
+    Ok(lists)
+}
+
+/// Puts the entries that the next range has at a place behind those that stand there.
+fn append_at(
+    lists: &mut Vec<Vec<Entry>>,
+    next: &mut Vec<Vec<Entry>>,
+    at: usize,
+) -> Result<(), AllocError>
+    requires here { at < length lists.old.items }
+    requires there { at < length next.old.items }
+    ensures length { OnOk result (length lists.new.items ≡ length lists.old.items) }
+    ensures left { OnOk result (length next.new.items ≡ length next.old.items) }
+    ensures joined { OnOk result (items_at lists.new.items at ≡ items_at lists.old.items at ++ items_at next.old.items at) }
+    ensures others { OnOk result ((x : ℕ) → (x ≡ at → ⊥) → items_at lists.new.items x ≡ items_at lists.old.items x) }
+    ensures rest { OnOk result ((x : ℕ) → (x ≡ at → ⊥) → items_at next.new.items x ≡ items_at next.old.items x) }
+{
+    append(&mut lists[at], &mut next[at])
+}
+
+/// Puts the second list behind the first.
+fn append(list: &mut Vec<Entry>, more: &mut Vec<Entry>) -> Result<(), AllocError>
+    ensures { OnOk result (list.new.items ≡ list.old.items ++ more.old.items) }
+{
+    list.append(more)
+}
+
+/// The directory of each node, and that of the next range where there is none.
+fn join_directories(mut lists: Vec<Vec<Listed>>, mut next: Vec<Vec<Listed>>) -> Vec<Vec<Listed>>
+    requires { length lists.items ≡ length next.items }
+    ensures length { length result.items ≡ length lists.items }
+    ensures items { (x : ℕ) → items_at result.items x ≡ first_list (items_at lists.items x) (items_at next.items x) }
+{
+    for x in 0..lists.len() {
+        choose_at(&mut lists, &mut next, x);
+    }
+    lists
+}
+
+/// Takes the directory that the next range has at a place, if none stands there.
+fn choose_at(lists: &mut Vec<Vec<Listed>>, next: &mut Vec<Vec<Listed>>, at: usize)
+    requires here { at < length lists.old.items }
+    requires there { at < length next.old.items }
+    ensures length { length lists.new.items ≡ length lists.old.items }
+    ensures left { length next.new.items ≡ length next.old.items }
+    ensures joined { items_at lists.new.items at ≡ first_list (items_at lists.old.items at) (items_at next.old.items at) }
+    ensures others { (x : ℕ) → (x ≡ at → ⊥) → items_at lists.new.items x ≡ items_at lists.old.items x }
+    ensures rest { (x : ℕ) → (x ≡ at → ⊥) → items_at next.new.items x ≡ items_at next.old.items x }
+{
+    choose(&mut lists[at], &mut next[at]);
+}
+
+/// Takes the second directory if the first is empty.
+fn choose(list: &mut Vec<Listed>, other: &mut Vec<Listed>)
+    ensures { list.new.items ≡ first_list list.old.items other.old.items }
+{
+    if list.is_empty() {
+        mem::swap(list, other);
+    }
+}
+
+/// The home label of each node, and that of the next range where there is none.
+fn join_homes(mut homes: Vec<Option<Label>>, mut next: Vec<Option<Label>>) -> Vec<Option<Label>>
+    requires { length homes.items ≡ length next.items }
+    ensures length { length result.items ≡ length homes.items }
+    ensures items { (v : ℕ) → or_none (slice_get result.items v) ≡ first_some (or_none (slice_get homes.items v)) (or_none (slice_get next.items v)) }
+{
+    for v in 0..homes.len() {
+        choose_home_at(&mut homes, &mut next, v);
+    }
+    homes
+}
+
+/// Takes the home label that the next range has at a place, if none stands there.
+fn choose_home_at(homes: &mut Vec<Option<Label>>, next: &mut Vec<Option<Label>>, at: usize)
+    requires here { at < length homes.old.items }
+    requires there { at < length next.old.items }
+    ensures length { length homes.new.items ≡ length homes.old.items }
+    ensures left { length next.new.items ≡ length next.old.items }
+    ensures joined { or_none (slice_get homes.new.items at) ≡ first_some (or_none (slice_get homes.old.items at)) (or_none (slice_get next.old.items at)) }
+    ensures others { (x : ℕ) → (x ≡ at → ⊥) → or_none (slice_get homes.new.items x) ≡ or_none (slice_get homes.old.items x) }
+    ensures rest { (x : ℕ) → (x ≡ at → ⊥) → or_none (slice_get next.new.items x) ≡ or_none (slice_get next.old.items x) }
+{
+    choose_home(&mut homes[at], &mut next[at]);
+}
+
+/// Takes the second label if there is no first one.
+fn choose_home(home: &mut Option<Label>, other: &mut Option<Label>)
+    ensures { home.new ≡ first_some home.old other.old }
+{
+    if home.is_none() {
+        mem::swap(home, other);
+    }
+}

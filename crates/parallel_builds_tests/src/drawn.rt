@@ -1,0 +1,81 @@
+// Drawn graphs: the scheme of each number of workers against that of one build.
+use crate::helpers::{Edge, built, expect_same, got, graph_of, landmarks_at};
+use rand_core::{Rng, SeedableRng};
+use rand_xoshiro::Xoshiro256PlusPlus;
+use std::alloc::Global;
+use std::process::Abort;
+use std::thread::Threads;
+
+/// Edges from each node to some of those before it: to each with so many chances of a hundred.
+fn drawn_edges(
+    rt: &impl Abort,
+    alloc: Global,
+    rng: &mut Xoshiro256PlusPlus,
+    nodes: u16,
+    chances: u64,
+) -> Vec<Edge> {
+    let mut edges = Vec::new(alloc);
+    for a in 0..nodes {
+        for b in 0..a {
+            let weight = 1 + (rng.next_u64() % 9) as u32;
+            if rng.next_u64() % 100 < chances {
+                got(rt, edges.push((a, b, weight)));
+            }
+        }
+    }
+    edges
+}
+
+/// Each node with a chance of one in so many.
+fn drawn_nodes(
+    rt: &impl Abort,
+    alloc: Global,
+    rng: &mut Xoshiro256PlusPlus,
+    nodes: u16,
+    one_of: u64,
+) -> Vec<u16> {
+    let mut at = Vec::new(alloc);
+    for node in 0..nodes {
+        if rng.next_u64() % one_of.max(1) == 0 {
+            got(rt, at.push(node));
+        }
+    }
+    at
+}
+
+/// Compares the schemes of a drawn graph under one to eight workers with that of one build.
+fn compare<R: Abort + Threads + Sync>(
+    rt: &R,
+    alloc: Global,
+    rng: &mut Xoshiro256PlusPlus,
+    nodes: u16,
+    chances: u64,
+    one_of: u64,
+) {
+    let edges = drawn_edges(rt, alloc, rng, nodes, chances);
+    let graph = graph_of(rt, alloc, nodes, &edges);
+    let at = drawn_nodes(rt, alloc, rng, nodes, one_of);
+    let landmarks = landmarks_at(rt, alloc, nodes, &at);
+    let want = built(rt, alloc, &graph, &landmarks);
+    for workers in 1..9u16 {
+        expect_same(rt, alloc, &graph, &landmarks, &want, workers);
+    }
+}
+
+/// Small graphs, of one node to 40: with few edges and with many, and from all landmarks to hardly any.
+#[test]
+fn builds_the_very_scheme_under_each_number_of_workers(rt: HostRuntime) {
+    let mut rng = Xoshiro256PlusPlus::seed_from_u64(47);
+    for round in 0..24u64 {
+        let nodes = 1 + (rng.next_u64() % 40) as u16;
+        let chances = 3 + rng.next_u64() % 40;
+        compare(&rt, rt.alloc(), &mut rng, nodes, chances, 1 + round % 6);
+    }
+}
+
+/// A graph of which so many workers pay.
+#[test]
+fn builds_the_very_scheme_of_a_larger_graph(rt: HostRuntime) {
+    let mut rng = Xoshiro256PlusPlus::seed_from_u64(94);
+    compare(&rt, rt.alloc(), &mut rng, 600, 1, 24);
+}
