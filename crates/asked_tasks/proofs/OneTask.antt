@@ -3,6 +3,7 @@ use Rattle.std.proofs.Common.{◌≡◌, ◌≢◌, ◌≤◌, ◌<◌, ◌^◌,
 use Rattle.std.proofs.lemmas.Bool.Decides.{nat_tests}
 use Rattle.std.proofs.lemmas.List.Elements.{All-nil}
 use Rattle.std.specs.Borrow.{Bor}
+use Rattle.std.specs.Global.{Vec}
 use Rattle.clap.specs.Walk.{Row, Text, all_of, first_of}
 use Rattle.graph_edits.specs.declared.edits.Op.{Op}
 use Rattle.graph_edits.specs.Edges.{most_ops}
@@ -14,7 +15,8 @@ use Rattle.asked_tasks.specs.declared.refused.WordsRefused.{WordsRefused}
 use Rattle.asked_tasks.specs.declared.refused.WordsRefused.TheVariants as why
 use Rattle.asked_tasks.specs.declared.task.Task.{Task}
 use Rattle.asked_tasks.specs.declared.task.Task.TheVariants.{Format, Show, Edit, Resume, Route, Check, Migrate, Serve}
-use Rattle.asked_tasks.specs.Asked.{AreOpsGiven, Gives, IsCause, IsGiven, IsInRange, IsLacking, IsOpsCause, IsSameTask, IsSeats, IsSessionAsked, IsSessionText, IsShapedAs, IsTask, IsTicket, IsTicketAsked, IsWordsCause, LacksOps, LacksWords, usual_places, usual_seats}
+use Rattle.asked_tasks.specs.Asked.{AreOpsGiven, ArePairsAsked, Gives, IsCause, IsGiven, IsInRange, IsLacking, IsOpsCause, IsPairInRange, IsSameTask, IsSeats, IsSessionAsked, IsSessionText, IsShapedAs, IsTask, IsTicket, IsTicketAsked, IsWordsCause, LacksOps, LacksWords, usual_places, usual_seats}
+use Rattle.asked_tasks.proofs.Pairing.{one_pairs}
 
 -- one name has one letter at a place
 apart : (i : ℕ) (name a b : Text) → name ≡ a → name ≡ b → (get_or a i 0 == get_or b i 0) ≡ false → ⊥
@@ -36,7 +38,7 @@ IsNamed name (Format device nodes) = name ≡ codes "format"
 IsNamed name (Show device) = name ≡ codes "show"
 IsNamed name (Edit device session ticket change) = name ≡ codes "edit"
 IsNamed name (Resume device session) = name ≡ codes "resume"
-IsNamed name (Route device from to words) = name ≡ codes "route"
+IsNamed name (Route device pairs words) = name ≡ codes "route"
 IsNamed name (Check device words) = name ≡ codes "check"
 IsNamed name (Migrate old new) = name ≡ codes "migrate"
 IsNamed name (Serve device editors forwarders places words) = name ≡ codes "serve"
@@ -46,7 +48,7 @@ task_named name rows (Format device nodes) is = is.0
 task_named name rows (Show device) is = is.0
 task_named name rows (Edit device session ticket change) is = is.0
 task_named name rows (Resume device session) is = is.0
-task_named name rows (Route device from to words) is = is.0
+task_named name rows (Route device pairs words) is = is.0
 task_named name rows (Check device words) is = is.0
 task_named name rows (Migrate old new) is = is.0
 task_named name rows (Serve device editors forwarders places words) is = is.0
@@ -56,7 +58,7 @@ shape_named name rows (Format device nodes) is = is.0
 shape_named name rows (Show device) is = is.0
 shape_named name rows (Edit device session ticket change) is = is.0
 shape_named name rows (Resume device session) is = is.0
-shape_named name rows (Route device from to words) is = is.0
+shape_named name rows (Route device pairs words) is = is.0
 shape_named name rows (Check device words) is = is.0
 shape_named name rows (Migrate old new) is = is.0
 shape_named name rows (Serve device editors forwarders places words) is = is.0
@@ -67,7 +69,7 @@ has_device name rows (Format device nodes) is = (device.now, is.1)
 has_device name rows (Show device) is = (device.now, is.1)
 has_device name rows (Edit device session ticket change) is = (device.now, is.1)
 has_device name rows (Resume device session) is = (device.now, is.1)
-has_device name rows (Route device from to words) is = (device.now, is.1)
+has_device name rows (Route device pairs words) is = (device.now, is.1)
 has_device name rows (Check device words) is = (device.now, is.1)
 has_device name rows (Migrate old new) is = (old.now, is.1)
 has_device name rows (Serve device editors forwarders places words) is = (device.now, is.1)
@@ -78,7 +80,7 @@ is_named name rows (Format device nodes) is format show edit resume route check 
 is_named name rows (Show device) is format show edit resume route check migrate serve = show is.0
 is_named name rows (Edit device session ticket change) is format show edit resume route check migrate serve = edit is.0
 is_named name rows (Resume device session) is format show edit resume route check migrate serve = resume is.0
-is_named name rows (Route device from to words) is format show edit resume route check migrate serve = route is.0
+is_named name rows (Route device pairs words) is format show edit resume route check migrate serve = route is.0
 is_named name rows (Check device words) is format show edit resume route check migrate serve = check is.0
 is_named name rows (Migrate old new) is format show edit resume route check migrate serve = migrate is.0
 is_named name rows (Serve device editors forwarders places words) is format show edit resume route check migrate serve = serve is.0
@@ -94,7 +96,7 @@ shaped name rows (Format device nodes) is fits = (is.0, is.1, is.2, fits)
 shaped name rows (Show device) is fits = is
 shaped name rows (Edit device session ticket change) is fits = (is.0, is.1, is.2, is.3, (map op_text change, some_texts change fits.1, is.4))
 shaped name rows (Resume device session) is fits = is
-shaped name rows (Route device from to words) is fits = (is.0, is.1, is.2, is.3, (words_text words, is.4.0), fits.0, fits.1)
+shaped name rows (Route device pairs words) is fits = (is.0, is.1, is.2, (words_text words, is.3.0), fits)
 shaped name rows (Check device words) is fits = (is.0, is.1, (words_text words, is.2.0))
 shaped name rows (Migrate old new) is fits = is
 shaped name rows (Serve device editors forwarders places words) is fits = (is.0, is.1, is.2, is.3, is.4, (words_text words, is.5.0))
@@ -106,7 +108,7 @@ only_format P name (Format device nodes) named is each = each device nodes
 only_format P name (Show device) named is each = absurd (apart 2 name _ _ named is refl)
 only_format P name (Edit device session ticket change) named is each = absurd (apart 2 name _ _ named is refl)
 only_format P name (Resume device session) named is each = absurd (apart 2 name _ _ named is refl)
-only_format P name (Route device from to words) named is each = absurd (apart 2 name _ _ named is refl)
+only_format P name (Route device pairs words) named is each = absurd (apart 2 name _ _ named is refl)
 only_format P name (Check device words) named is each = absurd (apart 2 name _ _ named is refl)
 only_format P name (Migrate old new) named is each = absurd (apart 2 name _ _ named is refl)
 only_format P name (Serve device editors forwarders places words) named is each = absurd (apart 0 name _ _ named is refl)
@@ -116,7 +118,7 @@ only_show P name (Format device nodes) named is each = absurd (apart 2 name _ _ 
 only_show P name (Show device) named is each = each device
 only_show P name (Edit device session ticket change) named is each = absurd (apart 2 name _ _ named is refl)
 only_show P name (Resume device session) named is each = absurd (apart 2 name _ _ named is refl)
-only_show P name (Route device from to words) named is each = absurd (apart 2 name _ _ named is refl)
+only_show P name (Route device pairs words) named is each = absurd (apart 2 name _ _ named is refl)
 only_show P name (Check device words) named is each = absurd (apart 2 name _ _ named is refl)
 only_show P name (Migrate old new) named is each = absurd (apart 2 name _ _ named is refl)
 only_show P name (Serve device editors forwarders places words) named is each = absurd (apart 2 name _ _ named is refl)
@@ -126,7 +128,7 @@ only_edit P name (Format device nodes) named is each = absurd (apart 2 name _ _ 
 only_edit P name (Show device) named is each = absurd (apart 2 name _ _ named is refl)
 only_edit P name (Edit device session ticket change) named is each = each device session ticket change
 only_edit P name (Resume device session) named is each = absurd (apart 2 name _ _ named is refl)
-only_edit P name (Route device from to words) named is each = absurd (apart 2 name _ _ named is refl)
+only_edit P name (Route device pairs words) named is each = absurd (apart 2 name _ _ named is refl)
 only_edit P name (Check device words) named is each = absurd (apart 2 name _ _ named is refl)
 only_edit P name (Migrate old new) named is each = absurd (apart 2 name _ _ named is refl)
 only_edit P name (Serve device editors forwarders places words) named is each = absurd (apart 2 name _ _ named is refl)
@@ -136,17 +138,17 @@ only_resume P name (Format device nodes) named is each = absurd (apart 2 name _ 
 only_resume P name (Show device) named is each = absurd (apart 2 name _ _ named is refl)
 only_resume P name (Edit device session ticket change) named is each = absurd (apart 2 name _ _ named is refl)
 only_resume P name (Resume device session) named is each = each device session
-only_resume P name (Route device from to words) named is each = absurd (apart 2 name _ _ named is refl)
+only_resume P name (Route device pairs words) named is each = absurd (apart 2 name _ _ named is refl)
 only_resume P name (Check device words) named is each = absurd (apart 2 name _ _ named is refl)
 only_resume P name (Migrate old new) named is each = absurd (apart 2 name _ _ named is refl)
 only_resume P name (Serve device editors forwarders places words) named is each = absurd (apart 2 name _ _ named is refl)
 
-only_route : (P : Task → Type 0) (name : Text) (task : Task) → name ≡ codes "route" → IsNamed name task → ((device : Bor Text) (from : ℕ) (to : ℕ) (words : LandmarkWords) → P (Route device from to words)) → P task
+only_route : (P : Task → Type 0) (name : Text) (task : Task) → name ≡ codes "route" → IsNamed name task → ((device : Bor Text) (pairs : Vec (ℕ × ℕ)) (words : LandmarkWords) → P (Route device pairs words)) → P task
 only_route P name (Format device nodes) named is each = absurd (apart 2 name _ _ named is refl)
 only_route P name (Show device) named is each = absurd (apart 2 name _ _ named is refl)
 only_route P name (Edit device session ticket change) named is each = absurd (apart 2 name _ _ named is refl)
 only_route P name (Resume device session) named is each = absurd (apart 2 name _ _ named is refl)
-only_route P name (Route device from to words) named is each = each device from to words
+only_route P name (Route device pairs words) named is each = each device pairs words
 only_route P name (Check device words) named is each = absurd (apart 2 name _ _ named is refl)
 only_route P name (Migrate old new) named is each = absurd (apart 2 name _ _ named is refl)
 only_route P name (Serve device editors forwarders places words) named is each = absurd (apart 2 name _ _ named is refl)
@@ -156,7 +158,7 @@ only_check P name (Format device nodes) named is each = absurd (apart 2 name _ _
 only_check P name (Show device) named is each = absurd (apart 2 name _ _ named is refl)
 only_check P name (Edit device session ticket change) named is each = absurd (apart 2 name _ _ named is refl)
 only_check P name (Resume device session) named is each = absurd (apart 2 name _ _ named is refl)
-only_check P name (Route device from to words) named is each = absurd (apart 2 name _ _ named is refl)
+only_check P name (Route device pairs words) named is each = absurd (apart 2 name _ _ named is refl)
 only_check P name (Check device words) named is each = each device words
 only_check P name (Migrate old new) named is each = absurd (apart 2 name _ _ named is refl)
 only_check P name (Serve device editors forwarders places words) named is each = absurd (apart 2 name _ _ named is refl)
@@ -166,7 +168,7 @@ only_migrate P name (Format device nodes) named is each = absurd (apart 2 name _
 only_migrate P name (Show device) named is each = absurd (apart 2 name _ _ named is refl)
 only_migrate P name (Edit device session ticket change) named is each = absurd (apart 2 name _ _ named is refl)
 only_migrate P name (Resume device session) named is each = absurd (apart 2 name _ _ named is refl)
-only_migrate P name (Route device from to words) named is each = absurd (apart 2 name _ _ named is refl)
+only_migrate P name (Route device pairs words) named is each = absurd (apart 2 name _ _ named is refl)
 only_migrate P name (Check device words) named is each = absurd (apart 2 name _ _ named is refl)
 only_migrate P name (Migrate old new) named is each = each old new
 only_migrate P name (Serve device editors forwarders places words) named is each = absurd (apart 2 name _ _ named is refl)
@@ -176,7 +178,7 @@ only_serve P name (Format device nodes) named is each = absurd (apart 0 name _ _
 only_serve P name (Show device) named is each = absurd (apart 2 name _ _ named is refl)
 only_serve P name (Edit device session ticket change) named is each = absurd (apart 2 name _ _ named is refl)
 only_serve P name (Resume device session) named is each = absurd (apart 2 name _ _ named is refl)
-only_serve P name (Route device from to words) named is each = absurd (apart 2 name _ _ named is refl)
+only_serve P name (Route device pairs words) named is each = absurd (apart 2 name _ _ named is refl)
 only_serve P name (Check device words) named is each = absurd (apart 2 name _ _ named is refl)
 only_serve P name (Migrate old new) named is each = absurd (apart 2 name _ _ named is refl)
 only_serve P name (Serve device editors forwarders places words) named is each = each device editors forwarders places words
@@ -205,12 +207,12 @@ pub same_resume : (name : Text) (rows : List Row) (device : Bor Text) (session :
 same_resume name rows device session task named gives read is =
     only_resume (λ t. IsTask name rows t → IsSameTask (Resume device session) t) name task named (task_named name rows task is) (λ other n is. (one_text rows _ _ _ gives is.1, read n is.3 is.2)) is
 
-pub same_route : (name : Text) (rows : List Row) (device : Bor Text) (from to : ℕ) (words : LandmarkWords) (task : Task) → name ≡ codes "route" → Gives rows (codes "device") device.now
-    → ((n : ℕ) → n < 2 ^ 16 → Gives rows (codes "from") (decimal n) → from ≡ n) → ((n : ℕ) → n < 2 ^ 16 → Gives rows (codes "to") (decimal n) → to ≡ n)
-    → ((asked : LandmarkWords) → IsAsked asked → Gives rows (codes "words") (words_text asked) → IsSame words asked) → IsTask name rows task → IsInRange task → IsSameTask (Route device from to words) task
-same_route name rows device from to words task named gives read_from read_to read is fits =
-    only_route (λ t. IsTask name rows t → IsInRange t → IsSameTask (Route device from to words) t) name task named (task_named name rows task is)
-    (λ other u v asked is fits. (one_text rows _ _ _ gives is.1, read_from u fits.0 is.2, read_to v fits.1 is.3, read asked is.4.1 is.4.0)) is fits
+pub same_route : (rows : List Row) (device : Bor Text) (pairs : Vec (ℕ × ℕ)) (words : LandmarkWords) (task : Task) → Gives rows (codes "device") device.now
+    → ArePairsAsked rows pairs.items → All IsPairInRange pairs.items
+    → ((asked : LandmarkWords) → IsAsked asked → Gives rows (codes "words") (words_text asked) → IsSame words asked) → IsTask (codes "route") rows task → IsInRange task → IsSameTask (Route device pairs words) task
+same_route rows device pairs words task gives paired range read is fits =
+    only_route (λ t. IsTask (codes "route") rows t → IsInRange t → IsSameTask (Route device pairs words) t) (codes "route") task refl (task_named (codes "route") rows task is)
+    (λ other others asked is fits. (one_text rows _ _ _ gives is.1, one_pairs rows pairs.items others.items range fits paired is.2, read asked is.3.1 is.3.0)) is fits
 
 pub same_check : (name : Text) (rows : List Row) (device : Bor Text) (words : LandmarkWords) (task : Task) → name ≡ codes "check" → Gives rows (codes "device") device.now
     → ((asked : LandmarkWords) → IsAsked asked → Gives rows (codes "words") (words_text asked) → IsSame words asked) → IsTask name rows task → IsSameTask (Check device words) task
@@ -249,8 +251,8 @@ one_count given a b first second =
 
 -- a command that lacks landmark words asks for no task
 no_words : (name : Text) (rows : List Row) (shape task : Task) → IsShapedAs name rows shape → IsLacking rows shape why.Words → IsTask name rows task → ⊥
-no_words name rows (Route device from to words) task shaped lacks is =
-    only_route (λ t. IsTask name rows t → ⊥) name task shaped.0 (task_named name rows task is) (λ other u v asked is. lacks asked is.4) is
+no_words name rows (Route device pairs words) task shaped lacks is =
+    only_route (λ t. IsTask name rows t → ⊥) name task shaped.0 (task_named name rows task is) (λ other pairs asked is. lacks asked is.3) is
 no_words name rows (Check device words) task shaped lacks is = only_check (λ t. IsTask name rows t → ⊥) name task shaped.0 (task_named name rows task is) (λ other asked is. lacks asked is.2) is
 no_words name rows (Serve device editors forwarders places words) task shaped lacks is =
     only_serve (λ t. IsTask name rows t → ⊥) name task shaped.0 (task_named name rows task is) (λ other e f q asked is. lacks asked is.5) is
@@ -316,15 +318,10 @@ pub session_refused : (name : Text) (rows : List Row) (refused : WordsRefused) �
 session_refused name rows refused named read task is =
     only_resume (λ t. IsShapedAs name rows t → refused ≡ why.Memory) name task named (shape_named name rows task is) (λ other n is. read n is.3 is.2) is
 
-pub from_refused : (name : Text) (rows : List Row) (refused : WordsRefused) → name ≡ codes "route" → ((n : ℕ) → n < 2 ^ 16 → Gives rows (codes "from") (decimal n) → refused ≡ why.Memory)
-    → (task : Task) → IsShapedAs name rows task → refused ≡ why.Memory
-from_refused name rows refused named read task is =
-    only_route (λ t. IsShapedAs name rows t → refused ≡ why.Memory) name task named (shape_named name rows task is) (λ other u v asked is. read u is.5 is.2) is
-
-pub to_refused : (name : Text) (rows : List Row) (refused : WordsRefused) → name ≡ codes "route" → ((n : ℕ) → n < 2 ^ 16 → Gives rows (codes "to") (decimal n) → refused ≡ why.Memory) → (task : Task)
-    → IsShapedAs name rows task → refused ≡ why.Memory
-to_refused name rows refused named read task is =
-    only_route (λ t. IsShapedAs name rows t → refused ≡ why.Memory) name task named (shape_named name rows task is) (λ other u v asked is. read v is.6 is.3) is
+pub pairs_refused : (rows : List Row) (refused : WordsRefused) → ((pairs : List (ℕ × ℕ)) → All IsPairInRange pairs → ArePairsAsked rows pairs → refused ≡ why.Memory) → (task : Task)
+    → IsShapedAs (codes "route") rows task → refused ≡ why.Memory
+pairs_refused rows refused read task is =
+    only_route (λ t. IsShapedAs (codes "route") rows t → refused ≡ why.Memory) (codes "route") task refl (shape_named (codes "route") rows task is) (λ other pairs asked is. read pairs.items is.4 is.2) is
 
 pub editors_refused : (rows : List Row) (refused : WordsRefused) → ((n : ℕ) → IsSeats (first_of (codes "editors") rows) usual_seats n → refused ≡ why.Memory) → (task : Task)
     → IsShapedAs (codes "serve") rows task → refused ≡ why.Memory
@@ -354,9 +351,9 @@ of_words name rows why.Words task why_not each here lacks = (task, here why_not.
 of_words name rows why.Memory task why_not each here lacks = tt
 of_words name rows _ task why_not each here lacks = absurd why_not
 
-pub route_words : (name : Text) (rows : List Row) → name ≡ codes "route" → (task : Task) → IsShapedAs name rows task → IsGiven rows (codes "words")
-route_words name rows named task is =
-    only_route (λ t. IsShapedAs name rows t → IsGiven rows (codes "words")) name task named (shape_named name rows task is) (λ other u v asked is. is.4) is
+pub route_words : (rows : List Row) (task : Task) → IsShapedAs (codes "route") rows task → IsGiven rows (codes "words")
+route_words rows task is =
+    only_route (λ t. IsShapedAs (codes "route") rows t → IsGiven rows (codes "words")) (codes "route") task refl (shape_named (codes "route") rows task is) (λ other pairs asked is. is.3) is
 
 pub check_words : (name : Text) (rows : List Row) → name ≡ codes "check" → (task : Task) → IsShapedAs name rows task → IsGiven rows (codes "words")
 check_words name rows named task is = only_check (λ t. IsShapedAs name rows t → IsGiven rows (codes "words")) name task named (shape_named name rows task is) (λ other asked is. is.2) is

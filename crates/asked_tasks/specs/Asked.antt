@@ -1,5 +1,6 @@
 -- What the program's words ask for.
-use Rattle.std.specs.Prelude.{◌≡◌, ◌≢◌, ◌≤◌, ◌<◌, ◌^◌, ℕ, List, [], Option, Some, None, codes, decimal, map, option_map, length, All}
+use Rattle.std.specs.Prelude.{◌≡◌, ◌≢◌, ◌≤◌, ◌<◌, ◌^◌, ℕ, List, [], ◌∷◌, Option, Some, None, codes, decimal, map, option_map, length, All}
+use Rattle.std.specs.List.{flat_map}
 use Rattle.clap.specs.Walk.{Row, Text, first_of, all_of}
 use Rattle.clap.specs.Simple.{subcommand_of}
 use Rattle.clap.specs.Faults.{fault_of}
@@ -62,10 +63,24 @@ IsResume name rows device session = (name ≡ codes "resume") × Gives rows (cod
 abbrev pub AreWordsAsked : List Row → LandmarkWords → Type 0
 AreWordsAsked rows words = Gives rows (codes "words") (words_text words) × IsAsked words
 
--- `route DEVICE FROM TO --words W`
-abbrev pub IsRoute : Text → List Row → Text → ℕ → ℕ → LandmarkWords → Type 0
-IsRoute name rows device from to words =
-    (name ≡ codes "route") × Gives rows (codes "device") device × Gives rows (codes "from") (decimal from) × Gives rows (codes "to") (decimal to) × AreWordsAsked rows words
+-- the nodes of pairs, one pair behind the other
+abbrev pub nodes_of : List (ℕ × ℕ) → List ℕ
+nodes_of pairs = flat_map (λ p. p.0 ∷ p.1 ∷ []) pairs
+
+-- the texts that an argument has, or none
+abbrev pub texts_in : Option (List Text) → List Text
+texts_in None = []
+texts_in (Some given) = given
+
+-- `FROM TO [FROM TO]..`, with the nodes of each pair in decimal: one pair or more, in order, and no other
+abbrev pub ArePairsAsked : List Row → List (ℕ × ℕ) → Type 0
+ArePairsAsked rows [] = ⊥
+ArePairsAsked rows (first ∷ more) =
+    Gives rows (codes "from") (decimal first.0) × Gives rows (codes "to") (decimal first.1) × (texts_in (all_of (codes "more") rows) ≡ map decimal (nodes_of more))
+
+-- `route DEVICE FROM TO [FROM TO].. --words W`
+abbrev pub IsRoute : Text → List Row → Text → List (ℕ × ℕ) → LandmarkWords → Type 0
+IsRoute name rows device pairs words = (name ≡ codes "route") × Gives rows (codes "device") device × ArePairsAsked rows pairs × AreWordsAsked rows words
 
 -- `check DEVICE --words W`
 abbrev pub IsCheck : Text → List Row → Text → LandmarkWords → Type 0
@@ -101,7 +116,7 @@ IsTask name rows (Format device nodes) = IsFormat name rows device.now nodes
 IsTask name rows (Show device) = IsShow name rows device.now
 IsTask name rows (Edit device session ticket change) = IsEdit name rows device.now session ticket change
 IsTask name rows (Resume device session) = IsResume name rows device.now session
-IsTask name rows (Route device from to words) = IsRoute name rows device.now from to words
+IsTask name rows (Route device pairs words) = IsRoute name rows device.now pairs.items words
 IsTask name rows (Check device words) = IsCheck name rows device.now words
 IsTask name rows (Migrate old new) = IsMigrate name rows old.now new.now
 IsTask name rows (Serve device editors forwarders places words) = IsServe name rows device.now editors forwarders places words
@@ -114,13 +129,17 @@ IsCommand words name rows = (fault_of program words ≡ []) × (subcommand_of pr
 abbrev pub IsAskedFor : List Text → Task → Type 0
 IsAskedFor words task = (name : Text) × (rows : List Row) × IsCommand words name rows × IsTask name rows task
 
+-- both nodes of a pair fit their type
+abbrev pub IsPairInRange : ℕ × ℕ → Type 0
+IsPairInRange p = (p.0 < 2 ^ 16) × (p.1 < 2 ^ 16)
+
 -- the numbers of a task fit their types, and a change has from 1 op to the most
 abbrev pub IsInRange : Task → Type 0
 IsInRange (Format device nodes) = nodes < 2 ^ 16
 IsInRange (Show device) = Unit {0}
 IsInRange (Edit device session ticket change) = All Fits change × (1 ≤ length change) × (length change ≤ most_ops)
 IsInRange (Resume device session) = Unit {0}
-IsInRange (Route device from to words) = (from < 2 ^ 16) × (to < 2 ^ 16)
+IsInRange (Route device pairs words) = All IsPairInRange pairs.items
 IsInRange (Check device words) = Unit {0}
 IsInRange (Migrate old new) = Unit {0}
 IsInRange (Serve device editors forwarders places words) = Unit {0}
@@ -131,7 +150,7 @@ IsSameTask (Format device nodes) (Format other count) = (device.now ≡ other.no
 IsSameTask (Show device) (Show other) = device.now ≡ other.now
 IsSameTask (Edit device session ticket change) (Edit other s asked ops) = (device.now ≡ other.now) × (session ≡ s) × (ticket ≡ asked) × (change ≡ ops)
 IsSameTask (Resume device session) (Resume other asked) = (device.now ≡ other.now) × (session ≡ asked)
-IsSameTask (Route device from to words) (Route other u v asked) = (device.now ≡ other.now) × (from ≡ u) × (to ≡ v) × IsSame words asked
+IsSameTask (Route device pairs words) (Route other others asked) = (device.now ≡ other.now) × (pairs.items ≡ others.items) × IsSame words asked
 IsSameTask (Check device words) (Check other asked) = (device.now ≡ other.now) × IsSame words asked
 IsSameTask (Migrate old new) (Migrate other made) = (old.now ≡ other.now) × (new.now ≡ made.now)
 IsSameTask (Serve device editors forwarders places words) (Serve other e f q asked) = (device.now ≡ other.now) × (editors ≡ e) × (forwarders ≡ f) × (places ≡ q) × IsSame words asked
@@ -154,9 +173,8 @@ IsShapedAs name rows (Format device nodes) = (name ≡ codes "format") × Gives 
 IsShapedAs name rows (Show device) = IsShow name rows device.now
 IsShapedAs name rows (Edit device session ticket change) = (name ≡ codes "edit") × Gives rows (codes "device") device.now × IsSessionAsked rows session × IsTicketAsked rows ticket × AreOpsGiven rows
 IsShapedAs name rows (Resume device session) = IsResume name rows device.now session
-IsShapedAs name rows (Route device from to words) =
-    (name ≡ codes "route") × Gives rows (codes "device") device.now × Gives rows (codes "from") (decimal from) × Gives rows (codes "to") (decimal to) × IsGiven rows (codes "words") × (from < 2 ^ 16)
-    × (to < 2 ^ 16)
+IsShapedAs name rows (Route device pairs words) =
+    (name ≡ codes "route") × Gives rows (codes "device") device.now × ArePairsAsked rows pairs.items × IsGiven rows (codes "words") × All IsPairInRange pairs.items
 IsShapedAs name rows (Check device words) = (name ≡ codes "check") × Gives rows (codes "device") device.now × IsGiven rows (codes "words")
 IsShapedAs name rows (Migrate old new) = IsMigrate name rows old.now new.now
 IsShapedAs name rows (Serve device editors forwarders places words) =
@@ -195,7 +213,7 @@ IsOpsCause rows refused = ⊥
 abbrev pub IsLacking : List Row → Task → WordsRefused → Type 0
 IsLacking rows (Edit device session ticket change) why.Op = LacksOps rows
 IsLacking rows (Edit device session ticket change) why.TooLong = HasTooManyOps rows
-IsLacking rows (Route device from to words) why.Words = LacksWords rows
+IsLacking rows (Route device pairs words) why.Words = LacksWords rows
 IsLacking rows (Check device words) why.Words = LacksWords rows
 IsLacking rows (Serve device editors forwarders places words) why.Words = LacksWords rows
 IsLacking rows task refused = ⊥

@@ -3,7 +3,7 @@ use Rattle.std.specs.Prelude.{Some, codes, true}
 use Rattle.clap.specs.Lexer.{usize_max}
 use Rattle.clap.specs.Walk.{Rule, Text}
 use Rattle.clap.specs.Simple.{App, new_app, new_rule, on_top, with_rule, with_subcommand}
-use Rattle.clap.specs.declared.builder.action.ArgAction.TheVariants.{Set}
+use Rattle.clap.specs.declared.builder.action.ArgAction.TheVariants.{Append, Set}
 
 -- a text that has to be given
 abbrev pub text_rule : Text → Rule
@@ -12,6 +12,10 @@ text_rule id = record (new_rule id) { required = true; action = Some Set }
 -- `OP..`: one text or more
 abbrev pub ops_rule : Rule
 ops_rule = record (text_rule (codes "ops")) { range = Some (record { start_inclusive = 1; end_inclusive = usize_max }) }
+
+-- `[NODE]..`: one text or more, or none
+abbrev pub more_rule : Rule
+more_rule = record (new_rule (codes "more")) { action = Some Append; range = Some (record { start_inclusive = 1; end_inclusive = usize_max }) }
 
 -- `--words W`
 abbrev pub words_rule : Rule
@@ -41,9 +45,9 @@ edit_app = with_rule (with_rule (with_rule (on_device_app (codes "edit")) ops_ru
 abbrev pub resume_app : App
 resume_app = with_rule (on_device_app (codes "resume")) (text_rule (codes "session"))
 
--- `route DEVICE FROM TO --words W`
+-- `route DEVICE FROM TO [FROM TO].. --words W`
 abbrev pub route_app : App
-route_app = with_rule (with_rule (with_rule (on_device_app (codes "route")) (text_rule (codes "from"))) (text_rule (codes "to"))) words_rule
+route_app = with_rule (with_rule (with_rule (with_rule (on_device_app (codes "route")) (text_rule (codes "from"))) (text_rule (codes "to"))) more_rule) words_rule
 
 -- `check DEVICE --words W`
 abbrev pub check_app : App

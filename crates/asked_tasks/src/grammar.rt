@@ -3,7 +3,7 @@ ghost use Rattle.std.specs.Prelude.{◌≡◌, IfOk, codes, false};
 ghost use Rattle.clap.specs.Walk.{rule_of};
 ghost use Rattle.clap.specs.Words.{app_of, with_rule};
 ghost use Rattle.clap.specs.declared.builder.command.Command.TheViews.{out-Command};
-ghost use Rattle.asked_tasks.specs.Grammar.{check_app, edit_app, on_device_app, ops_rule, option_rule, plain_program, program, route_app, serve_app, text_rule, words_rule};
+ghost use Rattle.asked_tasks.specs.Grammar.{check_app, edit_app, more_rule, on_device_app, ops_rule, option_rule, plain_program, program, route_app, serve_app, text_rule, words_rule};
 
 use clap::{Arg, ArgAction, Command};
 use std::alloc::{AllocError, Global};
@@ -80,12 +80,22 @@ fn with_words<'a>(alloc: Global, command: Command<'a>) -> Result<Command<'a>, Al
     command.arg(text(alloc, "words").long("words"))
 }
 
+// Nodes behind the first two, if there are any.
+fn more_nodes<'a>(alloc: Global) -> Arg<'a>
+    ensures rule { rule_of result ≡ more_rule }
+    ensures local { result.global ≡ false }
+{
+    Arg::new(alloc, "more")
+        .action(ArgAction::Append)
+        .num_args(1..)
+}
+
 fn route_command<'a>(alloc: Global) -> Result<Command<'a>, AllocError>
     ensures app { IfOk result (λ command. app_of command ≡ route_app) }
     ensures local { IfOk result (λ command. (out-Command command).has_globals ≡ false) }
 {
     let ends = on_device_with(alloc, "route", "from")?.arg(text(alloc, "to"))?;
-    with_words(alloc, ends)
+    with_words(alloc, ends.arg(more_nodes(alloc))?)
 }
 
 fn check_command<'a>(alloc: Global) -> Result<Command<'a>, AllocError>

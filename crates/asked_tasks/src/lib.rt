@@ -6,7 +6,7 @@
 //! | `show DEVICE` | [`Task::Show`] |
 //! | `edit DEVICE OP.. --session S --ticket T` | [`Task::Edit`], of 1 to 16 OPs; both options may be left out: session 0, the next ticket |
 //! | `resume DEVICE S` | [`Task::Resume`] |
-//! | `route DEVICE FROM TO --words W` | [`Task::Route`] |
+//! | `route DEVICE FROM TO [FROM TO].. --words W` | [`Task::Route`], of one pair of nodes or more |
 //! | `check DEVICE --words W` | [`Task::Check`] |
 //! | `migrate OLD NEW` | [`Task::Migrate`] |
 //! | `serve DEVICE --words W --editors E --forwarders F --queue Q` | [`Task::Serve`], of 1 to 64 each; without them 2, 2 and 64 |

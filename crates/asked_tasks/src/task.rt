@@ -7,7 +7,7 @@ ghost use Rattle.requests.specs.Tickets.{sessions};
 ghost use Rattle.given_words.specs.declared.words.LandmarkWords.{LandmarkWords};
 ghost use Rattle.given_words.specs.OpText.{Fits, op_text};
 ghost use Rattle.given_words.specs.WordsText.{IsAsked, IsSame, words_text};
-ghost use Rattle.asked_tasks.specs.Asked.{IsAskedFor, IsCause, IsInRange, IsOpsCause, IsRefusedFor, IsSameTask, IsSeats, IsSessionText, IsTask, IsTicket, IsWordsCause};
+ghost use Rattle.asked_tasks.specs.Asked.{ArePairsAsked, IsAskedFor, IsCause, IsInRange, IsOpsCause, IsPairInRange, IsRefusedFor, IsSameTask, IsSeats, IsSessionText, IsTask, IsTicket, IsWordsCause, nodes_of, texts_in};
 ghost use Rattle.asked_tasks.specs.declared.task.Task.{Task};
 
 use crate::grammar::grammar;
@@ -46,11 +46,11 @@ pub enum Task<'a> {
         /// Below the number of sessions.
         session: u8,
     },
-    /// Carry a packet from a node to a node.
+    /// Find the routes of packets, each from a node to a node.
     Route {
         device: &'a str,
-        from: u16,
-        to: u16,
+        /// Of each route both ends. There is one at least.
+        pairs: Vec<(u16, u16)>,
         words: LandmarkWords,
     },
     /// Check the scheme that these words give.
@@ -142,12 +142,7 @@ fn task_of<'a>(alloc: Global, name: &str, found: &ArgMatches<'a>) -> Result<Task
             session: session(alloc, found)?,
         })
     } else if name == "route" {
-        Ok(Task::Route {
-            device,
-            from: whole(alloc, found, "from")?,
-            to: whole(alloc, found, "to")?,
-            words: words_asked(alloc, found)?,
-        })
+        route_of(alloc, device, found)
     } else if name == "check" {
         Ok(Task::Check {
             device,
@@ -183,6 +178,25 @@ fn edit_of<'a>(
         session,
         ticket,
         change,
+    })
+}
+
+// Routes on a device.
+fn route_of<'a>(
+    alloc: Global,
+    device: &'a str,
+    found: &ArgMatches<'a>,
+) -> Result<Task<'a>, WordsRefused>
+    ensures asked { first_of (codes "device") (rows_of (found_of found.entry.now)) ≡ Some device.entry.now → IfOk result (λ task. IsTask (codes "route") (rows_of (found_of found.entry.now)) task) }
+    ensures only { first_of (codes "device") (rows_of (found_of found.entry.now)) ≡ Some device.entry.now → (task : Task) → IsTask (codes "route") (rows_of (found_of found.entry.now)) task → IsInRange task → IfOk result (λ read. IsSameTask read task) }
+    ensures cause { first_of (codes "device") (rows_of (found_of found.entry.now)) ≡ Some device.entry.now → IfErr result (λ refused. IsCause (codes "route") (rows_of (found_of found.entry.now)) refused) }
+{
+    let pairs = pairs(alloc, found)?;
+    let words = words_asked(alloc, found)?;
+    Ok(Task::Route {
+        device,
+        pairs,
+        words,
     })
 }
 
@@ -247,9 +261,71 @@ fn whole(alloc: Global, found: &ArgMatches<'_>, id: &str) -> Result<u16, WordsRe
     let Some(text) = found.get_str(id) else {
         return Err(WordsRefused::Usage);
     };
+    whole_in(alloc, text)
+}
+
+// The whole number from 0 to 65,535 that a text is.
+fn whole_in(alloc: Global, text: &str) -> Result<u16, WordsRefused>
+    ensures found { IfOk result (λ n. text.now ≡ decimal n) }
+    ensures same { (n : ℕ) → n < 2 ^ 16 → text.now ≡ decimal n → IfOk result (λ m. m ≡ n) }
+    ensures only { (n : ℕ) → n < 2 ^ 16 → text.now ≡ decimal n → IfErr result (λ refused. refused ≡ WordsRefused.Memory) }
+    ensures refusals { IfErr result (λ refused. (refused ≡ WordsRefused.Usage) ⊎ (refused ≡ WordsRefused.Memory)) }
+{
     match node(alloc, text)? {
         Some(number) => Ok(number),
         None => Err(WordsRefused::Usage),
+    }
+}
+
+// The ends of all routes: the first two nodes, and by twos those behind them.
+fn pairs(alloc: Global, found: &ArgMatches<'_>) -> Result<Vec<(u16, u16)>, WordsRefused>
+    ensures found { IfOk result (λ pairs. ArePairsAsked (rows_of (found_of found.entry.now)) pairs.items) }
+    ensures fits { IfOk result (λ pairs. All IsPairInRange pairs.items) }
+    ensures only { (pairs : List (ℕ × ℕ)) → All IsPairInRange pairs → ArePairsAsked (rows_of (found_of found.entry.now)) pairs → IfErr result (λ refused. refused ≡ WordsRefused.Memory) }
+    ensures refusals { IfErr result (λ refused. (refused ≡ WordsRefused.Usage) ⊎ (refused ≡ WordsRefused.Memory)) }
+{
+    let from = whole(alloc, found, "from")?;
+    let to = whole(alloc, found, "to")?;
+    let mut pairs = more_pairs(alloc, found)?;
+    pairs.insert(0, (from, to))?;
+    Ok(pairs)
+}
+
+// The pairs of nodes behind the first two.
+fn more_pairs(alloc: Global, found: &ArgMatches<'_>) -> Result<Vec<(u16, u16)>, WordsRefused>
+    ensures found { IfOk result (λ pairs. texts_in (option_map raw_values (matched_of (found_of found.entry.now) (codes "more"))) ≡ map decimal (nodes_of pairs.items)) }
+    ensures fits { IfOk result (λ pairs. All IsPairInRange pairs.items) }
+    ensures only { (pairs : List (ℕ × ℕ)) → All IsPairInRange pairs → texts_in (option_map raw_values (matched_of (found_of found.entry.now) (codes "more"))) ≡ map decimal (nodes_of pairs) → IfErr result (λ refused. refused ≡ WordsRefused.Memory) }
+    ensures refusals { IfErr result (λ refused. (refused ≡ WordsRefused.Usage) ⊎ (refused ≡ WordsRefused.Memory)) }
+{
+    match found.get_strs("more") {
+        Some(texts) => pairs_in(alloc, texts),
+        None => Ok(Vec::new(alloc)),
+    }
+}
+
+// Texts as nodes, by twos.
+fn pairs_in(alloc: Global, given: &[&str]) -> Result<Vec<(u16, u16)>, WordsRefused>
+    ensures found { IfOk result (λ pairs. texts given.now ≡ map decimal (nodes_of pairs.items)) }
+    ensures fits { IfOk result (λ pairs. All IsPairInRange pairs.items) }
+    ensures only { (pairs : List (ℕ × ℕ)) → All IsPairInRange pairs → texts given.now ≡ map decimal (nodes_of pairs) → IfErr result (λ refused. refused ≡ WordsRefused.Memory) }
+    ensures refusals { IfErr result (λ refused. (refused ≡ WordsRefused.Usage) ⊎ (refused ≡ WordsRefused.Memory)) }
+{
+    let mut pairs = Vec::new(alloc);
+    let mut waits = None;
+    for text in given {
+        let node = whole_in(alloc, *text)?;
+        match waits {
+            None => waits = Some(node),
+            Some(from) => {
+                pairs.push((from, node))?;
+                waits = None;
+            }
+        }
+    }
+    match waits {
+        None => Ok(pairs),
+        Some(_) => Err(WordsRefused::Usage),
     }
 }
 

@@ -1,5 +1,5 @@
 -- Which faults may end a run.
-use Rattle.std.proofs.Common.{◌≡◌, ◌≢◌, ◌∙◌, ◌⊎◌, ℕ, List, inl, inr, refl, sym, subst, Result, Ok, Err, IfErr, IsErrAnd, IsErrOf}
+use Rattle.std.proofs.Common.{◌≡◌, ◌≢◌, ◌∙◌, ℕ, List, inl, inr, refl, sym, subst, Result, Ok, Err, IfErr, IsErrAnd, IsErrOf}
 use Rattle.clap.specs.Walk.{Text}
 use Rattle.given_words.specs.declared.words.LandmarkWords.{LandmarkWords}
 use Rattle.given_words.specs.declared.words.LandmarkWords.TheVariants.{Greatest, ZeroAt, Drawn}
@@ -14,7 +14,7 @@ use Rattle.asked_tasks.specs.declared.refused.WordsRefused.TheVariants as why
 use Rattle.asked_tasks.specs.declared.task.Task.{Task}
 use Rattle.printed_lines.specs.Faults.{IsNotUnderstood}
 use Rattle.served_lines.specs.ServedLines.{IsServeFault}
-use Rattle.program_run.specs.Endings.{EndsCheck, EndsEdit, EndsFormat, EndsMigrate, EndsRoute, EndsServe, EndsShow, IsCheckDeviceFault, IsRouteDeviceFault, IsFaultFor, IsFileFault, IsRouteFault, IsScriptFault, IsQueryFault, IsThreadFault, MayEnd, NamesNodes, words_fault}
+use Rattle.program_run.specs.Endings.{EndsCheck, EndsEdit, EndsFormat, EndsMigrate, EndsRoute, EndsServe, EndsShow, IsCheckDeviceFault, IsRouteDeviceFault, IsFaultFor, IsFileFault, IsRouteFault, IsScriptFault, IsQueryFault, IsThreadFault, IsWordsFault, MayEnd, NamesNodes, words_fault}
 
 -- words of which a graph lacks a node name nodes
 pub names_nodes : (words : LandmarkWords) (nodes : ℕ) → ¬ IsWithin words nodes → NamesNodes words
@@ -137,7 +137,6 @@ pub route_asks : (words : LandmarkWords) (fault : Fault) → IsRouteFault words 
 route_asks words told.NoNode is = tt
 route_asks words told.Words is = is
 route_asks words told.Memory is = tt
-route_asks words told.NoThread is = tt
 route_asks words _ is = absurd is
 
 pub check_ends : (words : LandmarkWords) (fault : Fault) → IsCheckDeviceFault words fault → EndsCheck words fault
@@ -164,7 +163,6 @@ route_ends words told.LayoutNotKnown is = tt
 route_ends words told.Damaged is = tt
 route_ends words told.Device is = tt
 route_ends words told.Memory is = tt
-route_ends words told.NoThread is = tt
 route_ends words _ is = absurd is
 
 pub thread_asks : (words : LandmarkWords) (fault : Fault) → IsThreadFault fault → IsQueryFault words fault
@@ -172,16 +170,15 @@ thread_asks words told.Memory is = tt
 thread_asks words told.NoThread is = tt
 thread_asks words _ is = absurd is
 
-pub thread_routes : (words : LandmarkWords) (fault : Fault) → IsThreadFault fault → IsRouteFault words fault
-thread_routes words told.Memory is = tt
-thread_routes words told.NoThread is = tt
-thread_routes words _ is = absurd is
+pub words_ask : (words : LandmarkWords) (fault : Fault) → IsWordsFault words fault → IsQueryFault words fault
+words_ask words told.Words is = is
+words_ask words told.Memory is = tt
+words_ask words _ is = absurd is
 
-pub words_of_route : (words : LandmarkWords) (fault : Fault) → IsQueryFault words fault → IsRouteFault words fault
-words_of_route words told.Words is = is
-words_of_route words told.Memory is = tt
-words_of_route words told.NoThread is = tt
-words_of_route words _ is = absurd is
+pub words_route : (words : LandmarkWords) (fault : Fault) → IsWordsFault words fault → IsRouteFault words fault
+words_route words told.Words is = is
+words_route words told.Memory is = tt
+words_route words _ is = absurd is
 
 -- ---- the faults of words and queries tell nothing of a content
 
@@ -195,7 +192,6 @@ pub route_tells : (words : LandmarkWords) (fault : Fault) (content : List ℕ) �
 route_tells words told.NoNode content is = tt
 route_tells words told.Words content is = tt
 route_tells words told.Memory content is = tt
-route_tells words told.NoThread content is = tt
 route_tells words _ content is = absurd is
 
 -- ---- words that are no task
@@ -216,6 +212,11 @@ refused_for words refused fault is cause memory = inl (refused, is, cause, λ ta
 pub each_fault : {T : Type 0} (r : Result T Fault) (P Q : Fault → Type 0) → ((fault : Fault) → P fault → Q fault) → IfErr r P → IfErr r Q
 each_fault (Ok x) P Q is has = tt
 each_fault (Err fault) P Q is has = is fault has
+
+-- what holds of the fault that came holds of the one that is handed up
+pub handed_up : {T : Type 0} (r : Result T Fault) (P : Fault → Type 0) (fault : Fault) → IsErrAnd r (λ e. e ≡ fault) → P fault → IfErr r P
+handed_up (Ok x) P fault is has = absurd is
+handed_up (Err e) P fault is has = subst P (sym is) has
 
 -- a fault that can't come doesn't
 pub not_told : {T : Type 0} (r : Result T Fault) (fault : Fault) (P : Fault → Type 0) → (P fault → ⊥) → IfErr r P → IsErrOf r fault → ⊥

@@ -1,4 +1,5 @@
 pub mod Answering
 pub mod SchemeAnswering
+pub mod ManyRoutes
 pub mod Faults
 pub mod Serving

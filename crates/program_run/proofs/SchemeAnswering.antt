@@ -1,6 +1,12 @@
 -- What `route` and `check` answer of a graph.
-use Rattle.std.proofs.Common.{sym, subst, ◌≡◌, ℕ, ◌<◌, List, Option, Result, Ok, Err, IfOk, OnOk, IsErrAnd}
+use Rattle.std.proofs.Common.{sym, subst, ◌≡◌, ℕ, List, Option, Result, Ok, Err, IfOk, OnOk, IsErrAnd}
+use Rattle.std.specs.Borrow.{Bor}
+use Rattle.std.specs.Global.{Vec}
 use Rattle.std.specs.Io.KnownBytes.{Appends}
+use Rattle.clap.specs.Walk.{Text}
+use Rattle.asked_tasks.specs.Asked.{IsAskedFor}
+use Rattle.asked_tasks.specs.declared.task.Task.{Task}
+use Rattle.asked_tasks.specs.declared.task.Task.TheVariants.{Route as AskedRoute}
 use Rattle.disk_trait.specs.Disk.{OnlyRead}
 use Rattle.recovery.specs.State.{State}
 use Rattle.checkpoint.specs.StoreWords.{disk_of, view_of}
@@ -14,7 +20,8 @@ use Rattle.scheme_queries.specs.Queries.{IsCheckAnswer}
 use Rattle.printed_lines.specs.declared.fault.Fault.{Fault}
 use Rattle.printed_lines.specs.declared.ended.Ended.{Ended}
 use Rattle.printed_lines.specs.Lines.{line}
-use Rattle.program_run.specs.SchemeAnswers.{IsRouteBy, IsRouteOf, IsCheckOf, answered_text, checks_text, ended_along, ended_at}
+use Rattle.program_run.specs.Printed.{AnswersWords}
+use Rattle.program_run.specs.SchemeAnswers.{AreRoutesOf, IsCheckOf, checks_text, ended_after, ended_at, routes_text}
 
 -- the fault that is handed up is the one that came
 pub passed_up : {T : Type 0} (r : Result T Fault) (fault other : Fault) → IsErrAnd r (λ e. e ≡ fault) → r ≡ Err other → fault ≡ other
@@ -24,21 +31,6 @@ passed_up r fault other by is = sym (subst (λ x. IsErrAnd x (λ e. e ≡ fault)
 pub only_read : {D : Type 0} {V : _} → (disk back : D) (store : Store D V) → back ≡ disk_of store → OnlyRead (V.view disk) (view_of store) → OnlyRead (V.view disk) (V.view back)
 only_read {V = V} disk back store is reads = subst (λ d. OnlyRead (V.view disk) (V.view d)) (sym is) reads
 
--- an answer by the words is one for what was asked
-pub route_of : (graph own : Network) (generation : ℕ) (asked : LandmarkWords) (words : List ℕ) (u v : ℕ) (answer : Result Route Fault) → own ≡ graph → IsWithin asked graph.nodes
-    → AreWords asked graph.nodes words → u < graph.nodes → v < graph.nodes → IfOk answer (λ route. IsRouteBy own words generation u v (Ok route)) → IfOk answer (λ route. IsRouteOf graph generation asked u v route)
-route_of graph own generation asked words u v (Ok route) same within are from to by =
-    let is : IsRouteBy graph words generation u v (Ok route) = subst (λ g. IsRouteBy g words generation u v (Ok route)) same by in
-    record {
-      from = from;
-      to = to;
-      within = within;
-      connected = λ xs walk. is.0.connected xs walk;
-      apart = λ none. is.0.apart none;
-      scheme = (words, (are, is.1));
-    }
-route_of graph own generation asked words u v (Err e) same within are from to by = tt
-
 -- a check by the words is one for what was asked
 pub check_of : (graph own : Network) (generation : ℕ) (asked : LandmarkWords) (words : List ℕ) (answer : Result Checked Fault) → own ≡ graph → IsWithin asked graph.nodes
     → AreWords asked graph.nodes words → IfOk answer (λ checked. IsCheckAnswer own words generation (Ok checked)) → IfOk answer (λ checked. IsCheckOf graph generation asked checked)
@@ -47,14 +39,26 @@ check_of graph own generation asked words (Ok checked) same within are by =
     record { within = within; passes = is.passes; count = (words, (are, is.count)); scheme = (words, (are, is.scheme)) }
 check_of graph own generation asked words (Err e) same within are by = tt
 
--- a route's line is that of what becomes of the packet in a state
-pub route_line : (r : Result Ended Fault) (old new : Option (List ℕ)) (asked : LandmarkWords) (u v generation : ℕ) (route : Route)
-    → (state : State) × (generation ≡ state.count) × IsRouteOf state.graph state.count asked u v route
-    → IfOk r (λ ended. ended ≡ ended_along route) → OnOk r (Appends old new (line (answered_text generation route)))
-    → IfOk r (λ ended. (state : State) × (route : Route) × IsRouteOf state.graph state.count asked u v route × (ended ≡ ended_along route) × Appends old new (line (answered_text state.count route)))
-route_line (Ok ended) old new asked u v generation route one ends printed =
-    (one.0, route, one.2, ends, subst (λ n. Appends old new (line (answered_text n route))) one.1 printed)
-route_line (Err fault) old new asked u v generation route one ends printed = tt
+-- the lines of routes are those of what becomes of the packets in a state
+pub routes_lines : (r : Result Ended Fault) (old new : Option (List ℕ)) (asked : LandmarkWords) (pairs : List (ℕ × ℕ)) (generation : ℕ) (routes : List Route)
+    → (state : State) × (generation ≡ state.count) × AreRoutesOf state.graph asked pairs routes
+    → IfOk r (λ ended. ended ≡ ended_after routes) → OnOk r (Appends old new (routes_text generation routes))
+    → IfOk r (λ ended. (state : State) × (routes : List Route) × AreRoutesOf state.graph asked pairs routes × (ended ≡ ended_after routes) × Appends old new (routes_text state.count routes))
+routes_lines (Ok ended) old new asked pairs generation routes one ends printed =
+    (one.0, routes, one.2, ends, subst (λ n. Appends old new (routes_text n routes)) one.1 printed)
+routes_lines (Err fault) old new asked pairs generation routes one ends printed = tt
+
+-- and the answer to words that were understood as a task of routes
+pub routes_answer : (r : Result Ended Fault) (words : List Text) (given old new : Option (List ℕ)) (understood : Task) (device : Bor Text) (pairs : Vec (ℕ × ℕ)) (asked : LandmarkWords) (shown : List (ℕ × ℕ))
+    → IsAskedFor words understood → understood ≡ AskedRoute device pairs asked → shown ≡ pairs.items
+    → IfOk r (λ ended. (state : State) × (routes : List Route) × AreRoutesOf state.graph asked shown routes × (ended ≡ ended_after routes) × Appends old new (routes_text state.count routes))
+    → IfOk r (λ ended. AnswersWords words given ended old new)
+routes_answer (Ok ended) words given old new understood device pairs asked shown is same are printed = (
+  AskedRoute device pairs asked,
+  subst (λ (task : Task). IsAskedFor words task) same is,
+  (printed.0, printed.1, subst (λ (ps : List (ℕ × ℕ)). AreRoutesOf printed.0.graph asked ps printed.1) are printed.2, printed.3, printed.4),
+)
+routes_answer (Err fault) words given old new understood device pairs asked shown is same are printed = tt
 
 -- a check's line is that of what the checks say in a state
 pub check_line : (r : Result Ended Fault) (old new : Option (List ℕ)) (asked : LandmarkWords) (generation : ℕ) (checked : Checked)

@@ -1,7 +1,6 @@
 -- What the words of a service give.
-use Rattle.std.proofs.Common.{◌≡◌, ◌≤◌, ℕ, List, Option, Some, None, rules, sym, subst}
+use Rattle.std.proofs.Common.{◌≡◌, ℕ, List, Option, Some, None, rules, sym, subst}
 use Rattle.clap.specs.Walk.{Text}
-use Rattle.given_words.specs.declared.words.LandmarkWords.{LandmarkWords}
 use Rattle.asked_tasks.specs.Asked.{IsAskedFor, IsSeats, usual_places, usual_seats}
 use Rattle.asked_tasks.specs.declared.task.Task.{Task}
 use Rattle.asked_tasks.specs.declared.task.Task.TheVariants.{Serve}

@@ -68,10 +68,11 @@ IsCheckDeviceFault words told.Words = NamesNodes words
 IsCheckDeviceFault words told.NoThread = Unit {0}
 IsCheckDeviceFault words fault = IsOpenFault fault
 
--- and of a route on one
+-- and of routes on one, which take no thread
 abbrev pub IsRouteDeviceFault : LandmarkWords → Fault → Type 0
 IsRouteDeviceFault words told.NoNode = Unit {0}
-IsRouteDeviceFault words fault = IsCheckDeviceFault words fault
+IsRouteDeviceFault words told.Words = NamesNodes words
+IsRouteDeviceFault words fault = IsOpenFault fault
 
 -- those that may end `check`
 abbrev pub EndsCheck : LandmarkWords → Fault → Type 0
@@ -107,17 +108,23 @@ IsThreadFault told.Memory = Unit {0}
 IsThreadFault told.NoThread = Unit {0}
 IsThreadFault fault = ⊥
 
--- the faults of a query of a graph under landmark words
+-- the faults of landmark words for a graph
+abbrev pub IsWordsFault : LandmarkWords → Fault → Type 0
+IsWordsFault words told.Words = NamesNodes words
+IsWordsFault words told.Memory = Unit {0}
+IsWordsFault words fault = ⊥
+
+-- the faults of a check of a graph under landmark words
 abbrev pub IsQueryFault : LandmarkWords → Fault → Type 0
 IsQueryFault words told.Words = NamesNodes words
 IsQueryFault words told.Memory = Unit {0}
 IsQueryFault words told.NoThread = Unit {0}
 IsQueryFault words fault = ⊥
 
--- and of a route between two nodes
+-- and of routes between pairs of nodes
 abbrev pub IsRouteFault : LandmarkWords → Fault → Type 0
 IsRouteFault words told.NoNode = Unit {0}
-IsRouteFault words fault = IsQueryFault words fault
+IsRouteFault words fault = IsWordsFault words fault
 
 -- those that may end a task that is under way
 abbrev pub MayEnd : Task → Fault → Type 0
@@ -125,7 +132,7 @@ MayEnd (Format device nodes) fault = EndsFormat nodes fault
 MayEnd (Show device) fault = EndsShow fault
 MayEnd (Edit device session ticket change) fault = EndsEdit fault
 MayEnd (Resume device session) fault = EndsShow fault
-MayEnd (Route device from to words) fault = EndsRoute words fault
+MayEnd (Route device pairs words) fault = EndsRoute words fault
 MayEnd (Check device words) fault = EndsCheck words fault
 MayEnd (Migrate old new) fault = EndsMigrate fault
 MayEnd (Serve device editors forwarders places words) fault = EndsServe fault

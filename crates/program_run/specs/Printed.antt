@@ -19,7 +19,7 @@ use Rattle.device_commands.specs.Answer.{IsNew, verdict_of}
 use Rattle.scripts.specs.declared.line.ScriptLine.{ScriptLine}
 use Rattle.served_lines.specs.ServedLines.{IsServed}
 use Rattle.program_run.specs.ServedScripts.{IsScriptOf}
-use Rattle.program_run.specs.SchemeAnswers.{IsRouteOf, IsCheckOf, answered_text, checks_text, ended_along, ended_at}
+use Rattle.program_run.specs.SchemeAnswers.{AreRoutesOf, IsCheckOf, checks_text, ended_after, ended_at, routes_text}
 
 -- how a command ends that answers this verdict
 abbrev pub ended_by : Verdict → Ended
@@ -38,8 +38,8 @@ PrintedFor (Show device) given ended old new = (ended ≡ Done) × (state : Stat
 PrintedFor (Edit device session ticket change) given ended old new =
     (state : State) × IsNew state session ticket × (ended ≡ ended_by (verdict_of state change)) × Appends old new (line (verdict_text (verdict_of state change)))
 PrintedFor (Resume device session) given ended old new = (ended ≡ Done) × (state : State) × Appends old new (line (ticket_text session (last_of state.tickets session)))
-PrintedFor (Route device from to words) given ended old new =
-    (state : State) × (route : Found) × IsRouteOf state.graph state.count words from to route × (ended ≡ ended_along route) × Appends old new (line (answered_text state.count route))
+PrintedFor (Route device pairs words) given ended old new =
+    (state : State) × (routes : List Found) × AreRoutesOf state.graph words pairs.items routes × (ended ≡ ended_after routes) × Appends old new (routes_text state.count routes)
 PrintedFor (Check device words) given ended old new =
     (state : State) × (checked : Checked) × IsCheckOf state.graph state.count words checked × (ended ≡ ended_at checked.fault) × Appends old new (line (checks_text state.count checked.landmarks checked.fault))
 PrintedFor (Migrate device made) given ended old new = (ended ≡ Done) × (state : State) × Appends old new (line (migrated_text state.count (len state.graph.edges)))

@@ -6,7 +6,7 @@
 //! | `show DEVICE` | the device is opened | `count=C edges=E`, then `a b w` for each edge |
 //! | `edit DEVICE OP.. --session S --ticket T` | one change of all OPs, whole or not at all, under ticket T of session S or the next one; without S, of session 0 | `accepted count=C` or `refused op=I code=K` |
 //! | `resume DEVICE S` | the device is opened | `session=S ticket=T`, the last ticket of session S |
-//! | `route DEVICE FROM TO --words W` | a packet is carried by the scheme that these words give | `generation=G route 0 1 2 length L` or `generation=G unreachable` |
+//! | `route DEVICE FROM TO [FROM TO].. --words W` | for each pair of nodes the route under the landmarks that these words give is found | a line for each pair, `generation=G route 0 1 2 length L` or `generation=G unreachable` |
 //! | `check DEVICE --words W` | the scheme that these words give is built and checked | `ok generation=G landmarks=K` or `fault K4` |
 //! | `migrate OLD NEW` | what OLD holds, a device of layout 1, is brought to a new file | `migrated count=C edges=E` |
 //! | `serve DEVICE --words W --editors E --forwarders F --queue Q` | the script that the reader gives is run, by E editors and F forwarders, with Q places in the queue | a line for each of its lines, as `edit` and `route` print them, or `no node` |
@@ -16,7 +16,7 @@
 //! is 64. Of all commands `serve` alone reads what the reader gives. What ends a command is a `Fault`, told on the second writer as
 //! `tznode: TEXT`.
 //!
-//! Here stand the files, the threads that build schemes, and the run. The words are read in `asked_tasks`, the lines and faults are
+//! Here stand the files, the routes, the thread that builds a scheme to check it, and the run. The words are read in `asked_tasks`, the lines and faults are
 //! spelt in `printed_lines`, and what `format`, `show`, `edit`, `resume` and `migrate` do on a device is in
 //! `device_commands`; the threads of `serve` are in `serving`, and its lines in `served_lines`.
 //!
@@ -31,6 +31,7 @@
 //! ```
 #![tactic(auto)]
 
+mod checking;
 mod files;
 mod outcome;
 mod routing;

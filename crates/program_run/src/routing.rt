@@ -1,113 +1,67 @@
-//! What a graph answers under landmark words, each question in a thread of its own: trees are as deep as a graph has nodes.
-ghost use Rattle.std.specs.Prelude.{◌≡◌, ◌<◌, length, IfOk, IfErr, Ok};
-ghost use Rattle.scheme_queries.specs.Queries.{IsCheckAnswer};
-ghost use Rattle.program_run.specs.Endings.{IsThreadFault};
-ghost use Rattle.program_run.specs.SchemeAnswers.{IsRouteBy};
+//! The routes of packets in a graph under landmark words.
+ghost use Rattle.std.specs.Prelude.{◌≡◌, ◌<◌, ◌↔◌, Bool, List, IfOk, IsTrue, length};
+ghost use Rattle.graph_edits.specs.Edges.{IsSound};
+ghost use Rattle.program_run.specs.SchemeAnswers.{AreChosenBy, AreNodes, AreRoutesUnder, IsRouteUnder};
 
 use graph_edits::Graph;
-use printed_lines::Fault;
-use scheme_queries::{Checked, Route, carry_packet, check_scheme};
+use landmarks::Landmarks;
+use scheme_queries::Route;
+use single_route::{NoTrail, Routes, trail_laws};
 use std::alloc::{AllocError, Global};
-use std::snapshot::Snapshot;
-use std::thread::{Builder, Promise, Threads};
 
-/// How many bytes of stack a thread has that builds a scheme.
-const STACK_LEN: usize = 67_108_864;
-
-// That a thread answers for a packet as `carry_packet` does.
-#[derive(Drop)]
-struct RoutePromise {
-    graph: Snapshot<Graph>,
-    words: Snapshot<Vec<u64>>,
-    generation: u64,
-    from: u16,
-    to: u16,
-}
-
-impl Promise<Result<Route, AllocError>> for RoutePromise {
-    ghost use Rattle.program_run.specs.SchemeAnswers.{IsRouteBy};
-
-    ghost kept_by = { λ p r. IsRouteBy p.graph.value p.words.value.items p.generation p.from p.to r };
-}
-
-// That a thread answers as `check_scheme` does.
-#[derive(Drop)]
-struct CheckPromise {
-    graph: Snapshot<Graph>,
-    words: Snapshot<Vec<u64>>,
-    generation: u64,
-}
-
-impl Promise<Result<Checked, AllocError>> for CheckPromise {
-    ghost use Rattle.scheme_queries.specs.Queries.{IsCheckAnswer};
-
-    ghost kept_by = { λ p r. IsCheckAnswer p.graph.value p.words.value.items p.generation r };
-}
-
-/// Carries a packet in a graph, in a thread of its own.
-pub(crate) fn route_in_thread<R: Threads>(
-    rt: &R,
-    alloc: Global,
-    graph: Graph,
-    words: Vec<u64>,
-    generation: u64,
-    from: u16,
-    to: u16,
-) -> Result<Route, Fault>
-    requires words { length words.items ≡ graph.nodes }
-    requires from { from < graph.nodes }
-    requires to { to < graph.nodes }
-    ensures route { IfOk result (λ route. IsRouteBy graph words.items generation from to (Ok route)) }
-    ensures fault { IfErr result (λ fault. IsThreadFault fault) }
+/// Whether each pair is of two nodes, of so many.
+pub(crate) fn are_nodes(pairs: &[(u16, u16)], nodes: u16) -> bool
+    ensures { IsTrue result ↔ AreNodes nodes pairs.now }
 {
-    let promise = RoutePromise {
-        graph: Snapshot::of(&graph),
-        words: Snapshot::of(&words),
-        generation,
-        from,
-        to,
-    };
-    let job = move || -> Result<Route, AllocError>
-        requires words { length words.items ≡ graph.nodes }
-        requires from { from < graph.nodes }
-        requires to { to < graph.nodes }
-        ensures { IsRouteBy graph words.items generation from to result }
-    { carry_packet(alloc, &graph, &words, generation, from, to) };
-    match Builder::new()
-        .stack_size(STACK_LEN)
-        .spawn_with(rt, promise, job)
-    {
-        Ok(thread) => Ok(thread.join(rt)?),
-        Err(_) => Err(Fault::NoThread),
+    pairs.iter().all(|pair| pair.0 < nodes && pair.1 < nodes)
+}
+
+/// The routes between these pairs of nodes under these landmark words, in order. The nearest landmarks are searched once.
+pub(crate) fn routes_by(
+    alloc: Global,
+    graph: &Graph,
+    words: &[u64],
+    pairs: &[(u16, u16)],
+) -> Result<Vec<Route>, AllocError>
+    requires words { length words.now ≡ graph.now.nodes }
+    requires nodes { AreNodes graph.now.nodes pairs.now }
+    ensures { IfOk result (λ routes. (flags : List Bool) × AreChosenBy graph.now.nodes words.now flags × AreRoutesUnder graph.now flags pairs.now routes.items) }
+{
+    let nodes = graph.nodes();
+    let landmarks = Landmarks::choose(alloc, nodes as usize, words)?;
+    let mut routes = Routes::new(alloc, graph, &landmarks)?;
+    routes_between(alloc, &mut routes, pairs)
+}
+
+fn routes_between(
+    alloc: Global,
+    routes: &mut Routes<'_>,
+    pairs: &[(u16, u16)],
+) -> Result<Vec<Route>, AllocError>
+    requires sound { IsSound routes.old.graph }
+    requires nodes { AreNodes routes.old.graph.nodes pairs.now }
+    ensures { IfOk result (λ found. AreRoutesUnder routes.old.graph routes.old.flags pairs.now found.items) }
+{
+    let mut found = Vec::new(alloc);
+    for pair in pairs {
+        let route = route_between(routes, pair.0, pair.1)?;
+        found.push(route)?;
     }
+    Ok(found)
 }
 
-/// Checks the scheme of a graph, in a thread of its own.
-pub(crate) fn check_in_thread<R: Threads>(
-    rt: &R,
-    alloc: Global,
-    graph: Graph,
-    words: Vec<u64>,
-    generation: u64,
-) -> Result<Checked, Fault>
-    requires { length words.items ≡ graph.nodes }
-    ensures checked { IfOk result (λ checked. IsCheckAnswer graph words.items generation (Ok checked)) }
-    ensures fault { IfErr result (λ fault. IsThreadFault fault) }
+fn route_between(routes: &mut Routes<'_>, from: u16, to: u16) -> Result<Route, AllocError>
+    requires sound { IsSound routes.old.graph }
+    requires from { from < routes.old.graph.nodes }
+    requires to { to < routes.old.graph.nodes }
+    ensures route { IfOk result (λ route. IsRouteUnder routes.old.graph routes.old.flags from to route) }
+    ensures kept { routes.new ≡ routes.old }
 {
-    let promise = CheckPromise {
-        graph: Snapshot::of(&graph),
-        words: Snapshot::of(&words),
-        generation,
-    };
-    let job = move || -> Result<Checked, AllocError>
-        requires { length words.items ≡ graph.nodes }
-        ensures { IsCheckAnswer graph words.items generation result }
-    { check_scheme(alloc, &graph, &words, generation) };
-    match Builder::new()
-        .stack_size(STACK_LEN)
-        .spawn_with(rt, promise, job)
-    {
-        Ok(thread) => Ok(thread.join(rt)?),
-        Err(_) => Err(Fault::NoThread),
+    trail_laws();
+    match routes.route(from, to) {
+        Ok(trail) => Ok(Route::Along(trail)),
+        Err(NoTrail::Unreachable) => Ok(Route::Unreachable),
+        Err(NoTrail::Memory) => Err(AllocError),
+        Err(NoTrail::NoNode) => unreachable!(),
     }
 }

@@ -104,11 +104,10 @@ where
         Ok(
             Task::Route {
                 device,
-                from,
-                to,
+                pairs,
                 words,
             },
-        ) => run_route(rt, device, from, to, &words, out),
+        ) => run_route(rt, device, &pairs, &words, out),
         Ok(Task::Check { device, words }) => run_check(rt, device, &words, out),
         Ok(Task::Migrate { old, new }) => run_migrate(rt, old, new, out),
         Ok(

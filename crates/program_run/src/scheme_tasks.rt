@@ -1,5 +1,5 @@
 //! The commands `route` and `check`.
-ghost use Rattle.std.specs.Prelude.{◌≡◌, ◌≢◌, ◌<◌, List, ℕ, IsTrue, IfOk, IfErr, IsErrOf, OnOk};
+ghost use Rattle.std.specs.Prelude.{◌≡◌, ◌≢◌, ◌<◌, List, ℕ, length, IsTrue, IfOk, IfErr, IsErrOf, OnOk};
 ghost use Rattle.std.specs.Io.KnownBytes.{Appends};
 ghost use Rattle.disk_trait.specs.Disk.{DiskView, IsSameDevice, OnlyRead};
 ghost use Rattle.recovery.specs.State.{State};
@@ -8,11 +8,12 @@ ghost use Rattle.checkpoint.specs.StoreWords.{state_of};
 ghost use Rattle.given_words.specs.Words.{AreWords, IsWithin};
 ghost use Rattle.printed_lines.specs.Lines.{line};
 ghost use Rattle.device_commands.specs.Openings.{TellsOf};
-ghost use Rattle.program_run.specs.Endings.{EndsCheck, EndsRoute, IsCheckDeviceFault, IsRouteDeviceFault, IsRouteFault, IsQueryFault};
-ghost use Rattle.program_run.specs.SchemeAnswers.{IsRouteOf, IsCheckOf, answered_text, checks_text, ended_along, ended_at};
+ghost use Rattle.program_run.specs.Endings.{EndsCheck, EndsRoute, IsCheckDeviceFault, IsRouteDeviceFault, IsRouteFault, IsQueryFault, IsWordsFault};
+ghost use Rattle.program_run.specs.SchemeAnswers.{AreNodes, AreRoutesOf, IsCheckOf, answered_text, checks_text, ended_after, ended_at, is_along, routes_text};
 
+use crate::checking::check_in_thread;
 use crate::files::read_file;
-use crate::routing::{check_in_thread, route_in_thread};
+use crate::routing::{are_nodes, routes_by};
 use checkpoint::{Store, standing_law};
 use device_commands::open;
 use disk_trait::Disk;
@@ -32,8 +33,9 @@ use std::thread::Threads;
 fn words_of(alloc: Global, graph: &Graph, asked: &LandmarkWords) -> Result<Vec<u64>, Fault>
     ensures within { IfOk result (λ _. IsWithin asked.now graph.now.nodes) }
     ensures words { IfOk result (λ words. AreWords asked.now graph.now.nodes words.items) }
+    ensures count { IfOk result (λ words. length words.items ≡ graph.now.nodes) }
     ensures not_within { IsErrOf result Fault.Words → ¬ IsWithin asked.now graph.now.nodes }
-    ensures fault { IfErr result (λ fault. IsQueryFault asked.now fault) }
+    ensures fault { IfErr result (λ fault. IsWordsFault asked.now fault) }
 {
     let nodes = graph.nodes();
     if !asked.is_within(nodes) {
@@ -42,28 +44,23 @@ fn words_of(alloc: Global, graph: &Graph, asked: &LandmarkWords) -> Result<Vec<u
     Ok(asked.of_nodes(alloc, nodes)?)
 }
 
-/// What becomes of a packet in a graph.
-fn route_in_graph<R: Threads + AllocGlobal>(
-    rt: &R,
+/// What becomes of packets in a graph, of each from the first node of a pair to the second.
+fn routes_in_graph(
+    alloc: Global,
     graph: &Graph,
-    generation: u64,
     asked: &LandmarkWords,
-    from: u16,
-    to: u16,
-) -> Result<Route, Fault>
-    ensures route { IfOk result (λ route. IsRouteOf graph.now generation asked.now from to route) }
-    ensures no_node { IsErrOf result Fault.NoNode → IsWithin asked.now graph.now.nodes × (from < graph.now.nodes → to < graph.now.nodes → ⊥) }
+    pairs: &[(u16, u16)],
+) -> Result<Vec<Route>, Fault>
+    ensures routes { IfOk result (λ routes. AreRoutesOf graph.now asked.now pairs.now routes.items) }
+    ensures no_node { IsErrOf result Fault.NoNode → IsWithin asked.now graph.now.nodes × ¬ AreNodes graph.now.nodes pairs.now }
     ensures not_within { IsErrOf result Fault.Words → ¬ IsWithin asked.now graph.now.nodes }
     ensures fault { IfErr result (λ fault. IsRouteFault asked.now fault) }
 {
-    let alloc = rt.alloc();
     let words = words_of(alloc, graph, asked)?;
-    let nodes = graph.nodes();
-    if from >= nodes || to >= nodes {
+    if !are_nodes(pairs, graph.nodes()) {
         return Err(Fault::NoNode);
     }
-    let own = graph.try_clone(alloc)?;
-    route_in_thread(rt, alloc, own, words, generation, from, to)
+    Ok(routes_by(alloc, graph, &words, pairs)?)
 }
 
 /// What the checks say of the scheme of a graph.
@@ -83,41 +80,38 @@ fn check_in_graph<R: Threads + AllocGlobal>(
     check_in_thread(rt, alloc, own, words, generation)
 }
 
-// The generation of a store's graph, and what becomes of a packet in it.
-fn route_in_store<R: Threads + AllocGlobal, D: Disk>(
-    rt: &R,
+// The generation of a store's graph, and what becomes of packets in it.
+fn routes_in_store<D: Disk>(
+    alloc: Global,
     store: &Store<D>,
     asked: &LandmarkWords,
-    from: u16,
-    to: u16,
-) -> Result<(u64, Route), Fault>
-    ensures answer { IfOk result (λ answer. (answer.0 ≡ (state_of store.now).count) × IsRouteOf (state_of store.now).graph (state_of store.now).count asked.now from to answer.1) }
-    ensures no_node { IsErrOf result Fault.NoNode → IsWithin asked.now (state_of store.now).graph.nodes × (from < (state_of store.now).graph.nodes → to < (state_of store.now).graph.nodes → ⊥) }
+    pairs: &[(u16, u16)],
+) -> Result<(u64, Vec<Route>), Fault>
+    ensures answer { IfOk result (λ answer. (answer.0 ≡ (state_of store.now).count) × AreRoutesOf (state_of store.now).graph asked.now pairs.now answer.1.items) }
+    ensures no_node { IsErrOf result Fault.NoNode → IsWithin asked.now (state_of store.now).graph.nodes × ¬ AreNodes (state_of store.now).graph.nodes pairs.now }
     ensures not_within { IsErrOf result Fault.Words → ¬ IsWithin asked.now (state_of store.now).graph.nodes }
     ensures fault { IfErr result (λ fault. IsRouteFault asked.now fault) }
 {
     let generation = store.count();
-    let route = route_in_graph(rt, store.graph(), generation, asked, from, to)?;
-    Ok((generation, route))
+    let routes = routes_in_graph(alloc, store.graph(), asked, pairs)?;
+    Ok((generation, routes))
 }
 
-/// The generation of a device's graph, and what becomes of a packet from a node to a node in the scheme by the words that were
-/// asked for. Judged in this order: the device, the nodes that the words name, the two nodes. The device comes back, and was only
-/// read.
-pub fn route_device<R: Threads + AllocGlobal, D: Disk>(
-    rt: &R,
+/// The generation of a device's graph, and what becomes of packets in it, of each from the first node of a pair to the second, under
+/// the landmarks by the words that were asked for. Judged in this order: the device, the nodes that the words name, the nodes of the
+/// pairs. The device comes back, and was only read.
+pub fn route_device<D: Disk>(
+    alloc: Global,
     disk: D,
     asked: &LandmarkWords,
-    from: u16,
-    to: u16,
-) -> (Result<(u64, Route), Fault>, D)
+    pairs: &[(u16, u16)],
+) -> (Result<(u64, Vec<Route>), Fault>, D)
     ensures generation { IsTrue (D.view disk).keeps_model → (state : State) → StandsFor state (D.view disk).content → IfOk result.0 (λ answer. answer.0 ≡ state.count) }
-    ensures route { IsTrue (D.view disk).keeps_model → (state : State) → StandsFor state (D.view disk).content → IfOk result.0 (λ answer. IsRouteOf state.graph state.count asked.now from to answer.1) }
-    ensures no_node { IsTrue (D.view disk).keeps_model → (state : State) → StandsFor state (D.view disk).content → IsErrOf result.0 Fault.NoNode
-        → IsWithin asked.now state.graph.nodes × (from < state.graph.nodes → to < state.graph.nodes → ⊥) }
+    ensures routes { IsTrue (D.view disk).keeps_model → (state : State) → StandsFor state (D.view disk).content → IfOk result.0 (λ answer. AreRoutesOf state.graph asked.now pairs.now answer.1.items) }
+    ensures no_node { IsTrue (D.view disk).keeps_model → (state : State) → StandsFor state (D.view disk).content → IsErrOf result.0 Fault.NoNode → IsWithin asked.now state.graph.nodes × ¬ AreNodes state.graph.nodes pairs.now }
     ensures not_within { IsTrue (D.view disk).keeps_model → (state : State) → StandsFor state (D.view disk).content → IsErrOf result.0 Fault.Words → ¬ IsWithin asked.now state.graph.nodes }
     // Also of a disk that doesn't keep the model the answer is that of a state.
-    ensures of_one { IfOk result.0 (λ answer. (state : State) × (answer.0 ≡ state.count) × IsRouteOf state.graph state.count asked.now from to answer.1) }
+    ensures of_one { IfOk result.0 (λ answer. (state : State) × (answer.0 ≡ state.count) × AreRoutesOf state.graph asked.now pairs.now answer.1.items) }
     ensures tells { IsTrue (D.view disk).keeps_model → IfErr result.0 (λ fault. TellsOf fault (D.view disk).content) }
     ensures device { IsErrOf result.0 Fault.Device → (D.view disk).failures < (D.view result.1).failures }
     ensures fault { IfErr result.0 (λ fault. IsRouteDeviceFault asked.now fault) }
@@ -125,9 +119,9 @@ pub fn route_device<R: Threads + AllocGlobal, D: Disk>(
     ensures ran { IsSameDevice (D.view disk) (D.view result.1) }
 {
     standing_law();
-    match open(rt.alloc(), disk) {
+    match open(alloc, disk) {
         Ok(store) => (
-            route_in_store(rt, &store, asked, from, to),
+            routes_in_store(alloc, &store, asked, pairs),
             store.into_disk(),
         ),
         Err((fault, disk)) => (Err(fault), disk),
@@ -174,48 +168,71 @@ pub fn check_device<R: Threads + AllocGlobal, D: Disk>(
     }
 }
 
-/// Prints the route of a packet from a node to a node of a device, or that there is none.
+/// Prints a line for each pair of nodes of a device: the route of a packet from the first to the second, or that there is none.
 pub(crate) fn run_route<R, O>(
     rt: &R,
     device: &str,
-    from: u16,
-    to: u16,
+    pairs: &[(u16, u16)],
     asked: &LandmarkWords,
     out: &mut O,
 ) -> Result<Ended, Fault>
 where
-    R: Files<File = File> + AllocGlobal + Threads,
+    R: Files<File = File> + AllocGlobal,
     O: Write,
-    ensures printed { IfOk result (λ ended. (state : State) × (route : Route) × IsRouteOf state.graph state.count asked.now from to route × (ended ≡ ended_along route) × Appends (O.contents out.old) (O.contents out.new) (line (answered_text state.count route))) }
+    ensures printed { IfOk result (λ ended. (state : State) × (routes : List Route) × AreRoutesOf state.graph asked.now pairs.now routes × (ended ≡ ended_after routes) × Appends (O.contents out.old) (O.contents out.new) (routes_text state.count routes)) }
     ensures fault { IfErr result (λ fault. EndsRoute asked.now fault) }
     ensures untouched { IfErr result (λ fault. fault ≢ Fault.Output → out.new ≡ out.old) }
 {
-    let (answer, _) = route_device(rt, read_file(rt, device)?, asked, from, to);
-    let (generation, route) = answer?;
-    print_route(out, generation, &route)
+    let (answer, _) = route_device(rt.alloc(), read_file(rt, device)?, asked, pairs);
+    let (generation, routes) = answer?;
+    print_routes(out, generation, &routes)
 }
 
-fn print_route<O: Write>(out: &mut O, generation: u64, route: &Route) -> Result<Ended, Fault>
-    ensures ended { IfOk result (λ ended. ended ≡ ended_along route.now) }
+fn print_routes<O: Write>(out: &mut O, generation: u64, routes: &[Route]) -> Result<Ended, Fault>
+    ensures ended { IfOk result (λ ended. ended ≡ ended_after routes.now) }
+    ensures printed { OnOk result (Appends (O.contents out.old) (O.contents out.new) (routes_text generation routes.now)) }
+    ensures fault { IfErr result (λ fault. fault ≡ Fault.Output) }
+{
+    for route in routes {
+        print_route(out, generation, route)?;
+    }
+    Ok(ended_after(routes))
+}
+
+fn ended_after(routes: &[Route]) -> Ended
+    ensures { result ≡ ended_after routes.now }
+{
+    for route in routes {
+        if !is_along(route) {
+            return Ended::Refused;
+        }
+    }
+    Ended::Done
+}
+
+fn is_along(route: &Route) -> bool
+    ensures { result ≡ is_along route.now }
+{
+    match route {
+        Route::Along(_) => true,
+        Route::Unreachable => false,
+    }
+}
+
+fn print_route<O: Write>(out: &mut O, generation: u64, route: &Route) -> Result<(), Fault>
     ensures printed { OnOk result (Appends (O.contents out.old) (O.contents out.new) (line (answered_text generation route.now))) }
     ensures fault { IfErr result (λ fault. fault ≡ Fault.Output) }
 {
     match route {
-        Route::Along(trail) => {
-            print_line(
-                out,
-                RouteLine {
-                    generation,
-                    nodes: &trail.nodes,
-                    length: trail.length,
-                },
-            )?;
-            Ok(Ended::Done)
-        }
-        Route::Unreachable => {
-            print_line(out, UnreachableLine { generation })?;
-            Ok(Ended::Refused)
-        }
+        Route::Along(trail) => print_line(
+            out,
+            RouteLine {
+                generation,
+                nodes: &trail.nodes,
+                length: trail.length,
+            },
+        ),
+        Route::Unreachable => print_line(out, UnreachableLine { generation }),
     }
 }
 

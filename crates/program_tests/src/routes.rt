@@ -27,7 +27,8 @@ fn routes_and_checks_on_a_line(rt: HostRuntime) {
 const TRIANGLE: &str = "format @ 3 -> 0 formatted nodes=3
 edit @ add:0:1:1 add:1:2:1 add:0:2:2 -> 0 accepted count=1
 route @ 2 1 --words at:0 -> 0 generation=1 route 2 0 1 length 3
-route @ 2 1 --words at:1 -> 0 generation=1 route 2 1 length 1";
+route @ 2 1 --words at:1 -> 0 generation=1 route 2 1 length 1
+route @ 2 1 1 2 2 0 --words at:0 -> 0 generation=1 route 2 0 1 length 3|generation=1 route 1 2 length 1|generation=1 route 2 0 length 2";
 
 #[test]
 fn route_through_the_tree_of_a_landmark(rt: HostRuntime) {
@@ -51,6 +52,28 @@ route @ 65535 65535 --words at:0 -> 1 tznode: no node";
 fn nodes_that_are_apart(rt: HostRuntime) {
     let folder = got(&rt, make_folder(&rt, "nodes_that_are_apart"));
     expect_on_device(&rt, folder.as_str(), APART);
+}
+
+// A line for each pair, in order; status 1 where one of them is apart, whichever it is. In a text a bar stands between each two lines.
+const PAIRS: &str = "format @ 4 -> 0 formatted nodes=4
+edit @ add:0:1:5 add:2:3:5 -> 0 accepted count=1
+route @ 2 3 0 1 --words at:0 -> 0 generation=1 route 2 3 length 5|generation=1 route 0 1 length 5
+route @ 1 0 --words none 3 2 1 1 0 1 -> 0 generation=1 route 1 0 length 5|generation=1 route 3 2 length 5|generation=1 route 1 length 0|generation=1 route 0 1 length 5
+route @ 2 0 0 1 --words at:0 -> 1 generation=1 unreachable|generation=1 route 0 1 length 5
+route @ 0 1 2 0 --words at:0 -> 1 generation=1 route 0 1 length 5|generation=1 unreachable
+route @ 0 1 0 2 1 0 --words at:0 -> 1 generation=1 route 0 1 length 5|generation=1 unreachable|generation=1 route 1 0 length 5
+route @ 0 2 2 0 --words none -> 1 generation=1 unreachable|generation=1 unreachable
+route @ 0 1 0 4 --words at:0 -> 1 tznode: no node
+route @ 0 4 0 1 --words at:0 -> 1 tznode: no node
+route @ 0 1 4 0 2 0 --words at:0 -> 1 tznode: no node
+route @ 0 1 0 4 --words at:4 -> 2 tznode: words not understood
+route @ 0 1 2 --words at:0 -> 2 tznode: usage
+route @ 0 1 2 3 9 --words none -> 2 tznode: usage";
+
+#[test]
+fn pairs_of_nodes(rt: HostRuntime) {
+    let folder = got(&rt, make_folder(&rt, "pairs_of_nodes"));
+    expect_on_device(&rt, folder.as_str(), PAIRS);
 }
 
 // The nodes that the words name are judged once the device is open, and before the two nodes of a route.

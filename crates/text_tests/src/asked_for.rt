@@ -82,15 +82,6 @@ fn tasks(rt: HostRuntime) -> io::Result<()> {
     for (line, session) in [("resume|d|0", 0), ("resume|d|63", 63)] {
         expect_task(&rt, line, Task::Resume { device, session })?;
     }
-    let (from, to) = (3, 4);
-    let words = LandmarkWords::Drawn(7);
-    let route = Task::Route {
-        device,
-        from,
-        to,
-        words,
-    };
-    expect_task(&rt, "route|--words|draw:7|d|3|4", route)?;
     let words = LandmarkWords::Greatest;
     expect_task(&rt, "check|d|--words=none", Task::Check { device, words })?;
     for (line, editors, forwarders, places) in [
@@ -114,6 +105,48 @@ fn tasks(rt: HostRuntime) -> io::Result<()> {
     }
     let (old, new) = ("d", "e");
     expect_task(&rt, "migrate|d|e", Task::Migrate { old, new })
+}
+
+// A route's task, on the device `d` with the landmark words of seed 7.
+fn expect_pairs<R: AllocGlobal + Abort>(
+    rt: &R,
+    line: &str,
+    pairs: &[(u16, u16)],
+) -> io::Result<()> {
+    let route = Task::Route {
+        device: "d",
+        pairs: Vec::from_slice(rt.alloc(), pairs)?,
+        words: LandmarkWords::Drawn(7),
+    };
+    expect_task(rt, line, route)
+}
+
+// The words of `--words` stand before the nodes, between them or behind.
+#[test]
+fn pairs_of_routes(rt: HostRuntime) -> io::Result<()> {
+    for line in [
+        "route|--words|draw:7|d|3|4",
+        "route|d|3|--words|draw:7|4",
+        "route|d|--words=draw:7|3|4",
+        "route|d|3|4|--words|draw:7",
+    ] {
+        expect_pairs(&rt, line, &[(3, 4)])?;
+    }
+    for line in [
+        "route|--words|draw:7|d|3|4|0|65535",
+        "route|d|--words|draw:7|3|4|0|65535",
+        "route|d|3|--words=draw:7|4|0|65535",
+        "route|d|3|4|--words|draw:7|0|65535",
+        "route|d|3|4|0|--words|draw:7|65535",
+        "route|d|3|4|0|65535|--words|draw:7",
+    ] {
+        expect_pairs(&rt, line, &[(3, 4), (0, 65_535)])?;
+    }
+    expect_pairs(
+        &rt,
+        "route|d|2|1|1|2|1|2|7|7|--words|draw:7",
+        &[(2, 1), (1, 2), (1, 2), (7, 7)],
+    )
 }
 
 const USAGE: &str = "
@@ -173,6 +206,14 @@ resume|d|0|--ticket|1
 route|d|0|1
 route|d|0|--words|none
 route|d|0|1|2|--words|none
+route|d|0|1|--words|none|2
+route|d|0|1|2|--words|none|3|4
+route|d|0|1|2|3|4|--words|none
+route|d|0|1|2|03|--words|none
+route|d|0|1|2|65536|--words|none
+route|d|0|1||3|--words|none
+route|d|0|1|2|x|--words|at:
+route|d|0|1|2|--words|at:
 route|d|0|1|--words
 route|d|0|1|--words|none|--words|none
 route|d|0|1|--words=none|--words|at:1
@@ -234,7 +275,7 @@ fn words_that_ask_for_nothing(rt: HostRuntime) -> io::Result<()> {
 fn parts_of_another_form(rt: HostRuntime) -> io::Result<()> {
     expect_refused(
         &rt,
-        "route|d|0|1|--words|at:\ncheck|d|--words|\nserve|d|--words|at:|--editors|3",
+        "route|d|0|1|--words|at:\nroute|d|0|1|2|3|--words|at:\ncheck|d|--words|\nserve|d|--words|at:|--editors|3",
         WordsRefused::Words,
     )?;
     expect_refused(&rt, "edit|d|\nedit|d|add:0:1:1|add:0:1", WordsRefused::Op)

@@ -1,11 +1,11 @@
-use Rattle.std.proofs.Common.{rules, arith, inl, codes, IfErr, IfOk, Some, subst, ◌≡◌, ◌∙◌, sym}
+use Rattle.std.proofs.Common.{rules, inl, codes, IfErr, IfOk, Some, subst, ◌≡◌, ◌∙◌, sym}
 use Rattle.clap.specs.Words.{first_value, found_of}
 use Rattle.clap.specs.Walk.{Text, rows_of}
 use Rattle.given_words.specs.declared.words.LandmarkWords.TheVariants.{Greatest}
-use Rattle.asked_tasks.specs.declared.task.Task.TheVariants.{Check, Route}
+use Rattle.asked_tasks.specs.declared.task.Task.TheVariants.{Check}
 use Rattle.asked_tasks.specs.Asked.{IsCause, IsTask}
 use Rattle.asked_tasks.proofs.Asking.{given, gives}
-use Rattle.asked_tasks.proofs.OneTask.{check_words, from_refused, handed_on, has_device, new_given, nodes_refused, none_made, none_missing, of_number, of_words, only_memory, route_words, same_check, same_format, same_migrate, same_resume, same_route, same_show, session_refused, shaped, to_refused}
+use Rattle.asked_tasks.proofs.OneTask.{check_words, handed_on, has_device, new_given, nodes_refused, none_made, none_missing, of_number, of_words, only_memory, same_check, same_format, same_migrate, same_resume, same_show, session_refused, shaped}
 use Rattle.asked_tasks.proofs.task.task_of.Goals as goal
 
 pub returns-in_default-clause-cause : goal.returns-in_default-clause-cause
@@ -60,30 +60,15 @@ pub returns-in_ok-words_asked-clause-asked : goal.returns-in_ok-words_asked-clau
 returns-in_ok-words_asked-clause-asked c =
     let f = found_of c.args.found.now in
     let device : first_value f (codes "device") ≡ Some c.in-Some.device.now = search rules in
-    (search rules, gives f _ _ device, gives f _ _ c.in_ok-whole-2.ensures.found, gives f _ _ c.in_ok-whole-3.ensures.found, (gives f _ _ c.in_ok-words_asked.ensures.found, c.in_ok-words_asked.ensures.fits))
+    (search rules, gives f _ _ device, (gives f _ _ c.in_ok-words_asked.ensures.found, c.in_ok-words_asked.ensures.fits))
 
 pub returns-in_ok-words_asked-clause-only : goal.returns-in_ok-words_asked-clause-only
 returns-in_ok-words_asked-clause-only c task is fits =
     let f = found_of c.args.found.now in
-    let named : c.args.name.now ≡ codes "route" = search rules in
-    let device : first_value f (codes "device") ≡ Some c.in-Some.device.now = search rules in
-    same_route c.args.name.now (rows_of f) c.in-Some.device c.in_ok-whole-2.field-0 c.in_ok-whole-3.field-0 c.in_ok-words_asked.field-0 task named (gives f _ _ device)
-    (λ n lt there. c.in_ok-whole-2.ensures.same n lt (given f _ _ there)) (λ n lt there. c.in_ok-whole-3.ensures.same n lt (given f _ _ there))
-    (λ words asked there. c.in_ok-words_asked.ensures.same words asked (given f _ _ there)) is fits
-
-pub returns-in_ok-words_asked-2-clause-asked : goal.returns-in_ok-words_asked-2-clause-asked
-returns-in_ok-words_asked-2-clause-asked c =
-    let f = found_of c.args.found.now in
-    let device : first_value f (codes "device") ≡ Some c.in-Some.device.now = search rules in
-    (search rules, gives f _ _ device, (gives f _ _ c.in_ok-words_asked-2.ensures.found, c.in_ok-words_asked-2.ensures.fits))
-
-pub returns-in_ok-words_asked-2-clause-only : goal.returns-in_ok-words_asked-2-clause-only
-returns-in_ok-words_asked-2-clause-only c task is fits =
-    let f = found_of c.args.found.now in
     let named : c.args.name.now ≡ codes "check" = search rules in
     let device : first_value f (codes "device") ≡ Some c.in-Some.device.now = search rules in
-    same_check c.args.name.now (rows_of f) c.in-Some.device c.in_ok-words_asked-2.field-0 task named (gives f _ _ device)
-    (λ words asked there. c.in_ok-words_asked-2.ensures.same words asked (given f _ _ there)) is
+    same_check c.args.name.now (rows_of f) c.in-Some.device c.in_ok-words_asked.field-0 task named (gives f _ _ device)
+    (λ words asked there. c.in_ok-words_asked.ensures.same words asked (given f _ _ there)) is
 
 pub returns-in_err-whole-clause-cause : goal.returns-in_err-whole-clause-cause
 returns-in_err-whole-clause-cause c =
@@ -107,52 +92,17 @@ returns-in_err-session-clause-cause c =
 pub returns-in_err-session-clause-refused : goal.returns-in_err-session-clause-refused
 returns-in_err-session-clause-refused c task is fits = only_memory c.from_residual-in_err-session.result c.args.name.now (rows_of (found_of c.args.found.now)) task is fits (returns-in_err-session-clause-cause c)
 
-pub returns-in_err-whole-2-clause-cause : goal.returns-in_err-whole-2-clause-cause
-returns-in_err-whole-2-clause-cause c =
-    let f = found_of c.args.found.now in
-    let named : c.args.name.now ≡ codes "route" = search rules in
-    handed_on c.from_residual-in_err-whole-2.result (λ refused. IsCause c.args.name.now (rows_of f) refused) c.in_err-whole-2.field-0.0 c.from_residual-in_err-whole-2.ensures.1
-    (of_number c.args.name.now (rows_of f) c.in_err-whole-2.field-0.0 c.in_err-whole-2.ensures.refusals
-    (from_refused c.args.name.now (rows_of f) c.in_err-whole-2.field-0.0 named (λ n lt there. c.in_err-whole-2.ensures.only n lt (given f _ _ there))))
-
-pub returns-in_err-whole-2-clause-refused : goal.returns-in_err-whole-2-clause-refused
-returns-in_err-whole-2-clause-refused c task is fits = only_memory c.from_residual-in_err-whole-2.result c.args.name.now (rows_of (found_of c.args.found.now)) task is fits (returns-in_err-whole-2-clause-cause c)
-
-pub returns-in_err-whole-3-clause-cause : goal.returns-in_err-whole-3-clause-cause
-returns-in_err-whole-3-clause-cause c =
-    let f = found_of c.args.found.now in
-    let named : c.args.name.now ≡ codes "route" = search rules in
-    handed_on c.from_residual-in_err-whole-3.result (λ refused. IsCause c.args.name.now (rows_of f) refused) c.in_err-whole-3.field-0.0 c.from_residual-in_err-whole-3.ensures.1
-    (of_number c.args.name.now (rows_of f) c.in_err-whole-3.field-0.0 c.in_err-whole-3.ensures.refusals
-    (to_refused c.args.name.now (rows_of f) c.in_err-whole-3.field-0.0 named (λ n lt there. c.in_err-whole-3.ensures.only n lt (given f _ _ there))))
-
-pub returns-in_err-whole-3-clause-refused : goal.returns-in_err-whole-3-clause-refused
-returns-in_err-whole-3-clause-refused c task is fits = only_memory c.from_residual-in_err-whole-3.result c.args.name.now (rows_of (found_of c.args.found.now)) task is fits (returns-in_err-whole-3-clause-cause c)
-
 pub returns-in_err-words_asked-clause-cause : goal.returns-in_err-words_asked-clause-cause
 returns-in_err-words_asked-clause-cause c =
     let f = found_of c.args.found.now in
-    let named : c.args.name.now ≡ codes "route" = search rules in
+    let named : c.args.name.now ≡ codes "check" = search rules in
     let device : first_value f (codes "device") ≡ Some c.in-Some.device.now = search rules in
     handed_on c.from_residual-in_err-words_asked.result (λ refused. IsCause c.args.name.now (rows_of f) refused) c.in_err-words_asked.field-0.0 c.from_residual-in_err-words_asked.ensures.1
-    (of_words c.args.name.now (rows_of f) c.in_err-words_asked.field-0.0 (Route c.in-Some.device c.in_ok-whole-2.field-0 c.in_ok-whole-3.field-0 Greatest) c.in_err-words_asked.ensures.cause
-    (λ task is. route_words c.args.name.now (rows_of f) named task is)
-    (λ words. (named, gives f _ _ device, gives f _ _ c.in_ok-whole-2.ensures.found, gives f _ _ c.in_ok-whole-3.ensures.found, words, omega arith, omega arith)) (λ lacks. lacks))
+    (of_words c.args.name.now (rows_of f) c.in_err-words_asked.field-0.0 (Check c.in-Some.device Greatest) c.in_err-words_asked.ensures.cause
+    (λ task is. check_words c.args.name.now (rows_of f) named task is) (λ words. (named, gives f _ _ device, words)) (λ lacks. lacks))
 
 pub returns-in_err-words_asked-clause-refused : goal.returns-in_err-words_asked-clause-refused
 returns-in_err-words_asked-clause-refused c task is fits = only_memory c.from_residual-in_err-words_asked.result c.args.name.now (rows_of (found_of c.args.found.now)) task is fits (returns-in_err-words_asked-clause-cause c)
-
-pub returns-in_err-words_asked-2-clause-cause : goal.returns-in_err-words_asked-2-clause-cause
-returns-in_err-words_asked-2-clause-cause c =
-    let f = found_of c.args.found.now in
-    let named : c.args.name.now ≡ codes "check" = search rules in
-    let device : first_value f (codes "device") ≡ Some c.in-Some.device.now = search rules in
-    handed_on c.from_residual-in_err-words_asked-2.result (λ refused. IsCause c.args.name.now (rows_of f) refused) c.in_err-words_asked-2.field-0.0 c.from_residual-in_err-words_asked-2.ensures.1
-    (of_words c.args.name.now (rows_of f) c.in_err-words_asked-2.field-0.0 (Check c.in-Some.device Greatest) c.in_err-words_asked-2.ensures.cause
-    (λ task is. check_words c.args.name.now (rows_of f) named task is) (λ words. (named, gives f _ _ device, words)) (λ lacks. lacks))
-
-pub returns-in_err-words_asked-2-clause-refused : goal.returns-in_err-words_asked-2-clause-refused
-returns-in_err-words_asked-2-clause-refused c task is fits = only_memory c.from_residual-in_err-words_asked-2.result c.args.name.now (rows_of (found_of c.args.found.now)) task is fits (returns-in_err-words_asked-2-clause-cause c)
 
 pub returns-in_ok-text-clause-asked : goal.returns-in_ok-text-clause-asked
 returns-in_ok-text-clause-asked c =
@@ -203,6 +153,30 @@ returns-then-eq-3-clause-cause c =
 
 pub returns-then-eq-3-clause-refused : goal.returns-then-eq-3-clause-refused
 returns-then-eq-3-clause-refused c task is fits = only_memory c.edit_of.result c.args.name.now (rows_of (found_of c.args.found.now)) task is fits (returns-then-eq-3-clause-cause c)
+
+pub returns-then-eq-5-clause-asked : goal.returns-then-eq-5-clause-asked
+returns-then-eq-5-clause-asked c =
+    let f = found_of c.args.found.now in
+    let named : c.args.name.now ≡ codes "route" = search rules in
+    let device : first_value f (codes "device") ≡ Some c.in-Some.device.now = search rules in
+    subst (λ (name : Text). IfOk c.route_of.result (λ task. IsTask name (rows_of f) task)) (sym named) (c.route_of.ensures.asked (gives f _ _ device))
+
+pub returns-then-eq-5-clause-only : goal.returns-then-eq-5-clause-only
+returns-then-eq-5-clause-only c task is fits =
+    let f = found_of c.args.found.now in
+    let named : c.args.name.now ≡ codes "route" = search rules in
+    let device : first_value f (codes "device") ≡ Some c.in-Some.device.now = search rules in
+    c.route_of.ensures.only (gives f _ _ device) task (subst (λ (name : Text). IsTask name (rows_of f) task) named is) fits
+
+pub returns-then-eq-5-clause-cause : goal.returns-then-eq-5-clause-cause
+returns-then-eq-5-clause-cause c =
+    let f = found_of c.args.found.now in
+    let named : c.args.name.now ≡ codes "route" = search rules in
+    let device : first_value f (codes "device") ≡ Some c.in-Some.device.now = search rules in
+    subst (λ (name : Text). IfErr c.route_of.result (λ refused. IsCause name (rows_of f) refused)) (sym named) (c.route_of.ensures.cause (gives f _ _ device))
+
+pub returns-then-eq-5-clause-refused : goal.returns-then-eq-5-clause-refused
+returns-then-eq-5-clause-refused c task is fits = only_memory c.route_of.result c.args.name.now (rows_of (found_of c.args.found.now)) task is fits (returns-then-eq-5-clause-cause c)
 
 pub returns-then-eq-8-clause-asked : goal.returns-then-eq-8-clause-asked
 returns-then-eq-8-clause-asked c =

@@ -1,6 +1,8 @@
+use Rattle.std.proofs.Common.{rules, ◌≡◌}
 use Rattle.clap.specs.Walk.{texts}
 use Rattle.asked_tasks.specs.declared.task.Task.TheVariants.{Format, Show, Edit, Resume, Route, Check, Migrate, Serve}
 use Rattle.program_run.proofs.Faults.{ends_task, refused_for}
+use Rattle.program_run.proofs.SchemeAnswering.{routes_answer}
 use Rattle.program_run.proofs.running.run_task.Goals as goal
 
 pub returns-in-Ok-Format-clause-fault : goal.returns-in-Ok-Format-clause-fault
@@ -21,7 +23,13 @@ returns-in-Ok-Resume-clause-fault g c =
 
 pub returns-in-Ok-Route-clause-fault : goal.returns-in-Ok-Route-clause-fault
 returns-in-Ok-Route-clause-fault g c =
-    ends_task c.run_route.result (texts c.args.words.now) c.in-Ok-Route.field-0 (Route c.in-Ok-Route.device c.in-Ok-Route.from c.in-Ok-Route.to c.in-Ok-Route.words) c.in-Ok-Route.ensures.asked c.in-Ok-Route.field-0-is c.run_route.ensures.fault
+    ends_task c.run_route.result (texts c.args.words.now) c.in-Ok-Route.field-0 (Route c.in-Ok-Route.device c.in-Ok-Route.pairs c.in-Ok-Route.words) c.in-Ok-Route.ensures.asked c.in-Ok-Route.field-0-is c.run_route.ensures.fault
+
+pub returns-in-Ok-Route-clause-printed : goal.returns-in-Ok-Route-clause-printed
+returns-in-Ok-Route-clause-printed g c =
+    let shown : c.deref.result.now ≡ c.in-Ok-Route.pairs.items = search rules in
+    routes_answer c.run_route.result (texts c.args.words.now) (g.S.Read.remaining c.args.script.now) (g.O.Write.contents c.args.out.now) (g.O.Write.contents c.run_route.new.out) c.in-Ok-Route.field-0 c.in-Ok-Route.device c.in-Ok-Route.pairs c.in-Ok-Route.words c.deref.result.now
+    c.in-Ok-Route.ensures.asked c.in-Ok-Route.field-0-is shown c.run_route.ensures.printed
 
 pub returns-in-Ok-Check-clause-fault : goal.returns-in-Ok-Check-clause-fault
 returns-in-Ok-Check-clause-fault g c =

@@ -1,4 +1,4 @@
-use Rattle.std.proofs.Common.{◌≡◌, ◌∙◌, inl, inr, ⊎_elim, sym}
+use Rattle.std.proofs.Common.{◌∙◌, inl, inr, ⊎_elim, sym}
 use Rattle.clap.specs.Walk.{texts}
 use Rattle.program_run.proofs.Answering.{answered, not_understood, refused}
 use Rattle.program_run.proofs.Faults.{never_output}

@@ -1,17 +1,22 @@
-use Rattle.std.proofs.Common.{◌≡◌, subst, IfOk, Result, ℕ}
+use Rattle.std.proofs.Common.{rules, ◌≡◌, subst, sym, IfOk, List, Result, ℕ}
+use Rattle.std.specs.Global.{Vec}
 use Rattle.recovery.specs.State.{State}
 use Rattle.printed_lines.specs.declared.fault.Fault.{Fault}
 use Rattle.scheme_queries.specs.declared.queries.Route.{Route}
-use Rattle.program_run.specs.SchemeAnswers.{IsRouteOf}
-use Rattle.program_run.proofs.SchemeAnswering.{route_line}
+use Rattle.program_run.specs.SchemeAnswers.{AreRoutesOf}
+use Rattle.program_run.proofs.SchemeAnswering.{routes_lines}
 use Rattle.program_run.proofs.Faults.{only_output}
 use Rattle.program_run.proofs.scheme_tasks.run_route.Goals as goal
 
 pub returns-clause-printed : goal.returns-clause-printed
 returns-clause-printed g c =
-    let one : (state : State) × (c.in_ok-generation.generation ≡ state.count) × IsRouteOf state.graph state.count c.args.asked.now c.args.from c.args.to c.in_ok-generation.route =
-    subst (λ (a : Result (ℕ × Route) Fault). IfOk a (λ answer. (state : State) × (answer.0 ≡ state.count) × IsRouteOf state.graph state.count c.args.asked.now c.args.from c.args.to answer.1)) c.in_ok-generation.was c.route_device-answer.ensures.of_one in
-    route_line c.print_route.result (g.O.Write.contents c.args.out.now) (g.O.Write.contents c.print_route.new.out) c.args.asked.now c.args.from c.args.to c.in_ok-generation.generation c.in_ok-generation.route one c.print_route.ensures.ended c.print_route.ensures.printed
+    let pairs = c.args.pairs.now in
+    let one : (state : State) × (c.in_ok-generation.generation ≡ state.count) × AreRoutesOf state.graph c.args.asked.now pairs c.in_ok-generation.routes.items =
+    subst (λ (a : Result (ℕ × Vec Route) Fault). IfOk a (λ answer. (state : State) × (answer.0 ≡ state.count) × AreRoutesOf state.graph c.args.asked.now pairs answer.1.items)) c.in_ok-generation.was c.route_device-answer.ensures.of_one in
+    let same : c.deref.result.now ≡ c.in_ok-generation.routes.items = search rules in
+    let shown : (state : State) × (c.in_ok-generation.generation ≡ state.count) × AreRoutesOf state.graph c.args.asked.now pairs c.deref.result.now =
+    subst (λ (routes : List Route). (state : State) × (c.in_ok-generation.generation ≡ state.count) × AreRoutesOf state.graph c.args.asked.now pairs routes) (sym same) one in
+    routes_lines c.print_routes.result (g.O.Write.contents c.args.out.now) (g.O.Write.contents c.print_routes.new.out) c.args.asked.now pairs c.in_ok-generation.generation c.deref.result.now shown c.print_routes.ensures.ended c.print_routes.ensures.printed
 
 pub returns-clause-untouched : goal.returns-clause-untouched
-returns-clause-untouched g c = only_output c.print_route.result (c.print_route.new.out ≡ c.args.out.now) c.print_route.ensures.fault
+returns-clause-untouched g c = only_output c.print_routes.result (c.print_routes.new.out ≡ c.args.out.now) c.print_routes.ensures.fault
