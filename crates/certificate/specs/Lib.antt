@@ -3,3 +3,4 @@ pub mod Rows
 pub mod Swift
 pub mod Climbs
 pub mod Faults
+pub mod Ranges

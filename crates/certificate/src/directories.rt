@@ -59,7 +59,7 @@ fn has_home_right(scheme: &Scheme, v: u16) -> bool
 }
 
 #[tactic(auto, unfolding(crate::specs::Entries::HasDirectoryAt))]
-fn has_directory(scheme: &Scheme, u: u16) -> bool
+pub(crate) fn has_directory(scheme: &Scheme, u: u16) -> bool
     ensures { IsTrue result ↔ HasDirectoryAt scheme.now u }
 {
     scheme.has_ascending_directory(u)

@@ -169,7 +169,7 @@ fn is_home_right(graph: &Graph, scheme: &Scheme, v: u16) -> bool
 }
 
 #[tactic(auto, unfolding(crate::specs::Climbs::HasLabelsAt))]
-fn has_labels_at(graph: &Graph, scheme: &Scheme, u: u16) -> bool
+pub(crate) fn has_labels_at(graph: &Graph, scheme: &Scheme, u: u16) -> bool
     requires { HoldsFirst graph.now scheme.now }
     ensures { IsTrue result ↔ HasLabelsAt graph.now scheme.now u }
 {

@@ -26,6 +26,9 @@
 //! are the rules is proved: the trees, records and labels are those of Thorup and Zwick, Compact Routing Schemes, in this
 //! project's profile.
 //!
+//! [`check_in_threads`] gives the same answer by several workers, each over some ranges of the nodes. What they take for right is
+//! right; where one finds a fault, the rules are tested in their order as above.
+//!
 //! The contract that the layers above use is that of [`check`]: Ok exactly where all rules hold, a fault exactly where it
 //! is the first that fails, and what passes carries every packet to its destination over a walk at most three times as
 //! long as the shortest.
@@ -43,6 +46,7 @@ mod directories;
 mod edges;
 mod fault;
 mod fingers;
+mod in_threads;
 mod labels;
 mod nearest;
 mod pairs;
@@ -56,3 +60,4 @@ mod swift;
 
 pub use checks::check;
 pub use fault::Fault;
+pub use in_threads::check_in_threads;

@@ -49,7 +49,7 @@ fn has_no_landmark(scheme: &Scheme, x: u16) -> bool
 }
 
 #[tactic(auto, unfolding(crate::specs::Entries::IsNearestAt))]
-fn is_nearest(scheme: &Scheme, x: u16) -> bool
+pub(crate) fn is_nearest(scheme: &Scheme, x: u16) -> bool
     ensures { IsTrue result ↔ IsNearestAt scheme.now x }
 {
     match scheme.nearest(x) {

@@ -10,7 +10,7 @@ ghost use Rattle.node_table.specs.Tables.{entries_at, roots_of, tables};
 use graph_edits::Graph;
 use node_table::{Entry, Scheme};
 
-fn has_places(scheme: &Scheme, nodes: u16) -> bool
+pub(crate) fn has_places(scheme: &Scheme, nodes: u16) -> bool
     ensures { IsTrue result ↔ HasPlaces nodes scheme.now }
 {
     let parts = scheme.parts();
@@ -75,7 +75,7 @@ fn has_own(scheme: &Scheme, x: u16) -> bool
 }
 
 #[tactic(auto, unfolding(crate::specs::Entries::IsNodeFramed))]
-fn is_node_framed(graph: &Graph, scheme: &Scheme, x: u16) -> bool
+pub(crate) fn is_node_framed(graph: &Graph, scheme: &Scheme, x: u16) -> bool
     requires { x < graph.now.nodes }
     ensures { IsTrue result ↔ IsNodeFramed graph.now scheme.now x }
 {

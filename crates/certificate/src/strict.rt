@@ -20,7 +20,7 @@ fn is_strict_at(scheme: &Scheme, x: u16, entry: &Entry) -> bool
     }
 }
 
-fn are_strict(scheme: &Scheme, x: u16) -> bool
+pub(crate) fn are_strict(scheme: &Scheme, x: u16) -> bool
     ensures { IsTrue result ↔ All (IsStrictAt (tables scheme.now) x) (entries_at scheme.now x) }
 {
     scheme

@@ -154,7 +154,7 @@ fn is_swept(graph: &Graph, scheme: &Scheme, fingers: &mut Fingers, x: u16, entry
 /// The same of every entry of a node, and whether its record as a root is that of a root. The entries of its neighbours are
 /// walked beside its own.
 #[tactic(auto, unfolding(crate::specs::Swift::IsSweptAt))]
-fn is_swept_at(graph: &Graph, scheme: &Scheme, x: u16) -> bool
+pub(crate) fn is_swept_at(graph: &Graph, scheme: &Scheme, x: u16) -> bool
     requires inside { x < graph.now.nodes }
     requires ascend { AllAscend scheme.now }
     ensures { IsTrue result → IsSweptAt graph.now scheme.now x }

@@ -4,13 +4,15 @@ use crate::drawn::{below, drawn_graph, graph_of, landmark_words};
 use crate::plain_graph::PlainGraph;
 use crate::second_checker::first_fault;
 use built_schemes::scheme_of;
-use certificate::{Fault, check};
+use certificate::{Fault, check, check_in_threads};
+use graph_edits::Graph;
 use node_table::Scheme;
 use rand_core::SeedableRng;
 use rand_xoshiro::Xoshiro256PlusPlus;
 use std::alloc::{AllocError, Global};
 use std::process::Abort;
 use std::test::Fail;
+use std::thread::Threads;
 
 const GRAPHS: u32 = 100;
 
@@ -37,9 +39,20 @@ impl Tally {
     }
 }
 
+/// Sees that so many workers name this fault.
+fn expect_fault<R: Abort + Threads + Sync>(
+    rt: &R,
+    graph: &Graph,
+    scheme: &Scheme,
+    workers: u16,
+    want: Option<Fault>,
+) {
+    assert_eq!(rt; check_in_threads(rt, graph, scheme, workers).err(), want);
+}
+
 /// What both checkers answer on a built scheme after one change; all rules hold of it before.
-fn judge_changes(
-    rt: &impl Abort,
+fn judge_changes<R: Abort + Threads + Sync>(
+    rt: &R,
     alloc: Global,
     rng: &mut Xoshiro256PlusPlus,
     plain: &PlainGraph,
@@ -49,6 +62,7 @@ fn judge_changes(
     let words = landmark_words(alloc, rng, plain.nodes)?;
     let scheme = scheme_of(alloc, &graph, &words, 1, alloc)?;
     assert_eq!(rt; check(&graph, &scheme).err(), None);
+    expect_fault(rt, &graph, &scheme, 3, None);
     assert_eq!(rt; first_fault(alloc, plain, scheme.parts())?, None);
     for turn in 0..CHANGES {
         let Some(part) = PARTS.get(below(rng, PARTS.len())).copied() else {
@@ -57,8 +71,10 @@ fn judge_changes(
         let mut parts = copied(alloc, scheme.parts())?;
         change(rng, &mut parts, part)?;
         let want = first_fault(alloc, plain, &parts)?;
-        let fault = check(&graph, &Scheme::assemble(parts)).err();
+        let changed = Scheme::assemble(parts);
+        let fault = check(&graph, &changed).err();
         assert_eq!(rt; fault, want, "change {turn}, of {part:?}");
+        expect_fault(rt, &graph, &changed, turn as u16, want);
         tally.count(want);
     }
     Ok(())
