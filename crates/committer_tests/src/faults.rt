@@ -24,14 +24,28 @@ fn count_after<R: Wait + Abort + Copy + Drop>(rt: R, alloc: Global, plan: Plan, 
         .count()
 }
 
-// The words of a crash, and the count behind it where the sync of the record's gate fails: that byte decides, which is 1 where the crash
-// leaves what was written or ones alone.
-const COUNTS: [(u64, u64); 4] = [(0, 0), (1, 1), (256, 0), (257, 1)];
+// Which call fails, the word of the crash, and the count behind it. Where the first sync fails, the record has no gate, and none of the group is
+// there. Where the last one fails, the sync of the gate, that byte decides, which is 1 where the crash leaves what was written or ones alone.
+const COUNTS: [(u64, u64, u64); 8] = [
+    (2, 0, 0),
+    (2, 1, 0),
+    (2, 256, 0),
+    (2, 257, 0),
+    (4, 0, 0),
+    (4, 1, 1),
+    (4, 256, 0),
+    (4, 257, 1),
+];
 
 #[test]
-fn the_last_call_of_a_round_fails(rt: HostRuntime) {
-    for (word, count) in &COUNTS {
-        let found = count_after(rt, rt.alloc(), Plan::Fail(4), *word);
-        same(&rt, (*word, found), (*word, *count), "a crash");
+fn the_first_and_the_last_sync_of_a_round_fail(rt: HostRuntime) {
+    for (call, word, count) in &COUNTS {
+        let found = count_after(rt, rt.alloc(), Plan::Fail(*call), *word);
+        same(
+            &rt,
+            (*call, *word, found),
+            (*call, *word, *count),
+            "a crash",
+        );
     }
 }

@@ -89,14 +89,14 @@ post_by m (Some notice) = answer Posted (with_posted (record m { due = None }) n
 abbrev pub post : Machine → Answer
 post m = post_by m m.due
 
--- a commit is answered as the desk answers it; Worn stands only where something of what is held is accepted
+-- a commit is answered as the desk answers it; Worn stands only where something of what is held is accepted, and Memory never once the device failed
 abbrev pub CommitAnswers : Machine → Reply → Machine → Type 0
 CommitAnswers m Idle n = (held m ≡ []) × (n ≡ m)
 CommitAnswers m (Committed accepted) n = (held m ≢ []) × (m.down ≡ false) × (accepted ≡ length (settling m).accepted) × (n ≡ committed m)
 CommitAnswers m (NotCommitted Device) n = (held m ≢ []) × (m.down ≡ false) × (n ≡ lost m)
 CommitAnswers m (NotCommitted Down) n = (held m ≢ []) × (m.down ≡ true) × (n ≡ m)
 CommitAnswers m (NotCommitted Worn) n = ((settling m).accepted ≢ []) × (m.down ≡ false) × (n ≡ grouped m)
-CommitAnswers m Memory n = (held m ≢ []) × (n ≡ m)
+CommitAnswers m Memory n = (held m ≢ []) × (m.down ≡ false) × (n ≡ m)
 CommitAnswers m reply n = ⊥
 
 -- the number of the newest generation
@@ -167,3 +167,8 @@ Answers Post m reply n = OrMemory (post m) m reply n
 Answers (Rebuild words) m reply n = RebuildAnswers words.items m reply n
 Answers (Launch from to at) m reply n = OrMemory (launch m from to at) m reply n
 Answers (Hop packet at) m reply n = OrMemory (hop m packet at) m reply n
+
+-- how many changes a reply answers for
+abbrev pub number_of : Reply → ℕ
+number_of (Committed accepted) = accepted
+number_of reply = 0

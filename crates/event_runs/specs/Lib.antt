@@ -2,4 +2,3 @@ pub mod Trips
 pub mod Machines
 pub mod Answers
 pub mod Runs
-pub mod Moments

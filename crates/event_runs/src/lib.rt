@@ -15,10 +15,8 @@
 //!   for each event, each by the definition that the contract of the call cites for which the event stands: `refusal_on` and
 //!   `outcome_on` of the intake, `settle` of the desk, `hop_at` and `launch_at` of the forwarders, `IsSchemeOf` of the built schemes.
 //!   `Idle` stands only where there is nothing to do, `Worn` only where something that is held is accepted, and `Memory` leaves all as
-//!   it was, but for what was due at a rebuild; a take is never answered so.
+//!   it was, but for what was due at a rebuild. A take is never answered so, nor is a commit once the device failed.
 //! - `Run m events replies n` (specs/Runs.antt): so for each event in turn.
-//! - `AreMoments` (specs/Moments.antt): one moment after each event, a clock and the count that commits have answered for by then. The
-//!   clock stays at every event but a commit.
 //!
 //! ```rust
 //! use event_runs::{Event, Reply};

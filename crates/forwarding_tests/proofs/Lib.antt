@@ -1,2 +1,3 @@
 pub mod Posting
 mod Answering
+pub mod Missing

@@ -1,10 +1,11 @@
 // The board as a plain value, over threads, and where an allocation is refused.
+ghost use Rattle.std.specs.Prelude.{◌≡◌, ◌+◌, ◌<◌};
 ghost use Rattle.forwarding_tests.specs.InARow.{IsInARow};
 
 use crate::posted::{
     empty_scheme, got, newest, one_reader, post_next, post_seen, post_up_to, same, two_readers,
 };
-use generations::{Board, BoardReader, BoardWriter, MOST_SHELVED, Mark, Posting, Verdict};
+use generations::{Board, BoardReader, BoardWriter, MOST_SHELVED, Mark, Posting, Told, Verdict};
 use graph_edits::Code;
 use requests::{SESSIONS, WORN_LIMIT};
 use std::alloc::{AllocError, Global};
@@ -12,6 +13,7 @@ use std::process::Abort;
 use std::sync::Wait;
 use std::test::Fail;
 use std::thread;
+use std::thread::Threads;
 
 fn mark(session: u8, ticket: u64, verdict: Verdict) -> Mark {
     Mark {
@@ -130,6 +132,91 @@ fn readers_beside_a_writer_see_all_that_they_were_told(rt: HostRuntime) -> Resul
         (0, 0),
         "wrong looks",
     );
+    Ok(())
+}
+
+// Learns what was told, and looks at once: whether that generation is shown, or the next one.
+#[tactic(auto, using(crate::proofs::Missing::missed_all))]
+fn learns_and_looks(reader: BoardReader, told: Told, number: u64) -> (BoardReader, bool)
+    requires { told.opening ≡ reader.all.opening }
+    ensures { result.0.all.opening ≡ reader.all.opening }
+{
+    let mut reader = reader;
+    reader.learn(&told);
+    match reader.look() {
+        Ok(look) => {
+            let shown = newest(look.board());
+            let well = number <= shown && shown - number <= 1;
+            (look.leave(), well)
+        }
+        Err((_, back)) => (back, false),
+    }
+}
+
+// The writer, which has posted the next generation.
+fn posts_next<R: Wait + Drop>(
+    rt: &impl Abort,
+    alloc: Global,
+    writer: BoardWriter<R>,
+    posted: u64,
+) -> BoardWriter<R>
+    requires row { IsInARow writer posted }
+    requires few { posted < 1000 }
+    ensures opening { result.opening ≡ writer.opening }
+    ensures row { IsInARow result (posted + 1) }
+{
+    let mut writer = writer;
+    post_next(rt, alloc, &mut writer, posted);
+    writer
+}
+
+// One look, before which the reader is told of all that was posted, while the writer posts the next generation: whether it showed that.
+fn looks_beside<'a, R: Threads + Wait + Abort>(
+    rt: &'a R,
+    alloc: Global,
+    writer: BoardWriter<&'a R>,
+    reader: BoardReader,
+    posted: u64,
+) -> (BoardWriter<&'a R>, BoardReader, bool)
+    requires opening { reader.all.opening ≡ writer.opening }
+    requires row { IsInARow writer posted }
+    requires few { posted < 1000 }
+    ensures opening { result.1.all.opening ≡ result.0.opening }
+    ensures row { IsInARow result.0 (posted + 1) }
+{
+    let told = writer.tell();
+    let looks = move || -> (BoardReader, bool)
+        requires { told.opening ≡ reader.all.opening }
+        ensures { result.0.all.opening ≡ reader.all.opening }
+    { learns_and_looks(reader, told, posted) };
+    let posts = move || -> BoardWriter<&R>
+        requires row { IsInARow writer posted }
+        requires few { posted < 1000 }
+        ensures opening { result.opening ≡ writer.entry.opening }
+        ensures row { IsInARow result (posted + 1) }
+    { posts_next(rt, alloc, writer, posted) };
+    let ((reader, well), writer) = thread::join(rt, looks, posts);
+    (writer, reader, well)
+}
+
+// Posts generations up to the last one, and has a reader look while each is posted: how many looks didn't show what was told just before.
+fn missed<R: Threads + Wait + Abort>(rt: &R, alloc: Global, last: u64) -> Result<usize, AllocError>
+    requires { last < 1000 }
+{
+    let (mut writer, mut reader) = one_reader(rt, alloc)?;
+    let mut missed = 0usize;
+    for posted in 0..last {
+        let (next, back, well) = looks_beside(rt, alloc, writer, reader, posted);
+        writer = next;
+        reader = back;
+        missed = missed.wrapping_add(!well as usize);
+    }
+    Ok(missed)
+}
+
+#[test]
+fn a_reader_that_is_told_before_each_look_sees_it(rt: HostRuntime) -> Result<(), Fail> {
+    same(&rt, missed(&rt, rt.alloc(), 300)?, 0, "missed looks");
     Ok(())
 }
 

@@ -2,12 +2,11 @@
 use Rattle.std.specs.Prelude.{ℕ, ◌-◌, List, length, drop, Option, Some, None}
 use Rattle.std.specs.Arc.{arc_value}
 use Rattle.node_table.specs.declared.parts.Parts.{Parts}
-use Rattle.generations.specs.declared.fold.TheConstants.{MOST_SHELVED}
 use Rattle.generations.specs.declared.fold.Shelved.{Shelved}
 
--- how many generations stand on the shelf at most
+-- how many generations stand on the shelf at most. `limits_law` says that the code's number is the same
 abbrev pub most_shelved : ℕ
-most_shelved = MOST_SHELVED
+most_shelved = 4
 
 -- a place of the shelf, as its number and its scheme's tables
 abbrev pub plain : Option Shelved → Option (ℕ × Parts)

@@ -15,7 +15,7 @@
 //! Contracts see postings as plain data: a `Notice` is the marks, or the number and the tables of a scheme, and nothing of who
 //! owns them. There is one list of notices for each board. It is lawful (specs/Lawful.antt) when each session's tickets rise above
 //! its start, the Accepted counts go on one by one, the numbers of generations rise, and nothing follows a failure; and so is each
-//! beginning of it ([`board_laws`]).
+//! beginning of it ([`board_laws`]). The shelf has room for four generations ([`limits_law`]).
 //!
 //! | Call | What it says |
 //! |---|---|
@@ -51,7 +51,7 @@ mod writer;
 
 pub use fold::{Board, MOST_SHELVED, Shelved};
 pub use history::History;
-pub use laws::board_laws;
+pub use laws::{board_laws, limits_law};
 pub use posting::{Mark, Notice, Posting, Verdict};
 pub use reader::{BoardReader, Look, Shut, Told};
 pub use seats::{MOST_READERS, board};

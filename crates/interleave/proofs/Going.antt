@@ -1,32 +1,72 @@
 -- A run of a world goes on by one event.
-use Rattle.std.proofs.Common.{◌≡◌, ◌≢◌, ◌≤◌, ◌+◌, ℕ, List, [], ◌∷◌, ◌++◌, refl, sym, ◌∙◌, subst, append_assoc, append-nil}
+use Rattle.std.proofs.Common.{◌≡◌, ℕ, List, [], ◌∷◌, ◌++◌, map, refl, sym, ap, ◌∙◌, subst, IsTrue, append_assoc, append-nil}
+use Rattle.std.specs.List.{AllByRecursion}
 use Rattle.std.proofs.Math.Nat.{le_trans}
+use Rattle.std.proofs.lemmas.List.{map-append}
 use Rattle.disk_trait.specs.Disk.{DiskView, IsSameDevice}
 use Rattle.recovery.specs.State.{State}
-use Rattle.histories.specs.History.{Lists}
-use Rattle.histories.specs.Runs.{IsRun, moment_of}
+use Rattle.histories.specs.Runs.{LeavesPrefix, Holds, IsRun, moment_of}
 use Rattle.event_runs.specs.declared.event.Event.{Event}
-use Rattle.event_runs.specs.declared.event.Event.TheVariants.{Commit}
 use Rattle.event_runs.specs.declared.reply.Reply.{Reply}
-use Rattle.event_runs.specs.Moments.{number_of}
-use Rattle.event_runs.proofs.Pushes.{moments_push}
-use Rattle.interleave.specs.Crashes.{GoneOn}
+use Rattle.listed_runs.specs.Listed.{IsListed}
+use Rattle.listed_runs.specs.Laws.{AnswersKeep, AcknowledgedStay}
+use Rattle.interleave.specs.declared.world.World.{World}
+use Rattle.interleave.specs.WorldWords.{lists_of, machine_of, world_view}
+use Rattle.interleave.specs.Desks.{WorldStep, WorldRun}
+use Rattle.interleave.specs.Crashes.{IsSafeSince}
+use Rattle.interleave.proofs.Desks.{desks_push, desks_run}
 
--- one event more, after which the run of the store has gone on, the clock hasn't fallen, and the count is up by what the reply answers for
-pub one_more : (first : State) (start : ℕ × ℕ) (v w : DiskView) (a b : Lists) (events : List Event) (replies : List Reply) (before : List (ℕ × ℕ)) (e : Event) (r : Reply)
-    → GoneOn first start v a events replies before → ((ms : List (ℕ × ℕ)) → IsRun first v a ms → IsRun first w b (ms ++ moment_of w b ∷ [])) → (v.clock ≤ w.clock) × (b.state.count ≡ a.state.count + number_of r)
-    → (e ≢ Commit → w.clock ≡ v.clock) → GoneOn first start w b (events ++ e ∷ []) (replies ++ r ∷ []) before
-one_more first start v w a b events replies before e r so_far goes up still =
-    let k : ℕ × ℕ = moment_of w b in
+-- where a world stands, as a moment
+abbrev pub moment_at : {D : Type 0} {V : _} → World D V → ℕ × ℕ
+moment_at w = moment_of (world_view w) (lists_of w)
+
+-- a run, without what follows for acknowledged changes
+pub record RanSoFar {D : Type 0} {V : _} (old : World D V) (events : List Event) (replies : List Reply) (new : World D V) : Type 0 where
+  pub worlds : List (World D V)
+  pub steps : WorldRun old events replies worlds new
+  pub goes_on : IsTrue (world_view old).keeps_model → (first : State) (before : List (ℕ × ℕ)) → IsRun first (world_view old) (lists_of old) before
+      → IsRun first (world_view new) (lists_of new) (before ++ map (λ w. moment_of (world_view w) (lists_of w)) worlds)
+
+-- before the first event
+pub none_yet : {D : Type 0} {V : _} → (w : World D V) → RanSoFar w [] [] w
+none_yet w = record {
+  worlds = [];
+  steps = refl;
+  goes_on = λ model first before run. subst (λ (ms : List (ℕ × ℕ)). IsRun first (world_view w) (lists_of w) ms) (sym (append-nil before)) run;
+}
+
+-- one event more, by which the run of the store goes on
+pub one_more : {D : Type 0} {V : _} → (w v : World D V) (es : List Event) (rs : List Reply) (e : Event) (r : Reply) (k : World D V) → RanSoFar w es rs v → WorldStep e v r k
+    → (IsTrue (world_view w).keeps_model → (first : State) (ms : List (ℕ × ℕ)) → IsRun first (world_view v) (lists_of v) ms → IsRun first (world_view k) (lists_of k) (ms ++ moment_at k ∷ []))
+    → RanSoFar w (es ++ e ∷ []) (rs ++ r ∷ []) k
+one_more {D = D} {V = V} w v es rs e r k so_far step goes =
+    let f : World D V → ℕ × ℕ = λ x. moment_of (world_view x) (lists_of x) in
     record {
-      moments = so_far.moments ++ k ∷ [];
-      are = moments_push start (moment_of v a) events replies so_far.moments e r k so_far.are (up.0, up.1, still);
-      run = subst (λ (ms : List (ℕ × ℕ)). IsRun first w b ms) (append_assoc before so_far.moments (k ∷ [])) (goes (before ++ so_far.moments) so_far.run);
+      worlds = so_far.worlds ++ k ∷ [];
+      steps = desks_push w v es rs so_far.worlds e r k so_far.steps step;
+      goes_on = λ model first before run.
+          let all : (before ++ map f so_far.worlds) ++ f k ∷ [] ≡ before ++ map f (so_far.worlds ++ k ∷ []) =
+          append_assoc before (map f so_far.worlds) (f k ∷ []) ∙ ap (λ (ms : List (ℕ × ℕ)). before ++ ms) (sym (map-append f so_far.worlds (k ∷ []))) in
+          subst (λ (ms : List (ℕ × ℕ)). IsRun first (world_view k) (lists_of k) ms) all (goes model first (before ++ map f so_far.worlds) (so_far.goes_on model first before run));
     }
 
--- before the first
-pub none_yet : (first : State) (v : DiskView) (a : Lists) (before : List (ℕ × ℕ)) → IsRun first v a before → GoneOn first (moment_of v a) v a [] [] before
-none_yet first v a before run = record { moments = []; are = refl; run = subst (λ (ms : List (ℕ × ℕ)). IsRun first v a ms) (sym (append-nil before)) run }
+-- what is left since one of them
+since : {D : Type 0} {V : _} → AcknowledgedStay → (first : State) (now w : World D V) (es : List Event) (rs : List Reply) (ws : List (World D V)) → IsListed first (machine_of w) → WorldRun w es rs ws now
+    → LeavesPrefix first (world_view now) (lists_of now) (world_view w).clock (machine_of w).state.count → IsSafeSince first now w
+since stay first now w es rs ws listed run left = λ image was.
+    let prefix = left image was in
+    record { prefix = prefix; acknowledged = stay first (machine_of w) es rs (machine_of now) prefix.at listed (desks_run w now es rs ws run) prefix.holds }
+
+-- a crash since each of the worlds of a run is safe, by the run's moments
+pub safe_each : {D : Type 0} {V : _} → AnswersKeep → AcknowledgedStay → (first : State) (now w : World D V) (es : List Event) (rs : List Reply) (ws : List (World D V)) → IsListed first (machine_of w) → WorldRun w es rs ws now
+    → Holds first (world_view now) (lists_of now) (map (λ x. moment_of (world_view x) (lists_of x)) (w ∷ ws)) → AllByRecursion (IsSafeSince first now) (w ∷ ws)
+safe_each keeps stay first now w [] [] [] listed run holds = (since stay first now w [] [] [] listed run holds.2, tt)
+safe_each keeps stay first now w [] [] (z ∷ ws) listed run holds = absurd run
+safe_each keeps stay first now w [] (y ∷ rs) ws listed run holds = absurd run
+safe_each keeps stay first now w (x ∷ es) [] ws listed run holds = absurd run
+safe_each keeps stay first now w (x ∷ es) (y ∷ rs) [] listed run holds = absurd run
+safe_each keeps stay first now w (x ∷ es) (y ∷ rs) (z ∷ ws) listed run holds =
+    (since stay first now w (x ∷ es) (y ∷ rs) (z ∷ ws) listed run holds.2, safe_each keeps stay first now z es rs ws (keeps first x (machine_of w) y (machine_of z) listed run.0.answers) run.1 holds.3)
 
 -- calls of a device after others
 pub ran_on : (u v w : DiskView) → IsSameDevice u v → IsSameDevice v w → IsSameDevice u w

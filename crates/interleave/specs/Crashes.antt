@@ -1,24 +1,35 @@
 -- What a run says of crashes.
-use Rattle.std.specs.Prelude.{◌++◌, ℕ, List}
-use Rattle.disk_trait.specs.Disk.{DiskView}
+use Rattle.std.specs.Prelude.{◌++◌, ℕ, List, ◌∷◌, [], map, IsTrue}
+use Rattle.std.specs.List.{AllByRecursion}
 use Rattle.recovery.specs.State.{State}
-use Rattle.histories.specs.History.{Lists, IsPrefixState}
+use Rattle.histories.specs.History.{IsPrefixState}
 use Rattle.histories.specs.Runs.{IsRun, moment_of}
 use Rattle.event_runs.specs.declared.event.Event.{Event}
 use Rattle.event_runs.specs.declared.reply.Reply.{Reply}
 use Rattle.event_runs.specs.Machines.{Machine}
-use Rattle.event_runs.specs.Moments.{AreMoments}
 use Rattle.listed_runs.specs.Acknowledged.{AreAcknowledged}
+use Rattle.listed_runs.specs.Listed.{IsListed}
 use Rattle.listed_runs.specs.Lives.{history_of}
+use Rattle.interleave.specs.declared.world.World.{World}
+use Rattle.interleave.specs.WorldWords.{lists_of, machine_of, world_view}
+use Rattle.interleave.specs.Desks.{WorldRun}
 
--- From a moment on these events were answered so, one moment after each, up to now; and behind the moments of before, a crash since
--- any of these leaves a prefix state that holds all that a commit had answered Ok for by then.
-pub record GoneOn (first : State) (start : ℕ × ℕ) (disk : DiskView) (lists : Lists) (events : List Event) (replies : List Reply) (before : List (ℕ × ℕ)) : Type 0 where
-  pub moments : List (ℕ × ℕ)
-  pub are : AreMoments start events replies moments (moment_of disk lists)
-  pub run : IsRun first disk lists (before ++ moments)
+-- An image stands for a prefix state of what the machine has come to by now: with all that commits had answered Ok for when it was
+-- that other one, and all that was posted as accepted by then.
+pub record HoldsSince (first : State) (was now : Machine) (image : List ℕ) : Type 0 where
+  pub prefix : IsPrefixState first (history_of now) was.state.count image
+  pub acknowledged : AreAcknowledged first (history_of now).taken prefix.at was.postings
 
--- an image that a crash leaves now stands for a prefix state that has all that commits answered Ok for, and all that is acknowledged
-pub record HoldsAcknowledged (first : State) (m : Machine) (image : List ℕ) : Type 0 where
-  pub prefix : IsPrefixState first (history_of m) m.state.count image
-  pub acknowledged : AreAcknowledged first (history_of m).taken prefix.at m.postings
+-- a crash at a moment since the world was that other one, up to now, leaves such an image
+abbrev pub IsSafeSince : {D : Type 0} {V : _} → State → World D V → World D V → Type 0
+IsSafeSince first now was = (image : List ℕ) → (world_view now).left_since (world_view was).clock image → HoldsSince first (machine_of was) (machine_of now) image
+
+-- A run of events: there is a world after each of them. On a disk that keeps the model a run of the store goes on over their moments;
+-- and a crash at any moment since the first of these worlds, or since any other, leaves what it had to hold by then.
+pub record HasRun {D : Type 0} {V : _} (old : World D V) (events : List Event) (replies : List Reply) (new : World D V) : Type 0 where
+  pub worlds : List (World D V)
+  pub steps : WorldRun old events replies worlds new
+  pub goes_on : IsTrue (world_view old).keeps_model → (first : State) (before : List (ℕ × ℕ)) → IsRun first (world_view old) (lists_of old) before
+      → IsRun first (world_view new) (lists_of new) (before ++ map (λ w. moment_of (world_view w) (lists_of w)) worlds)
+  pub safe : IsTrue (world_view old).keeps_model → (first : State) → IsRun first (world_view old) (lists_of old) [] → IsListed first (machine_of old)
+      → AllByRecursion (IsSafeSince first new) (old ∷ worlds)

@@ -47,7 +47,7 @@ pub record WorldStep {D : Type 0} {V : _} (event : Event) (old : World D V) (rep
   pub answers : Answers event (machine_of old) reply (machine_of new)
 
 -- so it is at each event in turn, with a world after each
-abbrev pub WorldRun : {D : Type 0} {V : _} → World D V → List Event → List Reply → World D V → Type 0
-WorldRun w [] [] v = v ≡ w
-WorldRun {D = D} {V = V} w (event ∷ events) (reply ∷ replies) v = (next : World D V) × (WorldStep event w reply next × WorldRun next events replies v)
-WorldRun w events replies v = ⊥
+abbrev pub WorldRun : {D : Type 0} {V : _} → World D V → List Event → List Reply → List (World D V) → World D V → Type 0
+WorldRun old [] [] [] new = new ≡ old
+WorldRun old (event ∷ events) (reply ∷ replies) (next ∷ worlds) new = WorldStep event old reply next × WorldRun next events replies worlds new
+WorldRun old events replies worlds new = ⊥

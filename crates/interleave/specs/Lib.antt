@@ -1,4 +1,4 @@
 pub mod Stores
 pub mod WorldWords
-pub mod Crashes
 pub mod Desks
+pub mod Crashes

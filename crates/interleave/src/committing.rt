@@ -8,8 +8,7 @@ ghost use Rattle.built_schemes.specs.Schemes.{IsSchemeOf};
 ghost use Rattle.generations.specs.Notices.{notice_of};
 ghost use Rattle.histories.specs.Happenings.{Happens, took};
 ghost use Rattle.event_runs.specs.Machines.{with_posted};
-ghost use Rattle.event_runs.specs.Answers.{Exactly, OrMemory, CommitAnswers, RebuildAnswers, newest_number, post, take_one};
-ghost use Rattle.event_runs.specs.Moments.{number_of};
+ghost use Rattle.event_runs.specs.Answers.{Exactly, OrMemory, CommitAnswers, RebuildAnswers, newest_number, post, take_one, number_of};
 ghost use Rattle.listed_runs.specs.Listed.{IsListed};
 ghost use Rattle.packet_ways.specs.Ways.{AreOnWay};
 
@@ -61,6 +60,9 @@ impl<D: Disk> World<D> {
     {
         if self.desk.held() == 0 {
             return Reply::Idle;
+        }
+        if self.desk.store().is_down() {
+            return Reply::NotCommitted(DeskRefused::Down);
         }
         if self.stored.groups.reserve(1).is_err() {
             return Reply::Memory;

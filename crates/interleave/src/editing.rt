@@ -1,7 +1,6 @@
 // Events of editors.
 ghost use Rattle.std.specs.Prelude.{◌≡◌};
-ghost use Rattle.event_runs.specs.Answers.{OrMemory, look, submit};
-ghost use Rattle.event_runs.specs.Moments.{number_of};
+ghost use Rattle.event_runs.specs.Answers.{OrMemory, look, submit, number_of};
 
 use crate::world::World;
 use disk_trait::Disk;

@@ -1,8 +1,7 @@
 // Events of the forwarder.
 ghost use Rattle.std.specs.Prelude.{◌≡◌, ◌≤◌, ◌<◌, ◌+◌, length, vec_len, vec_capacity, slice_get, Some, Ok};
 ghost use Rattle.forwarders.specs.Answers.{hop_at};
-ghost use Rattle.event_runs.specs.Answers.{OrMemory, hop, hop_as, launch, launch_as};
-ghost use Rattle.event_runs.specs.Moments.{number_of};
+ghost use Rattle.event_runs.specs.Answers.{OrMemory, hop, hop_as, launch, launch_as, number_of};
 ghost use Rattle.event_runs.specs.Trips.{Trip, hop_reply, hop_way, launch_by};
 ghost use Rattle.interleave.specs.Stores.{trip_of};
 

@@ -3,17 +3,16 @@ ghost use Rattle.std.specs.Prelude.{◌≡◌, ◌≢◌, ◌≤◌, ◌++◌, [
 ghost use Rattle.disk_trait.specs.Disk.{IsSameDevice, MayLeave};
 ghost use Rattle.recovery.specs.State.{State};
 ghost use Rattle.histories.specs.Happenings.{Happens};
-ghost use Rattle.histories.specs.Runs.{IsRun, moment_of};
-ghost use Rattle.event_runs.specs.Answers.{Answers};
+ghost use Rattle.histories.specs.Runs.{IsRun};
+ghost use Rattle.event_runs.specs.Answers.{Answers, number_of};
 ghost use Rattle.event_runs.specs.Runs.{Run};
-ghost use Rattle.event_runs.specs.Moments.{number_of};
 ghost use Rattle.listed_runs.specs.Listed.{IsListed};
 ghost use Rattle.listed_runs.specs.Queues.{all_let_in};
 ghost use Rattle.packet_ways.specs.Ways.{AreOnWay};
 ghost use Rattle.packet_ways.specs.Courses.{AreRoutedWell};
 ghost use Rattle.packet_ways.specs.Replies.{RunRoutes};
 ghost use Rattle.packet_ways.specs.Later.{AllGoOn};
-ghost use Rattle.interleave.specs.Crashes.{GoneOn, HoldsAcknowledged};
+ghost use Rattle.packet_ways.specs.Arriving.{Arrive};
 
 use crate::room::add;
 use crate::world::World;
@@ -26,7 +25,8 @@ use std::alloc::{AllocError, Global};
 
 impl<D: Disk> World<D> {
     ghost use Rattle.interleave.specs.WorldWords.{desk_of, lists_of, machine_of, world_store, world_view};
-    ghost use Rattle.interleave.specs.Desks.{DeskCommits, WorldRun};
+    ghost use Rattle.interleave.specs.Desks.{DeskCommits};
+    ghost use Rattle.interleave.specs.Crashes.{HasRun, HoldsSince};
 
     // One event.
     fn step(&mut self, alloc: Global, event: &Event) -> Reply
@@ -58,16 +58,15 @@ impl<D: Disk> World<D> {
         requires none { replies.old.items ≡ [] }
         ensures ran { IsSameDevice (world_view self.old) (world_view self.new) }
         ensures answers { Run (machine_of self.old) events.now replies.new.items (machine_of self.new) }
-        ensures desks { WorldRun self.old events.now replies.new.items self.new }
-        ensures crashes { IsTrue (world_view self.old).keeps_model → (first : State) (before : List (ℕ × ℕ)) → IsRun first (world_view self.old) (lists_of self.old) before
-            → GoneOn first (moment_of (world_view self.old) (lists_of self.old)) (world_view self.new) (lists_of self.new) events.now replies.new.items before }
+        ensures worlds { HasRun self.old events.now replies.new.items self.new }
         ensures lists { (first : State) → IsListed first (machine_of self.old) → IsListed first (machine_of self.new) }
         ensures asked { (machine_of self.new).asked ≡ (machine_of self.old).asked ++ all_let_in events.now replies.new.items }
         ensures ways { (first : State) → IsListed first (machine_of self.old) → AreOnWay (machine_of self.old)
             → AreOnWay (machine_of self.new) × RunRoutes first (machine_of self.old) events.now replies.new.items (machine_of self.new) × AllGoOn (machine_of self.old) (machine_of self.new) }
         ensures routed_well { (first : State) → IsListed first (machine_of self.old) → AreOnWay (machine_of self.old) → AreRoutedWell first (machine_of self.new) }
+        ensures arrive { (first : State) → IsListed first (machine_of self.old) → Arrive first (machine_of self.old) events.now replies.new.items }
         ensures acknowledged { IsTrue (world_view self.old).keeps_model → (first : State) (before : List (ℕ × ℕ)) → IsRun first (world_view self.old) (lists_of self.old) before → IsListed first (machine_of self.old)
-            → (image : List ℕ) → MayLeave (world_view self.new) image → HoldsAcknowledged first (machine_of self.new) image }
+            → (image : List ℕ) → MayLeave (world_view self.new) image → HoldsSince first (machine_of self.new) (machine_of self.new) image }
     {
         history_law::<D>();
         lists_law();
@@ -82,22 +81,20 @@ impl<D: Disk> World<D> {
 
     /// Runs the events: one reply for each, in their order. Where there isn't room for so many replies, nothing happens.
     ///
-    /// On a disk that keeps the model, a crash since any moment of the run, or of those before, leaves all that a commit had answered Ok
-    /// for by then (`crashes`), and so, by [`listed_runs::acknowledged_law`], all that was acknowledged by then. For a crash now a clause
-    /// says that itself (`acknowledged`).
+    /// There is a world after each event. On a disk that keeps the model, a crash since any of them, or since the run began, leaves all that
+    /// a commit had answered Ok for by then, and all that was acknowledged by then (`worlds`). For a crash now a clause says that itself (`acknowledged`).
     pub fn run(&mut self, alloc: Global, events: &[Event]) -> Result<Vec<Reply>, AllocError>
         ensures ran { IsSameDevice (world_view self.old) (world_view self.new) }
         ensures answers { IfOk result (λ replies. Run (machine_of self.old) events.now replies.items (machine_of self.new)) }
-        ensures desks { IfOk result (λ replies. WorldRun self.old events.now replies.items self.new) }
-        ensures crashes { IsTrue (world_view self.old).keeps_model → (first : State) (before : List (ℕ × ℕ)) → IsRun first (world_view self.old) (lists_of self.old) before
-            → IfOk result (λ replies. GoneOn first (moment_of (world_view self.old) (lists_of self.old)) (world_view self.new) (lists_of self.new) events.now replies.items before) }
+        ensures worlds { IfOk result (λ replies. HasRun self.old events.now replies.items self.new) }
         ensures lists { (first : State) → IsListed first (machine_of self.old) → OnOk result (IsListed first (machine_of self.new)) }
         ensures asked { IfOk result (λ replies. (machine_of self.new).asked ≡ (machine_of self.old).asked ++ all_let_in events.now replies.items) }
         ensures ways { (first : State) → IsListed first (machine_of self.old) → AreOnWay (machine_of self.old)
             → IfOk result (λ replies. AreOnWay (machine_of self.new) × RunRoutes first (machine_of self.old) events.now replies.items (machine_of self.new) × AllGoOn (machine_of self.old) (machine_of self.new)) }
         ensures routed_well { (first : State) → IsListed first (machine_of self.old) → AreOnWay (machine_of self.old) → OnOk result (AreRoutedWell first (machine_of self.new)) }
+        ensures arrive { (first : State) → IsListed first (machine_of self.old) → IfOk result (λ replies. Arrive first (machine_of self.old) events.now replies.items) }
         ensures acknowledged { IsTrue (world_view self.old).keeps_model → (first : State) (before : List (ℕ × ℕ)) → IsRun first (world_view self.old) (lists_of self.old) before → IsListed first (machine_of self.old)
-            → OnOk result ((image : List ℕ) → MayLeave (world_view self.new) image → HoldsAcknowledged first (machine_of self.new) image) }
+            → OnOk result ((image : List ℕ) → MayLeave (world_view self.new) image → HoldsSince first (machine_of self.new) (machine_of self.new) image) }
         ensures err { OnErr result (self.new ≡ self.old) }
     {
         let mut replies = Vec::with_capacity(alloc, events.len())?;

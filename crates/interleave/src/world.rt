@@ -1,5 +1,5 @@
 //! The world: a desk, and beside it a queue, sessions, postings and packets, without threads.
-ghost use Rattle.std.specs.Prelude.{◌≡◌, ◌≤◌, [], length, take, drop, IsTrue, IfOk, None, false};
+ghost use Rattle.std.specs.Prelude.{◌≡◌, ◌≤◌, [], length, take, drop, replicate, IsTrue, IfOk, None, false};
 ghost use Rattle.disk_trait.specs.Disk.{Unchanged};
 ghost use Rattle.requests.specs.Tickets.{sessions as all_sessions, tickets_after};
 ghost use Rattle.recovery.specs.State.{asked as asked_all, AreInTurn};
@@ -8,7 +8,7 @@ ghost use Rattle.checkpoint.specs.StoreWords.{state_of, view_of, is_down};
 ghost use Rattle.group_commit.specs.DeskWords.{store_of, held_of, due_of};
 ghost use Rattle.group_commit.specs.Turns.{AreBehind, in_turn_prop};
 ghost use Rattle.histories.specs.Runs.{IsRun};
-ghost use Rattle.event_runs.specs.Machines.{begun};
+ghost use Rattle.event_runs.specs.Machines.{begun, fresh_session};
 ghost use Rattle.listed_runs.specs.Listed.{IsListed};
 ghost use Rattle.packet_ways.specs.Ways.{AreOnWay};
 ghost use Rattle.interleave.specs.Stores.{AreLasts, behind_prop};
@@ -61,33 +61,46 @@ impl<D: Disk + Drop> World<D> {
         // A crash now leaves what was opened, where the device keeps the disk model and hasn't failed.
         ensures run { IsTrue (view_of (store_of desk)).keeps_model → is_down (store_of desk) ≡ false → IfOk result (λ world. IsRun (state_of (store_of desk)) (world_view world) (lists_of world) []) }
     {
+        let sessions = fresh_sessions(alloc, sessions)?;
+        Ok(World::with_sessions(alloc, desk, sessions, capacity))
+    }
+
+    /// The same with sessions that are there already, each of which has seen and asked for nothing. It takes no memory.
+    pub fn with_sessions(
+        alloc: Global,
+        desk: Desk<D>,
+        sessions: Vec<Session>,
+        capacity: usize,
+    ) -> World<D>
+        requires sessions { (1 ≤ length sessions.items) × (length sessions.items ≤ 64) }
+        requires fresh { sessions.items ≡ replicate (length sessions.items) fresh_session }
+        requires capacity { (1 ≤ capacity) × (capacity ≤ 64) }
+        requires none_held { held_of desk ≡ [] }
+        requires none_due { due_of desk ≡ None }
+        ensures desk { desk_of result ≡ desk }
+        ensures machine { machine_of result ≡ begun capacity (length sessions.items) (state_of (store_of desk)) (is_down (store_of desk)) }
+        ensures listed { IsListed (state_of (store_of desk)) (machine_of result) }
+        ensures on_way { AreOnWay (machine_of result) }
+        ensures run { IsTrue (view_of (store_of desk)).keeps_model → is_down (store_of desk) ≡ false → IsRun (state_of (store_of desk)) (world_view result) (lists_of result) [] }
+    {
         history_law::<D>();
         lists_law();
         ways_law();
-        let world = World::fresh(alloc, desk, sessions, capacity)?;
-        Ok(world)
+        World::fresh(alloc, desk, sessions, capacity)
     }
 
     // The same, without what follows from the machine.
-    fn fresh(
-        alloc: Global,
-        desk: Desk<D>,
-        sessions: usize,
-        capacity: usize,
-    ) -> Result<World<D>, AllocError>
-        requires few { sessions ≤ 64 }
+    fn fresh(alloc: Global, desk: Desk<D>, sessions: Vec<Session>, capacity: usize) -> World<D>
+        requires few { length sessions.items ≤ 64 }
+        requires fresh { sessions.items ≡ replicate (length sessions.items) fresh_session }
         requires none_held { held_of desk ≡ [] }
         requires none_due { due_of desk ≡ None }
-        ensures desk { IfOk result (λ world. desk_of world ≡ desk) }
-        ensures machine { IfOk result (λ world. machine_of world ≡ begun capacity sessions (state_of (store_of desk)) (is_down (store_of desk))) }
+        ensures desk { desk_of result ≡ desk }
+        ensures machine { machine_of result ≡ begun capacity (length sessions.items) (state_of (store_of desk)) (is_down (store_of desk)) }
         ensures wide { length (state_of (store_of desk)).tickets ≡ all_sessions }
     {
         let starts = desk.starts();
         let start = desk.store().count();
-        let sessions = vec![in alloc; Session {
-            seen: 0,
-            last: None
-        }; sessions]?;
         let stored = Stored {
             starts,
             start,
@@ -101,8 +114,18 @@ impl<D: Disk + Drop> World<D> {
             seen: 0,
             ways: Vec::new(alloc),
         };
-        Ok(World { desk, stored })
+        World { desk, stored }
     }
+}
+
+/// Sessions that have seen and asked for nothing.
+pub fn fresh_sessions(alloc: Global, count: usize) -> Result<Vec<Session>, AllocError>
+    ensures { IfOk result (λ sessions. sessions.items ≡ replicate count fresh_session) }
+{
+    Ok(vec![in alloc; Session {
+        seen: 0,
+        last: None
+    }; count]?)
 }
 
 impl<D: Disk> World<D> {

@@ -102,7 +102,7 @@ commit_gives m (Committed accepted) n h = sym (ap (λ (x : Machine). come_to x) 
 commit_gives m (NotCommitted Device) n h = sym (ap (λ (x : Machine). come_to x) h.2)
 commit_gives m (NotCommitted Down) n h = same m n h.2
 commit_gives m (NotCommitted Worn) n h = sym (ap (λ (x : Machine). come_to x) h.2)
-commit_gives m Memory n h = same m n h.1
+commit_gives m Memory n h = same m n h.2
 commit_gives m reply n h = absurd h
 
 -- what was due is posted

@@ -1,30 +1,30 @@
 //! Lives of one device, one after another.
-ghost use Rattle.std.specs.Prelude.{IsTrue, IfOk};
+ghost use Rattle.std.specs.Prelude.{◌≡◌, ◌≤◌, [], length, vec_capacity, IsTrue, IfOk, OnErr};
 ghost use Rattle.recovery.specs.State.{State};
 ghost use Rattle.recovery.specs.Standing.{StandsFor};
+ghost use Rattle.life_chain.specs.Rooms.{HaveRooms};
 ghost use Rattle.life_chain.specs.Lived.{AreLived};
+ghost use Rattle.life_chain.specs.Words.{IsLeftByWord, any_word};
 ghost use Rattle.life_chain.specs.Chains.{IsFirst, AreChained, AreExactlyOnce, IsLastRefused};
 
+use crate::crash::{Crash, ImageOfWord, SomeImage};
 use crate::life::Life;
 use crate::living::live;
-use crate::report::LivesReport;
-use crate::rooms::{add, rooms_for};
-use checkpoint::{OpenRefused, Store, standing_law};
-use disk_trait::CrashDisk;
+use crate::report::{LifeReport, LivesReport};
+use crate::rooms::{Rooms, add, room_for_all};
+use checkpoint::standing_law;
+use disk_trait::{CrashDisk, Disk, MemDisk};
 use joined_lists::exactly_once_laws;
 use listed_runs::tickets_law;
 use std::alloc::{AllocError, Global};
 
 /// Lives one after another: the device is opened, a generation is built by the life's words, its plan is armed; then come the events,
 /// and a crash as its word says. Before the first life there has to be room for every reply, else nothing is done. Behind a life that
-/// couldn't open there is none.
+/// couldn't open there is none. This is [`lives_on`], without the disk that is left.
 ///
 /// On a disk that keeps the model:
 ///
-/// - each report is that of its life: what it opened to, what the rebuild and the events were answered, what its world stored, and what
-///   a crash would have left at any moment of it; the first life opened to what the disk stood for, and each next one to what the very
-///   content stood for that the crash of the one before had left; a life that couldn't open tells of that content's front, or of a device
-///   that failed in the opening (`lived`);
+/// - each report is that of its life (`lived`, in words at [`lives_on`]);
 /// - so the first life opened to what the disk stood for (`first`), and each next one to the state after some of the requests that the
 ///   one before took, none of the groups in part that its events and replies say it gave to commits, with all that its commits answered Ok for and
 ///   all that it told an editor was accepted (`chained`);
@@ -36,42 +36,113 @@ pub fn lives<D: CrashDisk + Drop>(
     lives: &[Life],
 ) -> Result<LivesReport, AllocError>
     ensures first { IsTrue (D.view disk).keeps_model → IfOk result (λ report. IsFirst report.lives.items (D.view disk).content) }
-    ensures lived { IsTrue (D.view disk).keeps_model → IfOk result (λ report. AreLived D.Disk (D.view disk).content (D.view disk).failures lives.now report.lives.items report.refused) }
+    ensures lived { IsTrue (D.view disk).keeps_model → IfOk result (λ report. (left : D) × AreLived D.Disk any_word disk lives.now report.lives.items report.refused left) }
     ensures chained { IsTrue (D.view disk).keeps_model → IfOk result (λ report. AreChained lives.now report.lives.items) }
     ensures exactly_once { IsTrue (D.view disk).keeps_model → IfOk result (λ report. AreExactlyOnce report.lives.items) }
     ensures refused { IsTrue (D.view disk).keeps_model → (s : State) → StandsFor s (D.view disk).content → IfOk result (λ report. IsLastRefused report.refused) }
 {
+    lives_on(alloc, disk, lives).0
+}
+
+/// The same lives, and the disk comes back: as the crash of the last life left it, or only read by an opening that was refused, or, where
+/// there was no room for the replies, as it was handed over. So more lives may go on where these ended ([`crate::lives_law`]).
+///
+/// On a disk that keeps the model each report is that of its life (`lived`): what it opened to, what the rebuild and the events were
+/// answered, what its world stored, and what a crash would have left at any moment since the disk was handed over to it. Each next life was handed
+/// the very disk that the crash of the one before had left. A life that couldn't open tells of the content's front, or of a device that failed in the opening.
+pub fn lives_on<D: CrashDisk + Drop>(
+    alloc: Global,
+    disk: D,
+    lives: &[Life],
+) -> (Result<LivesReport, AllocError>, D)
+    ensures first { IsTrue (D.view disk).keeps_model → IfOk result.0 (λ report. IsFirst report.lives.items (D.view disk).content) }
+    ensures lived { IsTrue (D.view disk).keeps_model → IfOk result.0 (λ report. AreLived D.Disk any_word disk lives.now report.lives.items report.refused result.1) }
+    ensures chained { IsTrue (D.view disk).keeps_model → IfOk result.0 (λ report. AreChained lives.now report.lives.items) }
+    ensures exactly_once { IsTrue (D.view disk).keeps_model → IfOk result.0 (λ report. AreExactlyOnce report.lives.items) }
+    ensures refused { IsTrue (D.view disk).keeps_model → (s : State) → StandsFor s (D.view disk).content → IfOk result.0 (λ report. IsLastRefused report.refused) }
+    ensures no_memory { OnErr result.0 (result.1 ≡ disk) }
+{
+    lives_by::<D, SomeImage>(alloc, disk, lives)
+}
+
+/// The same on a disk in memory, which each crash leaves with the image of the life's word (`IsLeftByWord`, specs/Words.antt).
+pub fn lives_in_memory(
+    alloc: Global,
+    disk: MemDisk,
+    lives: &[Life],
+) -> (Result<LivesReport, AllocError>, MemDisk)
+    ensures lived { IfOk result.0 (λ report. AreLived ⟦<MemDisk as Disk>⟧ IsLeftByWord disk lives.now report.lives.items report.refused result.1) }
+    ensures chained { IfOk result.0 (λ report. AreChained lives.now report.lives.items) }
+    ensures exactly_once { IfOk result.0 (λ report. AreExactlyOnce report.lives.items) }
+    ensures no_memory { OnErr result.0 (result.1 ≡ disk) }
+{
+    lives_by::<MemDisk, ImageOfWord>(alloc, disk, lives)
+}
+
+// The lives, whose crashes are those of C.
+fn lives_by<D: CrashDisk + Drop, C: Crash<D>>(
+    alloc: Global,
+    disk: D,
+    lives: &[Life],
+) -> (Result<LivesReport, AllocError>, D)
+    ensures first { IsTrue (D.view disk).keeps_model → IfOk result.0 (λ report. IsFirst report.lives.items (D.view disk).content) }
+    ensures lived { IsTrue (D.view disk).keeps_model → IfOk result.0 (λ report. AreLived D.Disk C.by_word disk lives.now report.lives.items report.refused result.1) }
+    ensures chained { IsTrue (D.view disk).keeps_model → IfOk result.0 (λ report. AreChained lives.now report.lives.items) }
+    ensures exactly_once { IsTrue (D.view disk).keeps_model → IfOk result.0 (λ report. AreExactlyOnce report.lives.items) }
+    ensures refused { IsTrue (D.view disk).keeps_model → (s : State) → StandsFor s (D.view disk).content → IfOk result.0 (λ report. IsLastRefused report.refused) }
+    ensures no_memory { OnErr result.0 (result.1 ≡ disk) }
+{
     standing_law();
     tickets_law();
     exactly_once_laws();
-    let mut rooms = rooms_for(alloc, lives)?;
-    let mut report = Vec::with_capacity(alloc, lives.len())?;
+    match room_for_all(alloc, lives) {
+        Err(refused) => (Err(refused), disk),
+        Ok((rooms, reports)) => {
+            let (report, left) = lives_in::<D, C>(alloc, disk, lives, rooms, reports);
+            (Ok(report), left)
+        }
+    }
+}
+
+// The lives, with room for all replies and reports.
+fn lives_in<D: CrashDisk + Drop, C: Crash<D>>(
+    alloc: Global,
+    disk: D,
+    lives: &[Life],
+    rooms: Rooms,
+    reports: Vec<LifeReport>,
+) -> (LivesReport, D)
+    requires rooms { HaveRooms rooms.items lives.now }
+    requires none { reports.items ≡ [] }
+    requires spare { length lives.now ≤ vec_capacity reports }
+    ensures { IsTrue (D.view disk).keeps_model → AreLived D.Disk C.by_word disk lives.now result.0.lives.items result.0.refused result.1 }
+{
+    let mut rooms = rooms;
+    let mut reports = reports;
     let mut disk = disk;
     for life in lives {
         let replies = rooms.remove(0);
-        match Store::open(alloc, disk) {
-            Err((refused, _after)) => {
-                return Ok(LivesReport {
-                    lives: report,
-                    refused: Some(refused),
-                });
+        match live::<D, C>(alloc, disk, life, replies) {
+            Err((refused, left)) => {
+                return (
+                    LivesReport {
+                        lives: reports,
+                        refused: Some(refused),
+                    },
+                    left,
+                );
             }
-            Ok(store) => match live(alloc, store, life, replies) {
-                Err(_) => {
-                    return Ok(LivesReport {
-                        lives: report,
-                        refused: Some(OpenRefused::Memory),
-                    });
-                }
-                Ok((lived, after)) => {
-                    add(&mut report, lived);
-                    disk = after;
-                }
-            },
+            Ok((lived, left)) => {
+                add(&mut reports, lived);
+                disk = left;
+            }
         }
     }
-    Ok(LivesReport {
-        lives: report,
-        refused: None,
-    })
+    (
+        LivesReport {
+            lives: reports,
+            refused: None,
+        },
+        disk,
+    )
 }

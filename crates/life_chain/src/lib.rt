@@ -13,10 +13,25 @@
 //! | Clause | What it says |
 //! |---|---|
 //! | `first` | the first life opens to what the disk stands for |
-//! | `lived` | each report is that of its life (`IsLived`, specs/Lived.antt): what the rebuild and each event were answered, each by the call that it stands for, a commit by a desk over its disk (`WorldRun` of `interleave`), from which disk the crash left its content; what was asked, taken and settled is what events and replies tell; the lists are kept; each packet goes over the one trip of its own generation, at most three times as long as any other; and what the crash left stands for a prefix state with all that commits answered Ok for, all that is acknowledged, and none in part of the groups that events and replies say were given to commits (specs/Groups.antt). A crash at any earlier moment, since the events began or since any of them, would have left one too, with all that commits had answered Ok for by then (`GoneOn` of `interleave`). The content that a crash left is the one that the next life opened. There is one for each life, up to the first that couldn't open; that one tells of the content's front, and of the device only where it failed in the opening |
-//! | `chained` | each next life opens to such a prefix state of the one before (`IsNextOf`, specs/Chains.antt): whole changes and whole groups, those that events and replies tell of |
+//! | `lived` | each report is that of its life, of the very disk that the crash of the one before had left (`AreLived`, specs/Lived.antt), up to the first life that couldn't open: that one tells of the content's front, and of the device only where it failed in the opening, and only read the disk |
+//! | `chained` | each next life opens to a prefix state of the one before (`IsNextOf`, specs/Chains.antt): whole changes and whole groups, those that events and replies tell of |
 //! | `exactly_once` | over these lives, and each beginning of them, each session's ticket is in at most once, only above the first disk's last one, and exactly once where it is acknowledged; each life opens to the last tickets of what is in (`IsExactlyOnce` of `joined_lists`) |
 //! | `refused` | where the disk stands for anything, an opening is refused by `Device` or `Memory` alone |
+//! | `no_memory` | where there was no room for the replies, no life ran, and the disk is the one that was handed over |
+//!
+//! A life (`IsLived`) is said in three parts:
+//!
+//! - **answered** (`IsAnswered`): what the rebuild and each event were answered, each by the call that it stands for; what was asked, taken
+//!   and settled is what events and replies tell; the lists are kept; each packet goes over the one trip of its own generation, at most three times as
+//!   long as any other.
+//! - **on the disk** (`IsRunOn`): until the events began the disk was only read, and didn't fail; there is a world after each event, a commit was answered
+//!   by a desk over its disk (`WorldRun` of `interleave`); and the very disk of the last world crashed, by the life's word.
+//! - **safe at any moment** (`IsSafeAtAnyMoment`): a crash since the disk was handed over, in the opening or behind it, or since any event, leaves a prefix state
+//!   with all that commits had answered Ok for by then, all that was acknowledged by then, and none in part of the groups that events and replies
+//!   say were given to commits (specs/Groups.antt).
+//!
+//! [`lives`] drops the disk at the end. [`lives_on`] gives it back at every exit, so more lives may go on where these ended: two calls are one
+//! ([`lives_law`]). On a disk in memory, [`lives_in_memory`] says besides which image each crash left: that of the life's word.
 //!
 //! Room for all replies is made before the first life, so that a life that ran is reported. Where a world or the copy of the opened
 //! network has no memory, the life is reported as one that couldn't open.
@@ -30,11 +45,14 @@
 #![tactic(auto)]
 
 mod chain;
+mod crash;
+mod laws;
 mod life;
 mod living;
 mod report;
 mod rooms;
 
-pub use chain::lives;
+pub use chain::{lives, lives_in_memory, lives_on};
+pub use laws::lives_law;
 pub use life::Life;
 pub use report::{LifeReport, LivesReport};

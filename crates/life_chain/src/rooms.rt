@@ -1,13 +1,31 @@
 // Room that is made before the first life.
-ghost use Rattle.std.specs.Prelude.{◌≡◌, ◌≤◌, ◌+◌, ◌++◌, [], ◌∷◌, IfOk, vec_len, vec_capacity};
+ghost use Rattle.std.specs.Prelude.{◌≡◌, ◌≤◌, ◌+◌, ◌++◌, [], ◌∷◌, length, IfOk, vec_len, vec_capacity};
 ghost use Rattle.life_chain.specs.Rooms.{HaveRooms};
 
 use crate::life::Life;
+use crate::report::LifeReport;
 use event_runs::Reply;
 use std::alloc::{AllocError, Global};
 
-/// For each life an empty list with room for its replies.
-pub(crate) fn rooms_for(alloc: Global, lives: &[Life]) -> Result<Vec<Vec<Reply>>, AllocError>
+/// Room for the replies of each life.
+pub(crate) type Rooms = Vec<Vec<Reply>>;
+
+/// For each life an empty list with room for its replies, and an empty list with room for a report of each.
+pub(crate) fn room_for_all(
+    alloc: Global,
+    lives: &[Life],
+) -> Result<(Rooms, Vec<LifeReport>), AllocError>
+    ensures rooms { IfOk result (λ room. HaveRooms room.0.items lives.now) }
+    ensures none { IfOk result (λ room. room.1.items ≡ []) }
+    ensures spare { IfOk result (λ room. length lives.now ≤ vec_capacity room.1) }
+{
+    let rooms = rooms_for(alloc, lives)?;
+    let reports = Vec::with_capacity(alloc, lives.len())?;
+    Ok((rooms, reports))
+}
+
+// For each life an empty list with room for its replies.
+fn rooms_for(alloc: Global, lives: &[Life]) -> Result<Rooms, AllocError>
     ensures { IfOk result (λ rooms. HaveRooms rooms.items lives.now) }
 {
     let mut rooms = Vec::new(alloc);

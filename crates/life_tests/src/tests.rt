@@ -1,4 +1,4 @@
-// Lives whose answers are written out, failures of the device in an opening, a commit and a roll, tickets over crashes, drawn lives, and
+// Lives whose answers are written out, calls that go on where others ended, failures of the device in an opening, a commit and a roll, tickets over crashes, drawn lives, and
 // lives of which an allocation is refused.
 use checkpoint::{DEVICE_LEN, OpenRefused, format};
 use disk_trait::{Disk, MemDisk, Plan};
@@ -7,11 +7,12 @@ use forwarders::Refused as RouteRefused;
 use graph_edits::{Change, Code, Op};
 use group_commit::DeskRefused;
 use intake::{Outcome, SubmitRefused};
-use life_chain::{Life, LifeReport, LivesReport, lives};
+use life_chain::{Life, LifeReport, LivesReport, lives, lives_in_memory, lives_on};
 use std::alloc::{AllocError, Global};
 use std::fmt::Debug;
 use std::process::Abort;
 
+mod again;
 mod drawn;
 mod failures;
 mod helpers;

@@ -180,7 +180,7 @@ commit_on first m (Committed accepted) n h is = same_lists first (committed m) n
 commit_on first m (NotCommitted Device) n h is = same_lists first (lost m) n h.2 (lost_on first m is h.0 h.1)
 commit_on first m (NotCommitted Down) n h is = same_lists first m n h.2 is
 commit_on first m (NotCommitted Worn) n h is = same_lists first (grouped m) n h.2 (record { wide = is.wide; starts = is.starts; start = is.start; lists = is.lists; last = is.last; due = is.due })
-commit_on first m Memory n h is = same_lists first m n h.1 is
+commit_on first m Memory n h is = same_lists first m n h.2 is
 commit_on first m reply n h is = absurd h
 
 -- ---- rebuild

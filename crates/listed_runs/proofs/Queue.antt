@@ -109,7 +109,7 @@ commit_queue m (Committed accepted) n h = stays m n (ap (λ (x : Machine). x.ask
 commit_queue m (NotCommitted Device) n h = stays m n (ap (λ (x : Machine). x.asked) h.2) (ap (λ (x : Machine). x.taken) h.2)
 commit_queue m (NotCommitted Down) n h = same m n h.2
 commit_queue m (NotCommitted Worn) n h = stays m n (ap (λ (x : Machine). x.asked) h.2) (ap (λ (x : Machine). x.taken) h.2)
-commit_queue m Memory n h = same m n h.1
+commit_queue m Memory n h = same m n h.2
 commit_queue m reply n h = absurd h
 
 -- what was due is posted: requests stay

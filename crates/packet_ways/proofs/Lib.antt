@@ -8,4 +8,5 @@ pub mod Hopping
 pub mod Launching
 pub mod Others
 pub mod Gone
+pub mod Arriving
 pub mod Runs

@@ -116,7 +116,7 @@ commit_adds m (Committed number) n h = is_adds m n _ h.3 (same m _ refl refl ref
 commit_adds m (NotCommitted Device) n h = is_adds m n _ h.2 (same m _ refl refl refl)
 commit_adds m (NotCommitted Down) n h = is_same m n h.2
 commit_adds m (NotCommitted Worn) n h = is_adds m n _ h.2 (same m _ refl refl refl)
-commit_adds m Memory n h = is_same m n h.1
+commit_adds m Memory n h = is_same m n h.2
 commit_adds m r n h = absurd h
 
 built_adds : (words : List ℕ) (m n : Machine) → IsBuilt words m n → Adds m n

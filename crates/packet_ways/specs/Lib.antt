@@ -2,4 +2,5 @@ pub mod Ways
 pub mod Courses
 pub mod Replies
 pub mod Later
+pub mod Arriving
 pub mod Laws

@@ -8,7 +8,6 @@ use Rattle.node_table.specs.declared.packet.Packet.{Packet}
 use Rattle.node_table.specs.Service.{one_less}
 use Rattle.generations.specs.declared.posting.Notice.{Notice}
 use Rattle.generations.specs.Notices.{generations_in}
-use Rattle.generations.specs.Shelves.{most_shelved}
 use Rattle.generations.specs.Boards.{latest_of, scheme_of}
 use Rattle.forwarders.specs.declared.refused.Refused.{Refused}
 use Rattle.forwarders.specs.declared.refused.Refused.TheVariants.{GenerationGone, NoNode, Unreachable, Stray, Spent, BoardShut}
@@ -77,13 +76,13 @@ pub record IsDelivered (first : State) (m : Machine) (i : ℕ) (n : Machine) : T
   pub routed_well : IsRoutedWell first m.asked m.postings way
   pub at_end : way.at ≡ way.to
 
--- as many generations as the shelf has room for were posted behind the one of this number
+-- four generations were posted behind the one of this number: as many as the shelf has room for
 pub record IsLeftBehind (log : List Notice) (number : ℕ) : Type 0 where
   pub scheme : Parts
   pub posted : IsPosted log number scheme
-  pub later : most_shelved ≤ length (generations_in posted.after)
+  pub later : 4 ≤ length (generations_in posted.after)
 
--- the packet was there, and its generation has left the shelf that the forwarder sees, behind as many later ones as that has room for
+-- the packet was there, and its generation has left the shelf that the forwarder sees, behind four later ones
 pub record HopRefused (m : Machine) (i at : ℕ) (refused : Refused) : Type 0 where
   pub way : Trip
   pub was : slice_get m.ways i ≡ Some way

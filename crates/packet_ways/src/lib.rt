@@ -14,9 +14,11 @@
 //!   times as long as any other; the rest of that trip carries it on, by ports that lead along it; and it is gone only at the end.
 //! - `Tells first event m reply n` (specs/Replies.antt): what the reply to a launch or a hop says. A launch is refused only because no
 //!   generation is seen, or because in the graph of the newest one seen one of the two isn't a node or no walk leads there; a hop only
-//!   because the packet's generation has left the shelf, behind as many later ones as that has room for.
+//!   because the packet's generation has left the shelf, behind four later ones.
 //! - `AllGoOn m n` and `NeverHops i events replies` (specs/Later.antt): each packet keeps its number, its ends and its generation, and
 //!   visits more; and a packet that was delivered is never moved again.
+//! - `Arrive first m events replies` (specs/Arriving.antt): a packet that is hopped more often than its trip has edges left is delivered, unless a
+//!   hop of it is answered that its generation is gone, or that memory ran out.
 //!
 //! ```rust
 //! ghost use Rattle.recovery.specs.State.{State};

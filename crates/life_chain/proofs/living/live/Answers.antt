@@ -1,14 +1,15 @@
-use Rattle.std.proofs.Common.{◌≡◌, ◌≤◌, ◌++◌, [], ◌∷◌, ℕ, List, refl, subst, sym, ap, ◌∙◌, IsTrue, Bool, false}
+use Rattle.std.proofs.Common.{◌≡◌, ◌++◌, [], ◌∷◌, ℕ, List, length, subst, sym, ap, ◌∙◌, IsTrue, Bool, false}
 use Rattle.std.specs.Option.{option_map}
-use Rattle.disk_trait.specs.Disk.{MayLeave}
+use Rattle.std.proofs.lemmas.List.{length-replicate}
+use Rattle.disk_trait.specs.Disk.{OnlyRead}
 use Rattle.recovery.specs.State.{State}
 use Rattle.checkpoint.specs.StoreWords.{state_of, view_of, is_down, disk_of, stands_now}
 use Rattle.generations.specs.Notices.{notice_of}
 use Rattle.group_commit.specs.DeskWords.{store_of, due_of}
 use Rattle.histories.specs.History.{Lists, begun as none_yet}
-use Rattle.histories.specs.Runs.{IsRun, moment_of}
+use Rattle.histories.specs.Runs.{IsRun}
 use Rattle.event_runs.specs.declared.event.Event.{Event}
-use Rattle.event_runs.specs.Machines.{Machine, begun}
+use Rattle.event_runs.specs.Machines.{Machine, begun, fresh_session}
 use Rattle.event_runs.specs.Answers.{RebuildAnswers}
 use Rattle.listed_runs.specs.Listed.{IsListed}
 use Rattle.listed_runs.specs.Lives.{history_of}
@@ -18,75 +19,102 @@ use Rattle.packet_ways.specs.Replies.{RunRoutes}
 use Rattle.interleave.specs.declared.stored.Stored.{Stored}
 use Rattle.interleave.specs.Stores.{machine_with}
 use Rattle.interleave.specs.WorldWords.{lists_of, machine_of, world_view, world_store, desk_of}
-use Rattle.interleave.specs.Crashes.{GoneOn}
-use Rattle.interleave.specs.Desks.{WorldRun}
+use Rattle.interleave.specs.Crashes.{HasRun}
 use Rattle.life_chain.specs.declared.life.Life.{Life}
 use Rattle.life_chain.specs.declared.report.LifeReport.{LifeReport}
 use Rattle.life_chain.specs.Reports.{opened_of}
-use Rattle.life_chain.specs.Lived.{IsLived}
-use Rattle.life_chain.proofs.LifeLemmas.{lived_is, by_parts}
+use Rattle.life_chain.specs.Lived.{IsAnswered, HasCrashed}
+use Rattle.life_chain.proofs.GroupLemmas.{life_fits}
+use Rattle.life_chain.proofs.LifeLemmas.{lived_is, answered_is, safe_is, all_as, read_same, handed_is, by_parts}
+use Rattle.life_chain.proofs.ChainLemmas.{tells}
 use Rattle.life_chain.proofs.living.live.Goals as goal
 
-pub returns-clause-settled : goal.returns-clause-settled
-returns-clause-settled g c model =
-    let built_is : world_store c.rebuild-rebuilt.new.self ≡ c.args.store = c.rebuild-rebuilt.ensures.store ∙ (ap (λ d. store_of d) c.in_ok-world.ensures.desk ∙ c.new.ensures.store) in
-    let model_built : IsTrue (world_view c.rebuild-rebuilt.new.self).keeps_model = subst (λ st. IsTrue (view_of st).keeps_model) (sym built_is) model in
-    let model_end : IsTrue (world_view c.run_into.new.self).keeps_model = subst IsTrue (sym c.run_into.ensures.ran.model) (subst IsTrue (sym c.arm.ensures.same.model) model_built) in
-    let disk_is : c.into_disk.result ≡ disk_of (world_store c.run_into.new.self) = c.into_disk.ensures ∙ ap (λ st. disk_of st) (c.into_store.ensures ∙ ap (λ d. store_of d) c.into_parts-stored.ensures.desk) in
-    c.crash-disk.ensures.settled (subst (λ d. IsTrue (g.D.Disk.view d).keeps_model) (sym disk_is) model_end)
+pub returns-in-Err-clause-refused : goal.returns-in-Err-clause-refused
+returns-in-Err-clause-refused g c model =
+    let is = c.in-Err.ensures in
+    record {
+      front = tells c.in-Err.refused.0 (g.D.Disk.view c.args.disk).content (is.not_formatted model) (is.bad_version model) (is.damaged model) (is.memory model);
+      read = is.reads_err model;
+      ran = is.ran_err;
+      device = is.device;
+      served = is.served;
+      none = is.refused model;
+    }
 
 pub returns-clause-lived : goal.returns-clause-lived
 returns-clause-lived g c model =
-    let store = c.args.store in
+    let opened = c.in-Ok.ensures in
+    let store = c.in-Ok.store in
+    let disk = c.args.disk in
     let life : Life = c.args.life.now in
     let s : State = state_of store in
-    let world = c.in_ok-world.world in
+    let world = c.with_sessions-world.result in
     let built = c.rebuild-rebuilt.new.self in
     let armed = c.arm.new.self in
     let end = c.run_into.new.self in
     let start : Machine = begun life.capacity life.sessions s false in
     let reply = c.rebuild-rebuilt.result in
     let replies = c.run_into.new.replies in
-    let report : LifeReport = record { count = c.count-count.result; graph = c.in_ok-graph.graph; tickets = c.starts-tickets.result; rebuilt = reply; replies = replies; stored = c.into_parts-stored.result.0 } in
+    let report : LifeReport = record { count = c.count-count.result; graph = c.in-Ok-parts_of.graph; tickets = c.starts-tickets.result; rebuilt = reply; replies = replies; stored = c.into_parts-stored.result.0 } in
     let due = option_map notice_of (due_of (desk_of end)) in
     let state : State = state_of (world_store end) in
     let down : Bool = is_down (world_store end) in
-    let content : List ℕ = (g.D.Disk.view c.crash-disk.result).content in
-    let store_is : world_store world ≡ store = ap (λ d. store_of d) c.in_ok-world.ensures.desk ∙ c.new.ensures.store in
+    let left = c.crash-disk.result in
+    let many : length c.in-Ok-parts_of.sessions.items ≡ life.sessions = ap length c.in-Ok-parts_of.ensures.sessions ∙ length-replicate life.sessions fresh_session in
+    let store_is : world_store world ≡ store = ap (λ d. store_of d) c.with_sessions-world.ensures.desk ∙ c.new.ensures.store in
     let machine_is : machine_of world ≡ start =
-    c.in_ok-world.ensures.machine ∙ (ap (λ st. begun life.capacity life.sessions (state_of st) (is_down st)) c.new.ensures.store ∙ ap (λ (b : Bool). begun life.capacity life.sessions s b) c.requires.up) in
+    c.with_sessions-world.ensures.machine ∙ (ap (λ st. begun life.capacity (length c.in-Ok-parts_of.sessions.items) (state_of st) (is_down st)) c.new.ensures.store
+    ∙ (ap (λ (b : Bool). begun life.capacity (length c.in-Ok-parts_of.sessions.items) s b) opened.up ∙ ap (λ (n : ℕ). begun life.capacity n s false) many)) in
     let built_is : world_store built ≡ store = c.rebuild-rebuilt.ensures.store ∙ store_is in
     let lists_is : lists_of armed ≡ none_yet s = c.arm.ensures.lists ∙ (c.rebuild-rebuilt.ensures.lists ∙ ap (λ (m : Machine). history_of m) machine_is) in
-    let model_built : IsTrue (world_view built).keeps_model = subst (λ st. IsTrue (view_of st).keeps_model) (sym built_is) model in
+    let model_store : IsTrue (view_of store).keeps_model = subst IsTrue (sym opened.ran.model) model in
+    let model_built : IsTrue (world_view built).keeps_model = subst (λ st. IsTrue (view_of st).keeps_model) (sym built_is) model_store in
     let model_armed : IsTrue (world_view armed).keeps_model = subst IsTrue (sym c.arm.ensures.same.model) model_built in
     let model_end : IsTrue (world_view end).keeps_model = subst IsTrue (sym c.run_into.ensures.ran.model) model_armed in
-    let rebuilt : RebuildAnswers life.words.items start reply (machine_of built) =
-    subst (λ (l : List ℕ). RebuildAnswers l start reply (machine_of built)) c.as_slice.ensures.value (subst (λ (m : Machine). RebuildAnswers c.as_slice.result.now m reply (machine_of built)) machine_is c.rebuild-rebuilt.ensures.answers) in
+    let rebuilt : RebuildAnswers life.words.items start reply (machine_of armed) =
+    subst (λ (m : Machine). RebuildAnswers life.words.items start reply m) (sym c.arm.ensures.machine)
+    (subst (λ (l : List ℕ). RebuildAnswers l start reply (machine_of built)) c.as_slice.ensures.value (subst (λ (m : Machine). RebuildAnswers c.as_slice.result.now m reply (machine_of built)) machine_is c.rebuild-rebuilt.ensures.answers)) in
     let begun_run : IsRun s (world_view built) (none_yet s) [] =
-    subst (λ st. IsRun s (view_of st) (none_yet s) []) (sym built_is) (c.history_law.ensures.begins s (disk_of store) (stands_now store model c.requires.up)) in
+    subst (λ st. IsRun s (view_of st) (none_yet s) []) (sym built_is) (c.history_law.ensures.begins s (disk_of store) (stands_now store model_store opened.up)) in
     let armed_run : IsRun s (world_view armed) (lists_of armed) [] =
     subst (λ (a : Lists). IsRun s (world_view armed) a []) (sym lists_is) (c.history_law.ensures.stays_run s (disk_of (world_store built)) (disk_of (world_store armed)) (none_yet s) [] begun_run c.arm.ensures.same) in
-    let now = moment_of (world_view armed) (lists_of armed) in
-    let counted : IsRun s (world_view armed) (lists_of armed) (now ∷ []) = c.history_law.ensures.now_counts s (disk_of (world_store armed)) (lists_of armed) [] armed_run in
-    let crashes : GoneOn s now (world_view end) (lists_of end) life.events.items replies.items (now ∷ []) =
-    subst (λ (l : List Event). GoneOn s now (world_view end) (lists_of end) l replies.items (now ∷ [])) c.as_slice-2.ensures.value (c.run_into.ensures.crashes model_armed s (now ∷ []) counted) in
-    let listed_built : IsListed s (machine_of built) = c.rebuild-rebuilt.ensures.listed s (subst (λ st. IsListed (state_of st) (machine_of world)) c.new.ensures.store c.in_ok-world.ensures.listed) in
+    let listed_built : IsListed s (machine_of built) = c.rebuild-rebuilt.ensures.listed s (subst (λ st. IsListed (state_of st) (machine_of world)) c.new.ensures.store c.with_sessions-world.ensures.listed) in
     let listed_armed : IsListed s (machine_of armed) = subst (λ (m : Machine). IsListed s m) (sym c.arm.ensures.machine) listed_built in
-    let ways_armed : AreOnWay (machine_of armed) = subst (λ (m : Machine). AreOnWay m) (sym c.arm.ensures.machine) (c.rebuild-rebuilt.ensures.ways c.in_ok-world.ensures.on_way) in
-    let answers : RunRoutes s (machine_of built) life.events.items replies.items (machine_of end) =
-    subst (λ (l : List Event). RunRoutes s (machine_of built) l replies.items (machine_of end)) c.as_slice-2.ensures.value
-    (subst (λ (m : Machine). RunRoutes s m c.as_slice-2.result.now replies.items (machine_of end)) c.arm.ensures.machine (c.run_into.ensures.ways s listed_armed ways_armed).1) in
-    let asked_is : (machine_of end).asked ≡ (machine_of built).asked ++ all_let_in life.events.items replies.items =
-    subst (λ (l : List Event). (machine_of end).asked ≡ (machine_of built).asked ++ all_let_in l replies.items) c.as_slice-2.ensures.value
-    (subst (λ (m : Machine). (machine_of end).asked ≡ m.asked ++ all_let_in c.as_slice-2.result.now replies.items) c.arm.ensures.machine c.run_into.ensures.asked) in
-    let disk_is : c.into_disk.result ≡ disk_of (world_store end) = c.into_disk.ensures ∙ ap (λ st. disk_of st) (c.into_store.ensures ∙ ap (λ d. store_of d) c.into_parts-stored.ensures.desk) in
-    let left : MayLeave (world_view end) content = (subst (λ d. IsTrue (g.D.Disk.view d).keeps_model → MayLeave (g.D.Disk.view d) content) disk_is c.crash-disk.ensures.image) model_end in
-    let opened : opened_of report ≡ s = by_parts c.count-count.result s.count c.in_ok-graph.graph s.graph c.starts-tickets.result s.tickets c.count-count.ensures.same (c.in_ok-graph.ensures ∙ c.graph.ensures) c.starts-tickets.ensures in
-    let desks : WorldRun armed life.events.items replies.items end = subst (λ (l : List Event). WorldRun armed l replies.items end) c.as_slice-2.ensures.value c.run_into.ensures.desks in
-    let after : ℕ = (g.D.Disk.view c.crash-disk.result).failures in
-    let unfailed : (world_view armed).failures ≡ (view_of store).failures = c.arm.ensures.same.failures ∙ ap (λ st. (view_of st).failures) built_is in
-    let risen : (world_view end).failures ≤ after = subst (λ d. (g.D.Disk.view d).failures ≤ after) disk_is c.crash-disk.ensures.ran.no_fewer in
-    subst (λ (f : State). IsLived g.D.Disk f (view_of store).failures life report content after) (sym opened)
-    (lived_is g.D.Disk armed end s life report content (machine_of built) (machine_of end) (view_of store).failures after (ap (λ (x : Stored). machine_with x due state down) (sym c.into_parts-stored.ensures.stored)) rebuilt asked_is answers
-    (c.run_into.ensures.lists s listed_armed) (c.run_into.ensures.routed_well s listed_armed ways_armed) crashes (c.run_into.ensures.acknowledged model_armed s [] armed_run listed_armed content left)
-    desks c.arm.ensures.machine refl left unfailed risen)
+    let ways_armed : AreOnWay (machine_of armed) = subst (λ (m : Machine). AreOnWay m) (sym c.arm.ensures.machine) (c.rebuild-rebuilt.ensures.ways c.with_sessions-world.ensures.on_way) in
+    let answers : RunRoutes s (machine_of armed) life.events.items replies.items (machine_of end) =
+    subst (λ (l : List Event). RunRoutes s (machine_of armed) l replies.items (machine_of end)) c.as_slice-2.ensures.value (c.run_into.ensures.ways s listed_armed ways_armed).1 in
+    let asked_is : (machine_of end).asked ≡ (machine_of armed).asked ++ all_let_in life.events.items replies.items =
+    subst (λ (l : List Event). (machine_of end).asked ≡ (machine_of armed).asked ++ all_let_in l replies.items) c.as_slice-2.ensures.value c.run_into.ensures.asked in
+    let run : HasRun armed life.events.items replies.items end = subst (λ (l : List Event). HasRun armed l replies.items end) c.as_slice-2.ensures.value c.run_into.ensures.worlds in
+    let read : OnlyRead (g.D.Disk.view disk) (world_view armed) =
+    read_same (g.D.Disk.view disk) (world_view built) (world_view armed) (subst (λ st. OnlyRead (g.D.Disk.view disk) (view_of st)) (sym built_is) (opened.reads model)) c.arm.ensures.same in
+    let reported : machine_of end ≡ machine_with report.stored due state down = ap (λ (x : Stored). machine_with x due state down) (sym c.into_parts-stored.ensures.stored) in
+    let answered : IsAnswered s life report (machine_of armed) (machine_of end) =
+    answered_is s life report (machine_of armed) (machine_of end) reported rebuilt asked_is answers (c.run_into.ensures.lists s listed_armed) (c.run_into.ensures.routed_well s listed_armed ways_armed) in
+    let fits = life_fits s life.capacity life.sessions life.words.items reply (machine_of armed) life.events.items replies.items (machine_of end) rebuilt answers in
+    let disk_is : c.into_disk-2.result ≡ disk_of (world_store end) = c.into_disk-2.ensures ∙ ap (λ st. disk_of st) (c.into_store.ensures ∙ ap (λ d. store_of d) c.into_parts-stored.ensures.desk) in
+    let crashed : HasCrashed g.D.Disk (disk_of (world_store end)) left =
+    subst (λ d. IsTrue (g.D.Disk.view d).keeps_model → HasCrashed g.D.Disk d left) disk_is (λ m. record { image = c.crash-disk.ensures.image m; settled = c.crash-disk.ensures.settled m; ran = c.crash-disk.ensures.ran }) model_end in
+    let opened_is : opened_of report ≡ s = by_parts c.count-count.result s.count c.in-Ok-parts_of.graph s.graph c.starts-tickets.result s.tickets c.count-count.ensures.same c.in-Ok-parts_of.ensures.graph c.starts-tickets.ensures in
+    lived_is g.D.Disk g.C.Crash.by_word disk left s life report opened_is (record {
+      opened = opened.ok model;
+      started = armed;
+      worlds = run.worlds;
+      stopped = end;
+      answered = answered;
+      run_on = record {
+        read = read;
+        served = c.arm.ensures.same.failures ∙ (ap (λ st. (view_of st).failures) built_is ∙ opened.no_failure);
+        keeps_model = model_armed;
+        ran = run.steps;
+        crashed = crashed;
+        word = subst (λ d. g.C.Crash.by_word d life.word left) disk_is c.crash-disk.ensures.by_word;
+      };
+      safe = record {
+        handed = λ stands image was.
+            safe_is s life report (machine_of end) fits (machine_of armed) image
+            (handed_is g.D.Disk c.acknowledged_law.ensures.later s disk armed end life.events.items replies.items run model_armed listed_armed lists_is armed_run read (c.history_law.ensures.begins s disk stands) image was);
+        since = all_as (λ w safe image was. safe_is s life report (machine_of end) fits (machine_of w) image (safe image was)) (armed ∷ run.worlds) (run.safe model_armed s armed_run listed_armed);
+        now = λ image is. safe_is s life report (machine_of end) fits (machine_of end) image (c.run_into.ensures.acknowledged model_armed s [] armed_run listed_armed image is);
+      };
+    })

@@ -1,6 +1,7 @@
 use Rattle.packet_ways.proofs.Known.{Laws}
 use Rattle.packet_ways.proofs.Runs.{begun_are, events_keep, rebuilds_keep, runs_keep, ways_are}
 use Rattle.packet_ways.proofs.Gone.{gone_stay_gone}
+use Rattle.packet_ways.proofs.Arriving.{hopped_arrive}
 use Rattle.packet_ways.proofs.laws.ways_law.Goals as goal
 
 pub returns : goal.returns
@@ -14,4 +15,5 @@ returns c =
       runs = runs_keep laws;
       routed_well = ways_are laws;
       gone = gone_stay_gone;
+      arrive = hopped_arrive laws;
     }

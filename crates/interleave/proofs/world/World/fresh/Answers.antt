@@ -1,4 +1,4 @@
-use Rattle.std.proofs.Common.{rules, ◌≡◌, ℕ, List, [], replicate, sym, subst}
+use Rattle.std.proofs.Common.{ℕ, List, [], length, sym, subst}
 use Rattle.checkpoint.specs.StoreWords.{state_of}
 use Rattle.requests.specs.declared.request.Request.{Request}
 use Rattle.recovery.specs.State.{AreInTurn}
@@ -6,7 +6,6 @@ use Rattle.group_commit.specs.DeskWords.{store_of}
 use Rattle.group_commit.specs.Turns.{AreBehind}
 use Rattle.group_commit.proofs.TurnLemmas.{behind_itself}
 use Rattle.event_runs.specs.declared.session.Session.{Session}
-use Rattle.event_runs.specs.Machines.{fresh_session}
 use Rattle.interleave.specs.Stores.{AreLasts}
 use Rattle.interleave.proofs.Tickets.{fresh_lasts}
 use Rattle.interleave.proofs.world.World.fresh.Goals as goal
@@ -16,9 +15,9 @@ invariant_of-result-clause-in_turn g c = subst (λ (l : List Request). AreInTurn
 
 pub invariant_of-result-clause-lasts : goal.invariant_of-result-clause-lasts
 invariant_of-result-clause-lasts g c =
-    let fresh : c.in_ok-sessions.sessions.items ≡ replicate c.args.sessions fresh_session = search rules in
-    subst (λ (l : List Request). AreLasts c.starts-starts.result l c.in_ok-sessions.sessions.items) (sym c.new.ensures.items)
-    (subst (λ (xs : List Session). AreLasts c.starts-starts.result [] xs) (sym fresh) (fresh_lasts c.starts-starts.result c.args.sessions))
+    let many : ℕ = length c.args.sessions.items in
+    subst (λ (l : List Request). AreLasts c.starts-starts.result l c.args.sessions.items) (sym c.new.ensures.items)
+    (subst (λ (xs : List Session). AreLasts c.starts-starts.result [] xs) (sym c.requires.fresh) (fresh_lasts c.starts-starts.result many))
 
 pub invariant_of-result-clause-behind : goal.invariant_of-result-clause-behind
 invariant_of-result-clause-behind g c =

@@ -1,32 +1,26 @@
-use Rattle.std.proofs.Common.{◌≡◌, [], Bool, sym, ap, ◌∙◌, subst}
-use Rattle.checkpoint.specs.StoreWords.{state_of, view_of, disk_of, is_down, stands_now}
-use Rattle.recovery.specs.State.{State}
+use Rattle.std.proofs.Common.{◌≡◌, ◌≤◌, ℕ, List, length, replicate, sym, ap, ◌∙◌, subst}
+use Rattle.std.proofs.lemmas.List.{length-replicate}
+use Rattle.checkpoint.specs.StoreWords.{state_of, is_down}
 use Rattle.group_commit.specs.DeskWords.{store_of}
-use Rattle.histories.specs.History.{Lists, begun as opened}
-use Rattle.histories.specs.Runs.{IsRun}
-use Rattle.event_runs.specs.Machines.{Machine}
-use Rattle.listed_runs.specs.Lives.{history_of}
-use Rattle.listed_runs.specs.Listed.{IsListed}
-use Rattle.packet_ways.specs.Ways.{AreOnWay}
-use Rattle.interleave.specs.WorldWords.{lists_of, world_view}
+use Rattle.event_runs.specs.declared.session.Session.{Session}
+use Rattle.event_runs.specs.Machines.{fresh_session, begun}
 use Rattle.interleave.proofs.world.World.new.Goals as goal
 
-pub returns-clause-listed : goal.returns-clause-listed
-returns-clause-listed g c =
-    let store = store_of c.args.desk in
-    subst (λ (m : Machine). IsListed (state_of store) m) (sym c.in_ok-world.ensures.machine)
-    (c.lists_law.ensures.begins (state_of store) c.args.capacity c.args.sessions (is_down store) c.fresh.ensures.wide c.requires.sessions.1)
+many : (xs : List Session) (n : ℕ) → xs ≡ replicate n fresh_session → length xs ≡ n
+many xs n e = ap length e ∙ length-replicate n fresh_session
 
-pub returns-clause-on_way : goal.returns-clause-on_way
-returns-clause-on_way g c =
-    let store = store_of c.args.desk in
-    subst (λ (m : Machine). AreOnWay m) (sym c.in_ok-world.ensures.machine) (c.ways_law.ensures.begun c.args.capacity c.args.sessions (state_of store) (is_down store))
+pub with_sessions-requires-clause-sessions : goal.with_sessions-requires-clause-sessions
+with_sessions-requires-clause-sessions g c =
+    let n : length c.in_ok-sessions.sessions.items ≡ c.args.sessions = many c.in_ok-sessions.sessions.items c.args.sessions c.in_ok-sessions.ensures in
+    subst (λ (k : ℕ). (1 ≤ k) × (k ≤ 64)) (sym n) c.requires.sessions
 
-pub returns-clause-run : goal.returns-clause-run
-returns-clause-run g c model up =
-    let store = store_of c.args.desk in
-    let s : State = state_of store in
-    let w = c.in_ok-world.world in
-    let base : IsRun s (view_of store) (opened s) [] = c.history_law.ensures.begins s (disk_of store) (stands_now store model up) in
-    let lists : lists_of w ≡ opened s = ap history_of c.in_ok-world.ensures.machine ∙ ap (λ (d : Bool). record (opened s) { down = d }) up in
-    subst (λ (l : Lists). IsRun s (world_view w) l []) (sym lists) (subst (λ d. IsRun s (view_of (store_of d)) (opened s) []) (sym c.in_ok-world.ensures.desk) base)
+pub with_sessions-requires-clause-fresh : goal.with_sessions-requires-clause-fresh
+with_sessions-requires-clause-fresh g c =
+    let xs : List Session = c.in_ok-sessions.sessions.items in
+    let n : length xs ≡ c.args.sessions = many xs c.args.sessions c.in_ok-sessions.ensures in
+    c.in_ok-sessions.ensures ∙ ap (λ (k : ℕ). replicate k fresh_session) (sym n)
+
+pub returns-clause-machine : goal.returns-clause-machine
+returns-clause-machine g c =
+    let n : length c.in_ok-sessions.sessions.items ≡ c.args.sessions = many c.in_ok-sessions.sessions.items c.args.sessions c.in_ok-sessions.ensures in
+    c.with_sessions.ensures.machine ∙ ap (λ (k : ℕ). begun c.args.capacity k (state_of (store_of c.args.desk)) (is_down (store_of c.args.desk))) n

@@ -1,0 +1,32 @@
+use Rattle.std.proofs.Common.{◌≡◌, [], length, Bool, sym, ap, ◌∙◌, subst}
+use Rattle.checkpoint.specs.StoreWords.{state_of, view_of, disk_of, is_down, stands_now}
+use Rattle.recovery.specs.State.{State}
+use Rattle.group_commit.specs.DeskWords.{store_of}
+use Rattle.histories.specs.History.{Lists, begun as opened}
+use Rattle.histories.specs.Runs.{IsRun}
+use Rattle.event_runs.specs.Machines.{Machine}
+use Rattle.listed_runs.specs.Lives.{history_of}
+use Rattle.listed_runs.specs.Listed.{IsListed}
+use Rattle.packet_ways.specs.Ways.{AreOnWay}
+use Rattle.interleave.specs.WorldWords.{lists_of, world_view}
+use Rattle.interleave.proofs.world.World.with_sessions.Goals as goal
+
+pub returns-clause-listed : goal.returns-clause-listed
+returns-clause-listed g c =
+    let store = store_of c.args.desk in
+    subst (λ (m : Machine). IsListed (state_of store) m) (sym c.fresh.ensures.machine)
+    (c.lists_law.ensures.begins (state_of store) c.args.capacity (length c.args.sessions.items) (is_down store) c.fresh.ensures.wide c.requires.sessions.1)
+
+pub returns-clause-on_way : goal.returns-clause-on_way
+returns-clause-on_way g c =
+    let store = store_of c.args.desk in
+    subst (λ (m : Machine). AreOnWay m) (sym c.fresh.ensures.machine) (c.ways_law.ensures.begun c.args.capacity (length c.args.sessions.items) (state_of store) (is_down store))
+
+pub returns-clause-run : goal.returns-clause-run
+returns-clause-run g c model up =
+    let store = store_of c.args.desk in
+    let s : State = state_of store in
+    let w = c.fresh.result in
+    let base : IsRun s (view_of store) (opened s) [] = c.history_law.ensures.begins s (disk_of store) (stands_now store model up) in
+    let lists : lists_of w ≡ opened s = ap history_of c.fresh.ensures.machine ∙ ap (λ (d : Bool). record (opened s) { down = d }) up in
+    subst (λ (l : Lists). IsRun s (world_view w) l []) (sym lists) (subst (λ d. IsRun s (view_of (store_of d)) (opened s) []) (sym c.fresh.ensures.desk) base)

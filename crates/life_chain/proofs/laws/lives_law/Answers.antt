@@ -1,0 +1,11 @@
+use Rattle.life_chain.specs.Words.{IsLeftByWord, any_word}
+use Rattle.life_chain.proofs.ChainLemmas.{are_one, are_next}
+use Rattle.life_chain.proofs.laws.lives_law.Goals as goal
+
+pub returns : goal.returns
+returns g c = record {
+  one = are_one g.D.Disk any_word;
+  next = are_next g.D.Disk any_word c.tickets_law.ensures.life c.exactly_once_laws.ensures.exactly_once c.standing_law.ensures;
+  one_in_memory = are_one _ IsLeftByWord;
+  next_in_memory = are_next _ IsLeftByWord c.tickets_law.ensures.life c.exactly_once_laws.ensures.exactly_once c.standing_law.ensures;
+}
