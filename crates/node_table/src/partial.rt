@@ -124,10 +124,11 @@ fn append_at(
     append(&mut lists[at], &mut next[at])
 }
 
-/// Puts the second list behind the first.
+/// Puts the second list behind the first, with no more room than both take.
 fn append(list: &mut Vec<Entry>, more: &mut Vec<Entry>) -> Result<(), AllocError>
     ensures { OnOk result (list.new.items ≡ list.old.items ++ more.old.items) }
 {
+    list.reserve_exact(more.len())?;
     list.append(more)
 }
 

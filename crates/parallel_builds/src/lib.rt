@@ -5,7 +5,8 @@
 //! be made, the caller builds that range itself.
 //!
 //! The contract that the layers above use is that of [`scheme_in_threads`]: clause by clause that of [`node_table::build`]. The
-//! tables are the same, whatever the number of workers (a test holds it).
+//! tables are the same, whatever the number of workers (a test holds it). [`scheme_of_in_threads`] takes landmark words, and
+//! promises what [`built_schemes::scheme_of`] does.
 //!
 //! [`workers_for`] says how many workers pay.
 //!
@@ -19,5 +20,5 @@ mod ranges;
 mod scheme;
 mod workers;
 
-pub use scheme::scheme_in_threads;
+pub use scheme::{scheme_in_threads, scheme_of_in_threads};
 pub use workers::{LEAST_SHARED, MOST_WORKERS, workers_for};

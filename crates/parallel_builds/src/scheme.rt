@@ -1,5 +1,6 @@
 // A scheme out of a graph, built in several threads.
 ghost use Rattle.std.specs.Prelude.{◌≡◌, ◌↔◌, ℕ, IsSome, IfOk, length};
+ghost use Rattle.built_schemes.specs.Schemes.{IsSchemeOf};
 ghost use Rattle.node_table.specs.Checks.{IsChecked};
 ghost use Rattle.node_table.specs.Laws.{IsInTree, NearestIsRight};
 ghost use Rattle.node_table.specs.Service.{Serves};
@@ -7,6 +8,7 @@ ghost use Rattle.node_table.specs.Tables.{tables};
 
 use crate::ranges::build_ranges;
 use crate::workers::at_most;
+use built_schemes::first_words;
 use distances::from_landmarks;
 use graph_edits::Graph;
 use landmarks::Landmarks;
@@ -39,4 +41,23 @@ pub fn scheme_in_threads<R: Threads + Sync>(
     let whole = build_ranges(rt, alloc, graph, landmarks, &nearest, generation, size)?;
     let scheme = whole.finish(alloc, graph)?;
     Ok(scheme)
+}
+
+/// The scheme of a graph with the landmarks that these words give, as [`built_schemes::scheme_of`] builds it, by so many
+/// workers. Of the words the first count, one for each node, and for each that is missing the greatest. An `Err` means that
+/// memory was refused, to any of them.
+pub fn scheme_of_in_threads<R: Threads + Sync>(
+    rt: &R,
+    alloc: Global,
+    graph: &Graph,
+    words: &[u64],
+    generation: u64,
+    workers: u16,
+) -> Result<Scheme, AllocError>
+    ensures { IfOk result (λ scheme. IsSchemeOf graph.now words.now generation scheme) }
+{
+    let nodes = graph.nodes() as usize;
+    let first = first_words(alloc, words, nodes)?;
+    let landmarks = Landmarks::choose(alloc, nodes, &first)?;
+    scheme_in_threads(rt, alloc, graph, &landmarks, generation, workers)
 }

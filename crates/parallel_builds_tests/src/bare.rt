@@ -1,6 +1,7 @@
 // Networks with hardly anything in them, and how many workers pay.
-use crate::helpers::{Edge, built, expect_same, graph_of, landmarks_at};
-use parallel_builds::workers_for;
+use crate::helpers::{Edge, built, expect_same, got, graph_of, landmarks_at};
+use built_schemes::scheme_of;
+use parallel_builds::{scheme_of_in_threads, workers_for};
 use std::alloc::Global;
 use std::process::Abort;
 use std::thread::Threads;
@@ -73,4 +74,15 @@ fn says_how_many_workers_pay(rt: HostRuntime) {
             "{nodes} {processors}"
         );
     }
+}
+
+#[test]
+fn builds_by_landmark_words(rt: HostRuntime) {
+    let alloc = rt.alloc();
+    let path: [Edge; 4] = [(0, 1, 1), (1, 2, 1), (2, 3, 1), (3, 4, 1)];
+    let words = [u64::MAX, 0];
+    let graph = graph_of(&rt, alloc, 5, &path);
+    let want = got(&rt, scheme_of(alloc, &graph, &words, 7, alloc));
+    let found = got(&rt, scheme_of_in_threads(&rt, alloc, &graph, &words, 7, 3));
+    assert!(&rt; found.parts() == want.parts());
 }
