@@ -2,6 +2,7 @@
 ghost use Rattle.std.specs.Prelude.{Some};
 ghost use Rattle.certificate.specs.Faults.{fault_text};
 
+use std::error::Error;
 use std::fmt;
 
 /// The first rule that a scheme breaks, in the order in which they are tested. It is shown as `K1` to `K8`.
@@ -44,3 +45,5 @@ impl fmt::Display for Fault {
         })
     }
 }
+
+impl Error for Fault {}

@@ -1,17 +1,17 @@
 -- What an append leaves of a store.
 use Rattle.std.proofs.Common.{◌≡◌, ◌⊎◌, inl, inr, ⊎_elim, ℕ, ◌+◌, ◌<◌, ◌≤◌, List, [], ◌∷◌, ◌++◌, sym, ◌∙◌, subst, arith, Some}
-use Rattle.recovery.specs.Records.{Entry}
+use Rattle.layout_2.specs.Records.{Entry}
 use Rattle.journal.specs.declared.area.Area.{Area}
 use Rattle.journal.specs.JournalView.{JournalView}
 use Rattle.disk_trait.specs.Disk.{DiskView, MayLeave}
-use Rattle.recovery.specs.Records.{AllSpell, IsBeforeOrAfter}
+use Rattle.layout_2.specs.Records.{AllSpell, IsBeforeOrAfter}
 use Rattle.journal.specs.Records.{entries_of}
-use Rattle.recovery.specs.Layout.{worn_limit, slot_start, journal_of, journal_room, journal_start}
-use Rattle.recovery_parts.specs.Heads.{other}
-use Rattle.recovery.specs.State.{State, after, AreInTurn}
-use Rattle.recovery.specs.Standing.{StandsBy, StandsFor}
+use Rattle.layout_2.specs.Layout.{worn_limit, slot_start, journal_of, journal_room, journal_start}
+use Rattle.layout_parts.specs.Heads.{other}
+use Rattle.layout_2.specs.State.{State, after, AreInTurn}
+use Rattle.layout_2.specs.Standing.{StandsBy, StandsFor}
 use Rattle.checkpoint.specs.Kept.{IsKept}
-use Rattle.recovery.proofs.Folds.{after-push}
+use Rattle.layout_2.proofs.Folds.{after-push}
 use Rattle.checkpoint.proofs.Turns.{in_turn_push}
 use Rattle.checkpoint.proofs.TornSlots.{apart, byte_apart, away, moved}
 

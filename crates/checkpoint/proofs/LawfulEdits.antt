@@ -4,7 +4,7 @@ use Rattle.std.specs.Prelude.{Result, Ok, Err, is_some}
 use Rattle.std.specs.Option.{option_map}
 use Rattle.std.specs.FinMap.{get, insert, remove, len, len-entries, get-insert, get-remove}
 use Rattle.std.proofs.lemmas.Bool.Decides.{nat_tests}
-use Rattle.recovery.specs.Records.{Entry}
+use Rattle.layout_2.specs.Records.{Entry}
 use Rattle.requests.specs.Tickets.{tickets_after}
 use Rattle.graph_edits.specs.declared.edits.Op.{Op}
 use Rattle.graph_edits.specs.declared.edits.Op.TheVariants.{Add, Set, Cut}
@@ -14,9 +14,9 @@ use Rattle.graph_edits.specs.Changes.{fold, edges_after, edges_after_op, refusal
 use Rattle.graph_edits.proofs.EdgesOfRows.{pair_total, pair_same}
 use Rattle.graph_edits.proofs.Ops.{HasEnds, add_passed, set_passed}
 use Rattle.graph_edits.proofs.Applied.{count_fits, count_step, count_few}
-use Rattle.recovery.specs.State.{State, state_with, changes_of, asked, after, IsLawful}
-use Rattle.recovery_parts.specs.EdgeTexts.{IsEdge}
-use Rattle.recovery_parts.proofs.Results.{some_is, ok_is}
+use Rattle.layout_2.specs.State.{State, state_with, changes_of, asked, after, IsLawful}
+use Rattle.layout_parts.specs.EdgeTexts.{IsEdge}
+use Rattle.layout_parts.proofs.Results.{some_is, ok_is}
 
 -- the edges of a network of so many nodes
 abbrev Edges : ℕ → EdgeMap → Type 0

@@ -7,23 +7,23 @@ use Rattle.std.proofs.lemmas.Bool.{cases_eq}
 use Rattle.std.specs.Option.{option_map}
 use Rattle.graph_edits.specs.Edges.{Network}
 use Rattle.graph_edits.specs.Changes.{fold}
-use Rattle.recovery.specs.Records.{Entry}
+use Rattle.layout_2.specs.Records.{Entry}
 use Rattle.journal.specs.Records.{entries_of}
 use Rattle.disk_trait.specs.Disk.{DiskView, MayLeave, LeavesOnly, weaker, joined, Torn, HasTextBehind, IsPublishing, IsPublished, bytes_at}
 use Rattle.disk_trait.specs.Places.{above, byte_below, byte_of, below}
 use Rattle.checkpoint.specs.Kept.{IsKept}
-use Rattle.recovery.specs.InUse.{IsInUse}
-use Rattle.recovery.specs.Layout.{worn_limit, checkpoint_room, slot_start, epoch_at, header, journal_start}
-use Rattle.recovery_parts.specs.Heads.{other}
+use Rattle.layout_2.specs.InUse.{IsInUse}
+use Rattle.layout_2.specs.Layout.{worn_limit, checkpoint_room, slot_start, epoch_at, header, journal_start}
+use Rattle.layout_parts.specs.Heads.{other}
 use Rattle.requests.specs.Tickets.{sessions, tickets_after}
-use Rattle.recovery.specs.State.{State, state_with, changes_of, asked, checkpoint_text, after, IsLawful, AreInTurn, AreTickets}
-use Rattle.recovery.specs.Standing.{StandsBy, StandsFor}
+use Rattle.layout_2.specs.State.{State, state_with, changes_of, asked, checkpoint_text, after, IsLawful, AreInTurn, AreTickets}
+use Rattle.layout_2.specs.Standing.{StandsBy, StandsFor}
 use Rattle.checkpoint.specs.Rolling.{area_text, padding, IsClosing}
 use Rattle.checkpoint.proofs.LawfulEdits.{lawful_after}
 use Rattle.checkpoint.proofs.Turns.{sound_after}
-use Rattle.recovery.proofs.Texts.{text_fits, length_text}
-use Rattle.recovery.proofs.Folds.{after-nil, nodes_fold}
-use Rattle.recovery_parts.proofs.Results.{some_is}
+use Rattle.layout_2.proofs.Texts.{text_fits, length_text}
+use Rattle.layout_2.proofs.Folds.{after-nil, nodes_fold}
+use Rattle.layout_parts.proofs.Results.{some_is}
 use Rattle.checkpoint.proofs.TornSlots.{apart, slots_apart, stays}
 
 -- requests keep the number of nodes

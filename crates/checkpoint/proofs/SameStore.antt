@@ -3,8 +3,8 @@ use std.HLevel.{prop→path_p}
 use Rattle.std.proofs.Common.{◌≡◌, ◌<◌, ◌≤◌, length, false, IsTrue}
 use Rattle.std.specs.Coded.{Coded-set}
 use Rattle.graph_edits.specs.Edges.{network_code}
-use Rattle.recovery.specs.Layout.{worn_limit, device_len, journal_room, journal_start}
-use Rattle.recovery.specs.State.{state_with}
+use Rattle.layout_2.specs.Layout.{worn_limit, device_len, journal_room, journal_start}
+use Rattle.layout_2.specs.State.{state_with}
 use Rattle.checkpoint.specs.Kept.{IsKept, kept_props}
 use Rattle.checkpoint.specs.declared.store.Store.{Store}
 

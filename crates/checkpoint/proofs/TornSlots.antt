@@ -2,12 +2,12 @@
 use Rattle.std.proofs.Common.{◌≡◌, ◌⊎◌, inl, inr, ℕ, zero, suc, ◌+◌, ◌<◌, ◌≤◌, List, length, get_or, sym, ◌∙◌, arith}
 use Rattle.disk_trait.specs.Disk.{Torn, bytes_at}
 use Rattle.disk_trait.specs.Places.{below, above, byte_below, byte_above}
-use Rattle.recovery.specs.Records.{Entry, Spells, still_spells}
-use Rattle.recovery.specs.Layout.{slot_start, journal_of, epoch_at, journal_room, journal_start, slot_room}
-use Rattle.recovery_parts.specs.Heads.{other}
-use Rattle.recovery.specs.State.{State, checkpoint_text}
-use Rattle.recovery.specs.Standing.{StandsBy}
-use Rattle.recovery.proofs.Texts.{text_fits}
+use Rattle.layout_2.specs.Records.{Entry, Spells, still_spells}
+use Rattle.layout_2.specs.Layout.{slot_start, journal_of, epoch_at, journal_room, journal_start, slot_room}
+use Rattle.layout_parts.specs.Heads.{other}
+use Rattle.layout_2.specs.State.{State, checkpoint_text}
+use Rattle.layout_2.specs.Standing.{StandsBy}
+use Rattle.layout_2.proofs.Texts.{text_fits}
 
 -- a range that another leaves alone
 abbrev pub Apart : ℕ → ℕ → ℕ → ℕ → Type 0

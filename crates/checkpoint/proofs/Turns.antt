@@ -9,10 +9,10 @@ use Rattle.graph_edits.specs.Changes.{fold}
 use Rattle.requests.specs.Tickets.{Rises, tickets_after, raise}
 use Rattle.requests.specs.Requests.{asked_by}
 use Rattle.requests.proofs.TicketLemmas.{rises_both, stays_wide}
-use Rattle.recovery.specs.Layout.{worn_limit}
-use Rattle.recovery.specs.Records.{Entry, entries_of}
-use Rattle.recovery.specs.State.{State, state_with, changes_of, asked, after, AreInTurn, AreTickets}
-use Rattle.recovery_parts.proofs.Results.{some_is}
+use Rattle.layout_2.specs.Layout.{worn_limit}
+use Rattle.layout_2.specs.Records.{Entry, entries_of}
+use Rattle.layout_2.specs.State.{State, state_with, changes_of, asked, after, AreInTurn, AreTickets}
+use Rattle.layout_parts.proofs.Results.{some_is}
 
 -- ---- the last tickets after requests
 

@@ -8,11 +8,11 @@ use Rattle.disk_trait.specs.Disk.{DiskView, MayLeave, IsSettled, LeavesOnly, wea
 use Rattle.disk_trait.specs.Places.{below, byte_above, byte_below, byte_of, wider}
 use Rattle.graph_edits.specs.Edges.{Network, IsSound, most_edges, weight_in}
 use Rattle.graph_edits.proofs.EdgeRows.{pair_in_order}
-use Rattle.recovery.specs.Layout.{worn_limit, checkpoint_room, device_len, header, journal_start, sessions, slot_room, slot_start, slots_start}
-use Rattle.recovery.specs.State.{State, checkpoint_text, IsEdge, IsLawful, AreTickets}
-use Rattle.recovery.specs.Standing.{StandsFor, StandsForNone}
-use Rattle.recovery.proofs.Texts.{text_fits}
-use Rattle.recovery.proofs.Folds.{after-nil}
+use Rattle.layout_2.specs.Layout.{worn_limit, checkpoint_room, device_len, header, journal_start, sessions, slot_room, slot_start, slots_start}
+use Rattle.layout_2.specs.State.{State, checkpoint_text, IsEdge, IsLawful, AreTickets}
+use Rattle.layout_2.specs.Standing.{StandsFor, StandsForNone}
+use Rattle.layout_2.proofs.Texts.{text_fits}
+use Rattle.layout_2.proofs.Folds.{after-nil}
 use Rattle.checkpoint.specs.Rolling.{area_text, padding}
 use Rattle.checkpoint.specs.Whole.{without_tickets, IsFreshWith, IsForeign, IsAllForeign, IsShut, IsWritten, IsWriting, StandsForNoneOr}
 

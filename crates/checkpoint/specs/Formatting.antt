@@ -1,8 +1,8 @@
 -- What a format writes.
 use Rattle.std.specs.Prelude.{ℕ, List, [], ◌∷◌}
 use Rattle.disk_trait.specs.Disk.{overwritten}
-use Rattle.recovery.specs.Layout.{header, journal_start, slot_start}
-use Rattle.recovery.specs.State.{first_state, checkpoint_text}
+use Rattle.layout_2.specs.Layout.{header, journal_start, slot_start}
+use Rattle.layout_2.specs.State.{first_state, checkpoint_text}
 
 -- the front of a slot: an open gate, and the checkpoint of epoch 1 with no changes, so many nodes, no edges and all tickets 0
 abbrev pub first_slot : ℕ → List ℕ

@@ -3,11 +3,11 @@ use Rattle.std.specs.Prelude.{◌≡◌, ◌<◌, ◌≤◌, ℕ, List, Some}
 use Rattle.std.proofs.Props.{props}
 use Rattle.disk_trait.specs.Disk.{DiskView, MayLeave}
 use Rattle.requests.proofs.TicketLemmas.{rises_prop}
-use Rattle.recovery.specs.Records.{Entry, entries_of}
-use Rattle.recovery.specs.InUse.{IsInUse}
-use Rattle.recovery.specs.Layout.{worn_limit}
-use Rattle.recovery.specs.Standing.{StandsFor}
-use Rattle.recovery.specs.State.{State, after, AreInTurn}
+use Rattle.layout_2.specs.Records.{Entry, entries_of}
+use Rattle.layout_2.specs.InUse.{IsInUse}
+use Rattle.layout_2.specs.Layout.{worn_limit}
+use Rattle.layout_2.specs.Standing.{StandsFor}
+use Rattle.layout_2.specs.State.{State, after, AreInTurn}
 
 -- each image that a crash now may leave stands for the state, by this slot
 pub record IsKept (disk : DiskView) (slot epoch other_gate : ℕ) (base state : State) (groups : List (List Entry)) : Type 0 where

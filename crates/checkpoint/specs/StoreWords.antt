@@ -1,13 +1,13 @@
 -- A store, as the crates above see it.
 use Rattle.std.specs.Prelude.{◌≡◌, ◌≤◌, ◌+◌, ℕ, List, [], ◌∷◌, ◌++◌, Bool, false, IsTrue}
 use Rattle.disk_trait.specs.Disk.{DiskView, MayLeave}
-use Rattle.recovery.specs.Records.{Entry, HasRoom, LacksRoom}
+use Rattle.layout_2.specs.Records.{Entry, HasRoom, LacksRoom}
 use Rattle.checkpoint.specs.declared.store.Store.{Store}
 use Rattle.checkpoint.specs.Kept.{kept_stands}
-use Rattle.recovery.specs.Layout.{worn_limit}
-use Rattle.recovery_parts.specs.Heads.{other}
-use Rattle.recovery.specs.State.{State, state_with}
-use Rattle.recovery.specs.Standing.{StandsFor}
+use Rattle.layout_2.specs.Layout.{worn_limit}
+use Rattle.layout_parts.specs.Heads.{other}
+use Rattle.layout_2.specs.State.{State, state_with}
+use Rattle.layout_2.specs.Standing.{StandsFor}
 
 -- the state that a store has
 abbrev pub state_of : {D : Type 0} {V : _} → Store D V → State

@@ -2,10 +2,10 @@
 use Rattle.std.specs.Prelude.{◌≡◌, ◌≢◌, ◌⊎◌, ◌+◌, ℕ, List, [], length, get_or, replicate}
 use Rattle.disk_trait.specs.Disk.{DiskView, MayLeave, bytes_at}
 use Rattle.graph_edits.specs.Edges.{Network}
-use Rattle.recovery.specs.Fronts.{HasThisVersion}
-use Rattle.recovery.specs.Layout.{checkpoint_room, device_len, header, sessions, slot_start}
-use Rattle.recovery.specs.State.{State, state_with}
-use Rattle.recovery.specs.Standing.{StandsBy, StandsFor, StandsForNone}
+use Rattle.layout_2.specs.Fronts.{HasThisVersion}
+use Rattle.layout_2.specs.Layout.{checkpoint_room, device_len, header, sessions, slot_start}
+use Rattle.layout_2.specs.State.{State, state_with}
+use Rattle.layout_2.specs.Standing.{StandsBy, StandsFor, StandsForNone}
 
 -- this count and this network, of which no change carried a ticket
 abbrev pub without_tickets : ℕ → Network → State

@@ -1,17 +1,17 @@
 //! Making a device ready.
 ghost use Rattle.std.specs.Prelude.{◌≡◌, ◌≢◌, ◌≤◌, ◌<◌, ◌+◌, ◌↔◌, ◌∷◌, ℕ, List, length, get_or, IsTrue, OnOk, OnErr, IsErr, IsErrOf};
 ghost use Rattle.disk_trait.specs.Disk.{MayLeave, AtMostCalls, IsSameDevice, IsSettled, Torn, overwritten, bytes_at};
-ghost use Rattle.recovery.specs.Layout.{device_len, most_nodes, edges_start, header, journal_start, slot_start};
-ghost use Rattle.recovery_parts.specs.Heads.{head_text};
-ghost use Rattle.recovery_parts.specs.Refusals.{header_len};
-ghost use Rattle.recovery.specs.State.{first_state};
-ghost use Rattle.recovery.specs.Standing.{StandsFor};
+ghost use Rattle.layout_2.specs.Layout.{device_len, most_nodes, edges_start, header, journal_start, slot_start};
+ghost use Rattle.layout_parts.specs.Heads.{head_text};
+ghost use Rattle.layout_parts.specs.Refusals.{header_len};
+ghost use Rattle.layout_2.specs.State.{first_state};
+ghost use Rattle.layout_2.specs.Standing.{StandsFor};
 ghost use Rattle.checkpoint.specs.Formatting.{first_slot, with_front, with_gates, formatted};
 
 use crate::refusals::FormatRefused;
 use byteorder::{BigEndian, ByteOrder};
 use disk_trait::{DeviceFault, Disk};
-use recovery::layout::{
+use layout_2::layout::{
     CHECKPOINT_ROOM, CLOSED_GATE, DEVICE_LEN, EDGES_START, FIRST_EPOCH, HEAD_LEN, HEADER_LEN,
     MAGIC, MOST_NODES, OPEN_GATE, SLOT_ROOM, SLOTS_START, VERSION,
 };

@@ -1,6 +1,6 @@
 //! A graph, a count of accepted changes and the last ticket of each session on a device, through crashes.
 //!
-//! What an image of a device stands for, and reading it, is the crate `recovery`, whose one definition is `StandsFor state image`: an
+//! What an image of a device stands for, and reading it, is the crate `layout_2`, whose one definition is `StandsFor state image`: an
 //! image stands for at most one state ([`standing_law`]). This crate writes. A device has two slots, each a checkpoint and a journal
 //! behind it; a group of requests goes behind the journal of the slot in use, and a roll fills the other slot and opens it last.
 //!
@@ -11,7 +11,7 @@
 //!   a crash comes, what it leaves stands for nothing or for the whole state.
 //! - [`Store::open`] gives the state that the content stands for, and writes nothing. NotFormatted, BadVersion or Damaged it says only
 //!   where the content stands for none, and of these the one that its front tells (`LacksMagic`, `HasOtherVersion` and `HasThisVersion`
-//!   of `recovery`'s specs/Fronts.antt, one of which holds).
+//!   of `layout_2`'s specs/Fronts.antt, one of which holds).
 //! - [`Store::commit`] takes a group of requests, each in turn: whenever a crash comes, what it leaves stands for the state of before, or for that with
 //!   all of the group added, and from Ok on for the latter alone (the law `stands_now` of specs/StoreWords.antt). Every refusal
 //!   but Device leaves the device as it was. NeedsRoll comes exactly where the journal has no room for the group, on a store that is up
@@ -36,7 +36,7 @@ mod store;
 mod whole;
 
 pub use formatting::format;
-pub use recovery::{DEVICE_LEN, OpenRefused, WORN_LIMIT, standing_law};
+pub use layout_2::{DEVICE_LEN, OpenRefused, WORN_LIMIT, standing_law};
 pub use refusals::{CommitRefused, FormatRefused, RollRefused};
 pub use store::Store;
 pub use whole::{WriteRefused, write_state};

@@ -3,11 +3,11 @@ ghost use Rattle.std.specs.Prelude.{◌≡◌, ◌≢◌, ◌≤◌, ◌<◌, �
 ghost use Rattle.std.specs.List.{flat_map};
 ghost use Rattle.std.specs.FinMap.{len};
 ghost use Rattle.disk_trait.specs.Disk.{AtMostCalls, IsSameDevice, MayLeave, LeavesOnly};
-ghost use Rattle.recovery.specs.Layout.{checkpoint_room};
-ghost use Rattle.recovery.specs.State.{state_with, tickets_text, IsLawful};
-ghost use Rattle.recovery_parts.specs.EdgeTexts.{edge_text, edges_text};
-ghost use Rattle.recovery_parts.specs.Heads.{head_text};
-ghost use Rattle.recovery.specs.Standing.{StandsFor};
+ghost use Rattle.layout_2.specs.Layout.{checkpoint_room};
+ghost use Rattle.layout_2.specs.State.{state_with, tickets_text, IsLawful};
+ghost use Rattle.layout_parts.specs.EdgeTexts.{edge_text, edges_text};
+ghost use Rattle.layout_parts.specs.Heads.{head_text};
+ghost use Rattle.layout_2.specs.Standing.{StandsFor};
 ghost use Rattle.checkpoint.specs.Rolling.{up_text, padding, area_text, IsClosing};
 
 use crate::refusals::RollRefused;
@@ -16,8 +16,8 @@ use byteorder::{BigEndian, ByteOrder};
 use disk_trait::{DeviceFault, Disk, close, publish};
 use graph_edits::Graph;
 use journal::Journal;
-use recovery::journal_area;
-use recovery::layout::{CHECKPOINT_ROOM, HEAD_LEN, OPEN_GATE, SLOT_ROOM, SLOTS_START, WORN_LIMIT};
+use layout_2::journal_area;
+use layout_2::layout::{CHECKPOINT_ROOM, HEAD_LEN, OPEN_GATE, SLOT_ROOM, SLOTS_START, WORN_LIMIT};
 use requests::SESSIONS;
 use std::alloc::{AllocError, Global};
 use std::snapshot::Snapshot;

@@ -4,19 +4,19 @@ ghost use Rattle.disk_trait.specs.Disk.{AtMostCalls, IsSameDevice, LeavesOnly, O
 ghost use Rattle.graph_edits.specs.Changes.{fold};
 ghost use Rattle.journal.specs.Layout.{most_entries};
 ghost use Rattle.requests.specs.Tickets.{sessions, last_of, tickets_after};
-ghost use Rattle.recovery.specs.Layout.{worn_limit, device_len, journal_room, journal_start, slot_start};
-ghost use Rattle.recovery.specs.State.{State, state_with, changes_of, asked, after, AreInTurn};
-ghost use Rattle.recovery.specs.Standing.{StandsFor, StandsForNone};
-ghost use Rattle.recovery_parts.specs.Refusals.{LacksMagic};
-ghost use Rattle.recovery.specs.Fronts.{HasOtherVersion, HasThisVersion};
-ghost use Rattle.recovery_parts.specs.Refusals.{IsFormatFault, IsNoDeviceFault};
+ghost use Rattle.layout_2.specs.Layout.{worn_limit, device_len, journal_room, journal_start, slot_start};
+ghost use Rattle.layout_2.specs.State.{State, state_with, changes_of, asked, after, AreInTurn};
+ghost use Rattle.layout_2.specs.Standing.{StandsFor, StandsForNone};
+ghost use Rattle.layout_parts.specs.Refusals.{LacksMagic};
+ghost use Rattle.layout_2.specs.Fronts.{HasOtherVersion, HasThisVersion};
+ghost use Rattle.layout_parts.specs.Refusals.{IsFormatFault, IsNoDeviceFault};
 ghost use Rattle.checkpoint.specs.Kept.{IsKept, kept_props};
 
 use crate::refusals::CommitRefused;
 use disk_trait::{CrashDisk, Disk, Plan};
 use graph_edits::{Graph, Prepared};
 use journal::{AppendRefused, Journal};
-use recovery::{OpenRefused, WORN_LIMIT, load};
+use layout_2::{OpenRefused, WORN_LIMIT, load};
 use requests::{Request, SESSIONS};
 use std::alloc::{AllocError, Global};
 use std::snapshot::Snapshot;

@@ -1,24 +1,27 @@
 //! Writing a whole state at once: a count and a network, as a fresh device holds them.
 ghost use Rattle.std.specs.Prelude.{◌≡◌, ◌≤◌, ◌<◌, ◌+◌, ◌↔◌, ℕ, List, length, get_or, IsTrue, OnOk, OnErr, IsErrOf};
 ghost use Rattle.disk_trait.specs.Disk.{MayLeave, AtMostCalls, IsSameDevice, IsSettled, LeavesOnly, IsTornFrom, bytes_at};
-ghost use Rattle.recovery.specs.Layout.{checkpoint_room, device_len, slot_room, slot_start, slots_start, worn_limit};
-ghost use Rattle.recovery.specs.Standing.{StandsFor};
+ghost use Rattle.layout_2.specs.Layout.{checkpoint_room, device_len, slot_room, slot_start, slots_start, worn_limit};
+ghost use Rattle.layout_2.specs.Standing.{StandsFor};
 ghost use Rattle.checkpoint.specs.Whole.{without_tickets, IsAllForeign, IsFreshWith, IsShut, IsWriting, IsWritten, StandsForNoneOr};
 
 use crate::formatting::header_of;
 use crate::roll::text_of;
 use disk_trait::{DeviceFault, Disk, close, publish};
 use graph_edits::Graph;
-use recovery::layout::{FIRST_EPOCH, SLOT_ROOM, SLOTS_START};
+use layout_2::layout::{FIRST_EPOCH, SLOT_ROOM, SLOTS_START};
 use requests::SESSIONS;
 use std::alloc::Global;
+use thiserror::Error;
 
 /// Why a state isn't written. Tested in the order Memory, Device.
-#[derive(Clone, Copy, Debug, PartialEq, Eq, Drop)]
+#[derive(Clone, Copy, Debug, PartialEq, Eq, Drop, Error)]
 pub enum WriteRefused {
     /// A call of the device failed.
+    #[error("a call of the device failed")]
     Device = 2,
     /// Memory ran out before anything was written.
+    #[error("out of memory")]
     Memory = 3,
 }
 

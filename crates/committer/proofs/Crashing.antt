@@ -5,8 +5,8 @@ use Rattle.disk_trait.specs.Disk.{IsSameDevice, LeavesOnly, started}
 use Rattle.requests.specs.declared.request.Request.{Request}
 use Rattle.checkpoint.specs.declared.store.Store.{Store}
 use Rattle.checkpoint.specs.StoreWords.{state_of, view_of, is_down, stands_now}
-use Rattle.recovery.specs.Standing.{StandsFor}
-use Rattle.recovery.specs.State.{State}
+use Rattle.layout_2.specs.Standing.{StandsFor}
+use Rattle.layout_2.specs.State.{State}
 use Rattle.group_commit.specs.Settling.{settle}
 use Rattle.committer.specs.Crashes.{StandsForEither, LeavesGroupWhole}
 

@@ -5,7 +5,7 @@ use Rattle.requests.specs.Tickets.{worn_limit, raise, tickets_after, Rises}
 use Rattle.requests.specs.Requests.{asked_by}
 use Rattle.requests.specs.declared.request.Request.{Request}
 use Rattle.requests.proofs.TicketLemmas.{after_append, rises_rest}
-use Rattle.recovery.specs.State.{asked, IsNext}
+use Rattle.layout_2.specs.State.{asked, IsNext}
 use Rattle.generations.specs.declared.posting.Mark.{Mark}
 use Rattle.generations.specs.declared.posting.Verdict.{Verdict}
 use Rattle.generations.specs.declared.posting.Verdict.TheVariants.{Accepted, Refused}

@@ -1,6 +1,6 @@
 -- What an outbox has in all, once it was paid or told.
 use Rattle.std.proofs.Common.{◌≡◌, ◌≢◌, Some, ℕ, Bool, true, false, MatchBool, List, [], ◌∷◌, ◌++◌, Option, None, refl, ap, sym, ◌∙◌, subst, append-nil}
-use Rattle.recovery.specs.State.{State, asked}
+use Rattle.layout_2.specs.State.{State, asked}
 use Rattle.requests.specs.Tickets.{Rises}
 use Rattle.requests.specs.declared.request.Request.{Request}
 use Rattle.node_table.specs.declared.parts.Parts.{Parts}

@@ -2,7 +2,7 @@
 use Rattle.std.proofs.Common.{◌≡◌, ◌⊎◌, ℕ, Bool, List, Option, Some, None, Result, Ok, Err, refl, ap, sym, ◌∙◌, subst, inl, inr, ⊎_elim}
 use Rattle.std.specs.Prelude.{OnOk}
 use Rattle.std.specs.Option.{option_map}
-use Rattle.recovery.specs.State.{State}
+use Rattle.layout_2.specs.State.{State}
 use Rattle.requests.specs.declared.request.Request.{Request}
 use Rattle.graph_edits.specs.Edges.{Network}
 use Rattle.node_table.specs.declared.parts.Parts.{Parts}
@@ -12,7 +12,7 @@ use Rattle.generations.specs.declared.posting.Notice.{Notice}
 use Rattle.generations.specs.declared.posting.Notice.TheVariants.{Built}
 use Rattle.generations.specs.Beginnings.{Opening}
 use Rattle.generations.specs.Notices.{newest_in}
-use Rattle.built_schemes.specs.Schemes.{IsSchemeOf}
+use Rattle.scheme_builds.specs.Schemes.{IsSchemeOf}
 use Rattle.committer.specs.Outboxes.{Outgoing, paid, with_posted, with_due}
 use Rattle.committer.specs.Ties.{IsTied}
 use Rattle.committer.specs.Rebuilds.{IsBuilt, IsOwed, IsServed}

@@ -1,7 +1,7 @@
 -- What a list of marks and a state have to do with a group, so that the one may be told and the other be stored.
 use Rattle.std.proofs.Common.{◌≡◌, ℕ, ◌+◌, List, map, fold}
 use Rattle.std.specs.List.{range_with_len}
-use Rattle.recovery.specs.State.{State, asked}
+use Rattle.layout_2.specs.State.{State, asked}
 use Rattle.requests.specs.declared.request.Request.{Request}
 use Rattle.generations.specs.declared.posting.Mark.{Mark}
 use Rattle.generations.specs.Notices.{told_to, counts_of}

@@ -1,11 +1,11 @@
 -- What a settling tells and stores.
 use Rattle.std.proofs.Common.{◌≡◌, ℕ, List, [], ◌∷◌, length, map, fold, Option, Some, refl, ap, sym, ◌∙◌, subst}
-use Rattle.recovery.specs.State.{State, asked}
+use Rattle.layout_2.specs.State.{State, asked}
 use Rattle.graph_edits.specs.Changes.{fold as fold_changes}
 use Rattle.requests.specs.Requests.{asked_by}
 use Rattle.requests.specs.Tickets.{raise, tickets_after}
 use Rattle.requests.specs.declared.request.Request.{Request}
-use Rattle.recovery.specs.State.{changes_of}
+use Rattle.layout_2.specs.State.{changes_of}
 use Rattle.generations.specs.declared.posting.Mark.{Mark}
 use Rattle.generations.specs.declared.posting.Verdict.{Verdict}
 use Rattle.generations.specs.declared.posting.Verdict.TheVariants.{Accepted, Refused}

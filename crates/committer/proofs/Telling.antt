@@ -7,7 +7,7 @@ use Rattle.generations.specs.Lawful.{AreCounted}
 use Rattle.generations.proofs.Lawfulness.{marks_append, counts_append}
 use Rattle.committer.specs.Outboxes.{Outgoing, all_of}
 use Rattle.requests.specs.declared.request.Request.{Request}
-use Rattle.recovery.specs.State.{State}
+use Rattle.layout_2.specs.State.{State}
 use Rattle.committer.specs.Ties.{IsTied}
 use Rattle.committer.specs.Rounds.{TellsUpTo}
 

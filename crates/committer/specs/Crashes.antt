@@ -2,8 +2,8 @@
 use Rattle.std.specs.Prelude.{◌⊎◌, ℕ, List}
 use Rattle.disk_trait.specs.Disk.{MayLeave}
 use Rattle.requests.specs.declared.request.Request.{Request}
-use Rattle.recovery.specs.State.{State}
-use Rattle.recovery.specs.Standing.{StandsFor}
+use Rattle.layout_2.specs.State.{State}
+use Rattle.layout_2.specs.Standing.{StandsFor}
 use Rattle.checkpoint.specs.declared.store.Store.{Store}
 use Rattle.checkpoint.specs.StoreWords.{state_of, view_of}
 use Rattle.group_commit.specs.Settling.{settle}

@@ -1,14 +1,14 @@
 -- What a rebuild posts.
 use Rattle.std.specs.Prelude.{ℕ, ◌≡◌, List, Some}
 use Rattle.std.specs.Option.{option_map}
-use Rattle.recovery.specs.State.{State}
+use Rattle.layout_2.specs.State.{State}
 use Rattle.node_table.specs.declared.parts.Parts.{Parts}
 use Rattle.node_table.specs.Tables.{tables}
 use Rattle.node_table.specs.Service.{Serves}
 use Rattle.generations.specs.declared.posting.Notice.{Notice}
 use Rattle.generations.specs.declared.posting.Notice.TheVariants.{Built}
 use Rattle.generations.specs.Notices.{newest_in}
-use Rattle.built_schemes.specs.Schemes.{IsSchemeOf}
+use Rattle.scheme_builds.specs.Schemes.{IsSchemeOf}
 use Rattle.committer.specs.Outboxes.{Outgoing, paid, with_posted, with_due}
 
 -- what was due is posted, and then a generation of the state, built by these words

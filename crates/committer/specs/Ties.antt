@@ -1,7 +1,7 @@
 -- How what a committer took, what it holds, what it posted and the state of its store go together.
 use Rattle.std.specs.Prelude.{ℕ, ◌≡◌, ◌+◌, ◌≤◌, ◌++◌, Bool, List, length, map, fold, Option, Some}
 use Rattle.std.specs.Option.{option_map}
-use Rattle.recovery.specs.State.{State, asked}
+use Rattle.layout_2.specs.State.{State, asked}
 use Rattle.node_table.specs.declared.parts.Parts.{Parts}
 use Rattle.node_table.specs.Tables.{tables}
 use Rattle.node_table.specs.Service.{Serves}

@@ -2,7 +2,7 @@
 use Rattle.std.specs.Prelude.{ℕ, List}
 use Rattle.requests.specs.Tickets.{tickets_after}
 use Rattle.requests.specs.declared.request.Request.{Request}
-use Rattle.recovery.specs.State.{asked}
+use Rattle.layout_2.specs.State.{asked}
 use Rattle.group_commit.specs.Turns.{AreBehind}
 
 -- with the tickets that are held, those of a store are no later than those of all that was taken

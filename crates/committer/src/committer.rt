@@ -4,8 +4,8 @@ ghost use Rattle.std.specs.Arc.{arc_value};
 ghost use Rattle.disk_trait.specs.Disk.{IsSameDevice, LeavesOnly};
 ghost use Rattle.requests.specs.Tickets.{Rises};
 ghost use Rattle.requests.specs.declared.request.Request.{Request};
-ghost use Rattle.recovery.specs.State.{asked as asked_all};
-ghost use Rattle.recovery.specs.Standing.{StandsFor};
+ghost use Rattle.layout_2.specs.State.{asked as asked_all};
+ghost use Rattle.layout_2.specs.Standing.{StandsFor};
 ghost use Rattle.checkpoint.specs.Kept.{kept_props};
 ghost use Rattle.checkpoint.specs.StoreWords.{state_of, nodes_of, view_of, is_down};
 ghost use Rattle.node_table.specs.Tables.{tables};
@@ -13,7 +13,7 @@ ghost use Rattle.node_table.specs.Service.{Serves};
 ghost use Rattle.generations.specs.declared.posting.Notice.TheVariants.{Marked, Failed, Built};
 ghost use Rattle.intake.specs.Turns.{of, last_asked};
 ghost use Rattle.intake.specs.Ends.{HasTaken};
-ghost use Rattle.built_schemes.specs.Schemes.{IsSchemeOf};
+ghost use Rattle.scheme_builds.specs.Schemes.{IsSchemeOf};
 ghost use Rattle.group_commit.specs.DeskWords.{store_of as desk_store, held_of as desk_held, due_of as desk_due, IsPastLimits};
 ghost use Rattle.group_commit.specs.Limits.{most_held};
 ghost use Rattle.group_commit.specs.Settling.{settle};
@@ -26,7 +26,6 @@ ghost use Rattle.committer.specs.Rebuilds.{IsBuilt, IsOwed, IsServed, IsNumbered
 
 use crate::outbox::{Offered, Outbox};
 use crate::refused::{RebuildRefused, RoundRefused};
-use built_schemes::scheme_of;
 use checkpoint::Store;
 use disk_trait::Disk;
 use generations::{BoardWriter, Posting, Told};
@@ -34,6 +33,7 @@ use graph_edits::Graph;
 use group_commit::{Desk, DeskRefused, MOST_HELD};
 use intake::{Editor, Taker, Watcher};
 use node_table::Scheme;
+use scheme_builds::scheme_of;
 use std::alloc::{AllocError, Allocator, Global};
 use std::sync::{Arc, Wait};
 

@@ -6,15 +6,15 @@ use Rattle.graph_edits.specs.declared.edits.Op.{Op}
 use Rattle.graph_edits.specs.Changes.{after as graph_after}
 use Rattle.requests.specs.declared.request.Request.{Request}
 use Rattle.requests.specs.Tickets.{raise}
-use Rattle.recovery.specs.State.{State, state_with}
-use Rattle.recovery.specs.Standing.{StandsFor}
+use Rattle.layout_2.specs.State.{State, state_with}
+use Rattle.layout_2.specs.Standing.{StandsFor}
 use Rattle.checkpoint.specs.declared.store.Store.{Store}
 use Rattle.checkpoint.specs.StoreWords.{state_of, view_of, disk_of, is_down, stands_now}
 use Rattle.generations.specs.declared.posting.Mark.{Mark}
 use Rattle.generations.specs.declared.posting.Verdict.{Verdict}
 use Rattle.generations.specs.declared.posting.Verdict.TheVariants.{Accepted, Refused}
 use Rattle.group_commit.specs.Settling.{Settled, settle, accept, refuse, one_more}
-use Rattle.printed_lines.specs.declared.fault.Fault.{Fault}
+use Rattle.command_output.specs.declared.fault.Fault.{Fault}
 use Rattle.device_commands.specs.Answer.{KeepsThrough, IsNew, IsTaken, state_under, verdict_of}
 
 -- the state after one request is that under its ticket

@@ -1,13 +1,13 @@
 -- What faults tell of a content.
 use Rattle.std.proofs.Common.{◌≡◌, ℕ, List, Result, Ok, Err, IfErr, IsErrOf, refl, ap, subst, sym}
-use Rattle.recovery_parts.specs.declared.refusals.OpenRefused.{OpenRefused}
-use Rattle.recovery_parts.specs.declared.refusals.OpenRefused.TheVariants.{NotFormatted, BadVersion, Damaged, Device, Memory}
-use Rattle.recovery_parts.specs.Refusals.{LacksMagic}
-use Rattle.recovery.specs.Fronts.{HasOtherVersion, HasThisVersion}
-use Rattle.recovery_parts.specs.Refusals.{IsFormatFault}
-use Rattle.recovery.specs.Standing.{StandsForNone}
-use Rattle.printed_lines.specs.declared.fault.Fault.{Fault}
-use Rattle.printed_lines.specs.declared.fault.Fault.TheVariants as fault
+use Rattle.layout_parts.specs.declared.refusals.OpenRefused.{OpenRefused}
+use Rattle.layout_parts.specs.declared.refusals.OpenRefused.TheVariants.{NotFormatted, BadVersion, Damaged, Device, Memory}
+use Rattle.layout_parts.specs.Refusals.{LacksMagic}
+use Rattle.layout_2.specs.Fronts.{HasOtherVersion, HasThisVersion}
+use Rattle.layout_parts.specs.Refusals.{IsFormatFault}
+use Rattle.layout_2.specs.Standing.{StandsForNone}
+use Rattle.command_output.specs.declared.fault.Fault.{Fault}
+use Rattle.command_output.specs.declared.fault.Fault.TheVariants as fault
 use Rattle.device_commands.specs.Openings.{IsChangeFault, IsDeskFault, IsEditFault, IsOpenFault, IsQueueFault, IsUnwrittenFault, TellsOf, open_fault}
 
 -- a refused opening's fault tells what the refusal does

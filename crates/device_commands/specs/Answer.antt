@@ -5,8 +5,8 @@ use Rattle.disk_trait.specs.Disk.{DiskView, MayLeave}
 use Rattle.graph_edits.specs.declared.edits.Op.{Op}
 use Rattle.graph_edits.specs.Changes.{after as graph_after}
 use Rattle.requests.specs.Tickets.{last_of, raise}
-use Rattle.recovery.specs.State.{State, state_with}
-use Rattle.recovery.specs.Standing.{StandsFor}
+use Rattle.layout_2.specs.State.{State, state_with}
+use Rattle.layout_2.specs.Standing.{StandsFor}
 use Rattle.generations.specs.declared.posting.Verdict.{Verdict}
 use Rattle.generations.specs.declared.posting.Verdict.TheVariants.{Accepted, Refused}
 

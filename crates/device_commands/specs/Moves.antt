@@ -1,11 +1,11 @@
 -- Why a device of layout 1 isn't brought over.
 use Rattle.std.specs.Prelude.{ℕ, List}
-use Rattle.recovery_1.specs.Fronts.{HasOtherVersion, HasThisVersion, LacksMagic}
-use Rattle.recovery_1.specs.Standing.{StandsForNone}
+use Rattle.layout_1.specs.Fronts.{HasOtherVersion, HasThisVersion, LacksMagic}
+use Rattle.layout_1.specs.Standing.{StandsForNone}
 use Rattle.migrate.specs.declared.refusals.MigrateRefused.{MigrateRefused}
 use Rattle.migrate.specs.declared.refusals.MigrateRefused.TheVariants as why
-use Rattle.printed_lines.specs.declared.fault.Fault.{Fault}
-use Rattle.printed_lines.specs.declared.fault.Fault.TheVariants.{DeviceLength, NotFormatted, LayoutNotKnown, Damaged, Device, Memory}
+use Rattle.command_output.specs.declared.fault.Fault.{Fault}
+use Rattle.command_output.specs.declared.fault.Fault.TheVariants.{DeviceLength, NotFormatted, LayoutNotKnown, Damaged, Device, Memory}
 
 -- what is told where it isn't
 abbrev pub move_fault : MigrateRefused → Fault

@@ -1,13 +1,14 @@
 -- Why a device isn't formatted or opened, and a change isn't made.
-use Rattle.std.specs.Prelude.{◌≤◌, ℕ, List}
+use Rattle.std.specs.Prelude.{◌≤◌, ◌<◌, ℕ, List, Result, IsTrue, IfErr, IsErrOf}
 use Rattle.graph_edits.specs.Edges.{most_nodes}
-use Rattle.recovery_parts.specs.declared.refusals.OpenRefused.{OpenRefused}
-use Rattle.recovery_parts.specs.declared.refusals.OpenRefused.TheVariants.{NotFormatted as OpenNotFormatted, BadVersion, Damaged as OpenDamaged, Device as OpenDevice, Memory as OpenMemory}
-use Rattle.recovery_parts.specs.Refusals.{LacksMagic}
-use Rattle.recovery.specs.Fronts.{HasOtherVersion, HasThisVersion}
-use Rattle.recovery.specs.Standing.{StandsForNone}
-use Rattle.printed_lines.specs.declared.fault.Fault.{Fault}
-use Rattle.printed_lines.specs.declared.fault.Fault.TheVariants.{NodeCount, DeviceLength, NotFormatted, LayoutNotKnown, Damaged, Device, Memory, Internal, Worn, AlreadyIn}
+use Rattle.disk_trait.specs.Disk.{DiskView, IsSameDevice, OnlyRead}
+use Rattle.layout_parts.specs.declared.refusals.OpenRefused.{OpenRefused}
+use Rattle.layout_parts.specs.declared.refusals.OpenRefused.TheVariants.{NotFormatted as OpenNotFormatted, BadVersion, Damaged as OpenDamaged, Device as OpenDevice, Memory as OpenMemory}
+use Rattle.layout_parts.specs.Refusals.{LacksMagic}
+use Rattle.layout_2.specs.Fronts.{HasOtherVersion, HasThisVersion}
+use Rattle.layout_2.specs.Standing.{StandsForNone}
+use Rattle.command_output.specs.declared.fault.Fault.{Fault}
+use Rattle.command_output.specs.declared.fault.Fault.TheVariants.{NodeCount, DeviceLength, NotFormatted, LayoutNotKnown, Damaged, Device, Memory, Internal, Worn, AlreadyIn}
 
 -- the faults of formatting a device for so many nodes
 abbrev pub IsFormatFault : ℕ → Fault → Type 0
@@ -72,3 +73,10 @@ IsUnwrittenFault Damaged = Unit {0}
 IsUnwrittenFault AlreadyIn = Unit {0}
 IsUnwrittenFault Worn = Unit {0}
 IsUnwrittenFault fault = ⊥
+
+-- a device that was opened, asked and given back: it was only read, and a refusal tells of its content or of its failures
+pub record IsReading {X : Type 0} (old new : DiskView) (answer : Result X Fault) : Type 0 where
+  pub tells : IsTrue old.keeps_model → IfErr answer (λ fault. TellsOf fault old.content)
+  pub device : IsErrOf answer Device → old.failures < new.failures
+  pub reads : IsTrue old.keeps_model → OnlyRead old new
+  pub ran : IsSameDevice old new

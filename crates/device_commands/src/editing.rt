@@ -2,8 +2,8 @@
 ghost use Rattle.std.specs.Prelude.{◌≡◌, ◌<◌, ◌≤◌, ◌⊎◌, ◌↔◌, IsTrue, IfOk, IfErr, IsErrOf, OnOk, false};
 ghost use Rattle.disk_trait.specs.Disk.{IsSameDevice, LeavesOnly, OnlyRead};
 ghost use Rattle.requests.specs.Tickets.{sessions, worn_limit};
-ghost use Rattle.recovery.specs.State.{IsNext, State};
-ghost use Rattle.recovery.specs.Standing.{StandsFor};
+ghost use Rattle.layout_2.specs.State.{IsNext, State};
+ghost use Rattle.layout_2.specs.Standing.{StandsFor};
 ghost use Rattle.checkpoint.specs.StoreWords.{state_of, view_of, is_down};
 ghost use Rattle.device_commands.specs.Answer.{verdict_of, state_after, state_under, last_ticket, ticket_of, IsNew, IsTaken, KeepsThrough};
 ghost use Rattle.device_commands.specs.Openings.{IsChangeFault, IsDeskFault, IsEditFault, IsUnwrittenFault, TellsOf};
@@ -11,10 +11,10 @@ ghost use Rattle.device_commands.specs.Openings.{IsChangeFault, IsDeskFault, IsE
 use crate::one_request::{settled, submitted};
 use crate::opening::open;
 use checkpoint::{Store, WORN_LIMIT, standing_law};
+use command_output::Fault;
 use disk_trait::Disk;
 use generations::Verdict;
 use graph_edits::Change;
-use printed_lines::Fault;
 use requests::Request;
 use std::alloc::Global;
 use std::sync::Wait;

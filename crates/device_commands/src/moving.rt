@@ -3,14 +3,14 @@ ghost use Rattle.std.specs.Prelude.{◌≡◌, ◌≢◌, ◌<◌, ◌⊎◌, �
 ghost use Rattle.std.specs.FinMap.{len};
 ghost use Rattle.disk_trait.specs.Disk.{IsSameDevice, LeavesOnly, OnlyRead};
 ghost use Rattle.graph_edits.specs.Edges.{Network};
-ghost use Rattle.recovery.specs.Layout.{device_len};
+ghost use Rattle.layout_2.specs.Layout.{device_len};
 ghost use Rattle.checkpoint.specs.Whole.{IsAllForeign};
 ghost use Rattle.migrate.specs.Moved.{HasMoved, HoldsNoneOrAllOf};
 ghost use Rattle.device_commands.specs.Moves.{IsMoveFault, TellsOfOld, move_fault};
 
+use command_output::Fault;
 use disk_trait::Disk;
 use migrate::{MigrateRefused, Moved};
-use printed_lines::Fault;
 use std::alloc::Global;
 
 /// Brings what a device of layout 1 holds to a new one, and answers how much that was. The old device is only read.

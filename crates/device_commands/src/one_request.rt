@@ -2,8 +2,8 @@
 ghost use Rattle.std.specs.Prelude.{◌≡◌, ◌<◌, ◌∷◌, ◌⊎◌, [], IsTrue, IfOk, IfErr, IsErrOf, OnOk, false};
 ghost use Rattle.disk_trait.specs.Disk.{IsSameDevice, LeavesOnly};
 ghost use Rattle.requests.specs.Tickets.{sessions};
-ghost use Rattle.recovery.specs.State.{IsNext};
-ghost use Rattle.recovery.specs.Standing.{StandsFor};
+ghost use Rattle.layout_2.specs.State.{IsNext};
+ghost use Rattle.layout_2.specs.Standing.{StandsFor};
 ghost use Rattle.checkpoint.specs.StoreWords.{state_of, view_of, is_down};
 ghost use Rattle.generations.specs.declared.posting.Mark.{Mark};
 ghost use Rattle.group_commit.specs.Postings.{MarksAreDue};
@@ -11,12 +11,12 @@ ghost use Rattle.device_commands.specs.Answer.{IsTaken, state_under, verdict_of}
 ghost use Rattle.device_commands.specs.Openings.{IsDeskFault, IsQueueFault};
 
 use checkpoint::Store;
+use command_output::Fault;
 use disk_trait::Disk;
 use generations::{Posting, Verdict, board};
 use graph_edits::Change;
 use group_commit::{Desk, DeskRefused};
 use intake::{Editor, SubmitRefused, open_intake};
-use printed_lines::Fault;
 use requests::{Request, SESSIONS};
 use std::alloc::Global;
 use std::sync::Wait;

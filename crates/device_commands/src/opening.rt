@@ -4,17 +4,17 @@ ghost use Rattle.std.specs.String.{string_bytes};
 ghost use Rattle.disk_trait.specs.Disk.{IsSameDevice, MayLeave, OnlyRead};
 ghost use Rattle.graph_edits.specs.Edges.{most_nodes};
 ghost use Rattle.requests.specs.Tickets.{last_of, sessions};
-ghost use Rattle.recovery.specs.Layout.{device_len};
-ghost use Rattle.recovery.specs.State.{State, first_state};
-ghost use Rattle.recovery.specs.Standing.{StandsFor};
+ghost use Rattle.layout_2.specs.Layout.{device_len};
+ghost use Rattle.layout_2.specs.State.{State, first_state};
+ghost use Rattle.layout_2.specs.Standing.{StandsFor};
 ghost use Rattle.checkpoint.specs.StoreWords.{state_of, view_of, is_down};
-ghost use Rattle.printed_lines.specs.Lines.{listing_text};
+ghost use Rattle.command_output.specs.Lines.{listing_text};
 ghost use Rattle.device_commands.specs.Answer.{KeepsThrough};
-ghost use Rattle.device_commands.specs.Openings.{IsFormatFault, IsOpenFault, TellsOf, open_fault};
+ghost use Rattle.device_commands.specs.Openings.{IsFormatFault, IsOpenFault, IsReading, TellsOf, open_fault};
 
 use checkpoint::{FormatRefused, OpenRefused, Store, standing_law};
+use command_output::{Fault, listing_of};
 use disk_trait::Disk;
-use printed_lines::{Fault, listing_of};
 use std::alloc::Global;
 
 /// Formats a device for so many nodes.
@@ -74,11 +74,8 @@ pub fn listing<D: Disk>(alloc: Global, disk: D) -> (Result<String, Fault>, D)
     ensures text { IsTrue (D.view disk).keeps_model → (state : State) → StandsFor state (D.view disk).content → IfOk result.0 (λ text. string_bytes text ≡ listing_text state.count state.graph) }
     // Also of a disk that doesn't keep the model the listing is that of a state.
     ensures of_one { IfOk result.0 (λ text. (state : State) × (string_bytes text ≡ listing_text state.count state.graph)) }
-    ensures tells { IsTrue (D.view disk).keeps_model → IfErr result.0 (λ fault. TellsOf fault (D.view disk).content) }
-    ensures device { IsErrOf result.0 Fault.Device → (D.view disk).failures < (D.view result.1).failures }
     ensures faults { IfErr result.0 (λ fault. IsOpenFault fault) }
-    ensures reads { IsTrue (D.view disk).keeps_model → OnlyRead (D.view disk) (D.view result.1) }
-    ensures ran { IsSameDevice (D.view disk) (D.view result.1) }
+    ensures reading { IsReading (D.view disk) (D.view result.1) result.0 }
 {
     standing_law();
     match open(alloc, disk) {
@@ -100,11 +97,8 @@ pub fn resume<D: Disk>(alloc: Global, disk: D, session: u8) -> (Result<u64, Faul
     ensures ticket { IsTrue (D.view disk).keeps_model → (state : State) → StandsFor state (D.view disk).content → IfOk result.0 (λ ticket. ticket ≡ last_of state.tickets session) }
     // Also of a disk that doesn't keep the model the ticket is that of a state.
     ensures of_one { IfOk result.0 (λ ticket. (state : State) × (ticket ≡ last_of state.tickets session)) }
-    ensures tells { IsTrue (D.view disk).keeps_model → IfErr result.0 (λ fault. TellsOf fault (D.view disk).content) }
-    ensures device { IsErrOf result.0 Fault.Device → (D.view disk).failures < (D.view result.1).failures }
     ensures faults { IfErr result.0 (λ fault. IsOpenFault fault) }
-    ensures reads { IsTrue (D.view disk).keeps_model → OnlyRead (D.view disk) (D.view result.1) }
-    ensures ran { IsSameDevice (D.view disk) (D.view result.1) }
+    ensures reading { IsReading (D.view disk) (D.view result.1) result.0 }
 {
     standing_law();
     match open(alloc, disk) {

@@ -3,10 +3,12 @@ ghost use Rattle.std.specs.Prelude.{◌≡◌, ◌≤◌, ◌+◌, length, OnOk,
 ghost use Rattle.disk_trait.specs.Disk.{DiskView, MayLeave, IsSameDevice, IsDeviceCall, IsSettled, Unchanged, overwritten, bytes_at};
 
 use crate::plan::Plan;
+use thiserror::Error;
 
 /// A call of the device failed. After it nothing is known of what a write covered or of what a sync
 /// was to settle; the disk may be used again.
-#[derive(Clone, Copy, Debug, PartialEq, Eq, Drop)]
+#[derive(Clone, Copy, Debug, PartialEq, Eq, Drop, Error)]
+#[error("a call of the device failed")]
 pub struct DeviceFault;
 
 /// A disk of fixed length.

@@ -2,7 +2,6 @@
 use Rattle.std.proofs.Common.{◌≡◌, ℕ, zero, suc, ◌+◌, ◌*◌, ◌<◌, ◌≤◌, Bool, true, false, cond, ◌&&◌, ◌≢◌, ◌⊎◌, inl, inr, List, [], ◌∷◌, ◌++◌, map, length, take, get_or, set, Option, Some, None, eqb, ltb, refl, sym, ap, ◌∙◌, subst, arith, length-append, get_or-set_same, get_or-set_other}
 use Rattle.std.specs.List.{All, Contains, filter_map, cons_option, count_by}
 use Rattle.std.specs.List.Sorted.{IsPermutation}
-use Rattle.std.specs.Ordering.{nat_cmp, ordering_then, is_lt}
 use Rattle.std.specs.BinaryHeap.{IsHeap, IsUpperBound, lt_by_cmp}
 use Rattle.std.proofs.lemmas.Bool.{cases_eq, cases_lt}
 use Rattle.std.proofs.lemmas.Bool.Decides.{nat_tests}
@@ -14,7 +13,7 @@ use Rattle.graph_edits.specs.Edges.{Network, neighbours_of, weight_in, below, mo
 use Rattle.std.specs.Option.{option_map}
 use Rattle.distances.specs.declared.search.Settled.{Settled}
 use Rattle.distances.specs.Search.{is_below, is_better, offered, flag_at, number_at, first_number, degrees, HasNode}
-use Rattle.distances.specs.Waiting.{Entry, nearest_first, IsQueue, IsJoined, IsTracked, IsClean, Waits}
+use Rattle.distances.specs.Waiting.{Entry, nearest_first, waiting_key, IsQueue, IsJoined, IsTracked, IsClean, Waits}
 use Rattle.graph_edits.specs.Edges.{degree_of}
 use Rattle.distances.proofs.Progress.{IsNext}
 use Rattle.distances.proofs.Turns.{number_set, split_and, first_at, flag_set_same, flag_set_other}
@@ -22,8 +21,6 @@ use Rattle.std.proofs.HeapSift.{at_most}
 use Rattle.std.proofs.lemmas.List.{get_or_past}
 use Rattle.std.proofs.Math.ListN.{get_or-append}
 use Rattle.std.proofs.Math.Seq.{get_or-append_seam}
-use Rattle.std.specs.declared.cmp.Ordering.{Ordering}
-use Rattle.std.specs.declared.cmp.Ordering.TheVariants.{Less, Equal, Greater}
 
 abbrev pub IsEntry : ℕ → (ℕ → Option ℕ) → Entry → Type 0
 IsEntry n number q = (q.0.node < n) × ((e : ℕ) × ((number q.0.node ≡ Some e) × (e ≤ q.0.distance)))
@@ -104,23 +101,23 @@ queue_offered n tentative done xs ys limit s lt within h j =
 
 -- ---- a pop
 
-tied : (a b : ℕ) → a ≡ b → nat_cmp a b ≡ Equal
-tied a b e =
-    let f : ltb a b ≡ false = grind (arith, nat_tests) in
-    let t : eqb a b ≡ true = grind (arith, nat_tests) in
-    ap (λ u. cond u Less (cond (eqb a b) Equal Greater)) f ∙ ap (λ u. cond u Equal Greater) t
+-- a popped entry is that of the node and distance read from it
+abbrev pub entry_of : Settled → Entry
+entry_of s = record { 0 = s }
 
-first_not_less : (a b : Ordering) → is_lt (ordering_then a b) ≡ false → is_lt a ≡ false
-first_not_less Less b e = e
-first_not_less Equal b e = refl
-first_not_less Greater b e = refl
+pub popped_as : (s : Settled) (x : Entry) (xs ys : List Entry) → s ≡ x.0 → IsPermutation xs (x ∷ ys) → IsPermutation xs (entry_of s ∷ ys)
+popped_as s x xs ys e moved = subst (λ t. IsPermutation xs (entry_of t ∷ ys)) (sym e) moved
 
-precedes_from : (p q : Entry) → lt_by_cmp nearest_first p q ≡ false → (p.0.distance < q.0.distance) ⊎ ((p.0.distance ≡ q.0.distance) × (p.0.node ≤ q.0.node))
-precedes_from p q h =
-    let le : p.0.distance ≤ q.0.distance = at_most q.0.distance p.0.distance (first_not_less (nat_cmp q.0.distance p.0.distance) (nat_cmp q.0.node p.0.node) h) in
+pub greatest_as : (s : Settled) (x : Entry) (xs : List Entry) → s ≡ x.0 → IsUpperBound nearest_first x xs → IsUpperBound nearest_first (entry_of s) xs
+greatest_as s x xs e greatest = subst (λ t. IsUpperBound nearest_first (entry_of t) xs) (sym e) greatest
+
+-- one number is no greater than another where the pairs aren't: nodes are below 2^16
+precedes_from : (p q : Entry) → p.0.node < 65536 → q.0.node < 65536 → lt_by_cmp nearest_first p q ≡ false → (p.0.distance < q.0.distance) ⊎ ((p.0.distance ≡ q.0.distance) × (p.0.node ≤ q.0.node))
+precedes_from p q small small' h =
+    let le : p.0.distance * 65536 + p.0.node ≤ q.0.distance * 65536 + q.0.node = at_most (waiting_key q.0) (waiting_key p.0) h in
     elim (cases_eq p.0.distance q.0.distance) [
-      | inl e ↦ inr (e, at_most q.0.node p.0.node (sym (ap (λ o. is_lt (ordering_then o (nat_cmp q.0.node p.0.node))) (tied q.0.distance p.0.distance (sym e))) ∙ h))
-      | inr ne ↦ inl (omega arith)
+      | inl e ↦ inr (e, omega (arith, le, e))
+      | inr ne ↦ inl (omega (arith, le, ne, small, small'))
     ]
 
 module _ (n : ℕ) (number : ℕ → Option ℕ) (done : ℕ → Bool) (xs ys : List Entry) (x : Entry) (h : IsQueue n number done xs) (moved : IsPermutation xs (x ∷ ys)) where
@@ -130,9 +127,9 @@ module _ (n : ℕ) (number : ℕ → Option ℕ) (done : ℕ → Bool) (xs ys : 
   pub popped_within : x.0.node < n
   popped_within = here.0
 
-  module _ (greatest : IsUpperBound nearest_first x xs) where
+  module _ (greatest : IsUpperBound nearest_first x xs) (small : n ≤ most_nodes) where
     over : (q : Entry) → Contains xs q → (x.0.distance < q.0.distance) ⊎ ((x.0.distance ≡ q.0.distance) × (x.0.node ≤ q.0.node))
-    over q c = precedes_from x q (All-contains (λ y. lt_by_cmp nearest_first x y ≡ false) xs q (All-from_recursion (λ y. lt_by_cmp nearest_first x y ≡ false) xs greatest) c)
+    over q c = precedes_from x q (omega (arith, popped_within, small)) (let r = All-contains (IsEntry n number) xs q h.entries c in let lt = r.0 in omega (arith, lt, small)) (All-contains (λ y. lt_by_cmp nearest_first x y ≡ false) xs q (All-from_recursion (λ y. lt_by_cmp nearest_first x y ≡ false) xs greatest) c)
 
     at_number : (e : ℕ) → number x.0.node ≡ Some e → e ≤ x.0.distance → done x.0.node ≡ false → number x.0.node ≡ Some x.0.distance
     at_number e is le o =

@@ -1,6 +1,6 @@
 -- The entries that wait in a search.
-use Rattle.std.specs.Prelude.{◌≡◌, ◌⊎◌, ℕ, ◌<◌, ◌≤◌, Bool, true, false, List, [], ◌∷◌, length, Option, Some, None, IsPermutation}
-use Rattle.std.specs.Ordering.{nat_cmp, ordering_then}
+use Rattle.std.specs.Prelude.{◌≡◌, ◌⊎◌, ℕ, ◌+◌, ◌*◌, ◌<◌, ◌≤◌, Bool, true, false, List, [], ◌∷◌, length, Option, Some, None, IsPermutation}
+use Rattle.std.specs.Ordering.{nat_cmp}
 use Rattle.std.specs.declared.cmp.Ordering.{Ordering}
 use Rattle.std.specs.declared.cmp.Reverse.{Reverse}
 use Rattle.std.specs.List.{All, Contains}
@@ -11,9 +11,13 @@ use Rattle.distances.specs.Search.{HasNode, number_at, flag_at}
 abbrev pub Entry : Type 0
 Entry = Reverse Settled
 
+-- the number that a node at a distance waits by: of two, the nearer has the smaller, and where two are as near the smaller node
+abbrev pub waiting_key : Settled → ℕ
+waiting_key s = s.distance * 65536 + s.node
+
 -- the nearest entry is the greatest, the smaller node where two are as near
 abbrev pub nearest_first : Entry → Entry → Ordering
-nearest_first p q = ordering_then (nat_cmp q.0.distance p.0.distance) (nat_cmp q.0.node p.0.node)
+nearest_first p q = nat_cmp (waiting_key q.0) (waiting_key p.0)
 
 -- each entry is of a node with a number that is no greater, and each open node with a number waits at that number
 pub record IsQueue (n : ℕ) (number : ℕ → Option ℕ) (done : ℕ → Bool) (waiting : List Entry) : Type 0 where

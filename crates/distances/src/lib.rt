@@ -30,6 +30,7 @@ mod linked;
 mod nearest;
 mod reach;
 mod search;
+mod waiting;
 mod workspace;
 
 pub use linked::Linked;

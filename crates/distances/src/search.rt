@@ -9,6 +9,7 @@ ghost use Rattle.distances.specs.Arrivals.{arrival_at, arrived, is_taken as take
 ghost use Rattle.distances.specs.Waiting.{nearest_first, IsQueue, IsJoined, IsTracked};
 ghost use Rattle.graph_edits.specs.Edges.{degree_of};
 
+use crate::waiting::Waiting;
 use graph_edits::{Graph, MOST_NODES};
 use std::alloc::{AllocError, Global};
 use std::cmp::Reverse;
@@ -41,7 +42,7 @@ pub fn settle_all(
     tentative: &mut [Option<u64>],
     settled: &mut [bool],
     arrivals: &mut [Option<Arrival>],
-    waiting: &mut BinaryHeap<Reverse<Settled>>,
+    waiting: &mut BinaryHeap<Reverse<Waiting>>,
     order: &mut Vec<Settled>,
 ) -> Result<u64, AllocError>
     requires tentative { length tentative.old ≡ graph.now.nodes }
@@ -77,6 +78,7 @@ pub fn settle_all(
     let mut pops: u64 = 0;
     order.reserve(1)?;
     while let Some(Reverse(next)) = waiting.pop() {
+        let next = next.settled();
         pops += 1;
         if settled[next.node as usize] {
             continue;
@@ -113,7 +115,7 @@ pub fn first_numbers(alloc: Global, sources: &[bool]) -> Result<Vec<Option<u64>>
 pub fn first_waiting(
     alloc: Global,
     sources: &[bool],
-) -> Result<BinaryHeap<Reverse<Settled>>, AllocError>
+) -> Result<BinaryHeap<Reverse<Waiting>>, AllocError>
     requires few { length sources.now ≤ MOST_NODES }
     ensures order { IfOk result (λ waiting. IsHeap nearest_first (heap_items waiting)) }
     ensures queue { IfOk result (λ waiting.
@@ -130,7 +132,7 @@ pub fn first_waiting(
 }
 
 fn add_source(
-    waiting: &mut BinaryHeap<Reverse<Settled>>,
+    waiting: &mut BinaryHeap<Reverse<Waiting>>,
     source: bool,
     node: u16,
 ) -> Result<(), AllocError>
@@ -141,7 +143,7 @@ fn add_source(
         KeepsHeap nearest_first (heap_items waiting.old) (heap_items waiting.new)) }
 {
     if source {
-        waiting.push(Reverse(Settled { distance: 0, node }))?;
+        waiting.push(Reverse(Waiting::new(Settled { distance: 0, node })))?;
     }
     Ok(())
 }
@@ -153,13 +155,13 @@ fn relax(
     limits: &[Option<u64>],
     tentative: &mut [Option<u64>],
     arrivals: &mut [Option<Arrival>],
-    waiting: &mut BinaryHeap<Reverse<Settled>>,
+    waiting: &mut BinaryHeap<Reverse<Waiting>>,
     from: Settled,
 ) -> Result<(), AllocError>
     requires from { from.node < graph.now.nodes }
     requires tentative { length tentative.old ≡ graph.now.nodes }
     requires arrivals { length arrivals.old ≡ graph.now.nodes }
-    requires fits { from.distance < 2 ^ 63 }
+    requires fits { from.distance < 2 ^ 47 }
     ensures relaxed { OnOk result (
         IsRelaxed graph.now.edges (number_at limits.now) from.node from.distance
         (number_at tentative.old) (number_at tentative.new)) }
@@ -262,8 +264,9 @@ pub fn offer(
     limit: Option<u64>,
     nearer: Settled,
     there: Option<u64>,
-    waiting: &mut BinaryHeap<Reverse<Settled>>,
+    waiting: &mut BinaryHeap<Reverse<Waiting>>,
 ) -> Result<Option<u64>, AllocError>
+    requires fits { nearer.distance < 2 ^ 48 }
     ensures number { IfOk result (λ number. number ≡ offered limit nearer.distance there) }
     ensures joined { OnOk result (
         IsJoined (is_below nearer.distance limit && is_better nearer.distance there) nearer
@@ -273,7 +276,7 @@ pub fn offer(
     ensures refused { OnErr result (heap_items waiting.new ≡ heap_items waiting.old) }
 {
     if is_within(nearer.distance, limit) && is_improved(nearer.distance, there) {
-        waiting.push(Reverse(nearer))?;
+        waiting.push(Reverse(Waiting::new(nearer)))?;
         Ok(Some(nearer.distance))
     } else {
         Ok(there)

@@ -10,6 +10,7 @@ ghost use Rattle.distances.specs.Workspace.{reached_of, AreLinked};
 use crate::linked::Linked;
 use crate::reach::link_all;
 use crate::search::{Arrival, Settled, offer, settle_all};
+use crate::waiting::Waiting;
 use graph_edits::Graph;
 use std::alloc::{AllocError, Global};
 use std::cmp::Reverse;
@@ -26,7 +27,7 @@ pub struct Workspace {
     numbers: Vec<Option<u64>>,
     settled: Vec<bool>,
     arrivals: Vec<Option<Arrival>>,
-    waiting: BinaryHeap<Reverse<Settled>>,
+    waiting: BinaryHeap<Reverse<Waiting>>,
     order: Vec<Settled>,
     members: Vec<Linked>,
 }
@@ -140,7 +141,7 @@ fn find_tree(
     numbers: &mut [Option<u64>],
     settled: &mut [bool],
     arrivals: &mut [Option<Arrival>],
-    waiting: &mut BinaryHeap<Reverse<Settled>>,
+    waiting: &mut BinaryHeap<Reverse<Waiting>>,
     order: &mut Vec<Settled>,
     members: &mut Vec<Linked>,
 ) -> Result<u64, AllocError>
@@ -177,7 +178,7 @@ fn find_tree(
 fn clean(
     numbers: &mut [Option<u64>],
     settled: &mut [bool],
-    waiting: &mut BinaryHeap<Reverse<Settled>>,
+    waiting: &mut BinaryHeap<Reverse<Waiting>>,
     order: &mut Vec<Settled>,
 )
     requires lengths { length settled.old ≡ length numbers.old }
@@ -190,6 +191,7 @@ fn clean(
         settled[listed.node as usize] = false;
     }
     while let Some(Reverse(open)) = waiting.pop() {
+        let open = open.settled();
         numbers[open.node as usize] = None;
     }
 }

@@ -9,7 +9,7 @@ use Rattle.node_table.specs.declared.packet.Move.{Move}
 use Rattle.generations.specs.declared.posting.Notice.{Notice}
 use Rattle.generations.specs.declared.posting.Notice.TheVariants.{Built}
 use Rattle.generations.specs.Notices.{newest_in}
-use Rattle.built_schemes.specs.Schemes.{IsSchemeOf}
+use Rattle.scheme_builds.specs.Schemes.{IsSchemeOf}
 use Rattle.group_commit.specs.Limits.{most_held}
 use Rattle.group_commit.specs.declared.refused.DeskRefused.TheVariants.{Device, Down, Worn}
 use Rattle.intake.specs.declared.outcome.SubmitRefused.{SubmitRefused}

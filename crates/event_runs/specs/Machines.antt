@@ -1,7 +1,7 @@
 -- What the event machine holds, as plain data.
 use Rattle.std.specs.Prelude.{ℕ, List, [], ◌∷◌, ◌++◌, take, drop, replicate, slice_set, Bool, true, Option, Some, None}
 use Rattle.requests.specs.declared.request.Request.{Request}
-use Rattle.recovery.specs.State.{State}
+use Rattle.layout_2.specs.State.{State}
 use Rattle.generations.specs.declared.posting.Notice.{Notice}
 use Rattle.generations.specs.declared.posting.Notice.TheVariants.{Marked, Failed}
 use Rattle.generations.specs.Boards.{BoardState, board_of}

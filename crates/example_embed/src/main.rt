@@ -2,12 +2,12 @@
 //! disk before it is answered, and carries a packet by the tables of the network.
 #![tactic(auto)]
 
-use built_schemes::scheme_of;
 use checkpoint::{DEVICE_LEN, Store, format};
 use disk_trait::MemDisk;
 use graph_edits::{Change, Op};
 use group_commit::Desk;
 use requests::Request;
+use scheme_builds::scheme_of;
 use std::process::ExitCode;
 
 /// None where memory or standard output was refused.

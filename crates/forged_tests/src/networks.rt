@@ -5,7 +5,6 @@ ghost use Rattle.generations.specs.Lawful.{IsLawful};
 ghost use Rattle.generations.specs.Posts.{with_posted};
 ghost use Rattle.forged_tests.specs.InARow.{IsInARow};
 
-use built_schemes::scheme_of;
 use forwarders::Forwarder;
 use generations::{BoardWriter, MOST_SHELVED, PostRefused, Posting, board};
 use graph_edits::{Change, Graph, Op};
@@ -13,6 +12,7 @@ use node_table::Scheme;
 use rand_core::Rng;
 use rand_xoshiro::Xoshiro256PlusPlus;
 use requests::SESSIONS;
+use scheme_builds::scheme_of;
 use std::alloc::Global;
 use std::process::Abort;
 use std::sync::{Arc, Wait};

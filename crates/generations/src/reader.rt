@@ -12,6 +12,7 @@ use crate::replica::Replica;
 use crossbeam_utils::rule::{Outcome, Protocol};
 use left_right::reader::{Reader, Reading};
 use std::marker::Model;
+use thiserror::Error;
 
 /// The board that is shown is the fold of its list, and each thread knows a beginning of that.
 pub struct Publication;
@@ -105,12 +106,14 @@ impl Model for Look {
 }
 
 /// Why a look gives no board.
-#[derive(Clone, Copy, Debug, PartialEq, Eq, Drop)]
+#[derive(Clone, Copy, Debug, PartialEq, Eq, Drop, Error)]
 pub enum Shut {
     /// `left_right` refused the entry.
+    #[error("the board took no entry")]
     Refused = 1,
     /// `left_right` gave a board that ends before what was told. No run has shown it, and no clause of `left_right`
     /// rules it out.
+    #[error("the board is behind what was told")]
     Behind = 2,
 }
 

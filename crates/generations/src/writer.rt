@@ -16,6 +16,7 @@ use left_right::writer::Writer;
 use std::marker::Model;
 use std::mem;
 use std::sync::Wait;
+use thiserror::Error;
 
 /// What the writer keeps unpublished.
 #[derive(Drop)]
@@ -72,7 +73,8 @@ pub enum PostRefused {
 }
 
 /// What is kept stays kept.
-#[derive(Clone, Copy, Debug, PartialEq, Eq, Drop)]
+#[derive(Clone, Copy, Debug, PartialEq, Eq, Drop, Error)]
+#[error("the posting stays kept")]
 pub struct Kept;
 
 impl<R: Wait + Drop> BoardWriter<R> {

@@ -6,6 +6,7 @@ ghost use Rattle.graph_edits.specs.Rows.{joins};
 use crate::limits::{GREATEST_WEIGHT, MOST_OPS};
 use arrayvec::ArrayVec;
 use std::marker::Model;
+use thiserror::Error;
 
 /// What an editor asks for one pair of nodes. It is the same pair, whichever node is named first.
 #[derive(Clone, Copy, Debug, PartialEq, Eq)]
@@ -91,37 +92,47 @@ impl Op {
 }
 
 /// Why an op is refused: the first of these that holds. The rules and their numbers are this project's profile.
-#[derive(Clone, Copy, Debug, PartialEq, Eq)]
+#[derive(Clone, Copy, Debug, PartialEq, Eq, Error)]
 pub enum Code {
     /// One of its numbers names no node.
+    #[error("no such node")]
     NoNode = 1,
     /// It names one node twice.
+    #[error("both ends are one node")]
     Loop = 2,
     /// The weight that it adds or sets is 0 or above the greatest.
+    #[error("the weight is out of range")]
     BadWeight = 3,
     /// It adds an edge that is there.
+    #[error("the edge is there already")]
     EdgeThere = 4,
     /// It sets or cuts an edge that isn't there.
+    #[error("there is no such edge")]
     NoEdge = 5,
     /// It adds an edge past the most that a graph may have.
+    #[error("the graph has as many edges as it may have")]
     TooManyEdges = 6,
 }
 
 /// Why a change is refused.
-#[derive(Clone, Copy, Debug, PartialEq, Eq)]
+#[derive(Clone, Copy, Debug, PartialEq, Eq, Error)]
 pub enum EditRefused {
     /// The first of its ops that is refused, counted from 0, and why.
+    #[error("op {index} is refused: {code}")]
     Op { index: usize, code: Code },
     /// No op is refused, but memory is short.
+    #[error("out of memory")]
     Memory,
 }
 
 /// Why a list of ops is no change.
-#[derive(Clone, Copy, Debug, PartialEq, Eq)]
+#[derive(Clone, Copy, Debug, PartialEq, Eq, Error)]
 pub enum Shape {
     /// It has no op.
+    #[error("a change has at least one op")]
     Empty = 1,
     /// It has more ops than a change may have.
+    #[error("a change has at most 16 ops")]
     TooLong = 2,
 }
 

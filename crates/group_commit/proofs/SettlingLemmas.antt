@@ -9,7 +9,7 @@ use Rattle.graph_edits.specs.Changes.{after as graph_after, fold, fold_within}
 use Rattle.requests.specs.declared.request.Request.{Request}
 use Rattle.requests.specs.Requests.{asked_by}
 use Rattle.requests.specs.Tickets.{raise, tickets_after}
-use Rattle.recovery.specs.State.{State, state_with, after, asked, changes_of, AreInTurn}
+use Rattle.layout_2.specs.State.{State, state_with, after, asked, changes_of, AreInTurn}
 use Rattle.generations.specs.declared.posting.Mark.{Mark}
 use Rattle.generations.specs.declared.posting.Verdict.TheVariants.{Accepted, Refused}
 use Rattle.generations.specs.Notices.{told_to, counts_of}

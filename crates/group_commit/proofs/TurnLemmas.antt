@@ -5,7 +5,7 @@ use Rattle.requests.specs.declared.request.Request.{Request}
 use Rattle.requests.specs.Tickets.{sessions, last_of, raise, tickets_after}
 use Rattle.requests.specs.Requests.{asked_by}
 use Rattle.requests.proofs.TicketLemmas.{raised, other_at, after_wide}
-use Rattle.recovery.specs.State.{asked, IsNext, AreInTurn}
+use Rattle.layout_2.specs.State.{asked, IsNext, AreInTurn}
 use Rattle.group_commit.specs.Turns.{AreBehind}
 
 -- last tickets are behind themselves

@@ -3,8 +3,8 @@ use Rattle.std.specs.Prelude.{◌≡◌, ◌≢◌, ◌⊎◌, ◌≤◌, ◌<�
 use Rattle.requests.specs.declared.request.Request.{Request}
 use Rattle.requests.specs.Tickets.{tickets_after}
 use Rattle.checkpoint.specs.declared.store.Store.{Store}
-use Rattle.recovery.specs.Layout.{worn_limit}
-use Rattle.recovery.specs.State.{asked, IsNext, AreInTurn}
+use Rattle.layout_2.specs.Layout.{worn_limit}
+use Rattle.layout_2.specs.State.{asked, IsNext, AreInTurn}
 use Rattle.checkpoint.specs.StoreWords.{state_of, is_down, LacksRoomFor, IsWornOut}
 use Rattle.generations.specs.declared.posting.Posting.{Posting}
 use Rattle.group_commit.specs.Limits.{most_held}

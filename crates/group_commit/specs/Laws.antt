@@ -4,7 +4,7 @@ use Rattle.std.specs.List.{range_with_len}
 use Rattle.requests.specs.declared.request.Request.{Request}
 use Rattle.requests.specs.Requests.{asked_by}
 use Rattle.requests.specs.Tickets.{tickets_after}
-use Rattle.recovery.specs.State.{State, after, asked, AreInTurn}
+use Rattle.layout_2.specs.State.{State, after, asked, AreInTurn}
 use Rattle.generations.specs.declared.posting.Mark.{Mark}
 use Rattle.generations.specs.declared.posting.Verdict.{Verdict}
 use Rattle.generations.specs.declared.posting.Verdict.TheVariants.{Accepted, Refused}

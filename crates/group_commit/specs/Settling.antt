@@ -6,7 +6,7 @@ use Rattle.graph_edits.specs.Changes.{after as graph_after}
 use Rattle.requests.specs.declared.request.Request.{Request}
 use Rattle.requests.specs.Requests.{asked_by}
 use Rattle.requests.specs.Tickets.{raise}
-use Rattle.recovery.specs.State.{State, state_with}
+use Rattle.layout_2.specs.State.{State, state_with}
 use Rattle.generations.specs.declared.posting.Mark.{Mark}
 use Rattle.generations.specs.declared.posting.Verdict.TheVariants.{Accepted, Refused}
 

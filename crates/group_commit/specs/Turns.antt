@@ -5,7 +5,7 @@ use Rattle.std.specs.Coded.{×_prop, Unit-prop, le_prop}
 use Rattle.requests.specs.declared.request.Request.{Request}
 use Rattle.requests.specs.Tickets.{worn_limit}
 use Rattle.requests.proofs.TicketLemmas.{rises_prop}
-use Rattle.recovery.specs.State.{asked, AreInTurn}
+use Rattle.layout_2.specs.State.{asked, AreInTurn}
 
 -- no last ticket is above the one that stands in its place in the second list
 abbrev pub AreBehind : List ℕ → List ℕ → Type 0

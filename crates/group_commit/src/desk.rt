@@ -2,8 +2,8 @@
 ghost use Rattle.std.specs.Prelude.{◌≡◌, ◌≢◌, ◌⊎◌, ◌≤◌, ◌<◌, ◌↔◌, ◌++◌, [], ◌∷◌, length, option_copied, IsTrue, IfOk, OnOk, OnErr, IsErrOf, IsErr, None, false, true};
 ghost use Rattle.disk_trait.specs.Disk.{AtMostCalls, IsSameDevice, LeavesOnly, Unchanged};
 ghost use Rattle.requests.specs.Tickets.{sessions, last_of};
-ghost use Rattle.recovery.specs.State.{AreInTurn};
-ghost use Rattle.recovery.specs.Standing.{StandsFor};
+ghost use Rattle.layout_2.specs.State.{AreInTurn};
+ghost use Rattle.layout_2.specs.Standing.{StandsFor};
 ghost use Rattle.checkpoint.specs.StoreWords.{state_of, nodes_of, view_of, is_down, IsDurable, IsWhereItWas, HasAppended, HasRolled, HasRolledAndAppended, HasRoomFor, LacksRoomFor};
 ghost use Rattle.group_commit.specs.Limits.{most_held};
 ghost use Rattle.group_commit.specs.Postings.{MarksAreDue, AreMarksDue, IsDownDue};

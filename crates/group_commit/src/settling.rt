@@ -2,7 +2,7 @@
 ghost use Rattle.std.specs.Prelude.{◌≡◌, ◌+◌, ◌≤◌, ◌<◌, ◌^◌, ◌++◌, ◌∷◌, [], List, length, IfOk, OnOk, IsSome, Some};
 ghost use Rattle.graph_edits.specs.Changes.{fold};
 ghost use Rattle.requests.specs.declared.request.Request.{Request};
-ghost use Rattle.recovery.specs.State.{State, after, changes_of, AreInTurn};
+ghost use Rattle.layout_2.specs.State.{State, after, changes_of, AreInTurn};
 ghost use Rattle.checkpoint.specs.StoreWords.{state_of};
 ghost use Rattle.group_commit.specs.Limits.{most_held};
 ghost use Rattle.group_commit.specs.Settling.{settle};

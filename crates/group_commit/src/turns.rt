@@ -1,7 +1,7 @@
 //! The tickets of held requests.
 ghost use Rattle.std.specs.Prelude.{◌≡◌, ◌<◌};
 ghost use Rattle.requests.specs.Tickets.{sessions, last_of, tickets_after};
-ghost use Rattle.recovery.specs.State.{asked, AreInTurn};
+ghost use Rattle.layout_2.specs.State.{asked, AreInTurn};
 
 use requests::{Request, SESSIONS};
 

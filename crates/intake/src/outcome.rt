@@ -5,6 +5,7 @@ ghost use Rattle.intake.specs.Outcomes.{outcome_on, refusal_on, told};
 use generations::{Board, Mark, Verdict};
 use graph_edits::Code;
 use requests::WORN_LIMIT;
+use thiserror::Error;
 
 /// What became of the last change that a session submitted, as far as a board says.
 #[derive(Clone, Copy, Debug, PartialEq, Eq, Drop)]
@@ -23,19 +24,25 @@ pub enum Outcome {
 
 /// Why a change isn't submitted. The tests stand in the order of the board's, the session's and the queue's; the numbers are
 /// those of the calls' table.
-#[derive(Clone, Copy, Debug, PartialEq, Eq, Drop)]
+#[derive(Clone, Copy, Debug, PartialEq, Eq, Drop, Error)]
 pub enum SubmitRefused {
     /// The board can't be looked at.
+    #[error("the board gave no look")]
     BoardShut = 3,
     /// By what the board shows the session's last change is still open.
+    #[error("the last change of the session is still open")]
     Busy = 1,
     /// The ticket is at most the session's last accepted one on the board as looked at, or its start.
+    #[error("the ticket is in already")]
     AlreadyIn = 5,
     /// The ticket is at most the last one that was submitted in this opening.
+    #[error("the ticket was submitted before")]
     OldTicket = 6,
     /// The ticket is past the worn limit.
+    #[error("the ticket is past its limit")]
     Worn = 4,
     /// No place of the queue was free.
+    #[error("the queue is full")]
     QueueFull = 2,
 }
 

@@ -4,12 +4,12 @@ use Rattle.std.specs.List.{AllByRecursion}
 use Rattle.std.proofs.Math.Nat.{le_trans}
 use Rattle.std.proofs.lemmas.List.{map-append}
 use Rattle.disk_trait.specs.Disk.{DiskView, IsSameDevice}
-use Rattle.recovery.specs.State.{State}
-use Rattle.histories.specs.Runs.{LeavesPrefix, Holds, IsRun, moment_of}
+use Rattle.layout_2.specs.State.{State}
+use Rattle.run_laws.specs.Runs.{LeavesPrefix, Holds, IsRun, moment_of}
 use Rattle.event_runs.specs.declared.event.Event.{Event}
 use Rattle.event_runs.specs.declared.reply.Reply.{Reply}
-use Rattle.listed_runs.specs.Listed.{IsListed}
-use Rattle.listed_runs.specs.Laws.{AnswersKeep, AcknowledgedStay}
+use Rattle.run_laws.specs.Listed.{IsListed}
+use Rattle.run_laws.specs.QueueLaws.{AnswersKeep, AcknowledgedStay}
 use Rattle.interleave.specs.declared.world.World.{World}
 use Rattle.interleave.specs.WorldWords.{lists_of, machine_of, world_view}
 use Rattle.interleave.specs.Desks.{WorldStep, WorldRun}

@@ -9,7 +9,7 @@ use Rattle.requests.specs.declared.request.Request.{Request}
 use Rattle.requests.specs.Tickets.{sessions, worn_limit, last_of, raise, tickets_after}
 use Rattle.requests.specs.Requests.{asked_by}
 use Rattle.requests.proofs.TicketLemmas.{after_append, either_same}
-use Rattle.recovery.specs.State.{State, asked, IsNext, AreInTurn}
+use Rattle.layout_2.specs.State.{State, asked, IsNext, AreInTurn}
 use Rattle.generations.specs.Boards.{BoardState}
 use Rattle.group_commit.specs.Laws.{TicketsStayBehind}
 use Rattle.group_commit.specs.Settling.{settle}

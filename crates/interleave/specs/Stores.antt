@@ -4,7 +4,7 @@ use Rattle.std.specs.Coded.{×_prop, Unit-prop, le_prop}
 use Rattle.std.specs.Option.{unwrap_or}
 use Rattle.requests.specs.Tickets.{last_of, tickets_after}
 use Rattle.requests.specs.declared.request.Request.{Request}
-use Rattle.recovery.specs.State.{State, asked}
+use Rattle.layout_2.specs.State.{State, asked}
 use Rattle.generations.specs.declared.posting.Notice.{Notice}
 use Rattle.generations.specs.declared.posting.Notice.TheVariants.{Marked, Failed, Built}
 use Rattle.generations.specs.Notices.{notice_of}

@@ -3,26 +3,25 @@ ghost use Rattle.std.specs.Prelude.{◌≡◌, ◌↔◌, ◌++◌, ◌∷◌, [
 ghost use Rattle.std.specs.Arc.{arc_value};
 ghost use Rattle.disk_trait.specs.Disk.{IsSameDevice};
 ghost use Rattle.requests.specs.declared.request.Request.{Request as Asked};
-ghost use Rattle.recovery.specs.State.{State};
-ghost use Rattle.built_schemes.specs.Schemes.{IsSchemeOf};
+ghost use Rattle.layout_2.specs.State.{State};
+ghost use Rattle.scheme_builds.specs.Schemes.{IsSchemeOf};
 ghost use Rattle.generations.specs.Notices.{notice_of};
-ghost use Rattle.histories.specs.Happenings.{Happens, took};
+ghost use Rattle.run_laws.specs.Happenings.{Happens, took};
 ghost use Rattle.event_runs.specs.Machines.{with_posted};
 ghost use Rattle.event_runs.specs.Answers.{Exactly, OrMemory, CommitAnswers, RebuildAnswers, newest_number, post, take_one, number_of};
-ghost use Rattle.listed_runs.specs.Listed.{IsListed};
-ghost use Rattle.packet_ways.specs.Ways.{AreOnWay};
+ghost use Rattle.run_laws.specs.Listed.{IsListed};
+ghost use Rattle.run_laws.specs.Ways.{AreOnWay};
 
 use crate::room::add;
 use crate::world::World;
-use built_schemes::scheme_of;
 use disk_trait::Disk;
 use event_runs::Reply;
 use generations::Posting;
 use graph_edits::Graph;
 use group_commit::{DeskRefused, MOST_HELD, limits_law, settling_law};
-use listed_runs::lists_law;
 use node_table::Scheme;
-use packet_ways::ways_law;
+use run_laws::{lists_law, ways_law};
+use scheme_builds::scheme_of;
 use std::alloc::{AllocError, Global};
 use std::sync::Arc;
 

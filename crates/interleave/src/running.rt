@@ -1,26 +1,24 @@
 // Runs of events.
 ghost use Rattle.std.specs.Prelude.{◌≡◌, ◌≢◌, ◌≤◌, ◌++◌, [], ℕ, List, length, IsTrue, IfOk, OnOk, OnErr, vec_capacity};
 ghost use Rattle.disk_trait.specs.Disk.{IsSameDevice, MayLeave};
-ghost use Rattle.recovery.specs.State.{State};
-ghost use Rattle.histories.specs.Happenings.{Happens};
-ghost use Rattle.histories.specs.Runs.{IsRun};
+ghost use Rattle.layout_2.specs.State.{State};
+ghost use Rattle.run_laws.specs.Happenings.{Happens};
+ghost use Rattle.run_laws.specs.Runs.{IsRun};
 ghost use Rattle.event_runs.specs.Answers.{Answers, number_of};
 ghost use Rattle.event_runs.specs.Runs.{Run};
-ghost use Rattle.listed_runs.specs.Listed.{IsListed};
-ghost use Rattle.listed_runs.specs.Queues.{all_let_in};
-ghost use Rattle.packet_ways.specs.Ways.{AreOnWay};
-ghost use Rattle.packet_ways.specs.Courses.{AreRoutedWell};
-ghost use Rattle.packet_ways.specs.Replies.{RunRoutes};
-ghost use Rattle.packet_ways.specs.Later.{AllGoOn};
-ghost use Rattle.packet_ways.specs.Arriving.{Arrive};
+ghost use Rattle.run_laws.specs.Listed.{IsListed};
+ghost use Rattle.run_laws.specs.Queues.{all_let_in};
+ghost use Rattle.run_laws.specs.Ways.{AreOnWay};
+ghost use Rattle.run_laws.specs.Courses.{AreRoutedWell};
+ghost use Rattle.run_laws.specs.Replies.{RunRoutes};
+ghost use Rattle.run_laws.specs.Later.{AllGoOn};
+ghost use Rattle.run_laws.specs.Arriving.{Arrive};
 
 use crate::room::add;
 use crate::world::World;
 use disk_trait::Disk;
 use event_runs::{Event, Reply};
-use histories::history_law;
-use listed_runs::{acknowledged_law, lists_law, queue_law};
-use packet_ways::ways_law;
+use run_laws::{acknowledged_law, history_law, lists_law, queue_law, ways_law};
 use std::alloc::{AllocError, Global};
 
 impl<D: Disk> World<D> {

@@ -2,24 +2,22 @@
 ghost use Rattle.std.specs.Prelude.{◌≡◌, ◌≤◌, [], length, take, drop, replicate, IsTrue, IfOk, None, false};
 ghost use Rattle.disk_trait.specs.Disk.{Unchanged};
 ghost use Rattle.requests.specs.Tickets.{sessions as all_sessions, tickets_after};
-ghost use Rattle.recovery.specs.State.{asked as asked_all, AreInTurn};
+ghost use Rattle.layout_2.specs.State.{asked as asked_all, AreInTurn};
 ghost use Rattle.checkpoint.specs.Kept.{kept_props};
 ghost use Rattle.checkpoint.specs.StoreWords.{state_of, view_of, is_down};
 ghost use Rattle.group_commit.specs.DeskWords.{store_of, held_of, due_of};
 ghost use Rattle.group_commit.specs.Turns.{AreBehind, in_turn_prop};
-ghost use Rattle.histories.specs.Runs.{IsRun};
+ghost use Rattle.run_laws.specs.Runs.{IsRun};
 ghost use Rattle.event_runs.specs.Machines.{begun, fresh_session};
-ghost use Rattle.listed_runs.specs.Listed.{IsListed};
-ghost use Rattle.packet_ways.specs.Ways.{AreOnWay};
+ghost use Rattle.run_laws.specs.Listed.{IsListed};
+ghost use Rattle.run_laws.specs.Ways.{AreOnWay};
 ghost use Rattle.interleave.specs.Stores.{AreLasts, behind_prop};
 
 use crate::stored::Stored;
 use disk_trait::{CrashDisk, Disk, Plan};
 use event_runs::Session;
 use group_commit::Desk;
-use histories::history_law;
-use listed_runs::lists_law;
-use packet_ways::ways_law;
+use run_laws::{history_law, lists_law, ways_law};
 use std::alloc::{AllocError, Global};
 
 /// A desk, and what a life stores beside it.

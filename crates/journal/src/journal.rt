@@ -15,15 +15,19 @@ use crate::window::Window;
 use disk_trait::{Disk, Log, publish};
 use std::alloc::{AllocError, AllocFailed, Global};
 use std::marker::Model;
+use thiserror::Error;
 
 /// Why a group isn't appended.
-#[derive(Clone, Copy, Debug, PartialEq, Eq, Drop)]
+#[derive(Clone, Copy, Debug, PartialEq, Eq, Drop, Error)]
 pub enum AppendRefused {
     /// The record and the next gate don't fit in the area.
+    #[error("the journal has no room for the record")]
     NoRoom = 1,
     /// A call of the device failed.
+    #[error("a call of the device failed")]
     Device = 2,
     /// Memory ran out, before anything was written.
+    #[error("out of memory")]
     Memory = 3,
 }
 
@@ -44,13 +48,16 @@ impl<T: Drop> From<AllocFailed<T>> for AppendRefused {
 }
 
 /// Why an area can't be scanned.
-#[derive(Clone, Copy, Debug, PartialEq, Eq, Drop)]
+#[derive(Clone, Copy, Debug, PartialEq, Eq, Drop, Error)]
 pub enum ScanRefused {
     /// A record with an open gate isn't of the form, or doesn't end inside the area.
+    #[error("the journal is damaged")]
     Damaged = 1,
     /// A read failed.
+    #[error("a call of the device failed")]
     Device = 2,
     /// Memory ran out.
+    #[error("out of memory")]
     Memory = 3,
 }
 

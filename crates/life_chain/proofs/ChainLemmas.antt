@@ -1,18 +1,18 @@
 -- Lives one after another.
 use Rattle.std.proofs.Common.{◌≡◌, ◌≤◌, ◌++◌, ℕ, List, [], ◌∷◌, map, refl, sym, subst, Option, Some, None, append-nil}
 use Rattle.disk_trait.specs.declared.disk.Disk.{Ghosts}
-use Rattle.recovery.specs.State.{State}
-use Rattle.recovery.specs.Standing.{StandsFor, OneState}
-use Rattle.recovery.specs.Fronts.{LacksMagic, HasOtherVersion, HasThisVersion}
-use Rattle.recovery.specs.Refusals.{TellsOf}
-use Rattle.recovery_parts.specs.declared.refusals.OpenRefused.{OpenRefused}
-use Rattle.recovery_parts.specs.declared.refusals.OpenRefused.TheVariants.{NotFormatted, BadVersion, Damaged, Device, Memory}
-use Rattle.histories.specs.History.{state_at}
+use Rattle.layout_2.specs.State.{State}
+use Rattle.layout_2.specs.Standing.{StandsFor, OneState}
+use Rattle.layout_2.specs.Fronts.{LacksMagic, HasOtherVersion, HasThisVersion}
+use Rattle.layout_2.specs.Refusals.{TellsOf}
+use Rattle.layout_parts.specs.declared.refusals.OpenRefused.{OpenRefused}
+use Rattle.layout_parts.specs.declared.refusals.OpenRefused.TheVariants.{NotFormatted, BadVersion, Damaged, Device, Memory}
+use Rattle.run_laws.specs.History.{state_at}
 use Rattle.event_runs.specs.Machines.{Machine}
-use Rattle.listed_runs.specs.Listed.{IsListed}
-use Rattle.listed_runs.specs.Lives.{history_of, life_of as life_in}
-use Rattle.joined_lists.specs.Lives.{IsLife, Follows, AreChained as AreJoined}
-use Rattle.joined_lists.specs.Laws.{ExactlyOnce}
+use Rattle.run_laws.specs.Listed.{IsListed}
+use Rattle.run_laws.specs.OneLife.{history_of, life_of as life_in}
+use Rattle.run_laws.specs.LaterLives.{IsLife, Follows, AreChained as AreJoined}
+use Rattle.run_laws.specs.OnceLaws.{ExactlyOnce}
 use Rattle.interleave.specs.WorldWords.{machine_of}
 use Rattle.life_chain.specs.declared.life.Life.{Life}
 use Rattle.life_chain.specs.declared.report.LifeReport.{LifeReport}

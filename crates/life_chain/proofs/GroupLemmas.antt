@@ -3,7 +3,7 @@ use Rattle.std.proofs.Common.{arith, ◌≡◌, ◌<◌, ◌≤◌, ⊎_elim, in
 use Rattle.std.proofs.lemmas.Bool.Decides.{nat_tests}
 use Rattle.requests.specs.Tickets.{last_of}
 use Rattle.requests.specs.declared.request.Request.{Request}
-use Rattle.recovery.specs.State.{State}
+use Rattle.layout_2.specs.State.{State}
 use Rattle.node_table.specs.declared.packet.Packet.{Packet}
 use Rattle.node_table.specs.declared.packet.Move.{Move}
 use Rattle.node_table.specs.declared.packet.Move.TheVariants as packets
@@ -23,8 +23,8 @@ use Rattle.event_runs.specs.declared.reply.Reply.TheVariants.{Submitted, NotSubm
 use Rattle.event_runs.specs.Trips.{Trip, launch_by}
 use Rattle.event_runs.specs.Machines.{Machine, begun, held, waiting, board_at, let_in}
 use Rattle.event_runs.specs.Answers.{Answer, answer, unless_refused, submit_by, submit, look_by, look, take_by, take_one, post_by, post, CommitAnswers, IsBuilt, RebuildAnswers, sees, looked, launch_as, launch, hop_as, hop_by, hop, OrMemory, Answers}
-use Rattle.histories.specs.History.{Whole, EndBy}
-use Rattle.packet_ways.specs.Replies.{RunRoutes}
+use Rattle.run_laws.specs.History.{Whole, EndBy}
+use Rattle.run_laws.specs.Replies.{RunRoutes}
 use Rattle.life_chain.specs.Groups.{Given, nothing_given, with_group, given_after, given_by}
 
 -- what the committer has come to in a machine

@@ -7,23 +7,23 @@ use Rattle.disk_trait.specs.Disk.{DiskView, Unchanged, OnlyRead}
 use Rattle.disk_trait.specs.declared.disk.Disk.{Ghosts}
 use Rattle.graph_edits.specs.Edges.{Network}
 use Rattle.requests.specs.declared.request.Request.{Request}
-use Rattle.recovery.specs.State.{State, state_with}
-use Rattle.recovery.specs.Standing.{StandsFor}
+use Rattle.layout_2.specs.State.{State, state_with}
+use Rattle.layout_2.specs.Standing.{StandsFor}
 use Rattle.generations.specs.declared.posting.Notice.{Notice}
 use Rattle.group_commit.specs.Settling.{settle}
-use Rattle.histories.specs.History.{Lists, begun as none_yet, state_at, IsPrefixState}
-use Rattle.histories.specs.Runs.{IsRun}
+use Rattle.run_laws.specs.History.{Lists, begun as none_yet, state_at, IsPrefixState}
+use Rattle.run_laws.specs.Runs.{IsRun}
 use Rattle.event_runs.specs.declared.event.Event.{Event}
 use Rattle.event_runs.specs.declared.reply.Reply.{Reply}
 use Rattle.event_runs.specs.declared.reply.Reply.TheVariants.{Rebuilt}
 use Rattle.event_runs.specs.Machines.{Machine, begun}
 use Rattle.event_runs.specs.Answers.{RebuildAnswers}
-use Rattle.listed_runs.specs.Listed.{IsListed}
-use Rattle.listed_runs.specs.Lives.{history_of}
-use Rattle.listed_runs.specs.Laws.{AcknowledgedStay}
-use Rattle.listed_runs.specs.Queues.{all_let_in}
-use Rattle.packet_ways.specs.Courses.{AreRoutedWell}
-use Rattle.packet_ways.specs.Replies.{RunRoutes}
+use Rattle.run_laws.specs.Listed.{IsListed}
+use Rattle.run_laws.specs.OneLife.{history_of}
+use Rattle.run_laws.specs.QueueLaws.{AcknowledgedStay}
+use Rattle.run_laws.specs.Queues.{all_let_in}
+use Rattle.run_laws.specs.Courses.{AreRoutedWell}
+use Rattle.run_laws.specs.Replies.{RunRoutes}
 use Rattle.interleave.specs.declared.world.World.{World}
 use Rattle.interleave.specs.WorldWords.{lists_of, machine_of, world_view}
 use Rattle.interleave.specs.Crashes.{HoldsSince, HasRun}

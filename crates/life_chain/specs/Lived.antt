@@ -3,25 +3,25 @@ use Rattle.std.specs.Prelude.{◌≡◌, ◌<◌, ℕ, List, [], ◌∷◌, Opti
 use Rattle.std.specs.List.{AllByRecursion}
 use Rattle.disk_trait.specs.Disk.{MayLeave, IsSettled, IsSameDevice, OnlyRead}
 use Rattle.disk_trait.specs.declared.disk.Disk.{Ghosts}
-use Rattle.recovery.specs.State.{State}
-use Rattle.recovery.specs.Standing.{StandsFor, StandsForNone}
-use Rattle.recovery.specs.Refusals.{TellsOf}
-use Rattle.recovery_parts.specs.Refusals.{IsFormatFault, IsNoDeviceFault}
-use Rattle.recovery_parts.specs.declared.refusals.OpenRefused.{OpenRefused}
-use Rattle.recovery_parts.specs.declared.refusals.OpenRefused.TheVariants.{Device}
+use Rattle.layout_2.specs.State.{State}
+use Rattle.layout_2.specs.Standing.{StandsFor, StandsForNone}
+use Rattle.layout_2.specs.Refusals.{TellsOf}
+use Rattle.layout_parts.specs.Refusals.{IsFormatFault, IsNoDeviceFault}
+use Rattle.layout_parts.specs.declared.refusals.OpenRefused.{OpenRefused}
+use Rattle.layout_parts.specs.declared.refusals.OpenRefused.TheVariants.{Device}
 use Rattle.node_table.specs.declared.parts.Parts.{Parts}
 use Rattle.generations.specs.declared.posting.Notice.TheVariants.{Built}
-use Rattle.built_schemes.specs.Schemes.{IsSchemeOf}
+use Rattle.scheme_builds.specs.Schemes.{IsSchemeOf}
 use Rattle.checkpoint.specs.StoreWords.{disk_of}
 use Rattle.event_runs.specs.declared.reply.Reply.{Reply}
 use Rattle.event_runs.specs.declared.reply.Reply.TheVariants.{Rebuilt}
 use Rattle.event_runs.specs.Machines.{Machine, begun}
 use Rattle.event_runs.specs.Answers.{RebuildAnswers}
-use Rattle.histories.specs.History.{Whole}
-use Rattle.listed_runs.specs.Listed.{IsListed}
-use Rattle.listed_runs.specs.Queues.{all_let_in}
-use Rattle.packet_ways.specs.Courses.{AreRoutedWell}
-use Rattle.packet_ways.specs.Replies.{RunRoutes}
+use Rattle.run_laws.specs.History.{Whole}
+use Rattle.run_laws.specs.Listed.{IsListed}
+use Rattle.run_laws.specs.Queues.{all_let_in}
+use Rattle.run_laws.specs.Courses.{AreRoutedWell}
+use Rattle.run_laws.specs.Replies.{RunRoutes}
 use Rattle.interleave.specs.declared.world.World.{World}
 use Rattle.interleave.specs.WorldWords.{machine_of, world_store, world_view}
 use Rattle.interleave.specs.Desks.{WorldRun}

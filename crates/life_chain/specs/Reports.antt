@@ -1,12 +1,12 @@
 -- What a report of a life has, as plain data.
 use Rattle.std.specs.Prelude.{List, map, take, drop, Bool, Option}
 use Rattle.requests.specs.declared.request.Request.{Request}
-use Rattle.recovery.specs.State.{State, state_with}
+use Rattle.layout_2.specs.State.{State, state_with}
 use Rattle.generations.specs.declared.posting.Notice.{Notice}
 use Rattle.generations.specs.Notices.{notice_of}
 use Rattle.event_runs.specs.Machines.{Machine}
 use Rattle.interleave.specs.Stores.{machine_with}
-use Rattle.joined_lists.specs.Lives.{LifeLists}
+use Rattle.run_laws.specs.LaterLives.{LifeLists}
 use Rattle.life_chain.specs.declared.report.LifeReport.{LifeReport}
 
 -- the state that it opened to

@@ -1,7 +1,7 @@
 //! Lives of one device, one after another.
 ghost use Rattle.std.specs.Prelude.{◌≡◌, ◌≤◌, [], length, vec_capacity, IsTrue, IfOk, OnErr};
-ghost use Rattle.recovery.specs.State.{State};
-ghost use Rattle.recovery.specs.Standing.{StandsFor};
+ghost use Rattle.layout_2.specs.State.{State};
+ghost use Rattle.layout_2.specs.Standing.{StandsFor};
 ghost use Rattle.life_chain.specs.Rooms.{HaveRooms};
 ghost use Rattle.life_chain.specs.Lived.{AreLived};
 ghost use Rattle.life_chain.specs.Words.{IsLeftByWord, any_word};
@@ -14,8 +14,7 @@ use crate::report::{LifeReport, LivesReport};
 use crate::rooms::{Rooms, add, room_for_all};
 use checkpoint::standing_law;
 use disk_trait::{CrashDisk, Disk, MemDisk};
-use joined_lists::exactly_once_laws;
-use listed_runs::tickets_law;
+use run_laws::{exactly_once_laws, tickets_law};
 use std::alloc::{AllocError, Global};
 
 /// Lives one after another: the device is opened, a generation is built by the life's words, its plan is armed; then come the events,

@@ -4,8 +4,7 @@ ghost use Rattle.life_chain.specs.Words.{IsLeftByWord, any_word};
 
 use checkpoint::standing_law;
 use disk_trait::{CrashDisk, Disk, MemDisk};
-use joined_lists::exactly_once_laws;
-use listed_runs::tickets_law;
+use run_laws::{exactly_once_laws, tickets_law};
 
 /// Two calls are one: lives of a disk, and then more lives of the disk that these left, are lives of the first disk. And what is said of
 /// lives follows from that they are lives: each next one is one of the life before, and each ticket is in at most once.

@@ -14,9 +14,8 @@ use disk_trait::{CrashDisk, Disk};
 use event_runs::{Reply, Session};
 use graph_edits::Graph;
 use group_commit::Desk;
-use histories::history_law;
 use interleave::{World, fresh_sessions};
-use listed_runs::acknowledged_law;
+use run_laws::{acknowledged_law, history_law};
 use std::alloc::{AllocError, Global};
 
 /// One life of a disk, whose replies have their room: the report of it, and the disk after its crash. Where the disk isn't opened, or

@@ -3,9 +3,9 @@ use Rattle.std.specs.Prelude.{◌≡◌, ◌⊎◌, ℕ, List}
 use Rattle.std.specs.FinMap.{len}
 use Rattle.disk_trait.specs.Disk.{DiskView, MayLeave}
 use Rattle.graph_edits.specs.Edges.{Network}
-use Rattle.recovery_1.specs.State.{counted}
-use Rattle.recovery_1.specs.Standing.{StandsFor as StandsForByLayout1}
-use Rattle.recovery.specs.Standing.{StandsFor, StandsForNone}
+use Rattle.layout_1.specs.State.{counted}
+use Rattle.layout_1.specs.Standing.{StandsFor as StandsForByLayout1}
+use Rattle.layout_2.specs.Standing.{StandsFor, StandsForNone}
 use Rattle.checkpoint.specs.Whole.{without_tickets, IsFreshWith}
 use Rattle.migrate.specs.declared.moving.Moved.{Moved}
 

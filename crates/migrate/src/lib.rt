@@ -1,7 +1,7 @@
 //! The way over from layout 1: a device of layout 2 that holds what one of layout 1 holds.
 //!
-//! Layout 1 knows no tickets and smaller limits. What its images stand for, and reading them, is the crate `recovery_1`; what those of
-//! layout 2 stand for is `recovery`, and writing a state to a new device at once is [`checkpoint::write_state`].
+//! Layout 1 knows no tickets and smaller limits. What its images stand for, and reading them, is the crate `layout_1`; what those of
+//! layout 2 stand for is `layout_2`, and writing a state to a new device at once is [`checkpoint::write_state`].
 //!
 //! The contract that the layer above uses is that of [`bring_over`], of two disks that keep the disk model ([`migrate`] is the same call, with the count alone
 //! as its answer):

@@ -3,9 +3,9 @@ ghost use Rattle.std.specs.Prelude.{◌≡◌, ◌≢◌, ◌≤◌, ◌<◌, �
 ghost use Rattle.std.specs.FinMap.{len};
 ghost use Rattle.disk_trait.specs.Disk.{AtMostCalls, IsSameDevice, LeavesOnly, OnlyRead};
 ghost use Rattle.graph_edits.specs.Edges.{Network};
-ghost use Rattle.recovery_1.specs.Fronts.{HasOtherVersion, HasThisVersion, LacksMagic};
-ghost use Rattle.recovery_1.specs.Standing.{StandsForNone};
-ghost use Rattle.recovery.specs.Layout.{device_len, worn_limit};
+ghost use Rattle.layout_1.specs.Fronts.{HasOtherVersion, HasThisVersion, LacksMagic};
+ghost use Rattle.layout_1.specs.Standing.{StandsForNone};
+ghost use Rattle.layout_2.specs.Layout.{device_len, worn_limit};
 ghost use Rattle.checkpoint.specs.Whole.{IsAllForeign};
 ghost use Rattle.migrate.specs.Moved.{Held, HasMoved, HoldsNoneOrAllOf};
 
@@ -13,7 +13,7 @@ use crate::refusals::MigrateRefused;
 use checkpoint::{DEVICE_LEN, WriteRefused, write_state};
 use disk_trait::Disk;
 use graph_edits::Graph;
-use recovery_1::{OpenRefused, load};
+use layout_1::{OpenRefused, load};
 use std::alloc::Global;
 
 /// What went over.

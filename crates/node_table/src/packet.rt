@@ -2,6 +2,7 @@
 ghost use Rattle.std.specs.Prelude.{◌≡◌};
 
 use heavy_labels::Label;
+use thiserror::Error;
 
 /// Where a node is to be found: its nearest landmark and its label in that landmark's tree, or the node alone where no
 /// landmark reaches it.
@@ -105,14 +106,18 @@ impl Move {
 }
 
 /// Why a scheme gives no address, no packet or no move.
-#[derive(Clone, Copy, Debug, PartialEq, Eq, Drop)]
+#[derive(Clone, Copy, Debug, PartialEq, Eq, Drop, Error)]
 pub enum Refused {
     /// A node isn't below the number of nodes.
+    #[error("no node")]
     NoNode = 1,
     /// No tree leads to the destination.
+    #[error("unreachable")]
     Unreachable = 2,
     /// The packet isn't one that this node can carry on.
+    #[error("stray packet")]
     Stray = 3,
     /// The packet has no hop left.
+    #[error("no hop left")]
     Spent = 4,
 }

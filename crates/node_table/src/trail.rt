@@ -8,6 +8,7 @@ ghost use Rattle.node_table.specs.Trails.{IsTrailOf, IsRefusedOnWay, as_carried,
 use crate::packet::{Address, Move, Packet, Refused};
 use crate::scheme::Scheme;
 use std::alloc::{AllocError, Global};
+use thiserror::Error;
 
 /// The way of a packet: the nodes that it visited, from the first to the last, the ports by which it went, and the
 /// length of its way.
@@ -19,17 +20,22 @@ pub struct Trail {
 }
 
 /// Why there is no trail.
-#[derive(Clone, Copy, Debug, PartialEq, Eq, Drop)]
+#[derive(Clone, Copy, Debug, PartialEq, Eq, Drop, Error)]
 pub enum CarryRefused {
     /// A node isn't below the number of nodes.
+    #[error("no node")]
     NoNode = 1,
     /// No tree leads to the destination.
+    #[error("unreachable")]
     Unreachable = 2,
     /// A node on the way can't carry the packet on.
+    #[error("stray packet")]
     Stray = 3,
     /// The packet ran out of hops.
+    #[error("no hop left")]
     Spent = 4,
     /// There was no memory for the trail.
+    #[error("out of memory")]
     Memory = 5,
 }
 

@@ -2,16 +2,22 @@
 ghost use Rattle.std.specs.Prelude.{◌≡◌, List, Option, None, Some, ℕ, MatchResult};
 ghost use Rattle.packet_bytes.specs.declared.wire.WireRefused.{WireRefused};
 
+use thiserror::Error;
+
 /// Why bytes are refused, in the order in which the cases are tested.
-#[derive(Clone, Copy, Debug, PartialEq, Eq, Drop)]
+#[derive(Clone, Copy, Debug, PartialEq, Eq, Drop, Error)]
 pub enum WireRefused {
     /// There are more or fewer bytes than each spelling has.
+    #[error("bad length")]
     BadLength = 1,
     /// An address's flag is neither 0 nor 1, or it is 0 and a later byte isn't.
+    #[error("bad flag")]
     BadFlag = 4,
     /// There are more ports than a label has room for.
+    #[error("bad count")]
     BadCount = 2,
     /// A place for a port that isn't used isn't 0.
+    #[error("bad padding")]
     BadPadding = 3,
 }
 

@@ -1,7 +1,6 @@
 // Networks with hardly anything in them, and how many workers pay.
 use crate::helpers::{Edge, built, expect_same, got, graph_of, landmarks_at};
-use built_schemes::scheme_of;
-use parallel_builds::{scheme_of_in_threads, workers_for};
+use scheme_builds::{scheme_of, scheme_of_in_threads, workers_for};
 use std::alloc::Global;
 use std::process::Abort;
 use std::thread::Threads;

@@ -4,7 +4,7 @@ ghost use Rattle.std.specs.Prelude.{◌≡◌, ◌≤◌, length};
 use graph_edits::{Change, EditRefused, Graph, MOST_NODES, Op};
 use landmarks::Landmarks;
 use node_table::{Scheme, build};
-use parallel_builds::scheme_in_threads;
+use scheme_builds::scheme_in_threads;
 use std::alloc::{AllocError, Global};
 use std::process::Abort;
 use std::thread::Threads;

@@ -1,12 +1,12 @@
 // Commands on a disk in memory.
 use crate::helpers::{got, same};
 use checkpoint::DEVICE_LEN;
+use command_output::Fault;
 use device_commands::{edit, format, listing, open, resume};
 use disk_trait::{Disk, MemDisk};
 use generations::Verdict;
 use graph_edits::{Change, Code, Op};
 use migrate::Moved;
-use printed_lines::Fault;
 use std::process::Abort;
 use std::sync::Wait;
 use std::thread::Threads;

@@ -1,5 +1,5 @@
 // What the tests share: folders, the bytes of files, and runs of the program whose answers are compared.
-use program_run::run_words;
+use commands::run_words;
 use std::fmt::Debug;
 use std::fs::File;
 use std::io::{self, ErrorKind, Read, Write};

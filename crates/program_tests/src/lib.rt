@@ -7,7 +7,7 @@
 #![tactic(auto)]
 
 #[cfg(test)]
-mod commands;
+mod command_runs;
 #[cfg(test)]
 mod devices;
 #[cfg(test)]

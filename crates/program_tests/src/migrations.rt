@@ -1,5 +1,5 @@
 // `migrate`, on real files. A device of layout 1 is written byte by byte.
-use crate::commands::expect_no_store;
+use crate::command_runs::expect_no_store;
 use crate::helpers::{
     DEVICE_BYTES, bytes_of, expect_bytes, expect_run, expect_script, got, is_zero_from,
     make_folder, path_in, put_file, remove_folder, same,

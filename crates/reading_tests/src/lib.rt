@@ -12,8 +12,8 @@ mod faults;
 #[cfg(test)]
 mod helpers;
 #[cfg(test)]
-mod layout_1;
+mod images_1;
 #[cfg(test)]
-mod layout_2;
+mod images_2;
 #[cfg(test)]
 mod moves;

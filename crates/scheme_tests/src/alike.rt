@@ -2,9 +2,9 @@
 use crate::changes::copied;
 use crate::drawn::graph_of;
 use crate::plain_graph::{Edge, PlainGraph};
-use built_schemes::scheme_of;
 use graph_edits::Graph;
 use node_table::Scheme;
+use scheme_builds::scheme_of;
 use std::alloc::{AllocError, Global};
 use std::process::Abort;
 use std::test::Fail;

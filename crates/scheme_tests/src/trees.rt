@@ -1,9 +1,9 @@
 // The trees of drawn graphs against plain distances: which nodes are in the tree of each root, how far, and by which parent.
 use crate::drawn::{drawn_graph, graph_of, landmark_words};
 use crate::plain_graph::PlainGraph;
-use built_schemes::scheme_of;
 use rand_core::SeedableRng;
 use rand_xoshiro::Xoshiro256PlusPlus;
+use scheme_builds::scheme_of;
 use std::alloc::{AllocError, Global};
 use std::test::Fail;
 

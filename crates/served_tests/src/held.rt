@@ -1,7 +1,7 @@
 // Routes that are launched or carried on just where the device holds a commit.
 use crate::helpers::{Asked, fresh, got, run, same, text_of};
 use disk_trait::{DeviceFault, Disk, MemDisk};
-use serving::Gate;
+use service_threads::Gate;
 use std::alloc::Global;
 use std::process::Abort;
 use std::sync::atomic::{AtomicBool, AtomicU64, Ordering};

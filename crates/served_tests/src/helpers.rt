@@ -1,10 +1,8 @@
 // What the tests share: devices, and scripts that are run on them.
 use checkpoint::{DEVICE_LEN, Store, format};
 use disk_trait::{Disk, MemDisk};
-use given_words::landmark_words;
-use scripts::script;
-use served_lines::serve_on;
-use serving::{Gate, Seats, Ungated};
+use service_lines::serve_on;
+use service_threads::{Gate, Seats, Ungated};
 use std::alloc::Global;
 use std::fmt::Debug;
 use std::io::Write;
@@ -12,6 +10,7 @@ use std::process::Abort;
 use std::str;
 use std::sync::Wait;
 use std::thread::Threads;
+use written_values::{landmark_words, script};
 
 /// The value of an answer that has to have one.
 pub(crate) fn got<T, E: Drop>(rt: &impl Abort, answer: Result<T, E>) -> T {

@@ -7,7 +7,7 @@ use disk_trait::FileDisk;
 use rand_core::SeedableRng;
 use rand_core::utils::NextWord;
 use rand_xoshiro::Xoshiro256PlusPlus;
-use serving::Ungated;
+use service_threads::Ungated;
 use std::alloc::Global;
 use std::fs;
 use std::fs::{File, OpenOptions};

@@ -1,9 +1,9 @@
 // Words, and what they ask for. In a line of words a bar stands between each two.
-use asked_tasks::{Task, WordsRefused, understood};
-use given_words::LandmarkWords;
+use command_line::{Task, WordsRefused, understood};
 use graph_edits::{Change, Op};
 use std::io;
 use std::process::Abort;
+use written_values::LandmarkWords;
 
 fn words_of<'a, R: AllocGlobal>(rt: &R, line: &'a str) -> io::Result<Vec<&'a str>> {
     let mut words = Vec::new(rt.alloc());

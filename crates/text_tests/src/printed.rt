@@ -1,9 +1,9 @@
 // Lines and faults as texts. Expected texts are those of docs/FORMATS.md.
-use graph_edits::{Change, Code, Graph, Op};
-use printed_lines::{
+use command_output::{
     AbsentLine, AcceptedLine, BrokenLine, CheckedLine, Ended, Fault, Formatted, MigratedLine,
     RefusedLine, RouteLine, TicketLine, UnreachableLine, listing_of, print_line, print_text, tell,
 };
+use graph_edits::{Change, Code, Graph, Op};
 use std::alloc::AllocError;
 use std::fmt::Display;
 use std::io;

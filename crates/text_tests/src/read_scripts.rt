@@ -1,9 +1,9 @@
 // What is read of scripts, and what is no line of one.
 use crate::helpers::{got, same};
 use graph_edits::{Change, Op};
-use scripts::{ScriptLine, script};
 use std::alloc::Global;
 use std::process::Abort;
+use written_values::{ScriptLine, script};
 
 // The lines of a script.
 fn lines_of(rt: &impl Abort, alloc: Global, text: &str, editors: u8) -> Vec<ScriptLine> {

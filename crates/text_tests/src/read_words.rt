@@ -1,9 +1,9 @@
 // What is read of numbers, ops and landmark words, and the words of nodes. The drawn words are those of another program of the two generators.
 use crate::helpers::{got, same};
-use given_words::{LandmarkWords, landmark_words, node, number, op};
 use graph_edits::Op;
 use std::alloc::Global;
 use std::process::Abort;
+use written_values::{LandmarkWords, landmark_words, node, number, op};
 
 // Ops as far as their numbers go, and past that.
 const OPS: [(&str, Option<Op>); 5] = [

@@ -1,12 +1,12 @@
 //! The program `tznode`: a compact routing node on a device file.
 //!
-//! The whole program is one call, [`run_words`] of the crate `program_run`, over the words, a reader and two writers; its page says
+//! The whole program is one call, [`run_words`] of the crate `commands`, over the words, a reader and two writers; its page says
 //! what each command does and prints. `main` makes the call on the arguments and the standard streams, of which `serve` alone reads,
 //! and ends with the status that it answers. Words that can't be had end it with a fault, told on standard error as `tznode: TEXT`.
 #![tactic(auto)]
 
-use printed_lines::{Fault, tell};
-use program_run::run_words;
+use command_output::{Fault, tell};
+use commands::run_words;
 use std::alloc::AllocError;
 use std::env;
 use std::io::{self, ErrorKind};

@@ -1,7 +1,7 @@
 // What the tests share: devices, requests, calls that are made again where memory was short, and bytes on a device.
 ghost use Rattle.std.specs.Prelude.{◌≡◌, ◌≤◌, ◌+◌, length, IsTrue, IfOk, IsSome};
 ghost use Rattle.graph_edits.specs.Changes.{fold};
-ghost use Rattle.recovery.specs.State.{changes_of, AreInTurn};
+ghost use Rattle.layout_2.specs.State.{changes_of, AreInTurn};
 
 use super::*;
 

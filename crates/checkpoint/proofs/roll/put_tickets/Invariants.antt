@@ -1,5 +1,5 @@
 use Rattle.std.proofs.Common.{◌≡◌, ◌++◌, take}
-use Rattle.recovery.specs.State.{tickets_text}
+use Rattle.layout_2.specs.State.{tickets_text}
 use Rattle.checkpoint.proofs.roll.put_tickets.Given as goal
 
 abbrev pub invariant-loop-ticket : goal.invariant-loop-ticket

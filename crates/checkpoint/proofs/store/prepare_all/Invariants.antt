@@ -1,6 +1,6 @@
 use Rattle.std.proofs.Common.{◌≡◌, drop}
 use Rattle.graph_edits.specs.Changes.{fold}
-use Rattle.recovery.specs.State.{changes_of}
+use Rattle.layout_2.specs.State.{changes_of}
 use Rattle.checkpoint.proofs.store.prepare_all.Given as goal
 
 abbrev pub invariant-loop-request : goal.invariant-loop-request

@@ -1,6 +1,6 @@
 use Rattle.std.proofs.Common.{◌≡◌, drop}
 use Rattle.requests.specs.Tickets.{tickets_after}
-use Rattle.recovery.specs.State.{asked, AreInTurn}
+use Rattle.layout_2.specs.State.{asked, AreInTurn}
 use Rattle.checkpoint.proofs.store.raise_all.Given as goal
 
 abbrev pub invariant-loop-request : goal.invariant-loop-request

@@ -1,6 +1,6 @@
 use Rattle.std.proofs.Common.{◌∙◌, subst}
 use Rattle.disk_trait.specs.Disk.{weaker}
-use Rattle.recovery_parts.proofs.ReadLemmas.{still}
+use Rattle.layout_parts.proofs.ReadLemmas.{still}
 use Rattle.checkpoint.specs.Whole.{without_tickets, IsWriting, IsWritten, StandsForNoneOr}
 use Rattle.checkpoint.proofs.Wholes.{written_fresh, written_stands, writing_stands}
 use Rattle.checkpoint.proofs.whole.write_state.Goals as goal

@@ -1,6 +1,6 @@
 use Rattle.std.proofs.Common.{◌≡◌, ◌++◌, length, None}
 use Rattle.requests.specs.Tickets.{Rises}
-use Rattle.recovery.specs.State.{asked}
+use Rattle.layout_2.specs.State.{asked}
 use Rattle.checkpoint.specs.StoreWords.{state_of}
 use Rattle.group_commit.specs.DeskWords.{store_of, held_of, due_of}
 use Rattle.intake.specs.Ends.{HasTaken}

@@ -1,7 +1,7 @@
 use Rattle.std.proofs.Common.{◌⊎◌, refl, subst}
 use Rattle.disk_trait.specs.Disk.{LeavesOnly}
 use Rattle.requests.specs.declared.request.Request.{Request}
-use Rattle.recovery.specs.Standing.{StandsFor}
+use Rattle.layout_2.specs.Standing.{StandsFor}
 use Rattle.checkpoint.specs.StoreWords.{state_of, view_of}
 use Rattle.device_commands.specs.Answer.{state_under}
 use Rattle.device_commands.proofs.OneRequest.{untouched_leaves}

@@ -1,9 +1,9 @@
 use Rattle.std.proofs.Common.{sym, ◌≡◌, ◌<◌, ◌⊎◌, ◌∙◌, subst, IsTrue, IfOk, OnOk, IsErrOf}
 use Rattle.disk_trait.specs.Disk.{OnlyRead}
 use Rattle.requests.specs.Tickets.{worn_limit}
-use Rattle.recovery.specs.State.{State}
+use Rattle.layout_2.specs.State.{State}
 use Rattle.checkpoint.specs.StoreWords.{state_of, view_of}
-use Rattle.printed_lines.specs.declared.fault.Fault.TheVariants.{AlreadyIn, Worn}
+use Rattle.command_output.specs.declared.fault.Fault.TheVariants.{AlreadyIn, Worn}
 use Rattle.device_commands.specs.Answer.{KeepsThrough, IsNew, IsTaken, last_ticket, state_after, ticket_of, verdict_of}
 use Rattle.device_commands.proofs.OneRequest.{edit_fails, edit_keeps, edit_leaves, edit_reads, of_one_state}
 use Rattle.device_commands.proofs.OpenFaults.{change_unwritten}

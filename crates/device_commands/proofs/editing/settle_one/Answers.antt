@@ -1,6 +1,6 @@
 use Rattle.std.proofs.Common.{◌≡◌, ◌⊎◌, ◌∙◌, ap, refl, subst}
 use Rattle.disk_trait.specs.Disk.{LeavesOnly}
-use Rattle.recovery.specs.Standing.{StandsFor}
+use Rattle.layout_2.specs.Standing.{StandsFor}
 use Rattle.checkpoint.specs.StoreWords.{state_of, view_of}
 use Rattle.device_commands.specs.Answer.{last_ticket, state_after, state_under, ticket_of}
 use Rattle.device_commands.proofs.OneRequest.{untouched_leaves}

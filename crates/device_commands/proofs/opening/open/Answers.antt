@@ -1,5 +1,5 @@
 use Rattle.std.proofs.Common.{sym, subst, List, ℕ}
-use Rattle.printed_lines.specs.declared.fault.Fault.{Fault}
+use Rattle.command_output.specs.declared.fault.Fault.{Fault}
 use Rattle.device_commands.specs.Openings.{TellsOf}
 use Rattle.device_commands.proofs.OpenFaults.{opening_tells}
 use Rattle.device_commands.proofs.opening.open.Goals as goal

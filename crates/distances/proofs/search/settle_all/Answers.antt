@@ -10,7 +10,7 @@ use Rattle.graph_edits.specs.Edges.{all_degrees, degree_of}
 use Rattle.distances.proofs.OpenDegrees.{open_degrees, open_degrees_start, open_degrees_set}
 use Rattle.distances.proofs.Progress.{Progress, progress_done, table_done, listing_done}
 use Rattle.distances.proofs.Turns.{count_open, progress_start, progress_turn, count_set, count_replicate, no_flags, flag_set_same, flag_set_other}
-use Rattle.distances.proofs.Queues.{most_pops, popped_within, popped_nearest, popped_rest, popped_length, pops_fit, degrees_push, open_before, none_waits, tracked_by, complete_push}
+use Rattle.distances.proofs.Queues.{most_pops, entry_of, popped_as, greatest_as, popped_within, popped_nearest, popped_rest, popped_length, pops_fit, degrees_push, open_before, none_waits, tracked_by, complete_push}
 use Rattle.distances.proofs.search.settle_all.Goals as goal
 
 pub loop-next-init : goal.loop-next-init
@@ -52,7 +52,7 @@ pub loop-next-smaller-then-settled-next : goal.loop-next-smaller-then-settled-ne
 loop-next-smaller-then-settled-next c =
     let i = c.loop-next.invariant in
     let fits = pops_fit c.args.graph.now c.loop-next.order.items (length (heap_items c.args.waiting.now)) c.loop-next.pops (length (heap_items c.loop-next.waiting)) i.few c.requires.few (omega (arith, i.counted)) i.pops in
-    let some = popped_length c.in-Some.field-0 (heap_items c.loop-next.waiting) (heap_items c.pop.new.self) c.in-Some.ensures.permutation in
+    let some = popped_length _ (heap_items c.loop-next.waiting) (heap_items c.pop.new.self) c.in-Some.ensures.permutation in
     let smaller : most_pops - (c.loop-next.pops + 1) < most_pops - c.loop-next.pops = omega (arith, fits, some) in
     smaller
 
@@ -60,17 +60,18 @@ pub loop-next-smaller : goal.loop-next-smaller
 loop-next-smaller c =
     let i = c.loop-next.invariant in
     let fits = pops_fit c.args.graph.now c.loop-next.order.items (length (heap_items c.args.waiting.now)) c.loop-next.pops (length (heap_items c.loop-next.waiting)) i.few c.requires.few (omega (arith, i.counted)) i.pops in
-    let some = popped_length c.in-Some.field-0 (heap_items c.loop-next.waiting) (heap_items c.pop.new.self) c.in-Some.ensures.permutation in
+    let some = popped_length _ (heap_items c.loop-next.waiting) (heap_items c.pop.new.self) c.in-Some.ensures.permutation in
     let smaller : most_pops - (c.loop-next.pops + 1) < most_pops - c.loop-next.pops = omega (arith, fits, some) in
     smaller
 
 pub loop-next-preserved-then-settled-next : goal.loop-next-preserved-then-settled-next
 loop-next-preserved-then-settled-next c =
     let i = c.loop-next.invariant in
-    let x = c.in-Some.field-0 in
+    let x = entry_of c.settled-next.result in
     let xs = heap_items c.loop-next.waiting in
     let ys = heap_items c.pop.new.self in
-    let one = popped_length x xs ys c.in-Some.ensures.permutation in
+    let moved = popped_as c.settled-next.result _ xs ys c.settled-next.ensures c.in-Some.ensures.permutation in
+    let one = popped_length x xs ys moved in
     record {
       progress = i.progress;
       tentatives = i.tentatives;
@@ -81,7 +82,7 @@ loop-next-preserved-then-settled-next c =
       room = i.room;
       arrived = i.arrived;
       places = i.places;
-      queue = popped_rest c.args.graph.now.nodes (number_at c.loop-next.tentative) (flag_at c.loop-next.settled) xs ys x i.queue c.in-Some.ensures.permutation (flag_at c.loop-next.settled) c.if-settled-next.true (λ y o. o);
+      queue = popped_rest c.args.graph.now.nodes (number_at c.loop-next.tentative) (flag_at c.loop-next.settled) xs ys x i.queue moved (flag_at c.loop-next.settled) c.if-settled-next.true (λ y o. o);
       order = (c.in-Some.ensures.heap_order i.order).0;
       pops = omega (arith, one, i.pops);
       degrees_left = i.degrees_left;
@@ -91,10 +92,11 @@ loop-next-preserved-then-settled-next c =
 pub relax-requires-clause-fits : goal.relax-requires-clause-fits
 relax-requires-clause-fits c =
     let i = c.loop-next.invariant in
-    let x = c.in-Some.field-0 in
+    let x = entry_of c.settled-next.result in
     let xs = heap_items c.loop-next.waiting in
     let ys = heap_items c.pop.new.self in
-    let nearest = popped_nearest c.args.graph.now.nodes (number_at c.loop-next.tentative) (flag_at c.loop-next.settled) xs ys x i.queue c.in-Some.ensures.permutation (c.in-Some.ensures.heap_order i.order).1 c.if-settled-next.false in
+    let moved = popped_as c.settled-next.result _ xs ys c.settled-next.ensures c.in-Some.ensures.permutation in
+    let nearest = popped_nearest c.args.graph.now.nodes (number_at c.loop-next.tentative) (flag_at c.loop-next.settled) xs ys x i.queue moved (greatest_as c.settled-next.result _ xs c.settled-next.ensures (c.in-Some.ensures.heap_order i.order).1) i.few c.if-settled-next.false in
     let le = i.progress.bounded x.0.node x.0.distance nearest.has in
     omega (arith, le, i.counted, i.few)
 
@@ -102,14 +104,15 @@ pub returns-in_err-relax-clause-tracked : goal.returns-in_err-relax-clause-track
 returns-in_err-relax-clause-tracked c =
     let i = c.loop-next.invariant in
     let g = c.args.graph.now in
-    let x = c.in-Some.field-0 in
+    let x = entry_of c.settled-next.result in
     let xs = heap_items c.loop-next.waiting in
     let ys = heap_items c.pop.new.self in
+    let moved = popped_as c.settled-next.result _ xs ys c.settled-next.ensures c.in-Some.ensures.permutation in
     let done = c.loop-next.settled in
-    let done_after = set c.loop-next.settled c.in-Some.field-0.0.node true in
-    let within = popped_within g.nodes (number_at c.loop-next.tentative) (flag_at done) xs ys x i.queue c.in-Some.ensures.permutation in
+    let done_after = set c.loop-next.settled c.settled-next.result.node true in
+    let within = popped_within g.nodes (number_at c.loop-next.tentative) (flag_at done) xs ys x i.queue moved in
     let lt : x.0.node < length c.loop-next.settled = omega (arith, within, i.flags) in
-    let rest = popped_rest g.nodes (number_at c.loop-next.tentative) (flag_at done) xs ys x i.queue c.in-Some.ensures.permutation (flag_at done_after) (flag_set_same done x.0.node lt) (λ y o. open_before done x.0.node y lt o) in
+    let rest = popped_rest g.nodes (number_at c.loop-next.tentative) (flag_at done) xs ys x i.queue moved (flag_at done_after) (flag_set_same done x.0.node lt) (λ y o. open_before done x.0.node y lt o) in
     let queue = c.in_err-relax.ensures.queue (flag_at done_after) rest in
     subst (λ l. IsTracked g.nodes (number_at c.relax.new.tentative) (flag_at done_after) l (heap_items c.relax.new.waiting)) (sym c.enlist.ensures)
     (tracked_by g.nodes (number_at c.relax.new.tentative) (flag_at done_after) (c.loop-next.order.items ++ x.0 ∷ []) (heap_items c.relax.new.waiting) queue
@@ -119,14 +122,15 @@ pub returns-in_err-reserve-2-clause-tracked : goal.returns-in_err-reserve-2-clau
 returns-in_err-reserve-2-clause-tracked c =
     let i = c.loop-next.invariant in
     let g = c.args.graph.now in
-    let x = c.in-Some.field-0 in
+    let x = entry_of c.settled-next.result in
     let xs = heap_items c.loop-next.waiting in
     let ys = heap_items c.pop.new.self in
+    let moved = popped_as c.settled-next.result _ xs ys c.settled-next.ensures c.in-Some.ensures.permutation in
     let done = c.loop-next.settled in
-    let done_after = set c.loop-next.settled c.in-Some.field-0.0.node true in
-    let within = popped_within g.nodes (number_at c.loop-next.tentative) (flag_at done) xs ys x i.queue c.in-Some.ensures.permutation in
+    let done_after = set c.loop-next.settled c.settled-next.result.node true in
+    let within = popped_within g.nodes (number_at c.loop-next.tentative) (flag_at done) xs ys x i.queue moved in
     let lt : x.0.node < length c.loop-next.settled = omega (arith, within, i.flags) in
-    let rest = popped_rest g.nodes (number_at c.loop-next.tentative) (flag_at done) xs ys x i.queue c.in-Some.ensures.permutation (flag_at done_after) (flag_set_same done x.0.node lt) (λ y o. open_before done x.0.node y lt o) in
+    let rest = popped_rest g.nodes (number_at c.loop-next.tentative) (flag_at done) xs ys x i.queue moved (flag_at done_after) (flag_set_same done x.0.node lt) (λ y o. open_before done x.0.node y lt o) in
     let queue = c.in_ok-relax.ensures.queue (flag_at done_after) rest in
     subst (λ l. IsTracked g.nodes (number_at c.relax.new.tentative) (flag_at done_after) l (heap_items c.relax.new.waiting)) (sym (c.in_err-reserve-2.ensures.items ∙ c.enlist.ensures))
     (tracked_by g.nodes (number_at c.relax.new.tentative) (flag_at done_after) (c.loop-next.order.items ++ x.0 ∷ []) (heap_items c.relax.new.waiting) queue
@@ -138,24 +142,25 @@ loop-next-preserved c =
     let g = c.args.graph.now in
     let Source = IsAtZero c.args.tentative.now in
     let limit = number_at c.args.limits.now in
-    let x = c.in-Some.field-0 in
+    let x = entry_of c.settled-next.result in
     let xs = heap_items c.loop-next.waiting in
     let ys = heap_items c.pop.new.self in
+    let moved = popped_as c.settled-next.result _ xs ys c.settled-next.ensures c.in-Some.ensures.permutation in
     let done = c.loop-next.settled in
-    let done_after = set c.loop-next.settled c.in-Some.field-0.0.node true in
+    let done_after = set c.loop-next.settled c.settled-next.result.node true in
     let after = c.relax.new.tentative in
-    let within = popped_within g.nodes (number_at c.loop-next.tentative) (flag_at done) xs ys x i.queue c.in-Some.ensures.permutation in
+    let within = popped_within g.nodes (number_at c.loop-next.tentative) (flag_at done) xs ys x i.queue moved in
     let lt : x.0.node < length c.loop-next.settled = omega (arith, within, i.flags) in
     let is_open : flag_at c.loop-next.settled x.0.node ≡ false = c.if-settled-next.false in
-    let nearest = popped_nearest g.nodes (number_at c.loop-next.tentative) (flag_at done) xs ys x i.queue c.in-Some.ensures.permutation (c.in-Some.ensures.heap_order i.order).1 is_open in
+    let nearest = popped_nearest g.nodes (number_at c.loop-next.tentative) (flag_at done) xs ys x i.queue moved (greatest_as c.settled-next.result _ xs c.settled-next.ensures (c.in-Some.ensures.heap_order i.order).1) i.few is_open in
     let count = count_set c.loop-next.settled x.0.node lt is_open in
     let turn = progress_turn g Source limit c.loop-next.tentative after done c.loop-next.order.items x.0 c.nodes-sound.ensures.sound i.progress nearest lt c.in_ok-relax.ensures.relaxed in
     let pushed : c.reserve-in-Some.new.self.items ≡ c.loop-next.order.items ++ x.0 ∷ [] = c.in_ok-reserve-2.ensures.items ∙ c.enlist.ensures in
     let one : length (c.loop-next.order.items ++ x.0 ∷ []) ≡ length c.loop-next.order.items + 1 = length_push c.loop-next.order.items x.0 in
     let len : length c.reserve-in-Some.new.self.items ≡ length c.loop-next.order.items + 1 = ap length pushed ∙ one in
     let sum : degrees g c.reserve-in-Some.new.self.items ≡ degrees g c.loop-next.order.items + degree_of g x.0.node = ap (degrees g) pushed ∙ degrees_push g c.loop-next.order.items x.0 in
-    let rest = popped_rest g.nodes (number_at c.loop-next.tentative) (flag_at done) xs ys x i.queue c.in-Some.ensures.permutation (flag_at done_after) (flag_set_same done x.0.node lt) (λ y o. open_before done x.0.node y lt o) in
-    let popped = popped_length x xs ys c.in-Some.ensures.permutation in
+    let rest = popped_rest g.nodes (number_at c.loop-next.tentative) (flag_at done) xs ys x i.queue moved (flag_at done_after) (flag_set_same done x.0.node lt) (λ y o. open_before done x.0.node y lt o) in
+    let popped = popped_length x xs ys moved in
     record {
       progress = subst (Progress g.edges Source limit (number_at after) (flag_at done_after)) (sym pushed) turn;
       tentatives = c.relax.auto.tentative ∙ i.tentatives;

@@ -1,7 +1,7 @@
 use Rattle.std.proofs.Common.{◌≡◌, ◌<◌, None, false, [], ◌∷◌, ◌++◌, length, arith, sym, ◌∙◌, length-set}
 use Rattle.std.specs.BinaryHeap.{heap_items}
 use Rattle.distances.specs.Search.{flag_at}
-use Rattle.distances.proofs.Queues.{tracked_listed, tracked_entry, last_listed, first_entry}
+use Rattle.distances.proofs.Queues.{entry_of, popped_as, tracked_listed, tracked_entry, last_listed, first_entry}
 use Rattle.distances.proofs.workspace.clean.Goals as goal
 
 pub loop-listed-preserved : goal.loop-listed-preserved
@@ -24,16 +24,17 @@ loop-listed-preserved c =
 pub loop-open-preserved : goal.loop-open-preserved
 loop-open-preserved c =
     let i = c.loop-open.invariant in
-    let x = c.in-Some-pop.field-0 in
+    let x = entry_of c.settled-open.result in
     let before = heap_items c.loop-open.waiting in
     let after = heap_items c.pop-in-loop-open.new.self in
+    let moved = popped_as c.settled-open.result _ before after c.settled-open.ensures c.in-Some-pop.ensures.permutation in
     let n = length c.args.numbers.now in
-    let lt = first_entry n before after x c.in-Some-pop.ensures.permutation i.tracked.entries in
-    let within : c.in-Some-pop.field-0.0.node < length c.loop-open.numbers = omega (arith, lt, i.kept) in
+    let lt = first_entry n before after x moved i.tracked.entries in
+    let within : c.settled-open.result.node < length c.loop-open.numbers = omega (arith, lt, i.kept) in
     let same = length-set c.loop-open.numbers x.0.node None in
     record {
       lengths = i.lengths ∙ sym same;
       kept = same ∙ i.kept;
       none = i.none;
-      tracked = tracked_entry n c.loop-open.numbers (flag_at c.loop-listed.settled) c.pop.new.self.items before after x within c.in-Some-pop.ensures.permutation i.tracked;
+      tracked = tracked_entry n c.loop-open.numbers (flag_at c.loop-listed.settled) c.pop.new.self.items before after x within moved i.tracked;
     }

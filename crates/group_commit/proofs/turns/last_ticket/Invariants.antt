@@ -1,6 +1,6 @@
 use Rattle.std.proofs.Common.{◌≡◌, take}
 use Rattle.requests.specs.Tickets.{last_of, tickets_after}
-use Rattle.recovery.specs.State.{asked}
+use Rattle.layout_2.specs.State.{asked}
 use Rattle.group_commit.proofs.turns.last_ticket.Given as goal
 
 abbrev pub invariant-loop-request : goal.invariant-loop-request

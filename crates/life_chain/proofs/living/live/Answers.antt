@@ -2,20 +2,20 @@ use Rattle.std.proofs.Common.{◌≡◌, ◌++◌, [], ◌∷◌, ℕ, List, len
 use Rattle.std.specs.Option.{option_map}
 use Rattle.std.proofs.lemmas.List.{length-replicate}
 use Rattle.disk_trait.specs.Disk.{OnlyRead}
-use Rattle.recovery.specs.State.{State}
+use Rattle.layout_2.specs.State.{State}
 use Rattle.checkpoint.specs.StoreWords.{state_of, view_of, is_down, disk_of, stands_now}
 use Rattle.generations.specs.Notices.{notice_of}
 use Rattle.group_commit.specs.DeskWords.{store_of, due_of}
-use Rattle.histories.specs.History.{Lists, begun as none_yet}
-use Rattle.histories.specs.Runs.{IsRun}
+use Rattle.run_laws.specs.History.{Lists, begun as none_yet}
+use Rattle.run_laws.specs.Runs.{IsRun}
 use Rattle.event_runs.specs.declared.event.Event.{Event}
 use Rattle.event_runs.specs.Machines.{Machine, begun, fresh_session}
 use Rattle.event_runs.specs.Answers.{RebuildAnswers}
-use Rattle.listed_runs.specs.Listed.{IsListed}
-use Rattle.listed_runs.specs.Lives.{history_of}
-use Rattle.listed_runs.specs.Queues.{all_let_in}
-use Rattle.packet_ways.specs.Ways.{AreOnWay}
-use Rattle.packet_ways.specs.Replies.{RunRoutes}
+use Rattle.run_laws.specs.Listed.{IsListed}
+use Rattle.run_laws.specs.OneLife.{history_of}
+use Rattle.run_laws.specs.Queues.{all_let_in}
+use Rattle.run_laws.specs.Ways.{AreOnWay}
+use Rattle.run_laws.specs.Replies.{RunRoutes}
 use Rattle.interleave.specs.declared.stored.Stored.{Stored}
 use Rattle.interleave.specs.Stores.{machine_with}
 use Rattle.interleave.specs.WorldWords.{lists_of, machine_of, world_view, world_store, desk_of}

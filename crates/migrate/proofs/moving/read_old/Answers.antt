@@ -1,5 +1,5 @@
 use Rattle.std.proofs.Common.{subst, sym}
-use Rattle.recovery_1.specs.Refusals.{IsFormatFault, TellsOf}
+use Rattle.layout_1.specs.Refusals.{IsFormatFault, TellsOf}
 use Rattle.migrate.proofs.moving.read_old.Goals as goal
 
 pub returns-in-Ok-clause-ok : goal.returns-in-Ok-clause-ok

@@ -1,13 +1,13 @@
 use Rattle.std.proofs.Common.{arith, ◌≡◌, ◌⊎◌, inl, ◌+◌, ◌≤◌, length, refl, ap, sym, ◌∙◌, IsTrue, List, ℕ, subst, Some}
 use Rattle.std.specs.Prelude.{Err}
 use Rattle.disk_trait.specs.Disk.{LeavesOnly, started, weaker}
-use Rattle.recovery.specs.Records.{AllSpell}
-use Rattle.recovery.specs.Layout.{worn_limit, journal_of}
-use Rattle.recovery.specs.State.{State, state_with, changes_of, after}
-use Rattle.recovery.specs.Standing.{StandsFor}
+use Rattle.layout_2.specs.Records.{AllSpell}
+use Rattle.layout_2.specs.Layout.{worn_limit, journal_of}
+use Rattle.layout_2.specs.State.{State, state_with, changes_of, after}
+use Rattle.layout_2.specs.Standing.{StandsFor}
 use Rattle.checkpoint.specs.Kept.{kept_stands}
 use Rattle.checkpoint.specs.StoreWords.{state_of, view_of, stands_now}
-use Rattle.recovery.proofs.Folds.{after_is, after_count, nodes_fold}
+use Rattle.layout_2.proofs.Folds.{after_is, after_count, nodes_fold}
 use Rattle.checkpoint.proofs.Commits.{either, kept_appended}
 use Rattle.checkpoint.proofs.SameStore.{same_store}
 use Rattle.checkpoint.proofs.store.Store.commit.Goals as goal

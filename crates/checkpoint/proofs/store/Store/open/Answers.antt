@@ -1,6 +1,6 @@
 use Rattle.std.proofs.Common.{◌≡◌, ◌∙◌, sym, subst, ℕ, List}
-use Rattle.recovery.specs.State.{state_with}
-use Rattle.recovery.specs.Standing.{StandsFor}
+use Rattle.layout_2.specs.State.{state_with}
+use Rattle.layout_2.specs.Standing.{StandsFor}
 use Rattle.checkpoint.proofs.store.Store.open.Goals as goal
 
 pub returns-in-Ok-clause-ok : goal.returns-in-Ok-clause-ok

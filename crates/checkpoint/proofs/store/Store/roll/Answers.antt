@@ -1,11 +1,11 @@
 use Rattle.std.proofs.Common.{arith, ◌∙◌, ◌+◌, [], IsTrue, refl, subst}
 use Rattle.disk_trait.specs.Disk.{started}
-use Rattle.recovery.specs.State.{State, state_with}
-use Rattle.recovery.specs.Standing.{StandsFor}
-use Rattle.recovery_parts.specs.Heads.{other}
+use Rattle.layout_2.specs.State.{State, state_with}
+use Rattle.layout_2.specs.Standing.{StandsFor}
+use Rattle.layout_parts.specs.Heads.{other}
 use Rattle.checkpoint.specs.Kept.{kept_stands}
 use Rattle.checkpoint.specs.StoreWords.{state_of, view_of, stands_now}
-use Rattle.recovery_parts.proofs.ReadLemmas.{still}
+use Rattle.layout_parts.proofs.ReadLemmas.{still}
 use Rattle.checkpoint.proofs.Rolls.{stands_closing, stands_publishing, kept_rolled}
 use Rattle.checkpoint.proofs.SameStore.{same_store}
 use Rattle.checkpoint.proofs.store.Store.roll.Goals as goal

@@ -1,6 +1,6 @@
 use Rattle.std.proofs.Common.{List, sym, subst}
 use Rattle.requests.specs.declared.request.Request.{Request}
-use Rattle.recovery.specs.State.{AreInTurn}
+use Rattle.layout_2.specs.State.{AreInTurn}
 use Rattle.checkpoint.specs.StoreWords.{state_of}
 use Rattle.group_commit.proofs.TurnLemmas.{turn_push}
 use Rattle.group_commit.proofs.desk.Desk.give.Goals as goal

@@ -3,7 +3,7 @@ use Rattle.std.specs.Arc.{arc_value}
 use Rattle.checkpoint.specs.StoreWords.{state_of, is_down}
 use Rattle.graph_edits.specs.Edges.{Network}
 use Rattle.node_table.specs.declared.parts.Parts.{Parts}
-use Rattle.built_schemes.specs.Schemes.{IsSchemeOf}
+use Rattle.scheme_builds.specs.Schemes.{IsSchemeOf}
 use Rattle.generations.specs.declared.posting.Notice.TheVariants.{Built}
 use Rattle.event_runs.specs.Machines.{Machine, with_posted}
 use Rattle.event_runs.specs.Answers.{post, newest_number, IsBuilt}

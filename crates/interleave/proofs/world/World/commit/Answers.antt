@@ -4,15 +4,15 @@ use Rattle.std.proofs.lemmas.List.{length-take-le}
 use Rattle.disk_trait.specs.Disk.{LeavesOnly}
 use Rattle.requests.specs.declared.request.Request.{Request}
 use Rattle.requests.specs.Tickets.{tickets_after}
-use Rattle.recovery.specs.State.{State, asked}
-use Rattle.recovery.specs.Standing.{StandsFor}
+use Rattle.layout_2.specs.State.{State, asked}
+use Rattle.layout_2.specs.Standing.{StandsFor}
 use Rattle.checkpoint.specs.StoreWords.{state_of, view_of, is_down, stands_now}
 use Rattle.group_commit.specs.declared.refused.DeskRefused.TheVariants.{Device}
 use Rattle.group_commit.specs.Settling.{settle}
 use Rattle.group_commit.specs.Turns.{AreBehind}
 use Rattle.group_commit.specs.DeskWords.{store_of, held_of}
-use Rattle.histories.specs.History.{settled}
-use Rattle.histories.specs.Happenings.{state_held, IsEither, won, lost}
+use Rattle.run_laws.specs.History.{settled}
+use Rattle.run_laws.specs.Happenings.{state_held, IsEither, won, lost}
 use Rattle.interleave.specs.WorldWords.{lists_of, world_view}
 use Rattle.interleave.proofs.Lists.{lists_are, none_left, not_true}
 use Rattle.interleave.proofs.Tickets.{won_behind}

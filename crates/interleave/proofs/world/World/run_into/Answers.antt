@@ -2,7 +2,7 @@ use Rattle.std.proofs.Common.{arith, ◌≡◌, ◌+◌, ◌++◌, ◌∷◌, []
 use Rattle.std.proofs.Math.Nat.{le_refl}
 use Rattle.std.proofs.lemmas.List.{take_more, take_all}
 use Rattle.checkpoint.specs.StoreWords.{disk_of}
-use Rattle.histories.specs.Runs.{IsRun}
+use Rattle.run_laws.specs.Runs.{IsRun}
 use Rattle.event_runs.specs.declared.event.Event.{Event}
 use Rattle.event_runs.specs.declared.reply.Reply.{Reply}
 use Rattle.event_runs.specs.Runs.{Run}

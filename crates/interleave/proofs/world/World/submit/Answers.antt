@@ -6,7 +6,7 @@ use Rattle.graph_edits.specs.declared.edits.Op.{Op}
 use Rattle.checkpoint.specs.StoreWords.{state_of}
 use Rattle.requests.specs.declared.request.Request.{Request}
 use Rattle.requests.specs.Tickets.{sessions, last_of, tickets_after}
-use Rattle.recovery.specs.State.{asked, AreInTurn}
+use Rattle.layout_2.specs.State.{asked, AreInTurn}
 use Rattle.group_commit.specs.DeskWords.{store_of}
 use Rattle.group_commit.specs.Turns.{AreBehind}
 use Rattle.intake.specs.declared.outcome.SubmitRefused.{SubmitRefused}

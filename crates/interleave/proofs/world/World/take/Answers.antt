@@ -3,7 +3,7 @@ use Rattle.std.specs.Option.{option_map}
 use Rattle.std.proofs.lemmas.Option.{slice_get_read}
 use Rattle.checkpoint.specs.StoreWords.{state_of, is_down}
 use Rattle.requests.specs.declared.request.Request.{Request}
-use Rattle.recovery.specs.State.{IsNext}
+use Rattle.layout_2.specs.State.{IsNext}
 use Rattle.generations.specs.Notices.{notice_of}
 use Rattle.group_commit.specs.DeskWords.{store_of, held_of, due_of, tickets_of}
 use Rattle.group_commit.specs.Limits.{most_held}

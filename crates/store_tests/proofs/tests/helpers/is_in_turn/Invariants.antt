@@ -1,5 +1,5 @@
 use Rattle.std.proofs.Common.{drop}
-use Rattle.recovery.specs.State.{AreInTurn}
+use Rattle.layout_2.specs.State.{AreInTurn}
 use Rattle.store_tests.proofs.tests.helpers.is_in_turn.Given as goal
 
 abbrev pub invariant-loop-request : goal.invariant-loop-request

@@ -1,9 +1,0 @@
-use Rattle.std.proofs.Common.{◌≡◌, vec_len, length}
-use Rattle.built_schemes.specs.Words.{first_of}
-use Rattle.built_schemes.proofs.words.first_words.Given as goal
-
-abbrev pub invariant-loop-place : goal.invariant-loop-place
-invariant-loop-place l = record {
-  count : length l.first.items ≡ l.place;
-  words : l.first.items ≡ first_of l.place l.words;
-}

@@ -1,0 +1,130 @@
+//! The program's grammar.
+ghost use Rattle.std.specs.Prelude.{◌≡◌, IfOk, codes, false};
+ghost use Rattle.clap.specs.Walk.{rule_of};
+ghost use Rattle.clap.specs.Words.{app_of, with_rule};
+ghost use Rattle.clap.specs.declared.builder.command.Command.TheViews.{out-Command};
+ghost use Rattle.command_line.specs.Grammar.{check_app, edit_app, more_rule, on_device_app, ops_rule, option_rule, plain_program, program, route_app, serve_app, text_rule, words_rule};
+
+use clap::{Arg, ArgAction, Command};
+use std::alloc::{AllocError, Global};
+
+fn text<'a>(alloc: Global, id: &'a str) -> Arg<'a>
+    ensures rule { rule_of result ≡ text_rule id.entry.now }
+    ensures local { result.global ≡ false }
+{
+    Arg::new(alloc, id).required(true).action(ArgAction::Set)
+}
+
+fn on_device<'a>(alloc: Global, name: &'a str) -> Result<Command<'a>, AllocError>
+    ensures app { IfOk result (λ command. app_of command ≡ on_device_app name.entry.now) }
+    ensures local { IfOk result (λ command. (out-Command command).has_globals ≡ false) }
+{
+    Command::new(alloc, name).arg(text(alloc, "device"))
+}
+
+fn on_device_with<'a>(alloc: Global, name: &'a str, id: &'a str) -> Result<Command<'a>, AllocError>
+    ensures app { IfOk result (λ command. app_of command ≡ with_rule (on_device_app name.entry.now) (text_rule id.entry.now)) }
+    ensures local { IfOk result (λ command. (out-Command command).has_globals ≡ false) }
+{
+    on_device(alloc, name)?.arg(text(alloc, id))
+}
+
+fn ops_command<'a>(alloc: Global) -> Result<Command<'a>, AllocError>
+    ensures app { IfOk result (λ command. app_of command ≡ with_rule (on_device_app (codes "edit")) ops_rule) }
+    ensures local { IfOk result (λ command. (out-Command command).has_globals ≡ false) }
+{
+    let ops = text(alloc, "ops").num_args(1..);
+    on_device(alloc, "edit")?.arg(ops)
+}
+
+fn edit_command<'a>(alloc: Global) -> Result<Command<'a>, AllocError>
+    ensures app { IfOk result (λ command. app_of command ≡ edit_app) }
+    ensures local { IfOk result (λ command. (out-Command command).has_globals ≡ false) }
+{
+    let named = with_option(alloc, ops_command(alloc)?, "session")?;
+    with_option(alloc, named, "ticket")
+}
+
+fn option<'a>(alloc: Global, id: &'a str) -> Arg<'a>
+    ensures rule { rule_of result ≡ option_rule id.entry.now }
+    ensures local { result.global ≡ false }
+{
+    Arg::new(alloc, id).long(id).action(ArgAction::Set)
+}
+
+fn with_option<'a>(
+    alloc: Global,
+    command: Command<'a>,
+    id: &'a str,
+) -> Result<Command<'a>, AllocError>
+    ensures app { IfOk result (λ whole. app_of whole ≡ with_rule (app_of command.entry) (option_rule id.entry.now)) }
+    ensures local { (out-Command command.entry).has_globals ≡ false → IfOk result (λ whole. (out-Command whole).has_globals ≡ false) }
+{
+    command.arg(option(alloc, id))
+}
+
+fn serve_command<'a>(alloc: Global) -> Result<Command<'a>, AllocError>
+    ensures app { IfOk result (λ command. app_of command ≡ serve_app) }
+    ensures local { IfOk result (λ command. (out-Command command).has_globals ≡ false) }
+{
+    let plain = with_words(alloc, on_device(alloc, "serve")?)?;
+    let edited = with_option(alloc, plain, "editors")?;
+    let forwarded = with_option(alloc, edited, "forwarders")?;
+    with_option(alloc, forwarded, "queue")
+}
+
+fn with_words<'a>(alloc: Global, command: Command<'a>) -> Result<Command<'a>, AllocError>
+    ensures app { IfOk result (λ whole. app_of whole ≡ with_rule (app_of command.entry) words_rule) }
+    ensures local { (out-Command command.entry).has_globals ≡ false → IfOk result (λ whole. (out-Command whole).has_globals ≡ false) }
+{
+    command.arg(text(alloc, "words").long("words"))
+}
+
+// Nodes behind the first two, if there are any.
+fn more_nodes<'a>(alloc: Global) -> Arg<'a>
+    ensures rule { rule_of result ≡ more_rule }
+    ensures local { result.global ≡ false }
+{
+    Arg::new(alloc, "more")
+        .action(ArgAction::Append)
+        .num_args(1..)
+}
+
+fn route_command<'a>(alloc: Global) -> Result<Command<'a>, AllocError>
+    ensures app { IfOk result (λ command. app_of command ≡ route_app) }
+    ensures local { IfOk result (λ command. (out-Command command).has_globals ≡ false) }
+{
+    let ends = on_device_with(alloc, "route", "from")?.arg(text(alloc, "to"))?;
+    with_words(alloc, ends.arg(more_nodes(alloc))?)
+}
+
+fn check_command<'a>(alloc: Global) -> Result<Command<'a>, AllocError>
+    ensures app { IfOk result (λ command. app_of command ≡ check_app) }
+    ensures local { IfOk result (λ command. (out-Command command).has_globals ≡ false) }
+{
+    with_words(alloc, on_device(alloc, "check")?)
+}
+
+// The first commands. One at a time is joined to those before, so that an exit has few of them to drop.
+fn plain_commands<'a>(alloc: Global) -> Result<Command<'a>, AllocError>
+    ensures { IfOk result (λ command. app_of command ≡ plain_program) }
+{
+    let bare = Command::new(alloc, "tznode")
+        .no_binary_name(true)
+        .subcommand_required(true);
+    let formats = bare.subcommand(on_device_with(alloc, "format", "nodes")?)?;
+    let shows = formats.subcommand(on_device(alloc, "show")?)?;
+    let edits = shows.subcommand(edit_command(alloc)?)?;
+    edits.subcommand(on_device_with(alloc, "resume", "session")?)
+}
+
+/// The grammar, as clap takes it.
+pub(crate) fn grammar<'a>(alloc: Global) -> Result<Command<'a>, AllocError>
+    ensures { IfOk result (λ command. app_of command ≡ program) }
+{
+    let plain = plain_commands(alloc)?;
+    let routes = plain.subcommand(route_command(alloc)?)?;
+    let checks = routes.subcommand(check_command(alloc)?)?;
+    let migrates = checks.subcommand(on_device_with(alloc, "migrate", "new")?)?;
+    migrates.subcommand(serve_command(alloc)?)
+}

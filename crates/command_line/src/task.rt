@@ -1,0 +1,427 @@
+//! What the program's words ask for.
+ghost use Rattle.std.specs.Prelude.{◌≡◌, ◌≤◌, ◌<◌, ◌^◌, ◌⊎◌, ℕ, List, Option, IfOk, IfErr, IsErrOf, Some, None, [], codes, decimal, map, option_map, All, length};
+ghost use Rattle.clap.specs.Walk.{first_of, rows_of, texts};
+ghost use Rattle.clap.specs.Words.{first_value, found_of, kind_of, matched_of, raw_values};
+ghost use Rattle.graph_edits.specs.declared.edits.Op.{Op};
+ghost use Rattle.requests.specs.Tickets.{sessions};
+ghost use Rattle.written_values.specs.declared.words.LandmarkWords.{LandmarkWords};
+ghost use Rattle.written_values.specs.OpText.{Fits, op_text};
+ghost use Rattle.written_values.specs.WordsText.{IsAsked, IsSame, words_text};
+ghost use Rattle.command_line.specs.Asked.{ArePairsAsked, IsAskedFor, IsCause, IsInRange, IsOpsCause, IsPairInRange, IsRefusedFor, IsSameTask, IsSeats, IsSessionText, IsTask, IsTicket, IsWordsCause, nodes_of, texts_in};
+ghost use Rattle.command_line.specs.declared.task.Task.{Task};
+
+use crate::grammar::grammar;
+use crate::refused::WordsRefused;
+use clap::error::ErrorKind;
+use clap::{ArgMatches, Error};
+use graph_edits::{Change, Op, Shape};
+use requests::{SESSIONS, WORN_LIMIT};
+use std::alloc::{AllocError, Global};
+use written_values::{LandmarkWords, landmark_words, node, number, op};
+
+/// One command with its words understood.
+#[derive(Debug, PartialEq, Eq, Drop)]
+pub enum Task<'a> {
+    /// Make the device file anew, with this many nodes.
+    Format {
+        device: &'a str,
+        nodes: u16,
+    },
+    /// Print the count and the edges.
+    Show {
+        device: &'a str,
+    },
+    /// Make one change of a session, under a ticket of its own or under the next one.
+    Edit {
+        device: &'a str,
+        /// Below the number of sessions.
+        session: u8,
+        /// 1 to the greatest ticket, where one is named.
+        ticket: Option<u64>,
+        change: Change,
+    },
+    /// Print the last ticket of a session.
+    Resume {
+        device: &'a str,
+        /// Below the number of sessions.
+        session: u8,
+    },
+    /// Find the routes of packets, each from a node to a node.
+    Route {
+        device: &'a str,
+        /// Of each route both ends. There is one at least.
+        pairs: Vec<(u16, u16)>,
+        words: LandmarkWords,
+    },
+    /// Check the scheme that these words give.
+    Check {
+        device: &'a str,
+        words: LandmarkWords,
+    },
+    /// Bring what a device of layout 1 holds to a new device.
+    Migrate {
+        old: &'a str,
+        new: &'a str,
+    },
+    /// Run a script in threads.
+    Serve {
+        device: &'a str,
+        /// 1 to 64, and so are the next two.
+        editors: u8,
+        forwarders: u8,
+        /// How many changes may wait in the queue.
+        places: u8,
+        words: LandmarkWords,
+    },
+}
+
+// How many editors there may be, and how many forwarders, and places in the queue.
+const MOST_SEATS: u64 = 64;
+
+// How many editors and forwarders there are where it isn't said.
+const USUAL_SEATS: u8 = 2;
+
+// And how many places the queue has.
+const USUAL_PLACES: u8 = 64;
+
+// Whose changes an edit makes where it isn't said.
+const USUAL_SESSION: u8 = 0;
+
+/// What the words ask for, or why they are no task.
+pub fn understood<'a>(alloc: Global, words: &'a [&'a str]) -> Result<Task<'a>, WordsRefused>
+    ensures asked { IfOk result (λ task. IsAskedFor (texts words.entry.now) task) }
+    // Where the words ask for a task whose numbers are in range, it is the answer, or memory ran out.
+    ensures only { (task : Task) → IsAskedFor (texts words.entry.now) task → IsInRange task → IfOk result (λ read. IsSameTask read task) }
+    ensures refused { (task : Task) → IsAskedFor (texts words.entry.now) task → IsInRange task → IfErr result (λ refused. refused ≡ WordsRefused.Memory) }
+    // And each refusal has its cause in the words, the first one in the order of the tests.
+    ensures cause { IfErr result (λ refused. IsRefusedFor (texts words.entry.now) refused) }
+{
+    let matches = match grammar(alloc)?.try_get_matches_from(words) {
+        Ok(matches) => matches,
+        Err(error) => return Err(refused_for(error)),
+    };
+    let Some((name, found)) = matches.subcommand() else {
+        return Err(WordsRefused::Usage);
+    };
+    task_of(alloc, name, found)
+}
+
+// What becomes of words that the grammar refuses.
+fn refused_for(error: Error) -> WordsRefused
+    ensures memory { kind_of error ≡ ErrorKind.OutOfMemory → result ≡ WordsRefused.Memory }
+    ensures refusals { (result ≡ WordsRefused.Usage) ⊎ (result ≡ WordsRefused.Memory) }
+{
+    match error.kind() {
+        ErrorKind::OutOfMemory => WordsRefused::Memory,
+        _ => WordsRefused::Usage,
+    }
+}
+
+// What a command asks for, of these matches.
+fn task_of<'a>(alloc: Global, name: &str, found: &ArgMatches<'a>) -> Result<Task<'a>, WordsRefused>
+    ensures asked { IfOk result (λ task. IsTask name.now (rows_of (found_of found.entry.now)) task) }
+    ensures only { (task : Task) → IsTask name.now (rows_of (found_of found.entry.now)) task → IsInRange task → IfOk result (λ read. IsSameTask read task) }
+    ensures refused { (task : Task) → IsTask name.now (rows_of (found_of found.entry.now)) task → IsInRange task → IfErr result (λ refused. refused ≡ WordsRefused.Memory) }
+    ensures cause { IfErr result (λ refused. IsCause name.now (rows_of (found_of found.entry.now)) refused) }
+{
+    let Some(device) = found.get_str("device") else {
+        return Err(WordsRefused::Usage);
+    };
+    if name == "format" {
+        Ok(Task::Format {
+            device,
+            nodes: whole(alloc, found, "nodes")?,
+        })
+    } else if name == "show" {
+        Ok(Task::Show { device })
+    } else if name == "edit" {
+        edit_of(alloc, device, found)
+    } else if name == "resume" {
+        Ok(Task::Resume {
+            device,
+            session: session(alloc, found)?,
+        })
+    } else if name == "route" {
+        route_of(alloc, device, found)
+    } else if name == "check" {
+        Ok(Task::Check {
+            device,
+            words: words_asked(alloc, found)?,
+        })
+    } else if name == "migrate" {
+        Ok(Task::Migrate {
+            old: device,
+            new: text(found, "new")?,
+        })
+    } else if name == "serve" {
+        serve_of(alloc, device, found)
+    } else {
+        Err(WordsRefused::Usage)
+    }
+}
+
+// A change of a device.
+fn edit_of<'a>(
+    alloc: Global,
+    device: &'a str,
+    found: &ArgMatches<'a>,
+) -> Result<Task<'a>, WordsRefused>
+    ensures asked { first_of (codes "device") (rows_of (found_of found.entry.now)) ≡ Some device.entry.now → IfOk result (λ task. IsTask (codes "edit") (rows_of (found_of found.entry.now)) task) }
+    ensures only { first_of (codes "device") (rows_of (found_of found.entry.now)) ≡ Some device.entry.now → (task : Task) → IsTask (codes "edit") (rows_of (found_of found.entry.now)) task → IsInRange task → IfOk result (λ read. IsSameTask read task) }
+    ensures cause { first_of (codes "device") (rows_of (found_of found.entry.now)) ≡ Some device.entry.now → IfErr result (λ refused. IsCause (codes "edit") (rows_of (found_of found.entry.now)) refused) }
+{
+    let session = named_session(alloc, found)?;
+    let ticket = ticket(alloc, found)?;
+    let change = change(alloc, found)?;
+    Ok(Task::Edit {
+        device,
+        session,
+        ticket,
+        change,
+    })
+}
+
+// Routes on a device.
+fn route_of<'a>(
+    alloc: Global,
+    device: &'a str,
+    found: &ArgMatches<'a>,
+) -> Result<Task<'a>, WordsRefused>
+    ensures asked { first_of (codes "device") (rows_of (found_of found.entry.now)) ≡ Some device.entry.now → IfOk result (λ task. IsTask (codes "route") (rows_of (found_of found.entry.now)) task) }
+    ensures only { first_of (codes "device") (rows_of (found_of found.entry.now)) ≡ Some device.entry.now → (task : Task) → IsTask (codes "route") (rows_of (found_of found.entry.now)) task → IsInRange task → IfOk result (λ read. IsSameTask read task) }
+    ensures cause { first_of (codes "device") (rows_of (found_of found.entry.now)) ≡ Some device.entry.now → IfErr result (λ refused. IsCause (codes "route") (rows_of (found_of found.entry.now)) refused) }
+{
+    let pairs = pairs(alloc, found)?;
+    let words = words_asked(alloc, found)?;
+    Ok(Task::Route {
+        device,
+        pairs,
+        words,
+    })
+}
+
+// A service of a device.
+fn serve_of<'a>(
+    alloc: Global,
+    device: &'a str,
+    found: &ArgMatches<'a>,
+) -> Result<Task<'a>, WordsRefused>
+    ensures asked { first_of (codes "device") (rows_of (found_of found.entry.now)) ≡ Some device.entry.now → IfOk result (λ task. IsTask (codes "serve") (rows_of (found_of found.entry.now)) task) }
+    ensures only { first_of (codes "device") (rows_of (found_of found.entry.now)) ≡ Some device.entry.now → (task : Task) → IsTask (codes "serve") (rows_of (found_of found.entry.now)) task → IfOk result (λ read. IsSameTask read task) }
+    ensures cause { first_of (codes "device") (rows_of (found_of found.entry.now)) ≡ Some device.entry.now → IfErr result (λ refused. IsCause (codes "serve") (rows_of (found_of found.entry.now)) refused) }
+{
+    let editors = seats(alloc, found, "editors", USUAL_SEATS)?;
+    let forwarders = seats(alloc, found, "forwarders", USUAL_SEATS)?;
+    let places = seats(alloc, found, "queue", USUAL_PLACES)?;
+    let words = words_asked(alloc, found)?;
+    Ok(Task::Serve {
+        device,
+        editors,
+        forwarders,
+        places,
+        words,
+    })
+}
+
+// A number from 1 to 64, or the usual one where none is named.
+fn seats(alloc: Global, found: &ArgMatches<'_>, id: &str, usual: u8) -> Result<u8, WordsRefused>
+    ensures found { IfOk result (λ n. IsSeats (first_value (found_of found.entry.now) id.now) usual n) }
+    ensures same { (n : ℕ) → IsSeats (first_value (found_of found.entry.now) id.now) usual n → IfOk result (λ m. m ≡ n) }
+    ensures only { (n : ℕ) → IsSeats (first_value (found_of found.entry.now) id.now) usual n → IfErr result (λ refused. refused ≡ WordsRefused.Memory) }
+    ensures refusals { IfErr result (λ refused. (refused ≡ WordsRefused.Usage) ⊎ (refused ≡ WordsRefused.Memory)) }
+{
+    let Some(text) = found.get_str(id) else {
+        return Ok(usual);
+    };
+    match number(alloc, text, MOST_SEATS)? {
+        Some(0) | None => Err(WordsRefused::Usage),
+        Some(seats) => Ok(seats as u8),
+    }
+}
+
+// The text of an argument.
+fn text<'a>(found: &ArgMatches<'a>, id: &str) -> Result<&'a str, WordsRefused>
+    ensures found { IfOk result (λ text. first_value (found_of found.entry.now) id.now ≡ Some text.now) }
+    ensures none { IfErr result (λ _. first_value (found_of found.entry.now) id.now ≡ None) }
+    ensures refusal { IfErr result (λ refused. refused ≡ WordsRefused.Usage) }
+{
+    match found.get_str(id) {
+        Some(text) => Ok(text),
+        None => Err(WordsRefused::Usage),
+    }
+}
+
+// A whole number from 0 to 65,535.
+fn whole(alloc: Global, found: &ArgMatches<'_>, id: &str) -> Result<u16, WordsRefused>
+    ensures found { IfOk result (λ n. first_value (found_of found.entry.now) id.now ≡ Some (decimal n)) }
+    ensures same { (n : ℕ) → n < 2 ^ 16 → first_value (found_of found.entry.now) id.now ≡ Some (decimal n) → IfOk result (λ m. m ≡ n) }
+    ensures only { (n : ℕ) → n < 2 ^ 16 → first_value (found_of found.entry.now) id.now ≡ Some (decimal n) → IfErr result (λ refused. refused ≡ WordsRefused.Memory) }
+    ensures refusals { IfErr result (λ refused. (refused ≡ WordsRefused.Usage) ⊎ (refused ≡ WordsRefused.Memory)) }
+{
+    let Some(text) = found.get_str(id) else {
+        return Err(WordsRefused::Usage);
+    };
+    whole_in(alloc, text)
+}
+
+// The whole number from 0 to 65,535 that a text is.
+fn whole_in(alloc: Global, text: &str) -> Result<u16, WordsRefused>
+    ensures found { IfOk result (λ n. text.now ≡ decimal n) }
+    ensures same { (n : ℕ) → n < 2 ^ 16 → text.now ≡ decimal n → IfOk result (λ m. m ≡ n) }
+    ensures only { (n : ℕ) → n < 2 ^ 16 → text.now ≡ decimal n → IfErr result (λ refused. refused ≡ WordsRefused.Memory) }
+    ensures refusals { IfErr result (λ refused. (refused ≡ WordsRefused.Usage) ⊎ (refused ≡ WordsRefused.Memory)) }
+{
+    match node(alloc, text)? {
+        Some(number) => Ok(number),
+        None => Err(WordsRefused::Usage),
+    }
+}
+
+// The ends of all routes: the first two nodes, and by twos those behind them.
+fn pairs(alloc: Global, found: &ArgMatches<'_>) -> Result<Vec<(u16, u16)>, WordsRefused>
+    ensures found { IfOk result (λ pairs. ArePairsAsked (rows_of (found_of found.entry.now)) pairs.items) }
+    ensures fits { IfOk result (λ pairs. All IsPairInRange pairs.items) }
+    ensures only { (pairs : List (ℕ × ℕ)) → All IsPairInRange pairs → ArePairsAsked (rows_of (found_of found.entry.now)) pairs → IfErr result (λ refused. refused ≡ WordsRefused.Memory) }
+    ensures refusals { IfErr result (λ refused. (refused ≡ WordsRefused.Usage) ⊎ (refused ≡ WordsRefused.Memory)) }
+{
+    let from = whole(alloc, found, "from")?;
+    let to = whole(alloc, found, "to")?;
+    let mut pairs = more_pairs(alloc, found)?;
+    pairs.insert(0, (from, to))?;
+    Ok(pairs)
+}
+
+// The pairs of nodes behind the first two.
+fn more_pairs(alloc: Global, found: &ArgMatches<'_>) -> Result<Vec<(u16, u16)>, WordsRefused>
+    ensures found { IfOk result (λ pairs. texts_in (option_map raw_values (matched_of (found_of found.entry.now) (codes "more"))) ≡ map decimal (nodes_of pairs.items)) }
+    ensures fits { IfOk result (λ pairs. All IsPairInRange pairs.items) }
+    ensures only { (pairs : List (ℕ × ℕ)) → All IsPairInRange pairs → texts_in (option_map raw_values (matched_of (found_of found.entry.now) (codes "more"))) ≡ map decimal (nodes_of pairs) → IfErr result (λ refused. refused ≡ WordsRefused.Memory) }
+    ensures refusals { IfErr result (λ refused. (refused ≡ WordsRefused.Usage) ⊎ (refused ≡ WordsRefused.Memory)) }
+{
+    match found.get_strs("more") {
+        Some(texts) => pairs_in(alloc, texts),
+        None => Ok(Vec::new(alloc)),
+    }
+}
+
+// Texts as nodes, by twos.
+fn pairs_in(alloc: Global, given: &[&str]) -> Result<Vec<(u16, u16)>, WordsRefused>
+    ensures found { IfOk result (λ pairs. texts given.now ≡ map decimal (nodes_of pairs.items)) }
+    ensures fits { IfOk result (λ pairs. All IsPairInRange pairs.items) }
+    ensures only { (pairs : List (ℕ × ℕ)) → All IsPairInRange pairs → texts given.now ≡ map decimal (nodes_of pairs) → IfErr result (λ refused. refused ≡ WordsRefused.Memory) }
+    ensures refusals { IfErr result (λ refused. (refused ≡ WordsRefused.Usage) ⊎ (refused ≡ WordsRefused.Memory)) }
+{
+    let mut pairs = Vec::new(alloc);
+    let mut waits = None;
+    for text in given {
+        let node = whole_in(alloc, *text)?;
+        match waits {
+            None => waits = Some(node),
+            Some(from) => {
+                pairs.push((from, node))?;
+                waits = None;
+            }
+        }
+    }
+    match waits {
+        None => Ok(pairs),
+        Some(_) => Err(WordsRefused::Usage),
+    }
+}
+
+// A session's number.
+fn session(alloc: Global, found: &ArgMatches<'_>) -> Result<u8, WordsRefused>
+    ensures found { IfOk result (λ n. (first_value (found_of found.entry.now) (codes "session") ≡ Some (decimal n)) × (n < sessions)) }
+    ensures same { (n : ℕ) → n < sessions → first_value (found_of found.entry.now) (codes "session") ≡ Some (decimal n) → IfOk result (λ m. m ≡ n) }
+    ensures only { (n : ℕ) → n < sessions → first_value (found_of found.entry.now) (codes "session") ≡ Some (decimal n) → IfErr result (λ refused. refused ≡ WordsRefused.Memory) }
+    ensures refusals { IfErr result (λ refused. (refused ≡ WordsRefused.Usage) ⊎ (refused ≡ WordsRefused.Memory)) }
+{
+    let Some(text) = found.get_str("session") else {
+        return Err(WordsRefused::Usage);
+    };
+    match number(alloc, text, SESSIONS as u64 - 1)? {
+        Some(session) => Ok(session as u8),
+        None => Err(WordsRefused::Usage),
+    }
+}
+
+// The session of an edit: the one that is named, or else the usual one.
+fn named_session(alloc: Global, found: &ArgMatches<'_>) -> Result<u8, WordsRefused>
+    ensures found { IfOk result (λ n. IsSessionText (first_value (found_of found.entry.now) (codes "session")) n) }
+    ensures fits { IfOk result (λ n. n < sessions) }
+    ensures same { (n : ℕ) → n < sessions → IsSessionText (first_value (found_of found.entry.now) (codes "session")) n → IfOk result (λ m. m ≡ n) }
+    ensures only { (n : ℕ) → n < sessions → IsSessionText (first_value (found_of found.entry.now) (codes "session")) n → IfErr result (λ refused. refused ≡ WordsRefused.Memory) }
+    ensures refusals { IfErr result (λ refused. (refused ≡ WordsRefused.Usage) ⊎ (refused ≡ WordsRefused.Memory)) }
+{
+    let Some(text) = found.get_str("session") else {
+        return Ok(USUAL_SESSION);
+    };
+    match number(alloc, text, SESSIONS as u64 - 1)? {
+        Some(session) => Ok(session as u8),
+        None => Err(WordsRefused::Usage),
+    }
+}
+
+// A ticket, where one is named.
+fn ticket(alloc: Global, found: &ArgMatches<'_>) -> Result<Option<u64>, WordsRefused>
+    ensures found { IfOk result (λ ticket. first_value (found_of found.entry.now) (codes "ticket") ≡ option_map decimal ticket) }
+    ensures fits { IfOk result IsTicket }
+    ensures same { (ticket : Option ℕ) → IsTicket ticket → first_value (found_of found.entry.now) (codes "ticket") ≡ option_map decimal ticket → IfOk result (λ read. read ≡ ticket) }
+    ensures only { (ticket : Option ℕ) → IsTicket ticket → first_value (found_of found.entry.now) (codes "ticket") ≡ option_map decimal ticket → IfErr result (λ refused. refused ≡ WordsRefused.Memory) }
+    ensures refusals { IfErr result (λ refused. (refused ≡ WordsRefused.Usage) ⊎ (refused ≡ WordsRefused.Memory)) }
+{
+    let Some(text) = found.get_str("ticket") else {
+        return Ok(None);
+    };
+    match number(alloc, text, WORN_LIMIT)? {
+        Some(0) | None => Err(WordsRefused::Usage),
+        Some(ticket) => Ok(Some(ticket)),
+    }
+}
+
+fn words_asked(alloc: Global, found: &ArgMatches<'_>) -> Result<LandmarkWords, WordsRefused>
+    ensures found { IfOk result (λ words. first_value (found_of found.entry.now) (codes "words") ≡ Some (words_text words)) }
+    ensures fits { IfOk result IsAsked }
+    ensures same { (words : LandmarkWords) → IsAsked words → first_value (found_of found.entry.now) (codes "words") ≡ Some (words_text words) → IfOk result (λ read. IsSame read words) }
+    ensures cause { IfErr result (λ refused. IsWordsCause (rows_of (found_of found.entry.now)) refused) }
+{
+    let Some(text) = found.get_str("words") else {
+        return Err(WordsRefused::Usage);
+    };
+    match landmark_words(alloc, text)? {
+        Some(words) => Ok(words),
+        None => Err(WordsRefused::Words),
+    }
+}
+
+fn change(alloc: Global, found: &ArgMatches<'_>) -> Result<Change, WordsRefused>
+    ensures found { IfOk result (λ change. option_map raw_values (matched_of (found_of found.entry.now) (codes "ops")) ≡ Some (map op_text change)) }
+    ensures same { (ops : List Op) → All Fits ops → option_map raw_values (matched_of (found_of found.entry.now) (codes "ops")) ≡ Some (map op_text ops) → IfOk result (λ change. change ≡ ops) }
+    ensures cause { IfErr result (λ refused. IsOpsCause (rows_of (found_of found.entry.now)) refused) }
+{
+    let Some(texts) = found.get_strs("ops") else {
+        return Err(WordsRefused::Usage);
+    };
+    let ops = ops_of(alloc, texts)?;
+    match Change::new(&ops) {
+        Ok(change) => Ok(change),
+        Err(Shape::Empty) => Err(WordsRefused::Usage),
+        Err(Shape::TooLong) => Err(WordsRefused::TooLong),
+    }
+}
+
+// Each text as an op.
+fn ops_of(alloc: Global, given: &[&str]) -> Result<Vec<Op>, WordsRefused>
+    ensures ops { IfOk result (λ ops. map op_text ops.items ≡ texts given.now) }
+    ensures same { (ops : List Op) → All Fits ops → map op_text ops ≡ texts given.now → IfOk result (λ read. read.items ≡ ops) }
+    ensures cause { IfErr result (λ refused. (refused ≡ WordsRefused.Memory) ⊎ ((refused ≡ WordsRefused.Op) × ((ops : List Op) → All Fits ops → map op_text ops ≡ texts given.now → ⊥))) }
+{
+    let mut ops = Vec::new(alloc);
+    for text in given {
+        let Some(op) = op(alloc, *text)? else {
+            return Err(WordsRefused::Op);
+        };
+        ops.push(op)?;
+    }
+    Ok(ops)
+}

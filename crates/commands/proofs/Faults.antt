@@ -1,0 +1,231 @@
+-- Which faults may end a run.
+use Rattle.std.proofs.Common.{◌≡◌, ◌≢◌, ◌∙◌, ℕ, List, inl, inr, refl, sym, subst, Result, Ok, Err, IfErr, IsErrAnd, IsErrOf}
+use Rattle.clap.specs.Walk.{Text}
+use Rattle.written_values.specs.declared.words.LandmarkWords.{LandmarkWords}
+use Rattle.written_values.specs.declared.words.LandmarkWords.TheVariants.{Greatest, ZeroAt, Drawn}
+use Rattle.written_values.specs.Words.{IsWithin}
+use Rattle.command_output.specs.declared.fault.Fault.{Fault}
+use Rattle.command_output.specs.declared.fault.Fault.TheVariants as told
+use Rattle.device_commands.specs.Openings.{IsEditFault, IsFormatFault, IsOpenFault, TellsOf}
+use Rattle.device_commands.specs.Moves.{IsMoveFault}
+use Rattle.command_line.specs.Asked.{IsAskedFor, IsInRange, IsRefusedFor}
+use Rattle.command_line.specs.declared.refused.WordsRefused.{WordsRefused}
+use Rattle.command_line.specs.declared.refused.WordsRefused.TheVariants as why
+use Rattle.command_line.specs.declared.task.Task.{Task}
+use Rattle.command_output.specs.Faults.{IsNotUnderstood}
+use Rattle.service_lines.specs.ServedLines.{IsServeFault}
+use Rattle.commands.specs.Endings.{EndsCheck, EndsEdit, EndsFormat, EndsMigrate, EndsRoute, EndsServe, EndsShow, IsCheckDeviceFault, IsRouteDeviceFault, IsFaultFor, IsFileFault, IsRouteFault, IsScriptFault, IsQueryFault, IsThreadFault, IsWordsFault, MayEnd, NamesNodes, words_fault}
+
+-- words of which a graph lacks a node name nodes
+pub names_nodes : (words : LandmarkWords) (nodes : ℕ) → ¬ IsWithin words nodes → NamesNodes words
+names_nodes Greatest nodes lacks = lacks tt
+names_nodes (ZeroAt named) nodes lacks = tt
+names_nodes (Drawn seed) nodes lacks = lacks tt
+
+-- ---- the faults of a part are faults of the whole
+
+pub format_formats : (nodes : ℕ) (fault : Fault) → IsFormatFault nodes fault → EndsFormat nodes fault
+format_formats nodes told.DeviceFile is = tt
+format_formats nodes told.DeviceInUse is = tt
+format_formats nodes told.Output is = tt
+format_formats nodes told.NodeCount is = is
+format_formats nodes told.DeviceLength is = tt
+format_formats nodes told.Device is = tt
+format_formats nodes _ is = absurd is
+
+pub show_opens : (fault : Fault) → IsOpenFault fault → EndsShow fault
+show_opens told.DeviceFile is = tt
+show_opens told.DeviceInUse is = tt
+show_opens told.Output is = tt
+show_opens told.NotFormatted is = tt
+show_opens told.LayoutNotKnown is = tt
+show_opens told.Damaged is = tt
+show_opens told.Device is = tt
+show_opens told.Memory is = tt
+show_opens _ is = absurd is
+
+pub edit_edits : (fault : Fault) → IsEditFault fault → EndsEdit fault
+edit_edits told.DeviceFile is = tt
+edit_edits told.DeviceInUse is = tt
+edit_edits told.Output is = tt
+edit_edits told.NotFormatted is = tt
+edit_edits told.LayoutNotKnown is = tt
+edit_edits told.Damaged is = tt
+edit_edits told.Device is = tt
+edit_edits told.Memory is = tt
+edit_edits told.Internal is = tt
+edit_edits told.Worn is = tt
+edit_edits told.AlreadyIn is = tt
+edit_edits _ is = absurd is
+
+pub move_moves : (fault : Fault) → IsMoveFault fault → EndsMigrate fault
+move_moves told.DeviceFile is = tt
+move_moves told.DeviceInUse is = tt
+move_moves told.Output is = tt
+move_moves told.NotFormatted is = tt
+move_moves told.LayoutNotKnown is = tt
+move_moves told.Damaged is = tt
+move_moves told.Device is = tt
+move_moves told.Memory is = tt
+move_moves told.DeviceLength is = tt
+move_moves _ is = absurd is
+
+pub serve_serves : (fault : Fault) → IsServeFault fault → EndsServe fault
+serve_serves told.DeviceFile is = tt
+serve_serves told.DeviceInUse is = tt
+serve_serves told.Script is = tt
+serve_serves told.NotFormatted is = tt
+serve_serves told.LayoutNotKnown is = tt
+serve_serves told.Damaged is = tt
+serve_serves told.Words is = tt
+serve_serves told.Device is = tt
+serve_serves told.Worn is = tt
+serve_serves told.Memory is = tt
+serve_serves told.Internal is = tt
+serve_serves told.NoThread is = tt
+serve_serves told.Output is = tt
+serve_serves _ is = absurd is
+
+pub serve_reads : (fault : Fault) → IsScriptFault fault → EndsServe fault
+serve_reads told.Script is = tt
+serve_reads told.Memory is = tt
+serve_reads told.Output is = tt
+serve_reads _ is = absurd is
+
+-- a file's fault may end a command that both of its faults may end
+pub of_file : (P : Fault → Type 0) (fault : Fault) → P told.DeviceFile → P told.DeviceInUse → IsFileFault fault → P fault
+of_file P told.DeviceFile file used is = file
+of_file P told.DeviceInUse file used is = used
+of_file P _ file used is = absurd is
+
+-- what isn't understood is no fault of an output
+pub never_output : (fault : Fault) → IsNotUnderstood fault → fault ≢ told.Output
+never_output told.Usage is = λ same. absurd (cc)
+never_output told.Op is = λ same. absurd (cc)
+never_output told.Words is = λ same. absurd (cc)
+never_output told.Script is = λ same. absurd (cc)
+never_output _ is = absurd is
+
+-- where only the output may fail, all that holds behind another fault holds
+pub only_output : {T : Type 0} → (r : Result T Fault) (P : Type 0) → IfErr r (λ fault. fault ≡ told.Output) → IfErr r (λ fault. fault ≢ told.Output → P)
+only_output (Ok x) P is = tt
+only_output (Err fault) P is = λ other. absurd (other is)
+
+pub check_opens : (words : LandmarkWords) (fault : Fault) → IsOpenFault fault → IsCheckDeviceFault words fault
+check_opens words told.NotFormatted is = tt
+check_opens words told.LayoutNotKnown is = tt
+check_opens words told.Damaged is = tt
+check_opens words told.Device is = tt
+check_opens words told.Memory is = tt
+check_opens words _ is = absurd is
+
+pub route_opens : (words : LandmarkWords) (fault : Fault) → IsOpenFault fault → IsRouteDeviceFault words fault
+route_opens words told.NotFormatted is = tt
+route_opens words told.LayoutNotKnown is = tt
+route_opens words told.Damaged is = tt
+route_opens words told.Device is = tt
+route_opens words told.Memory is = tt
+route_opens words _ is = absurd is
+
+pub check_asks : (words : LandmarkWords) (fault : Fault) → IsQueryFault words fault → IsCheckDeviceFault words fault
+check_asks words told.Words is = is
+check_asks words told.Memory is = tt
+check_asks words told.NoThread is = tt
+check_asks words _ is = absurd is
+
+pub route_asks : (words : LandmarkWords) (fault : Fault) → IsRouteFault words fault → IsRouteDeviceFault words fault
+route_asks words told.NoNode is = tt
+route_asks words told.Words is = is
+route_asks words told.Memory is = tt
+route_asks words _ is = absurd is
+
+pub check_ends : (words : LandmarkWords) (fault : Fault) → IsCheckDeviceFault words fault → EndsCheck words fault
+check_ends words told.DeviceFile is = tt
+check_ends words told.DeviceInUse is = tt
+check_ends words told.Output is = tt
+check_ends words told.Words is = is
+check_ends words told.NotFormatted is = tt
+check_ends words told.LayoutNotKnown is = tt
+check_ends words told.Damaged is = tt
+check_ends words told.Device is = tt
+check_ends words told.Memory is = tt
+check_ends words told.NoThread is = tt
+check_ends words _ is = absurd is
+
+pub route_ends : (words : LandmarkWords) (fault : Fault) → IsRouteDeviceFault words fault → EndsRoute words fault
+route_ends words told.DeviceFile is = tt
+route_ends words told.DeviceInUse is = tt
+route_ends words told.Output is = tt
+route_ends words told.NoNode is = tt
+route_ends words told.Words is = is
+route_ends words told.NotFormatted is = tt
+route_ends words told.LayoutNotKnown is = tt
+route_ends words told.Damaged is = tt
+route_ends words told.Device is = tt
+route_ends words told.Memory is = tt
+route_ends words _ is = absurd is
+
+pub thread_asks : (words : LandmarkWords) (fault : Fault) → IsThreadFault fault → IsQueryFault words fault
+thread_asks words told.Memory is = tt
+thread_asks words told.NoThread is = tt
+thread_asks words _ is = absurd is
+
+pub words_ask : (words : LandmarkWords) (fault : Fault) → IsWordsFault words fault → IsQueryFault words fault
+words_ask words told.Words is = is
+words_ask words told.Memory is = tt
+words_ask words _ is = absurd is
+
+pub words_route : (words : LandmarkWords) (fault : Fault) → IsWordsFault words fault → IsRouteFault words fault
+words_route words told.Words is = is
+words_route words told.Memory is = tt
+words_route words _ is = absurd is
+
+-- ---- the faults of words and queries tell nothing of a content
+
+pub words_tell : (words : LandmarkWords) (fault : Fault) (content : List ℕ) → IsQueryFault words fault → TellsOf fault content
+words_tell words told.Words content is = tt
+words_tell words told.Memory content is = tt
+words_tell words told.NoThread content is = tt
+words_tell words _ content is = absurd is
+
+pub route_tells : (words : LandmarkWords) (fault : Fault) (content : List ℕ) → IsRouteFault words fault → TellsOf fault content
+route_tells words told.NoNode content is = tt
+route_tells words told.Words content is = tt
+route_tells words told.Memory content is = tt
+route_tells words _ content is = absurd is
+
+-- ---- words that are no task
+
+pub memory_alone : (refused : WordsRefused) → refused ≡ why.Memory → words_fault refused ≡ told.Memory
+memory_alone why.Memory is = refl
+memory_alone why.Usage is = absurd (cc)
+memory_alone why.Words is = absurd (cc)
+memory_alone why.Op is = absurd (cc)
+memory_alone why.TooLong is = absurd (cc)
+
+-- words that are refused are so by a fault for them
+pub refused_for : (words : List Text) (refused : WordsRefused) (fault : Fault) → fault ≡ words_fault refused → IsRefusedFor words refused
+    → ((task : Task) → IsAskedFor words task → IsInRange task → refused ≡ why.Memory) → IsFaultFor words fault
+refused_for words refused fault is cause memory = inl (refused, is, cause, λ task asked fits. is ∙ memory_alone refused (memory task asked fits))
+
+-- a fault of a part, where it is handed up
+pub each_fault : {T : Type 0} (r : Result T Fault) (P Q : Fault → Type 0) → ((fault : Fault) → P fault → Q fault) → IfErr r P → IfErr r Q
+each_fault (Ok x) P Q is has = tt
+each_fault (Err fault) P Q is has = is fault has
+
+-- what holds of the fault that came holds of the one that is handed up
+pub handed_up : {T : Type 0} (r : Result T Fault) (P : Fault → Type 0) (fault : Fault) → IsErrAnd r (λ e. e ≡ fault) → P fault → IfErr r P
+handed_up (Ok x) P fault is has = absurd is
+handed_up (Err e) P fault is has = subst P (sym is) has
+
+-- a fault that can't come doesn't
+pub not_told : {T : Type 0} (r : Result T Fault) (fault : Fault) (P : Fault → Type 0) → (P fault → ⊥) → IfErr r P → IsErrOf r fault → ⊥
+not_told r fault P never may is = never (subst (λ x. IfErr x P) is may)
+
+-- a fault that may end the task that was understood is one for the words
+pub ends_task : {T : Type 0} (r : Result T Fault) (words : List Text) (understood task : Task) → IsAskedFor words understood → understood ≡ task → IfErr r (λ fault. MayEnd task fault)
+    → IfErr r (λ fault. IsFaultFor words fault)
+ends_task (Ok ended) words understood task asked is may = tt
+ends_task (Err fault) words understood task asked is may =
+    let there : IsFaultFor words fault = inr (task, subst (λ (t : Task). IsAskedFor words t) is asked, may) in
+    there

@@ -1,0 +1,44 @@
+//! The run of the program `tznode`, a compact routing node on a device file: its words, a reader and two writers.
+//!
+//! | Words | What is done | What is printed |
+//! |---|---|---|
+//! | `format DEVICE N` | the file is made anew, and formatted for N nodes | `formatted nodes=N` |
+//! | `show DEVICE` | the device is opened | `count=C edges=E`, then `a b w` for each edge |
+//! | `edit DEVICE OP.. --session S --ticket T` | one change of all OPs, whole or not at all, under ticket T of session S or the next one; without S, of session 0 | `accepted count=C` or `refused op=I code=K` |
+//! | `resume DEVICE S` | the device is opened | `session=S ticket=T`, the last ticket of session S |
+//! | `route DEVICE FROM TO [FROM TO].. --words W` | for each pair of nodes the route under the landmarks that these words give is found | a line for each pair, `generation=G route 0 1 2 length L` or `generation=G unreachable` |
+//! | `check DEVICE --words W` | the scheme that these words give is built and checked | `ok generation=G landmarks=K` or `fault K4` |
+//! | `migrate OLD NEW` | what OLD holds, a device of layout 1, is brought to a new file | `migrated count=C edges=E` |
+//! | `serve DEVICE --words W --editors E --forwarders F --queue Q` | the script that the reader gives is run, by E editors and F forwarders, with Q places in the queue | a line for each of its lines, as `edit` and `route` print them, or `no node` |
+//!
+//! An OP is `add:A:B:W`, `set:A:B:W` or `cut:A:B`. W says which nodes are landmarks: `none`, those of `at:2,5`, or those that
+//! `draw:7` draws. A line of a script is `S OP..`, a change of session S, or `route A B`. Where they aren't named, E and F are 2 and Q
+//! is 64. Of all commands `serve` alone reads what the reader gives. What ends a command is a `Fault`, told on the second writer as
+//! `tznode: TEXT`.
+//!
+//! Here stand the files, the routes, the thread that builds a scheme to check it, and the run. The words are read in `command_line`, the lines and faults are
+//! spelt in `command_output`, and what `format`, `show`, `edit`, `resume` and `migrate` do on a device is in
+//! `device_commands`; the threads of `serve` are in `service_threads`, and its lines in `service_lines`.
+//!
+//! The contract that the layer above uses is that of [`run_words`]: of any run that what it printed is the answer to what its words
+//! ask for, or which fault ended it, and with which status, and that no other command reads what is meant for `serve`. [`run`] says
+//! the same of how it ended ([`Outcome`]). Of a device that keeps the disk model it is proved what `route` and `check` answer
+//! ([`route_device`], [`check_device`]). What a file of the system holds is tested.
+//!
+//! ```text
+//! let words = ["edit", "device", "add:0:1:1"];
+//! let status = run_words(rt, &words, &mut rt.stdin(), &mut rt.stdout(), &mut rt.stderr()); // 0, and accepted count=1
+//! ```
+#![tactic(auto)]
+
+mod checking;
+mod files;
+mod outcome;
+mod routing;
+mod running;
+mod scheme_tasks;
+mod service;
+
+pub use outcome::Outcome;
+pub use running::{run, run_words};
+pub use scheme_tasks::{check_device, route_device};

@@ -1,6 +1,0 @@
-use Rattle.given_words.specs.Words.{first_state}
-use Rattle.drawn_words.proofs.draws.Draws.seeded.Goals as goal
-
-pub returns : goal.returns
-unfolding first_state
-returns c = c.seed_from_u64.ensures

@@ -1,3 +1,0 @@
-pub mod OpText
-pub mod WordsText
-pub mod Words

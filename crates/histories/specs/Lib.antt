@@ -1,4 +1,0 @@
-pub mod History
-pub mod Happenings
-pub mod Runs
-pub mod Laws

@@ -1,3 +1,0 @@
-pub mod Lives
-pub mod Submits
-pub mod Laws

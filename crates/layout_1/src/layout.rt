@@ -1,0 +1,27 @@
+//! Where things stand on a device, and the limit of its numbers.
+
+pub use layout_parts::layout::{EDGE_LEN, HEAD_LEN, HEADER_LEN, MAGIC, OPEN_GATE, SLOTS_START};
+
+/// The greatest count of accepted changes, and the greatest epoch: 2^63 - 1.
+pub const WORN_LIMIT: u64 = 9_223_372_036_854_775_807;
+
+/// The layout that is described here.
+pub const VERSION: [u8; 2] = *b"01";
+
+/// The most nodes of a device's network.
+pub const MOST_NODES: u16 = 4096;
+
+/// The most edges of a device's network.
+pub const MOST_EDGES: usize = 16_384;
+
+/// The size of a checkpoint's area.
+pub const CHECKPOINT_ROOM: usize = 135_168;
+
+/// The size of a journal's area.
+pub const JOURNAL_ROOM: usize = 1_048_576;
+
+/// The size of a slot.
+pub const SLOT_ROOM: usize = CHECKPOINT_ROOM + JOURNAL_ROOM;
+
+/// The number of bytes of a device.
+pub const DEVICE_LEN: usize = SLOTS_START + 2 * SLOT_ROOM;

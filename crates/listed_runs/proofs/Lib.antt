@@ -1,9 +1,0 @@
-pub mod Cuts
-pub mod Numbers
-pub mod Steps
-pub mod Sessions
-pub mod Listing
-pub mod Posted
-pub mod Queue
-pub mod Acked
-pub mod Tickets

@@ -1,0 +1,4 @@
+pub mod WordLemmas
+pub mod RangeLemmas
+pub mod Addresses
+pub mod Routes

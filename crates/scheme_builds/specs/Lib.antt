@@ -1,0 +1,7 @@
+pub mod Words
+pub mod Schemes
+pub mod Lengths
+pub mod Ranges
+pub mod Workers
+pub mod Queries
+pub mod Carrying

@@ -1,0 +1,58 @@
+//! Schemes of graphs by landmark words: built alone or in several threads, checked, and asked.
+//!
+//! Whoever routes in a graph needs its scheme by one word for each node: a word below the bound makes its node a landmark. Of words that
+//! are too many the first count, and for words that are too few the greatest stands in ([`first_words`]), so any words will do.
+//!
+//! # Building
+//!
+//! [`scheme_of`] chooses the landmarks and builds, in one call: the scheme keeps all rules, serves the graph, has exactly the landmarks
+//! that these words give, and the generation that was handed in (`IsSchemeOf` of `specs/Schemes`).
+//!
+//! [`scheme_of_in_threads`] promises the same. A build grows a tree for each root, one after the other, and none of them looks at
+//! another: so the roots are cut into ranges, each worker builds its range in a thread of its own, and the ranges are joined in the order
+//! of the roots. Where no thread can be made, the caller builds that range itself. The tables are the same, whatever the number of
+//! workers (a test holds it). [`scheme_in_threads`] takes landmarks, and has clause by clause the contract of [`node_table::build`].
+//! [`workers_for`] says how many workers pay.
+//!
+//! ```text
+//! let scheme = scheme_of(alloc, &graph, &[u64::MAX, 0], generation, &heap)?;
+//! let workers = workers_for(graph.nodes(), processors);
+//! let scheme = scheme_of_in_threads(rt, alloc, &graph, &words, generation, workers)?;
+//! length_over(&graph, &[0, 1, 2])     // how long a way over a graph's nodes is
+//! ```
+//!
+//! # Queries
+//!
+//! A query builds the scheme of the graph with these words, asks it, and lets it go. The trees that are grown lie in a heap of the
+//! call's own, in threads one for each range, so they take no more memory than [`SCRATCH_LEN`] bytes each; where that isn't enough the
+//! query answers that memory has run out. A range's thread has a stack for deep trees; whoever builds in its own thread ([`scheme_of`],
+//! [`carry_packet`]) gives it one.
+//!
+//! [`carry_packet`] answers a trail at most three times as long as any walk where a walk is there, and that there is none where none is,
+//! each by the scheme of exactly these words (`IsRouteAnswer`); [`check_scheme`] finds no fault, and counts exactly the landmarks that
+//! the words choose (`IsCheckAnswer`).
+//!
+//! ```text
+//! match carry_packet(alloc, &graph, &words, generation, 0, 4)? {
+//!     Route::Along(trail) => ..         // trail.nodes, trail.ports, trail.length
+//!     Route::Unreachable => ..
+//! }
+//! let checked = check_scheme(rt, alloc, &graph, &words, generation, workers)?;   // checked.landmarks, checked.fault
+//! ```
+#![tactic(auto)]
+
+mod lengths;
+mod queries;
+mod ranges;
+mod schemes;
+mod threads;
+mod words;
+mod workers;
+
+pub use lengths::length_over;
+pub use queries::{Checked, Route, carry_packet, check_scheme};
+pub use ranges::SCRATCH_LEN;
+pub use schemes::scheme_of;
+pub use threads::{scheme_in_threads, scheme_of_in_threads};
+pub use words::first_words;
+pub use workers::{LEAST_SHARED, MOST_WORKERS, workers_for};

@@ -1,0 +1,118 @@
+// A scheme for each query, and what is asked of it.
+ghost use Rattle.std.specs.Prelude.{◌≡◌, ◌<◌, IfOk, count_by};
+ghost use Rattle.node_table.specs.declared.parts.Parts.{Parts};
+ghost use Rattle.node_table.specs.Checks.{IsChecked};
+ghost use Rattle.scheme_builds.specs.Carrying.{IsCarried};
+ghost use Rattle.scheme_builds.specs.Schemes.{IsSchemeOf};
+ghost use Rattle.scheme_builds.specs.Queries.{IsCheckAnswer, IsRouteAnswer, IsRouteIn};
+
+use crate::ranges::SCRATCH_LEN;
+use crate::schemes::scheme_of;
+use crate::threads::scheme_of_in_threads;
+use graph_edits::Graph;
+use linked_list_allocator::LocalHeap;
+use node_table::{CarryRefused, Scheme, Trail, graph_is_sound};
+use std::alloc::{AllocError, Global};
+use std::sync::Wait;
+use std::thread::Threads;
+
+/// What became of a packet.
+#[derive(Drop)]
+pub enum Route {
+    /// It was carried to its destination.
+    Along(Trail),
+    /// No tree leads to its destination.
+    Unreachable,
+}
+
+/// What the checks say of a scheme.
+#[derive(Drop)]
+pub struct Checked {
+    /// How many landmarks it has.
+    pub landmarks: usize,
+    /// The first check that fails.
+    pub fault: Option<certificate::Fault>,
+}
+
+/// The scheme of the graph by these landmark words. Its trees lie in a heap of this call's own.
+fn built(alloc: Global, graph: &Graph, words: &[u64], generation: u64) -> Result<Scheme, AllocError>
+    ensures { IfOk result (λ scheme. IsSchemeOf graph.now words.now generation scheme) }
+{
+    let heap = LocalHeap::new(alloc, SCRATCH_LEN)?;
+    scheme_of(alloc, graph, words, generation, &heap)
+}
+
+/// How many landmarks a scheme has.
+fn landmark_count(scheme: &Scheme) -> usize
+    ensures { result ≡ count_by (λ flag. flag) scheme.now.landmarks.items }
+{
+    scheme
+        .parts()
+        .landmarks
+        .iter()
+        .filter(|flag| **flag)
+        .count()
+}
+
+/// Carries a packet to a node's own address in a scheme that keeps all rules for the graph.
+fn carried(
+    alloc: Global,
+    graph: &Graph,
+    scheme: &Scheme,
+    from: u16,
+    to: u16,
+) -> Result<Trail, CarryRefused>
+    requires checked { IsChecked graph.now scheme.now }
+    requires from { from < graph.now.nodes }
+    requires to { to < graph.now.nodes }
+    ensures { IsCarried graph.now scheme.now from to result }
+{
+    graph_is_sound(graph);
+    let Ok(address) = scheme.address(to) else {
+        unreachable!()
+    };
+    scheme.carry(alloc, from, &address)
+}
+
+/// Carries a packet from a node to a node, in the scheme of the graph by these landmark words. Of the words the first count,
+/// one for each node, and for each that is missing the greatest. The trees lie in a heap of this call's own.
+pub fn carry_packet(
+    alloc: Global,
+    graph: &Graph,
+    words: &[u64],
+    generation: u64,
+    from: u16,
+    to: u16,
+) -> Result<Route, AllocError>
+    requires from { from < graph.now.nodes }
+    requires to { to < graph.now.nodes }
+    ensures answer { IsRouteAnswer graph.now from to result }
+    ensures scheme { IfOk result (λ route. (p : Parts) × (IsSchemeOf graph.now words.now generation p × IsRouteIn p from to route)) }
+{
+    let scheme = built(alloc, graph, words, generation)?;
+    match carried(alloc, graph, &scheme, from, to) {
+        Ok(trail) => Ok(Route::Along(trail)),
+        Err(CarryRefused::Unreachable) => Ok(Route::Unreachable),
+        Err(CarryRefused::Memory) => Err(AllocError),
+        Err(_) => unreachable!(),
+    }
+}
+
+/// Checks the scheme of the graph by these landmark words, under this generation. Of the words the first count, one for
+/// each node, and for each that is missing the greatest. So many workers build it and check it, at least one and at most
+/// [`MOST_WORKERS`](crate::MOST_WORKERS), each in a thread of its own where one can be made; the answer is the same for any number.
+pub fn check_scheme<R: Threads + Wait + Sync>(
+    rt: &R,
+    alloc: Global,
+    graph: &Graph,
+    words: &[u64],
+    generation: u64,
+    workers: u16,
+) -> Result<Checked, AllocError>
+    ensures { IsCheckAnswer graph.now words.now generation result }
+{
+    let judged = scheme_of_in_threads(rt, alloc, graph, words, generation, workers)?;
+    let fault = certificate::check_in_threads(rt, graph, &judged, workers).err();
+    let landmarks = landmark_count(&judged);
+    Ok(Checked { landmarks, fault })
+}

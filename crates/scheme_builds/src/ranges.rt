@@ -1,0 +1,211 @@
+// Ranges of roots, each built by a worker, and joined in the order of the roots.
+ghost use Rattle.std.specs.Prelude.{◌≡◌, ◌<◌, ◌≤◌, ◌*◌, ℕ, None, IfOk, length, slice_index_or};
+ghost use Rattle.distances.specs.Nearest.{IsNearestOf};
+ghost use Rattle.node_table.specs.Building.{IsBuildOf};
+ghost use Rattle.scheme_builds.specs.Ranges.{AreRanges, IsRange};
+
+use crate::workers::LEAST_SHARED;
+use core::thread::Stack;
+use distances::Nearest;
+use graph_edits::Graph;
+use landmarks::Landmarks;
+use linked_list_allocator::LocalHeap;
+use node_table::{PartialScheme, build_between};
+use std::alloc::{AllocError, Global};
+use std::snapshot::Snapshot;
+use std::sync::Wait;
+use std::thread;
+use std::thread::{Promise, Threads};
+
+/// How many bytes the trees of one range may take.
+pub const SCRATCH_LEN: usize = 67_108_864;
+
+/// How many bytes of stack a thread has that grows trees: they are as deep as a graph has nodes.
+const STACK_LEN: usize = 67_108_864;
+
+// That a thread builds the roots from `first` on and below `last`.
+#[derive(Drop)]
+struct RangePromise {
+    graph: Snapshot<Graph>,
+    landmarks: Snapshot<Landmarks>,
+    nearest: Snapshot<Nearest>,
+    generation: u64,
+    first: u16,
+    last: u16,
+}
+
+impl Promise<Result<PartialScheme, AllocError>> for RangePromise {
+    ghost use Rattle.std.specs.Prelude.{IfOk};
+    ghost use Rattle.node_table.specs.Building.{IsBuildOf};
+
+    ghost kept_by = { λ p r. IfOk r (λ made. IsBuildOf p.graph.value p.landmarks.value p.nearest.value.nearest p.generation made p.first p.last) };
+}
+
+/// What a build has of the roots from `first` on and below `last`. The trees are grown over a heap of this call's own.
+fn build_roots(
+    alloc: Global,
+    graph: &Graph,
+    landmarks: &Landmarks,
+    nearest: &Nearest,
+    generation: u64,
+    first: u16,
+    last: u16,
+) -> Result<PartialScheme, AllocError>
+    requires same_size { length landmarks.now ≡ graph.now.nodes }
+    requires nodes { length nearest.now.nearest ≡ graph.now.nodes }
+    requires nearest { (v : ℕ) → IsNearestOf graph.now.edges landmarks.now v (slice_index_or nearest.now.nearest v None) }
+    requires order { first ≤ last }
+    requires inside { last ≤ graph.now.nodes }
+    ensures { IfOk result (λ made. IsBuildOf graph.now landmarks.now nearest.now.nearest generation made first last) }
+{
+    let heap = LocalHeap::new(alloc, SCRATCH_LEN)?;
+    build_between(
+        alloc, graph, landmarks, nearest, generation, first, last, &heap,
+    )
+}
+
+/// The same, in a thread with a stack for deep trees where one can be made, and else in this one.
+fn build_apart<R: Threads + Wait>(
+    rt: &R,
+    alloc: Global,
+    graph: &Graph,
+    landmarks: &Landmarks,
+    nearest: &Nearest,
+    generation: u64,
+    first: u16,
+    last: u16,
+) -> Result<PartialScheme, AllocError>
+    requires same_size { length landmarks.now ≡ graph.now.nodes }
+    requires nodes { length nearest.now.nearest ≡ graph.now.nodes }
+    requires nearest { (v : ℕ) → IsNearestOf graph.now.edges landmarks.now v (slice_index_or nearest.now.nearest v None) }
+    requires order { first ≤ last }
+    requires inside { last ≤ graph.now.nodes }
+    ensures { IfOk result (λ made. IsBuildOf graph.now landmarks.now nearest.now.nearest generation made first last) }
+{
+    thread::scope(
+        thread::scope_env(),
+        rt,
+        |scope| -> Result<PartialScheme, AllocError>
+            requires { (length landmarks.now ≡ graph.now.nodes) × (length nearest.now.nearest ≡ graph.now.nodes)
+                × ((v : ℕ) → IsNearestOf graph.now.edges landmarks.now v (slice_index_or nearest.now.nearest v None)) × (first ≤ last) × (last ≤ graph.now.nodes) }
+            ensures { IfOk result (λ made. IsBuildOf graph.entry.now landmarks.entry.now nearest.entry.now.nearest generation made first last) }
+        {
+            let promise = RangePromise {
+                graph: Snapshot::of(graph),
+                landmarks: Snapshot::of(landmarks),
+                nearest: Snapshot::of(nearest),
+                generation,
+                first,
+                last,
+            };
+            let job = || -> Result<PartialScheme, AllocError>
+                requires { (length landmarks.now ≡ graph.now.nodes) × (length nearest.now.nearest ≡ graph.now.nodes)
+                    × ((v : ℕ) → IsNearestOf graph.now.edges landmarks.now v (slice_index_or nearest.now.nearest v None)) × (first ≤ last) × (last ≤ graph.now.nodes) }
+                ensures { IfOk result (λ made. IsBuildOf graph.entry.now landmarks.entry.now nearest.entry.now.nearest generation made first last) }
+            { build_roots(alloc, graph, landmarks, nearest, generation, first, last) };
+            match Stack::new()
+                .stack_size(STACK_LEN)
+                .spawn_scoped_with(scope, promise, job)
+            {
+                Ok(child) => child.join(rt),
+                Err(_) => build_roots(alloc, graph, landmarks, nearest, generation, first, last),
+            }
+        },
+    )
+}
+
+/// What a build has of the range of this number. In a small network trees are not deep: they need no stack of their own.
+fn build_range<R: Threads + Wait>(
+    rt: &R,
+    alloc: Global,
+    graph: &Graph,
+    landmarks: &Landmarks,
+    nearest: &Nearest,
+    generation: u64,
+    size: u16,
+    i: usize,
+) -> Result<PartialScheme, AllocError>
+    requires same_size { length landmarks.now ≡ graph.now.nodes }
+    requires nodes { length nearest.now.nearest ≡ graph.now.nodes }
+    requires nearest { (v : ℕ) → IsNearestOf graph.now.edges landmarks.now v (slice_index_or nearest.now.nearest v None) }
+    ensures { IsRange graph.now landmarks.now nearest.now.nearest generation size i result }
+{
+    let nodes = graph.nodes() as usize;
+    let first = i.saturating_mul(size as usize).min(nodes);
+    let last = (first + size as usize).min(nodes);
+    if graph.nodes() < LEAST_SHARED {
+        return build_roots(
+            alloc,
+            graph,
+            landmarks,
+            nearest,
+            generation,
+            first as u16,
+            last as u16,
+        );
+    }
+    build_apart(
+        rt,
+        alloc,
+        graph,
+        landmarks,
+        nearest,
+        generation,
+        first as u16,
+        last as u16,
+    )
+}
+
+/// What a build has of all roots, out of that of all ranges.
+fn join_ranges(
+    graph: &Graph,
+    landmarks: &Landmarks,
+    nearest: &Nearest,
+    generation: u64,
+    size: u16,
+    mut made: Vec<Result<PartialScheme, AllocError>>,
+) -> Result<PartialScheme, AllocError>
+    requires some { 0 < length made.items }
+    requires all { graph.now.nodes ≤ length made.items * size }
+    requires ranges { AreRanges graph.now landmarks.now nearest.now.nearest generation size 0 made.items }
+    ensures { IfOk result (λ whole. IsBuildOf graph.now landmarks.now nearest.now.nearest generation whole 0 graph.now.nodes) }
+{
+    let count = made.len();
+    let mut whole = made.remove(0)?;
+    for i in 1..count {
+        let next = made.remove(0)?;
+        whole = whole.join(next)?;
+    }
+    Ok(whole)
+}
+
+/// What a build has of all roots. They are cut into ranges of this size, each of which is built in a thread of its own where
+/// one can be made.
+pub(crate) fn build_ranges<R: Threads + Wait + Sync>(
+    rt: &R,
+    alloc: Global,
+    graph: &Graph,
+    landmarks: &Landmarks,
+    nearest: &Nearest,
+    generation: u64,
+    size: u16,
+) -> Result<PartialScheme, AllocError>
+    requires some { 0 < size }
+    requires same_size { length landmarks.now ≡ graph.now.nodes }
+    requires nodes { length nearest.now.nearest ≡ graph.now.nodes }
+    requires nearest { (v : ℕ) → IsNearestOf graph.now.edges landmarks.now v (slice_index_or nearest.now.nearest v None) }
+    ensures { IfOk result (λ whole. IsBuildOf graph.now landmarks.now nearest.now.nearest generation whole 0 graph.now.nodes) }
+{
+    let count = graph.nodes().div_ceil(size);
+    let made = thread::map_indices(
+        rt,
+        alloc,
+        count as usize,
+        &|i: usize| -> Result<PartialScheme, AllocError>
+            requires { (length landmarks.now ≡ graph.now.nodes) × (length nearest.now.nearest ≡ graph.now.nodes)
+                × ((v : ℕ) → IsNearestOf graph.now.edges landmarks.now v (slice_index_or nearest.now.nearest v None)) }
+            ensures { IsRange graph.entry.now landmarks.entry.now nearest.entry.now.nearest generation size i result }
+        { build_range(rt, alloc, graph, landmarks, nearest, generation, size, i) },
+    )?;
+    join_ranges(graph, landmarks, nearest, generation, size, made)
+}

@@ -1,0 +1,67 @@
+-- The lines of a service's answers, and its faults.
+use Rattle.std.specs.Prelude.{◌≡◌, ℕ, List, Option, map}
+use Rattle.std.specs.List.{flat_map}
+use Rattle.std.specs.Io.KnownBytes.{Appends}
+use Rattle.generations.specs.declared.posting.Verdict.TheVariants.{Accepted, Refused}
+use Rattle.command_output.specs.Faults.{told_text}
+use Rattle.command_output.specs.declared.fault.Fault.{Fault}
+use Rattle.command_output.specs.declared.fault.Fault.TheVariants as told
+use Rattle.command_output.specs.Lines.{accepted_text, line, refused_text}
+use Rattle.command_output.specs.RouteLines.{absent_text, route_text, unreachable_text}
+use Rattle.written_values.specs.declared.line.ScriptLine.{ScriptLine}
+use Rattle.service_threads.specs.Answers.{is_edit, is_verdict}
+use Rattle.service_threads.specs.declared.answer.Answer.{Answer}
+use Rattle.service_threads.specs.declared.answer.Answer.TheVariants.{Settled, Along, Unreachable, NoNode}
+use Rattle.service_threads.specs.declared.fault.Fault.{Fault as Stopped}
+use Rattle.service_threads.specs.declared.fault.Fault.TheVariants as why
+use Rattle.service_lines.specs.declared.served.Served.{Served}
+use Rattle.service_lines.specs.declared.served.Served.TheVariants.{Printed, Told, Untold}
+
+-- the text of an answer
+abbrev pub answer_text : Answer → List ℕ
+answer_text (Settled (Accepted count)) = accepted_text count
+answer_text (Settled (Refused op code)) = refused_text op code
+answer_text (Along generation nodes length) = route_text generation nodes.items length
+answer_text (Unreachable generation) = unreachable_text generation
+answer_text NoNode = absent_text
+
+-- and the lines of all of them
+abbrev pub answers_text : List Answer → List ℕ
+answers_text answers = flat_map (λ answer. line (answer_text answer)) answers
+
+-- the lines of answers to this script were printed, and nothing else: verdicts just where the lines are edits
+abbrev pub IsServed : List ScriptLine → Option (List ℕ) → Option (List ℕ) → Type 0
+IsServed script old new = (answers : List Answer) × (map is_verdict answers ≡ map is_edit script) × Appends old new (answers_text answers)
+
+-- what is told of a service that gives no answers
+abbrev pub told_fault : Stopped → Fault
+told_fault why.NotFormatted = told.NotFormatted
+told_fault why.BadVersion = told.LayoutNotKnown
+told_fault why.Damaged = told.Damaged
+told_fault why.Words = told.Words
+told_fault why.Device = told.Device
+told_fault why.Worn = told.Worn
+told_fault why.Memory = told.Memory
+told_fault why.Board = told.Memory
+told_fault why.NoThread = told.NoThread
+told_fault why.Internal = told.Internal
+
+-- the faults of a service
+abbrev pub IsServeFault : Fault → Type 0
+IsServeFault told.NotFormatted = Unit {0}
+IsServeFault told.LayoutNotKnown = Unit {0}
+IsServeFault told.Damaged = Unit {0}
+IsServeFault told.Words = Unit {0}
+IsServeFault told.Device = Unit {0}
+IsServeFault told.Worn = Unit {0}
+IsServeFault told.Memory = Unit {0}
+IsServeFault told.NoThread = Unit {0}
+IsServeFault told.Internal = Unit {0}
+IsServeFault told.Output = Unit {0}
+IsServeFault fault = ⊥
+
+-- what a service that ended so has printed on a writer, and told on another
+abbrev pub IsServedSo : List ScriptLine → Option (List ℕ) → Option (List ℕ) → Option (List ℕ) → Option (List ℕ) → Served → Type 0
+IsServedSo script old new told_old told_new Printed = IsServed script old new × (told_new ≡ told_old)
+IsServedSo script old new told_old told_new (Told fault) = IsServeFault fault × Appends told_old told_new (told_text fault)
+IsServedSo script old new told_old told_new (Untold fault) = IsServeFault fault

@@ -1,0 +1,295 @@
+// The service: a committer, editors and forwarders, each in a thread of its own.
+ghost use Rattle.std.specs.Prelude.{◌≡◌, ◌≤◌, [], All, IfErr, IfOk, IsTrue, map, vec_len, false};
+ghost use Rattle.checkpoint.specs.StoreWords.{state_of, is_down};
+ghost use Rattle.written_values.specs.Scripts.{AreOfSessions};
+ghost use Rattle.layout_2.specs.State.{State};
+ghost use Rattle.layout_2.specs.Standing.{StandsFor};
+ghost use Rattle.written_values.specs.Words.{IsWithin};
+ghost use Rattle.service_threads.specs.Answers.{is_edit, is_editor, is_verdict};
+ghost use Rattle.service_threads.specs.Faults.{IsLater, TellsOf};
+ghost use Rattle.service_threads.specs.Seating.{AreSeats};
+
+use crate::answer::Answer;
+use crate::editing::EditorOf;
+use crate::fault::Fault;
+use crate::forwarding::ForwarderOf;
+use crate::gate::Gate;
+use crate::halt::Halt;
+use crate::running::{Staff, run};
+use crate::shares::{Shares, Turn, Worked, in_order, shared};
+use crate::told::Naming;
+use crate::words::WordSource;
+use checkpoint::{Store, standing_law};
+use committer::Committer;
+use disk_trait::Disk;
+use generations::{BoardReader, BoardWriter, board};
+use group_commit::Desk;
+use intake::{Editor, Taker, open_intake};
+use requests::SESSIONS;
+use std::alloc::{AllocError, Global};
+use std::marker::Brand;
+use std::sync::Wait;
+use std::thread;
+use std::thread::{Builder, Threads};
+use written_values::{LandmarkWords, ScriptLine};
+
+/// How many bytes of stack the thread has that commits and builds.
+pub const STACK_LEN: usize = 67_108_864;
+
+/// How many editors and forwarders there are, and places in the queue: 1 to 64 of each.
+#[derive(Clone, Copy, Debug, PartialEq, Eq, Drop)]
+pub struct Seats {
+    pub editors: u8,
+    pub forwarders: u8,
+    pub places: u8,
+}
+
+// The editors at the board that `J` names.
+fn named<J: Naming>(alloc: Global, editors: Vec<Editor>) -> Result<Vec<EditorOf<J>>, AllocError>
+    requires { All (λ e. e.known.opening ≡ J.opening) editors.items }
+{
+    let mut all = Vec::new(alloc);
+    for editor in editors {
+        all.push(EditorOf::new(editor))?;
+    }
+    Ok(all)
+}
+
+// Forwarders of the readers behind the first so many, which stay.
+fn forwarders<J: Naming>(
+    alloc: Global,
+    readers: &mut Vec<BoardReader>,
+    first: usize,
+) -> Result<Vec<ForwarderOf<J>>, AllocError>
+    requires { All (λ r. r.all.opening ≡ J.opening) readers.old.items }
+    ensures named { IfOk result (λ _. All (λ r. r.all.opening ≡ J.opening) readers.new.items) }
+    ensures left { IfOk result (λ _. vec_len readers.new ≤ first) }
+{
+    let mut all = Vec::new(alloc);
+    while readers.len() > first {
+        let Some(reader) = readers.pop() else {
+            unreachable!()
+        };
+        all.push(ForwarderOf::new(reader))?;
+    }
+    Ok(all)
+}
+
+// The queue's end, and editors and forwarders at the board that `J` names.
+#[tactic(auto, using(crate::proofs::Seated::seated))]
+fn staffed<J: Naming>(
+    alloc: Global,
+    seats: Seats,
+    readers: Vec<BoardReader>,
+    starts: &[u64; SESSIONS],
+) -> Result<(Taker, Staff<J>), AllocError>
+    requires seats { AreSeats seats }
+    requires readers { All (λ r. r.all.opening ≡ J.opening) readers.items }
+    ensures starts { IfOk result (λ r. r.0.starts ≡ starts.now) }
+    ensures got { IfOk result (λ r. r.0.got ≡ []) }
+{
+    let mut readers = readers;
+    let forwarders = forwarders::<J>(alloc, &mut readers, seats.editors as usize)?;
+    let (taker, editors) = open_intake(alloc, seats.places as usize, readers, starts)?;
+    let editors = named::<J>(alloc, editors)?;
+    let staff = Staff {
+        editors,
+        forwarders,
+    };
+    Ok((taker, staff))
+}
+
+// Seats editors and forwarders at the board that `J` names, and runs them.
+fn seat<
+    J: Naming + Send + Sync,
+    D: Disk + Drop,
+    G: Gate + Sync,
+    Q: Wait + Drop,
+    R: Threads + Wait + Sync,
+>(
+    rt: &R,
+    alloc: Global,
+    seats: Seats,
+    store: Store<D>,
+    writer: BoardWriter<Q>,
+    readers: Vec<BoardReader>,
+    source: WordSource,
+    shares: Shares,
+    gate: &G,
+) -> (Result<Worked, Halt>, Store<D>)
+    requires seats { AreSeats seats }
+    requires named { writer.opening ≡ J.opening }
+    requires starts { writer.opening.starts ≡ (state_of store).tickets }
+    requires count { writer.opening.count ≡ (state_of store).count }
+    requires posted { writer.posted ≡ [] }
+    requires kept { writer.kept ≡ [] }
+    requires up { is_down store ≡ false }
+    requires readers { All (λ r. r.all.opening ≡ J.opening) readers.items }
+{
+    match staffed::<J>(alloc, seats, readers, &store.starts()) {
+        Ok((taker, staff)) => {
+            let committer = Committer::new(Desk::new(store), taker, writer);
+            run::<J, D, G, Q, R>(rt, alloc, committer, staff, source, shares, gate)
+        }
+        Err(_) => (Err(Halt::Memory), store),
+    }
+}
+
+// The service on a store, with a board of its own.
+#[tactic(auto, using(crate::proofs::Seated::all_of))]
+fn serve_store<D: Disk + Drop, G: Gate + Sync, R: Threads + Wait + Sync>(
+    rt: &R,
+    alloc: Global,
+    seats: Seats,
+    store: Store<D>,
+    source: WordSource,
+    shares: Shares,
+    gate: &G,
+) -> (Result<Worked, Halt>, Store<D>)
+    requires seats { AreSeats seats }
+    requires up { is_down store ≡ false }
+{
+    let readers = seats.editors as usize + seats.forwarders as usize;
+    let (starts, count) = (store.starts(), store.count());
+    match board::<&R>(alloc, rt, readers, &starts, count) {
+        Ok((writer, readers)) => seat::<Brand, D, G, &R, R>(
+            rt, alloc, seats, store, writer, readers, source, shares, gate,
+        ),
+        Err(_) => (Err(Halt::Memory), store),
+    }
+}
+
+// The service in the thread that calls. The disk comes back.
+fn serve_here<D: Disk + Drop, G: Gate + Sync, R: Threads + Wait + Sync>(
+    rt: &R,
+    alloc: Global,
+    seats: Seats,
+    store: Store<D>,
+    source: WordSource,
+    shares: Shares,
+    gate: &G,
+) -> (Result<Worked, Halt>, D)
+    requires seats { AreSeats seats }
+    requires up { is_down store ≡ false }
+{
+    let (result, store) = serve_store(rt, alloc, seats, store, source, shares, gate);
+    (result, store.into_disk())
+}
+
+// The service in a thread of its own, with a stack for deep trees. The disk comes back, unless no thread can be made.
+fn serve_there<'a, D: Disk + Drop + Send, G: Gate + Sync, R: Threads + Wait + Sync>(
+    rt: &'a R,
+    alloc: Global,
+    seats: Seats,
+    store: Store<D>,
+    source: WordSource,
+    shares: Shares,
+    gate: &'a G,
+) -> (Result<Worked, Halt>, Option<D>)
+    requires seats { AreSeats seats }
+    requires up { is_down store ≡ false }
+{
+    thread::scope(
+        thread::scope_env(),
+        rt,
+        |scope| -> (Result<Worked, Halt>, Option<D>)
+            requires seats { AreSeats seats }
+            requires up { is_down store ≡ false }
+        {
+            let builder = Builder::new().stack_size(STACK_LEN);
+            let job = move || -> (Result<Worked, Halt>, D)
+                requires seats { AreSeats seats }
+                requires up { is_down store ≡ false }
+            { serve_here(rt, alloc, seats, store, source, shares, gate) };
+            match builder.spawn_scoped(scope, job) {
+                Ok(handle) => {
+                    let (result, disk) = handle.join(rt);
+                    (result, Some(disk))
+                }
+                Err(_) => (Err(Halt::NoThread), None),
+            }
+        },
+    )
+}
+
+// Opens a device, and reads which landmark words its nodes get. One that is refused was only read, and is handed back.
+fn opened<D: Disk>(
+    alloc: Global,
+    disk: D,
+    words: &LandmarkWords,
+) -> Result<(Store<D>, WordSource), (Fault, D)>
+    ensures up { IfOk result (λ r. is_down r.0 ≡ false) }
+    ensures tells { IsTrue (D.view disk).keeps_model → IfErr result (λ e. TellsOf e.0 (D.view disk).content) }
+    ensures words { IsTrue (D.view disk).keeps_model → (state : State) → StandsFor state (D.view disk).content → IfErr result (λ e. e.0 ≡ Fault.Words → ¬ IsWithin words.now state.graph.nodes) }
+    ensures of_one { IfErr result (λ e. e.0 ≡ Fault.Words → (state : State) × ¬ IsWithin words.now state.graph.nodes) }
+{
+    standing_law();
+    let store = match Store::open(alloc, disk) {
+        Ok(store) => store,
+        Err((refused, disk)) => return Err((Fault::from(refused), disk)),
+    };
+    if !words.is_within(store.nodes()) {
+        return Err((Fault::Words, store.into_disk()));
+    }
+    match WordSource::of(alloc, words, store.nodes()) {
+        Ok(source) => Ok((store, source)),
+        Err(_) => Err((Fault::Memory, store.into_disk())),
+    }
+}
+
+// The answers to a script's lines, in their order.
+fn answers_of(
+    alloc: Global,
+    turns: &[Turn],
+    ended: Result<Worked, Halt>,
+) -> Result<Vec<Answer>, Fault>
+    ensures answers { IfOk result (λ answers. map is_verdict answers.items ≡ map is_editor turns.now) }
+    ensures later { IfErr result (λ fault. IsLater fault) }
+{
+    let worked = match ended {
+        Ok(worked) => worked,
+        Err(halt) => return Err(Fault::from(halt)),
+    };
+    match in_order(alloc, turns, worked) {
+        Ok(Some(answers)) => Ok(answers),
+        Ok(None) => Err(Fault::Internal),
+        Err(_) => Err(Fault::Memory),
+    }
+}
+
+/// Runs a script on a device, and answers each of its lines, in their order.
+///
+/// The committer runs in a thread whose stack has [`STACK_LEN`] bytes, each editor and each forwarder in one of its own. A
+/// generation is built before there are any of these, and again behind a round that changed the graph. The k-th route, from 0, goes
+/// to the forwarder `k` modulo their number. The device comes back, unless no thread could be made for it.
+///
+/// With a fault there are no answers; what was accepted before it stays on the device.
+pub fn serve_on<'a, D: Disk + Drop + Send, G: Gate + Sync, R: Threads + Wait + Sync>(
+    rt: &'a R,
+    alloc: Global,
+    disk: D,
+    words: LandmarkWords,
+    seats: Seats,
+    script: Vec<ScriptLine>,
+    gate: &'a G,
+) -> (Result<Vec<Answer>, Fault>, Option<D>)
+    requires seats { AreSeats seats }
+    requires sessions { AreOfSessions seats.editors script.items }
+    // One answer a line: a verdict just where the line is an edit.
+    ensures answers { IfOk result.0 (λ answers. map is_verdict answers.items ≡ map is_edit script.items) }
+    ensures tells { IsTrue (D.view disk).keeps_model → IfErr result.0 (λ fault. TellsOf fault (D.view disk).content) }
+    // The words name a node that the device hasn't; also of a disk that doesn't keep the model, one that a state hasn't.
+    ensures words { IsTrue (D.view disk).keeps_model → (state : State) → StandsFor state (D.view disk).content → IfErr result.0 (λ fault. fault ≡ Fault.Words → ¬ IsWithin words state.graph.nodes) }
+    ensures of_one { IfErr result.0 (λ fault. fault ≡ Fault.Words → (state : State) × ¬ IsWithin words state.graph.nodes) }
+{
+    let (turns, shares) = match shared(alloc, seats.editors, seats.forwarders, script) {
+        Ok(shared) => shared,
+        Err(_) => return (Err(Fault::Memory), Some(disk)),
+    };
+    let (store, source) = match opened(alloc, disk, &words) {
+        Ok(opened) => opened,
+        Err((fault, disk)) => return (Err(fault), Some(disk)),
+    };
+    let (result, disk) = serve_there(rt, alloc, seats, store, source, shares, gate);
+    (answers_of(alloc, &turns, result), disk)
+}

@@ -1,0 +1,183 @@
+// Drawn graphs: their routes against a plain search, their schemes under each allocator, and one tree at a time.
+use crate::helpers::{Edge, built, carried, got, graph_of, heap_of, same};
+use bumpalo::Bump;
+use graph_edits::Graph;
+use node_table::{CarryRefused, Scheme, Trail};
+use rand_core::{Rng, SeedableRng};
+use rand_xoshiro::Xoshiro256PlusPlus;
+use scheme_builds::scheme_of;
+use std::alloc::{AllocError, Global};
+use std::process::Abort;
+use written_values::Draws;
+
+/// Distances from a node by relaxing all edges again and again.
+pub(crate) fn plain_distances(
+    alloc: Global,
+    nodes: u16,
+    edges: &[Edge],
+    from: u16,
+) -> Result<Vec<Option<u64>>, AllocError> {
+    let mut best = vec![in alloc; None; nodes as usize]?;
+    if let Some(start) = best.get_mut(from as usize) {
+        *start = Some(0u64);
+    }
+    for _ in 0..nodes {
+        for (a, b, weight) in edges {
+            for (x, y) in [(*a, *b), (*b, *a)] {
+                let here = best.get(x as usize).copied().flatten();
+                if let (Some(d), Some(there)) = (here, best.get_mut(y as usize)) {
+                    let more = d.saturating_add(*weight as u64);
+                    if there.is_none_or(|old| more < old) {
+                        *there = Some(more);
+                    }
+                }
+            }
+        }
+    }
+    Ok(best)
+}
+
+/// Whether a trail is a walk over these edges from end to end, as long as it says, at most three times the least.
+pub(crate) fn is_right(trail: &Trail, edges: &[Edge], from: u16, to: u16, least: u64) -> bool {
+    let mut at = from;
+    let mut long: u64 = 0;
+    for (i, node) in trail.nodes.iter().enumerate() {
+        if i == 0 {
+            if *node != from {
+                return false;
+            }
+            continue;
+        }
+        let Some((_, _, weight)) = edges
+            .iter()
+            .find(|e| (e.0, e.1) == (at, *node) || (e.1, e.0) == (at, *node))
+        else {
+            return false;
+        };
+        long = long.saturating_add(*weight as u64);
+        at = *node;
+    }
+    let bound = least.saturating_mul(3);
+    at == to && long == trail.length && long <= bound
+}
+
+/// One drawn graph of 1 to 9 nodes with drawn landmarks: whether its scheme is the same under each allocator, and every
+/// route right by the plain distances.
+fn is_routed(rt: &impl Abort, alloc: Global, rng: &mut Xoshiro256PlusPlus) -> bool {
+    let nodes = 1 + (rng.next_u64() % 9) as u16;
+    let mut edges: Vec<Edge> = Vec::new(alloc);
+    let mut at = Vec::new(alloc);
+    for a in 0..nodes {
+        if rng.next_u64() % 3 == 0 {
+            got(rt, at.push(a));
+        }
+        for b in 0..a {
+            let weight = 1 + (rng.next_u64() % 9) as u32;
+            if rng.next_u64() % 10 < 3 {
+                got(rt, edges.push((a, b, weight)));
+            }
+        }
+    }
+    let graph = graph_of(rt, alloc, nodes, &edges);
+    let scheme = same_under_each(rt, alloc, &graph, &at);
+    for from in 0..nodes {
+        if !are_right(rt, alloc, &scheme, nodes, &edges, from) {
+            return false;
+        }
+    }
+    true
+}
+
+/// The scheme of a graph, which is the same under each allocator.
+fn same_under_each(rt: &impl Abort, alloc: Global, graph: &Graph, at: &[u16]) -> Scheme {
+    let heap = heap_of(rt, alloc, ONE_TREE);
+    let arena = Bump::new(alloc);
+    let scheme = got(rt, built(rt, alloc, graph, at, alloc));
+    assert!(rt; got(rt, built(rt, alloc, graph, at, &heap)).parts() == scheme.parts());
+    assert!(rt; got(rt, built(rt, alloc, graph, at, &arena)).parts() == scheme.parts());
+    scheme
+}
+
+/// Whether the routes from a node to all are right by the plain distances.
+fn are_right(
+    rt: &impl Abort,
+    alloc: Global,
+    scheme: &Scheme,
+    nodes: u16,
+    edges: &[Edge],
+    from: u16,
+) -> bool {
+    let want = got(rt, plain_distances(alloc, nodes, edges, from));
+    for to in 0..nodes {
+        let shortest = want.get(to as usize).copied().flatten();
+        let right = match (carried(rt, alloc, scheme, from, to), shortest) {
+            (Ok(trail), Some(least)) => is_right(&trail, edges, from, to, least),
+            (Err(CarryRefused::Unreachable), None) => true,
+            _ => false,
+        };
+        if !right {
+            return false;
+        }
+    }
+    true
+}
+
+#[test]
+fn drawn_graphs_are_routed(rt: HostRuntime) {
+    let mut rng = Xoshiro256PlusPlus::seed_from_u64(7);
+    for _ in 0..100u32 {
+        let right = is_routed(&rt, rt.alloc(), &mut rng);
+        assert!(&rt; right);
+    }
+}
+
+/// How many nodes the large drawn graph has.
+const MANY: u16 = 1_000;
+
+/// How many bytes hold the largest of its trees, but not all trees together.
+const ONE_TREE: usize = 262_144;
+
+/// A heap for one tree is enough, as each root's tree is dropped before the next is grown. In an arena that keeps them all,
+/// over the same heap, they don't fit; nor does one tree in a heap of a few bytes.
+#[test]
+fn one_tree_at_a_time(rt: HostRuntime) {
+    let alloc = rt.alloc();
+    let graph = graph_of(&rt, alloc, MANY, &got(&rt, many_edges(alloc)));
+    let words = got(&rt, Draws::seeded(3).next(alloc, MANY));
+    let heap = heap_of(&rt, alloc, ONE_TREE);
+    assert!(&rt; scheme_of(alloc, &graph, &words, 1, &heap).is_ok());
+    assert!(&rt; heap.used() == 0);
+    let arena = Bump::new(&heap);
+    assert!(&rt; scheme_of(alloc, &graph, &words, 1, &arena).is_err());
+    let small = heap_of(&rt, alloc, 64);
+    assert!(&rt; scheme_of(alloc, &graph, &words, 1, &small).is_err());
+}
+
+/// The edges of the large drawn graph: from each node but the first to two of those before it.
+fn many_edges(alloc: Global) -> Result<Vec<Edge>, AllocError> {
+    let mut rng = Xoshiro256PlusPlus::seed_from_u64(11);
+    let mut edges: Vec<Edge> = Vec::new(alloc);
+    for v in 1..MANY as u64 {
+        for _ in 0..2 {
+            let weight = 1 + (rng.next_u64() % 9) as u32;
+            edges.push((v as u16, (rng.next_u64() % v) as u16, weight))?;
+        }
+    }
+    Ok(edges)
+}
+
+/// The words of `draw:1`, in two draws.
+#[test]
+fn draws_go_on(rt: HostRuntime) {
+    let mut draws = Draws::seeded(1);
+    let first = got(&rt, draws.next(rt.alloc(), 2));
+    let second = got(&rt, draws.next(rt.alloc(), 3));
+    let want = [14971601782005023387u64, 13781649495232077965];
+    same(&rt, first.as_slice(), want.as_slice(), "the first draw");
+    let want = [
+        1847458086238483744u64,
+        13765271635752736470,
+        3406718355780431780,
+    ];
+    same(&rt, second.as_slice(), want.as_slice(), "the second draw");
+}

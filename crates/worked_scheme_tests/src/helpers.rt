@@ -1,0 +1,182 @@
+// The worked graphs, and what the tests of this crate share: each call is made again where memory was refused.
+ghost use Rattle.std.specs.Prelude.{◌≤◌};
+
+use arrayvec::ArrayVec;
+use graph_edits::{Change, EditRefused, Graph, MOST_NODES, Op};
+use heavy_labels::{Label, MOST_LIGHTS, Record};
+use linked_list_allocator::LocalHeap;
+use node_table::{CarryRefused, Entry, Scheme, Trail};
+use scheme_builds::scheme_of;
+use std::alloc::{AllocError, Allocator, Global};
+use std::fmt::Debug;
+use std::process::Abort;
+
+pub(crate) type Edge = (u16, u16, u32);
+
+/// The value of an answer that has to have one.
+pub(crate) fn got<T, E: Drop>(rt: &impl Abort, answer: Result<T, E>) -> T {
+    match answer {
+        Ok(value) => value,
+        Err(_) => panic!(rt; "no value"),
+    }
+}
+
+/// Sees that two values are the same.
+pub(crate) fn same<T: Copy + PartialEq + Debug>(rt: &impl Abort, found: T, want: T, name: &str) {
+    assert_eq!(rt; found, want, "{name}");
+}
+
+/// The stack of a thread that builds deep trees.
+pub(crate) const STACK_LEN: usize = 67_108_864;
+
+/// A path of five nodes.
+pub(crate) const PATH: [Edge; 4] = [(0, 1, 1), (1, 2, 1), (2, 3, 1), (3, 4, 1)];
+
+/// A triangle whose long side is as long as the way round.
+pub(crate) const TRIANGLE: [Edge; 3] = [(0, 1, 1), (1, 2, 1), (0, 2, 2)];
+
+/// Two pairs of nodes, apart.
+pub(crate) const PAIRS: [Edge; 2] = [(0, 1, 5), (2, 3, 5)];
+
+fn graph_once(alloc: Global, nodes: u16, edges: &[Edge]) -> Result<Graph, AllocError>
+    requires some { 1 ≤ nodes }
+    requires few { nodes ≤ MOST_NODES }
+{
+    let mut graph = Graph::empty(alloc, nodes)?;
+    for (a, b, weight) in edges {
+        let Ok(change) = Change::new(&[Op::Add(*a, *b, *weight)]) else {
+            continue;
+        };
+        if let Err(EditRefused::Memory) = graph.apply(&change) {
+            return Err(AllocError);
+        }
+    }
+    Ok(graph)
+}
+
+/// The graph of these edges, but for those that it refuses.
+pub(crate) fn graph_of(rt: &impl Abort, alloc: Global, nodes: u16, edges: &[Edge]) -> Graph {
+    assert!(rt; 1 <= nodes && nodes <= MOST_NODES);
+    match graph_once(alloc, nodes, edges) {
+        Ok(graph) => graph,
+        Err(_) => got(rt, graph_once(alloc, nodes, edges)),
+    }
+}
+
+fn words_once(alloc: Global, nodes: u16, at: &[u16]) -> Result<Vec<u64>, AllocError> {
+    let mut words = Vec::with_capacity(alloc, nodes as usize)?;
+    for v in 0..nodes {
+        words.push(if at.contains(&v) { 0u64 } else { u64::MAX })?;
+    }
+    Ok(words)
+}
+
+/// The words that make landmarks of these nodes alone.
+pub(crate) fn words_at(rt: &impl Abort, alloc: Global, nodes: u16, at: &[u16]) -> Vec<u64> {
+    match words_once(alloc, nodes, at) {
+        Ok(words) => words,
+        Err(_) => got(rt, words_once(alloc, nodes, at)),
+    }
+}
+
+/// The scheme of a graph with landmarks at these nodes, over a scratch.
+pub(crate) fn built<A: Allocator + Clone>(
+    rt: &impl Abort,
+    alloc: Global,
+    graph: &Graph,
+    at: &[u16],
+    scratch: A,
+) -> Result<Scheme, AllocError> {
+    let words = words_at(rt, alloc, graph.nodes(), at);
+    match scheme_of(alloc, graph, &words, 7, scratch.clone()?) {
+        Ok(scheme) => Ok(scheme),
+        Err(_) => scheme_of(alloc, graph, &words, 7, scratch),
+    }
+}
+
+/// The scheme of these edges with landmarks at these nodes.
+pub(crate) fn scheme_with(
+    rt: &impl Abort,
+    alloc: Global,
+    nodes: u16,
+    edges: &[Edge],
+    at: &[u16],
+) -> Scheme {
+    let graph = graph_of(rt, alloc, nodes, edges);
+    got(rt, built(rt, alloc, &graph, at, alloc))
+}
+
+/// What becomes of a packet to a node's own address.
+pub(crate) fn carried(
+    rt: &impl Abort,
+    alloc: Global,
+    scheme: &Scheme,
+    from: u16,
+    to: u16,
+) -> Result<Trail, CarryRefused> {
+    let Ok(address) = scheme.address(to) else {
+        panic!(rt; "no address of {to}");
+    };
+    match scheme.carry(alloc, from, &address) {
+        Err(CarryRefused::Memory) => scheme.carry(alloc, from, &address),
+        other => other,
+    }
+}
+
+/// How many nodes a graph has, its edges, its landmarks, and a way in it: its nodes, its ports and its length.
+pub(crate) type Way<'a> = (u16, &'a [Edge], &'a [u16], &'a [u16], &'a [u16], u64);
+
+/// The first and the last node of a way.
+pub(crate) fn ends_of(way: &[u16]) -> (u16, u16) {
+    match way {
+        [first, .., last] => (*first, *last),
+        [only] => (*only, *only),
+        [] => (0, 0),
+    }
+}
+
+/// Sees that a trail is this way.
+pub(crate) fn expect_trail(rt: &impl Abort, trail: &Trail, way: &Way<'_>) {
+    let (_, _, _, nodes, ports, length) = *way;
+    same(rt, trail.nodes.as_slice(), nodes, "the nodes of a way");
+    same(rt, trail.ports.as_slice(), ports, "the ports of a way");
+    same(rt, trail.length, length, "the length of a way");
+}
+
+/// A heap of so many bytes.
+pub(crate) fn heap_of(rt: &impl Abort, alloc: Global, size: usize) -> LocalHeap {
+    match LocalHeap::new(alloc, size) {
+        Ok(heap) => heap,
+        Err(_) => got(rt, LocalHeap::new(alloc, size)),
+    }
+}
+
+/// A label with these light ports, as many of them as fit.
+pub(crate) fn label(first: u16, ports: &[u16]) -> Label {
+    let mut lights: ArrayVec<u16, MOST_LIGHTS> = ArrayVec::new();
+    for port in ports {
+        let _full = lights.try_push(*port);
+    }
+    Label::new(first, lights)
+}
+
+/// An entry for a root, at a distance, by a parent; the numbers and the ports of its record.
+pub(crate) fn entry(
+    rt: &impl Abort,
+    tree: (u16, u64, Option<u16>),
+    numbers: (u16, u16, u16, u16),
+    ports: (Option<u16>, Option<u16>),
+) -> Entry {
+    let (root, distance, parent) = tree;
+    let (first, last, heavy_last, light_depth) = numbers;
+    let Some(tree_record) = Record::new(first, last, heavy_last, light_depth, ports.0, ports.1)
+    else {
+        panic!(rt; "no record");
+    };
+    Entry {
+        root,
+        distance,
+        parent,
+        tree_record,
+    }
+}

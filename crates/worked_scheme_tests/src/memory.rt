@@ -1,0 +1,120 @@
+// Want of memory. Run by `./refuse-memory`, each allocation refused in turn: a call whose allocation is refused says so, and made
+// again it gives the whole answer. What else a test allocates it asks for again where it is refused.
+use crate::drawn::{is_right, plain_distances};
+use crate::helpers::{
+    Edge, PATH, built, carried, expect_trail, got, graph_of, heap_of, same, scheme_with,
+};
+use node_table::Scheme;
+use rand_core::{Rng, SeedableRng};
+use rand_xoshiro::Xoshiro256PlusPlus;
+use std::alloc::Global;
+use std::process::Abort;
+use written_values::Draws;
+
+#[test]
+fn builds_after_a_want_of_memory(rt: HostRuntime) {
+    let scheme = scheme_with(&rt, rt.alloc(), 5, &PATH, &[2]);
+    for (x, trees) in &[(0u16, 3usize), (1, 2), (2, 1), (3, 2), (4, 3)] {
+        same(
+            &rt,
+            scheme.entries_of(*x).len(),
+            *trees,
+            "the trees of a node",
+        );
+    }
+}
+
+#[test]
+fn carries_after_a_want_of_memory(rt: HostRuntime) {
+    let scheme = scheme_with(&rt, rt.alloc(), 5, &PATH, &[2]);
+    let trail = got(&rt, carried(&rt, rt.alloc(), &scheme, 0, 4));
+    let way = (
+        5,
+        PATH.as_slice(),
+        [2u16].as_slice(),
+        [0u16, 1, 2, 3, 4].as_slice(),
+        [0u16, 1, 1, 1].as_slice(),
+        4,
+    );
+    expect_trail(&rt, &trail, &way);
+}
+
+const DRAWN: u16 = 12;
+
+/// Drawn edges: from each node but the first to two of those before it, where there are two.
+fn drawn_edges() -> [Edge; 22] {
+    let mut rng = Xoshiro256PlusPlus::seed_from_u64(12);
+    let mut edges = [(0u16, 0u16, 1u32); 22];
+    let mut below = 0u64;
+    for (i, edge) in edges.iter_mut().enumerate() {
+        let before = i as u64 / 2 + 1;
+        below = if i % 2 == 0 {
+            rng.next_u64() % before
+        } else {
+            (below % before + 1) % before
+        };
+        *edge = (before as u16, below as u16, 5 + before as u32 % 4);
+    }
+    edges
+}
+
+/// Sees that the routes from a node to all are right by the plain distances.
+fn expect_right(rt: &impl Abort, alloc: Global, scheme: &Scheme, edges: &[Edge], from: u16) {
+    let distances = match plain_distances(alloc, DRAWN, edges, from) {
+        Ok(distances) => distances,
+        Err(_) => got(rt, plain_distances(alloc, DRAWN, edges, from)),
+    };
+    for to in 0..DRAWN {
+        let trail = got(rt, carried(rt, alloc, scheme, from, to));
+        let right = match distances.get(to as usize) {
+            Some(Some(least)) => is_right(&trail, edges, from, to, *least),
+            _ => false,
+        };
+        assert!(rt; right);
+    }
+}
+
+#[test]
+fn builds_a_drawn_graph_after_a_want_of_memory(rt: HostRuntime) {
+    let alloc = rt.alloc();
+    let edges = drawn_edges();
+    let scheme = scheme_with(&rt, alloc, DRAWN, &edges, &[3, 8]);
+    for from in 0..DRAWN {
+        expect_right(&rt, alloc, &scheme, &edges, from);
+    }
+}
+
+/// Where a draw is refused memory, nothing was drawn: made again it gives the same words.
+#[test]
+fn draws_after_a_want_of_memory(rt: HostRuntime) {
+    let mut draws = Draws::seeded(1);
+    let words = match draws.next(rt.alloc(), 2) {
+        Ok(words) => words,
+        Err(_) => got(&rt, draws.next(rt.alloc(), 2)),
+    };
+    let want = [14971601782005023387u64, 13781649495232077965];
+    same(
+        &rt,
+        words.as_slice(),
+        want.as_slice(),
+        "the words of a draw",
+    );
+}
+
+/// A scratch that is too small is refused, and all that was taken of it is given back.
+#[test]
+fn builds_over_a_scratch_that_is_enough(rt: HostRuntime) {
+    let alloc = rt.alloc();
+    let graph = graph_of(&rt, alloc, 5, &PATH);
+    for (size, enough) in &[
+        (64usize, false),
+        (448, false),
+        (4096, true),
+        (1_048_576, true),
+    ] {
+        let heap = heap_of(&rt, alloc, *size);
+        let scheme = built(&rt, alloc, &graph, &[2], &heap);
+        let found = (*size, scheme.is_ok(), heap.used());
+        same(&rt, found, (*size, *enough, 0), "a heap");
+    }
+}

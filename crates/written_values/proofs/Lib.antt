@@ -1,0 +1,4 @@
+pub mod Texts
+pub mod NodeTexts
+pub mod WordLemmas
+pub mod Written

@@ -1,0 +1,4 @@
+pub mod OpText
+pub mod WordsText
+pub mod Words
+pub mod Scripts
