@@ -32,12 +32,10 @@ pub only_read : {D : Type 0} {V : _} → (disk back : D) (store : Store D V) →
 only_read {V = V} disk back store is reads = subst (λ d. OnlyRead (V.view disk) (V.view d)) (sym is) reads
 
 -- a check by the words is one for what was asked
-pub check_of : (graph own : Network) (generation : ℕ) (asked : LandmarkWords) (words : List ℕ) (answer : Result Checked Fault) → own ≡ graph → IsWithin asked graph.nodes
-    → AreWords asked graph.nodes words → IfOk answer (λ checked. IsCheckAnswer own words generation (Ok checked)) → IfOk answer (λ checked. IsCheckOf graph generation asked checked)
-check_of graph own generation asked words (Ok checked) same within are by =
-    let is : IsCheckAnswer graph words generation (Ok checked) = subst (λ g. IsCheckAnswer g words generation (Ok checked)) same by in
-    record { within = within; passes = is.passes; count = (words, (are, is.count)); scheme = (words, (are, is.scheme)) }
-check_of graph own generation asked words (Err e) same within are by = tt
+pub check_of : (graph : Network) (generation : ℕ) (asked : LandmarkWords) (words : List ℕ) (answer : Result Checked Fault) → IsWithin asked graph.nodes
+    → AreWords asked graph.nodes words → IfOk answer (λ checked. IsCheckAnswer graph words generation (Ok checked)) → IfOk answer (λ checked. IsCheckOf graph generation asked checked)
+check_of graph generation asked words (Ok checked) within are is = record { within = within; passes = is.passes; count = (words, (are, is.count)); scheme = (words, (are, is.scheme)) }
+check_of graph generation asked words (Err e) within are is = tt
 
 -- the lines of routes are those of what becomes of the packets in a state
 pub routes_lines : (r : Result Ended Fault) (old new : Option (List ℕ)) (asked : LandmarkWords) (pairs : List (ℕ × ℕ)) (generation : ℕ) (routes : List Route)

@@ -4,7 +4,7 @@ use Rattle.clap.specs.Walk.{Text}
 use Rattle.command_line.specs.Asked.{IsAskedFor, IsSeats, usual_places, usual_seats}
 use Rattle.command_line.specs.declared.task.Task.{Task}
 use Rattle.command_line.specs.declared.task.Task.TheVariants.{Serve}
-use Rattle.service_threads.specs.Seating.{IsNumber}
+use Rattle.service_threads.specs.Config.{IsNumber}
 use Rattle.commands.specs.ServedScripts.{AskService, IsService}
 
 -- a number that is asked for is from 1 to 64, as the usual one is

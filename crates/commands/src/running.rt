@@ -31,7 +31,7 @@ use command_output::{
 use device_files::DeviceFile;
 use generations::Verdict;
 use graph_edits::Change;
-use service_threads::Seats;
+use service_threads::ServiceConfig;
 use std::fs::File;
 use std::io::{Read, Write};
 use std::rt::Files;
@@ -119,12 +119,12 @@ where
                 words,
             },
         ) => {
-            let seats = Seats {
+            let config = ServiceConfig {
                 editors,
                 forwarders,
                 places,
             };
-            run_serve(rt, device, words, seats, script, out)
+            run_serve(rt, device, words, config, script, out)
         }
         Err(refused) => Err(fault_of(refused)),
     }

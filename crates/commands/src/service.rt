@@ -3,7 +3,7 @@ ghost use Rattle.std.specs.Prelude.{◌≡◌, ◌≢◌, List, IfOk, IfErr, OnO
 ghost use Rattle.command_output.specs.declared.fault.Fault.{Fault};
 ghost use Rattle.written_values.specs.Scripts.{AreOfSessions};
 ghost use Rattle.written_values.specs.declared.line.ScriptLine.{ScriptLine};
-ghost use Rattle.service_threads.specs.Seating.{AreSeats};
+ghost use Rattle.service_threads.specs.Config.{IsServiceConfig};
 ghost use Rattle.device_files.specs.DeviceFiles.{lock_of};
 ghost use Rattle.device_files.specs.declared.file.Lock.{Lock};
 ghost use Rattle.service_lines.specs.ServedLines.{IsServed, IsServeFault};
@@ -14,7 +14,7 @@ use crate::files::open_file;
 use command_output::{Ended, Fault};
 use device_files::DeviceFile;
 use service_lines::serve_lines;
-use service_threads::{Seats, Ungated};
+use service_threads::{NoHooks, ServiceConfig};
 use std::alloc::Global;
 use std::fs::File;
 use std::io;
@@ -59,7 +59,7 @@ pub(crate) fn run_serve<R, S, O>(
     rt: &R,
     device: &str,
     words: LandmarkWords,
-    seats: Seats,
+    config: ServiceConfig,
     script: &mut S,
     out: &mut O,
 ) -> Result<Ended, Fault>
@@ -67,14 +67,14 @@ where
     R: Files<File = File> + AllocGlobal + Threads + Wait + Sync,
     S: Read,
     O: Write,
-    requires { AreSeats seats }
-    ensures printed { IfOk result (λ ended. (ended ≡ Ended.Done) × (lines : List ScriptLine) × IsScriptOf (S.remaining script.old) seats.editors lines × IsServed lines (O.contents out.old) (O.contents out.new)) }
+    requires { IsServiceConfig config }
+    ensures printed { IfOk result (λ ended. (ended ≡ Ended.Done) × (lines : List ScriptLine) × IsScriptOf (S.remaining script.old) config.editors lines × IsServed lines (O.contents out.old) (O.contents out.new)) }
     ensures fault { IfErr result EndsServe }
     ensures untouched { IfErr result (λ fault. fault ≢ Fault.Output → out.new ≡ out.old) }
 {
-    let lines = read_script(rt.alloc(), script, seats.editors)?;
+    let lines = read_script(rt.alloc(), script, config.editors)?;
     let file = open_file(rt, device)?;
-    serve_alone(rt, file, words, seats, lines, out)?;
+    serve_alone(rt, file, words, config, lines, out)?;
     Ok(Ended::Done)
 }
 
@@ -83,7 +83,7 @@ fn serve_alone<R, O>(
     rt: &R,
     file: DeviceFile,
     words: LandmarkWords,
-    seats: Seats,
+    config: ServiceConfig,
     lines: Vec<ScriptLine>,
     out: &mut O,
 ) -> Result<(), Fault>
@@ -91,11 +91,11 @@ where
     R: AllocGlobal + Threads + Wait + Sync,
     O: Write,
     requires alone { lock_of file ≡ Lock.Alone }
-    requires seats { AreSeats seats }
-    requires sessions { AreOfSessions seats.editors lines.items }
+    requires config { IsServiceConfig config }
+    requires sessions { AreOfSessions config.editors lines.items }
     ensures printed { OnOk result (IsServed lines.items (O.contents out.old) (O.contents out.new)) }
     ensures fault { IfErr result (λ fault. IsServeFault fault) }
     ensures untouched { IfErr result (λ fault. fault ≢ Fault.Output → out.new ≡ out.old) }
 {
-    serve_lines(rt, rt.alloc(), file, words, seats, lines, &Ungated, out).0
+    serve_lines(rt, rt.alloc(), file, words, config, lines, &NoHooks, out).0
 }

@@ -3,12 +3,13 @@ use crate::helpers::{Edge, built, expect_same, got, graph_of, landmarks_at};
 use scheme_builds::{scheme_of, scheme_of_in_threads, workers_for};
 use std::alloc::Global;
 use std::process::Abort;
+use std::sync::Wait;
 use std::thread::Threads;
 
 /// The numbers of workers, among them more than there are nodes, none, and more than ever build.
 const WORKERS: [u16; 9] = [0, 1, 2, 3, 4, 5, 8, 17, u16::MAX];
 
-fn expect_all<R: Abort + Threads + Sync>(
+fn expect_all<R: Abort + Threads + Wait + Sync>(
     rt: &R,
     alloc: Global,
     nodes: u16,

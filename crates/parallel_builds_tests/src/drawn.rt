@@ -4,6 +4,7 @@ use rand_core::{Rng, SeedableRng};
 use rand_xoshiro::Xoshiro256PlusPlus;
 use std::alloc::Global;
 use std::process::Abort;
+use std::sync::Wait;
 use std::thread::Threads;
 
 /// Edges from each node to some of those before it: to each with so many chances of a hundred.
@@ -44,7 +45,7 @@ fn drawn_nodes(
 }
 
 /// Compares the schemes of a drawn graph under one to eight workers with that of one build.
-fn compare<R: Abort + Threads + Sync>(
+fn compare<R: Abort + Threads + Wait + Sync>(
     rt: &R,
     alloc: Global,
     rng: &mut Xoshiro256PlusPlus,

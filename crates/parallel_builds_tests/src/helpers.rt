@@ -7,6 +7,7 @@ use node_table::{Scheme, build};
 use scheme_builds::scheme_in_threads;
 use std::alloc::{AllocError, Global};
 use std::process::Abort;
+use std::sync::Wait;
 use std::thread::Threads;
 
 pub(crate) type Edge = (u16, u16, u32);
@@ -84,7 +85,7 @@ pub(crate) fn built(
 }
 
 /// Sees that so many workers build the very same scheme.
-pub(crate) fn expect_same<R: Abort + Threads + Sync>(
+pub(crate) fn expect_same<R: Abort + Threads + Wait + Sync>(
     rt: &R,
     alloc: Global,
     graph: &Graph,

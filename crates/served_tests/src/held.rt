@@ -1,7 +1,7 @@
 // Routes that are launched or carried on just where the device holds a commit.
 use crate::helpers::{Asked, fresh, got, run, same, text_of};
 use disk_trait::{DeviceFault, Disk, MemDisk};
-use service_threads::Gate;
+use service_threads::Hooks;
 use std::alloc::Global;
 use std::process::Abort;
 use std::sync::atomic::{AtomicBool, AtomicU64, Ordering};
@@ -28,7 +28,7 @@ const SIXTH: Hold = Hold {
     generation: 5,
 };
 
-/// What the gate and the disk tell each other, and what is held: no packet starts before the first hold, and none goes on behind a
+/// What the hooks and the disk tell each other, and what is held: no packet starts before the first hold, and none goes on behind a
 /// hop before the last.
 #[derive(Drop)]
 struct Signs {
@@ -78,14 +78,14 @@ impl Signs {
 }
 
 #[derive(Drop)]
-struct HeldGate<'a>(&'a Signs);
+struct HeldHooks<'a>(&'a Signs);
 
-impl<'a> Gate for HeldGate<'a> {
-    fn launches(&self) {
+impl<'a> Hooks for HeldHooks<'a> {
+    fn before_launch(&self) {
         let _came = self.0.comes(&self.0.syncs, self.0.first.sync);
     }
 
-    fn hopped(&self, generation: u64) {
+    fn after_hop(&self, generation: u64) {
         self.0.hopped.store(generation, Ordering::SeqCst);
         let _came = self.0.comes(&self.0.syncs, self.0.last.sync);
     }
@@ -145,9 +145,9 @@ fn expect_row<R: Threads + Wait + Abort + Sync>(rt: &R, alloc: Global, row: &Row
         disk: fresh(rt, alloc, row.nodes),
         signs: got(rt, Arc::try_clone(&signs)),
     };
-    let gate = HeldGate(&signs);
+    let hooks = HeldHooks(&signs);
     let (mut out, mut err) = (Vec::new(alloc), Vec::new(alloc));
-    let (status, _disk) = run(rt, alloc, disk, &row.asked, &gate, &mut out, &mut err);
+    let (status, _disk) = run(rt, alloc, disk, &row.asked, &hooks, &mut out, &mut err);
     same(
         rt,
         signs.late.load(Ordering::SeqCst),

@@ -2,7 +2,7 @@
 use checkpoint::{DEVICE_LEN, Store, format};
 use disk_trait::{Disk, MemDisk};
 use service_lines::serve_on;
-use service_threads::{Gate, Seats, Ungated};
+use service_threads::{Hooks, NoHooks, ServiceConfig};
 use std::alloc::Global;
 use std::fmt::Debug;
 use std::io::Write;
@@ -65,9 +65,9 @@ pub(crate) struct Asked<'a> {
 }
 
 // So many editors, forwarders and places.
-fn seats_of(numbers: Numbers) -> Seats {
+fn config_of(numbers: Numbers) -> ServiceConfig {
     let (editors, forwarders, places) = numbers;
-    Seats {
+    ServiceConfig {
         editors,
         forwarders,
         places,
@@ -80,24 +80,24 @@ pub(crate) fn run<D, G, R, O, E>(
     alloc: Global,
     disk: D,
     asked: &Asked<'_>,
-    gate: &G,
+    hooks: &G,
     out: &mut O,
     err: &mut E,
 ) -> (u8, Option<D>)
 where
     D: Disk + Drop + Send,
-    G: Gate + Sync,
+    G: Hooks + Sync,
     R: Threads + Wait + Abort + Sync,
     O: Write,
     E: Write,
 {
-    let seats = seats_of(asked.numbers);
-    assert!(rt; 1 <= seats.editors && seats.editors <= 64);
-    assert!(rt; 1 <= seats.forwarders && seats.forwarders <= 64);
-    assert!(rt; 1 <= seats.places && seats.places <= 64);
-    let script = match script(alloc, asked.script, seats.editors) {
+    let config = config_of(asked.numbers);
+    assert!(rt; 1 <= config.editors && config.editors <= 64);
+    assert!(rt; 1 <= config.forwarders && config.forwarders <= 64);
+    assert!(rt; 1 <= config.places && config.places <= 64);
+    let script = match script(alloc, asked.script, config.editors) {
         Ok(lines) => lines.expect(rt, "a script"),
-        Err(_) => script(alloc, asked.script, seats.editors)
+        Err(_) => script(alloc, asked.script, config.editors)
             .expect(rt, "memory")
             .expect(rt, "a script"),
     };
@@ -107,10 +107,10 @@ where
             .expect(rt, "memory")
             .expect(rt, "words"),
     };
-    serve_on(rt, alloc, disk, words, seats, script, gate, out, err)
+    serve_on(rt, alloc, disk, words, config, script, hooks, out, err)
 }
 
-/// Runs a script on a disk in memory, with no gate.
+/// Runs a script on a disk in memory, with no hooks.
 pub(crate) fn run_plain<R: Threads + Wait + Abort + Sync, O: Write, E: Write>(
     rt: &R,
     alloc: Global,
@@ -119,7 +119,7 @@ pub(crate) fn run_plain<R: Threads + Wait + Abort + Sync, O: Write, E: Write>(
     out: &mut O,
     err: &mut E,
 ) -> (u8, Option<MemDisk>) {
-    run(rt, alloc, disk, asked, &Ungated, out, err)
+    run(rt, alloc, disk, asked, &NoHooks, out, err)
 }
 
 /// Runs a script on a disk in memory, sees the status and all that is printed and told, and gives the disk back.

@@ -9,9 +9,9 @@ use Rattle.command_output.specs.declared.fault.Fault.TheVariants as told
 use Rattle.command_output.specs.Lines.{accepted_text, line, refused_text}
 use Rattle.command_output.specs.RouteLines.{absent_text, route_text, unreachable_text}
 use Rattle.written_values.specs.declared.line.ScriptLine.{ScriptLine}
-use Rattle.service_threads.specs.Answers.{is_edit, is_verdict}
-use Rattle.service_threads.specs.declared.answer.Answer.{Answer}
-use Rattle.service_threads.specs.declared.answer.Answer.TheVariants.{Settled, Along, Unreachable, NoNode}
+use Rattle.service_workers.specs.Answers.{is_edit, is_verdict}
+use Rattle.service_workers.specs.declared.answer.Answer.{Answer}
+use Rattle.service_workers.specs.declared.answer.Answer.TheVariants.{Settled, Along, Unreachable, NoNode}
 use Rattle.service_threads.specs.declared.fault.Fault.{Fault as Stopped}
 use Rattle.service_threads.specs.declared.fault.Fault.TheVariants as why
 use Rattle.service_lines.specs.declared.served.Served.{Served}

@@ -19,7 +19,7 @@
 //!
 //! ```text
 //! let script = script(alloc, "0 add:0:1:1\nroute 0 1", 2)?;
-//! let (status, disk) = serve_on(rt, alloc, disk, words, seats, script, &Ungated, &mut out, &mut err);
+//! let (status, disk) = serve_on(rt, alloc, disk, words, config, script, &NoHooks, &mut out, &mut err);
 //! ```
 #![tactic(auto)]
 

@@ -4,7 +4,7 @@ ghost use Rattle.std.specs.Io.KnownBytes.{Appends};
 ghost use Rattle.command_output.specs.declared.fault.Fault.{Fault};
 ghost use Rattle.command_output.specs.Faults.{status_of};
 ghost use Rattle.written_values.specs.Scripts.{AreOfSessions};
-ghost use Rattle.service_threads.specs.Seating.{AreSeats};
+ghost use Rattle.service_threads.specs.Config.{IsServiceConfig};
 ghost use Rattle.service_lines.specs.ServedLines.{IsServed, IsServedSo, IsServeFault, told_fault};
 ghost use Rattle.service_lines.specs.declared.served.Served.{Served};
 
@@ -12,7 +12,7 @@ use crate::lines::lines_of;
 use crate::served::Served;
 use command_output::{Fault, print_text, tell};
 use disk_trait::Disk;
-use service_threads::{Gate, Seats};
+use service_threads::{Hooks, ServiceConfig};
 use std::alloc::Global;
 use std::io::Write;
 use std::sync::Wait;
@@ -43,24 +43,24 @@ pub fn serve_lines<'a, D, G, R, O>(
     alloc: Global,
     disk: D,
     words: LandmarkWords,
-    seats: Seats,
+    config: ServiceConfig,
     script: Vec<ScriptLine>,
-    gate: &'a G,
+    hooks: &'a G,
     out: &mut O,
 ) -> (Result<(), Fault>, Option<D>)
 where
     D: Disk + Drop + Send,
-    G: Gate + Sync,
+    G: Hooks + Sync,
     R: Threads + Wait + Sync,
     O: Write,
-    requires seats { AreSeats seats }
-    requires sessions { AreOfSessions seats.editors script.items }
+    requires config { IsServiceConfig config }
+    requires sessions { AreOfSessions config.editors script.items }
     ensures printed { OnOk result.0 (IsServed script.items (O.contents out.old) (O.contents out.new)) }
     ensures fault { IfErr result.0 (λ fault. IsServeFault fault) }
     // No line is printed where the service gives no answers.
     ensures untouched { IfErr result.0 (λ fault. fault ≢ Fault.Output → out.new ≡ out.old) }
 {
-    let (answers, disk) = service_threads::serve_on(rt, alloc, disk, words, seats, script, gate);
+    let (answers, disk) = service_threads::serve_on(rt, alloc, disk, words, config, script, hooks);
     let answers = match answers {
         Ok(answers) => answers,
         Err(fault) => return (Err(fault_of(fault)), disk),
@@ -78,26 +78,26 @@ pub fn serve_told<'a, D, G, R, O, E>(
     alloc: Global,
     disk: D,
     words: LandmarkWords,
-    seats: Seats,
+    config: ServiceConfig,
     script: Vec<ScriptLine>,
-    gate: &'a G,
+    hooks: &'a G,
     out: &mut O,
     err: &mut E,
 ) -> (Served, Option<D>)
 where
     D: Disk + Drop + Send,
-    G: Gate + Sync,
+    G: Hooks + Sync,
     R: Threads + Wait + Sync,
     O: Write,
     E: Write,
-    requires seats { AreSeats seats }
-    requires sessions { AreOfSessions seats.editors script.items }
+    requires config { IsServiceConfig config }
+    requires sessions { AreOfSessions config.editors script.items }
     ensures so { IsServedSo script.items (O.contents out.old) (O.contents out.new) (E.contents err.old) (E.contents err.new) result.0 }
     ensures quiet { result.0 ≡ Served.Printed → err.new ≡ err.old }
     // No line is printed where the service gives no answers.
     ensures untouched { (fault : Fault) → (result.0 ≡ Served.Told fault) ⊎ (result.0 ≡ Served.Untold fault) → fault ≢ Fault.Output → out.new ≡ out.old }
 {
-    let (result, disk) = serve_lines(rt, alloc, disk, words, seats, script, gate, out);
+    let (result, disk) = serve_lines(rt, alloc, disk, words, config, script, hooks, out);
     match result {
         Ok(()) => (Served::Printed, disk),
         Err(fault) => match tell(err, fault) {
@@ -114,25 +114,25 @@ pub fn serve_on<'a, D, G, R, O, E>(
     alloc: Global,
     disk: D,
     words: LandmarkWords,
-    seats: Seats,
+    config: ServiceConfig,
     script: Vec<ScriptLine>,
-    gate: &'a G,
+    hooks: &'a G,
     out: &mut O,
     err: &mut E,
 ) -> (u8, Option<D>)
 where
     D: Disk + Drop + Send,
-    G: Gate + Sync,
+    G: Hooks + Sync,
     R: Threads + Wait + Sync,
     O: Write,
     E: Write,
-    requires seats { AreSeats seats }
-    requires sessions { AreOfSessions seats.editors script.items }
+    requires config { IsServiceConfig config }
+    requires sessions { AreOfSessions config.editors script.items }
     ensures few { result.0 ≤ 2 }
     ensures done { result.0 ≡ 0 → IsServed script.items (O.contents out.old) (O.contents out.new) × (err.new ≡ err.old) }
     ensures fault { (result.0 ≡ 0) ⊎ ((fault : Fault) × IsServeFault fault × (result.0 ≡ status_of fault) × (fault ≢ Fault.Output → out.new ≡ out.old)) }
 {
-    let (served, disk) = serve_told(rt, alloc, disk, words, seats, script, gate, out, err);
+    let (served, disk) = serve_told(rt, alloc, disk, words, config, script, hooks, out, err);
     match served {
         Served::Printed => (0, disk),
         Served::Told(fault) => (fault.status(), disk),

@@ -1,4 +1,2 @@
-pub mod Outcomes
-pub mod Seated
-pub mod Turned
 pub mod Openings
+pub mod Seated

@@ -11,8 +11,8 @@ use Rattle.committer.specs.declared.refused.RebuildRefused.{RebuildRefused}
 use Rattle.committer.specs.declared.refused.RebuildRefused.TheVariants as rebuilds
 use Rattle.service_threads.specs.declared.fault.Fault.{Fault}
 use Rattle.service_threads.specs.declared.fault.Fault.TheVariants.{NotFormatted, BadVersion, Damaged, Device, Worn, Memory, Board, NoThread, Internal}
-use Rattle.service_threads.specs.declared.halt.Halt.{Halt}
-use Rattle.service_threads.specs.declared.halt.Halt.TheVariants as halt
+use Rattle.service_workers.specs.declared.stop_cause.StopCause.{StopCause}
+use Rattle.service_workers.specs.declared.stop_cause.StopCause.TheVariants as cause
 
 -- of an opening
 abbrev pub opening_fault : OpenRefused → Fault
@@ -23,27 +23,27 @@ opening_fault opened.Device = Device
 opening_fault opened.Memory = Memory
 
 -- of threads that stopped
-abbrev pub halt_fault : Halt → Fault
-halt_fault halt.Device = Device
-halt_fault halt.Worn = Worn
-halt_fault halt.Memory = Memory
-halt_fault halt.Board = Board
-halt_fault halt.NoThread = NoThread
-halt_fault halt.Internal = Internal
+abbrev pub stop_fault : StopCause → Fault
+stop_fault cause.Device = Device
+stop_fault cause.Worn = Worn
+stop_fault cause.Memory = Memory
+stop_fault cause.Board = Board
+stop_fault cause.NoThread = NoThread
+stop_fault cause.Internal = Internal
 
 -- why threads stop at a round
-abbrev pub round_halt : RoundRefused → Halt
-round_halt rounds.Device = halt.Device
-round_halt rounds.Down = halt.Device
-round_halt rounds.Memory = halt.Memory
-round_halt rounds.Board = halt.Board
-round_halt rounds.Worn = halt.Worn
+abbrev pub round_cause : RoundRefused → StopCause
+round_cause rounds.Device = cause.Device
+round_cause rounds.Down = cause.Device
+round_cause rounds.Memory = cause.Memory
+round_cause rounds.Board = cause.Board
+round_cause rounds.Worn = cause.Worn
 
 -- and at a rebuild
-abbrev pub rebuild_halt : RebuildRefused → Halt
-rebuild_halt rebuilds.Memory = halt.Memory
-rebuild_halt rebuilds.Down = halt.Device
-rebuild_halt rebuilds.Board = halt.Board
+abbrev pub rebuild_cause : RebuildRefused → StopCause
+rebuild_cause rebuilds.Memory = cause.Memory
+rebuild_cause rebuilds.Down = cause.Device
+rebuild_cause rebuilds.Board = cause.Board
 
 -- what a fault tells of a device's content: by these three that it stands for no state, and which front it has
 abbrev pub TellsOf : Fault → List ℕ → Type 0

@@ -1,5 +1,2 @@
-pub mod Answers
+pub mod Config
 pub mod Faults
-pub mod Seating
-pub mod Settled
-pub mod Source

@@ -2,19 +2,16 @@
 ghost use Rattle.std.specs.Prelude.{◌≡◌, OnOk};
 ghost use Rattle.committer.specs.CommitterWords.{posts_of};
 
-use crate::graphs::{GenerationGraph, Graphs, shared_graph};
-use crate::halt::Halt;
-use crate::meeting::Meeting;
-use crate::told::{Naming, ToldOf};
-use crate::words::WordSource;
+use crate::committer_stop::CommitterStop;
 use committer::{Committer, Round};
 use disk_trait::Disk;
 use linked_list_allocator::LocalHeap;
+use scheme_builds::SCRATCH_LEN;
+use service_workers::{
+    Coordinator, GenerationGraph, Graphs, Naming, ToldOf, WordSource, shared_graph,
+};
 use std::alloc::{AllocError, Global};
 use std::sync::{Arc, Wait};
-
-/// How many bytes the trees of a scheme that is being built may take.
-pub const SCRATCH_LEN: usize = 67_108_864;
 
 /// What rebuilds take: the landmark words, and the one heap for the trees of each scheme that is being built.
 #[derive(Drop)]
@@ -35,7 +32,7 @@ impl Rebuilds {
         &mut self,
         alloc: Global,
         committer: &mut Committer<D, R>,
-    ) -> Result<(), Halt>
+    ) -> Result<(), CommitterStop>
         requires { (posts_of committer.old).opening ≡ J.opening }
         ensures { OnOk result ((posts_of committer.new).opening ≡ J.opening) }
     {
@@ -57,7 +54,7 @@ impl Rebuilds {
 fn next_graph<D: Disk, R: Wait + Drop>(
     alloc: Global,
     committer: &Committer<D, R>,
-) -> Result<Arc<GenerationGraph, Global>, Halt> {
+) -> Result<Arc<GenerationGraph, Global>, CommitterStop> {
     let store = committer.store();
     Ok(shared_graph(alloc, store.count(), store.graph())?)
 }
@@ -74,19 +71,19 @@ fn told<J: Naming, D: Disk, R: Wait + Drop>(committer: &Committer<D, R>) -> Told
 fn turn<J: Naming, D: Disk, R: Wait + Drop, S: Wait>(
     rt: &S,
     alloc: Global,
-    meeting: &Meeting<J>,
+    coordinator: &Coordinator<J>,
     committer: &mut Committer<D, R>,
     rebuilds: &mut Rebuilds,
-) -> Result<Round, Halt>
+) -> Result<Round, CommitterStop>
     requires { (posts_of committer.old).opening ≡ J.opening }
     ensures { OnOk result ((posts_of committer.new).opening ≡ J.opening) }
 {
     let round = committer.round(alloc, rt)?;
     if round.taken > 0 {
-        meeting.tell(rt, told::<J, D, R>(committer));
+        coordinator.tell(rt, told::<J, D, R>(committer));
     }
     if round.accepted > 0 {
-        meeting.show(rt, next_graph(alloc, committer)?);
+        coordinator.show(rt, next_graph(alloc, committer)?);
         rebuilds.rebuild::<J, D, R>(alloc, committer)?;
     }
     Ok(round)
@@ -96,7 +93,7 @@ fn turn<J: Naming, D: Disk, R: Wait + Drop, S: Wait>(
 pub(crate) fn commit_all<J: Naming, D: Disk, R: Wait + Drop, S: Wait>(
     rt: &S,
     alloc: Global,
-    meeting: &Meeting<J>,
+    coordinator: &Coordinator<J>,
     committer: &mut Committer<D, R>,
     rebuilds: &mut Rebuilds,
 )
@@ -104,34 +101,34 @@ pub(crate) fn commit_all<J: Naming, D: Disk, R: Wait + Drop, S: Wait>(
 {
     for _ in rt.forever() {
         // What there is to do is read before the round, so that nothing is missed that comes behind it.
-        let work = meeting.work(rt);
+        let work = coordinator.work(rt);
         if work.stopped {
             return;
         }
-        match turn::<J, D, R, S>(rt, alloc, meeting, committer, rebuilds) {
+        match turn::<J, D, R, S>(rt, alloc, coordinator, committer, rebuilds) {
             Ok(round) if round.taken > 0 => {}
             Ok(_) if work.editing == 0 => return,
-            Ok(_) => meeting.await_work(rt, work.asked),
-            Err(halt) => {
-                meeting.stop(rt, halt);
+            Ok(_) => coordinator.await_work(rt, work.asked),
+            Err(stop) => {
+                coordinator.stop(rt, stop.cause);
                 return;
             }
         }
     }
 }
 
-/// Builds the first generation, and gives the meeting that begins with it.
-pub(crate) fn opened<J: Naming, D: Disk, R: Wait + Drop>(
+/// Builds the first generation, and gives the coordinator that begins with it.
+pub(crate) fn first_generation<J: Naming, D: Disk, R: Wait + Drop>(
     alloc: Global,
     committer: &mut Committer<D, R>,
     rebuilds: &mut Rebuilds,
     editing: usize,
-) -> Result<Meeting<J>, Halt>
+) -> Result<Coordinator<J>, CommitterStop>
     requires { (posts_of committer.old).opening ≡ J.opening }
     ensures { OnOk result ((posts_of committer.new).opening ≡ J.opening) }
 {
     let mut graphs = Graphs::new();
     graphs.push(next_graph(alloc, committer)?);
     rebuilds.rebuild::<J, D, R>(alloc, committer)?;
-    Ok(Meeting::new(told::<J, D, R>(committer), graphs, editing))
+    Ok(Coordinator::new(told::<J, D, R>(committer), graphs, editing))
 }

@@ -18,34 +18,22 @@
 //! # The contract
 //!
 //! A script gets one answer a line, in its order, a verdict just where the line is an edit ([`serve_on`]). What the threads do is
-//! said where they do it: an editor's change is put under its ticket at the queue's end, and its verdict is the mark that the board
-//! shows of this ticket (`IsMarkOf` of specs/Settled); all of them, the committer and the forwarders stand at one board
-//! (`Naming`). What isn't said is what the contracts of threads can't carry: docs/DECISIONS.md.
+//! said where they do it: an editor's and a forwarder's part in [`service_workers`], the committer's here; all of them stand at one
+//! board (`Naming`). What isn't said is what the contracts of threads can't carry: docs/DECISIONS.md.
 //!
 //! ```text
 //! let script = script(alloc, "0 add:0:1:1\nroute 0 1", 2)?;
-//! let seats = Seats { editors: 2, forwarders: 2, places: 64 };
-//! let (answers, disk) = serve_on(rt, alloc, disk, words, seats, script, &Ungated);
+//! let config = ServiceConfig { editors: 2, forwarders: 2, places: 64 };
+//! let (answers, disk) = serve_on(rt, alloc, disk, words, config, script, &NoHooks);
 //! ```
 #![tactic(auto)]
 
-mod answer;
+mod committer_stop;
 mod committing;
-mod editing;
 mod fault;
-mod forwarding;
-mod gate;
-mod graphs;
-mod halt;
-mod meeting;
 mod running;
 mod serve;
-mod shares;
-mod told;
-mod words;
 
-pub use answer::Answer;
-pub use committing::SCRATCH_LEN;
 pub use fault::Fault;
-pub use gate::{Gate, Ungated};
-pub use serve::{STACK_LEN, Seats, serve_on};
+pub use serve::{STACK_LEN, ServiceConfig, serve_on};
+pub use service_workers::{Answer, Hooks, NoHooks};

@@ -2,20 +2,16 @@
 ghost use Rattle.std.specs.Prelude.{◌≡◌, ◌≤◌, [], IfOk, vec_capacity};
 ghost use Rattle.committer.specs.CommitterWords.{posts_of};
 
-use crate::committing::{Rebuilds, commit_all, opened};
-use crate::editing::{EditorOf, edit_all};
-use crate::forwarding::{Carried, ForwarderOf, Trip, forward_all};
-use crate::gate::Gate;
-use crate::halt::Halt;
-use crate::meeting::Meeting;
-use crate::shares::{Shares, Worked};
-use crate::told::Naming;
-use crate::words::WordSource;
+use crate::committing::{Rebuilds, commit_all, first_generation};
 use checkpoint::Store;
 use committer::Committer;
 use disk_trait::Disk;
 use generations::Verdict;
 use graph_edits::Change;
+use service_workers::{
+    Carried, Coordinator, EditorOf, ForwarderOf, Hooks, Naming, Shares, StopCause, Trip,
+    WordSource, WorkerResults, edit_all, forward_all,
+};
 use std::alloc::{AllocError, Global};
 use std::collections::VecDeque;
 use std::sync::Wait;
@@ -31,7 +27,7 @@ struct Started {
 
 /// The editors and forwarders at the board that `J` names.
 #[derive(Drop)]
-pub struct Staff<J: Naming> {
+pub struct Workers<J: Naming> {
     pub editors: Vec<EditorOf<J>>,
     pub forwarders: Vec<ForwarderOf<J>>,
 }
@@ -55,7 +51,7 @@ fn start_editors<'s, E, J: Naming + Send + Sync, R: Wait + Sync>(
     scope: &Scope<'s, E>,
     rt: &'s R,
     alloc: Global,
-    meeting: &'s Meeting<J>,
+    coordinator: &'s Coordinator<J>,
     editors: Vec<EditorOf<J>>,
     changes: Vec<Vec<Change>>,
     handles: &mut Vec<JoinHandle<VecDeque<Verdict>>>,
@@ -64,10 +60,10 @@ fn start_editors<'s, E, J: Naming + Send + Sync, R: Wait + Sync>(
         if handles.len() == handles.capacity() {
             return;
         }
-        match scope.spawn(move || edit_all(rt, alloc, meeting, seat, changes)) {
+        match scope.spawn(move || edit_all(rt, alloc, coordinator, seat, changes)) {
             Ok(handle) => handles.push_reserved(handle),
             Err(_) => {
-                meeting.stop(rt, Halt::NoThread);
+                coordinator.stop(rt, StopCause::NoThread);
                 return;
             }
         }
@@ -75,12 +71,12 @@ fn start_editors<'s, E, J: Naming + Send + Sync, R: Wait + Sync>(
 }
 
 // Starts the forwarders' threads. Where one can't be made all stop.
-fn start_forwarders<'s, E, J: Naming + Send + Sync, G: Gate + Sync, R: Wait + Sync>(
+fn start_forwarders<'s, E, J: Naming + Send + Sync, G: Hooks + Sync, R: Wait + Sync>(
     scope: &Scope<'s, E>,
     rt: &'s R,
     alloc: Global,
-    meeting: &'s Meeting<J>,
-    gate: &'s G,
+    coordinator: &'s Coordinator<J>,
+    hooks: &'s G,
     forwarders: Vec<ForwarderOf<J>>,
     trips: Vec<Vec<Trip>>,
     handles: &mut Vec<JoinHandle<VecDeque<Carried>>>,
@@ -89,10 +85,10 @@ fn start_forwarders<'s, E, J: Naming + Send + Sync, G: Gate + Sync, R: Wait + Sy
         if handles.len() == handles.capacity() {
             return;
         }
-        match scope.spawn(move || forward_all(rt, alloc, meeting, gate, seat, trips)) {
+        match scope.spawn(move || forward_all(rt, alloc, coordinator, hooks, seat, trips)) {
             Ok(handle) => handles.push_reserved(handle),
             Err(_) => {
-                meeting.stop(rt, Halt::NoThread);
+                coordinator.stop(rt, StopCause::NoThread);
                 return;
             }
         }
@@ -100,7 +96,11 @@ fn start_forwarders<'s, E, J: Naming + Send + Sync, G: Gate + Sync, R: Wait + Sy
 }
 
 // What the threads answered. All of them have ended then, also where memory ran out: the board must outlive them.
-fn joined<R: Threads>(rt: &R, alloc: Global, started: Started) -> Result<Worked, AllocError> {
+fn joined<R: Threads>(
+    rt: &R,
+    alloc: Global,
+    started: Started,
+) -> Result<WorkerResults, AllocError> {
     let Started {
         editing,
         forwarding,
@@ -117,7 +117,7 @@ fn joined<R: Threads>(rt: &R, alloc: Global, started: Started) -> Result<Worked,
     if !all {
         return Err(AllocError);
     }
-    Ok(Worked { verdicts, carried })
+    Ok(WorkerResults { verdicts, carried })
 }
 
 // Runs all threads, the committer in the caller's, and gives the store back.
@@ -125,42 +125,42 @@ fn threads<
     'a,
     J: Naming + Send + Sync,
     D: Disk + Drop,
-    G: Gate + Sync,
+    G: Hooks + Sync,
     Q: Wait + Drop,
     R: Threads + Wait + Sync,
 >(
     rt: &'a R,
     alloc: Global,
-    meeting: &'a Meeting<J>,
-    gate: &'a G,
+    coordinator: &'a Coordinator<J>,
+    hooks: &'a G,
     committer: Committer<D, Q>,
-    staff: Staff<J>,
+    workers: Workers<J>,
     rebuilds: Rebuilds,
     shares: Shares,
-) -> (Result<Worked, Halt>, Store<D>)
+) -> (Result<WorkerResults, StopCause>, Store<D>)
     requires { (posts_of committer).opening ≡ J.opening }
 {
     thread::scope(
         thread::scope_env(),
         rt,
-        |scope| -> (Result<Worked, Halt>, Store<D>)
+        |scope| -> (Result<WorkerResults, StopCause>, Store<D>)
             requires { (posts_of committer).opening ≡ J.opening }
         {
             let mut committer = committer;
             let mut rebuilds = rebuilds;
-            let Staff {
+            let Workers {
                 editors,
                 forwarders,
-            } = staff;
+            } = workers;
             let Shares { changes, trips } = shares;
             let Ok(mut started) = room(alloc, editors.len(), forwarders.len()) else {
-                return (Err(Halt::Memory), committer.into_store());
+                return (Err(StopCause::Memory), committer.into_store());
             };
             start_editors(
                 scope,
                 rt,
                 alloc,
-                meeting,
+                coordinator,
                 editors,
                 changes,
                 &mut started.editing,
@@ -169,18 +169,18 @@ fn threads<
                 scope,
                 rt,
                 alloc,
-                meeting,
-                gate,
+                coordinator,
+                hooks,
                 forwarders,
                 trips,
                 &mut started.forwarding,
             );
-            commit_all::<J, D, Q, R>(rt, alloc, meeting, &mut committer, &mut rebuilds);
-            let worked = joined(rt, alloc, started);
-            let result = match (meeting.halt(rt), worked) {
-                (Some(halt), _) => Err(halt),
-                (None, Ok(worked)) => Ok(worked),
-                (None, Err(_)) => Err(Halt::Memory),
+            commit_all::<J, D, Q, R>(rt, alloc, coordinator, &mut committer, &mut rebuilds);
+            let results = joined(rt, alloc, started);
+            let result = match (coordinator.cause(rt), results) {
+                (Some(cause), _) => Err(cause),
+                (None, Ok(results)) => Ok(results),
+                (None, Err(_)) => Err(StopCause::Memory),
             };
             (result, committer.into_store())
         },
@@ -191,29 +191,36 @@ fn threads<
 pub(crate) fn run<
     J: Naming + Send + Sync,
     D: Disk + Drop,
-    G: Gate + Sync,
+    G: Hooks + Sync,
     Q: Wait + Drop,
     R: Threads + Wait + Sync,
 >(
     rt: &R,
     alloc: Global,
     committer: Committer<D, Q>,
-    staff: Staff<J>,
+    workers: Workers<J>,
     source: WordSource,
     shares: Shares,
-    gate: &G,
-) -> (Result<Worked, Halt>, Store<D>)
+    hooks: &G,
+) -> (Result<WorkerResults, StopCause>, Store<D>)
     requires { (posts_of committer).opening ≡ J.opening }
 {
     let mut committer = committer;
     let Ok(mut rebuilds) = Rebuilds::new(alloc, source) else {
-        return (Err(Halt::Memory), committer.into_store());
+        return (Err(StopCause::Memory), committer.into_store());
     };
-    let editing = staff.editors.len();
-    match opened::<J, D, Q>(alloc, &mut committer, &mut rebuilds, editing) {
-        Ok(meeting) => threads::<J, D, G, Q, R>(
-            rt, alloc, &meeting, gate, committer, staff, rebuilds, shares,
+    let editing = workers.editors.len();
+    match first_generation::<J, D, Q>(alloc, &mut committer, &mut rebuilds, editing) {
+        Ok(coordinator) => threads::<J, D, G, Q, R>(
+            rt,
+            alloc,
+            &coordinator,
+            hooks,
+            committer,
+            workers,
+            rebuilds,
+            shares,
         ),
-        Err(halt) => (Err(halt), committer.into_store()),
+        Err(stop) => (Err(stop.cause), committer.into_store()),
     }
 }

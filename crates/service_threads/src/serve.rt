@@ -5,20 +5,12 @@ ghost use Rattle.written_values.specs.Scripts.{AreOfSessions};
 ghost use Rattle.layout_2.specs.State.{State};
 ghost use Rattle.layout_2.specs.Standing.{StandsFor};
 ghost use Rattle.written_values.specs.Words.{IsWithin};
-ghost use Rattle.service_threads.specs.Answers.{is_edit, is_editor, is_verdict};
+ghost use Rattle.service_workers.specs.Answers.{is_edit, is_editor, is_verdict};
 ghost use Rattle.service_threads.specs.Faults.{IsLater, TellsOf};
-ghost use Rattle.service_threads.specs.Seating.{AreSeats};
+ghost use Rattle.service_threads.specs.Config.{IsServiceConfig};
 
-use crate::answer::Answer;
-use crate::editing::EditorOf;
 use crate::fault::Fault;
-use crate::forwarding::ForwarderOf;
-use crate::gate::Gate;
-use crate::halt::Halt;
-use crate::running::{Staff, run};
-use crate::shares::{Shares, Turn, Worked, in_order, shared};
-use crate::told::Naming;
-use crate::words::WordSource;
+use crate::running::{Workers, run};
 use checkpoint::{Store, standing_law};
 use committer::Committer;
 use disk_trait::Disk;
@@ -26,6 +18,10 @@ use generations::{BoardReader, BoardWriter, board};
 use group_commit::Desk;
 use intake::{Editor, Taker, open_intake};
 use requests::SESSIONS;
+use service_workers::{
+    Answer, EditorOf, ForwarderOf, Hooks, Naming, Shares, StopCause, Turn, WordSource,
+    WorkerResults, in_order, shared,
+};
 use std::alloc::{AllocError, Global};
 use std::marker::Brand;
 use std::sync::Wait;
@@ -38,7 +34,7 @@ pub const STACK_LEN: usize = 67_108_864;
 
 /// How many editors and forwarders there are, and places in the queue: 1 to 64 of each.
 #[derive(Clone, Copy, Debug, PartialEq, Eq, Drop)]
-pub struct Seats {
+pub struct ServiceConfig {
     pub editors: u8,
     pub forwarders: u8,
     pub places: u8,
@@ -77,47 +73,47 @@ fn forwarders<J: Naming>(
 
 // The queue's end, and editors and forwarders at the board that `J` names.
 #[tactic(auto, using(crate::proofs::Seated::seated))]
-fn staffed<J: Naming>(
+fn seat_workers<J: Naming>(
     alloc: Global,
-    seats: Seats,
+    config: ServiceConfig,
     readers: Vec<BoardReader>,
     starts: &[u64; SESSIONS],
-) -> Result<(Taker, Staff<J>), AllocError>
-    requires seats { AreSeats seats }
+) -> Result<(Taker, Workers<J>), AllocError>
+    requires config { IsServiceConfig config }
     requires readers { All (λ r. r.all.opening ≡ J.opening) readers.items }
     ensures starts { IfOk result (λ r. r.0.starts ≡ starts.now) }
     ensures got { IfOk result (λ r. r.0.got ≡ []) }
 {
     let mut readers = readers;
-    let forwarders = forwarders::<J>(alloc, &mut readers, seats.editors as usize)?;
-    let (taker, editors) = open_intake(alloc, seats.places as usize, readers, starts)?;
+    let forwarders = forwarders::<J>(alloc, &mut readers, config.editors as usize)?;
+    let (taker, editors) = open_intake(alloc, config.places as usize, readers, starts)?;
     let editors = named::<J>(alloc, editors)?;
-    let staff = Staff {
+    let workers = Workers {
         editors,
         forwarders,
     };
-    Ok((taker, staff))
+    Ok((taker, workers))
 }
 
-// Seats editors and forwarders at the board that `J` names, and runs them.
+// ServiceConfig editors and forwarders at the board that `J` names, and runs them.
 fn seat<
     J: Naming + Send + Sync,
     D: Disk + Drop,
-    G: Gate + Sync,
+    G: Hooks + Sync,
     Q: Wait + Drop,
     R: Threads + Wait + Sync,
 >(
     rt: &R,
     alloc: Global,
-    seats: Seats,
+    config: ServiceConfig,
     store: Store<D>,
     writer: BoardWriter<Q>,
     readers: Vec<BoardReader>,
     source: WordSource,
     shares: Shares,
-    gate: &G,
-) -> (Result<Worked, Halt>, Store<D>)
-    requires seats { AreSeats seats }
+    hooks: &G,
+) -> (Result<WorkerResults, StopCause>, Store<D>)
+    requires config { IsServiceConfig config }
     requires named { writer.opening ≡ J.opening }
     requires starts { writer.opening.starts ≡ (state_of store).tickets }
     requires count { writer.opening.count ≡ (state_of store).count }
@@ -126,94 +122,94 @@ fn seat<
     requires up { is_down store ≡ false }
     requires readers { All (λ r. r.all.opening ≡ J.opening) readers.items }
 {
-    match staffed::<J>(alloc, seats, readers, &store.starts()) {
-        Ok((taker, staff)) => {
+    match seat_workers::<J>(alloc, config, readers, &store.starts()) {
+        Ok((taker, workers)) => {
             let committer = Committer::new(Desk::new(store), taker, writer);
-            run::<J, D, G, Q, R>(rt, alloc, committer, staff, source, shares, gate)
+            run::<J, D, G, Q, R>(rt, alloc, committer, workers, source, shares, hooks)
         }
-        Err(_) => (Err(Halt::Memory), store),
+        Err(_) => (Err(StopCause::Memory), store),
     }
 }
 
 // The service on a store, with a board of its own.
 #[tactic(auto, using(crate::proofs::Seated::all_of))]
-fn serve_store<D: Disk + Drop, G: Gate + Sync, R: Threads + Wait + Sync>(
+fn serve_store<D: Disk + Drop, G: Hooks + Sync, R: Threads + Wait + Sync>(
     rt: &R,
     alloc: Global,
-    seats: Seats,
+    config: ServiceConfig,
     store: Store<D>,
     source: WordSource,
     shares: Shares,
-    gate: &G,
-) -> (Result<Worked, Halt>, Store<D>)
-    requires seats { AreSeats seats }
+    hooks: &G,
+) -> (Result<WorkerResults, StopCause>, Store<D>)
+    requires config { IsServiceConfig config }
     requires up { is_down store ≡ false }
 {
-    let readers = seats.editors as usize + seats.forwarders as usize;
+    let readers = config.editors as usize + config.forwarders as usize;
     let (starts, count) = (store.starts(), store.count());
     match board::<&R>(alloc, rt, readers, &starts, count) {
         Ok((writer, readers)) => seat::<Brand, D, G, &R, R>(
-            rt, alloc, seats, store, writer, readers, source, shares, gate,
+            rt, alloc, config, store, writer, readers, source, shares, hooks,
         ),
-        Err(_) => (Err(Halt::Memory), store),
+        Err(_) => (Err(StopCause::Memory), store),
     }
 }
 
 // The service in the thread that calls. The disk comes back.
-fn serve_here<D: Disk + Drop, G: Gate + Sync, R: Threads + Wait + Sync>(
+fn serve_here<D: Disk + Drop, G: Hooks + Sync, R: Threads + Wait + Sync>(
     rt: &R,
     alloc: Global,
-    seats: Seats,
+    config: ServiceConfig,
     store: Store<D>,
     source: WordSource,
     shares: Shares,
-    gate: &G,
-) -> (Result<Worked, Halt>, D)
-    requires seats { AreSeats seats }
+    hooks: &G,
+) -> (Result<WorkerResults, StopCause>, D)
+    requires config { IsServiceConfig config }
     requires up { is_down store ≡ false }
 {
-    let (result, store) = serve_store(rt, alloc, seats, store, source, shares, gate);
+    let (result, store) = serve_store(rt, alloc, config, store, source, shares, hooks);
     (result, store.into_disk())
 }
 
 // The service in a thread of its own, with a stack for deep trees. The disk comes back, unless no thread can be made.
-fn serve_there<'a, D: Disk + Drop + Send, G: Gate + Sync, R: Threads + Wait + Sync>(
+fn serve_there<'a, D: Disk + Drop + Send, G: Hooks + Sync, R: Threads + Wait + Sync>(
     rt: &'a R,
     alloc: Global,
-    seats: Seats,
+    config: ServiceConfig,
     store: Store<D>,
     source: WordSource,
     shares: Shares,
-    gate: &'a G,
-) -> (Result<Worked, Halt>, Option<D>)
-    requires seats { AreSeats seats }
+    hooks: &'a G,
+) -> (Result<WorkerResults, StopCause>, Option<D>)
+    requires config { IsServiceConfig config }
     requires up { is_down store ≡ false }
 {
     thread::scope(
         thread::scope_env(),
         rt,
-        |scope| -> (Result<Worked, Halt>, Option<D>)
-            requires seats { AreSeats seats }
+        |scope| -> (Result<WorkerResults, StopCause>, Option<D>)
+            requires config { IsServiceConfig config }
             requires up { is_down store ≡ false }
         {
             let builder = Builder::new().stack_size(STACK_LEN);
-            let job = move || -> (Result<Worked, Halt>, D)
-                requires seats { AreSeats seats }
+            let job = move || -> (Result<WorkerResults, StopCause>, D)
+                requires config { IsServiceConfig config }
                 requires up { is_down store ≡ false }
-            { serve_here(rt, alloc, seats, store, source, shares, gate) };
+            { serve_here(rt, alloc, config, store, source, shares, hooks) };
             match builder.spawn_scoped(scope, job) {
                 Ok(handle) => {
                     let (result, disk) = handle.join(rt);
                     (result, Some(disk))
                 }
-                Err(_) => (Err(Halt::NoThread), None),
+                Err(_) => (Err(StopCause::NoThread), None),
             }
         },
     )
 }
 
 // Opens a device, and reads which landmark words its nodes get. One that is refused was only read, and is handed back.
-fn opened<D: Disk>(
+fn open_device<D: Disk>(
     alloc: Global,
     disk: D,
     words: &LandmarkWords,
@@ -241,16 +237,16 @@ fn opened<D: Disk>(
 fn answers_of(
     alloc: Global,
     turns: &[Turn],
-    ended: Result<Worked, Halt>,
+    ended: Result<WorkerResults, StopCause>,
 ) -> Result<Vec<Answer>, Fault>
     ensures answers { IfOk result (λ answers. map is_verdict answers.items ≡ map is_editor turns.now) }
     ensures later { IfErr result (λ fault. IsLater fault) }
 {
-    let worked = match ended {
-        Ok(worked) => worked,
-        Err(halt) => return Err(Fault::from(halt)),
+    let results = match ended {
+        Ok(results) => results,
+        Err(cause) => return Err(Fault::from(cause)),
     };
-    match in_order(alloc, turns, worked) {
+    match in_order(alloc, turns, results) {
         Ok(Some(answers)) => Ok(answers),
         Ok(None) => Err(Fault::Internal),
         Err(_) => Err(Fault::Memory),
@@ -264,17 +260,17 @@ fn answers_of(
 /// to the forwarder `k` modulo their number. The device comes back, unless no thread could be made for it.
 ///
 /// With a fault there are no answers; what was accepted before it stays on the device.
-pub fn serve_on<'a, D: Disk + Drop + Send, G: Gate + Sync, R: Threads + Wait + Sync>(
+pub fn serve_on<'a, D: Disk + Drop + Send, G: Hooks + Sync, R: Threads + Wait + Sync>(
     rt: &'a R,
     alloc: Global,
     disk: D,
     words: LandmarkWords,
-    seats: Seats,
+    config: ServiceConfig,
     script: Vec<ScriptLine>,
-    gate: &'a G,
+    hooks: &'a G,
 ) -> (Result<Vec<Answer>, Fault>, Option<D>)
-    requires seats { AreSeats seats }
-    requires sessions { AreOfSessions seats.editors script.items }
+    requires config { IsServiceConfig config }
+    requires sessions { AreOfSessions config.editors script.items }
     // One answer a line: a verdict just where the line is an edit.
     ensures answers { IfOk result.0 (λ answers. map is_verdict answers.items ≡ map is_edit script.items) }
     ensures tells { IsTrue (D.view disk).keeps_model → IfErr result.0 (λ fault. TellsOf fault (D.view disk).content) }
@@ -282,14 +278,14 @@ pub fn serve_on<'a, D: Disk + Drop + Send, G: Gate + Sync, R: Threads + Wait + S
     ensures words { IsTrue (D.view disk).keeps_model → (state : State) → StandsFor state (D.view disk).content → IfErr result.0 (λ fault. fault ≡ Fault.Words → ¬ IsWithin words state.graph.nodes) }
     ensures of_one { IfErr result.0 (λ fault. fault ≡ Fault.Words → (state : State) × ¬ IsWithin words state.graph.nodes) }
 {
-    let (turns, shares) = match shared(alloc, seats.editors, seats.forwarders, script) {
+    let (turns, shares) = match shared(alloc, config.editors, config.forwarders, script) {
         Ok(shared) => shared,
         Err(_) => return (Err(Fault::Memory), Some(disk)),
     };
-    let (store, source) = match opened(alloc, disk, &words) {
+    let (store, source) = match open_device(alloc, disk, &words) {
         Ok(opened) => opened,
         Err((fault, disk)) => return (Err(fault), Some(disk)),
     };
-    let (result, disk) = serve_there(rt, alloc, seats, store, source, shares, gate);
+    let (result, disk) = serve_there(rt, alloc, config, store, source, shares, hooks);
     (answers_of(alloc, &turns, result), disk)
 }

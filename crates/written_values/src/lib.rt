@@ -6,6 +6,7 @@
 //! | [`node`] | a number that fits a node's |
 //! | [`op`] | `add:A:B:W`, `set:A:B:W` or `cut:A:B` |
 //! | [`landmark_words`] | `none`, `at:2,5` or `draw:7` |
+//! | [`change_in`] | a change, an op a word |
 //! | [`script`] | the lines of a script of `serve` |
 //!
 //! Each answers `None` exactly where the text isn't of its form: what is read is written so (`found`), and what is written so is read
@@ -61,5 +62,5 @@ mod words;
 pub use draws::Draws;
 pub use line::ScriptLine;
 pub use op_words::{node, number, op};
-pub use reading::script;
+pub use reading::{change_in, lines_in, script};
 pub use words::{LandmarkWords, landmark_words};

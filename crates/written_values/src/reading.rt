@@ -25,8 +25,8 @@ fn parts_in<'a>(alloc: Global, text: &'a str) -> Result<Vec<&'a str>, AllocError
     text.split('\n').collect(alloc)
 }
 
-// The lines of a text.
-fn lines_in<'a>(alloc: Global, text: &'a str) -> Result<Vec<&'a str>, AllocError>
+/// The lines of a text: what stands between the line feeds. Behind the last feed there may be nothing.
+pub fn lines_in<'a>(alloc: Global, text: &'a str) -> Result<Vec<&'a str>, AllocError>
     ensures { IfOk result (λ lines. map (λ x. x.now) lines.items ≡ lines_of text.entry.now) }
 {
     let mut lines = parts_in(alloc, text)?;
@@ -54,8 +54,8 @@ fn ops_in(alloc: Global, words: &[&str]) -> Result<Option<Vec<Op>>, AllocError>
     Ok(Some(ops))
 }
 
-// A change of these words.
-fn change_in(alloc: Global, words: &[&str]) -> Result<Option<Change>, AllocError>
+/// The change whose ops are these words. `None` where a word is no op, or there are none or too many.
+pub fn change_in(alloc: Global, words: &[&str]) -> Result<Option<Change>, AllocError>
     ensures found { IfOk result (λ o. IfSome o (λ change. (map op_text change ≡ map (λ x. x.now) words.now) × IsChange change)) }
     ensures only { (ops : List Op) → IsChange ops → map op_text ops ≡ map (λ x. x.now) words.now → IfOk result (λ o. o ≡ Some ops) }
 {

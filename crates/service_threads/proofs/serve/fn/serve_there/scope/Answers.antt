@@ -7,8 +7,8 @@ use Rattle.requests.specs.contracts.request.Request as request
 use Rattle.journal.specs.contracts.journal.Journal as journal
 use Rattle.journal.specs.contracts.request_entry.RequestEntry.TheImpl as entry
 use Rattle.checkpoint.specs.contracts.store.Store as store
-use Rattle.service_threads.specs.contracts.words.WordSource as source
-use Rattle.service_threads.specs.contracts.shares.Shares as shares
+use Rattle.service_workers.specs.contracts.word_source.WordSource as source
+use Rattle.service_workers.specs.contracts.shares.Shares as shares
 use Rattle.service_threads.proofs.serve.fn.serve_there.scope.Lts as lts
 use Rattle.service_threads.proofs.serve.fn.serve_there.scope.Goals as goal
 
@@ -30,5 +30,5 @@ shares_send = search (crosses, sendable) depth 40
 
 pub spawn_scoped-requires-send-F : goal.spawn_scoped-requires-send-F
 spawn_scoped-requires-send-F g c κs within =
-    param_send 1 (lts.arg-2-1 g.row.D g.row.G g.row.R g.D.laws g.G.laws g.R.laws g.D.Disk g.D.Disk-dict g.G.Gate g.G.Gate-dict g.R.Threads g.R.Threads-dict g.R.Wait g.R.Wait-dict g.D.Destruct-dict κs)
+    param_send 1 (lts.arg-2-1 g.row.D g.row.G g.row.R g.D.laws g.G.laws g.R.laws g.D.Disk g.D.Disk-dict g.G.Hooks g.G.Hooks-dict g.R.Threads g.R.Threads-dict g.R.Wait g.R.Wait-dict g.D.Destruct-dict κs)
     (search (crosses, sendable, store_send, source_send, shares_send) depth 80)

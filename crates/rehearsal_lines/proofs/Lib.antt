@@ -1,0 +1,4 @@
+pub mod Absent
+pub mod BareTexts
+pub mod Orders
+pub mod SaidLemmas

@@ -1,0 +1,326 @@
+// Reading one line.
+ghost use Rattle.std.specs.Prelude.{◌≡◌, ◌<◌, ◌≤◌, ◌^◌, ◌∷◌, ◌++◌, [], ℕ, List, IfOk, IfSome, IsSome, IsSomeAnd, codes, decimal, map, true};
+ghost use Rattle.disk_trait.specs.declared.plan.Plan.{Plan};
+ghost use Rattle.graph_edits.specs.declared.edits.Op.{Op};
+ghost use Rattle.written_values.specs.OpText.{op_text};
+ghost use Rattle.written_values.specs.Scripts.{IsChange};
+ghost use Rattle.written_values.specs.WordsText.{words_text};
+ghost use Rattle.written_values.specs.declared.words.LandmarkWords.{LandmarkWords};
+ghost use Rattle.rehearsal_lines.specs.declared.line.LifeLine.{LifeLine};
+ghost use Rattle.rehearsal_lines.specs.declared.line.RehearsalLine.{RehearsalLine};
+ghost use Rattle.rehearsal_lines.specs.Grammar.{AreOfDevice, FitsPlan, IsEvent, IsFew, IsLife, IsLifeOrEvent, MayStand, field_text, has_none, life_fields, line_words, plan_words};
+
+use crate::fields::{
+    device_words, field_first, number_field, number_first, only_number, pair_in, two_numbers,
+};
+use crate::line::{LifeLine, RehearsalLine};
+use crate::stage::Stage;
+use disk_trait::Plan;
+use graph_edits::Change;
+use std::alloc::{AllocError, Global};
+use written_values::{LandmarkWords, change_in};
+
+/// The line of these words, where one may stand behind what the lines so far have.
+pub(crate) fn line_in(
+    alloc: Global,
+    stage: Stage,
+    words: &[&str],
+) -> Result<Option<RehearsalLine>, AllocError>
+    ensures found { IfOk result (λ o. IfSome o (λ line. (map (λ x. x.now) words.now ≡ line_words line) × MayStand stage line)) }
+    ensures only { (line : RehearsalLine) → MayStand stage line → map (λ x. x.now) words.now ≡ line_words line → IfOk result (λ o. IsSome o) }
+{
+    let Some((first, rest)) = words.split_first() else {
+        return Ok(None);
+    };
+    match stage {
+        Stage::Empty => device_in(alloc, *first, rest),
+        Stage::Made(nodes) => life_line(alloc, *first, rest, nodes),
+        Stage::Living(nodes) => living_in(alloc, *first, rest, nodes),
+    }
+}
+
+fn device_in(alloc: Global, name: &str, rest: &[&str]) -> Result<Option<RehearsalLine>, AllocError>
+    ensures found { IfOk result (λ o. IfSome o (λ line. (name.now ∷ map (λ x. x.now) rest.now ≡ line_words line) × MayStand Stage.Empty line)) }
+    ensures only { (line : RehearsalLine) → MayStand Stage.Empty line → name.now ∷ map (λ x. x.now) rest.now ≡ line_words line → IfOk result (λ o. IsSome o) }
+{
+    if name != "device" {
+        return Ok(None);
+    }
+    match only_number(alloc, rest, 16_384)? {
+        Some(nodes) if nodes >= 1 => Ok(Some(RehearsalLine::Device {
+            nodes: nodes as u16,
+        })),
+        _ => Ok(None),
+    }
+}
+
+fn life_line(
+    alloc: Global,
+    name: &str,
+    rest: &[&str],
+    nodes: u16,
+) -> Result<Option<RehearsalLine>, AllocError>
+    ensures found { IfOk result (λ o. IfSome o (λ line. (name.now ∷ map (λ x. x.now) rest.now ≡ line_words line) × MayStand (Stage.Made nodes) line)) }
+    ensures only { (life : LifeLine) → IsLife nodes life → name.now ∷ map (λ x. x.now) rest.now ≡ codes "life" ∷ life_fields life → IfOk result (λ o. IsSome o) }
+{
+    if name != "life" {
+        return Ok(None);
+    }
+    match life_in(alloc, rest, nodes)? {
+        Some(life) => Ok(Some(RehearsalLine::Life(life))),
+        None => Ok(None),
+    }
+}
+
+fn living_in(
+    alloc: Global,
+    name: &str,
+    rest: &[&str],
+    nodes: u16,
+) -> Result<Option<RehearsalLine>, AllocError>
+    ensures found { IfOk result (λ o. IfSome o (λ line. (name.now ∷ map (λ x. x.now) rest.now ≡ line_words line) × IsLifeOrEvent nodes line)) }
+    ensures only { (line : RehearsalLine) → IsLifeOrEvent nodes line → name.now ∷ map (λ x. x.now) rest.now ≡ line_words line → IfOk result (λ o. IsSome o) }
+{
+    if name == "life" {
+        life_line(alloc, name, rest, nodes)
+    } else {
+        event_in(alloc, name, rest, nodes)
+    }
+}
+
+fn event_in(
+    alloc: Global,
+    name: &str,
+    rest: &[&str],
+    nodes: u16,
+) -> Result<Option<RehearsalLine>, AllocError>
+    ensures found { IfOk result (λ o. IfSome o (λ line. (name.now ∷ map (λ x. x.now) rest.now ≡ line_words line) × IsEvent nodes line)) }
+    ensures only { (line : RehearsalLine) → IsEvent nodes line → name.now ∷ map (λ x. x.now) rest.now ≡ line_words line → IfOk result (λ o. IsSome o) }
+{
+    if rest.is_empty() {
+        Ok(step_in(name))
+    } else if name == "submit" {
+        submit_in(alloc, rest)
+    } else if name == "look" {
+        look_in(alloc, rest)
+    } else if name == "rebuild" {
+        rebuild_in(alloc, rest, nodes)
+    } else if name == "launch" {
+        launch_in(alloc, rest)
+    } else if name == "hop" {
+        hop_in(alloc, rest)
+    } else {
+        Ok(None)
+    }
+}
+
+// A step of the committer.
+fn step_in(name: &str) -> Option<RehearsalLine>
+    ensures found { IfSome result (λ line. (name.now ∷ [] ≡ line_words line) × ((nodes : ℕ) → IsEvent nodes line)) }
+    ensures take { name.now ≡ codes "take" → IsSome result }
+    ensures commit { name.now ≡ codes "commit" → IsSome result }
+    ensures post { name.now ≡ codes "post" → IsSome result }
+{
+    if name == "take" {
+        Some(RehearsalLine::Take)
+    } else if name == "commit" {
+        Some(RehearsalLine::Commit)
+    } else if name == "post" {
+        Some(RehearsalLine::Post)
+    } else {
+        None
+    }
+}
+
+fn submit_in(alloc: Global, rest: &[&str]) -> Result<Option<RehearsalLine>, AllocError>
+    ensures found { IfOk result (λ o. IfSome o (λ line. (codes "submit" ∷ map (λ x. x.now) rest.now ≡ line_words line) × ((nodes : ℕ) → IsEvent nodes line))) }
+    ensures only { (s t : ℕ) (change : List Op) → s < 2 ^ 8 → t < 2 ^ 64 → IsChange change → map (λ x. x.now) rest.now ≡ decimal s ∷ decimal t ∷ map op_text change → IfOk result (λ o. IsSome o) }
+{
+    let Some((session, behind)) = number_first(alloc, rest, 255)? else {
+        return Ok(None);
+    };
+    let Some((ticket, ops)) = number_first(alloc, behind, u64::MAX)? else {
+        return Ok(None);
+    };
+    match change_in(alloc, ops)? {
+        Some(change) => Ok(Some(RehearsalLine::Submit {
+            session: session as u8,
+            ticket,
+            change,
+        })),
+        None => Ok(None),
+    }
+}
+
+fn look_in(alloc: Global, rest: &[&str]) -> Result<Option<RehearsalLine>, AllocError>
+    ensures found { IfOk result (λ o. IfSome o (λ line. (codes "look" ∷ map (λ x. x.now) rest.now ≡ line_words line) × ((nodes : ℕ) → IsEvent nodes line))) }
+    ensures only { (s at : ℕ) → s < 2 ^ 8 → at < 2 ^ 64 → map (λ x. x.now) rest.now ≡ decimal s ∷ decimal at ∷ [] → IfOk result (λ o. IsSome o) }
+{
+    match two_numbers(alloc, rest, (255, u64::MAX))? {
+        Some((session, at)) => Ok(Some(RehearsalLine::Look {
+            session: session as u8,
+            at,
+        })),
+        None => Ok(None),
+    }
+}
+
+fn rebuild_in(alloc: Global, rest: &[&str], nodes: u16) -> Result<Option<RehearsalLine>, AllocError>
+    ensures found { IfOk result (λ o. IfSome o (λ line. (codes "rebuild" ∷ map (λ x. x.now) rest.now ≡ line_words line) × IsEvent nodes line)) }
+    ensures only { (words : LandmarkWords) → AreOfDevice nodes words → map (λ x. x.now) rest.now ≡ words_text words ∷ [] → IfOk result (λ o. IsSome o) }
+{
+    let Some((first, [])) = rest.split_first() else {
+        return Ok(None);
+    };
+    match device_words(alloc, *first, nodes)? {
+        Some(words) => Ok(Some(RehearsalLine::Rebuild { words })),
+        None => Ok(None),
+    }
+}
+
+fn launch_in(alloc: Global, rest: &[&str]) -> Result<Option<RehearsalLine>, AllocError>
+    ensures found { IfOk result (λ o. IfSome o (λ line. (codes "launch" ∷ map (λ x. x.now) rest.now ≡ line_words line) × ((nodes : ℕ) → IsEvent nodes line))) }
+    ensures only { (from to at : ℕ) → from < 2 ^ 16 → to < 2 ^ 16 → at < 2 ^ 64 → map (λ x. x.now) rest.now ≡ decimal from ∷ decimal to ∷ decimal at ∷ [] → IfOk result (λ o. IsSome o) }
+{
+    let Some((from, behind)) = number_first(alloc, rest, 65_535)? else {
+        return Ok(None);
+    };
+    match two_numbers(alloc, behind, (65_535, u64::MAX))? {
+        Some((to, at)) => Ok(Some(RehearsalLine::Launch {
+            from: from as u16,
+            to: to as u16,
+            at,
+        })),
+        None => Ok(None),
+    }
+}
+
+fn hop_in(alloc: Global, rest: &[&str]) -> Result<Option<RehearsalLine>, AllocError>
+    ensures found { IfOk result (λ o. IfSome o (λ line. (codes "hop" ∷ map (λ x. x.now) rest.now ≡ line_words line) × ((nodes : ℕ) → IsEvent nodes line))) }
+    ensures only { (packet at : ℕ) → packet < 2 ^ 64 → at < 2 ^ 64 → map (λ x. x.now) rest.now ≡ decimal packet ∷ decimal at ∷ [] → IfOk result (λ o. IsSome o) }
+{
+    match two_numbers(alloc, rest, (u64::MAX, u64::MAX))? {
+        Some((packet, at)) => Ok(Some(RehearsalLine::Hop { packet, at })),
+        None => Ok(None),
+    }
+}
+
+// ---- a life
+
+fn life_in(alloc: Global, fields: &[&str], nodes: u16) -> Result<Option<LifeLine>, AllocError>
+    ensures found { IfOk result (λ o. IfSome o (λ life. (map (λ x. x.now) fields.now ≡ life_fields life) × IsLife nodes life)) }
+    ensures only { (life : LifeLine) → IsLife nodes life → map (λ x. x.now) fields.now ≡ life_fields life → IfOk result (λ o. IsSome o) }
+{
+    let Some((sessions, seated)) = few_first(alloc, fields, "sessions")? else {
+        return Ok(None);
+    };
+    let Some((places, worded)) = few_first(alloc, seated, "places")? else {
+        return Ok(None);
+    };
+    let Some((words, ended)) = words_first(alloc, worded, nodes)? else {
+        return Ok(None);
+    };
+    match end_in(alloc, ended)? {
+        Some((plan, crash)) => Ok(Some(LifeLine {
+            sessions,
+            places,
+            words,
+            plan,
+            crash,
+        })),
+        None => Ok(None),
+    }
+}
+
+// A number from 1 to 64.
+fn few_first<'a, 'b>(
+    alloc: Global,
+    fields: &'a [&'b str],
+    name: &str,
+) -> Result<Option<(u8, &'a [&'b str])>, AllocError>
+    requires { has_none 61 name.now ≡ true }
+    ensures found { IfOk result (λ o. IfSome o (λ p. map (λ x. x.now) fields.entry.now ≡ field_text name.now (decimal p.0) ∷ map (λ x. x.now) p.1.now)) }
+    ensures few { IfOk result (λ o. IfSome o (λ p. IsFew p.0)) }
+    ensures only { (n : ℕ) (rest : List (List ℕ)) → IsFew n → map (λ x. x.now) fields.entry.now ≡ field_text name.now (decimal n) ∷ rest → IfOk result (λ o. IsSomeAnd o (λ p. (p.0 ≡ n) × (map (λ x. x.now) p.1.now ≡ rest))) }
+{
+    let Some((n, rest)) = number_field(alloc, fields, name, 64)? else {
+        return Ok(None);
+    };
+    if n < 1 {
+        return Ok(None);
+    }
+    Ok(Some((n as u8, rest)))
+}
+
+// The landmark words, and the fields behind them.
+fn words_first<'a, 'b>(
+    alloc: Global,
+    fields: &'a [&'b str],
+    nodes: u16,
+) -> Result<Option<(LandmarkWords, &'a [&'b str])>, AllocError>
+    ensures found { IfOk result (λ o. IfSome o (λ p. map (λ x. x.now) fields.entry.now ≡ field_text (codes "words") (words_text p.0) ∷ map (λ x. x.now) p.1.now)) }
+    ensures of_device { IfOk result (λ o. IfSome o (λ p. AreOfDevice nodes p.0)) }
+    ensures only { (words : LandmarkWords) (rest : List (List ℕ)) → AreOfDevice nodes words → map (λ x. x.now) fields.entry.now ≡ field_text (codes "words") (words_text words) ∷ rest → IfOk result (λ o. IsSomeAnd o (λ p. map (λ x. x.now) p.1.now ≡ rest)) }
+{
+    let Some((value, rest)) = field_first(fields, "words") else {
+        return Ok(None);
+    };
+    match device_words(alloc, value, nodes)? {
+        Some(words) => Ok(Some((words, rest))),
+        None => Ok(None),
+    }
+}
+
+// Which call fails, and what the crash leaves.
+fn end_in(alloc: Global, fields: &[&str]) -> Result<Option<(Plan, u64)>, AllocError>
+    ensures found { IfOk result (λ o. IfSome o (λ p. map (λ x. x.now) fields.now ≡ plan_words p.0 ++ field_text (codes "crash") (decimal p.1) ∷ [])) }
+    ensures fits { IfOk result (λ o. IfSome o (λ p. FitsPlan p.0 × (p.1 < 2 ^ 64))) }
+    ensures only { (plan : Plan) (crash : ℕ) → FitsPlan plan → crash < 2 ^ 64 → map (λ x. x.now) fields.now ≡ plan_words plan ++ field_text (codes "crash") (decimal crash) ∷ [] → IfOk result (λ o. IsSome o) }
+{
+    let Some((plan, rest)) = plan_first(alloc, fields)? else {
+        return Ok(None);
+    };
+    match only_field(alloc, rest)? {
+        Some(crash) => Ok(Some((plan, crash))),
+        None => Ok(None),
+    }
+}
+
+// What the crash leaves, which is the only field.
+fn only_field(alloc: Global, fields: &[&str]) -> Result<Option<u64>, AllocError>
+    ensures found { IfOk result (λ o. IfSome o (λ n. map (λ x. x.now) fields.now ≡ field_text (codes "crash") (decimal n) ∷ [])) }
+    ensures only { (n : ℕ) → n < 2 ^ 64 → map (λ x. x.now) fields.now ≡ field_text (codes "crash") (decimal n) ∷ [] → IfOk result (λ o. IsSome o) }
+{
+    let Some((n, rest)) = number_field(alloc, fields, "crash", u64::MAX)? else {
+        return Ok(None);
+    };
+    if rest.is_empty() {
+        Ok(Some(n))
+    } else {
+        Ok(None)
+    }
+}
+
+// Which call fails, and the fields behind that; no call where the first field names none.
+fn plan_first<'a, 'b>(
+    alloc: Global,
+    fields: &'a [&'b str],
+) -> Result<Option<(Plan, &'a [&'b str])>, AllocError>
+    ensures found { IfOk result (λ o. IfSome o (λ p. map (λ x. x.now) fields.entry.now ≡ plan_words p.0 ++ map (λ x. x.now) p.1.now)) }
+    ensures fits { IfOk result (λ o. IfSome o (λ p. FitsPlan p.0)) }
+    ensures only { (plan : Plan) (value : List ℕ) → FitsPlan plan → map (λ x. x.now) fields.entry.now ≡ plan_words plan ++ field_text (codes "crash") value ∷ [] → IfOk result (λ o. IsSomeAnd o (λ p. map (λ x. x.now) p.1.now ≡ field_text (codes "crash") value ∷ [])) }
+{
+    if let Some((value, rest)) = field_first(fields, "fail") {
+        return match written_values::number(alloc, value, u64::MAX)? {
+            Some(call) => Ok(Some((Plan::Fail(call), rest))),
+            None => Ok(None),
+        };
+    }
+    if let Some((value, rest)) = field_first(fields, "stop") {
+        return match pair_in(alloc, value)? {
+            Some((call, bytes)) => Ok(Some((Plan::Stop(call, bytes as usize), rest))),
+            None => Ok(None),
+        };
+    }
+    Ok(Some((Plan::None, fields)))
+}

@@ -1,0 +1,148 @@
+// Reading a rehearsal.
+ghost use Rattle.std.specs.Prelude.{◌≡◌, ◌==◌, ◌∷◌, [], List, ℕ, IfOk, IfErr, map};
+ghost use Rattle.std.specs.List.{flat_map, slice_split};
+ghost use Rattle.written_values.specs.Scripts.{lines_of};
+ghost use Rattle.rehearsal_lines.specs.declared.line.RehearsalLine.{RehearsalLine};
+ghost use Rattle.rehearsal_lines.specs.Grammar.{IsRehearsal, MayStand, line_words};
+ghost use Rattle.rehearsal_lines.specs.Said.{IsFirstRefused, IsReadAs, Say, bare, unless_empty, words_of};
+
+use crate::line::RehearsalLine;
+use crate::line_reading::line_in;
+use crate::refused::{Form, LineRefused};
+use crate::stage::Stage;
+use std::alloc::{AllocError, Global};
+use written_values::lines_in;
+
+/// The lines of a rehearsal, or the first line of the text that isn't understood.
+pub fn read_rehearsal(
+    alloc: Global,
+    text: &str,
+) -> Result<Result<Vec<RehearsalLine>, LineRefused>, AllocError>
+    ensures found { IfOk result (λ read. IfOk read (λ lines. Say (lines_of text.now) lines.items × IsRehearsal lines.items)) }
+    ensures refused { IfOk result (λ read. IfErr read (λ refused. IsFirstRefused (lines_of text.now) refused.number)) }
+{
+    let texts = lines_in(alloc, text)?;
+    lines_read(alloc, &texts)
+}
+
+// The lines that these texts say.
+fn lines_read(
+    alloc: Global,
+    texts: &[&str],
+) -> Result<Result<Vec<RehearsalLine>, LineRefused>, AllocError>
+    ensures found { IfOk result (λ read. IfOk read (λ lines. Say (map (λ x. x.now) texts.now) lines.items × IsRehearsal lines.items)) }
+    ensures refused { IfOk result (λ read. IfErr read (λ refused. IsFirstRefused (map (λ x. x.now) texts.now) refused.number)) }
+{
+    let mut lines = Vec::new(alloc);
+    let mut stage = Stage::Empty;
+    for index in 0..texts.len() {
+        match read_one(alloc, stage, texts[index])? {
+            Read::Blank => {}
+            Read::Line(line) => {
+                stage = stage.behind(&line);
+                lines.push(line)?;
+            }
+            Read::Refused(form) => {
+                let number = index + 1;
+                return Ok(Err(LineRefused { number, form }));
+            }
+        }
+    }
+    Ok(Ok(lines))
+}
+
+/// What one line of a text is.
+#[derive(Drop)]
+pub(crate) enum Read {
+    /// It has no word.
+    Blank,
+    Line(RehearsalLine),
+    /// No line may stand here that is written so.
+    Refused(Form),
+}
+
+fn read_one(alloc: Global, stage: Stage, text: &str) -> Result<Read, AllocError>
+    ensures { IfOk result (λ read. IsReadAs stage text.now read) }
+{
+    let words = words_in(alloc, text)?;
+    if words.is_empty() {
+        return Ok(Read::Blank);
+    }
+    match line_in(alloc, stage, &words)? {
+        Some(line) => Ok(Read::Line(line)),
+        None => Ok(Read::Refused(form_of(stage, &words))),
+    }
+}
+
+// What a line of these words should have been.
+fn form_of(stage: Stage, words: &[&str]) -> Form {
+    match stage {
+        Stage::Empty => Form::Device,
+        Stage::Made(_) => Form::Life,
+        Stage::Living(_) => match words.first() {
+            Some(name) => form_named(*name),
+            None => Form::Line,
+        },
+    }
+}
+
+fn form_named(name: &str) -> Form {
+    if name == "life" {
+        Form::Life
+    } else if name == "submit" {
+        Form::Submit
+    } else if name == "look" {
+        Form::Look
+    } else if name == "take" || name == "commit" || name == "post" {
+        Form::Step
+    } else if name == "rebuild" {
+        Form::Rebuild
+    } else if name == "launch" {
+        Form::Launch
+    } else if name == "hop" {
+        Form::Hop
+    } else {
+        Form::Line
+    }
+}
+
+// ---- the words of a line
+
+// The words of a line.
+fn words_in<'a>(alloc: Global, text: &'a str) -> Result<Vec<&'a str>, AllocError>
+    ensures { IfOk result (λ words. map (λ x. x.now) words.items ≡ words_of text.entry.now) }
+{
+    let parts = parts_in(alloc, bare_of(text))?;
+    let words = kept(alloc, &parts)?;
+    Ok(words)
+}
+
+// Those that aren't empty.
+fn kept<'a>(alloc: Global, parts: &[&'a str]) -> Result<Vec<&'a str>, AllocError>
+    ensures { IfOk result (λ words. map (λ x. x.now) words.items ≡ flat_map (λ x. unless_empty x.now) parts.now) }
+{
+    let mut words = Vec::new(alloc);
+    for part in parts {
+        if !part.is_empty() {
+            words.push(*part)?;
+        }
+    }
+    Ok(words)
+}
+
+// What stands between the blanks of a text, in front of them and behind.
+fn parts_in<'a>(alloc: Global, text: &'a str) -> Result<Vec<&'a str>, AllocError>
+    ensures { IfOk result (λ parts. map (λ x. x.now) parts.items ≡ slice_split (λ b. b == 32) text.entry.now) }
+{
+    text.split(' ').collect(alloc)
+}
+
+// A line without its comment.
+fn bare_of<'a>(text: &'a str) -> &'a str
+    ensures { result.now ≡ bare text.entry.now }
+{
+    match text.split_once('#') {
+        Some((front, _)) => front,
+        None => text,
+    }
+}

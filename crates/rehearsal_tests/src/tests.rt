@@ -1,0 +1,43 @@
+// Texts that are read, and the lines of what they ask for.
+use disk_trait::Plan;
+use graph_edits::{Change, Op};
+use rehearsal_lines::{Form, LifeLine, LineRefused, RehearsalLine, read_rehearsal};
+use rehearsals::{Rehearsal, lives_of, rehearse};
+use std::alloc::Global;
+use std::process::Abort;
+use written_values::LandmarkWords;
+
+mod examples;
+mod reading;
+mod told;
+
+// The value of an answer that has to have one.
+fn got<T, E: Drop>(rt: &impl Abort, answer: Result<T, E>) -> T {
+    match answer {
+        Ok(value) => value,
+        Err(_) => panic!(rt; "no value"),
+    }
+}
+
+// The lines of a text that is a rehearsal.
+fn read(rt: &impl Abort, alloc: Global, text: &str) -> Vec<RehearsalLine> {
+    match read_rehearsal(alloc, text) {
+        Ok(Ok(lines)) => lines,
+        Ok(Err(refused)) => panic!(rt; "{refused}"),
+        Err(_) => panic!(rt; "no memory"),
+    }
+}
+
+// What a text asks for.
+fn asked(rt: &impl Abort, alloc: Global, text: &str) -> Rehearsal {
+    match lives_of(alloc, read(rt, alloc, text)) {
+        Ok(Some(rehearsal)) => rehearsal,
+        _ => panic!(rt; "nothing is asked for"),
+    }
+}
+
+// Sees what is printed of a rehearsal.
+fn tells(rt: &impl Abort, alloc: Global, text: &str, want: &str) {
+    let printed = got(rt, rehearse(alloc, &asked(rt, alloc, text)));
+    assert_eq!(rt; printed.as_str(), want, "{text}");
+}

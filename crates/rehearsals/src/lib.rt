@@ -1,0 +1,43 @@
+//! Rehearsals that are run: the lives that a text asks for, and the lines of what they were answered.
+//!
+//! # What it is
+//!
+//! [`rehearse`] runs the lives of a rehearsal (crate `rehearsal_lines`) on a device in memory, which it makes and formats, by one call of
+//! `lives_in_memory` of the crate `life_chain`. Behind them comes a life that only opens. The lines are those of the report of that call.
+//!
+//! # The contract
+//!
+//! The text that [`rehearse`] answers is the text of a report (`report_text`, specs/Reports.antt), and that report is of the lives that it was
+//! given, of a device in memory that was formatted for so many nodes (`IsRehearsed`, specs/Rehearsed.antt). Three clauses of
+//! `lives_in_memory` stand in that record, so they hold of what is printed:
+//!
+//! - each life is of the very disk that the crash of the life before left, by the crash's word, and each reply is the answer of its event,
+//!   in the order of the events (`AreLived`);
+//! - each opening finds a prefix of what the life before had taken, with all that its commits had answered Ok for, and all that an
+//!   editor was told is accepted (`AreChained`);
+//! - over all lives each ticket of a session is in at most once, and exactly once where an editor was told (`AreExactlyOnce`).
+//!
+//! No text is answered where memory runs out, or where a device can't have so many nodes; the latter comes only then (`nodes`).
+//!
+//! | Line | Is |
+//! |---|---|
+//! | `opened count=C edges=E tickets=N S:T ..` | what an opening found ([`OpenedLine`]): the number of accepted changes and of edges, how many sessions have a last ticket, and which |
+//! | `rebuilt generation=G` | what the rebuild that a life begins with was answered, as any reply |
+//! | one line an event | its reply ([`ReplyLine`]) |
+//! | `crash taken=T settled=D postings=P` | how many requests were taken and how many of them settled, and how many postings there were, when the device crashed ([`CrashLine`]) |
+//! | `not opened device` | a life that couldn't open, and why ([`NotOpenedLine`]) |
+//!
+//! The bytes of each line are its type's `Display`, defined once in specs/Replies.antt or specs/Reports.antt.
+#![tactic(auto)]
+
+mod asked;
+mod life_lines;
+mod lines;
+mod report;
+mod run;
+
+pub use asked::{Rehearsal, lives_of};
+pub use life_lines::{CrashLine, NotOpenedLine, OpenedLine};
+pub use lines::ReplyLine;
+pub use report::report_text;
+pub use run::{RehearseRefused, rehearse};

@@ -1,0 +1,179 @@
+// Where the threads wait for one another.
+use crate::graphs::{GenerationGraph, Graphs};
+use crate::stop_cause::StopCause;
+use crate::told::{Naming, ToldOf};
+use std::alloc::Global;
+use std::sync::{Arc, Condvar, Mutex, Wait};
+
+// What lies under the lock.
+#[derive(Drop)]
+struct SharedState<J: Naming> {
+    told: ToldOf<J>,
+    // Those of the newest generations.
+    graphs: Graphs,
+    // How often the committer told something.
+    turn: u64,
+    // How often an editor submitted a change or left.
+    asked: u64,
+    // How many editors are at work.
+    editing: usize,
+    // Why all stop: the first fault.
+    cause: Option<StopCause>,
+}
+
+/// What the committer told last.
+#[derive(Drop)]
+pub struct News<J: Naming> {
+    pub told: ToldOf<J>,
+    pub turn: u64,
+    pub stopped: bool,
+}
+
+/// What there is to do for the committer.
+#[derive(Clone, Copy, Drop)]
+pub struct Work {
+    pub asked: u64,
+    pub editing: usize,
+    pub stopped: bool,
+}
+
+/// One lock, at which editors and forwarders wait for news and the committer for work.
+#[derive(Drop)]
+pub struct Coordinator<J: Naming> {
+    shared: Mutex<SharedState<J>>,
+    news: Condvar,
+    work: Condvar,
+}
+
+impl<J: Naming> SharedState<J> {
+    fn news(&self) -> News<J> {
+        News {
+            told: self.told.again(),
+            turn: self.turn,
+            stopped: self.cause.is_some(),
+        }
+    }
+
+    fn work(&self) -> Work {
+        Work {
+            asked: self.asked,
+            editing: self.editing,
+            stopped: self.cause.is_some(),
+        }
+    }
+
+    fn tell(&mut self, told: ToldOf<J>) {
+        self.told = told;
+        self.turn = self.turn.wrapping_add(1);
+    }
+
+    fn stop(&mut self, cause: StopCause) {
+        if self.cause.is_none() {
+            self.cause = Some(cause);
+        }
+    }
+
+    fn ask(&mut self) {
+        self.asked = self.asked.wrapping_add(1);
+    }
+
+    fn leave(&mut self) {
+        self.editing = self.editing.saturating_sub(1);
+        self.ask();
+    }
+}
+
+impl<J: Naming> Coordinator<J> {
+    /// A coordinator of so many editors, to which this was told.
+    pub fn new(told: ToldOf<J>, graphs: Graphs, editing: usize) -> Coordinator<J> {
+        Coordinator {
+            shared: Mutex::new(SharedState {
+                told,
+                graphs,
+                turn: 0,
+                asked: 0,
+                editing,
+                cause: None,
+            }),
+            news: Condvar::new(),
+            work: Condvar::new(),
+        }
+    }
+
+    /// Tells all what was posted.
+    pub fn tell<R: Wait>(&self, rt: &R, told: ToldOf<J>) {
+        self.shared.lock(rt).tell(told);
+        self.news.notify_all();
+    }
+
+    /// Shows the graph of a generation that is about to be posted.
+    pub fn show<R: Wait>(&self, rt: &R, graph: Arc<GenerationGraph, Global>) {
+        let _oldest = self.shared.lock(rt).graphs.push(graph);
+    }
+
+    /// The graph of a generation, where it is one of the newest.
+    pub fn graph_of<R: Wait>(
+        &self,
+        rt: &R,
+        generation: u64,
+    ) -> Option<Arc<GenerationGraph, Global>> {
+        self.shared.lock(rt).graphs.of(generation)
+    }
+
+    /// Has all stop. The first fault counts.
+    pub fn stop<R: Wait>(&self, rt: &R, cause: StopCause) {
+        self.shared.lock(rt).stop(cause);
+        self.news.notify_all();
+        self.work.notify_all();
+    }
+
+    /// An editor has submitted a change.
+    pub fn ask<R: Wait>(&self, rt: &R) {
+        self.shared.lock(rt).ask();
+        self.work.notify_all();
+    }
+
+    /// An editor is done.
+    pub fn leave<R: Wait>(&self, rt: &R) {
+        self.shared.lock(rt).leave();
+        self.work.notify_all();
+    }
+
+    /// What was told last.
+    pub fn news<R: Wait>(&self, rt: &R) -> News<J> {
+        self.shared.lock(rt).news()
+    }
+
+    /// Sleeps until something was told since that turn, or all stop.
+    pub fn await_news<R: Wait>(&self, rt: &R, turn: u64) {
+        let _shared = self.news.wait_while(
+            rt,
+            self.shared.lock(rt),
+            |shared| shared.turn == turn && shared.cause.is_none(),
+        );
+    }
+
+    /// What there is to do.
+    pub fn work<R: Wait>(&self, rt: &R) -> Work {
+        self.shared.lock(rt).work()
+    }
+
+    /// Sleeps until an editor submitted something or left since then, or all stop.
+    pub fn await_work<R: Wait>(&self, rt: &R, asked: u64) {
+        let _shared = self.work.wait_while(
+            rt,
+            self.shared.lock(rt),
+            |shared| shared.asked == asked && shared.cause.is_none(),
+        );
+    }
+
+    /// Whether all stop.
+    pub fn stopped<R: Wait>(&self, rt: &R) -> bool {
+        self.shared.lock(rt).cause.is_some()
+    }
+
+    /// Why all stopped, where they did.
+    pub fn cause<R: Wait>(&self, rt: &R) -> Option<StopCause> {
+        self.shared.lock(rt).cause
+    }
+}

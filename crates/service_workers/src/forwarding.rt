@@ -1,0 +1,224 @@
+// A forwarder's thread.
+ghost use Rattle.std.specs.Prelude.{◌≡◌};
+
+use crate::coordinator::Coordinator;
+use crate::hooks::Hooks;
+use crate::stop_cause::StopCause;
+use crate::told::Naming;
+use forwarders::{Forwarder, Refused};
+use generations::BoardReader;
+use node_table::{Move, Packet};
+use scheme_builds::length_over;
+use std::alloc::Global;
+use std::collections::VecDeque;
+use std::marker::PhantomData;
+use std::sync::Wait;
+use std::thread;
+
+/// A packet from a node to a node.
+#[derive(Clone, Copy, Drop)]
+pub struct Trip {
+    pub from: u16,
+    pub to: u16,
+}
+
+/// What became of a packet.
+#[derive(Drop)]
+pub enum Carried {
+    /// It went over these nodes, its first and last among them, in this generation alone. The length is the way's in the graph of
+    /// that generation.
+    Along {
+        generation: u64,
+        nodes: Vec<u16>,
+        length: u64,
+    },
+    /// This generation has no tree for it.
+    Unreachable {
+        generation: u64,
+    },
+    /// A node isn't one of the device's.
+    NoNode,
+}
+
+/// A forwarder at the board that `J` names.
+#[derive(Drop)]
+pub struct ForwarderOf<J: Naming> {
+    forwarder: Forwarder,
+    of: PhantomData<J>,
+    ghost named: { forwarder.opening ≡ J.opening },
+}
+
+impl<J: Naming> ForwarderOf<J> {
+    pub fn new(reader: BoardReader) -> ForwarderOf<J>
+        requires { reader.all.opening ≡ J.opening }
+    {
+        ForwarderOf {
+            forwarder: Forwarder::new(reader),
+            of: PhantomData,
+        }
+    }
+}
+
+// What became of one launch.
+#[derive(Drop)]
+enum Launched {
+    Answered(Carried),
+    // It is to be launched again, unless all stop.
+    Again,
+    // Nothing can come of it: all are to stop.
+    Halted(StopCause),
+}
+
+// Carries a packet to its end, in the graph of its generation.
+fn carry<J: Naming, G: Hooks, R: Wait>(
+    rt: &R,
+    alloc: Global,
+    coordinator: &Coordinator<J>,
+    hooks: &G,
+    forwarder: &mut Forwarder,
+    from: u16,
+    packet: Packet,
+) -> Launched
+    ensures { forwarder.new.opening ≡ forwarder.old.opening }
+{
+    let generation = packet.generation;
+    // One that isn't shown any more has left the shelf, or is about to.
+    let Some(shown) = coordinator.graph_of(rt, generation) else {
+        return Launched::Again;
+    };
+    let mut nodes = Vec::new(alloc);
+    if nodes.push(from).is_err() {
+        return Launched::Halted(StopCause::Memory);
+    }
+    let mut at = from;
+    let mut packet = packet;
+    for _ in rt.forever() {
+        match forwarder.hop(at, packet) {
+            Ok(Move::Delivered) => {
+                hooks.after_hop(generation);
+                let length = length_over(&shown.graph, &nodes);
+                return Launched::Answered(Carried::Along {
+                    generation,
+                    nodes,
+                    length,
+                });
+            }
+            Ok(
+                Move::Forward {
+                    port: _,
+                    next,
+                    packet: on,
+                },
+            ) => {
+                hooks.after_hop(generation);
+                if nodes.push(next).is_err() {
+                    return Launched::Halted(StopCause::Memory);
+                }
+                at = next;
+                packet = on;
+            }
+            Err((Refused::BoardShut, back)) => {
+                if coordinator.stopped(rt) {
+                    return Launched::Again;
+                }
+                packet = back;
+                thread::yield_now();
+            }
+            Err((Refused::GenerationGone, _)) => return Launched::Again,
+            // No tables of this service refuse a packet of their own on its way.
+            Err(_) => return Launched::Halted(StopCause::Internal),
+        }
+    }
+    unreachable!()
+}
+
+// Launches a packet in the newest generation.
+fn launch<J: Naming, G: Hooks, R: Wait>(
+    rt: &R,
+    alloc: Global,
+    coordinator: &Coordinator<J>,
+    hooks: &G,
+    forwarder: &mut Forwarder,
+    trip: Trip,
+) -> Launched
+    ensures { forwarder.new.opening ≡ forwarder.old.opening }
+{
+    let Ok(Some(generation)) = forwarder.latest() else {
+        return Launched::Again;
+    };
+    let address = match forwarder.address(generation, trip.to) {
+        Ok(address) => address,
+        Err(refused) => return refused_at(generation, refused),
+    };
+    match forwarder.launch(trip.from, &address) {
+        Ok(packet) => carry(rt, alloc, coordinator, hooks, forwarder, trip.from, packet),
+        Err(refused) => refused_at(generation, refused),
+    }
+}
+
+// What becomes of a packet that isn't launched.
+fn refused_at(generation: u64, refused: Refused) -> Launched {
+    match refused {
+        Refused::NoNode => Launched::Answered(Carried::NoNode),
+        Refused::Unreachable => Launched::Answered(Carried::Unreachable { generation }),
+        Refused::BoardShut | Refused::GenerationGone => Launched::Again,
+        Refused::Stray | Refused::Spent => Launched::Halted(StopCause::Internal),
+    }
+}
+
+// One trip, until it has an answer. Without one all stop.
+fn forward<J: Naming, G: Hooks, R: Wait>(
+    rt: &R,
+    alloc: Global,
+    coordinator: &Coordinator<J>,
+    hooks: &G,
+    forwarder: &mut Forwarder,
+    trip: Trip,
+) -> Option<Carried>
+    requires { forwarder.old.opening ≡ J.opening }
+    ensures { forwarder.new.opening ≡ J.opening }
+{
+    for _ in rt.forever() {
+        hooks.before_launch();
+        let news = coordinator.news(rt);
+        if news.stopped {
+            return None;
+        }
+        forwarder.learn(news.told.told());
+        match launch(rt, alloc, coordinator, hooks, forwarder, trip) {
+            Launched::Answered(carried) => return Some(carried),
+            Launched::Again => thread::yield_now(),
+            Launched::Halted(cause) => {
+                coordinator.stop(rt, cause);
+                return None;
+            }
+        }
+    }
+    unreachable!()
+}
+
+/// Forwards one packet after the other, and answers what became of each. Where all stop, some lack.
+pub fn forward_all<J: Naming, G: Hooks, R: Wait>(
+    rt: &R,
+    alloc: Global,
+    coordinator: &Coordinator<J>,
+    hooks: &G,
+    seat: ForwarderOf<J>,
+    trips: Vec<Trip>,
+) -> VecDeque<Carried> {
+    let ForwarderOf {
+        mut forwarder,
+        of: _,
+    } = seat;
+    let mut all = VecDeque::new(alloc);
+    for trip in trips {
+        let Some(carried) = forward(rt, alloc, coordinator, hooks, &mut forwarder, trip) else {
+            break;
+        };
+        if all.push_back(carried).is_err() {
+            coordinator.stop(rt, StopCause::Memory);
+            break;
+        }
+    }
+    all
+}

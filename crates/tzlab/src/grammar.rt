@@ -1,0 +1,24 @@
+// The program's grammar: a function for each command.
+use clap::{Arg, ArgAction, Command};
+use std::alloc::{AllocError, Global};
+
+/// The whole grammar. A command more is a subcommand more here.
+pub(crate) fn grammar<'a>(alloc: Global) -> Result<Command<'a>, AllocError> {
+    Command::new(alloc, "tzlab")
+        .about("Tries out a network with small routing tables")
+        .no_binary_name(true)
+        .subcommand_required(true)
+        .subcommand(rehearse(alloc)?)
+}
+
+fn rehearse<'a>(alloc: Global) -> Result<Command<'a>, AllocError> {
+    Command::new(alloc, "rehearse")
+        .about("Runs lives of a device that FILE asks for, and prints what they were answered")
+        .arg(
+            Arg::new(alloc, "file")
+                .value_name("FILE")
+                .required(true)
+                .help("A rehearsal: device N, life .., and events, a line each")
+                .action(ArgAction::Set),
+        )
+}
