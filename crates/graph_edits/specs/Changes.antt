@@ -106,6 +106,11 @@ abbrev pub IsRefusedAs : Result Network (ℕ × Code) → EditRefused → Type 0
 IsRefusedAs r (OpRefused index code) = r ≡ Err (index, code)
 IsRefusedAs r Memory = ⊤
 
+-- the answer names the op at a place and why it is refused, or speaks of memory alone
+abbrev pub IsRefusedOp : ℕ → Option Code → EditRefused → Type 0
+IsRefusedOp place code (OpRefused index why) = (index ≡ place) × (code ≡ Some why)
+IsRefusedOp place code Memory = ⊤
+
 -- how many edges there are after an op that is not refused
 abbrev pub count_after : ℕ → Op → ℕ
 count_after count (Add a b w) = count + 1

@@ -2,12 +2,12 @@
 ghost use Rattle.std.specs.Prelude.{◌≡◌, ℕ, ◌+◌, ◌<◌, ◌≤◌, ◌≢◌, T, not, Option, None, length, vec_len, vec_capacity, IfOk, IfErr, IsOk, OnOk, OnErr, Ok, ◌↔◌, Some, IsSome};
 ghost use Rattle.std.specs.FinMap.{empty, insert, len};
 ghost use Rattle.graph_edits.specs.declared.edits.Op.TheVariants.{Add};
-ghost use Rattle.graph_edits.specs.Changes.{after, after_within, fold, edges_after_within, err_of, IsRefusedAs, refusal_at};
+ghost use Rattle.graph_edits.specs.Changes.{after, after_within, fold, edges_after_op, edges_after_within, err_of, IsRefusedAs, IsRefusedOp, refusal_at};
 ghost use Rattle.graph_edits.specs.Edges.{weight_in, neighbours_of, over_port, all_degrees, IsSound, pair_of};
 
 use crate::edits::{Change, Code, EditRefused, Op};
 use crate::limits::{MOST_EDGES, MOST_NODES};
-use crate::overlay::Overlay;
+use crate::overlay::{Overlay, edges_then};
 use crate::prepared::Prepared;
 use crate::{rows, table};
 use std::alloc::{AllocError, Global};
@@ -45,6 +45,20 @@ impl Graph {
         let mut rows = Vec::with_capacity(alloc, nodes as usize)?;
         for _ in 0..nodes {
             rows.push(Vec::new(alloc))?;
+        }
+        Ok(Graph { rows, edges: 0 })
+    }
+
+    /// A graph without edges, of a node for each degree. The rows are made one behind the other, each with room for so many
+    /// neighbours: where the edges that come are as many, no row moves, and a search reads rows that lie side by side.
+    pub fn with_room(alloc: Global, degrees: &[u16]) -> Result<Graph, AllocError>
+        requires some { 1 ≤ length degrees.now }
+        requires few { length degrees.now ≤ MOST_NODES }
+        ensures { IfOk result (λ graph. graph ≡ record { nodes = length degrees.now; edges = empty }) }
+    {
+        let mut rows = Vec::with_capacity(alloc, degrees.len())?;
+        for degree in degrees {
+            rows.push(Vec::with_capacity(alloc, *degree as usize)?)?;
         }
         Ok(Graph { rows, edges: 0 })
     }
@@ -175,6 +189,44 @@ impl Graph {
     {
         rows::put_both(&mut self.rows, a, b, weight)?;
         self.edges += 1;
+        Ok(())
+    }
+
+    /// Makes a change in the rows of the graph themselves, op by op, as a journal is read back: no row is copied, and each op costs a
+    /// search in its two rows. Where an op is refused, or memory is, the ops before it are made; who wants all or nothing calls
+    /// `apply`.
+    pub fn replay(&mut self, change: &Change) -> Result<(), EditRefused>
+        ensures ok { OnOk result (after self.old change.now ≡ Ok self.new) }
+        ensures refused { IfErr result (IsRefusedAs (after self.old change.now)) }
+    {
+        for (index, op) in change.ops().iter().enumerate() {
+            self.replay_op(index, *op)?;
+        }
+        Ok(())
+    }
+
+    /// Makes the op at a place of a change, or refuses it.
+    fn replay_op(&mut self, index: usize, op: Op) -> Result<(), EditRefused>
+        ensures passed { OnOk result (refusal_at self.old.nodes self.old.edges op ≡ None) }
+        ensures made { OnOk result (self.new ≡ record { nodes = self.old.nodes; edges = edges_after_op self.old.edges op }) }
+        ensures refused { IfErr result (IsRefusedOp index (refusal_at self.old.nodes self.old.edges op)) }
+    {
+        let (a, b) = op.ends();
+        let there = self.weight(a, b).is_some();
+        match op.refusal(MOST_EDGES, self.nodes(), self.edges, there) {
+            Some(code) => Err(EditRefused::Op { index, code }),
+            None => self.make(op).map_err(|_| EditRefused::Memory),
+        }
+    }
+
+    /// Makes an op, where nothing stands against it. A refusal of memory leaves the graph as it was.
+    fn make(&mut self, op: Op) -> Result<(), AllocError>
+        requires { refusal_at self.old.nodes self.old.edges op ≡ None }
+        ensures ok { OnOk result (self.new ≡ record { nodes = self.old.nodes; edges = edges_after_op self.old.edges op }) }
+        ensures unchanged { OnErr result (self.new ≡ self.old) }
+    {
+        rows::write_both(&mut self.rows, op)?;
+        self.edges = edges_then(self.edges, op);
         Ok(())
     }
 

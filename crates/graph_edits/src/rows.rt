@@ -5,8 +5,11 @@ ghost use Rattle.std.specs.FinMap.{find, put, is_sorted};
 ghost use Rattle.std.specs.FinMap.Entries.{where_key};
 ghost use Rattle.std.specs.List.{slice_get};
 ghost use Rattle.std.specs.Option.{option_map};
-ghost use Rattle.graph_edits.specs.Rows.{lists, row_of, put_both};
+ghost use Rattle.graph_edits.specs.Changes.{first_node, second_node, op_weight, HasEndsIn};
+ghost use Rattle.graph_edits.specs.Placed.{rows_with};
+ghost use Rattle.graph_edits.specs.Rows.{lists, row_of, cut_both, put_both};
 
+use crate::edits::Op;
 use crate::table::{self, find_place};
 use std::alloc::{AllocError, Global};
 
@@ -83,4 +86,34 @@ pub(crate) fn put_both(
     put_neighbour(&mut rows[a as usize], b, weight)?;
     table::put_entry(&mut rows[b as usize], a, weight);
     Ok(())
+}
+
+/// Cuts the edge between two nodes, in the rows of both.
+pub(crate) fn cut_both(rows: &mut Vec<Vec<(u16, u32)>>, a: u16, b: u16)
+    requires first { a < length rows.old.items }
+    requires second { b < length rows.old.items }
+    requires apart { a ≢ b }
+    requires sorted { (x : ℕ) → T (is_sorted nat_cmp (row_of (lists rows.old.items) x)) }
+    ensures { lists rows.new.items ≡ cut_both (lists rows.old.items) a b }
+{
+    table::cut_entry(&mut rows[a as usize], b);
+    table::cut_entry(&mut rows[b as usize], a);
+}
+
+/// Makes an op in the rows of its two nodes.
+pub(crate) fn write_both(rows: &mut Vec<Vec<(u16, u32)>>, op: Op) -> Result<(), AllocError>
+    requires ends { HasEndsIn (length rows.old.items) op }
+    requires apart { first_node op ≢ second_node op }
+    requires sorted { (x : ℕ) → T (is_sorted nat_cmp (row_of (lists rows.old.items) x)) }
+    ensures ok { OnOk result (lists rows.new.items ≡ rows_with (lists rows.old.items) (first_node op) (second_node op) (op_weight op)) }
+    ensures unchanged { OnErr result (lists rows.new.items ≡ lists rows.old.items) }
+{
+    let (a, b) = op.ends();
+    match op.weight() {
+        Some(weight) => put_both(rows, a, b, weight),
+        None => {
+            cut_both(rows, a, b);
+            Ok(())
+        }
+    }
 }

@@ -78,7 +78,7 @@ fn apply_all(
             return Err(OpenRefused::Damaged);
         }
         tickets[request.session as usize] = request.ticket;
-        match graph.apply(&request.change) {
+        match graph.replay(&request.change) {
             Ok(()) => {}
             Err(EditRefused::Op { .. }) => return Err(OpenRefused::Damaged),
             Err(EditRefused::Memory) => return Err(OpenRefused::Memory),

@@ -9,7 +9,7 @@ ghost use Rattle.layout_parts.specs.Ascending.{AllBelow, IsBefore, IsAfterLast, 
 use crate::layout::EDGE_LEN;
 use crate::refusals::OpenRefused;
 use graph_edits::{GREATEST_WEIGHT, Graph, MOST_EDGES, MOST_NODES};
-use std::alloc::Global;
+use std::alloc::{AllocError, Global};
 
 /// An edge as a checkpoint lists it.
 #[derive(Clone, Copy, Drop)]
@@ -56,6 +56,32 @@ impl Edge {
     }
 }
 
+// How many edges each node has among those that the bytes list. A number that names no node isn't counted.
+fn degrees_of(alloc: Global, nodes: u16, edges: usize, bytes: &[u8]) -> Result<Vec<u16>, AllocError>
+    requires long { length bytes.now ≡ 8 * edges }
+    ensures { IfOk result (λ degrees. length degrees.items ≡ nodes) }
+{
+    let mut degrees = vec![in alloc; 0u16; nodes as usize]?;
+    let mut rest = bytes;
+    for _ in 0..edges {
+        let (front, behind) = rest.split_at(EDGE_LEN);
+        let edge = edge_of(front);
+        count_end(&mut degrees, edge.a);
+        count_end(&mut degrees, edge.b);
+        rest = behind;
+    }
+    Ok(degrees)
+}
+
+// Counts one edge more at a node.
+fn count_end(degrees: &mut [u16], node: u16)
+    ensures { length degrees.new ≡ length degrees.old }
+{
+    if (node as usize) < degrees.len() {
+        degrees[node as usize] = degrees[node as usize].saturating_add(1);
+    }
+}
+
 // Puts an edge behind those that a graph has.
 fn add_edge(graph: &mut Graph, edge: Edge) -> Result<(), OpenRefused>
     requires sound { IsEdge graph.old.nodes ((edge.a, edge.b), edge.weight) }
@@ -71,7 +97,7 @@ fn add_edge(graph: &mut Graph, edge: Edge) -> Result<(), OpenRefused>
     }
 }
 
-/// The network of so many nodes whose edges the bytes list.
+/// The network of so many nodes whose edges the bytes list. The edges of each node are counted first, so that each row is made once.
 pub fn read_edges(
     alloc: Global,
     nodes: u16,
@@ -89,7 +115,8 @@ pub fn read_edges(
     ensures damaged { IsErrOf result OpenRefused.Damaged → (map : EdgeMap) → AllByRecursion (λ e. IsEdge nodes e) (entries map) → edges_text map ≡ bytes.now → ⊥ }
     ensures others { ¬ (IsErrOf result OpenRefused.NotFormatted) × ¬ (IsErrOf result OpenRefused.BadVersion) × ¬ (IsErrOf result OpenRefused.Device) }
 {
-    let mut graph = Graph::empty(alloc, nodes)?;
+    let degrees = degrees_of(alloc, nodes, edges, bytes)?;
+    let mut graph = Graph::with_room(alloc, &degrees)?;
     let mut last = None;
     let mut rest = bytes;
     for _ in 0..edges {

@@ -10,7 +10,7 @@ pub loop-init : goal.loop-init
 loop-init c =
     let none : entries c.in_ok-graph.graph.edges ≡ [] = ap (λ g. entries g.edges) c.in_ok-graph.ensures ∙ no_entries in
     record {
-      nodes = ap (λ g. g.nodes) c.in_ok-graph.ensures;
+      nodes = ap (λ g. g.nodes) c.in_ok-graph.ensures ∙ ap length c.deref.ensures.value ∙ c.in_ok-degrees.ensures;
       count = ap length none;
       long = omega (arith, c.requires.long);
       text = ap (λ (l : List ((ℕ × ℕ) × ℕ)). flat_map edge_text l ++ c.args.bytes.now) none;
