@@ -22,7 +22,7 @@
 //! # The contract
 //!
 //! What is read is written so, and stands in the order above (`found`). Where the text is refused, the number of a line is named, from
-//! 1: the lines before it begin a rehearsal, and no rehearsal begins with the lines up to it (`refused`). So a text that is a rehearsal
+//! 1: the lines before it begin a rehearsal, and no rehearsal begins with the lines up to it (`refused`). So a text that is a rehearsal is read.
 //!
 //! ```text
 //! read_rehearsal(alloc, "device 5\n\nlife sessions=1 places=1 words=none crash=0  # one life")?   // Ok: two lines
