@@ -1,4 +1,6 @@
 // Texts that are read, and the lines of what they ask for.
+ghost use Rattle.rehearsal_lines.specs.Grammar.{IsRehearsal};
+
 use disk_trait::Plan;
 use graph_edits::{Change, Op};
 use rehearsal_lines::{Form, LifeLine, LineRefused, RehearsalLine, read_rehearsal};
@@ -20,7 +22,9 @@ fn got<T, E: Drop>(rt: &impl Abort, answer: Result<T, E>) -> T {
 }
 
 // The lines of a text that is a rehearsal.
-fn read(rt: &impl Abort, alloc: Global, text: &str) -> Vec<RehearsalLine> {
+fn read(rt: &impl Abort, alloc: Global, text: &str) -> Vec<RehearsalLine>
+    ensures { IsRehearsal result.items }
+{
     match read_rehearsal(alloc, text) {
         Ok(Ok(lines)) => lines,
         Ok(Err(refused)) => panic!(rt; "{refused}"),

@@ -1,4 +1,6 @@
 // The command `rehearse`.
+ghost use Rattle.rehearsal_lines.specs.Grammar.{IsRehearsal};
+
 use clap::ArgMatches;
 use rehearsal_lines::{RehearsalLine, read_rehearsal};
 use rehearsals::{Rehearsal, lives_of, rehearse};
@@ -30,7 +32,9 @@ pub(crate) fn run(rt: &HostRuntime, found: &ArgMatches) -> u8 {
     }
 }
 
-fn run_lines(rt: &HostRuntime, lines: Vec<RehearsalLine>) -> u8 {
+fn run_lines(rt: &HostRuntime, lines: Vec<RehearsalLine>) -> u8
+    requires { IsRehearsal lines.items }
+{
     match lives_of(rt.alloc(), lines) {
         Ok(Some(rehearsal)) => run_lives(rt, &rehearsal),
         Ok(None) => 0,
