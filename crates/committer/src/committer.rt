@@ -1,5 +1,5 @@
 // The committer: rounds and rebuilds.
-ghost use Rattle.std.specs.Prelude.{◌≡◌, ◌≢◌, ◌⊎◌, ◌≤◌, ◌<◌, ◌+◌, ◌↔◌, ◌++◌, ◌∷◌, [], List, length, IsTrue, IfOk, OnOk, is_some, IsErr, IsErrOf, Some, None, true, false};
+ghost use Rattle.std.specs.Prelude.{◌≡◌, ◌≢◌, ◌⊎◌, ◌≤◌, ◌<◌, ◌+◌, ◌↔◌, ◌++◌, ◌∷◌, [], List, length, IsTrue, IfOk, IfSome, OnOk, OnErr, is_some, IsErr, IsErrOf, Some, None, true, false};
 ghost use Rattle.std.specs.Arc.{arc_value};
 ghost use Rattle.disk_trait.specs.Disk.{IsSameDevice, LeavesOnly};
 ghost use Rattle.requests.specs.Tickets.{Rises};
@@ -287,6 +287,35 @@ impl<D: Disk, R: Wait + Drop> Committer<D, R> {
         ensures board { IsErrOf result RebuildRefused.Board → (((posts_of self.old).due ≢ []) × (posts_of self.new ≡ posts_of self.old))
             ⊎ ((posts_of self.new ≡ paid (posts_of self.old)) ⊎ IsOwed words.now (state_of (store_of self.old)) (posts_of self.old) (posts_of self.new)) }
     {
+        let Some(number) = self.generation_due()? else {
+            return Ok(self.desk.store().count());
+        };
+        let Ok(scheme) = shared_scheme(alloc, self.desk.store().graph(), words, number, scratch)
+        else {
+            return Err(RebuildRefused::Memory);
+        };
+        self.announce(number, scheme)
+    }
+
+    /// The number under which a generation of the store is due, and none where the newest one has it. What is due to the board is posted
+    /// first. [`Committer::announce`] takes the generation, whoever builds it.
+    pub fn generation_due(&mut self) -> Result<Option<u64>, RebuildRefused>
+        ensures store { store_of self.new ≡ store_of self.old }
+        ensures held { (held_of self.new ≡ held_of self.old) × ((got_of self.new ≡ got_of self.old) × (empties_of self.new ≡ empties_of self.old)) }
+        ensures queue { queue_of self.new ≡ queue_of self.old }
+        ensures taker { taker_of self.new ≡ taker_of self.old }
+        ensures paid { OnOk result (posts_of self.new ≡ paid (posts_of self.old)) }
+        ensures nothing_due { OnOk result ((posts_of self.new).due ≡ []) }
+        ensures up { OnOk result (is_down (store_of self.old) ≡ false) }
+        ensures number { IfOk result (λ due. IfSome due (λ number. number ≡ (state_of (store_of self.old)).count)) }
+        ensures news { IfOk result (λ due. IfSome due (λ number. ¬ (IsNumbered number (all_of (posts_of self.new))))) }
+        ensures old_news { IfOk result (λ due. IfSome due (λ number. ¬ (IsNumbered number (all_of (posts_of self.old))))) }
+        ensures serves { IfOk result (λ due. due ≡ None → IsServed (state_of (store_of self.old)) (posts_of self.new).posted) }
+        ensures down { IsErrOf result RebuildRefused.Down ↔ (is_down (store_of self.old) ≡ true) }
+        ensures memory { ¬ (IsErrOf result RebuildRefused.Memory) }
+        ensures leaves { OnErr result (posts_of self.new ≡ posts_of self.old) }
+        ensures board { IsErrOf result RebuildRefused.Board → (posts_of self.old).due ≢ [] }
+    {
         if self.desk.store().is_down() {
             return Err(RebuildRefused::Down);
         }
@@ -295,17 +324,17 @@ impl<D: Disk, R: Wait + Drop> Committer<D, R> {
         }
         let number = self.desk.store().count();
         if self.newest == Some(number) {
-            return Ok(number);
+            return Ok(None);
         }
-        let Ok(scheme) = shared_scheme(alloc, self.desk.store().graph(), words, number, scratch)
-        else {
-            return Err(RebuildRefused::Memory);
-        };
-        self.announce(number, scheme)
+        Ok(Some(number))
     }
 
-    // Offers a generation of the store's graph.
-    fn announce(&mut self, number: u64, scheme: Arc<Scheme, Global>) -> Result<u64, RebuildRefused>
+    /// Offers a generation of the store's graph, under the number that [`Committer::generation_due`] gave.
+    pub fn announce(
+        &mut self,
+        number: u64,
+        scheme: Arc<Scheme, Global>,
+    ) -> Result<u64, RebuildRefused>
         requires nothing_due { (posts_of self.old).due ≡ [] }
         requires up { is_down (store_of self.old) ≡ false }
         requires number { number ≡ (state_of (store_of self.old)).count }

@@ -5,7 +5,8 @@
 //! A [`Committer`] owns a desk with its store, the front of an intake queue and a board's writer. [`Committer::round`] takes up to
 //! 64 requests from the queue, has the desk settle and commit them as one group, and then posts one mark for each: never before
 //! the commit answered `Ok`. [`Committer::rebuild`] builds the routing scheme of the store's graph and posts it as a generation,
-//! under the store's count.
+//! under the store's count. Whoever builds it elsewhere, in threads for one, asks [`Committer::generation_due`] for the number, and
+//! hands the scheme to [`Committer::announce`]; `rebuild` is these two with a build between them.
 //!
 //! A post may be refused. What isn't posted yet is due, at most one posting at a time, and each later call tries it before all
 //! else; meanwhile nothing is taken. A group whose commit had no memory, or met a limit, is kept, and a later round settles it

@@ -80,9 +80,32 @@ const TWICE: [Step; 2] = [
     ),
 ];
 
-// Runs each script on the device that the one before it left, and sees its lines and what is left.
-fn expect_steps<R: Threads + Wait + Abort + Sync>(rt: &R, alloc: Global, steps: &[Step]) {
-    let mut disk = fresh(rt, alloc, 5);
+// A network that is large enough for several threads to build its tables, where there are processors.
+const BUILT_IN_THREADS: [Step; 2] = [
+    (
+        "at:2",
+        ONE,
+        "0 add:0:1:1 add:1:599:2\n0 add:599:2:3\n",
+        "accepted count=1\naccepted count=2\n",
+        (2, 3, 2),
+    ),
+    (
+        "at:2",
+        TWO,
+        "route 0 2\nroute 3 4\nroute 599 0",
+        "generation=2 route 0 1 599 2 length 6\ngeneration=2 unreachable\ngeneration=2 route 599 1 0 length 3\n",
+        (2, 3, 2),
+    ),
+];
+
+// Runs each script on the device of so many nodes that the one before it left, and sees its lines and what is left.
+fn expect_steps<R: Threads + Wait + Abort + Sync>(
+    rt: &R,
+    alloc: Global,
+    nodes: u16,
+    steps: &[Step],
+) {
+    let mut disk = fresh(rt, alloc, nodes);
     for (words, numbers, script, printed, left) in steps {
         let asked = Asked {
             words,
@@ -98,12 +121,17 @@ fn expect_steps<R: Threads + Wait + Abort + Sync>(rt: &R, alloc: Global, steps: 
 
 #[test]
 fn scripts_one_after_another(rt: HostRuntime) {
-    expect_steps(&rt, rt.alloc(), &ONE_AFTER_ANOTHER);
+    expect_steps(&rt, rt.alloc(), 5, &ONE_AFTER_ANOTHER);
 }
 
 #[test]
 fn the_same_script_twice(rt: HostRuntime) {
-    expect_steps(&rt, rt.alloc(), &TWICE);
+    expect_steps(&rt, rt.alloc(), 5, &TWICE);
+}
+
+#[test]
+fn a_network_that_is_built_in_threads(rt: HostRuntime) {
+    expect_steps(&rt, rt.alloc(), 600, &BUILT_IN_THREADS);
 }
 
 // A change of each session, and a route from its node to itself.

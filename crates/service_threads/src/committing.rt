@@ -1,19 +1,26 @@
 // The committer's thread.
-ghost use Rattle.std.specs.Prelude.{◌≡◌, OnOk};
+ghost use Rattle.std.specs.Arc.{arc_value};
+ghost use Rattle.std.specs.Prelude.{◌≡◌, IfOk, OnOk};
+ghost use Rattle.node_table.specs.Service.{Serves};
+ghost use Rattle.node_table.specs.Tables.{tables};
 ghost use Rattle.committer.specs.CommitterWords.{posts_of};
 
 use crate::committer_stop::CommitterStop;
 use committer::{Committer, Round};
 use disk_trait::Disk;
+use graph_edits::Graph;
 use linked_list_allocator::LocalHeap;
-use scheme_builds::SCRATCH_LEN;
+use node_table::Scheme;
+use scheme_builds::{MOST_WORKERS, SCRATCH_LEN, scheme_of_in_threads, workers_for};
 use service_workers::{
     Coordinator, GenerationGraph, Graphs, Naming, ToldOf, WordSource, shared_graph,
 };
 use std::alloc::{AllocError, Global};
 use std::sync::{Arc, Wait};
+use std::thread;
+use std::thread::Threads;
 
-/// What rebuilds take: the landmark words, and the one heap for the trees of each scheme that is being built.
+/// What rebuilds take: the landmark words, and the one heap for the trees of each scheme that is built in the committer's thread.
 #[derive(Drop)]
 pub struct Rebuilds {
     source: WordSource,
@@ -28,8 +35,9 @@ impl Rebuilds {
     }
 
     // Builds a generation of the store's graph, and posts it.
-    fn rebuild<J: Naming, D: Disk, R: Wait + Drop>(
+    fn rebuild<J: Naming, D: Disk, R: Wait + Drop, S: Threads + Wait + Sync>(
         &mut self,
+        rt: &S,
         alloc: Global,
         committer: &mut Committer<D, R>,
     ) -> Result<(), CommitterStop>
@@ -39,15 +47,62 @@ impl Rebuilds {
         let Rebuilds { source, heap } = self;
         match source {
             WordSource::Same(words) => {
-                committer.rebuild(alloc, words, &*heap)?;
+                rebuild_by::<D, R, S>(rt, alloc, committer, words, heap)?;
             }
             WordSource::Drawn(draws) => {
                 let words = draws.next(alloc, committer.store().nodes())?;
-                committer.rebuild(alloc, &words, &*heap)?;
+                rebuild_by::<D, R, S>(rt, alloc, committer, &words, heap)?;
             }
         }
         Ok(())
     }
+}
+
+// How many workers build a network of so many nodes on this machine.
+fn workers<S: Threads>(rt: &S, nodes: u16) -> u16 {
+    let processors = match thread::available_parallelism(rt) {
+        Ok(count) => count.get().min(MOST_WORKERS as usize) as u16,
+        Err(_) => 1,
+    };
+    workers_for(nodes, processors)
+}
+
+// Builds a generation by these words and posts it: in threads where they pay, and else over the heap.
+fn rebuild_by<D: Disk, R: Wait + Drop, S: Threads + Wait + Sync>(
+    rt: &S,
+    alloc: Global,
+    committer: &mut Committer<D, R>,
+    words: &[u64],
+    heap: &LocalHeap,
+) -> Result<(), CommitterStop>
+    ensures { OnOk result ((posts_of committer.new).opening ≡ (posts_of committer.old).opening) }
+{
+    let workers = workers(rt, committer.store().nodes());
+    if workers < 2 {
+        committer.rebuild(alloc, words, heap)?;
+        return Ok(());
+    }
+    let Some(number) = committer.generation_due()? else {
+        return Ok(());
+    };
+    let scheme = shared_scheme(rt, alloc, committer.store().graph(), words, number, workers)?;
+    committer.announce(number, scheme)?;
+    Ok(())
+}
+
+// A scheme of the graph by landmark words, built by so many workers, to be shared.
+fn shared_scheme<S: Threads + Wait + Sync>(
+    rt: &S,
+    alloc: Global,
+    graph: &Graph,
+    words: &[u64],
+    number: u64,
+    workers: u16,
+) -> Result<Arc<Scheme, Global>, AllocError>
+    ensures { IfOk result (λ scheme. Serves graph.now (tables (arc_value scheme))) }
+{
+    let scheme = scheme_of_in_threads(rt, alloc, graph, words, number, workers)?;
+    Ok(Arc::new(alloc, scheme)?)
 }
 
 // The graph of the generation that comes next.
@@ -68,7 +123,7 @@ fn told<J: Naming, D: Disk, R: Wait + Drop>(committer: &Committer<D, R>) -> Told
 
 // One round, its marks told, and the generation that it makes due. Its graph is shown before it is posted, so that whoever sees it
 // on the board finds its graph too.
-fn turn<J: Naming, D: Disk, R: Wait + Drop, S: Wait>(
+fn turn<J: Naming, D: Disk, R: Wait + Drop, S: Threads + Wait + Sync>(
     rt: &S,
     alloc: Global,
     coordinator: &Coordinator<J>,
@@ -84,13 +139,13 @@ fn turn<J: Naming, D: Disk, R: Wait + Drop, S: Wait>(
     }
     if round.accepted > 0 {
         coordinator.show(rt, next_graph(alloc, committer)?);
-        rebuilds.rebuild::<J, D, R>(alloc, committer)?;
+        rebuilds.rebuild::<J, D, R, S>(rt, alloc, committer)?;
     }
     Ok(round)
 }
 
 /// Commits what editors submit, until all of them have left, or all stop.
-pub(crate) fn commit_all<J: Naming, D: Disk, R: Wait + Drop, S: Wait>(
+pub(crate) fn commit_all<J: Naming, D: Disk, R: Wait + Drop, S: Threads + Wait + Sync>(
     rt: &S,
     alloc: Global,
     coordinator: &Coordinator<J>,
@@ -118,7 +173,8 @@ pub(crate) fn commit_all<J: Naming, D: Disk, R: Wait + Drop, S: Wait>(
 }
 
 /// Builds the first generation, and gives the coordinator that begins with it.
-pub(crate) fn first_generation<J: Naming, D: Disk, R: Wait + Drop>(
+pub(crate) fn first_generation<J: Naming, D: Disk, R: Wait + Drop, S: Threads + Wait + Sync>(
+    rt: &S,
     alloc: Global,
     committer: &mut Committer<D, R>,
     rebuilds: &mut Rebuilds,
@@ -129,6 +185,6 @@ pub(crate) fn first_generation<J: Naming, D: Disk, R: Wait + Drop>(
 {
     let mut graphs = Graphs::new();
     graphs.push(next_graph(alloc, committer)?);
-    rebuilds.rebuild::<J, D, R>(alloc, committer)?;
+    rebuilds.rebuild::<J, D, R, S>(rt, alloc, committer)?;
     Ok(Coordinator::new(told::<J, D, R>(committer), graphs, editing))
 }

@@ -12,8 +12,11 @@
 //! again and again but where the board gives no look, or a generation is gone, and whoever does sees when all stop. The first fault
 //! stops all. Room for all threads' handles is made before the first thread, so each thread is waited for.
 //!
-//! What is held doesn't grow with the number of rounds: one heap serves all rebuilds, and the graphs of the newest four generations
-//! are held, besides those in which a packet is on its way.
+//! The tables of a network of 512 nodes or more are built in as many threads as there are processors, each over a heap of its own that
+//! goes with it; those of a smaller one in the committer's thread, over one heap that serves all of them.
+//!
+//! What is held doesn't grow with the number of rounds: the graphs of the newest four generations are held, besides those in which a
+//! packet is on its way.
 //!
 //! # The contract
 //!

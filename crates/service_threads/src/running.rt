@@ -210,7 +210,7 @@ pub(crate) fn run<
         return (Err(StopCause::Memory), committer.into_store());
     };
     let editing = workers.editors.len();
-    match first_generation::<J, D, Q>(alloc, &mut committer, &mut rebuilds, editing) {
+    match first_generation::<J, D, Q, R>(rt, alloc, &mut committer, &mut rebuilds, editing) {
         Ok(coordinator) => threads::<J, D, G, Q, R>(
             rt,
             alloc,

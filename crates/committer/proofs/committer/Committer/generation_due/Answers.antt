@@ -1,0 +1,14 @@
+use Rattle.std.proofs.Common.{rules, ◌≡◌, Some, ap, ◌∙◌}
+use Rattle.checkpoint.specs.StoreWords.{state_of}
+use Rattle.group_commit.specs.DeskWords.{store_of as desk_store}
+use Rattle.committer.specs.Outboxes.{Outgoing, paid}
+use Rattle.committer.proofs.Rebuilding.{newest_serves}
+use Rattle.committer.proofs.committer.Committer.generation_due.Goals as goal
+
+pub returns-then-eq-clause-serves : goal.returns-then-eq-clause-serves
+returns-then-eq-clause-serves g c _ =
+    let old = c.args.self.now in
+    let is : old.newest ≡ Some c.count-number.result = search rules in
+    let same : c.count-number.result ≡ (state_of (desk_store old.desk)).count = c.count-number.ensures.same ∙ ap (λ s. (state_of s).count) c.store-2.ensures in
+    let pays : c.pay.new.self ≡ paid old.outbox = c.if-not-pay.ensures in
+    newest_serves _ _ _ _ _ _ _ c.count-number.result c.pay.new.self.posted old.tied is same (ap (λ (o : Outgoing). o.posted) pays)
