@@ -1,5 +1,5 @@
 -- What the ops of a change do to an edge map, and which op is refused.
-use Rattle.std.specs.Prelude.{◌≡◌, ℕ, ◌+◌, ◌-◌, ◌<◌, ◌≤◌, Bool, cond, nat_lt, nat_le, ◌==◌, ◌&&◌, List, [], ◌∷◌, Option, Some, None, is_some, Result, Ok, Err, ⊤}
+use Rattle.std.specs.Prelude.{◌≡◌, ℕ, ◌+◌, ◌-◌, ◌<◌, ◌≤◌, Bool, cond, nat_lt, nat_le, ◌==◌, ◌&&◌, List, [], ◌∷◌, length, take, Option, Some, None, is_some, Result, Ok, Err, ⊤}
 use Rattle.std.specs.FinMap.{insert, remove, len}
 use Rattle.graph_edits.specs.Edges.{EdgeMap, pair_of, weight_between, Network, most_edges, greatest_weight}
 use Rattle.graph_edits.specs.declared.edits.Op.{Op}
@@ -89,6 +89,16 @@ fold g changes = fold_within most_edges g changes
 abbrev pub edges_by : EdgeMap → List Op → EdgeMap
 edges_by m [] = m
 edges_by m (op ∷ ops) = edges_by (edges_after_op m op) ops
+
+-- the network after ops of which none is refused
+abbrev pub with_ops : Network → List Op → Network
+with_ops g ops = record { nodes = g.nodes; edges = edges_by g.edges ops }
+
+-- what a change that is made op by op leaves where it is refused: the ops before the one that is named are made, or, where memory is
+-- refused, those before some place of the change
+abbrev pub LeavesFront : Network → List Op → EditRefused → Network → Type 0
+LeavesFront g change (OpRefused index code) h = h ≡ with_ops g (take index change)
+LeavesFront g change Memory h = (place : ℕ) × (place < length change) × (h ≡ with_ops g (take place change))
 
 -- the weight that an op leaves, where it is not refused
 abbrev pub op_weight : Op → Option ℕ

@@ -2,7 +2,7 @@
 ghost use Rattle.std.specs.Prelude.{◌≡◌, ℕ, ◌+◌, ◌<◌, ◌≤◌, ◌≢◌, T, not, Option, None, length, vec_len, vec_capacity, IfOk, IfErr, IsOk, OnOk, OnErr, Ok, ◌↔◌, Some, IsSome};
 ghost use Rattle.std.specs.FinMap.{empty, insert, len};
 ghost use Rattle.graph_edits.specs.declared.edits.Op.TheVariants.{Add};
-ghost use Rattle.graph_edits.specs.Changes.{after, after_within, fold, edges_after_op, edges_after_within, err_of, IsRefusedAs, IsRefusedOp, refusal_at};
+ghost use Rattle.graph_edits.specs.Changes.{after, after_within, fold, edges_after_op, edges_after_within, err_of, IsRefusedAs, IsRefusedOp, LeavesFront, refusal_at};
 ghost use Rattle.graph_edits.specs.Edges.{weight_in, neighbours_of, over_port, all_degrees, IsSound, pair_of};
 
 use crate::edits::{Change, Code, EditRefused, Op};
@@ -198,6 +198,7 @@ impl Graph {
     pub fn replay(&mut self, change: &Change) -> Result<(), EditRefused>
         ensures ok { OnOk result (after self.old change.now ≡ Ok self.new) }
         ensures refused { IfErr result (IsRefusedAs (after self.old change.now)) }
+        ensures front { IfErr result (λ refused. LeavesFront self.old change.now refused self.new) }
     {
         for (index, op) in change.ops().iter().enumerate() {
             self.replay_op(index, *op)?;
@@ -205,11 +206,12 @@ impl Graph {
         Ok(())
     }
 
-    /// Makes the op at a place of a change, or refuses it.
+    /// Makes the op at a place of a change, or refuses it and leaves the graph as it was.
     fn replay_op(&mut self, index: usize, op: Op) -> Result<(), EditRefused>
         ensures passed { OnOk result (refusal_at self.old.nodes self.old.edges op ≡ None) }
         ensures made { OnOk result (self.new ≡ record { nodes = self.old.nodes; edges = edges_after_op self.old.edges op }) }
         ensures refused { IfErr result (IsRefusedOp index (refusal_at self.old.nodes self.old.edges op)) }
+        ensures unchanged { OnErr result (self.new ≡ self.old) }
     {
         let (a, b) = op.ends();
         let there = self.weight(a, b).is_some();

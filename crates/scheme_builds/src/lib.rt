@@ -12,11 +12,11 @@
 //! another: so the roots are cut into ranges, each worker builds its range in a thread of its own, and the ranges are joined in the order
 //! of the roots. Where no thread can be made, the caller builds that range itself. The tables are the same, whatever the number of
 //! workers (a test holds it). [`scheme_in_threads`] takes landmarks, and has clause by clause the contract of [`node_table::build`].
-//! [`workers_for`] says how many workers pay.
+//! [`workers_here`] says how many workers pay on this machine, and [`workers_for`] how many pay where there are so many processors.
 //!
 //! ```text
 //! let scheme = scheme_of(alloc, &graph, &[u64::MAX, 0], generation, &heap)?;
-//! let workers = workers_for(graph.nodes(), processors);
+//! let workers = workers_here(rt, graph.nodes());
 //! let scheme = scheme_of_in_threads(rt, alloc, &graph, &words, generation, workers)?;
 //! length_over(&graph, &[0, 1, 2])     // how long a way over a graph's nodes is
 //! ```
@@ -55,4 +55,4 @@ pub use ranges::SCRATCH_LEN;
 pub use schemes::scheme_of;
 pub use threads::{scheme_in_threads, scheme_of_in_threads};
 pub use words::first_words;
-pub use workers::{LEAST_SHARED, MOST_WORKERS, workers_for};
+pub use workers::{LEAST_SHARED, MOST_WORKERS, workers_for, workers_here};

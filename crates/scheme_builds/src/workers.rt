@@ -2,6 +2,9 @@
 ghost use Rattle.std.specs.Prelude.{◌≡◌, ◌<◌, ◌≤◌};
 ghost use Rattle.scheme_builds.specs.Workers.{workers_of, workers_that_pay};
 
+use std::thread;
+use std::thread::Threads;
+
 /// The most workers that build one scheme.
 pub const MOST_WORKERS: u16 = 16;
 
@@ -19,6 +22,20 @@ pub fn workers_for(nodes: u16, processors: u16) -> u16
         return 1;
     }
     at_most(processors)
+}
+
+/// How many workers build a network of so many nodes on this machine, as [`workers_for`] says it of the processors that the system
+/// counts: one alone for a small network, and where the system doesn't say.
+pub fn workers_here<R: Threads>(rt: &R, nodes: u16) -> u16
+    ensures some { 0 < result }
+    ensures few { result ≤ MOST_WORKERS }
+    ensures alone { nodes < LEAST_SHARED → result ≡ 1 }
+{
+    let processors = match thread::available_parallelism(rt) {
+        Ok(count) => count.get().min(MOST_WORKERS as usize) as u16,
+        Err(_) => 1,
+    };
+    workers_for(nodes, processors)
 }
 
 /// So many workers, but at least one and at most [`MOST_WORKERS`].
