@@ -6,7 +6,7 @@ ghost use Rattle.scheme_builds.specs.Queries.{IsCheckAnswer};
 use command_output::Fault;
 use core::thread::Stack;
 use graph_edits::Graph;
-use scheme_builds::{Checked, MOST_WORKERS, check_scheme, workers_for};
+use scheme_builds::{Checked, check_scheme, workers_here};
 use std::alloc::{AllocError, Global};
 use std::snapshot::Snapshot;
 use std::sync::Wait;
@@ -30,15 +30,6 @@ impl Promise<Result<Checked, AllocError>> for CheckPromise {
     ghost kept_by = { λ p r. IsCheckAnswer p.graph.value p.words.value.items p.generation r };
 }
 
-/// How many workers build and check a network of so many nodes on this machine.
-fn workers<R: Threads>(rt: &R, nodes: u16) -> u16 {
-    let processors = match thread::available_parallelism(rt) {
-        Ok(count) => count.get().min(MOST_WORKERS as usize) as u16,
-        Err(_) => 1,
-    };
-    workers_for(nodes, processors)
-}
-
 /// Checks the scheme of a graph, in a thread of its own.
 pub(crate) fn check_in_thread<R: Threads + Wait + Sync>(
     rt: &R,
@@ -50,7 +41,7 @@ pub(crate) fn check_in_thread<R: Threads + Wait + Sync>(
     ensures checked { IfOk result (λ checked. IsCheckAnswer graph.now words.now.items generation (Ok checked)) }
     ensures fault { IfErr result (λ fault. IsThreadFault fault) }
 {
-    let workers = workers(rt, graph.nodes());
+    let workers = workers_here(rt, graph.nodes());
     thread::scope(
         thread::scope_env(),
         rt,

@@ -16,7 +16,7 @@ use Rattle.scheme_builds.specs.Schemes.{IsSchemeOf}
 use Rattle.committer.specs.Outboxes.{Outgoing, paid, with_posted, with_due}
 use Rattle.committer.specs.Ties.{IsTied}
 use Rattle.committer.specs.Rebuilds.{IsBuilt, IsOwed, IsServed}
-use Rattle.committer.proofs.Tying.{now_newest}
+use Rattle.generations.proofs.Numbers.{now_newest}
 
 pub on_ok : {A E : Type 0} (r : Result A E) (P Q : Type 0) → (P → Q) → OnOk r P → OnOk r Q
 on_ok (Ok a) P Q f p = f p

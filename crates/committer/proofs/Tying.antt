@@ -1,11 +1,8 @@
 -- How a committer's lists and the state of its store stay tied.
-use Rattle.std.proofs.Common.{◌≡◌, ◌≢◌, ℕ, zero, suc, ◌+◌, ◌||◌, ◌<◌, ◌≤◌, Bool, true, false, List, [], ◌∷◌, ◌++◌, length, map, fold, slice_index, Option, Some, None, refl, ap, sym, ◌∙◌, subst, append-nil, arith}
+use Rattle.std.proofs.Common.{◌≡◌, ◌≢◌, ℕ, ◌+◌, ◌||◌, ◌≤◌, Bool, true, false, List, [], ◌∷◌, ◌++◌, length, map, fold, Option, Some, None, refl, ap, sym, ◌∙◌, subst, append-nil, arith}
 use Rattle.std.specs.Option.{option_map}
-use Rattle.std.specs.List.{last_or}
-use Rattle.std.specs.List.Sorted.{IsStrictlyIncreasing}
 use Rattle.std.proofs.lemmas.List.{map-append}
 use Rattle.std.proofs.lemmas.List.Sums.{fold-append}
-use Rattle.std.proofs.lemmas.List.Concat.{flat_map-append}
 use Rattle.layout_2.specs.State.{State, asked}
 use Rattle.graph_edits.specs.Edges.{Network}
 use Rattle.node_table.specs.declared.parts.Parts.{Parts}
@@ -17,63 +14,17 @@ use Rattle.requests.specs.declared.request.Request.{Request}
 use Rattle.generations.specs.declared.posting.Mark.{Mark}
 use Rattle.generations.specs.declared.posting.Notice.{Notice}
 use Rattle.generations.specs.declared.posting.Notice.TheVariants.{Marked, Failed, Built}
-use Rattle.generations.specs.Notices.{told_to, counts_of, marks_of, marks_in, generation_of, generations_in, numbers_in, newest_in, is_down, says_down}
+use Rattle.generations.specs.Notices.{told_to, counts_of, marks_of, marks_in, newest_in, is_down, says_down}
 use Rattle.generations.specs.Beginnings.{Opening}
 use Rattle.generations.specs.Boards.{accepting}
 use Rattle.generations.proofs.Lawfulness.{lawful_none, lawful_marks, lawful_down, lawful_generation, marks_push, counted_append, still_up}
+use Rattle.generations.proofs.Numbers.{same_newest, now_newest, all_below}
 use Rattle.committer.specs.Ties.{IsTied}
 use Rattle.committer.specs.Turns.{HoldsNoLater}
 use Rattle.committer.proofs.InTurns.{held_no_later}
 use Rattle.committer.proofs.Settled.{IsSettled}
 
--- ---- the newest generation
-
-last_push : {A : Type 0} (o : Option A) (xs : List A) (x : A) → last_or o (xs ++ x ∷ []) ≡ Some x
-last_push o [] x = refl
-last_push o (y ∷ ys) x = last_push (Some y) ys x
-
-last_map : {A B : Type 0} (f : A → B) (o : Option A) (xs : List A) → last_or (option_map f o) (map f xs) ≡ option_map f (last_or o xs)
-last_map f o [] = refl
-last_map f o (x ∷ xs) = last_map f (Some x) xs
-
-some_last : {A : Type 0} (x : A) (xs : List A) → last_or (Some x) xs ≡ None → ⊥
-some_last x [] e = absurd cc
-some_last x (y ∷ ys) e = some_last y ys e
-
-no_last : {A : Type 0} (xs : List A) → last_or None xs ≡ None → xs ≡ []
-no_last [] e = refl
-no_last (x ∷ xs) e = absurd (some_last x xs e)
-
-plus_one : (k : ℕ) → suc k + 1 ≡ suc (k + 1)
-plus_one k = omega arith
-
-tail_rises : (x : ℕ) (xs : List ℕ) → IsStrictlyIncreasing (x ∷ xs) → IsStrictlyIncreasing xs
-tail_rises x xs rises k within = subst (λ (n : ℕ). slice_index xs k < slice_index (x ∷ xs) n) (plus_one k) (rises (suc k) (omega (arith, within)))
-
--- of rising numbers the last is the greatest
-below_last_from : (x : ℕ) (xs : List ℕ) (m : ℕ) → IsStrictlyIncreasing (x ∷ xs) → last_or (Some x) xs ≡ Some m → (k : ℕ) → k < length (x ∷ xs) → slice_index (x ∷ xs) k ≤ m
-below_last_from x [] m rises last zero within = let e : x ≡ m = cc in omega (arith, e)
-below_last_from x [] m rises last (suc k) within = absurd (omega (arith, within))
-below_last_from x (y ∷ ys) m rises last zero within =
-    let first : x < y = rises 0 (omega arith) in
-    let rest : y ≤ m = below_last_from y ys m (tail_rises x (y ∷ ys) rises) last 0 (omega arith) in
-    omega (arith, first, rest)
-below_last_from x (y ∷ ys) m rises last (suc k) within = below_last_from y ys m (tail_rises x (y ∷ ys) rises) last k (omega (arith, within))
-
-below_last : (xs : List ℕ) (m : ℕ) → IsStrictlyIncreasing xs → last_or None xs ≡ Some m → (k : ℕ) → k < length xs → slice_index xs k ≤ m
-below_last [] m rises last k within = absurd (omega (arith, within))
-below_last (x ∷ xs) m rises last k within = below_last_from x xs m rises last k within
-
-generations_push : (log : List Notice) (p : Notice) → generations_in (log ++ p ∷ []) ≡ generations_in log ++ generation_of p
-generations_push log p = flat_map-append generation_of log (p ∷ []) ∙ ap (λ l. generations_in log ++ l) (append-nil (generation_of p))
-
--- a notice of no generation leaves the newest
-same_newest : (log : List Notice) (p : Notice) → generation_of p ≡ [] → newest_in (log ++ p ∷ []) ≡ newest_in log
-same_newest log p none = ap (last_or None) (generations_push log p ∙ (ap (λ l. generations_in log ++ l) none ∙ append-nil (generations_in log)))
-
--- a generation is the newest
-pub now_newest : (log : List Notice) (number : ℕ) (scheme : Parts) → newest_in (log ++ Built number scheme ∷ []) ≡ Some (number, scheme)
-now_newest log number scheme = ap (last_or None) (generations_push log (Built number scheme)) ∙ last_push None (generations_in log) (number, scheme)
+-- ---- the lists
 
 -- a notice of no marks leaves the marks
 same_marks : (log : List Notice) (p : Notice) → marks_of p ≡ [] → marks_in (log ++ p ∷ []) ≡ marks_in log
@@ -172,17 +123,9 @@ pub tied_generation : (opening : Opening) (log : List Notice) (newest : Option �
 tied_generation opening log newest held got state scheme h other served =
     let grown : marks_in (log ++ Built state.count scheme ∷ []) ≡ marks_in log = same_marks log (Built state.count scheme) refl in
     let now : newest_in (log ++ Built state.count scheme ∷ []) ≡ Some (state.count, scheme) = now_newest log state.count scheme in
-    let below_by : (o : Option (ℕ × Parts)) → newest_in log ≡ o → (k : ℕ) → k < length (numbers_in log) → slice_index (numbers_in log) k < state.count = λ o. elim o as (λ o. newest_in log ≡ o → (k : ℕ) → k < length (numbers_in log) → slice_index (numbers_in log) k < state.count) [
-      | None ↦ λ e k within. let none : numbers_in log ≡ [] = ap (map (λ g. g.0)) (no_last (generations_in log) e) in absurd (omega (arith, within, ap length none))
-      | Some g ↦ λ e k within.
-          let last : last_or None (numbers_in log) ≡ Some g.0 = last_map (λ g. g.0) None (generations_in log) ∙ ap (option_map (λ g. g.0)) e in
-          let least : slice_index (numbers_in log) k ≤ g.0 = below_last (numbers_in log) g.0 h.lawful.numbers last k within in
-          let most : g.0 ≤ state.count = h.behind g e in
-          let apart : g.0 ≢ state.count = λ same. other (h.newest_is ∙ (ap (option_map (λ g. g.0)) e ∙ ap Some same)) in
-          omega (arith, least, most, apart)
-    ] in
+    let below = all_below log state.count h.lawful.numbers h.behind (λ same. other (h.newest_is ∙ same)) in
     record {
-      lawful = lawful_generation opening.starts opening.count log state.count scheme h.lawful h.is_down (below_by (newest_in log) refl);
+      lawful = lawful_generation opening.starts opening.count log state.count scheme h.lawful h.is_down below;
       rises = h.rises;
       told = ap (λ (l : List Mark). map told_to l ++ asked held) grown ∙ h.told;
       counted = ap (λ (l : List Mark). opening.count + length (counts_of l)) grown ∙ h.counted;

@@ -5,3 +5,4 @@ pub mod Behind
 pub mod Shelving
 pub mod Keeping
 pub mod Lawfulness
+pub mod Numbers

@@ -4,7 +4,7 @@ use Rattle.std.specs.Option.{option_map}
 use Rattle.generations.specs.declared.posting.Notice.{Notice}
 use Rattle.generations.specs.declared.posting.Notice.TheVariants.{Marked, Failed, Built}
 use Rattle.event_runs.specs.Answers.{newest_number}
-use Rattle.run_laws.proofs.Numbers.{same_newest, now_newest}
+use Rattle.generations.proofs.Numbers.{same_newest, now_newest}
 use Rattle.interleave.specs.Stores.{newer}
 
 pub newest_push : (log : List Notice) (p : Notice) → newest_number (log ++ p ∷ []) ≡ newer (newest_number log) p

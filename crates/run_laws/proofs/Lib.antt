@@ -6,7 +6,6 @@ pub mod Chains
 pub mod Boards
 pub mod Refusing
 pub mod Cuts
-pub mod Numbers
 pub mod Steps
 pub mod Sessions
 pub mod Listing

@@ -23,7 +23,7 @@ use Rattle.group_commit.specs.Laws.{both}
 use Rattle.group_commit.proofs.SettlingLemmas.{settle-append, settled_count, one_mark_each, counts_go_on}
 use Rattle.run_laws.specs.Lists.{AreListed}
 use Rattle.run_laws.proofs.Cuts.{durable_none, durable_push, durable_same, durable_more}
-use Rattle.run_laws.proofs.Numbers.{same_newest, now_newest, all_below}
+use Rattle.generations.proofs.Numbers.{same_newest, now_newest, all_below}
 
 -- ---- what is settled
 

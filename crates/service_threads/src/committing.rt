@@ -11,13 +11,12 @@ use disk_trait::Disk;
 use graph_edits::Graph;
 use linked_list_allocator::LocalHeap;
 use node_table::Scheme;
-use scheme_builds::{MOST_WORKERS, SCRATCH_LEN, scheme_of_in_threads, workers_for};
+use scheme_builds::{SCRATCH_LEN, scheme_of_in_threads, workers_here};
 use service_workers::{
     Coordinator, GenerationGraph, Graphs, Naming, ToldOf, WordSource, shared_graph,
 };
 use std::alloc::{AllocError, Global};
 use std::sync::{Arc, Wait};
-use std::thread;
 use std::thread::Threads;
 
 /// What rebuilds take: the landmark words, and the one heap for the trees of each scheme that is built in the committer's thread.
@@ -58,15 +57,6 @@ impl Rebuilds {
     }
 }
 
-// How many workers build a network of so many nodes on this machine.
-fn workers<S: Threads>(rt: &S, nodes: u16) -> u16 {
-    let processors = match thread::available_parallelism(rt) {
-        Ok(count) => count.get().min(MOST_WORKERS as usize) as u16,
-        Err(_) => 1,
-    };
-    workers_for(nodes, processors)
-}
-
 // Builds a generation by these words and posts it: in threads where they pay, and else over the heap.
 fn rebuild_by<D: Disk, R: Wait + Drop, S: Threads + Wait + Sync>(
     rt: &S,
@@ -77,7 +67,7 @@ fn rebuild_by<D: Disk, R: Wait + Drop, S: Threads + Wait + Sync>(
 ) -> Result<(), CommitterStop>
     ensures { OnOk result ((posts_of committer.new).opening ≡ (posts_of committer.old).opening) }
 {
-    let workers = workers(rt, committer.store().nodes());
+    let workers = workers_here(rt, committer.store().nodes());
     if workers < 2 {
         committer.rebuild(alloc, words, heap)?;
         return Ok(());
