@@ -299,6 +299,9 @@ impl<D: Disk, R: Wait + Drop> Committer<D, R> {
 
     /// The number under which a generation of the store is due, and none where the newest one has it. What is due to the board is posted
     /// first. [`Committer::announce`] takes the generation, whoever builds it.
+    ///
+    /// It is refused as `Down` where the device has failed, and as `Board` where the board doesn't take what is due to it. Either leaves all
+    /// as it was.
     pub fn generation_due(&mut self) -> Result<Option<u64>, RebuildRefused>
         ensures store { store_of self.new ≡ store_of self.old }
         ensures held { (held_of self.new ≡ held_of self.old) × ((got_of self.new ≡ got_of self.old) × (empties_of self.new ≡ empties_of self.old)) }
@@ -330,6 +333,9 @@ impl<D: Disk, R: Wait + Drop> Committer<D, R> {
     }
 
     /// Offers a generation of the store's graph, under the number that [`Committer::generation_due`] gave.
+    ///
+    /// It is refused as `Board` alone, where the board doesn't take it: then the generation is due and a later call posts it, or, where no
+    /// memory is there to keep it, it is dropped and its number is due again.
     pub fn announce(
         &mut self,
         number: u64,

@@ -40,6 +40,21 @@ fn builds_once_for_each_count(rt: HostRuntime) {
     let _disk = at.into_disk();
 }
 
+#[test]
+fn announces_what_is_due_once(rt: HostRuntime) {
+    let alloc = rt.alloc();
+    let heap = got(&rt, LocalHeap::new(alloc, 1_048_576));
+    let mut at = armed(rt, alloc, 64, Plan::None);
+    at.announces(&rt, alloc, &heap, Some(0));
+    at.announces(&rt, alloc, &heap, None);
+    at.submits(&rt, 0, 1, &PATH);
+    at.settles(&rt, alloc, 1, 1);
+    at.announces(&rt, alloc, &heap, Some(1));
+    at.announces(&rt, alloc, &heap, None);
+    at = at.shows(&rt, (0, 1, 2));
+    let _disk = at.into_disk();
+}
+
 // The next change of a session, and its generation: the path, or another weight of its first edge.
 fn goes_on<R: Wait + Abort + Drop>(
     rt: &R,

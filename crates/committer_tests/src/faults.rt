@@ -1,6 +1,6 @@
 // A round of which a call of the device fails.
-use crate::seats::{armed, opened, same};
-use committer::RoundRefused;
+use crate::seats::{armed, due, opened, same};
+use committer::{RebuildRefused, RoundRefused};
 use disk_trait::{CrashDisk, Plan};
 use graph_edits::Op;
 use intake::Outcome;
@@ -17,6 +17,8 @@ fn count_after<R: Wait + Abort + Copy + Drop>(rt: R, alloc: Global, plan: Plan, 
     same(&rt, failed, Err(RoundRefused::Device), "the round");
     let down = at.round(&rt, alloc);
     same(&rt, down, Err(RoundRefused::Down), "the next round");
+    let number = due(&mut at.committer);
+    same(&rt, number, Err(RebuildRefused::Down), "what is due");
     at.hears(0);
     at.has(&rt, 0, Outcome::Down);
     opened(&rt, alloc, at.into_disk().crash(word))

@@ -13,10 +13,11 @@ use graph_edits::{Change, Op};
 use group_commit::Desk;
 use intake::{Editor, Outcome, SubmitRefused, open_intake};
 use linked_list_allocator::LocalHeap;
+use scheme_builds::scheme_of;
 use std::alloc::{AllocError, Global};
 use std::fmt::Debug;
 use std::process::Abort;
-use std::sync::Wait;
+use std::sync::{Arc, Wait};
 
 // Words that make node 2 a landmark, and node 3.
 pub(crate) const AT_TWO: [u64; 5] = [u64::MAX, u64::MAX, 0, u64::MAX, u64::MAX];
@@ -190,6 +191,30 @@ pub(crate) fn rebuild<R: Wait + Drop>(
     committer.rebuild(alloc, words, heap)
 }
 
+/// The number of the generation that is due.
+pub(crate) fn due<R: Wait + Drop>(
+    committer: &mut Committer<MemDisk, R>,
+) -> Result<Option<u64>, RebuildRefused>
+    ensures { (posts_of committer.new).opening ≡ (posts_of committer.old).opening }
+{
+    committer.generation_due()
+}
+
+/// Builds the generation that is due elsewhere and announces it: its number, if there is one.
+fn announced<R: Wait + Abort + Drop>(
+    rt: &R,
+    alloc: Global,
+    committer: &mut Committer<MemDisk, R>,
+    heap: &LocalHeap,
+) -> Option<u64>
+    ensures { (posts_of committer.new).opening ≡ (posts_of committer.old).opening }
+{
+    let number = got(rt, committer.generation_due())?;
+    let scheme = scheme_of(alloc, committer.store().graph(), &AT_TWO, number, heap);
+    let scheme = got(rt, Arc::new(alloc, got(rt, scheme)));
+    Some(got(rt, committer.announce(number, scheme)))
+}
+
 /// The count of a store, the last ticket of its first session, its edges, and the weights of 0-1 and 2-3.
 pub(crate) type Left = (u64, u64, usize, [Option<u32>; 2]);
 
@@ -287,6 +312,12 @@ impl<R: Wait + Abort + Drop> Seats<R> {
     pub(crate) fn builds(&mut self, rt: &R, alloc: Global, heap: &LocalHeap, number: u64) {
         let built = self.rebuild(alloc, &AT_TWO, heap);
         same(rt, built, Ok(number), "a rebuild");
+    }
+
+    /// Announces the generation that is due, which must have this number, or be none.
+    pub(crate) fn announces(&mut self, rt: &R, alloc: Global, heap: &LocalHeap, want: Option<u64>) {
+        let number = announced(rt, alloc, &mut self.committer, heap);
+        same(rt, number, want, "what was due");
     }
 
     /// Sees the shelf of the board.

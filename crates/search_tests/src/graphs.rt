@@ -361,3 +361,60 @@ fn judges_under_a_smaller_limit(rt: HostRuntime) {
     makes(&rt, &mut graph, &[Op::Cut(0, 1), Op::Add(1, 4, 7)], 4);
     expect_edges(&rt, &graph, 4, &[(0, 1, None), (1, 4, Some(7))]);
 }
+
+/// Five nodes in a row after these ops, made one by one, and the answer; begun again where memory was short.
+fn replayed(rt: &impl Abort, alloc: Global, ops: &[Op]) -> (Graph, Answer) {
+    let change = got(rt, Change::new(ops));
+    let mut graph = row(rt, alloc);
+    let answer = graph.replay(&change);
+    if answer != Err(EditRefused::Memory) {
+        return (graph, answer);
+    }
+    graph = row(rt, alloc);
+    let answer = graph.replay(&change);
+    (graph, answer)
+}
+
+#[test]
+fn replays_ops_one_by_one(rt: HostRuntime) {
+    let ops = [
+        Op::Cut(0, 1),
+        Op::Add(1, 0, 8),
+        Op::Set(3, 2, 9),
+        Op::Cut(4, 3),
+    ];
+    let (graph, answer) = replayed(&rt, rt.alloc(), &ops);
+    got(&rt, answer);
+    let pairs = [(0, 1, Some(8)), (2, 3, Some(9)), (3, 4, None)];
+    expect_edges(&rt, &graph, 3, &pairs);
+}
+
+#[test]
+fn a_refused_replay_leaves_the_ops_before(rt: HostRuntime) {
+    for (op, code) in &WRONG {
+        let ops = [Op::Add(0, 3, 9), Op::Cut(1, 2), *op, Op::Cut(4, 3)];
+        let (graph, answer) = replayed(&rt, rt.alloc(), &ops);
+        same(&rt, answer, refused(2, *code), "a wrong op");
+        let pairs = [(0, 3, Some(9)), (1, 2, None), (3, 4, Some(4))];
+        expect_edges(&rt, &graph, 4, &pairs);
+    }
+}
+
+/// Three nodes with room for so many neighbours each, asked for again where memory was short.
+fn with_room(rt: &impl Abort, alloc: Global, degrees: &[u16; 3]) -> Graph {
+    match Graph::with_room(alloc, degrees) {
+        Ok(graph) => graph,
+        Err(_) => got(rt, Graph::with_room(alloc, degrees)),
+    }
+}
+
+#[test]
+fn rows_with_room_take_edges_and_grow(rt: HostRuntime) {
+    let mut graph = with_room(&rt, rt.alloc(), &[1, 2, 1]);
+    same(&rt, graph.nodes(), 3, "the nodes");
+    expect_edges(&rt, &graph, 0, &[(0, 1, None)]);
+    let ops = [Op::Add(0, 1, 5), Op::Add(1, 2, 6), Op::Add(0, 2, 7)];
+    makes(&rt, &mut graph, &ops, MOST_EDGES);
+    expect_edges(&rt, &graph, 3, &[(0, 1, Some(5)), (0, 2, Some(7))]);
+    expect_neighbours(&rt, &graph, 1, &[(0, 5), (2, 6)]);
+}
