@@ -70,27 +70,24 @@ move_moves told.Memory is = tt
 move_moves told.DeviceLength is = tt
 move_moves _ is = absurd is
 
-pub serve_serves : (fault : Fault) → IsServeFault fault → EndsServe fault
-serve_serves told.DeviceFile is = tt
-serve_serves told.DeviceInUse is = tt
-serve_serves told.Script is = tt
-serve_serves told.NotFormatted is = tt
-serve_serves told.LayoutNotKnown is = tt
-serve_serves told.Damaged is = tt
-serve_serves told.Words is = tt
-serve_serves told.Device is = tt
-serve_serves told.Worn is = tt
-serve_serves told.Memory is = tt
-serve_serves told.Internal is = tt
-serve_serves told.NoThread is = tt
-serve_serves told.Output is = tt
-serve_serves _ is = absurd is
+pub serve_serves : (words : LandmarkWords) (fault : Fault) → IsServeFault fault → (fault ≡ told.Words → NamesNodes words) → EndsServe words fault
+serve_serves words told.NotFormatted is names = tt
+serve_serves words told.LayoutNotKnown is names = tt
+serve_serves words told.Damaged is names = tt
+serve_serves words told.Words is names = names refl
+serve_serves words told.Device is names = tt
+serve_serves words told.Worn is names = tt
+serve_serves words told.Memory is names = tt
+serve_serves words told.Internal is names = tt
+serve_serves words told.NoThread is names = tt
+serve_serves words told.Output is names = tt
+serve_serves words _ is names = absurd is
 
-pub serve_reads : (fault : Fault) → IsScriptFault fault → EndsServe fault
-serve_reads told.Script is = tt
-serve_reads told.Memory is = tt
-serve_reads told.Output is = tt
-serve_reads _ is = absurd is
+pub serve_reads : (words : LandmarkWords) (fault : Fault) → IsScriptFault fault → EndsServe words fault
+serve_reads words told.Script is = tt
+serve_reads words told.Memory is = tt
+serve_reads words told.Output is = tt
+serve_reads words _ is = absurd is
 
 -- a file's fault may end a command that both of its faults may end
 pub of_file : (P : Fault → Type 0) (fault : Fault) → P told.DeviceFile → P told.DeviceInUse → IsFileFault fault → P fault

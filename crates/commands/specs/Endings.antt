@@ -95,12 +95,13 @@ IsScriptFault told.Memory = Unit {0}
 IsScriptFault told.Output = Unit {0}
 IsScriptFault fault = ⊥
 
--- those that may end `serve`
-abbrev pub EndsServe : Fault → Type 0
-EndsServe told.DeviceFile = Unit {0}
-EndsServe told.DeviceInUse = Unit {0}
-EndsServe told.Script = Unit {0}
-EndsServe fault = IsServeFault fault
+-- those that may end `serve`: the words are not understood only where they name nodes
+abbrev pub EndsServe : LandmarkWords → Fault → Type 0
+EndsServe words told.DeviceFile = Unit {0}
+EndsServe words told.DeviceInUse = Unit {0}
+EndsServe words told.Script = Unit {0}
+EndsServe words told.Words = NamesNodes words
+EndsServe words fault = IsServeFault fault
 
 -- the faults of a query in a thread of its own
 abbrev pub IsThreadFault : Fault → Type 0
@@ -135,7 +136,7 @@ MayEnd (Resume device session) fault = EndsShow fault
 MayEnd (Route device pairs words) fault = EndsRoute words fault
 MayEnd (Check device words) fault = EndsCheck words fault
 MayEnd (Migrate old new) fault = EndsMigrate fault
-MayEnd (Serve device editors forwarders places words) fault = EndsServe fault
+MayEnd (Serve device editors forwarders places words) fault = EndsServe words fault
 
 -- The words are no task that is in range, and the fault is the one for what is wrong with them, or memory ran out while they were read;
 -- or they ask for a task, and the fault is one that may end it.

@@ -7,7 +7,7 @@ ghost use Rattle.service_threads.specs.Config.{IsServiceConfig};
 ghost use Rattle.device_files.specs.DeviceFiles.{lock_of};
 ghost use Rattle.device_files.specs.declared.file.Lock.{Lock};
 ghost use Rattle.service_lines.specs.ServedLines.{IsServed, IsServeFault};
-ghost use Rattle.commands.specs.Endings.{EndsServe, IsScriptFault};
+ghost use Rattle.commands.specs.Endings.{EndsServe, IsScriptFault, NamesNodes};
 ghost use Rattle.commands.specs.ServedScripts.{IsScriptOf};
 
 use crate::files::open_file;
@@ -69,7 +69,7 @@ where
     O: Write,
     requires { IsServiceConfig config }
     ensures printed { IfOk result (λ ended. (ended ≡ Ended.Done) × (lines : List ScriptLine) × IsScriptOf (S.remaining script.old) config.editors lines × IsServed lines (O.contents out.old) (O.contents out.new)) }
-    ensures fault { IfErr result EndsServe }
+    ensures fault { IfErr result (λ fault. EndsServe words fault) }
     ensures untouched { IfErr result (λ fault. fault ≢ Fault.Output → out.new ≡ out.old) }
 {
     let lines = read_script(rt.alloc(), script, config.editors)?;
@@ -95,6 +95,7 @@ where
     requires sessions { AreOfSessions config.editors lines.items }
     ensures printed { OnOk result (IsServed lines.items (O.contents out.old) (O.contents out.new)) }
     ensures fault { IfErr result (λ fault. IsServeFault fault) }
+    ensures words { IfErr result (λ fault. fault ≡ Fault.Words → NamesNodes words) }
     ensures untouched { IfErr result (λ fault. fault ≢ Fault.Output → out.new ≡ out.old) }
 {
     serve_lines(rt, rt.alloc(), file, words, config, lines, &NoHooks, out).0

@@ -10,7 +10,7 @@ use Rattle.committer.specs.declared.refused.RoundRefused.TheVariants as rounds
 use Rattle.committer.specs.declared.refused.RebuildRefused.{RebuildRefused}
 use Rattle.committer.specs.declared.refused.RebuildRefused.TheVariants as rebuilds
 use Rattle.service_threads.specs.declared.fault.Fault.{Fault}
-use Rattle.service_threads.specs.declared.fault.Fault.TheVariants.{NotFormatted, BadVersion, Damaged, Device, Worn, Memory, Board, NoThread, Internal}
+use Rattle.service_threads.specs.declared.fault.Fault.TheVariants.{NotFormatted, BadVersion, Damaged, Words, Device, Worn, Memory, Board, NoThread, Internal}
 use Rattle.service_workers.specs.declared.stop_cause.StopCause.{StopCause}
 use Rattle.service_workers.specs.declared.stop_cause.StopCause.TheVariants as cause
 
@@ -61,3 +61,11 @@ IsLater Board = Unit {0}
 IsLater NoThread = Unit {0}
 IsLater Internal = Unit {0}
 IsLater fault = ⊥
+
+-- the faults of a device that was refused, or whose nodes the words don't fit
+abbrev pub IsOpeningFault : Fault → Type 0
+IsOpeningFault NotFormatted = Unit {0}
+IsOpeningFault BadVersion = Unit {0}
+IsOpeningFault Damaged = Unit {0}
+IsOpeningFault Words = Unit {0}
+IsOpeningFault fault = ⊥

@@ -1,9 +1,11 @@
 // The committer's thread.
 ghost use Rattle.std.specs.Arc.{arc_value};
-ghost use Rattle.std.specs.Prelude.{◌≡◌, IfOk, OnOk};
+ghost use Rattle.std.specs.Prelude.{◌≡◌, ◌≢◌, IfErr, IfOk, IsErrOf, OnOk, false};
 ghost use Rattle.node_table.specs.Service.{Serves};
 ghost use Rattle.node_table.specs.Tables.{tables};
-ghost use Rattle.committer.specs.CommitterWords.{posts_of};
+ghost use Rattle.checkpoint.specs.StoreWords.{state_of, view_of, is_down};
+ghost use Rattle.committer.specs.CommitterWords.{posts_of, store_of, got_of};
+ghost use Rattle.service_threads.specs.Kept.{HasFailed, HasSettled, HasSettledAll, HasTurned, IsFresh, StaysPut};
 
 use crate::committer_stop::CommitterStop;
 use committer::{Committer, Round};
@@ -13,7 +15,7 @@ use linked_list_allocator::LocalHeap;
 use node_table::Scheme;
 use scheme_builds::{SCRATCH_LEN, scheme_of_in_threads, workers_here};
 use service_workers::{
-    Coordinator, GenerationGraph, Graphs, Naming, ToldOf, WordSource, shared_graph,
+    Coordinator, GenerationGraph, Graphs, Naming, StopCause, ToldOf, WordSource, shared_graph,
 };
 use std::alloc::{AllocError, Global};
 use std::sync::{Arc, Wait};
@@ -33,15 +35,18 @@ impl Rebuilds {
         Ok(Rebuilds { source, heap })
     }
 
-    // Builds a generation of the store's graph, and posts it.
+    // Builds a generation of the store's graph, and posts it. The store stays as it is.
     fn rebuild<J: Naming, D: Disk, R: Wait + Drop, S: Threads + Wait + Sync>(
         &mut self,
         rt: &S,
         alloc: Global,
         committer: &mut Committer<D, R>,
     ) -> Result<(), CommitterStop>
-        requires { (posts_of committer.old).opening ≡ J.opening }
-        ensures { OnOk result ((posts_of committer.new).opening ≡ J.opening) }
+        requires opening { (posts_of committer.old).opening ≡ J.opening }
+        requires up { is_down (store_of committer.old) ≡ false }
+        ensures opening { OnOk result ((posts_of committer.new).opening ≡ J.opening) }
+        ensures stays { StaysPut committer.old committer.new }
+        ensures not_device { IfErr result (λ stop. stop.cause ≢ StopCause.Device) }
     {
         let Rebuilds { source, heap } = self;
         match source {
@@ -65,7 +70,10 @@ fn rebuild_by<D: Disk, R: Wait + Drop, S: Threads + Wait + Sync>(
     words: &[u64],
     heap: &LocalHeap,
 ) -> Result<(), CommitterStop>
-    ensures { OnOk result ((posts_of committer.new).opening ≡ (posts_of committer.old).opening) }
+    requires up { is_down (store_of committer.old) ≡ false }
+    ensures opening { OnOk result ((posts_of committer.new).opening ≡ (posts_of committer.old).opening) }
+    ensures stays { StaysPut committer.old committer.new }
+    ensures not_device { IfErr result (λ stop. stop.cause ≢ StopCause.Device) }
 {
     let workers = workers_here(rt, committer.store().nodes());
     if workers < 2 {
@@ -99,7 +107,9 @@ fn shared_scheme<S: Threads + Wait + Sync>(
 fn next_graph<D: Disk, R: Wait + Drop>(
     alloc: Global,
     committer: &Committer<D, R>,
-) -> Result<Arc<GenerationGraph, Global>, CommitterStop> {
+) -> Result<Arc<GenerationGraph, Global>, CommitterStop>
+    ensures not_device { IfErr result (λ stop. stop.cause ≢ StopCause.Device) }
+{
     let store = committer.store();
     Ok(shared_graph(alloc, store.count(), store.graph())?)
 }
@@ -112,7 +122,7 @@ fn told<J: Naming, D: Disk, R: Wait + Drop>(committer: &Committer<D, R>) -> Told
 }
 
 // One round, its marks told, and the generation that it makes due. Its graph is shown before it is posted, so that whoever sees it
-// on the board finds its graph too.
+// on the board finds its graph too. Whatever ends it, the device holds the state before the turn or the one after its whole group.
 fn turn<J: Naming, D: Disk, R: Wait + Drop, S: Threads + Wait + Sync>(
     rt: &S,
     alloc: Global,
@@ -120,8 +130,12 @@ fn turn<J: Naming, D: Disk, R: Wait + Drop, S: Threads + Wait + Sync>(
     committer: &mut Committer<D, R>,
     rebuilds: &mut Rebuilds,
 ) -> Result<Round, CommitterStop>
-    requires { (posts_of committer.old).opening ≡ J.opening }
-    ensures { OnOk result ((posts_of committer.new).opening ≡ J.opening) }
+    requires opening { (posts_of committer.old).opening ≡ J.opening }
+    requires up { is_down (store_of committer.old) ≡ false }
+    ensures opening { OnOk result ((posts_of committer.new).opening ≡ J.opening) }
+    ensures turned { HasTurned committer.old committer.new }
+    ensures settled { OnOk result (HasSettledAll committer.old committer.new) }
+    ensures device { IfErr result (λ stop. stop.cause ≡ StopCause.Device → HasFailed (view_of (store_of committer.old)) (view_of (store_of committer.new))) }
 {
     let round = committer.round(alloc, rt)?;
     if round.taken > 0 {
@@ -134,32 +148,37 @@ fn turn<J: Naming, D: Disk, R: Wait + Drop, S: Threads + Wait + Sync>(
     Ok(round)
 }
 
-/// Commits what editors submit, until all of them have left, or all stop.
+/// Commits what editors submit, until all of them have left, or all stop. An `Err` is why the committer itself stopped.
+#[tactic(auto, using(crate::proofs::Settling::on_course_first, crate::proofs::Settling::on_course_still, crate::proofs::Settling::turned_settles))]
 pub(crate) fn commit_all<J: Naming, D: Disk, R: Wait + Drop, S: Threads + Wait + Sync>(
     rt: &S,
     alloc: Global,
     coordinator: &Coordinator<J>,
     committer: &mut Committer<D, R>,
     rebuilds: &mut Rebuilds,
-)
-    requires { (posts_of committer.old).opening ≡ J.opening }
+) -> Result<(), StopCause>
+    requires opening { (posts_of committer.old).opening ≡ J.opening }
+    requires fresh { IsFresh committer.old }
+    ensures settled { HasSettled (state_of (store_of committer.old)) (got_of committer.new) (view_of (store_of committer.old)) (view_of (store_of committer.new)) }
+    ensures device { IsErrOf result StopCause.Device → HasFailed (view_of (store_of committer.old)) (view_of (store_of committer.new)) }
 {
     for _ in rt.forever() {
         // What there is to do is read before the round, so that nothing is missed that comes behind it.
         let work = coordinator.work(rt);
         if work.stopped {
-            return;
+            return Ok(());
         }
         match turn::<J, D, R, S>(rt, alloc, coordinator, committer, rebuilds) {
             Ok(round) if round.taken > 0 => {}
-            Ok(_) if work.editing == 0 => return,
+            Ok(_) if work.editing == 0 => return Ok(()),
             Ok(_) => coordinator.await_work(rt, work.asked),
             Err(stop) => {
                 coordinator.stop(rt, stop.cause);
-                return;
+                return Err(stop.cause);
             }
         }
     }
+    Ok(())
 }
 
 /// Builds the first generation, and gives the coordinator that begins with it.
@@ -170,8 +189,11 @@ pub(crate) fn first_generation<J: Naming, D: Disk, R: Wait + Drop, S: Threads + 
     rebuilds: &mut Rebuilds,
     editing: usize,
 ) -> Result<Coordinator<J>, CommitterStop>
-    requires { (posts_of committer.old).opening ≡ J.opening }
-    ensures { OnOk result ((posts_of committer.new).opening ≡ J.opening) }
+    requires opening { (posts_of committer.old).opening ≡ J.opening }
+    requires up { is_down (store_of committer.old) ≡ false }
+    ensures opening { OnOk result ((posts_of committer.new).opening ≡ J.opening) }
+    ensures stays { StaysPut committer.old committer.new }
+    ensures not_device { IfErr result (λ stop. stop.cause ≢ StopCause.Device) }
 {
     let mut graphs = Graphs::new();
     graphs.push(next_graph(alloc, committer)?);

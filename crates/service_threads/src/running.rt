@@ -1,6 +1,8 @@
 // The threads: the committer in the caller's, and one for each editor and each forwarder.
-ghost use Rattle.std.specs.Prelude.{◌≡◌, ◌≤◌, [], IfOk, vec_capacity};
-ghost use Rattle.committer.specs.CommitterWords.{posts_of};
+ghost use Rattle.std.specs.Prelude.{◌≡◌, ◌≤◌, [], IfOk, IsErrOf, vec_capacity};
+ghost use Rattle.checkpoint.specs.StoreWords.{state_of, view_of};
+ghost use Rattle.committer.specs.CommitterWords.{posts_of, store_of};
+ghost use Rattle.service_threads.specs.Kept.{HasFailed, HasSettledSome, IsFresh};
 
 use crate::committing::{Rebuilds, commit_all, first_generation};
 use checkpoint::Store;
@@ -120,6 +122,24 @@ fn joined<R: Threads>(
     Ok(WorkerResults { verdicts, carried })
 }
 
+// Why the threads gave no results, or their results. What the committer itself met goes before what another thread met; of the device
+// it alone knows.
+fn ended(
+    own: Result<(), StopCause>,
+    cause: Option<StopCause>,
+    results: Result<WorkerResults, AllocError>,
+) -> Result<WorkerResults, StopCause>
+    ensures { IsErrOf result StopCause.Device → IsErrOf own StopCause.Device }
+{
+    match (own, cause, results) {
+        (Err(cause), _, _) => Err(cause),
+        (Ok(()), Some(StopCause::Device), _) => Err(StopCause::Internal),
+        (Ok(()), Some(cause), _) => Err(cause),
+        (Ok(()), None, Ok(results)) => Ok(results),
+        (Ok(()), None, Err(_)) => Err(StopCause::Memory),
+    }
+}
+
 // Runs all threads, the committer in the caller's, and gives the store back.
 fn threads<
     'a,
@@ -138,13 +158,19 @@ fn threads<
     rebuilds: Rebuilds,
     shares: Shares,
 ) -> (Result<WorkerResults, StopCause>, Store<D>)
-    requires { (posts_of committer).opening ≡ J.opening }
+    requires opening { (posts_of committer).opening ≡ J.opening }
+    requires fresh { IsFresh committer }
+    ensures settled { HasSettledSome (state_of (store_of committer)) (view_of (store_of committer)) (view_of result.1) }
+    ensures device { IsErrOf result.0 StopCause.Device → HasFailed (view_of (store_of committer)) (view_of result.1) }
 {
     thread::scope(
         thread::scope_env(),
         rt,
         |scope| -> (Result<WorkerResults, StopCause>, Store<D>)
-            requires { (posts_of committer).opening ≡ J.opening }
+            requires opening { (posts_of committer).opening ≡ J.opening }
+            requires fresh { IsFresh committer }
+            ensures settled { HasSettledSome (state_of (store_of committer)) (view_of (store_of committer)) (view_of result.1) }
+            ensures device { IsErrOf result.0 StopCause.Device → HasFailed (view_of (store_of committer)) (view_of result.1) }
         {
             let mut committer = committer;
             let mut rebuilds = rebuilds;
@@ -175,13 +201,15 @@ fn threads<
                 trips,
                 &mut started.forwarding,
             );
-            commit_all::<J, D, Q, R>(rt, alloc, coordinator, &mut committer, &mut rebuilds);
+            let own = commit_all::<J, D, Q, R>(
+                rt,
+                alloc,
+                coordinator,
+                &mut committer,
+                &mut rebuilds,
+            );
             let results = joined(rt, alloc, started);
-            let result = match (coordinator.cause(rt), results) {
-                (Some(cause), _) => Err(cause),
-                (None, Ok(results)) => Ok(results),
-                (None, Err(_)) => Err(StopCause::Memory),
-            };
+            let result = ended(own, coordinator.cause(rt), results);
             (result, committer.into_store())
         },
     )
@@ -203,7 +231,10 @@ pub(crate) fn run<
     shares: Shares,
     hooks: &G,
 ) -> (Result<WorkerResults, StopCause>, Store<D>)
-    requires { (posts_of committer).opening ≡ J.opening }
+    requires opening { (posts_of committer).opening ≡ J.opening }
+    requires fresh { IsFresh committer }
+    ensures settled { HasSettledSome (state_of (store_of committer)) (view_of (store_of committer)) (view_of result.1) }
+    ensures device { IsErrOf result.0 StopCause.Device → HasFailed (view_of (store_of committer)) (view_of result.1) }
 {
     let mut committer = committer;
     let Ok(mut rebuilds) = Rebuilds::new(alloc, source) else {

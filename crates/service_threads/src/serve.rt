@@ -1,18 +1,21 @@
 // The service: a committer, editors and forwarders, each in a thread of its own.
-ghost use Rattle.std.specs.Prelude.{◌≡◌, ◌≤◌, [], All, IfErr, IfOk, IsTrue, map, vec_len, false};
-ghost use Rattle.checkpoint.specs.StoreWords.{state_of, is_down};
+ghost use Rattle.std.specs.Prelude.{◌≡◌, ◌≤◌, [], All, IfErr, IfOk, IfSome, IsErrOf, IsTrue, map, vec_len, false};
+ghost use Rattle.disk_trait.specs.Disk.{IsSameDevice, OnlyRead};
+ghost use Rattle.checkpoint.specs.StoreWords.{state_of, view_of, is_down};
 ghost use Rattle.written_values.specs.Scripts.{AreOfSessions};
 ghost use Rattle.layout_2.specs.State.{State};
 ghost use Rattle.layout_2.specs.Standing.{StandsFor};
 ghost use Rattle.written_values.specs.Words.{IsWithin};
 ghost use Rattle.service_workers.specs.Answers.{is_edit, is_editor, is_verdict};
-ghost use Rattle.service_threads.specs.Faults.{IsLater, TellsOf};
+ghost use Rattle.service_threads.specs.Faults.{IsLater, IsOpeningFault, TellsOf};
+ghost use Rattle.service_threads.specs.Kept.{HasFailed, HasSettledSome, IsServedDisk, KeepsThrough, LeavesBeginnings};
 ghost use Rattle.service_threads.specs.Config.{IsServiceConfig};
 
 use crate::fault::Fault;
 use crate::running::{Workers, run};
 use checkpoint::{Store, standing_law};
 use committer::Committer;
+use core::thread::Stack;
 use disk_trait::Disk;
 use generations::{BoardReader, BoardWriter, board};
 use group_commit::Desk;
@@ -24,9 +27,10 @@ use service_workers::{
 };
 use std::alloc::{AllocError, Global};
 use std::marker::Brand;
+use std::snapshot::Snapshot;
 use std::sync::Wait;
 use std::thread;
-use std::thread::{Builder, Threads};
+use std::thread::{Promise, Threads};
 use written_values::{LandmarkWords, ScriptLine};
 
 /// How many bytes of stack the thread has that commits and builds.
@@ -95,7 +99,8 @@ fn seat_workers<J: Naming>(
     Ok((taker, workers))
 }
 
-// ServiceConfig editors and forwarders at the board that `J` names, and runs them.
+// Seats editors and forwarders at the board that `J` names, and runs them.
+#[tactic(auto, using(crate::proofs::Settling::some_settled))]
 fn seat<
     J: Naming + Send + Sync,
     D: Disk + Drop,
@@ -121,6 +126,8 @@ fn seat<
     requires kept { writer.kept ≡ [] }
     requires up { is_down store ≡ false }
     requires readers { All (λ r. r.all.opening ≡ J.opening) readers.items }
+    ensures settled { HasSettledSome (state_of store) (view_of store) (view_of result.1) }
+    ensures device { IsErrOf result.0 StopCause.Device → HasFailed (view_of store) (view_of result.1) }
 {
     match seat_workers::<J>(alloc, config, readers, &store.starts()) {
         Ok((taker, workers)) => {
@@ -132,7 +139,7 @@ fn seat<
 }
 
 // The service on a store, with a board of its own.
-#[tactic(auto, using(crate::proofs::Seated::all_of))]
+#[tactic(auto, using(crate::proofs::Seated::all_of, crate::proofs::Settling::some_settled))]
 fn serve_store<D: Disk + Drop, G: Hooks + Sync, R: Threads + Wait + Sync>(
     rt: &R,
     alloc: Global,
@@ -144,6 +151,8 @@ fn serve_store<D: Disk + Drop, G: Hooks + Sync, R: Threads + Wait + Sync>(
 ) -> (Result<WorkerResults, StopCause>, Store<D>)
     requires config { IsServiceConfig config }
     requires up { is_down store ≡ false }
+    ensures settled { HasSettledSome (state_of store) (view_of store) (view_of result.1) }
+    ensures device { IsErrOf result.0 StopCause.Device → HasFailed (view_of store) (view_of result.1) }
 {
     let readers = config.editors as usize + config.forwarders as usize;
     let (starts, count) = (store.starts(), store.count());
@@ -167,9 +176,23 @@ fn serve_here<D: Disk + Drop, G: Hooks + Sync, R: Threads + Wait + Sync>(
 ) -> (Result<WorkerResults, StopCause>, D)
     requires config { IsServiceConfig config }
     requires up { is_down store ≡ false }
+    ensures settled { HasSettledSome (state_of store) (view_of store) (D.view result.1) }
+    ensures device { IsErrOf result.0 StopCause.Device → HasFailed (view_of store) (D.view result.1) }
 {
     let (result, store) = serve_store(rt, alloc, config, store, source, shares, hooks);
     (result, store.into_disk())
+}
+
+// What a service's thread answers of the disk that the store was on.
+#[derive(Drop)]
+struct ServedPromise<D: Disk> {
+    store: Snapshot<Store<D>>,
+}
+
+impl<D: Disk> Promise<(Result<WorkerResults, StopCause>, D)> for ServedPromise<D> {
+    ghost use Rattle.service_threads.specs.Kept.{IsServedDisk};
+
+    ghost kept_by = { λ p r. IsServedDisk p.store.value r.0 (D.view r.1) };
 }
 
 // The service in a thread of its own, with a stack for deep trees. The disk comes back, unless no thread can be made.
@@ -184,6 +207,7 @@ fn serve_there<'a, D: Disk + Drop + Send, G: Hooks + Sync, R: Threads + Wait + S
 ) -> (Result<WorkerResults, StopCause>, Option<D>)
     requires config { IsServiceConfig config }
     requires up { is_down store ≡ false }
+    ensures served { IfSome result.1 (λ d. IsServedDisk store result.0 (D.view d)) }
 {
     thread::scope(
         thread::scope_env(),
@@ -191,15 +215,22 @@ fn serve_there<'a, D: Disk + Drop + Send, G: Hooks + Sync, R: Threads + Wait + S
         |scope| -> (Result<WorkerResults, StopCause>, Option<D>)
             requires config { IsServiceConfig config }
             requires up { is_down store ≡ false }
+            ensures served { IfSome result.1 (λ d. IsServedDisk store result.0 (D.view d)) }
         {
-            let builder = Builder::new().stack_size(STACK_LEN);
+            let promise = ServedPromise {
+                store: Snapshot::of(&store),
+            };
             let job = move || -> (Result<WorkerResults, StopCause>, D)
                 requires config { IsServiceConfig config }
                 requires up { is_down store ≡ false }
+                ensures served { IsServedDisk store result.0 (D.view result.1) }
             { serve_here(rt, alloc, config, store, source, shares, hooks) };
-            match builder.spawn_scoped(scope, job) {
-                Ok(handle) => {
-                    let (result, disk) = handle.join(rt);
+            match Stack::new()
+                .stack_size(STACK_LEN)
+                .spawn_scoped_with(scope, promise, job)
+            {
+                Ok(child) => {
+                    let (result, disk) = child.join(rt);
                     (result, Some(disk))
                 }
                 Err(_) => (Err(StopCause::NoThread), None),
@@ -218,6 +249,12 @@ fn open_device<D: Disk>(
     ensures tells { IsTrue (D.view disk).keeps_model → IfErr result (λ e. TellsOf e.0 (D.view disk).content) }
     ensures words { IsTrue (D.view disk).keeps_model → (state : State) → StandsFor state (D.view disk).content → IfErr result (λ e. e.0 ≡ Fault.Words → ¬ IsWithin words.now state.graph.nodes) }
     ensures of_one { IfErr result (λ e. e.0 ≡ Fault.Words → (state : State) × ¬ IsWithin words.now state.graph.nodes) }
+    ensures stands { IsTrue (D.view disk).keeps_model → IfOk result (λ r. StandsFor (state_of r.0) (D.view disk).content) }
+    ensures reads { IsTrue (D.view disk).keeps_model → IfOk result (λ r. OnlyRead (D.view disk) (view_of r.0)) }
+    ensures ran { IfOk result (λ r. IsSameDevice (D.view disk) (view_of r.0)) }
+    ensures reads_err { IsTrue (D.view disk).keeps_model → IfErr result (λ e. OnlyRead (D.view disk) (D.view e.1)) }
+    ensures ran_err { IfErr result (λ e. IsSameDevice (D.view disk) (D.view e.1)) }
+    ensures device { IfErr result (λ e. e.0 ≡ Fault.Device → HasFailed (D.view disk) (D.view e.1)) }
 {
     standing_law();
     let store = match Store::open(alloc, disk) {
@@ -241,6 +278,7 @@ fn answers_of(
 ) -> Result<Vec<Answer>, Fault>
     ensures answers { IfOk result (λ answers. map is_verdict answers.items ≡ map is_editor turns.now) }
     ensures later { IfErr result (λ fault. IsLater fault) }
+    ensures device { IsErrOf result Fault.Device → IsErrOf ended StopCause.Device }
 {
     let results = match ended {
         Ok(results) => results,
@@ -277,7 +315,15 @@ pub fn serve_on<'a, D: Disk + Drop + Send, G: Hooks + Sync, R: Threads + Wait + 
     // The words name a node that the device hasn't; also of a disk that doesn't keep the model, one that a state hasn't.
     ensures words { IsTrue (D.view disk).keeps_model → (state : State) → StandsFor state (D.view disk).content → IfErr result.0 (λ fault. fault ≡ Fault.Words → ¬ IsWithin words state.graph.nodes) }
     ensures of_one { IfErr result.0 (λ fault. fault ≡ Fault.Words → (state : State) × ¬ IsWithin words state.graph.nodes) }
+    // The very device comes back; where it was refused it was only read, and a call of it failed where that is the fault.
+    ensures ran { IfSome result.1 (λ d. IsSameDevice (D.view disk) (D.view d)) }
+    ensures refused { IsTrue (D.view disk).keeps_model → IfErr result.0 (λ fault. IsOpeningFault fault → IfSome result.1 (λ d. OnlyRead (D.view disk) (D.view d))) }
+    ensures device { IsErrOf result.0 Fault.Device → IfSome result.1 (λ d. HasFailed (D.view disk) (D.view d)) }
+    // Whatever ends it, and at any moment of it: a crash leaves the state after a beginning of the requests that it took.
+    ensures any_moment { IsTrue (D.view disk).keeps_model → (state : State) → StandsFor state (D.view disk).content → KeepsThrough (D.view disk) state
+        → IfSome result.1 (λ d. LeavesBeginnings state (D.view disk) (D.view d)) }
 {
+    standing_law();
     let (turns, shares) = match shared(alloc, config.editors, config.forwarders, script) {
         Ok(shared) => shared,
         Err(_) => return (Err(Fault::Memory), Some(disk)),

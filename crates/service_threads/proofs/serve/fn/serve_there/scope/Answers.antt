@@ -28,7 +28,7 @@ source_send = search (crosses, sendable) depth 40
 shares_send : IsSend shares.the_row
 shares_send = search (crosses, sendable) depth 40
 
-pub spawn_scoped-requires-send-F : goal.spawn_scoped-requires-send-F
-spawn_scoped-requires-send-F g c κs within =
-    param_send 1 (lts.arg-2-1 g.row.D g.row.G g.row.R g.D.laws g.G.laws g.R.laws g.D.Disk g.D.Disk-dict g.G.Hooks g.G.Hooks-dict g.R.Threads g.R.Threads-dict g.R.Wait g.R.Wait-dict g.D.Destruct-dict κs)
+pub spawn_scoped_with-requires-send-F : goal.spawn_scoped_with-requires-send-F
+spawn_scoped_with-requires-send-F g c κs within =
+    param_send 2 (lts.arg-3-2 g.row.D g.row.G g.row.R g.D.laws g.G.laws g.R.laws g.D.Disk g.D.Disk-dict g.G.Hooks g.G.Hooks-dict g.R.Threads g.R.Threads-dict g.R.Wait g.R.Wait-dict g.D.Destruct-dict κs)
     (search (crosses, sendable, store_send, source_send, shares_send) depth 80)

@@ -1,0 +1,155 @@
+-- What is left on a device over turns: the states after beginnings of what was taken.
+use Rattle.std.proofs.Common.{◌≡◌, ◌⊎◌, ℕ, ◌+◌, ◌≤◌, ◌<◌, List, [], ◌++◌, length, take, drop, IsTrue, Bool, false, refl, arith, ap, sym, ◌∙◌, subst, inl, inr, ⊎_elim}
+use Rattle.std.proofs.lemmas.List.{take-append-le, length-append}
+use Rattle.std.proofs.Math.Seq.{take-append_seam, take-length}
+use Rattle.std.specs.Prelude.{IsErrOf, IfSome, Option, Some, None, Result}
+use Rattle.service_workers.specs.declared.stop_cause.StopCause.{StopCause}
+use Rattle.disk_trait.specs.Disk.{DiskView, IsSameDevice, LeavesOnly, OnlyRead, joined, reading_leaves, started, weaker}
+use Rattle.requests.specs.declared.request.Request.{Request}
+use Rattle.layout_2.specs.State.{State}
+use Rattle.layout_2.specs.Standing.{StandsFor}
+use Rattle.checkpoint.specs.declared.store.Store.{Store}
+use Rattle.checkpoint.specs.StoreWords.{state_of, view_of, is_down, disk_of, stands_now}
+use Rattle.group_commit.specs.Settling.{Settled, settle}
+use Rattle.group_commit.proofs.SettlingLemmas.{settle-append}
+use Rattle.committer.specs.declared.committer.Committer.{Committer}
+use Rattle.committer.specs.CommitterWords.{store_of, held_of, got_of, taken, settled}
+use Rattle.service_threads.specs.Kept.{HasFailed, HasSettled, HasSettledAll, HasSettledSome, HasTurned, IsFresh, IsOnCourse, IsServedDisk, KeepsThrough, LeavesBeginnings, StandsForBeginning, StaysPut}
+
+-- ---- beginnings of a list
+
+-- what stands for a beginning of a list stands for one of a longer list
+longer : (first : State) (xs ys : List Request) (image : List ℕ) → StandsForBeginning first xs image → StandsForBeginning first (xs ++ ys) image
+longer first xs ys image (many, le, stands) =
+    let long : length (xs ++ ys) ≡ length xs + length ys = length-append xs ys in
+    (many, omega (arith, le, long), subst (λ (l : List Request). StandsFor (settle first l).state image) (sym (take-append-le many xs ys le)) stands)
+
+-- what stands for the whole list stands for a beginning of it
+whole : (first : State) (xs : List Request) (image : List ℕ) → StandsFor (settle first xs).state image → StandsForBeginning first xs image
+whole first xs image stands = (length xs, omega arith, subst (λ (l : List Request). StandsFor (settle first l).state image) (sym (take-length xs)) stands)
+
+-- one list after another
+then_settled : (first state : State) (xs ys : List Request) → state ≡ (settle first xs).state → (settle first (xs ++ ys)).state ≡ (settle state ys).state
+then_settled first state xs ys is = ap (λ (s : Settled). s.state) (settle-append first xs ys) ∙ ap (λ (s : State). (settle s ys).state) (sym is)
+
+-- ---- a device
+
+same_twice : (u v w : DiskView) → IsSameDevice u v → IsSameDevice v w → IsSameDevice u w
+same_twice u v w first second =
+    let a = first.no_fewer in
+    let b = second.no_fewer in
+    record { as_long = second.as_long ∙ first.as_long; model = second.model ∙ first.model; no_fewer = omega (arith, a, b) }
+
+same_still : (u : DiskView) → IsSameDevice u u
+same_still u = record { as_long = refl; model = refl; no_fewer = omega arith }
+
+-- nothing was settled
+pub none_settled : {D : Type 0} {V : _} → (store : Store D V) → is_down store ≡ false → HasSettled (state_of store) [] (view_of store) (view_of store)
+none_settled store up = record {
+  same = same_still (view_of store);
+  any_moment = λ model. started (view_of store) (StandsForBeginning (state_of store) []) (λ image left. whole (state_of store) [] image (stands_now store model up image left));
+}
+
+pub some_settled : {D : Type 0} {V : _} → (store : Store D V) → is_down store ≡ false → HasSettledSome (state_of store) (view_of store) (view_of store)
+some_settled store up = ([], none_settled store up)
+
+-- ---- turns
+
+-- a turn more
+pub turned_settles : {D R : Type 0} {V : _} → (first old new : Committer D R V) → IsOnCourse first old → HasTurned old new
+    → HasSettled (state_of (store_of first)) (got_of new) (view_of (store_of first)) (view_of (store_of new))
+turned_settles first old new on turn =
+    let s = state_of (store_of first) in
+    let got = got_of old in
+    let more = taken old new in
+    let all : got_of new ≡ got ++ more = turn.front in
+    let before : (image : List ℕ) → StandsForBeginning s got image → StandsForBeginning s (got_of new) image = λ image here.
+        subst (λ (l : List Request). StandsForBeginning s l image) (sym all) (longer s got more image here) in
+    let asked : settled old new ≡ settle (state_of (store_of old)) more = ap (λ (l : List Request). settle (state_of (store_of old)) (l ++ more)) on.held in
+    let then : (settle s (got ++ more)).state ≡ (settled old new).state = then_settled s (state_of (store_of old)) got more on.state ∙ ap (λ (t : Settled). t.state) (sym asked) in
+    let after : (image : List ℕ) → StandsFor (state_of (store_of old)) image ⊎ StandsFor (settled old new).state image → StandsForBeginning s (got_of new) image = λ image.
+        ⊎_elim (λ here. before image (whole s got image (subst (λ (t : State). StandsFor t image) on.state here)))
+        (λ here. subst (λ (l : List Request). StandsForBeginning s l image) (sym all) (whole s (got ++ more) image (subst (λ (t : State). StandsFor t image) (sym then) here))) in
+    record {
+      same = same_twice (view_of (store_of first)) (view_of (store_of old)) (view_of (store_of new)) on.settled.same turn.same;
+      any_moment = λ model.
+          let still : IsTrue (view_of (store_of old)).keeps_model = subst IsTrue (sym on.settled.same.model) model in
+          joined (view_of (store_of first)) (view_of (store_of old)) (view_of (store_of new)) (StandsForBeginning s got)
+          (λ image. StandsFor (state_of (store_of old)) image ⊎ StandsFor (settled old new).state image) (StandsForBeginning s (got_of new))
+          (on.settled.any_moment model) (turn.any_moment still on.up) before after;
+    }
+
+-- a turn more that settled all
+pub on_course_still : {D R : Type 0} {V : _} → (first old new : Committer D R V) → IsOnCourse first old → HasTurned old new → HasSettledAll old new → IsOnCourse first new
+on_course_still first old new on turn done =
+    let asked : settled old new ≡ settle (state_of (store_of old)) (taken old new) = ap (λ (l : List Request). settle (state_of (store_of old)) (l ++ taken old new)) on.held in
+    let all : (settle (state_of (store_of first)) (got_of new)).state ≡ (settled old new).state =
+        ap (λ (l : List Request). (settle (state_of (store_of first)) l).state) turn.front
+        ∙ then_settled (state_of (store_of first)) (state_of (store_of old)) (got_of old) (taken old new) on.state ∙ ap (λ (t : Settled). t.state) (sym asked) in
+    record {
+      up = done.up;
+      held = done.held;
+      state = done.state ∙ sym all;
+      settled = turned_settles first old new on turn;
+    }
+
+-- at the beginning
+pub on_course_first : {D R : Type 0} {V : _} → (c : Committer D R V) → IsFresh c → IsOnCourse c c
+on_course_first c fresh = record {
+  up = fresh.up;
+  held = fresh.held;
+  state = ap (λ (l : List Request). (settle (state_of (store_of c)) l).state) (sym fresh.got);
+  settled = subst (λ (l : List Request). HasSettled (state_of (store_of c)) l (view_of (store_of c)) (view_of (store_of c))) (sym fresh.got) (none_settled (store_of c) fresh.up);
+}
+
+-- ---- turns and rebuilds
+
+-- a rebuild behind a turn leaves what the turn left
+pub turned_still : {D R : Type 0} {V : _} → (old mid new : Committer D R V) → HasTurned old mid → StaysPut mid new → HasTurned old new
+turned_still {V = V} old mid new turn stays = record {
+  front = stays.got ∙ turn.front ∙ ap (λ (l : List Request). got_of old ++ drop (length (got_of old)) l) (sym stays.got);
+  same = subst (λ s. IsSameDevice (view_of (store_of old)) (view_of s)) (sym stays.store) turn.same;
+  any_moment = λ model up.
+      let left = subst (λ s. LeavesOnly (view_of (store_of old)) (view_of s) (λ image. StandsFor (state_of (store_of old)) image ⊎ StandsFor (settled old mid).state image)) (sym stays.store) (turn.any_moment model up) in
+      subst (λ (l : List Request). LeavesOnly (view_of (store_of old)) (view_of (store_of new))
+          (λ image. StandsFor (state_of (store_of old)) image ⊎ StandsFor (settle (state_of (store_of old)) (held_of old ++ drop (length (got_of old)) l)).state image)) (sym stays.got) left;
+}
+
+pub settled_still : {D R : Type 0} {V : _} → (old mid new : Committer D R V) → HasSettledAll old mid → StaysPut mid new → HasSettledAll old new
+settled_still old mid new done stays = record {
+  held = stays.held ∙ done.held;
+  state = ap (λ s. state_of s) stays.store ∙ done.state ∙ ap (λ (l : List Request). (settle (state_of (store_of old)) (held_of old ++ drop (length (got_of old)) l)).state) (sym stays.got);
+  up = ap (λ s. is_down s) stays.store ∙ done.up;
+}
+
+pub put_twice : {D R : Type 0} {V : _} → (old mid new : Committer D R V) → StaysPut old mid → StaysPut mid new → StaysPut old new
+put_twice old mid new first second = record { store = second.store ∙ first.store; held = second.held ∙ first.held; got = second.got ∙ first.got }
+
+pub fresh_still : {D R : Type 0} {V : _} → (old new : Committer D R V) → IsFresh old → StaysPut old new → IsFresh new
+fresh_still old new fresh stays = record { up = ap (λ s. is_down s) stays.store ∙ fresh.up; held = stays.held ∙ fresh.held; got = stays.got ∙ fresh.got }
+
+-- a committer that stayed put hands back a store on which nothing was settled
+pub some_settled_still : {D R : Type 0} {V : _} → (old new : Committer D R V) → is_down (store_of old) ≡ false → StaysPut old new → HasSettledSome (state_of (store_of old)) (view_of (store_of old)) (view_of (store_of new))
+some_settled_still old new up stays =
+    subst (λ s. HasSettledSome (state_of (store_of old)) (view_of (store_of old)) (view_of s)) (sym stays.store) (some_settled (store_of old) up)
+
+-- ---- the disk itself
+
+-- an opening, and what was settled behind it
+pub opened_leaves : (state first : State) (disk opened new : DiskView) → first ≡ state → OnlyRead disk opened → KeepsThrough disk state → IsTrue opened.keeps_model → HasSettledSome first opened new → LeavesBeginnings state disk new
+opened_leaves state first disk opened new same reads keeps model (requests, done) =
+    let run : LeavesOnly opened new (StandsForBeginning state requests) = subst (λ (s : State). LeavesOnly opened new (StandsForBeginning s requests)) same (done.any_moment model) in
+    let begun : (image : List ℕ) → StandsFor state image → StandsForBeginning state requests image = λ image here. (0, omega arith, here) in
+    (requests, joined disk opened new (StandsFor state) (StandsForBeginning state requests) (StandsForBeginning state requests) (reading_leaves disk opened (StandsFor state) reads keeps) run begun (λ image here. here))
+
+-- a device that was only read holds what it held
+pub read_leaves : (state : State) (disk new : DiskView) → OnlyRead disk new → KeepsThrough disk state → LeavesBeginnings state disk new
+read_leaves state disk new reads keeps =
+    ([], reading_leaves disk new (StandsForBeginning state []) reads (λ image left. whole state [] image (keeps image left)))
+
+-- what a service's thread leaves, where the disk comes back
+pub served_leaves : {D T : Type 0} {V : _} → (state : State) (disk : D) (store : Store D V) (result : Result T StopCause) (back : Option D) → state_of store ≡ state → OnlyRead (V.view disk) (view_of store) → KeepsThrough (V.view disk) state
+    → IsTrue (view_of store).keeps_model → IfSome back (λ d. IsServedDisk store result (V.view d)) → IfSome back (λ d. LeavesBeginnings state (V.view disk) (V.view d))
+served_leaves {V = V} state disk store result (Some d) same reads keeps model served =
+    opened_leaves state (state_of store) (V.view disk) (view_of store) (V.view d) same reads keeps model served.settled
+served_leaves state disk store result None same reads keeps model served = tt

@@ -1,0 +1,77 @@
+-- What a service leaves on its device, whatever ends it.
+use Rattle.std.specs.Prelude.{◌≡◌, ◌++◌, ◌⊎◌, ◌<◌, ◌≤◌, ℕ, List, [], length, take, IsErrOf, IsTrue, Result, false}
+use Rattle.disk_trait.specs.Disk.{DiskView, IsSameDevice, LeavesOnly, MayLeave}
+use Rattle.requests.specs.declared.request.Request.{Request}
+use Rattle.layout_2.specs.State.{State}
+use Rattle.layout_2.specs.Standing.{StandsFor}
+use Rattle.checkpoint.specs.declared.store.Store.{Store}
+use Rattle.checkpoint.specs.StoreWords.{state_of, view_of, is_down}
+use Rattle.group_commit.specs.Settling.{settle}
+use Rattle.committer.specs.declared.committer.Committer.{Committer}
+use Rattle.service_workers.specs.declared.stop_cause.StopCause.{StopCause}
+use Rattle.service_workers.specs.declared.stop_cause.StopCause.TheVariants.{Device}
+use Rattle.committer.specs.CommitterWords.{store_of, held_of, got_of, taken, settled}
+
+-- the image stands for the state after a beginning of these requests, settled from a state on
+abbrev pub StandsForBeginning : State → List Request → List ℕ → Type 0
+StandsForBeginning first requests image = (many : ℕ) × (many ≤ length requests) × StandsFor (settle first (take many requests)).state image
+
+-- From one view of a disk to another, these requests were settled on it: it is the same device, and a crash at any moment leaves the
+-- state after a beginning of them.
+pub record HasSettled (first : State) (requests : List Request) (old new : DiskView) : Type 0 where
+  pub same : IsSameDevice old new
+  pub any_moment : IsTrue old.keeps_model → LeavesOnly old new (StandsForBeginning first requests)
+
+-- the same of some requests
+abbrev pub HasSettledSome : State → DiskView → DiskView → Type 0
+HasSettledSome first old new = (requests : List Request) × HasSettled first requests old new
+
+-- each image that a crash may leave now stands for the state
+abbrev pub KeepsThrough : DiskView → State → Type 0
+KeepsThrough disk state = (image : List ℕ) → MayLeave disk image → StandsFor state image
+
+-- nothing was taken or committed
+pub record StaysPut {D R : Type 0} {V : _} (old new : Committer D R V) : Type 0 where
+  pub store : store_of new ≡ store_of old
+  pub held : held_of new ≡ held_of old
+  pub got : got_of new ≡ got_of old
+
+-- A turn took requests from the queue: it is the same device, and a crash at any moment of it leaves the state before the turn or the
+-- one after the whole group.
+pub record HasTurned {D R : Type 0} {V : _} (old new : Committer D R V) : Type 0 where
+  pub front : got_of new ≡ got_of old ++ taken old new
+  pub same : IsSameDevice (view_of (store_of old)) (view_of (store_of new))
+  pub any_moment : IsTrue (view_of (store_of old)).keeps_model → is_down (store_of old) ≡ false
+      → LeavesOnly (view_of (store_of old)) (view_of (store_of new)) (λ image. StandsFor (state_of (store_of old)) image ⊎ StandsFor (settled old new).state image)
+
+-- and settled all of them
+pub record HasSettledAll {D R : Type 0} {V : _} (old new : Committer D R V) : Type 0 where
+  pub held : held_of new ≡ []
+  pub state : state_of (store_of new) ≡ (settled old new).state
+  pub up : is_down (store_of new) ≡ false
+
+-- the device failed between two views
+abbrev pub HasFailed : DiskView → DiskView → Type 0
+HasFailed old new = old.failures < new.failures
+
+-- a committer at its beginning
+pub record IsFresh {D R : Type 0} {V : _} (c : Committer D R V) : Type 0 where
+  pub up : is_down (store_of c) ≡ false
+  pub held : held_of c ≡ []
+  pub got : got_of c ≡ []
+
+-- From its beginning on a committer settled all that it took.
+pub record IsOnCourse {D R : Type 0} {V : _} (first now : Committer D R V) : Type 0 where
+  pub up : is_down (store_of now) ≡ false
+  pub held : held_of now ≡ []
+  pub state : state_of (store_of now) ≡ (settle (state_of (store_of first)) (got_of now)).state
+  pub settled : HasSettled (state_of (store_of first)) (got_of now) (view_of (store_of first)) (view_of (store_of now))
+
+-- What a service's thread leaves of the disk that a store was on: requests were settled on it, and it failed where that is the cause.
+pub record IsServedDisk {D T : Type 0} {V : _} (store : Store D V) (result : Result T StopCause) (new : DiskView) : Type 0 where
+  pub settled : HasSettledSome (state_of store) (view_of store) new
+  pub device : IsErrOf result Device → HasFailed (view_of store) new
+
+-- for some requests, a crash at any moment from one view to the other leaves the state after a beginning of them
+abbrev pub LeavesBeginnings : State → DiskView → DiskView → Type 0
+LeavesBeginnings first old new = (requests : List Request) × LeavesOnly old new (StandsForBeginning first requests)

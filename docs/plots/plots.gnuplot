@@ -1,0 +1,56 @@
+# Draws the pictures of docs/PERFORMANCE.md out of the CSV files beside it:  cd docs/plots && gnuplot plots.gnuplot
+set datafile separator ","
+set terminal svg size 720,440 font "sans-serif,13" background "#ffffff"
+set key left top
+set grid lc rgb "#dddddd"
+set style data linespoints
+set border 3
+set tics nomirror
+
+set output "tables.svg"
+set title "Bytes of a node's table"
+set xlabel "nodes"
+set ylabel "bytes"
+set logscale xy 2
+set xrange [900:18000]
+plot "tables.csv" using ($1):($2) title "full table, 2 bytes a node" lw 2 lc rgb "#888888", \
+     "" using ($1):($3) title "drawn network, mean" lw 2 lc rgb "#1f77b4", \
+     "" using ($1):($4) title "drawn network, greatest" lw 1 dt 2 lc rgb "#1f77b4", \
+     "" using ($1):($5) title "power law, mean" lw 2 lc rgb "#d62728", \
+     "" using ($1):($6) title "grid, mean" lw 2 lc rgb "#2ca02c"
+unset logscale
+set autoscale x
+
+set output "stretch.svg"
+set title "Stretch of routes: 4,096 nodes, 10,000 pairs, sorted"
+set xlabel "pairs, percent"
+set ylabel "length over the shortest"
+set xrange [0:100]
+set yrange [0.9:3.1]
+plot "stretch.csv" using 1:2 title "drawn" with lines lw 2 lc rgb "#1f77b4", \
+     "" using 1:3 title "power law" with lines lw 2 lc rgb "#d62728", \
+     "" using 1:4 title "grid" with lines lw 2 lc rgb "#2ca02c", \
+     3 title "proved bound" with lines lw 1 dt 2 lc rgb "#888888"
+set autoscale xy
+
+set output "builds.svg"
+set title "Building the tables of a drawn network"
+set xlabel "nodes"
+set ylabel "milliseconds"
+set logscale xy 2
+set xrange [900:18000]
+plot "builds.csv" using 1:5 title "one search a node, as a full table needs" lw 2 lc rgb "#888888", \
+     "" using 1:2 title "tznode, one worker" lw 2 lc rgb "#1f77b4", \
+     "" using 1:3 title "tznode, four workers" lw 2 lc rgb "#17becf", \
+     "" using 1:4 title "plain Rust, one thread" lw 2 lc rgb "#d62728"
+unset logscale
+set autoscale xy
+
+set output "commits.svg"
+set title "Edits a second, each on the disk before it is answered"
+set xlabel "sessions at once"
+set ylabel "edits a second"
+set logscale x 2
+set xrange [0.9:70]
+set yrange [0:*]
+plot "commits.csv" using 1:2 title "tznode serve, 16 nodes" lw 2 lc rgb "#1f77b4"
