@@ -1,15 +1,21 @@
 // Texts that are read, and the lines of what they ask for.
 ghost use Rattle.rehearsal_lines.specs.Grammar.{IsRehearsal};
 
+use checkpoint::OpenRefused;
 use disk_trait::Plan;
+use event_runs::Reply;
+use forwarders::Refused as RouteRefused;
 use graph_edits::{Change, Op};
+use group_commit::DeskRefused;
+use intake::SubmitRefused;
 use rehearsal_lines::{Form, LifeLine, LineRefused, RehearsalLine, read_rehearsal};
-use rehearsals::{Rehearsal, lives_of, rehearse};
+use rehearsals::{NotOpenedLine, Rehearsal, RehearseRefused, ReplyLine, lives_of, rehearse};
 use std::alloc::Global;
 use std::process::Abort;
 use written_values::LandmarkWords;
 
 mod examples;
+mod memory;
 mod reading;
 mod told;
 

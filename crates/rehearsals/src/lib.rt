@@ -40,4 +40,4 @@ pub use asked::{Rehearsal, lives_of};
 pub use life_lines::{CrashLine, NotOpenedLine, OpenedLine};
 pub use lines::ReplyLine;
 pub use report::report_text;
-pub use run::{RehearseRefused, rehearse};
+pub use run::{RehearseRefused, formatted_device, rehearse};

@@ -41,15 +41,15 @@ pub fn rehearse(alloc: Global, rehearsal: &Rehearsal) -> Result<String, Rehearse
     ensures printed { IfOk result (λ text. IsRehearsed ⟦<MemDisk as Disk>⟧ rehearsal.now.nodes rehearsal.now.lives.items (length rehearsal.now.lives.items - 1) (string_bytes text)) }
     ensures nodes { IsErrOf result RehearseRefused.Nodes → ¬ ((1 ≤ rehearsal.now.nodes) × (rehearsal.now.nodes ≤ 16384)) }
 {
-    let disk = made(alloc, rehearsal.nodes)?;
+    let disk = formatted_device(alloc, rehearsal.nodes)?;
     let (report, _) = lives_in_memory(alloc, disk, &rehearsal.lives);
     let report = report?;
     let whole = rehearsal.lives.len().saturating_sub(1);
     Ok(report_text(alloc, whole, &report)?)
 }
 
-// A device in memory, formatted for so many nodes.
-fn made(alloc: Global, nodes: u16) -> Result<MemDisk, RehearseRefused>
+/// A device in memory, formatted for so many nodes.
+pub fn formatted_device(alloc: Global, nodes: u16) -> Result<MemDisk, RehearseRefused>
     ensures formatted { IfOk result (λ disk. StandsFor (first_state nodes) (mem_view disk).content) }
     ensures nodes { IsErrOf result RehearseRefused.Nodes → ¬ ((1 ≤ nodes) × (nodes ≤ 16384)) }
 {

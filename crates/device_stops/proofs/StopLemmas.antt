@@ -1,0 +1,43 @@
+-- Lists that are cut off.
+use Rattle.std.proofs.Common.{◌≡◌, ◌∙◌, refl, sym, ap, ℕ, zero, suc, ◌+◌, ◌<◌, List, [], ◌∷◌, ◌++◌, append_assoc, append-nil, get_or, length, map, take, arith, ◌≤◌}
+use Rattle.std.specs.List.{range_with_len}
+use Rattle.std.proofs.lemmas.List.{length-take-le, take_more}
+use Rattle.std.proofs.lemmas.List.FromFn.{map-range_with_len_more}
+use Rattle.device_stops.specs.declared.stops.Call.{Call}
+use Rattle.device_stops.specs.declared.stops.Stop.{Stop}
+use Rattle.device_stops.specs.Stops.{stop, stops_at, stops_from}
+
+-- what is cut off once is cut off
+pub cut_more : {X : Type 0} → (most : ℕ) (xs ys : List X) → take most (take most xs ++ ys) ≡ take most (xs ++ ys)
+cut_more zero xs ys = refl
+cut_more (suc n) [] ys = refl
+cut_more (suc n) (x ∷ xs) ys = ap (λ l. x ∷ l) (cut_more n xs ys)
+
+-- one stop of a call more
+pub one_put_more : (most number put : ℕ) (old so_far new : List Stop) → so_far ≡ take most (old ++ map (stop number) (range_with_len 0 put)) → new ≡ take most (so_far ++ stop number put ∷ [])
+    → new ≡ take most (old ++ map (stop number) (range_with_len 0 (put + 1)))
+one_put_more most number put old so_far new was is =
+    let here : List Stop = old ++ map (stop number) (range_with_len 0 put) in
+    is ∙ ap (λ l. take most (l ++ stop number put ∷ [])) was ∙ cut_more most here (stop number put ∷ [])
+    ∙ ap (λ l. take most l) (append_assoc old (map (stop number) (range_with_len 0 put)) (stop number put ∷ []))
+    ∙ ap (λ l. take most (old ++ l)) (sym (map-range_with_len_more (stop number) 0 put put (omega arith)))
+
+-- the stops of one call more
+stops_behind : (number : ℕ) (calls : List Call) (call : Call) → stops_from number (calls ++ call ∷ []) ≡ stops_from number calls ++ stops_at (number + length calls) call
+stops_behind number [] call =
+    let e : number ≡ number + 0 = omega arith in
+    append-nil (stops_at number call) ∙ ap (λ (n : ℕ). stops_at n call) e
+stops_behind number (c ∷ cs) call =
+    let e : number + 1 + length cs ≡ number + suc (length cs) = omega arith in
+    ap (λ (l : List Stop). stops_at number c ++ l) (stops_behind (number + 1) cs call)
+    ∙ sym (append_assoc (stops_at number c) (stops_from (number + 1) cs) (stops_at (number + 1 + length cs) call))
+    ∙ ap (λ (n : ℕ). (stops_at number c ++ stops_from (number + 1) cs) ++ stops_at n call) e
+
+pub one_call_more : (most : ℕ) (calls : List Call) (i : ℕ) (call : Call) (so_far new : List Stop) → i < length calls → call ≡ get_or calls i call → so_far ≡ take most (stops_from 1 (take i calls)) → new ≡ take most (so_far ++ stops_at (i + 1) call)
+    → new ≡ take most (stops_from 1 (take (i + 1) calls))
+one_call_more most calls i call so_far new within at was is =
+    let more : take (i + 1) calls ≡ take i calls ++ call ∷ [] = take_more calls i call within ∙ ap (λ (c : Call). take i calls ++ c ∷ []) (sym at) in
+    let le : i ≤ length calls = omega arith in
+    let e : 1 + length (take i calls) ≡ i + 1 = omega (arith, length-take-le i calls le) in
+    is ∙ ap (λ (l : List Stop). take most (l ++ stops_at (i + 1) call)) was ∙ cut_more most (stops_from 1 (take i calls)) (stops_at (i + 1) call)
+    ∙ ap (λ (l : List Stop). take most l) (sym (ap (λ (l : List Call). stops_from 1 l) more ∙ stops_behind 1 (take i calls) call ∙ ap (λ (n : ℕ). stops_from 1 (take i calls) ++ stops_at n call) e))

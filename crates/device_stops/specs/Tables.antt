@@ -1,0 +1,67 @@
+-- Kinds of trials, and a table of them.
+use Rattle.std.specs.Prelude.{◌≡◌, ◌==◌, ◌&&◌, ℕ, suc, ◌+◌, ◌<◌, nat_lt, Bool, true, false, cond, List, [], ◌∷◌, ◌++◌, get_or, length, codes, decimal}
+use Rattle.std.specs.List.{AllByRecursion, count_by, sum_by}
+use Rattle.device_stops.specs.declared.kinds.Kind.{Kind}
+use Rattle.device_stops.specs.declared.kinds.KindCount.{KindCount}
+
+-- whether one kind stands before another: by what the life found, then by what was acknowledged, then by what the next opening found
+abbrev pub is_below : Kind → Kind → Bool
+is_below a b =
+    cond (a.found == b.found)
+    (cond (a.acknowledged == b.acknowledged) (nat_lt a.opened b.opened) (nat_lt a.acknowledged b.acknowledged))
+    (nat_lt a.found b.found)
+
+-- whether two kinds are the same
+abbrev pub is_kind : Kind → Kind → Bool
+is_kind a b = (a.found == b.found) && ((a.acknowledged == b.acknowledged) && (a.opened == b.opened))
+
+-- how many of these trials are of this kind
+abbrev pub times : Kind → List Kind → ℕ
+times kind kinds = count_by (is_kind kind) kinds
+
+-- how many trials all rows count
+abbrev pub all_trials : List KindCount → ℕ
+all_trials rows = sum_by (λ row. row.trials) rows
+
+-- each row stands before all those behind it
+abbrev pub Ascend : List KindCount → Type 0
+Ascend [] = Unit {0}
+Ascend (row ∷ rows) = AllByRecursion (λ later. is_below row.kind later.kind ≡ true) rows × Ascend rows
+
+-- A table of trials: its rows ascend, each counts exactly the trials of its kind, and together they count all trials.
+pub record IsTableOf (kinds : List Kind) (rows : List KindCount) : Type 0 where
+  pub ascending : Ascend rows
+  pub each : AllByRecursion (λ row. row.trials ≡ times row.kind kinds) rows
+  pub all : all_trials rows ≡ length kinds
+
+-- how many rows in front stand before a kind
+abbrev pub place_in : List KindCount → Kind → ℕ
+place_in [] kind = 0
+place_in (row ∷ rows) kind = cond (is_below row.kind kind) (suc (place_in rows kind)) 0
+
+-- the row at this place counts this kind
+abbrev pub CountsAt : List KindCount → ℕ → Kind → Type 0
+CountsAt rows place kind = (place < length rows) × ((d : KindCount) → is_kind (get_or rows place d).kind kind ≡ true)
+
+-- no row at this place counts this kind
+abbrev pub IsFree : List KindCount → ℕ → Kind → Type 0
+IsFree rows place kind = place < length rows → (d : KindCount) → is_kind (get_or rows place d).kind kind ≡ false
+
+-- the row of one trial
+abbrev pub first_of : Kind → KindCount
+first_of kind = record { kind = kind; trials = 1 }
+
+-- the rows with one trial of this kind more
+abbrev pub counted : List KindCount → Kind → List KindCount
+counted [] kind = first_of kind ∷ []
+counted (row ∷ rows) kind =
+    cond (is_below row.kind kind) (row ∷ counted rows kind)
+    (cond (is_kind row.kind kind) (record row { trials = row.trials + 1 } ∷ rows) (first_of kind ∷ (row ∷ rows)))
+
+-- a row as it is printed
+abbrev pub count_text : KindCount → List ℕ
+count_text row =
+    codes "found=" ++ (decimal row.kind.found
+    ++ (codes " acknowledged=" ++ (decimal row.kind.acknowledged
+    ++ (codes " opened=" ++ (decimal row.kind.opened
+    ++ (codes " stops=" ++ decimal row.trials))))))

@@ -1,0 +1,17 @@
+-- A watched disk, as contracts see it.
+use Rattle.std.specs.Prelude.{IsTrue}
+use Rattle.disk_trait.specs.declared.memory.MemDisk.{MemDisk}
+use Rattle.disk_trait.specs.Disk.{DiskView, MayLeave}
+use Rattle.disk_trait.specs.Memory.{mem_view, mem_present}
+use Rattle.device_stops.specs.declared.watched.Watched.{Watched}
+
+-- the disk that is watched
+abbrev pub disk_in : Watched → MemDisk
+disk_in watched = watched.disk
+
+-- what is seen of it
+abbrev pub watched_view : Watched → DiskView
+watched_view watched = mem_view watched.disk
+
+pub watched_present : (watched : Watched) → IsTrue (watched_view watched).keeps_model → MayLeave (watched_view watched) (watched_view watched).content
+watched_present watched = mem_present watched.disk

@@ -1,0 +1,76 @@
+//! The stops of calls.
+ghost use Rattle.std.specs.Prelude.{◌≡◌, ◌≤◌, ◌++◌, [], ◌∷◌, length, take, IfOk, OnOk};
+ghost use Rattle.device_stops.specs.Stops.{bytes_of, first_stops, stops_at};
+
+use std::alloc::{AllocError, Global};
+
+/// A call of a device.
+#[derive(Clone, Copy, Debug, PartialEq, Eq, Drop)]
+pub enum Call {
+    Read,
+    /// A write of so many bytes.
+    Write(usize),
+    Sync,
+}
+
+impl Call {
+    /// How many bytes it puts.
+    pub fn bytes(self) -> usize
+        ensures { result ≡ bytes_of self }
+    {
+        match self {
+            Call::Read | Call::Sync => 0,
+            Call::Write(bytes) => bytes,
+        }
+    }
+}
+
+/// The device stops at this call, and puts so many bytes of it.
+#[derive(Clone, Copy, Debug, PartialEq, Eq, Drop)]
+pub struct Stop {
+    /// Counted from 1.
+    pub call: u64,
+    pub put: usize,
+}
+
+/// The first `most` stops of these calls, or all of them where there are no more: of each call in turn none of its bytes is put, one,
+/// two, and so on, and at last all of them.
+pub fn stops_of(alloc: Global, calls: &[Call], most: usize) -> Result<Vec<Stop>, AllocError>
+    ensures { IfOk result (λ stops. stops.items ≡ first_stops most calls.now) }
+{
+    let mut stops = Vec::new(alloc);
+    for i in 0..calls.len() {
+        push_stops(&mut stops, i as u64 + 1, calls[i], most)?;
+    }
+    Ok(stops)
+}
+
+// The stops of one call behind the others, as long as there are fewer than `most`.
+fn push_stops(stops: &mut Vec<Stop>, number: u64, call: Call, most: usize) -> Result<(), AllocError>
+    requires { length stops.old.items ≤ most }
+    ensures few { length stops.new.items ≤ most }
+    ensures more { OnOk result (stops.new.items ≡ take most (stops.old.items ++ stops_at number call)) }
+{
+    let bytes = call.bytes();
+    for put in 0..bytes {
+        push_stop(stops, Stop { call: number, put }, most)?;
+    }
+    let whole = Stop {
+        call: number,
+        put: bytes,
+    };
+    push_stop(stops, whole, most)?;
+    Ok(())
+}
+
+// One stop behind the others, if there are fewer than `most`.
+fn push_stop(stops: &mut Vec<Stop>, stop: Stop, most: usize) -> Result<(), AllocError>
+    requires { length stops.old.items ≤ most }
+    ensures few { length stops.new.items ≤ most }
+    ensures more { OnOk result (stops.new.items ≡ take most (stops.old.items ++ stop ∷ [])) }
+{
+    if stops.len() < most {
+        stops.push(stop)?;
+    }
+    Ok(())
+}

@@ -1,0 +1,65 @@
+// Stops of calls, and tables of kinds.
+use super::*;
+
+// A read has one stop, a write of two bytes three, a sync one.
+#[test]
+fn lists_the_stops_of_calls(rt: HostRuntime) {
+    let calls = [Call::Read, Call::Write(2), Call::Sync];
+    let want = [(1, 0), (2, 0), (2, 1), (2, 2), (3, 0)].map(|(call, put)| Stop { call, put });
+    for most in 0..6usize {
+        let stops = got(&rt, stops_of(rt.alloc(), &calls, most));
+        assert_eq!(rt; stops.as_slice(), &want[..most.min(5)], "{most}");
+    }
+}
+
+#[test]
+fn notes_the_calls_since_it_was_armed(rt: HostRuntime) {
+    let disk = got(&rt, MemDisk::new(rt.alloc(), 16));
+    let mut disk = Watched::new(rt.alloc(), disk, 2);
+    got(&rt, disk.sync());
+    disk.arm(Plan::Fail(2));
+    got(&rt, disk.write_at(3, &[1, 2, 3]));
+    assert!(rt; disk.sync().is_err());
+    let mut bytes = [0; 4];
+    got(&rt, disk.read(2, &mut bytes));
+    assert_eq!(rt; bytes, [0, 1, 2, 3]);
+    let noted = got(&rt, disk.into_calls());
+    assert_eq!(rt;
+        noted.calls.as_slice(),
+        [Call::Write(3), Call::Sync].as_slice()
+    );
+    // Four of the write, and one of each of the others.
+    assert_eq!(rt; noted.stops, 6);
+}
+
+const fn kind(found: u64, acknowledged: u64, opened: u64) -> Kind {
+    Kind {
+        found,
+        acknowledged,
+        opened,
+    }
+}
+
+// Seven trials of four kinds, of which each two differ in one number.
+#[test]
+fn counts_kinds_in_order(rt: HostRuntime) {
+    let kinds = [
+        kind(1, 2, 3),
+        kind(1, 2, 4),
+        kind(0, 2, 3),
+        kind(1, 2, 3),
+        kind(1, 1, 3),
+        kind(1, 2, 3),
+        kind(0, 2, 3),
+    ];
+    let want = [
+        (kind(0, 2, 3), 2),
+        (kind(1, 1, 3), 1),
+        (kind(1, 2, 3), 3),
+        (kind(1, 2, 4), 1),
+    ]
+    .map(|(kind, trials)| KindCount { kind, trials });
+    let table = got(&rt, table_of(rt.alloc(), &kinds));
+    assert_eq!(rt; table.as_slice(), want.as_slice());
+    assert!(rt; got(&rt, table_of(rt.alloc(), &[])).is_empty());
+}

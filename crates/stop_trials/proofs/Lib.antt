@@ -1,0 +1,4 @@
+mod ArmingLemmas
+mod CountLemmas
+mod KindLemmas
+mod EveryLemmas

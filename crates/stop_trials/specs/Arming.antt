@@ -1,0 +1,18 @@
+-- The plan of the last life that is written.
+use Rattle.std.specs.Prelude.{ℕ, zero, suc, ◌-◌, List, [], ◌∷◌, length}
+use Rattle.disk_trait.specs.declared.plan.Plan.{Plan}
+use Rattle.life_chain.specs.declared.life.Life.{Life}
+
+-- a life whose device has this plan
+abbrev pub planned : Plan → Life → Life
+planned plan life = record life { plan = plan }
+
+-- lives of which the one at this place has this plan
+abbrev pub armed_at : ℕ → Plan → List Life → List Life
+armed_at place plan [] = []
+armed_at zero plan (life ∷ lives) = planned plan life ∷ lives
+armed_at (suc place) plan (life ∷ lives) = life ∷ armed_at place plan lives
+
+-- Lives of which the last but one has this plan: it is the last that is written, since behind it comes one that only opens.
+abbrev pub armed_with : Plan → List Life → List Life
+armed_with plan lives = armed_at (length lives - 2) plan lives

@@ -1,0 +1,4 @@
+pub mod Arming
+pub mod Kinds
+pub mod Texts
+pub mod Trials

@@ -1,0 +1,38 @@
+//! A rehearsal tried with its device stopped at every call: what the next opening finds.
+//!
+//! # What it is
+//!
+//! The last life that a rehearsal's text asks for is run again and again, each time on a new device that stops at another of the calls
+//! which that life makes of it, and behind another number of bytes of a write. Behind it comes the life that only opens. [`try_stop`] is
+//! one such trial, [`try_every_stop`] all of them, and what it answers is a table of what they came to.
+//!
+//! # The contract
+//!
+//! What a trial answers is of the report of one call of `lives_in_memory` (`IsStopFound`, specs/Trials.antt): of the rehearsal's very lives
+//! but for that one plan, on a device in memory that was formatted for so many nodes. So the clauses of that call hold of it: each life is
+//! of the very disk that the crash of the one before left, each opening finds a prefix of what was taken, with all that commits had
+//! answered Ok for, and each ticket is in at most once. One thing follows of the three numbers that are told (`kept`): what the stopped
+//! life found, and what its commits answered Ok for, are no more than the next opening found.
+//!
+//! The table's lines count exactly the trials of their kind, ascend, and together count all trials (`IsTried`).
+//!
+//! Which stops there are is known from one run of the lives on a disk that notes its calls ([`calls_of_last`]). No clause says that a
+//! trial meets these very calls, and none needs it: each trial is judged by what it left.
+//!
+//! | Line | Is |
+//! |---|---|
+//! | `stops=N of=M` | N stops were tried, of M that there are |
+//! | `found=F acknowledged=A opened=O stops=N` | after N of these stops the next opening found O changes, where the stopped life had found F when it opened, and its commits had answered Ok for A |
+#![tactic(auto)]
+
+mod arming;
+mod every;
+mod found;
+mod listing;
+mod texts;
+mod trial;
+
+pub use every::{try_every_stop, try_stops};
+pub use listing::calls_of_last;
+pub use texts::trials_text;
+pub use trial::{StopFound, try_stop};
