@@ -1,6 +1,4 @@
 // What the tests share.
-ghost use Rattle.rehearsal_lines.specs.Grammar.{IsRehearsal};
-
 use device_stops::{Call, Kind, KindCount, Stop, Watched, stops_of, table_of};
 use disk_trait::{CrashDisk, Disk, MemDisk, Plan};
 use rehearsal_lines::{RehearsalLine, read_rehearsal};

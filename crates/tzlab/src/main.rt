@@ -2,62 +2,109 @@
 //!
 //! | Command | Does |
 //! |---|---|
-//! | `rehearse FILE` | runs the lives that a text asks for, on a device in memory, and prints the report of the proved call |
+//! | `import DEVICE FILE [--nodes N]` | brings an edge list to a device, by the proved call of `network_import` |
+//! | `export DEVICE [--as edges\|csv\|dot\|json]` | prints the network of a device |
+//! | `info DEVICE [--json]` | prints what a device holds, in a few figures |
+//! | `stats DEVICE --words W ..` | builds a device's scheme, and prints how large its tables and how long its ways are |
+//! | `time DEVICE --words W [--runs R]` | times an opening, builds, searches, packets and commits |
+//! | `rehearse FILE [--every-stop]` | runs the lives that a text asks for, on a device in memory, and prints the report of the proved call |
 //!
 //! The grammar is clap's (`grammar.rt`), with its own help, and each command has a file of its own. A command answers the exit status: 0
-//! where it did what was asked for, 2 where the words or a line of the file aren't understood, and 1 where the file can't be read, the
-//! output can't be written or memory ran out. What went wrong is told on standard error as `tzlab: TEXT`, with the file, the line's number
-//! and the system's own error where there are such.
+//! where it did what was asked for, 2 where the words or a line of the file aren't understood, and 1 where an edge or a name is refused, a
+//! file or a device can't be used, the output can't be written or memory ran out. What went wrong is told on standard error as
+//! `tzlab: TEXT`, with the file, the line's number and the system's own error where there are such.
 #![tactic(auto)]
 
+use clap::ArgMatches;
+use std::alloc::AllocError;
 use std::env;
-use std::io::Write;
 use std::process::ExitCode;
+use std::sync::Wait;
+use std::thread::Threads;
 
+mod commits;
+mod device;
+mod export;
 mod grammar;
+mod hops;
+mod import;
+mod info;
 mod rehearse;
+mod samples;
+mod stats;
+mod telling;
+mod time;
+mod walks;
+
+use telling::told;
 
 fn main(rt: HostRuntime) -> ExitCode {
-    let mut words = Vec::new(rt.alloc());
-    let Ok(given) = env::args(&rt) else {
-        return told(&rt, 1, "the words can't be had");
+    let given = match arguments(&rt) {
+        Ok(given) => given,
+        Err(status) => return ExitCode::from(status),
     };
-    for word in given.skip(1) {
-        if words.push(word).is_err() {
-            return told(&rt, 1, "out of memory");
-        }
-    }
-    ExitCode::from(run(&rt, &words))
-}
-
-// Tells a fault that names no file.
-fn told(rt: &HostRuntime, status: u8, text: &str) -> ExitCode {
-    let _told = writeln!(rt.stderr(), "tzlab: {text}");
+    let words = match borrowed(&rt, &given) {
+        Ok(words) => words,
+        Err(_) => return ExitCode::from(told(&rt, 1, "out of memory")),
+    };
+    let status = match parsed(&rt, &words) {
+        Ok(found) => run(&rt, &rt, &found),
+        Err(status) => status,
+    };
     ExitCode::from(status)
 }
 
-// Does what the words ask for, and answers the exit status.
-fn run(rt: &HostRuntime, given: &[String]) -> u8 {
+// Does what the words ask for, and answers the exit status. Schemes are built in threads.
+fn run<R: Threads + Wait + Sync + Copy + Drop>(
+    rt: &HostRuntime,
+    threads: &R,
+    found: &ArgMatches<'_>,
+) -> u8 {
+    match found.subcommand() {
+        Some(("import", found)) => import::run(rt, found),
+        Some(("export", found)) => export::run(rt, found),
+        Some(("info", found)) => info::run(rt, found),
+        Some(("stats", found)) => stats::run(rt, threads, found),
+        Some(("time", found)) => time::run(rt, threads, found),
+        Some(("rehearse", found)) => rehearse::run(rt, found),
+        _ => 2,
+    }
+}
+
+// The program's words, without its name, or the exit status where they can't be had.
+fn arguments(rt: &HostRuntime) -> Result<Vec<String>, u8> {
+    let Ok(given) = env::args(rt) else {
+        return Err(told(rt, 1, "the words can't be had"));
+    };
     let mut words = Vec::new(rt.alloc());
-    for word in given {
-        if words.push(word.as_str()).is_err() {
-            return 1;
+    for word in given.skip(1) {
+        if words.push(word).is_err() {
+            return Err(told(rt, 1, "out of memory"));
         }
     }
-    let parsed = match grammar::grammar(rt.alloc()) {
-        Ok(command) => command.try_get_matches_from(&words),
-        Err(_) => return 1,
+    Ok(words)
+}
+
+fn borrowed<'a>(rt: &HostRuntime, given: &'a [String]) -> Result<Vec<&'a str>, AllocError> {
+    let mut words = Vec::with_capacity(rt.alloc(), given.len())?;
+    for word in given {
+        words.push(word.as_str())?;
+    }
+    Ok(words)
+}
+
+// What the words ask for, or the exit status where clap has answered them itself.
+fn parsed<'a>(rt: &HostRuntime, words: &'a [&'a str]) -> Result<ArgMatches<'a>, u8> {
+    let Ok(command) = grammar::grammar(rt.alloc()) else {
+        return Err(told(rt, 1, "out of memory"));
     };
-    match parsed {
-        Ok(found) => match found.subcommand() {
-            Some(("rehearse", found)) => rehearse::run(rt, found),
-            _ => 2,
-        },
+    match command.try_get_matches_from(words) {
+        Ok(found) => Ok(found),
         Err(error) => {
             let status: u8 = if error.use_stderr() { 2 } else { 0 };
             match error.print(rt) {
-                Ok(()) => status,
-                Err(_) => 1,
+                Ok(()) => Err(status),
+                Err(_) => Err(1),
             }
         }
     }

@@ -1,6 +1,7 @@
 // The command `rehearse`.
 ghost use Rattle.rehearsal_lines.specs.Grammar.{IsRehearsal};
 
+use crate::telling::{printed, told};
 use clap::ArgMatches;
 use rehearsal_lines::{RehearsalLine, read_rehearsal};
 use rehearsals::{Rehearsal, RehearseRefused, lives_of, rehearse};
@@ -94,27 +95,10 @@ fn progress_ends(rt: &HostRuntime, shown: bool) {
 // Prints what was answered, and answers the exit status.
 fn answered(rt: &HostRuntime, text: Result<String, RehearseRefused>) -> u8 {
     match text {
-        Ok(text) => printed(rt, text.as_str()),
+        Ok(text) => printed(rt, text.as_bytes()),
         Err(refused) => {
             let _told = writeln!(rt.stderr(), "tzlab: {refused}");
             1
         }
-    }
-}
-
-fn told(rt: &HostRuntime, status: u8, text: &str) -> u8 {
-    let _told = writeln!(rt.stderr(), "tzlab: {text}");
-    status
-}
-
-// Prints a text, and answers the exit status.
-fn printed(rt: &HostRuntime, text: &str) -> u8 {
-    let mut out = rt.stdout();
-    match out.write_all(text.as_bytes()) {
-        Ok(()) => match out.flush() {
-            Ok(()) => 0,
-            Err(_) => told(rt, 1, "output failed"),
-        },
-        Err(_) => told(rt, 1, "output failed"),
     }
 }

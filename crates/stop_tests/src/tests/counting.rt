@@ -18,9 +18,11 @@ fn notes_the_calls_since_it_was_armed(rt: HostRuntime) {
     let mut disk = Watched::new(rt.alloc(), disk, 2);
     got(&rt, disk.sync());
     disk.arm(Plan::Fail(2));
+    assert!(rt; disk.len() == 16);
     got(&rt, disk.write_at(3, &[1, 2, 3]));
     assert!(rt; disk.sync().is_err());
     let mut bytes = [0; 4];
+    assert!(rt; disk.len() == 16);
     got(&rt, disk.read(2, &mut bytes));
     assert_eq!(rt; bytes, [0, 1, 2, 3]);
     let noted = got(&rt, disk.into_calls());

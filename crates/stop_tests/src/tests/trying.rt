@@ -5,6 +5,8 @@
 // A write of b bytes has b + 1 stops, a sync has one. So one request of one op, 21 bytes, has 27 + 1 + 2 + 1 = 31 stops: at the last two
 // of them the gate was put. The next opening finds the change then if the crash leaves what was written (1), and doesn't if it leaves
 // what the last good sync had settled (0).
+ghost use Rattle.rehearsal_lines.specs.Grammar.{IsRehearsal};
+
 use super::*;
 
 // The lines of a text that is a rehearsal.

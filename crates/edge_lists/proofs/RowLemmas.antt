@@ -1,0 +1,124 @@
+-- Rows, a line more at a time.
+use Rattle.std.proofs.Common.{arith, ◌≡◌, ◌≢◌, ◌≤◌, ◌<◌, ◌+◌, ◌-◌, ◌^◌, ◌∙◌, ◌⊎◌, inl, inr, sym, ap, subst, refl, ℕ, zero, suc, List, [], ◌∷◌, ◌++◌, Bool, true, false, map, length, take, drop, get_or, append_assoc, Bor}
+use Rattle.edge_lists.specs.Rows.{IsFirstRefused, IsNoRow, IsRowOf, IsWeight, Said, Say, fields_of, lead, says_nothing, words_of}
+
+-- no fields say no edge
+pub no_row_of_none : (fields : List (List ℕ)) → fields ≡ [] → IsNoRow fields
+no_row_of_none fields is line said row = let bad : [] ≡ said.a ∷ said.b ∷ row.behind = sym is ∙ row.written in cc
+
+-- nor does one
+pub no_row_of_one : (fields behind : List (List ℕ)) (a : List ℕ) → fields ≡ a ∷ behind → behind ≡ [] → IsNoRow fields
+no_row_of_one fields behind a is none line said row =
+    let bad : a ∷ behind ≡ said.a ∷ said.b ∷ row.behind = sym is ∙ row.written in
+    let rest : behind ≡ said.b ∷ row.behind = cc in
+    let worse : [] ≡ said.b ∷ row.behind = sym none ∙ rest in
+    cc
+
+-- nor fields with another thing in the weight's place
+pub no_row_weighted : (fields behind rest : List (List ℕ)) (a b : List ℕ) → fields ≡ a ∷ behind → behind ≡ b ∷ rest → ((w : ℕ) → w < 2 ^ 32 → IsWeight w rest → ⊥) → IsNoRow fields
+no_row_weighted fields behind rest a b is next none line said row =
+    let whole : a ∷ behind ≡ said.a ∷ said.b ∷ row.behind = sym is ∙ row.written in
+    let tail : behind ≡ said.b ∷ row.behind = cc in
+    let pair : b ∷ rest ≡ said.b ∷ row.behind = sym next ∙ tail in
+    let same : row.behind ≡ rest = cc in
+    none said.weight row.fits (subst (IsWeight said.weight) same row.weighted)
+
+-- nor fields with an end that isn't there
+pub no_row_first : (fields behind : List (List ℕ)) (a : List ℕ) → fields ≡ a ∷ behind → a ≡ [] → IsNoRow fields
+no_row_first fields behind a is none line said row =
+    let whole : a ∷ behind ≡ said.a ∷ said.b ∷ row.behind = sym is ∙ row.written in
+    let same : said.a ≡ a = cc in
+    row.first (same ∙ none)
+
+pub no_row_second : (fields behind rest : List (List ℕ)) (a b : List ℕ) → fields ≡ a ∷ behind → behind ≡ b ∷ rest → b ≡ [] → IsNoRow fields
+no_row_second fields behind rest a b is next none line said row =
+    let whole : a ∷ behind ≡ said.a ∷ said.b ∷ row.behind = sym is ∙ row.written in
+    let tail : behind ≡ said.b ∷ row.behind = cc in
+    let pair : b ∷ rest ≡ said.b ∷ row.behind = sym next ∙ tail in
+    let same : said.b ≡ b = cc in
+    row.second (same ∙ none)
+
+-- a row of its fields
+pub row_is : (line : ℕ) (fields behind rest : List (List ℕ)) (a b : List ℕ) (w : ℕ) → fields ≡ a ∷ behind → behind ≡ b ∷ rest → a ≢ [] → b ≢ [] → w < 2 ^ 32 → IsWeight w rest
+    → IsRowOf line fields (record { line = line; a = a; b = b; weight = w })
+row_is line fields behind rest a b w is next first second fits weighted = record {
+  number = refl;
+  first = first;
+  second = second;
+  fits = fits;
+  behind = rest;
+  written = is ∙ ap (λ (l : List (List ℕ)). a ∷ l) next;
+  weighted = weighted;
+}
+
+-- ---- lines
+
+-- the same lines, and one that says nothing
+pub say_nothing_more : (before : ℕ) (texts : List (List ℕ)) (text : List ℕ) (said : List Said) → Say before texts said → says_nothing (words_of text) ≡ true → Say before (texts ++ text ∷ []) said
+say_nothing_more before [] text said say none = inl (none, say)
+say_nothing_more before (t ∷ ts) text said (inl p) none = inl (p.0, say_nothing_more (before + 1) ts text said p.1 none)
+say_nothing_more before (t ∷ ts) text said (inr p) none = inr (p.0, p.1, p.2, p.3, p.4, say_nothing_more (before + 1) ts text p.1 p.5 none)
+
+-- the same lines, and one that says a row
+pub say_row_more : (before line : ℕ) (texts : List (List ℕ)) (text : List ℕ) (said : List Said) (row : Said) → line ≡ before + length texts + 1 → Say before texts said → says_nothing (words_of text) ≡ false
+    → IsRowOf line (fields_of text) row → Say before (texts ++ text ∷ []) (said ++ row ∷ [])
+say_row_more before line [] text said row at say some is =
+    let here : line ≡ before + 1 = omega (arith, at) in
+    let only : said ++ row ∷ [] ≡ row ∷ [] = ap (λ (l : List Said). l ++ row ∷ []) say in
+    inr (row, [], some, only, subst (λ (n : ℕ). IsRowOf n (fields_of text) row) here is, refl)
+say_row_more before line (t ∷ ts) text said row at (inl p) some is =
+    inl (p.0, say_row_more (before + 1) line ts text said row (omega (arith, at)) p.1 some is)
+say_row_more before line (t ∷ ts) text said row at (inr p) some is =
+    inr (p.0, p.1 ++ row ∷ [], p.2, ap (λ (l : List Said). l ++ row ∷ []) p.3, p.4, say_row_more (before + 1) line ts text p.1 row (omega (arith, at)) p.5 some is)
+
+both_ways : (b : Bool) → b ≡ true → b ≡ false → ⊥
+both_ways b so not_so = let bad : true ≡ false = sym so ∙ not_so in cc
+
+-- no edges are said by lines that go on with one that says none
+pub none_goes_on : (before : ℕ) (texts : List (List ℕ)) (text : List ℕ) (more : List (List ℕ)) (said : List Said) → says_nothing (words_of text) ≡ false → IsNoRow (fields_of text)
+    → Say before (texts ++ text ∷ more) said → ⊥
+none_goes_on before [] text more said some none (inl p) = both_ways (says_nothing (words_of text)) p.0 some
+none_goes_on before [] text more said some none (inr p) = none (before + 1) p.0 p.4
+none_goes_on before (t ∷ ts) text more said some none (inl p) = none_goes_on (before + 1) ts text more said some none p.1
+none_goes_on before (t ∷ ts) text more said some none (inr p) = none_goes_on (before + 1) ts text more p.1 some none p.5
+
+-- such a line is the first that says none
+pub first_refused : (before : ℕ) (texts : List (List ℕ)) (i : ℕ) (text : List ℕ) (said : List Said) → i < length texts → take (i + 1) texts ≡ take i texts ++ text ∷ []
+    → Say before (take i texts) said → says_nothing (words_of text) ≡ false → IsNoRow (fields_of text) → IsFirstRefused before texts (before + i + 1)
+first_refused before texts i text said lt next say some none =
+    let back : before + i + 1 - (before + 1) ≡ i = omega arith in
+    let up : before + i + 1 - before ≡ i + 1 = omega arith in
+    record {
+      behind = omega arith;
+      within = omega arith;
+      said = (said, subst (λ (n : ℕ). Say before (take n texts) said) (sym back) say);
+      refused = λ more all goes.
+          let step : (take i texts ++ text ∷ []) ++ more ≡ take i texts ++ text ∷ more = simp append_assoc in
+          let whole : take (before + i + 1 - before) texts ++ more ≡ take i texts ++ text ∷ more =
+          ap (λ (n : ℕ). take n texts ++ more) up ∙ ap (λ (l : List (List ℕ)). l ++ more) next ∙ step in
+          none_goes_on before (take i texts) text more all some none (subst (λ (l : List (List ℕ)). Say before l all) whole goes);
+    }
+
+suc_text_more : (xs : List (Bor (List ℕ))) (i : ℕ) (d : Bor (List ℕ)) → i < length xs → take (suc i) (map (λ x. x.now) xs) ≡ take i (map (λ x. x.now) xs) ++ (get_or xs i d).now ∷ []
+suc_text_more [] i d lt = absurd (omega arith)
+suc_text_more (x ∷ xs) zero d lt = refl
+suc_text_more (x ∷ xs) (suc i) d lt = ap (λ (t : List (List ℕ)). x.now ∷ t) (suc_text_more xs i d (omega arith))
+
+-- one text more
+pub one_text_more : (xs : List (Bor (List ℕ))) (i : ℕ) (d : Bor (List ℕ)) → i < length xs → take (i + 1) (map (λ x. x.now) xs) ≡ take i (map (λ x. x.now) xs) ++ (get_or xs i d).now ∷ []
+one_text_more xs i d lt =
+    let next : i + 1 ≡ suc i = omega arith in
+    ap (λ n. take n (map (λ (x : Bor (List ℕ)). x.now) xs)) next ∙ suc_text_more xs i d lt
+
+suc_text_left : (xs : List (Bor (List ℕ))) (k : ℕ) → map (λ (x : Bor (List ℕ)). x.now) (drop k xs) ≡ drop k (map (λ (x : Bor (List ℕ)). x.now) xs)
+suc_text_left xs zero = refl
+suc_text_left [] (suc k) = refl
+suc_text_left (x ∷ xs) (suc k) = suc_text_left xs k
+
+-- what holds of the lines that are left holds of those of the text
+pub carried : (P : ℕ → List (List ℕ) → Type 0) (before : ℕ) (front all : List (Bor (List ℕ))) (lines : List (List ℕ)) → before ≡ lead (map (λ x. x.now) all) → map (λ x. x.now) all ≡ lines
+    → front ≡ drop before all → P before (map (λ x. x.now) front) → P (lead lines) (drop (lead lines) lines)
+carried P before front all lines at is left holds =
+    let here : before ≡ lead lines = at ∙ ap lead is in
+    let rest : map (λ (x : Bor (List ℕ)). x.now) front ≡ drop before lines = ap (λ (l : List (Bor (List ℕ))). map (λ x. x.now) l) left ∙ suc_text_left all before ∙ ap (λ (l : List (List ℕ)). drop before l) is in
+    subst (λ (n : ℕ). P n (drop n lines)) here (subst (P before) rest holds)

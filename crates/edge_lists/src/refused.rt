@@ -1,0 +1,40 @@
+// Lines that aren't understood.
+use thiserror::Error;
+
+/// What a line should have been.
+#[derive(Clone, Copy, Debug, PartialEq, Eq, Drop, Error)]
+pub enum Form {
+    #[error("a line is `A B W` or `A,B,W`, where W may be left out")]
+    Fields,
+    #[error("the weight is a plain number below 4294967296")]
+    Weight,
+}
+
+/// The first line that says no edge, and what it should have been.
+#[derive(Clone, Copy, Debug, PartialEq, Eq, Drop, Error)]
+#[error("line {number}: {form}")]
+pub struct LineRefused {
+    /// The line's number, from 1.
+    pub number: usize,
+    pub form: Form,
+}
+
+/// Why a name isn't taken.
+#[derive(Clone, Copy, Debug, PartialEq, Eq, Drop, Error)]
+pub enum NameForm {
+    #[error("a name is one word, without blanks")]
+    Word,
+    #[error("the name stands there twice")]
+    Twice,
+    #[error("there are more names than nodes")]
+    TooMany,
+}
+
+/// The first line whose name isn't taken, and why.
+#[derive(Clone, Copy, Debug, PartialEq, Eq, Drop, Error)]
+#[error("line {number}: {form}")]
+pub struct NameRefused {
+    /// The line's number, from 1.
+    pub number: usize,
+    pub form: NameForm,
+}

@@ -1,0 +1,86 @@
+// Importing edges.
+ghost use Rattle.std.specs.Prelude.{◌≡◌, ◌≤◌, IfErr, IsErrOf, OnErr, OnOk, false, length};
+ghost use Rattle.checkpoint.specs.StoreWords.{is_down, state_of};
+ghost use Rattle.network_import.specs.Imported.{FitsBehind, HasTaken, IsGroupRefused, IsLeft, adds, group_edges, moved_behind};
+
+use crate::changes::requests_in;
+use crate::committing::commit_rolling;
+use crate::judging::judge;
+use crate::refused::ImportRefused;
+use checkpoint::{Store, WORN_LIMIT};
+use disk_trait::Disk;
+use edge_lists::Edge;
+use std::alloc::Global;
+
+// How many edges a group has: 64 changes of 16.
+const GROUP_EDGES: usize = 1024;
+
+/// Whom it is told how far an import has come.
+pub trait Progress {
+    /// So many edges are in the store.
+    fn came_to(&mut self, edges: usize);
+}
+
+// Takes one group: all of it, or nothing.
+fn take_group<D: Disk>(
+    alloc: Global,
+    store: &mut Store<D>,
+    edges: &[Edge],
+) -> Result<(), ImportRefused>
+    requires up { is_down store.old ≡ false }
+    requires some { 1 ≤ length edges.now }
+    requires few { length edges.now ≤ group_edges }
+    ensures ok { OnOk result (HasTaken (state_of store.old) edges.now (length edges.now) (state_of store.new)) }
+    ensures err { OnErr result (state_of store.new ≡ state_of store.old) }
+    ensures refused { IfErr result (λ refused. IsGroupRefused (state_of store.old).graph (adds edges.now) refused) }
+    ensures stays_up { ¬ (IsErrOf result ImportRefused.Device) → is_down store.new ≡ false }
+{
+    let starts = store.starts();
+    let last = starts[0];
+    if last > WORN_LIMIT || WORN_LIMIT - last < edges.len() as u64 {
+        return Err(ImportRefused::Worn);
+    }
+    let requests = requests_in(alloc, edges, last)?;
+    judge(alloc, store.graph(), &requests)?;
+    commit_rolling(alloc, store, &requests)
+}
+
+// The same of a group with so many edges in front of it.
+fn moved(done: usize, refused: ImportRefused) -> ImportRefused
+    requires { FitsBehind done refused }
+    ensures { result ≡ moved_behind done refused }
+{
+    match refused {
+        ImportRefused::Op { place, code } => ImportRefused::Op {
+            place: done + place,
+            code,
+        },
+        ImportRefused::Device => ImportRefused::Device,
+        ImportRefused::Memory => ImportRefused::Memory,
+        ImportRefused::Worn => ImportRefused::Worn,
+    }
+}
+
+/// Adds edges in order, group by group.
+pub fn import<D: Disk, P: Progress>(
+    alloc: Global,
+    store: &mut Store<D>,
+    edges: &[Edge],
+    progress: &mut P,
+) -> Result<(), ImportRefused>
+    requires { is_down store.old ≡ false }
+    ensures ok { OnOk result (HasTaken (state_of store.old) edges.now (length edges.now) (state_of store.new)) }
+    ensures left { IfErr result (λ refused. IsLeft (state_of store.old) edges.now (state_of store.new) refused) }
+    ensures stays_up { ¬ (IsErrOf result ImportRefused.Device) → is_down store.new ≡ false }
+{
+    let mut done = 0;
+    while done < edges.len() {
+        let some = GROUP_EDGES.min(edges.len() - done);
+        match take_group(alloc, store, &edges[done..done + some]) {
+            Ok(()) => done += some,
+            Err(refused) => return Err(moved(done, refused)),
+        }
+        progress.came_to(done);
+    }
+    Ok(())
+}

@@ -1,0 +1,43 @@
+// Judging a group.
+ghost use Rattle.std.specs.Prelude.{◌≡◌, ◌≤◌, Ok, IfErr, IsSome, OnOk, length};
+ghost use Rattle.graph_edits.specs.Changes.{fold};
+ghost use Rattle.layout_2.specs.State.{changes_of};
+ghost use Rattle.network_import.specs.Imported.{FitsAt, IsGroupRefused, ops_of, told_behind};
+
+use crate::refused::ImportRefused;
+use graph_edits::{EditRefused, Graph, Overlay};
+use requests::Request;
+use std::alloc::Global;
+
+/// Sees whether a graph takes the changes of these requests in order. Where an op is refused, its place among all their
+/// ops is named.
+pub(crate) fn judge(alloc: Global, graph: &Graph, requests: &[Request]) -> Result<(), ImportRefused>
+    requires { length requests.now ≤ 64 }
+    ensures taken { OnOk result (IsSome (fold graph.now (changes_of requests.now))) }
+    ensures refused { IfErr result (λ refused. IsGroupRefused graph.now (ops_of requests.now) refused) }
+{
+    let mut overlay = Overlay::over(alloc, graph);
+    let mut done = 0;
+    for request in requests {
+        let count = request.change.ops().len();
+        match overlay.apply(&request.change) {
+            Ok(()) => done += count,
+            Err(refused) => return Err(told_at(done, refused)),
+        }
+    }
+    Ok(())
+}
+
+// What is told of a change that is refused, where so many ops stand in front of it.
+fn told_at(done: usize, refused: EditRefused) -> ImportRefused
+    requires { FitsAt done refused }
+    ensures { result ≡ told_behind done refused }
+{
+    match refused {
+        EditRefused::Op { index, code } => ImportRefused::Op {
+            place: done + index,
+            code,
+        },
+        EditRefused::Memory => ImportRefused::Memory,
+    }
+}

@@ -1,0 +1,38 @@
+//! Edges that come into a device: a store takes them as changes, group by group.
+//!
+//! # What it is
+//!
+//! [`import`] makes the Adds of a list of edges, in its order: changes of 16 of them, in groups of 64 changes. Each
+//! group is judged first, whole, by the network as the groups before it left it; then it is committed as one record,
+//! with a roll before it where the journal has no room. The changes are those of session 0, under the tickets behind
+//! its last one.
+//!
+//! # The contract
+//!
+//! It stands on the clauses of `Store::commit` and `Store::roll` of the crate `checkpoint` (`specs/Imported`):
+//!
+//! | Answer | What it says |
+//! |---|---|
+//! | `Ok` | the store's state is the old one after requests whose ops are just the Adds of all edges, in order (`HasTaken`) |
+//! | `Op { place, code }` | the state is the old one after the groups before; of the edges behind these the first whose Add it refuses is at `place`, with this code, and in the group that was next |
+//! | `Device`, `Memory`, `Worn` | the state is the old one after the groups before |
+//!
+//! The requests are of session 0, each under the ticket behind the one before, and its last ticket goes on by as many.
+//! No clause needs a disk that keeps the disk model; what a crash leaves of each group is said by the store's own
+//! clauses, which hold at each of its calls.
+//!
+//! ```text
+//! let edges = [Edge { line: 1, a: 0, b: 1, weight: 5 }, Edge { line: 2, a: 1, b: 0, weight: 7 }];
+//! import(alloc, &mut store, &edges, &mut progress)   // Err(Op { place: 1, code: EdgeThere }); nothing of the group is
+//! in
+//! ```
+#![tactic(auto)]
+
+mod changes;
+mod committing;
+mod importing;
+mod judging;
+mod refused;
+
+pub use importing::{Progress, import};
+pub use refused::ImportRefused;

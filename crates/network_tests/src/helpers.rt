@@ -1,0 +1,77 @@
+// What the tests share.
+ghost use Rattle.std.specs.Prelude.{◌≡◌, false};
+ghost use Rattle.checkpoint.specs.StoreWords.{is_down};
+
+use checkpoint::{DEVICE_LEN, Store, format};
+use disk_trait::MemDisk;
+use edge_lists::Edge;
+use network_import::Progress;
+use std::alloc::Global;
+use std::process::Abort;
+
+/// The value of an answer that has to have one.
+pub(crate) fn got<T, E: Drop>(rt: &impl Abort, answer: Result<T, E>) -> T {
+    match answer {
+        Ok(value) => value,
+        Err(_) => panic!(rt; "no value"),
+    }
+}
+
+/// How many edges the last group came to.
+#[derive(Drop)]
+pub(crate) struct Came {
+    pub(crate) edges: usize,
+}
+
+impl Progress for Came {
+    fn came_to(&mut self, edges: usize) {
+        self.edges = edges;
+    }
+}
+
+/// The store of a disk.
+pub(crate) fn opened(rt: &impl Abort, alloc: Global, disk: MemDisk) -> Store<MemDisk>
+    ensures { is_down result ≡ false }
+{
+    match Store::open(alloc, disk) {
+        Ok(store) => store,
+        Err(_) => panic!(rt; "no store"),
+    }
+}
+
+/// A new store for so many nodes.
+pub(crate) fn new_store(rt: &impl Abort, alloc: Global, nodes: u16) -> Store<MemDisk>
+    ensures { is_down result ≡ false }
+{
+    let mut disk = got(rt, MemDisk::new(alloc, DEVICE_LEN));
+    got(rt, format(&mut disk, nodes));
+    opened(rt, alloc, disk)
+}
+
+/// So many edges between 200 nodes: each joins its node to one that is a little further.
+pub(crate) fn edges_between(rt: &impl Abort, alloc: Global, count: u16) -> Vec<Edge> {
+    let mut edges = Vec::new(alloc);
+    for i in 0..count {
+        let a = i % 200;
+        let further = 1 + i / 200;
+        let edge = Edge {
+            line: i as usize,
+            a,
+            b: ((a as u32 + further as u32) % 200) as u16,
+            weight: i as u32 + 1,
+        };
+        got(rt, edges.push(edge));
+    }
+    edges
+}
+
+/// Sees that a store has the edges of a list up to a place, and none from there on.
+pub(crate) fn has_up_to(rt: &impl Abort, store: &Store<MemDisk>, edges: &[Edge], place: usize) {
+    let graph = store.graph();
+    for (i, edge) in edges.iter().enumerate() {
+        let want = if i < place { Some(edge.weight) } else { None };
+        assert!(rt; edge.a < graph.nodes() && edge.b < graph.nodes());
+        assert_eq!(rt; graph.weight(edge.a, edge.b), want, "edge {i}");
+    }
+    assert_eq!(rt; graph.edges(), place);
+}

@@ -1,0 +1,4 @@
+pub mod Sizes
+pub mod Pairs
+pub mod Measures
+pub mod Stretches
