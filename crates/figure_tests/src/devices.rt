@@ -55,6 +55,7 @@ fn after(
     let Ok(change) = Change::new(ops) else {
         panic!(rt; "no change");
     };
+    assert!(rt; !store.is_down(), "it is up");
     let mut desk = Desk::new(store);
     let request = Request {
         session: asked.0,

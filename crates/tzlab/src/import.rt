@@ -223,6 +223,9 @@ fn import_edges(
     store: &mut Store<DeviceFile>,
     edges: &[Edge],
 ) -> u8 {
+    if store.is_down() {
+        return told_fault(rt, device, Fault::Device);
+    }
     let mut told = Told {
         rt,
         edges: edges.len(),
