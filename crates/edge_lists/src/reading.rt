@@ -88,6 +88,7 @@ fn row_in<'a>(
     };
     let weight = match weight_in(alloc, rest)? {
         Some(weight) => weight,
+        None if rest.len() > 1 => return Ok(Err(Form::Fields)),
         None => return Ok(Err(Form::Weight)),
     };
     if a.is_empty() || b.is_empty() {

@@ -50,7 +50,7 @@ fn turned(rt: &impl Abort, alloc: Global, edges: &[Edge]) -> Vec<Edge> {
 #[test]
 fn drawn_networks_come_in_and_go_out(rt: HostRuntime) {
     let alloc = rt.alloc();
-    for seed in 0..3 {
+    for seed in 0..12 {
         let edges = drawn(&rt, alloc, seed);
         let text = got(&rt, edge_list(alloc, &turned(&rt, alloc, &edges), &[]));
         let Ok(rows) = got(&rt, read_edge_list(alloc, text.as_str())) else {

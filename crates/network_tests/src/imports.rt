@@ -73,7 +73,7 @@ fn each_call_of_the_device_fails_in_turn(rt: HostRuntime) {
     let alloc = rt.alloc();
     let edges = edges_between(&rt, alloc, 2000);
     for (call, without, within) in &CALLS {
-        for word in [0, 1, 257] {
+        for word in [0, 1, 255, 256, 257] {
             let mut store = new_store(&rt, alloc, 200);
             store.arm(Plan::Fail(*call));
             let mut came = Came { edges: 0 };
