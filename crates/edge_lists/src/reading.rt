@@ -71,6 +71,15 @@ fn read_one<'a>(alloc: Global, line: usize, text: &'a str) -> Result<Read<'a>, A
     }
 }
 
+// What a line should have been, where so many fields behind its two ends say no weight.
+fn form_of(fields: usize) -> Form {
+    if fields > 1 {
+        Form::Fields
+    } else {
+        Form::Weight
+    }
+}
+
 // The row of a line with these fields.
 fn row_in<'a>(
     alloc: Global,
@@ -88,8 +97,7 @@ fn row_in<'a>(
     };
     let weight = match weight_in(alloc, rest)? {
         Some(weight) => weight,
-        None if rest.len() > 1 => return Ok(Err(Form::Fields)),
-        None => return Ok(Err(Form::Weight)),
+        None => return Ok(Err(form_of(rest.len()))),
     };
     if a.is_empty() || b.is_empty() {
         return Ok(Err(Form::Fields));
