@@ -14,6 +14,7 @@ use std::alloc::Global;
 use std::process::Abort;
 use written_values::LandmarkWords;
 
+mod drawn;
 mod examples;
 mod memory;
 mod reading;
