@@ -26,7 +26,6 @@ mod commits;
 mod device;
 mod export;
 mod grammar;
-mod hops;
 mod import;
 mod info;
 mod rehearse;
@@ -55,11 +54,7 @@ fn main(rt: HostRuntime) -> ExitCode {
 }
 
 // Does what the words ask for, and answers the exit status. Schemes are built in threads.
-fn run<R: Threads + Wait + Sync + Copy + Drop>(
-    rt: &HostRuntime,
-    threads: &R,
-    found: &ArgMatches<'_>,
-) -> u8 {
+fn run<R: Threads + Wait + Sync>(rt: &HostRuntime, threads: &R, found: &ArgMatches<'_>) -> u8 {
     match found.subcommand() {
         Some(("import", found)) => import::run(rt, found),
         Some(("export", found)) => export::run(rt, found),

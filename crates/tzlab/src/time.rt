@@ -1,10 +1,9 @@
 // The command `time`: how long builds, searches, packets, openings and commits take.
 use crate::commits::time_commits;
 use crate::device::store_in;
-use crate::hops::time_hops;
 use crate::samples::{Clock, Samples, TimeRefused};
 use crate::telling::{told, told_of};
-use crate::walks::{drawn_pairs, time_decisions, time_steps};
+use crate::walks::{drawn_pairs, time_byte_steps, time_decisions, time_steps};
 use checkpoint::Store;
 use clap::ArgMatches;
 use command_output::Fault;
@@ -26,7 +25,7 @@ struct Asked<'a> {
 }
 
 /// Times what these matches ask for, prints a line for each, and answers the exit status.
-pub(crate) fn run<R: Threads + Wait + Sync + Copy + Drop>(
+pub(crate) fn run<R: Threads + Wait + Sync>(
     rt: &HostRuntime,
     threads: &R,
     found: &ArgMatches,
@@ -58,38 +57,72 @@ pub(crate) fn run<R: Threads + Wait + Sync + Copy + Drop>(
 }
 
 // Times one thing after the other, and prints each as soon as it is known.
-fn timed<R: Threads + Wait + Sync + Copy + Drop>(
+fn timed<R: Threads + Wait + Sync>(
     rt: &HostRuntime,
     threads: &R,
     asked: &Asked<'_>,
 ) -> Result<(), TimeRefused> {
-    let alloc = rt.alloc();
+    time_openings(rt, asked)?.print(rt, "open")?;
+    time_network(rt, threads, asked)?;
+    time_commits(rt, asked.device, asked.runs, 1)?.print(rt, "commit changes=1")?;
+    time_commits(rt, asked.device, asked.runs, 64)?.print(rt, "commit changes=64")
+}
+
+// Times what is done with the network that the device holds.
+fn time_network<R: Threads + Wait + Sync>(
+    rt: &HostRuntime,
+    threads: &R,
+    asked: &Asked<'_>,
+) -> Result<(), TimeRefused> {
     let store = store_in(rt, DeviceFile::open_to_read(rt, asked.device))?;
-    let nodes = store.nodes();
+    let words = words_for(rt, asked, store.nodes());
+    match words {
+        Ok(words) => time_graph(rt, threads, asked, &store, &words),
+        Err(refused) => Err(refused),
+    }
+}
+
+// The landmark words of so many nodes, which have to have those that are named.
+fn words_for(rt: &HostRuntime, asked: &Asked<'_>, nodes: u16) -> Result<Vec<u64>, TimeRefused> {
     if !asked.words.is_within(nodes) {
         return Err(TimeRefused::Fault(Fault::Words));
     }
-    let words = asked.words.of_nodes(alloc, nodes)?;
-    time_openings(rt, asked)?.print(rt, "open")?;
-    time_builds(rt, threads, asked, &store, &words, 1)?.print(rt, "build workers=1")?;
-    let workers = workers_here(threads, nodes.max(LEAST_SHARED));
-    let mut builds = time_builds(rt, threads, asked, &store, &words, workers)?;
-    builds.print_of(rt, "build", "workers", workers)?;
+    Ok(asked.words.of_nodes(rt.alloc(), nodes)?)
+}
+
+fn time_graph<R: Threads + Wait + Sync>(
+    rt: &HostRuntime,
+    threads: &R,
+    asked: &Asked<'_>,
+    store: &Store<DeviceFile>,
+    words: &[u64],
+) -> Result<(), TimeRefused> {
+    let workers = workers_here(threads, store.nodes().max(LEAST_SHARED));
+    time_builds(rt, threads, asked, store, words, 1)?.print_of(rt, "build", "workers", 1)?;
+    time_builds(rt, threads, asked, store, words, workers)?.print_of(
+        rt, "build", "workers", workers,
+    )?;
     time_searches(rt, asked, store.graph())?.print(rt, "search")?;
+    time_scheme(rt, threads, asked, store, words, workers)
+}
+
+fn time_scheme<R: Threads + Wait + Sync>(
+    rt: &HostRuntime,
+    threads: &R,
+    asked: &Asked<'_>,
+    store: &Store<DeviceFile>,
+    words: &[u64],
+    workers: u16,
+) -> Result<(), TimeRefused> {
     let scheme = scheme_of_in_threads(
         threads,
-        alloc,
+        rt.alloc(),
         store.graph(),
-        &words,
+        words,
         store.count(),
         workers,
     )?;
-    let pairs = drawn_pairs(alloc, nodes)?;
-    time_packets(rt, asked.runs, &scheme, &pairs)?;
-    drop(scheme);
-    time_hops(rt, threads, asked.runs, store, &words, workers, &pairs)?.print(rt, "hop_bytes")?;
-    time_commits(rt, asked.device, asked.runs, 1)?.print(rt, "commit changes=1")?;
-    time_commits(rt, asked.device, asked.runs, 64)?.print(rt, "commit changes=64")
+    time_packets(rt, asked.runs, &scheme, store.nodes())
 }
 
 fn time_openings(rt: &HostRuntime, asked: &Asked<'_>) -> Result<Samples, TimeRefused> {
@@ -155,14 +188,29 @@ fn time_packets(
     rt: &HostRuntime,
     runs: u16,
     scheme: &Scheme,
-    pairs: &[(u16, u16)],
+    nodes: u16,
 ) -> Result<(), TimeRefused> {
-    let mut decisions = Samples::new(rt.alloc());
-    let mut steps = Samples::new(rt.alloc());
+    let pairs = drawn_pairs(rt.alloc(), nodes)?;
+    time_walks(rt, runs, scheme, &pairs, "decide")?;
+    time_walks(rt, runs, scheme, &pairs, "node_step")?;
+    time_walks(rt, runs, scheme, &pairs, "step_in_bytes")
+}
+
+fn time_walks(
+    rt: &HostRuntime,
+    runs: u16,
+    scheme: &Scheme,
+    pairs: &[(u16, u16)],
+    what: &str,
+) -> Result<(), TimeRefused> {
+    let mut samples = Samples::new(rt.alloc());
     for _ in 0..runs {
-        decisions.add(time_decisions(rt, scheme, pairs)?)?;
-        steps.add(time_steps(rt, scheme, pairs)?)?;
+        let nanos = match what {
+            "decide" => time_decisions(rt, scheme, pairs)?,
+            "node_step" => time_steps(rt, scheme, pairs)?,
+            _ => time_byte_steps(rt, scheme, pairs)?,
+        };
+        samples.add(nanos)?;
     }
-    decisions.print(rt, "decide")?;
-    steps.print(rt, "node_step")
+    samples.print(rt, what)
 }

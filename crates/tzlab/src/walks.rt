@@ -1,6 +1,7 @@
 // Packets that are walked to their end.
 use crate::samples::{Clock, TimeRefused};
 use node_table::{Move, Packet, Scheme};
+use packet_bytes::{PACKET_SIZE, Wire};
 use rand_core::{Rng, SeedableRng};
 use rand_xoshiro::Xoshiro256PlusPlus;
 use std::alloc::{AllocError, Global};
@@ -78,6 +79,50 @@ fn steps_of(scheme: &Scheme, from: u16, packet: Packet) -> u64 {
             ) => {
                 at = next;
                 packet = onward;
+            }
+            Ok(Move::Delivered) | Err(_) => return steps,
+        }
+    }
+    u16::MAX as u64
+}
+
+/// The same of a packet in bytes: it is read, stepped on and written again at each node.
+pub(crate) fn time_byte_steps(
+    rt: &HostRuntime,
+    scheme: &Scheme,
+    pairs: &[(u16, u16)],
+) -> Result<u64, TimeRefused> {
+    let mut packets = Vec::with_capacity(rt.alloc(), pairs.len())?;
+    for (from, to) in pairs {
+        if let Some(packet) = packet_of(scheme, *from, *to) {
+            packets.push((*from, packet.to_bytes()))?;
+        }
+    }
+    let mut steps = 0u64;
+    let clock = Clock::start(rt)?;
+    for (from, bytes) in packets {
+        steps = steps.saturating_add(byte_steps_of(scheme, from, bytes));
+    }
+    Ok(clock.nanos(rt)?.checked_div(steps).unwrap_or(0))
+}
+
+// How many steps the packet in these bytes takes to its end.
+fn byte_steps_of(scheme: &Scheme, from: u16, bytes: [u8; PACKET_SIZE]) -> u64 {
+    let (mut at, mut bytes) = (from, bytes);
+    for steps in 1..=u16::MAX as u64 {
+        let Ok(packet) = Packet::from_bytes(&bytes) else {
+            return steps;
+        };
+        match scheme.node_step(at, &packet) {
+            Ok(
+                Move::Forward {
+                    port: _,
+                    next,
+                    packet: onward,
+                },
+            ) => {
+                at = next;
+                bytes = onward.to_bytes();
             }
             Ok(Move::Delivered) | Err(_) => return steps,
         }
