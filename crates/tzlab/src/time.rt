@@ -169,7 +169,7 @@ fn time_searches(
 ) -> Result<Samples, TimeRefused> {
     let mut samples = Samples::new(rt.alloc());
     let nodes = graph.nodes();
-    let apart = (nodes / asked.runs).max(1);
+    let apart = nodes.checked_div(asked.runs).unwrap_or(1).max(1);
     for run in 0..asked.runs {
         let root = run.saturating_mul(apart);
         if root >= nodes {
