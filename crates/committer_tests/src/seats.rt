@@ -3,16 +3,20 @@ ghost use Rattle.std.specs.Prelude.{◌≡◌, ◌<◌, [], None, false};
 ghost use Rattle.checkpoint.specs.StoreWords.{is_down};
 ghost use Rattle.group_commit.specs.DeskWords.{store_of, held_of, due_of};
 ghost use Rattle.committer.specs.CommitterWords.{posts_of};
+ghost use Rattle.node_table.specs.Service.{Serves};
+ghost use Rattle.node_table.specs.Tables.{tables};
+ghost use Rattle.std.specs.Arc.{arc_value};
 
 use checkpoint::{DEVICE_LEN, Store, format};
 use committer::{Committer, RebuildRefused, Round, RoundRefused};
 use disk_trait::{Disk, MemDisk, Plan};
 use forwarders::Forwarder;
 use generations::{Board, BoardReader, board};
-use graph_edits::{Change, Op};
+use graph_edits::{Change, Graph, Op};
 use group_commit::Desk;
 use intake::{Editor, Outcome, SubmitRefused, open_intake};
 use linked_list_allocator::LocalHeap;
+use node_table::Scheme;
 use scheme_builds::scheme_of;
 use std::alloc::{AllocError, Global};
 use std::fmt::Debug;
@@ -200,6 +204,26 @@ pub(crate) fn due<R: Wait + Drop>(
     committer.generation_due()
 }
 
+/// A scheme of a graph with node 2 as its landmark, to be shared.
+fn shared(
+    rt: &impl Abort,
+    alloc: Global,
+    graph: &Graph,
+    number: u64,
+    heap: &LocalHeap,
+) -> Arc<Scheme, Global>
+    ensures { Serves graph.now (tables (arc_value result)) }
+{
+    let scheme = match scheme_of(alloc, graph, &AT_TWO, number, heap) {
+        Ok(scheme) => scheme,
+        Err(_) => panic!(rt; "no scheme"),
+    };
+    match Arc::new(alloc, scheme) {
+        Ok(shared) => shared,
+        Err(_) => panic!(rt; "no memory"),
+    }
+}
+
 /// Builds the generation that is due elsewhere and announces it: its number, if there is one.
 fn announced<R: Wait + Abort + Drop>(
     rt: &R,
@@ -209,10 +233,16 @@ fn announced<R: Wait + Abort + Drop>(
 ) -> Option<u64>
     ensures { (posts_of committer.new).opening ≡ (posts_of committer.old).opening }
 {
-    let number = got(rt, committer.generation_due())?;
-    let scheme = scheme_of(alloc, committer.store().graph(), &AT_TWO, number, heap);
-    let scheme = got(rt, Arc::new(alloc, got(rt, scheme)));
-    Some(got(rt, committer.announce(number, scheme)))
+    let due = match committer.generation_due() {
+        Ok(due) => due,
+        Err(_) => panic!(rt; "no number"),
+    };
+    let number = due?;
+    let scheme = shared(rt, alloc, committer.store().graph(), number, heap);
+    match committer.announce(number, scheme) {
+        Ok(number) => Some(number),
+        Err(_) => panic!(rt; "not announced"),
+    }
 }
 
 /// The count of a store, the last ticket of its first session, its edges, and the weights of 0-1 and 2-3.
