@@ -22,7 +22,7 @@ unset logscale
 set autoscale x
 
 set output "stretch.svg"
-set title "Stretch of routes: 4,096 nodes, 10,000 pairs, sorted"
+set title "Stretch of routes: 4,096 nodes, 400 pairs, sorted"
 set xlabel "pairs, percent"
 set ylabel "length over the shortest"
 set xrange [0:100]
