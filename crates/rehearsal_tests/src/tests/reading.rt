@@ -200,7 +200,7 @@ fn names_the_first_event_that_is_not_understood(rt: HostRuntime) {
 // A rehearsal of 20,000 events, the n-th by the ticket n.
 fn long_text(rt: &impl Abort, alloc: Global) -> String {
     let mut text = got(rt, String::from_str(alloc, LIFE));
-    for ticket in 1..20_001u64 {
+    for ticket in 1..100_001u64 {
         got(rt, writeln!(text, "submit 0 {ticket} set:0:1:{ticket}"));
     }
     text
@@ -209,13 +209,13 @@ fn long_text(rt: &impl Abort, alloc: Global) -> String {
 #[test]
 fn reads_a_long_rehearsal(rt: HostRuntime) {
     let lines = read(&rt, rt.alloc(), long_text(&rt, rt.alloc()).as_str());
-    assert_eq!(rt; lines.len(), 20_002);
+    assert_eq!(rt; lines.len(), 100_002);
     let last = RehearsalLine::Submit {
         session: 0,
-        ticket: 20_000,
-        change: got(&rt, Change::new(&[Op::Set(0, 1, 20_000)])),
+        ticket: 100_000,
+        change: got(&rt, Change::new(&[Op::Set(0, 1, 100_000)])),
     };
-    assert_eq!(rt; &lines[20_001], &last);
+    assert_eq!(rt; &lines[100_001], &last);
 }
 
 // The last line alone isn't understood, so all lines before it are.
@@ -223,5 +223,5 @@ fn reads_a_long_rehearsal(rt: HostRuntime) {
 fn names_the_last_line_of_a_long_rehearsal(rt: HostRuntime) {
     let mut text = long_text(&rt, rt.alloc());
     got(&rt, text.push_str("sumbit 0 1 cut:0:1"));
-    refuses(&rt, rt.alloc(), text.as_str(), 20_003, Form::Line);
+    refuses(&rt, rt.alloc(), text.as_str(), 100_003, Form::Line);
 }
