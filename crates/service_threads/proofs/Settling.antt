@@ -64,12 +64,12 @@ turned_settles first old new on turn =
     let more = taken old new in
     let all : got_of new ≡ got ++ more = turn.front in
     let before : (image : List ℕ) → StandsForBeginning s got image → StandsForBeginning s (got_of new) image = λ image here.
-        subst (λ (l : List Request). StandsForBeginning s l image) (sym all) (longer s got more image here) in
+    subst (λ (l : List Request). StandsForBeginning s l image) (sym all) (longer s got more image here) in
     let asked : settled old new ≡ settle (state_of (store_of old)) more = ap (λ (l : List Request). settle (state_of (store_of old)) (l ++ more)) on.held in
     let then : (settle s (got ++ more)).state ≡ (settled old new).state = then_settled s (state_of (store_of old)) got more on.state ∙ ap (λ (t : Settled). t.state) (sym asked) in
     let after : (image : List ℕ) → StandsFor (state_of (store_of old)) image ⊎ StandsFor (settled old new).state image → StandsForBeginning s (got_of new) image = λ image.
-        ⊎_elim (λ here. before image (whole s got image (subst (λ (t : State). StandsFor t image) on.state here)))
-        (λ here. subst (λ (l : List Request). StandsForBeginning s l image) (sym all) (whole s (got ++ more) image (subst (λ (t : State). StandsFor t image) (sym then) here))) in
+    ⊎_elim (λ here. before image (whole s got image (subst (λ (t : State). StandsFor t image) on.state here)))
+    (λ here. subst (λ (l : List Request). StandsForBeginning s l image) (sym all) (whole s (got ++ more) image (subst (λ (t : State). StandsFor t image) (sym then) here))) in
     record {
       same = same_twice (view_of (store_of first)) (view_of (store_of old)) (view_of (store_of new)) on.settled.same turn.same;
       any_moment = λ model.
@@ -84,8 +84,8 @@ pub on_course_still : {D R : Type 0} {V : _} → (first old new : Committer D R 
 on_course_still first old new on turn done =
     let asked : settled old new ≡ settle (state_of (store_of old)) (taken old new) = ap (λ (l : List Request). settle (state_of (store_of old)) (l ++ taken old new)) on.held in
     let all : (settle (state_of (store_of first)) (got_of new)).state ≡ (settled old new).state =
-        ap (λ (l : List Request). (settle (state_of (store_of first)) l).state) turn.front
-        ∙ then_settled (state_of (store_of first)) (state_of (store_of old)) (got_of old) (taken old new) on.state ∙ ap (λ (t : Settled). t.state) (sym asked) in
+    ap (λ (l : List Request). (settle (state_of (store_of first)) l).state) turn.front
+    ∙ then_settled (state_of (store_of first)) (state_of (store_of old)) (got_of old) (taken old new) on.state ∙ ap (λ (t : Settled). t.state) (sym asked) in
     record {
       up = done.up;
       held = done.held;
@@ -112,7 +112,7 @@ turned_still {V = V} old mid new turn stays = record {
   any_moment = λ model up.
       let left = subst (λ s. LeavesOnly (view_of (store_of old)) (view_of s) (λ image. StandsFor (state_of (store_of old)) image ⊎ StandsFor (settled old mid).state image)) (sym stays.store) (turn.any_moment model up) in
       subst (λ (l : List Request). LeavesOnly (view_of (store_of old)) (view_of (store_of new))
-          (λ image. StandsFor (state_of (store_of old)) image ⊎ StandsFor (settle (state_of (store_of old)) (held_of old ++ drop (length (got_of old)) l)).state image)) (sym stays.got) left;
+      (λ image. StandsFor (state_of (store_of old)) image ⊎ StandsFor (settle (state_of (store_of old)) (held_of old ++ drop (length (got_of old)) l)).state image)) (sym stays.got) left;
 }
 
 pub settled_still : {D R : Type 0} {V : _} → (old mid new : Committer D R V) → HasSettledAll old mid → StaysPut mid new → HasSettledAll old new
