@@ -7,7 +7,7 @@ use Rattle.graph_edits.specs.Changes.{after as graph_after}
 use Rattle.requests.specs.declared.request.Request.{Request}
 use Rattle.requests.specs.Tickets.{raise}
 use Rattle.layout_2.specs.State.{State, state_with}
-use Rattle.layout_2.specs.Standing.{StandsFor}
+use Rattle.layout_2.specs.Standing.{KeepsThrough, StandsFor}
 use Rattle.checkpoint.specs.declared.store.Store.{Store}
 use Rattle.checkpoint.specs.StoreWords.{state_of, view_of, disk_of, is_down, stands_now}
 use Rattle.generations.specs.declared.posting.Mark.{Mark}
@@ -15,7 +15,7 @@ use Rattle.generations.specs.declared.posting.Verdict.{Verdict}
 use Rattle.generations.specs.declared.posting.Verdict.TheVariants.{Accepted, Refused}
 use Rattle.group_commit.specs.Settling.{Settled, settle, accept, refuse, one_more}
 use Rattle.command_output.specs.declared.fault.Fault.{Fault}
-use Rattle.device_commands.specs.Answer.{KeepsThrough, IsNew, IsTaken, state_under, verdict_of}
+use Rattle.device_commands.specs.Answer.{IsNew, IsTaken, state_under, verdict_of}
 
 -- the state after one request is that under its ticket
 pub one_state : (s : State) (r : Request) → (settle s (r ∷ [])).state ≡ state_under s r.session r.ticket r.change

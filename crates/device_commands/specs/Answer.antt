@@ -1,12 +1,10 @@
 -- What one change does to a device, and what is answered.
 use Rattle.std.specs.Prelude.{◌+◌, ◌<◌, ℕ, List, [], ◌∷◌, Option, Some, None, Ok, Err}
 use Rattle.std.specs.Result.{IsOk}
-use Rattle.disk_trait.specs.Disk.{DiskView, MayLeave}
 use Rattle.graph_edits.specs.declared.edits.Op.{Op}
 use Rattle.graph_edits.specs.Changes.{after as graph_after}
 use Rattle.requests.specs.Tickets.{last_of, raise}
 use Rattle.layout_2.specs.State.{State, state_with}
-use Rattle.layout_2.specs.Standing.{StandsFor}
 use Rattle.generations.specs.declared.posting.Verdict.{Verdict}
 use Rattle.generations.specs.declared.posting.Verdict.TheVariants.{Accepted, Refused}
 
@@ -38,7 +36,3 @@ state_under state session ticket change = elim (graph_after state.graph change) 
 -- so under the ticket of the change
 abbrev pub state_after : State → ℕ → Option ℕ → List Op → State
 state_after state session named change = state_under state session (ticket_of (last_ticket state session) named) change
-
--- each image that a crash now may leave stands for the state
-abbrev pub KeepsThrough : DiskView → State → Type 0
-KeepsThrough disk state = (image : List ℕ) → MayLeave disk image → StandsFor state image

@@ -3,9 +3,9 @@ ghost use Rattle.std.specs.Prelude.{◌≡◌, ◌<◌, ◌≤◌, ◌⊎◌, �
 ghost use Rattle.disk_trait.specs.Disk.{IsSameDevice, LeavesOnly, OnlyRead};
 ghost use Rattle.requests.specs.Tickets.{sessions, worn_limit};
 ghost use Rattle.layout_2.specs.State.{IsNext, State};
-ghost use Rattle.layout_2.specs.Standing.{StandsFor};
+ghost use Rattle.layout_2.specs.Standing.{KeepsThrough, StandsFor};
 ghost use Rattle.checkpoint.specs.StoreWords.{state_of, view_of, is_down};
-ghost use Rattle.device_commands.specs.Answer.{verdict_of, state_after, state_under, last_ticket, ticket_of, IsNew, IsTaken, KeepsThrough};
+ghost use Rattle.device_commands.specs.Answer.{verdict_of, state_after, state_under, last_ticket, ticket_of, IsNew, IsTaken};
 ghost use Rattle.device_commands.specs.Openings.{IsChangeFault, IsDeskFault, IsEditFault, IsUnwrittenFault, TellsOf};
 
 use crate::one_request::{settled, submitted};

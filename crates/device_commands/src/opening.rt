@@ -6,10 +6,9 @@ ghost use Rattle.graph_edits.specs.Edges.{most_nodes};
 ghost use Rattle.requests.specs.Tickets.{last_of, sessions};
 ghost use Rattle.layout_2.specs.Layout.{device_len};
 ghost use Rattle.layout_2.specs.State.{State, first_state};
-ghost use Rattle.layout_2.specs.Standing.{StandsFor};
+ghost use Rattle.layout_2.specs.Standing.{KeepsThrough, StandsFor};
 ghost use Rattle.checkpoint.specs.StoreWords.{state_of, view_of, is_down};
 ghost use Rattle.command_output.specs.Lines.{listing_text};
-ghost use Rattle.device_commands.specs.Answer.{KeepsThrough};
 ghost use Rattle.device_commands.specs.Openings.{IsFormatFault, IsOpenFault, IsReading, TellsOf, open_fault};
 
 use checkpoint::{FormatRefused, OpenRefused, Store, standing_law};

@@ -67,6 +67,14 @@ pub record IsSameDevice (old new : DiskView) : Type 0 where
   pub model : new.keeps_model ≡ old.keeps_model
   pub no_fewer : old.failures ≤ new.failures
 
+-- over no call
+pub ran_none : (disk : DiskView) → IsSameDevice disk disk
+ran_none disk = record { as_long = refl; model = refl; no_fewer = le_refl disk.failures }
+
+-- over calls after others
+pub ran_on : (old mid new : DiskView) → IsSameDevice old mid → IsSameDevice mid new → IsSameDevice old new
+ran_on old mid new first second = record { as_long = second.as_long ∙ first.as_long; model = second.model ∙ first.model; no_fewer = le_trans first.no_fewer second.no_fewer }
+
 -- what every call does, where it writes the n places from at on; it counts as one, be it served or not; a fault is answered only where
 -- the disk has failed in the call, and Ok only where it hasn't
 pub record IsDeviceCall (at n : ℕ) (old new : DiskView) (result : Result (Unit {0}) DeviceFault) : Type 0 where

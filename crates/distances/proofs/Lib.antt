@@ -6,3 +6,4 @@ pub mod Tight
 pub mod Trees
 pub mod Arrived
 pub mod NearestLandmarks
+pub mod LeastWalks

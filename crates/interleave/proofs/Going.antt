@@ -1,9 +1,7 @@
 -- A run of a world goes on by one event.
 use Rattle.std.proofs.Common.{◌≡◌, ℕ, List, [], ◌∷◌, ◌++◌, map, refl, sym, ap, ◌∙◌, subst, IsTrue, append_assoc, append-nil}
 use Rattle.std.specs.List.{AllByRecursion}
-use Rattle.std.proofs.Math.Nat.{le_trans}
 use Rattle.std.proofs.lemmas.List.{map-append}
-use Rattle.disk_trait.specs.Disk.{DiskView, IsSameDevice}
 use Rattle.layout_2.specs.State.{State}
 use Rattle.run_laws.specs.Runs.{LeavesPrefix, Holds, IsRun, moment_of}
 use Rattle.event_runs.specs.declared.event.Event.{Event}
@@ -67,7 +65,3 @@ safe_each keeps stay first now w (x ∷ es) [] ws listed run holds = absurd run
 safe_each keeps stay first now w (x ∷ es) (y ∷ rs) [] listed run holds = absurd run
 safe_each keeps stay first now w (x ∷ es) (y ∷ rs) (z ∷ ws) listed run holds =
     (since stay first now w (x ∷ es) (y ∷ rs) (z ∷ ws) listed run holds.2, safe_each keeps stay first now z es rs ws (keeps first x (machine_of w) y (machine_of z) listed run.0.answers) run.1 holds.3)
-
--- calls of a device after others
-pub ran_on : (u v w : DiskView) → IsSameDevice u v → IsSameDevice v w → IsSameDevice u w
-ran_on u v w first second = record { as_long = second.as_long ∙ first.as_long; model = second.model ∙ first.model; no_fewer = le_trans first.no_fewer second.no_fewer }

@@ -1,7 +1,7 @@
 -- What an image of a device stands for.
 use Rattle.std.specs.Prelude.{◌≡◌, ◌<◌, ◌≤◌, ◌+◌, ℕ, List, length, get_or, Some}
 use Rattle.layout_2.specs.Records.{Entry}
-use Rattle.disk_trait.specs.Disk.{bytes_at}
+use Rattle.disk_trait.specs.Disk.{DiskView, MayLeave, bytes_at}
 use Rattle.layout_2.specs.Records.{Spells, entries_of}
 use Rattle.layout_2.specs.Layout.{worn_limit, device_len, slot_start, other, journal_of, epoch_at, header}
 use Rattle.layout_2.specs.State.{State, after, checkpoint_text, IsLawful, AreTickets, AreInTurn}
@@ -33,6 +33,10 @@ pub record StandsFor (state : State) (image : List ℕ) : Type 0 where
 -- an image stands for at most one state
 abbrev pub OneState : Type 0
 OneState = (s t : State) (image : List ℕ) → StandsFor s image → StandsFor t image → s ≡ t
+
+-- each image that a crash now may leave stands for the state
+abbrev pub KeepsThrough : DiskView → State → Type 0
+KeepsThrough disk state = (image : List ℕ) → MayLeave disk image → StandsFor state image
 
 -- the image stands for no state
 abbrev pub StandsForNone : List ℕ → Type 0

@@ -28,7 +28,7 @@
 //! query answers that memory has run out. A range's thread has a stack for deep trees; whoever builds in its own thread ([`scheme_of`],
 //! [`carry_packet`]) gives it one.
 //!
-//! [`carry_packet`] answers a trail at most three times as long as any walk where a walk is there, and that there is none where none is,
+//! [`carry_in`] carries a packet in a scheme that is there already. [`carry_packet`] builds one first, and answers a trail at most three times as long as any walk where a walk is there, and that there is none where none is,
 //! each by the scheme of exactly these words (`IsRouteAnswer`); [`check_scheme`] finds no fault, and counts exactly the landmarks that
 //! the words choose (`IsCheckAnswer`).
 //!
@@ -50,7 +50,7 @@ mod words;
 mod workers;
 
 pub use lengths::length_over;
-pub use queries::{Checked, Route, carry_packet, check_scheme};
+pub use queries::{Checked, Route, carry_in, carry_packet, check_scheme};
 pub use ranges::SCRATCH_LEN;
 pub use schemes::scheme_of;
 pub use threads::{scheme_in_threads, scheme_of_in_threads};

@@ -54,8 +54,9 @@ fn landmark_count(scheme: &Scheme) -> usize
         .count()
 }
 
-/// Carries a packet to a node's own address in a scheme that keeps all rules for the graph.
-fn carried(
+/// Carries a packet to a node's own address in a scheme that keeps all rules for the graph: over a good trail where a walk leads there,
+/// and else it is unreachable. The only other refusal is of memory.
+pub fn carry_in(
     alloc: Global,
     graph: &Graph,
     scheme: &Scheme,
@@ -90,7 +91,7 @@ pub fn carry_packet(
     ensures scheme { IfOk result (λ route. (p : Parts) × (IsSchemeOf graph.now words.now generation p × IsRouteIn p from to route)) }
 {
     let scheme = built(alloc, graph, words, generation)?;
-    match carried(alloc, graph, &scheme, from, to) {
+    match carry_in(alloc, graph, &scheme, from, to) {
         Ok(trail) => Ok(Route::Along(trail)),
         Err(CarryRefused::Unreachable) => Ok(Route::Unreachable),
         Err(CarryRefused::Memory) => Err(AllocError),

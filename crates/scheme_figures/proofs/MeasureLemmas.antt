@@ -1,12 +1,13 @@
 -- What a search and a packet tell of two nodes.
-use Rattle.std.proofs.Common.{◌≡◌, ℕ, zero, suc, ◌<◌, Bool, true, false, List, [], ◌∷◌, ◌++◌, refl, sym, ap, subst, arith, inl, inr, cond}
+use Rattle.std.proofs.Common.{◌≡◌, ℕ, Bool, true, false, List, [], ◌∷◌, ◌++◌, refl, sym, ap, subst, cond}
 use Rattle.std.specs.Prelude.{Some, None, Result, Ok, Err, IfOk, MatchResult, nat_eq}
 use Rattle.std.specs.List.{All}
 use Rattle.std.proofs.lemmas.List.Elements.{All-cons, All-contains, All-head, All-nil, All-tail}
 use Rattle.std.proofs.lemmas.Option.{none-some, same_Some}
-use Rattle.std.proofs.lemmas.Bool.{cases_lt, eq-eqb, eqb-true}
+use Rattle.std.proofs.lemmas.Bool.{eq-eqb, eqb-true}
 use Rattle.graph_edits.specs.Edges.{EdgeMap, Network}
-use Rattle.graph_edits.specs.Walks.{IsLeast, IsWalk, walk_length}
+use Rattle.graph_edits.specs.Walks.{IsLeast, IsWalk}
+use Rattle.distances.proofs.LeastWalks.{none_least}
 use Rattle.distances.specs.Reach.{IsTree}
 use Rattle.distances.specs.Search.{is_below}
 use Rattle.distances.specs.declared.reach.Reached.{Reached}
@@ -20,24 +21,6 @@ use Rattle.node_table.specs.Trails.{IsGoodTrail, IsTrailOf}
 use Rattle.scheme_builds.specs.Carrying.{IsCarried}
 use Rattle.scheme_figures.specs.declared.measures.Measured.{Measured}
 use Rattle.scheme_figures.specs.Measures.{AreMeasured, IsAlong, IsMeasured, distance_in}
-
--- ---- least lengths
-
-none_below : (m : EdgeMap) (u v : ℕ) → ((d : ℕ) → IsLeast m (λ s. s ≡ u) v d → ⊥) → (n : ℕ) (xs : List ℕ) → walk_length m u xs < n → IsWalk m u xs v → ⊥
-none_below m u v none zero xs lt walk = absurd (omega (arith, lt))
-none_below m u v none (suc n) xs lt walk = none (walk_length m u xs) (record {
-  attained = (u, (refl, (xs, (walk, refl))));
-  least = λ s ys e w.
-      let same : walk_length m s ys ≡ walk_length m u ys = ap (λ z. walk_length m z ys) e in
-      elim (cases_lt (walk_length m u ys) (walk_length m u xs)) [
-        | inl less ↦ absurd (none_below m u v none n ys (omega (arith, less, lt)) (subst (λ z. IsWalk m z ys v) e w))
-        | inr le ↦ omega (arith, le, same)
-      ];
-})
-
--- where no length is the least, no walk leads
-none_least : (m : EdgeMap) (u v : ℕ) → ((d : ℕ) → IsLeast m (λ s. s ≡ u) v d → ⊥) → (xs : List ℕ) → IsWalk m u xs v → ⊥
-none_least m u v none xs walk = none_below m u v none (suc (walk_length m u xs)) xs (omega arith) walk
 
 -- ---- the members of a tree
 

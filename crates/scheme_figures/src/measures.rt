@@ -2,13 +2,13 @@
 ghost use Rattle.std.specs.Prelude.{◌≡◌, ◌<◌, All, IfOk, IfSome, MatchOption, OnOk, ℕ};
 ghost use Rattle.distances.specs.Workspace.{reached_of};
 ghost use Rattle.node_table.specs.Checks.{IsChecked};
-ghost use Rattle.scheme_builds.specs.Carrying.{IsCarried};
 ghost use Rattle.scheme_figures.specs.Pairs.{IsPairOf};
 ghost use Rattle.scheme_figures.specs.Measures.{AreMeasured, IsMeasured, distance_in};
 
 use distances::{Linked, Workspace};
 use graph_edits::Graph;
-use node_table::{CarryRefused, Scheme, Trail, graph_is_sound};
+use node_table::{CarryRefused, Scheme};
+use scheme_builds::carry_in;
 use std::alloc::{AllocError, Global};
 
 /// How long the way of a packet is.
@@ -18,26 +18,6 @@ pub enum Measured {
     Along { length: u64, distance: u64 },
     /// No walk leads to its destination.
     Apart,
-}
-
-// Carries a packet to a node's own address in a scheme that keeps all rules for the graph.
-fn carried(
-    alloc: Global,
-    graph: &Graph,
-    scheme: &Scheme,
-    from: u16,
-    to: u16,
-) -> Result<Trail, CarryRefused>
-    requires checked { IsChecked graph.now scheme.now }
-    requires from { from < graph.now.nodes }
-    requires to { to < graph.now.nodes }
-    ensures { IsCarried graph.now scheme.now from to result }
-{
-    graph_is_sound(graph);
-    let Ok(address) = scheme.address(to) else {
-        unreachable!()
-    };
-    scheme.carry(alloc, from, &address)
 }
 
 // The distance of a node among the members of a tree.
@@ -71,7 +51,7 @@ pub fn measure(
 {
     workspace.from_root(graph, from)?;
     let distance = distance_among(workspace.members(), to);
-    match carried(alloc, graph, scheme, from, to) {
+    match carry_in(alloc, graph, scheme, from, to) {
         Ok(trail) => match distance {
             Some(distance) => Ok(Measured::Along {
                 length: trail.length,

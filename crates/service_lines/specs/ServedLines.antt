@@ -2,9 +2,6 @@
 use Rattle.std.specs.Prelude.{◌≡◌, ℕ, List, Option, map}
 use Rattle.std.specs.List.{flat_map}
 use Rattle.std.specs.Io.KnownBytes.{Appends}
-use Rattle.layout_parts.specs.Refusals.{LacksMagic}
-use Rattle.layout_2.specs.Fronts.{HasOtherVersion, HasThisVersion}
-use Rattle.layout_2.specs.Standing.{StandsForNone}
 use Rattle.generations.specs.declared.posting.Verdict.TheVariants.{Accepted, Refused}
 use Rattle.command_output.specs.Faults.{told_text}
 use Rattle.command_output.specs.declared.fault.Fault.{Fault}
@@ -68,13 +65,6 @@ abbrev pub IsServedSo : List ScriptLine → Option (List ℕ) → Option (List �
 IsServedSo script old new told_old told_new Printed = IsServed script old new × (told_new ≡ told_old)
 IsServedSo script old new told_old told_new (Told fault) = IsServeFault fault × Appends told_old told_new (told_text fault)
 IsServedSo script old new told_old told_new (Untold fault) = IsServeFault fault
-
--- what a fault tells of a device's content: by these three that it stands for no state, and which front it has
-abbrev pub TellsOf : Fault → List ℕ → Type 0
-TellsOf told.NotFormatted content = LacksMagic content × StandsForNone content
-TellsOf told.LayoutNotKnown content = HasOtherVersion content × StandsForNone content
-TellsOf told.Damaged content = HasThisVersion content × StandsForNone content
-TellsOf fault content = Unit {0}
 
 -- the faults of a device that was refused, or whose nodes the words don't fit
 abbrev pub IsOpeningFault : Fault → Type 0

@@ -5,12 +5,12 @@ ghost use Rattle.command_output.specs.declared.fault.Fault.{Fault};
 ghost use Rattle.command_output.specs.Faults.{status_of};
 ghost use Rattle.written_values.specs.Scripts.{AreOfSessions};
 ghost use Rattle.service_threads.specs.Config.{IsServiceConfig};
-ghost use Rattle.disk_trait.specs.Disk.{IsSameDevice, OnlyRead};
+ghost use Rattle.disk_trait.specs.Disk.{OnlyRead};
 ghost use Rattle.layout_2.specs.State.{State};
-ghost use Rattle.layout_2.specs.Standing.{StandsFor};
 ghost use Rattle.written_values.specs.Words.{IsWithin};
-ghost use Rattle.service_threads.specs.Kept.{HasFailed, KeepsThrough, LeavesBeginnings};
-ghost use Rattle.service_lines.specs.ServedLines.{IsOpeningFault, IsServed, IsServedSo, IsServeFault, TellsOf, told_fault};
+ghost use Rattle.device_commands.specs.Openings.{TellsOf};
+ghost use Rattle.service_threads.specs.Kept.{HasFailed, IsLeftBy};
+ghost use Rattle.service_lines.specs.ServedLines.{IsOpeningFault, IsServed, IsServedSo, IsServeFault, told_fault};
 ghost use Rattle.service_lines.specs.declared.served.Served.{Served};
 
 use crate::lines::lines_of;
@@ -67,13 +67,10 @@ where
     // A fault tells what is there: the device's content, or words that name a node that it hasn't.
     ensures tells { IsTrue (D.view disk).keeps_model → IfErr result.0 (λ fault. TellsOf fault (D.view disk).content) }
     ensures of_one { IfErr result.0 (λ fault. fault ≡ Fault.Words → (state : State) × ¬ IsWithin words state.graph.nodes) }
-    // The very device comes back; where it was refused it was only read, and a call of it failed where that is the fault.
-    ensures ran { IfSome result.1 (λ d. IsSameDevice (D.view disk) (D.view d)) }
+    // What is left of the device; one that was refused was only read, and one whose failure is the fault has failed.
+    ensures left { IsLeftBy D.Disk disk result.1 }
     ensures refused { IsTrue (D.view disk).keeps_model → IfErr result.0 (λ fault. IsOpeningFault fault → IfSome result.1 (λ d. OnlyRead (D.view disk) (D.view d))) }
     ensures device { IsErrOf result.0 Fault.Device → IfSome result.1 (λ d. HasFailed (D.view disk) (D.view d)) }
-    // Whatever ends it, and at any moment of it: a crash leaves the state after a beginning of the requests that it took.
-    ensures any_moment { IsTrue (D.view disk).keeps_model → (state : State) → StandsFor state (D.view disk).content → KeepsThrough (D.view disk) state
-        → IfSome result.1 (λ d. LeavesBeginnings state (D.view disk) (D.view d)) }
 {
     let (answers, disk) = service_threads::serve_on(rt, alloc, disk, words, config, script, hooks);
     let answers = match answers {
@@ -111,9 +108,7 @@ where
     ensures quiet { result.0 ≡ Served.Printed → err.new ≡ err.old }
     // No line is printed where the service gives no answers.
     ensures untouched { (fault : Fault) → (result.0 ≡ Served.Told fault) ⊎ (result.0 ≡ Served.Untold fault) → fault ≢ Fault.Output → out.new ≡ out.old }
-    ensures ran { IfSome result.1 (λ d. IsSameDevice (D.view disk) (D.view d)) }
-    ensures any_moment { IsTrue (D.view disk).keeps_model → (state : State) → StandsFor state (D.view disk).content → KeepsThrough (D.view disk) state
-        → IfSome result.1 (λ d. LeavesBeginnings state (D.view disk) (D.view d)) }
+    ensures left { IsLeftBy D.Disk disk result.1 }
 {
     let (result, disk) = serve_lines(rt, alloc, disk, words, config, script, hooks, out);
     match result {
@@ -149,9 +144,7 @@ where
     ensures few { result.0 ≤ 2 }
     ensures done { result.0 ≡ 0 → IsServed script.items (O.contents out.old) (O.contents out.new) × (err.new ≡ err.old) }
     ensures fault { (result.0 ≡ 0) ⊎ ((fault : Fault) × IsServeFault fault × (result.0 ≡ status_of fault) × (fault ≢ Fault.Output → out.new ≡ out.old)) }
-    ensures ran { IfSome result.1 (λ d. IsSameDevice (D.view disk) (D.view d)) }
-    ensures any_moment { IsTrue (D.view disk).keeps_model → (state : State) → StandsFor state (D.view disk).content → KeepsThrough (D.view disk) state
-        → IfSome result.1 (λ d. LeavesBeginnings state (D.view disk) (D.view d)) }
+    ensures left { IsLeftBy D.Disk disk result.1 }
 {
     let (served, disk) = serve_told(rt, alloc, disk, words, config, script, hooks, out, err);
     match served {

@@ -1,20 +1,20 @@
 -- What is left on a device over turns: the states after beginnings of what was taken.
-use Rattle.std.proofs.Common.{◌≡◌, ◌⊎◌, ℕ, ◌+◌, ◌≤◌, ◌<◌, List, [], ◌++◌, length, take, drop, IsTrue, Bool, false, refl, arith, ap, sym, ◌∙◌, subst, inl, inr, ⊎_elim}
+use Rattle.std.proofs.Common.{◌≡◌, ◌⊎◌, ℕ, ◌+◌, List, [], ◌++◌, length, drop, IsTrue, false, arith, ap, sym, ◌∙◌, subst, ⊎_elim}
 use Rattle.std.proofs.lemmas.List.{take-append-le, length-append}
-use Rattle.std.proofs.Math.Seq.{take-append_seam, take-length}
-use Rattle.std.specs.Prelude.{IsErrOf, IfSome, Option, Some, None, Result}
+use Rattle.std.proofs.Math.Seq.{take-length}
+use Rattle.std.specs.Prelude.{IfSome, Option, Some, None, Result}
 use Rattle.service_workers.specs.declared.stop_cause.StopCause.{StopCause}
-use Rattle.disk_trait.specs.Disk.{DiskView, IsSameDevice, LeavesOnly, OnlyRead, joined, reading_leaves, started, weaker}
+use Rattle.disk_trait.specs.Disk.{DiskView, IsSameDevice, LeavesOnly, OnlyRead, joined, ran_none, ran_on, reading_leaves, started}
 use Rattle.requests.specs.declared.request.Request.{Request}
 use Rattle.layout_2.specs.State.{State}
-use Rattle.layout_2.specs.Standing.{StandsFor}
+use Rattle.layout_2.specs.Standing.{KeepsThrough, StandsFor}
 use Rattle.checkpoint.specs.declared.store.Store.{Store}
-use Rattle.checkpoint.specs.StoreWords.{state_of, view_of, is_down, disk_of, stands_now}
+use Rattle.checkpoint.specs.StoreWords.{state_of, view_of, is_down, stands_now}
 use Rattle.group_commit.specs.Settling.{Settled, settle}
 use Rattle.group_commit.proofs.SettlingLemmas.{settle-append}
 use Rattle.committer.specs.declared.committer.Committer.{Committer}
 use Rattle.committer.specs.CommitterWords.{store_of, held_of, got_of, taken, settled}
-use Rattle.service_threads.specs.Kept.{HasFailed, HasSettled, HasSettledAll, HasSettledSome, HasTurned, IsFresh, IsOnCourse, IsServedDisk, KeepsThrough, LeavesBeginnings, StandsForBeginning, StaysPut}
+use Rattle.service_threads.specs.Kept.{HasSettled, HasSettledAll, HasSettledSome, HasTurned, IsFresh, IsOnCourse, IsServedDisk, LeavesBeginnings, StandsForBeginning, StaysPut}
 
 -- ---- beginnings of a list
 
@@ -32,21 +32,10 @@ whole first xs image stands = (length xs, omega arith, subst (λ (l : List Reque
 then_settled : (first state : State) (xs ys : List Request) → state ≡ (settle first xs).state → (settle first (xs ++ ys)).state ≡ (settle state ys).state
 then_settled first state xs ys is = ap (λ (s : Settled). s.state) (settle-append first xs ys) ∙ ap (λ (s : State). (settle s ys).state) (sym is)
 
--- ---- a device
-
-same_twice : (u v w : DiskView) → IsSameDevice u v → IsSameDevice v w → IsSameDevice u w
-same_twice u v w first second =
-    let a = first.no_fewer in
-    let b = second.no_fewer in
-    record { as_long = second.as_long ∙ first.as_long; model = second.model ∙ first.model; no_fewer = omega (arith, a, b) }
-
-same_still : (u : DiskView) → IsSameDevice u u
-same_still u = record { as_long = refl; model = refl; no_fewer = omega arith }
-
 -- nothing was settled
 pub none_settled : {D : Type 0} {V : _} → (store : Store D V) → is_down store ≡ false → HasSettled (state_of store) [] (view_of store) (view_of store)
 none_settled store up = record {
-  same = same_still (view_of store);
+  same = ran_none (view_of store);
   any_moment = λ model. started (view_of store) (StandsForBeginning (state_of store) []) (λ image left. whole (state_of store) [] image (stands_now store model up image left));
 }
 
@@ -71,7 +60,7 @@ turned_settles first old new on turn =
     ⊎_elim (λ here. before image (whole s got image (subst (λ (t : State). StandsFor t image) on.state here)))
     (λ here. subst (λ (l : List Request). StandsForBeginning s l image) (sym all) (whole s (got ++ more) image (subst (λ (t : State). StandsFor t image) (sym then) here))) in
     record {
-      same = same_twice (view_of (store_of first)) (view_of (store_of old)) (view_of (store_of new)) on.settled.same turn.same;
+      same = ran_on (view_of (store_of first)) (view_of (store_of old)) (view_of (store_of new)) on.settled.same turn.same;
       any_moment = λ model.
           let still : IsTrue (view_of (store_of old)).keeps_model = subst IsTrue (sym on.settled.same.model) model in
           joined (view_of (store_of first)) (view_of (store_of old)) (view_of (store_of new)) (StandsForBeginning s got)
@@ -153,3 +142,9 @@ pub served_leaves : {D T : Type 0} {V : _} → (state : State) (disk : D) (store
 served_leaves {V = V} state disk store result (Some d) same reads keeps model served =
     opened_leaves state (state_of store) (V.view disk) (view_of store) (V.view d) same reads keeps model served.settled
 served_leaves state disk store result None same reads keeps model served = tt
+
+-- and it is the device that was opened
+pub served_same : {D T : Type 0} {V : _} → (disk : D) (store : Store D V) (result : Result T StopCause) (back : Option D) → IsSameDevice (V.view disk) (view_of store)
+    → IfSome back (λ d. IsServedDisk store result (V.view d)) → IfSome back (λ d. IsSameDevice (V.view disk) (V.view d))
+served_same {V = V} disk store result (Some d) opened served = ran_on (V.view disk) (view_of store) (V.view d) opened served.settled.1.same
+served_same disk store result None opened served = tt

@@ -1,9 +1,10 @@
 -- What a service leaves on its device, whatever ends it.
-use Rattle.std.specs.Prelude.{◌≡◌, ◌++◌, ◌⊎◌, ◌<◌, ◌≤◌, ℕ, List, [], length, take, IsErrOf, IsTrue, Result, false}
-use Rattle.disk_trait.specs.Disk.{DiskView, IsSameDevice, LeavesOnly, MayLeave}
+use Rattle.std.specs.Prelude.{◌≡◌, ◌++◌, ◌⊎◌, ◌<◌, ◌≤◌, ℕ, List, [], length, take, IfSome, IsErrOf, IsTrue, Option, Result, false}
+use Rattle.disk_trait.specs.declared.disk.Disk.{Ghosts}
+use Rattle.disk_trait.specs.Disk.{DiskView, IsSameDevice, LeavesOnly}
 use Rattle.requests.specs.declared.request.Request.{Request}
 use Rattle.layout_2.specs.State.{State}
-use Rattle.layout_2.specs.Standing.{StandsFor}
+use Rattle.layout_2.specs.Standing.{KeepsThrough, StandsFor}
 use Rattle.checkpoint.specs.declared.store.Store.{Store}
 use Rattle.checkpoint.specs.StoreWords.{state_of, view_of, is_down}
 use Rattle.group_commit.specs.Settling.{settle}
@@ -25,10 +26,6 @@ pub record HasSettled (first : State) (requests : List Request) (old new : DiskV
 -- the same of some requests
 abbrev pub HasSettledSome : State → DiskView → DiskView → Type 0
 HasSettledSome first old new = (requests : List Request) × HasSettled first requests old new
-
--- each image that a crash may leave now stands for the state
-abbrev pub KeepsThrough : DiskView → State → Type 0
-KeepsThrough disk state = (image : List ℕ) → MayLeave disk image → StandsFor state image
 
 -- nothing was taken or committed
 pub record StaysPut {D R : Type 0} {V : _} (old new : Committer D R V) : Type 0 where
@@ -75,3 +72,10 @@ pub record IsServedDisk {D T : Type 0} {V : _} (store : Store D V) (result : Res
 -- for some requests, a crash at any moment from one view to the other leaves the state after a beginning of them
 abbrev pub LeavesBeginnings : State → DiskView → DiskView → Type 0
 LeavesBeginnings first old new = (requests : List Request) × LeavesOnly old new (StandsForBeginning first requests)
+
+-- What a service leaves of its device, where that comes back: it is the very device, and if a crash left the state before the service, then
+-- one at any moment of it leaves the state after a beginning of the requests that it took.
+pub record IsLeftBy {D : Type 0} (model : Ghosts D) (disk : D) (back : Option D) : Type 0 where
+  pub ran : IfSome back (λ d. IsSameDevice (model.view disk) (model.view d))
+  pub any_moment : IsTrue (model.view disk).keeps_model → (state : State) → StandsFor state (model.view disk).content
+      → KeepsThrough (model.view disk) state → IfSome back (λ d. LeavesBeginnings state (model.view disk) (model.view d))

@@ -8,7 +8,7 @@ ghost use Rattle.layout_2.specs.Standing.{StandsFor};
 ghost use Rattle.written_values.specs.Words.{IsWithin};
 ghost use Rattle.service_workers.specs.Answers.{is_edit, is_editor, is_verdict};
 ghost use Rattle.service_threads.specs.Faults.{IsLater, IsOpeningFault, TellsOf};
-ghost use Rattle.service_threads.specs.Kept.{HasFailed, HasSettledSome, IsServedDisk, KeepsThrough, LeavesBeginnings};
+ghost use Rattle.service_threads.specs.Kept.{HasFailed, HasSettledSome, IsLeftBy, IsServedDisk};
 ghost use Rattle.service_threads.specs.Config.{IsServiceConfig};
 
 use crate::fault::Fault;
@@ -315,13 +315,11 @@ pub fn serve_on<'a, D: Disk + Drop + Send, G: Hooks + Sync, R: Threads + Wait + 
     // The words name a node that the device hasn't; also of a disk that doesn't keep the model, one that a state hasn't.
     ensures words { IsTrue (D.view disk).keeps_model → (state : State) → StandsFor state (D.view disk).content → IfErr result.0 (λ fault. fault ≡ Fault.Words → ¬ IsWithin words state.graph.nodes) }
     ensures of_one { IfErr result.0 (λ fault. fault ≡ Fault.Words → (state : State) × ¬ IsWithin words state.graph.nodes) }
-    // The very device comes back; where it was refused it was only read, and a call of it failed where that is the fault.
-    ensures ran { IfSome result.1 (λ d. IsSameDevice (D.view disk) (D.view d)) }
+    // The very device comes back. Whatever ends the service, and at any moment of it: a crash leaves the state after a beginning of the
+    // requests that it took. A device that was refused was only read, and one whose failure is the fault has failed.
+    ensures left { IsLeftBy D.Disk disk result.1 }
     ensures refused { IsTrue (D.view disk).keeps_model → IfErr result.0 (λ fault. IsOpeningFault fault → IfSome result.1 (λ d. OnlyRead (D.view disk) (D.view d))) }
     ensures device { IsErrOf result.0 Fault.Device → IfSome result.1 (λ d. HasFailed (D.view disk) (D.view d)) }
-    // Whatever ends it, and at any moment of it: a crash leaves the state after a beginning of the requests that it took.
-    ensures any_moment { IsTrue (D.view disk).keeps_model → (state : State) → StandsFor state (D.view disk).content → KeepsThrough (D.view disk) state
-        → IfSome result.1 (λ d. LeavesBeginnings state (D.view disk) (D.view d)) }
 {
     standing_law();
     let (turns, shares) = match shared(alloc, config.editors, config.forwarders, script) {

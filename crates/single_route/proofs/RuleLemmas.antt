@@ -4,7 +4,6 @@ use Rattle.std.specs.Prelude.{Option, Some, None, IfSome, slice_index_or}
 use Rattle.std.specs.List.{Contains}
 use Rattle.std.proofs.lemmas.List.Elements.{All-contains, All-weaker, Contains-append_right}
 use Rattle.std.proofs.lemmas.Option.{same_Some, none-some}
-use Rattle.std.proofs.lemmas.Bool.{cases_lt}
 use Rattle.graph_edits.specs.Edges.{EdgeMap, Network, IsSound}
 use Rattle.graph_edits.specs.Walks.{IsWalk, walk_length, IsLeast}
 use Rattle.graph_edits.specs.Laws.{IsWalk-join, IsWalk-turned}
@@ -17,30 +16,13 @@ use Rattle.distances.specs.Laws.{open_limits}
 use Rattle.distances.specs.declared.nearest.Near.{Near}
 use Rattle.distances.specs.declared.reach.Reached.{Reached}
 use Rattle.single_route.specs.LandmarkTrees.{IsMemberAt, IsParentIn}
+use Rattle.distances.proofs.LeastWalks.{none_least}
 use Rattle.single_route.specs.LandmarkTrails.{IsClimb, IsTreePath, IsInOwnTree}
 use Rattle.single_route.specs.ListedLines.{HasMember, AreParentsBefore, HasOneRoot, IsAbove, IsLine, IsListedPath}
 use Rattle.single_route.specs.FoundTrees.{IsTreeOf, IsTreeFor}
 use Rattle.single_route.proofs.ListedTrees.{has_of, of_has}
 use Rattle.single_route.proofs.Climbs.{apart_by_lasts, end_at}
 use Rattle.single_route.proofs.TrailWalks.{one_distance, one_parent, nearer_parent}
-
--- ---- least lengths
-
-none_below : (m : EdgeMap) (u v : ℕ) → ((d : ℕ) → IsLeast m (λ s. s ≡ u) v d → ⊥) → (n : ℕ) (xs : List ℕ) → walk_length m u xs < n → IsWalk m u xs v → ⊥
-none_below m u v none zero xs lt walk = absurd (omega (arith, lt))
-none_below m u v none (suc n) xs lt walk = none (walk_length m u xs) (record {
-  attained = (u, (refl, (xs, (walk, refl))));
-  least = λ s ys e w.
-      let same : walk_length m s ys ≡ walk_length m u ys = ap (λ z. walk_length m z ys) e in
-      elim (cases_lt (walk_length m u ys) (walk_length m u xs)) [
-        | inl less ↦ absurd (none_below m u v none n ys (omega (arith, less, lt)) (subst (λ z. IsWalk m z ys v) e w))
-        | inr le ↦ omega (arith, le, same)
-      ];
-})
-
--- where no length is the least, no walk leads
-pub none_least : (m : EdgeMap) (u v : ℕ) → ((d : ℕ) → IsLeast m (λ s. s ≡ u) v d → ⊥) → (xs : List ℕ) → IsWalk m u xs v → ⊥
-none_least m u v none xs walk = none_below m u v none (suc (walk_length m u xs)) xs (omega arith) walk
 
 module _ (m : EdgeMap) (flags : List Bool) where
   -- ---- the tree of the packet's own node

@@ -45,6 +45,41 @@ pub(crate) fn time_decisions(
     Ok(clock.nanos(rt)?.checked_div(found).unwrap_or(0))
 }
 
+/// A packet that nodes step on.
+trait Stepped: Sized {
+    /// The next node, and the packet that goes there; none at its end.
+    fn stepped(&self, scheme: &Scheme, at: u16) -> Option<(u16, Self)>;
+}
+
+impl Stepped for Packet {
+    fn stepped(&self, scheme: &Scheme, at: u16) -> Option<(u16, Packet)> {
+        match scheme.node_step(at, self) {
+            Ok(
+                Move::Forward {
+                    port: _,
+                    next,
+                    packet,
+                },
+            ) => Some((next, packet)),
+            Ok(Move::Delivered) | Err(_) => None,
+        }
+    }
+}
+
+/// A packet in bytes, which each node reads and writes again.
+#[derive(Drop)]
+struct InBytes([u8; PACKET_SIZE]);
+
+impl Stepped for InBytes {
+    fn stepped(&self, scheme: &Scheme, at: u16) -> Option<(u16, InBytes)> {
+        let Ok(packet) = Packet::from_bytes(&self.0) else {
+            return None;
+        };
+        let (next, onward) = packet.stepped(scheme, at)?;
+        Some((next, InBytes(onward.to_bytes())))
+    }
+}
+
 /// How many nanoseconds a step of a packet takes, on average over all packets and all of their steps.
 pub(crate) fn time_steps(
     rt: &HostRuntime,
@@ -57,6 +92,30 @@ pub(crate) fn time_steps(
             packets.push((*from, packet))?;
         }
     }
+    time_walks(rt, scheme, packets)
+}
+
+/// The same of a packet in bytes.
+pub(crate) fn time_byte_steps(
+    rt: &HostRuntime,
+    scheme: &Scheme,
+    pairs: &[(u16, u16)],
+) -> Result<u64, TimeRefused> {
+    let mut packets = Vec::with_capacity(rt.alloc(), pairs.len())?;
+    for (from, to) in pairs {
+        if let Some(packet) = packet_of(scheme, *from, *to) {
+            packets.push((*from, InBytes(packet.to_bytes())))?;
+        }
+    }
+    time_walks(rt, scheme, packets)
+}
+
+// Walks packets to their ends.
+fn time_walks<S: Stepped + Drop>(
+    rt: &HostRuntime,
+    scheme: &Scheme,
+    packets: Vec<(u16, S)>,
+) -> Result<u64, TimeRefused> {
     let mut steps = 0u64;
     let clock = Clock::start(rt)?;
     for (from, packet) in packets {
@@ -66,65 +125,15 @@ pub(crate) fn time_steps(
 }
 
 // How many steps a packet takes to its end. It has fewer hops than there are nodes.
-fn steps_of(scheme: &Scheme, from: u16, packet: Packet) -> u64 {
+fn steps_of<S: Stepped + Drop>(scheme: &Scheme, from: u16, packet: S) -> u64 {
     let (mut at, mut packet) = (from, packet);
     for steps in 1..=u16::MAX as u64 {
-        match scheme.node_step(at, &packet) {
-            Ok(
-                Move::Forward {
-                    port: _,
-                    next,
-                    packet: onward,
-                },
-            ) => {
+        match packet.stepped(scheme, at) {
+            Some((next, onward)) => {
                 at = next;
                 packet = onward;
             }
-            Ok(Move::Delivered) | Err(_) => return steps,
-        }
-    }
-    u16::MAX as u64
-}
-
-/// The same of a packet in bytes: it is read, stepped on and written again at each node.
-pub(crate) fn time_byte_steps(
-    rt: &HostRuntime,
-    scheme: &Scheme,
-    pairs: &[(u16, u16)],
-) -> Result<u64, TimeRefused> {
-    let mut packets = Vec::with_capacity(rt.alloc(), pairs.len())?;
-    for (from, to) in pairs {
-        if let Some(packet) = packet_of(scheme, *from, *to) {
-            packets.push((*from, packet.to_bytes()))?;
-        }
-    }
-    let mut steps = 0u64;
-    let clock = Clock::start(rt)?;
-    for (from, bytes) in packets {
-        steps = steps.saturating_add(byte_steps_of(scheme, from, bytes));
-    }
-    Ok(clock.nanos(rt)?.checked_div(steps).unwrap_or(0))
-}
-
-// How many steps the packet in these bytes takes to its end.
-fn byte_steps_of(scheme: &Scheme, from: u16, bytes: [u8; PACKET_SIZE]) -> u64 {
-    let (mut at, mut bytes) = (from, bytes);
-    for steps in 1..=u16::MAX as u64 {
-        let Ok(packet) = Packet::from_bytes(&bytes) else {
-            return steps;
-        };
-        match scheme.node_step(at, &packet) {
-            Ok(
-                Move::Forward {
-                    port: _,
-                    next,
-                    packet: onward,
-                },
-            ) => {
-                at = next;
-                bytes = onward.to_bytes();
-            }
-            Ok(Move::Delivered) | Err(_) => return steps,
+            None => return steps,
         }
     }
     u16::MAX as u64

@@ -4,7 +4,8 @@ use Rattle.requests.specs.Tickets.{worn_limit}
 use Rattle.layout_2.specs.State.{State}
 use Rattle.checkpoint.specs.StoreWords.{state_of, view_of}
 use Rattle.command_output.specs.declared.fault.Fault.TheVariants.{AlreadyIn, Worn}
-use Rattle.device_commands.specs.Answer.{KeepsThrough, IsNew, IsTaken, last_ticket, state_after, ticket_of, verdict_of}
+use Rattle.layout_2.specs.Standing.{KeepsThrough}
+use Rattle.device_commands.specs.Answer.{IsNew, IsTaken, last_ticket, state_after, ticket_of, verdict_of}
 use Rattle.device_commands.proofs.OneRequest.{edit_fails, edit_keeps, edit_leaves, edit_reads, of_one_state}
 use Rattle.device_commands.proofs.OpenFaults.{change_unwritten}
 use Rattle.device_commands.proofs.editing.edit.Goals as goal

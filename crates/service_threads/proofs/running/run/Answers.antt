@@ -1,4 +1,3 @@
-use Rattle.std.specs.Prelude.{◌≡◌}
 use Rattle.std.proofs.Common.{sym, subst}
 use Rattle.checkpoint.specs.StoreWords.{state_of, view_of}
 use Rattle.committer.specs.CommitterWords.{store_of}

@@ -1,6 +1,6 @@
 use Rattle.std.proofs.Common.{arith, ◌≡◌, ◌+◌, ◌++◌, ◌∷◌, [], ℕ, List, length, subst, sym, ap, ◌∙◌, refl, IsTrue, take}
-use Rattle.std.proofs.Math.Nat.{le_refl}
 use Rattle.std.proofs.lemmas.List.{take_more, take_all}
+use Rattle.disk_trait.specs.Disk.{ran_none, ran_on}
 use Rattle.checkpoint.specs.StoreWords.{disk_of}
 use Rattle.run_laws.specs.Runs.{IsRun}
 use Rattle.event_runs.specs.declared.event.Event.{Event}
@@ -9,7 +9,7 @@ use Rattle.event_runs.specs.Runs.{Run}
 use Rattle.event_runs.specs.Answers.{number_of}
 use Rattle.interleave.specs.WorldWords.{lists_of, machine_of, world_store, world_view}
 use Rattle.interleave.specs.Desks.{WorldStep}
-use Rattle.interleave.proofs.Going.{RanSoFar, moment_at, none_yet, one_more, safe_each, ran_on}
+use Rattle.interleave.proofs.Going.{RanSoFar, moment_at, none_yet, one_more, safe_each}
 use Rattle.interleave.proofs.Desks.{desks_run}
 use Rattle.interleave.proofs.world.World.run_into.Goals as goal
 
@@ -22,7 +22,7 @@ loop-event-init g c =
     let room = c.requires.room in
     record {
       room = omega (arith, long, known, room);
-      ran = record { as_long = refl; model = refl; no_fewer = le_refl (world_view world).failures };
+      ran = ran_none (world_view world);
       worlds = subst (λ (rs : List Reply). RanSoFar world [] rs world) (sym none) (none_yet world);
     }
 

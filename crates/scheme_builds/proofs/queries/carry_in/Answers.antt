@@ -4,7 +4,7 @@ use Rattle.node_table.specs.Service.{address}
 use Rattle.node_table.specs.Tables.{tables}
 use Rattle.node_table.specs.Trails.{IsTrailOf}
 use Rattle.scheme_builds.proofs.Addresses.{never_refused, own_address}
-use Rattle.scheme_figures.proofs.measures.carried.Goals as goal
+use Rattle.scheme_builds.proofs.queries.carry_in.Goals as goal
 
 pub unreachable-requires : goal.unreachable-requires
 unreachable-requires c = never_refused c.args.graph.now c.args.scheme.now c.args.to c.address.result c.in_default.field-0 c.requires.checked c.requires.to c.address.ensures c.in_default.is
