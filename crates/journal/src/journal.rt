@@ -127,6 +127,13 @@ impl<E: Entry> Journal<E> {
         self.area
     }
 
+    /// How many bytes are left behind the records and the gate that ends them: the longest record that `append` still takes.
+    pub fn room_left(&self) -> usize
+        ensures { result + length (records E.form self.now.groups) + 1 ≡ self.now.area.room }
+    {
+        self.area.room - self.end - GATE_SIZE
+    }
+
     /// Whether the record of a group and the next gate fit in what is left of the area. Where they don't,
     /// `append` answers `NoRoom`.
     pub fn has_room(&self, entries: &[E]) -> bool
