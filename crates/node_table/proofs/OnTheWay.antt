@@ -2,3 +2,4 @@
 pub mod CarriedTrails
 pub mod WayLaws
 pub mod Generations
+pub mod RowLemmas

@@ -1,17 +1,16 @@
-ghost use Rattle.std.specs.Prelude.{◌≡◌, ◌<◌, ◌≤◌, ◌^◌, ◌==◌, ℕ, cond, is_some, None, Some, Ok, Err, IfOk, length, MatchOption, slice_get};
-ghost use Rattle.node_table.specs.declared.packet.Move.TheVariants.{Delivered};
-ghost use Rattle.node_table.specs.declared.packet.Refused.TheVariants.{Stray, Unreachable};
+ghost use Rattle.std.specs.Prelude.{◌≡◌, ◌<◌, ◌≤◌, ◌^◌, ℕ, None, Some, IfOk, length, MatchOption, slice_get};
 ghost use Rattle.node_table.specs.Checks.{distance_of};
 ghost use Rattle.node_table.specs.Laws.{AreTreesOf};
 ghost use Rattle.node_table.specs.Ports.{index_of};
-ghost use Rattle.node_table.specs.Service.{address_given, decide as packet_given, forward_over, home_of, node_step as move_given, one_less, packet_by, IsOfGeneration};
+ghost use Rattle.node_table.specs.Service.{address_given, decide as packet_given, home_of, node_step as move_given, IsOfGeneration};
 ghost use Rattle.node_table.specs.Tables.{AreAscending, entries_at, first_entry, first_listed, directory_at, nodes_of, or_none, roots_of, tables, ports_at};
 
 use crate::numbers_apart::NumbersApart;
 use crate::packet::{Address, Home, Move, Packet, Refused};
 use crate::parts::{Entry, Listed, Near, Parts};
+use crate::rows::{RowsAt, move_from, packet_from};
 use crate::search::{first_place, tables_ascend};
-use heavy_labels::{Label, TreeStep, step};
+use heavy_labels::Label;
 use std::alloc::{AllocError, Global};
 use std::marker::Model;
 
@@ -167,125 +166,40 @@ impl Scheme {
         })
     }
 
-    /// The packet that a node sends to an address: in its own tree where its directory lists the destination, else in
-    /// the tree of the landmark that the address names. The address's generation isn't looked at: a packet has the scheme's.
+    /// The packet that a node sends to an address ([`packet_from`] of the node's rows).
     #[tactic(auto, using(crate::proofs::OnTheWay::Generations::decide_generation))]
     pub fn decide(&self, u: u16, address: &Address) -> Result<Packet, Refused>
         ensures packet { result ≡ packet_given (tables self.now) u address.now }
         ensures generation { IfOk result (λ packet. packet.generation ≡ self.now.generation) }
     {
-        let nodes = self.parts.nodes;
-        if u >= nodes || address.node >= nodes {
-            return Err(Refused::NoNode);
-        }
-        if let Some(label) = self.listed(u, address.node) {
-            return Ok(self.packet(address.node, u, label));
-        }
-        match &address.home {
-            Some(home) => self.by_home(u, address.node, home),
-            None => Err(Refused::Unreachable),
-        }
+        packet_from(&self.rows_at(u), address)
     }
 
-    /// The packet for v in the tree of a landmark that has an entry at u.
-    fn by_home(&self, u: u16, v: u16, home: &Home) -> Result<Packet, Refused>
-        requires { u < self.now.nodes }
-        ensures { result ≡ cond (is_some ((tables self.now).entry u home.now.landmark)) (Ok (packet_by (tables self.now) v home.now.landmark home.now.label)) (Err Unreachable) }
+    /// What a node does with a packet ([`move_from`] of the node's rows).
+    #[tactic(auto, using(crate::proofs::OnTheWay::Generations::node_step_generation))]
+    pub fn node_step(&self, x: u16, packet: &Packet) -> Result<Move, Refused>
+        ensures moved { result ≡ move_given (tables self.now) x packet.now }
+        ensures generation { IfOk result (IsOfGeneration packet.now.generation) }
     {
-        if self.entry(u, home.landmark).is_none() {
-            return Err(Refused::Unreachable);
-        }
-        Ok(self.packet(v, home.landmark, &home.label))
+        move_from(&self.rows_at(x), packet)
     }
 
-    /// A new packet for a node, to go in the tree of `root` by the node's label there.
-    fn packet(&self, destination: u16, root: u16, label: &Label) -> Packet
-        requires { 0 < self.now.nodes }
-        ensures { result ≡ packet_by (tables self.now) destination root label.now }
+    /// The rows of a node.
+    fn rows_at(&self, node: u16) -> RowsAt<'_>
+        ensures scheme { result.scheme.now ≡ self.now }
+        ensures node { result.node ≡ node }
     {
-        Packet {
-            generation: self.parts.generation,
-            destination,
-            root,
-            label: label.copy(),
-            hops_left: self.parts.nodes - 1,
-        }
+        RowsAt { scheme: self, node }
     }
 
     /// The node behind a port.
-    fn over(&self, x: u16, port: u16) -> Option<u16>
+    pub(crate) fn over(&self, x: u16, port: u16) -> Option<u16>
         ensures { result ≡ (tables self.now).over x port }
     {
         match self.parts.ports.get(x as usize) {
             Some(ports) => port_at(ports.as_slice(), port),
             None => None,
         }
-    }
-
-    /// The packet goes on by a port of x.
-    fn forward(&self, x: u16, port: u16, packet: &Packet) -> Result<Move, Refused>
-        ensures { result ≡ forward_over packet.now port ((tables self.now).over x port) }
-    {
-        let Some(next) = self.over(x, port) else {
-            return Err(Refused::Stray);
-        };
-        if packet.hops_left == 0 {
-            return Err(Refused::Spent);
-        }
-        Ok(Move::Forward {
-            port,
-            next,
-            packet: one_hop_less(packet),
-        })
-    }
-
-    /// What a node does with a packet. The packet's generation isn't looked at, and a packet that goes on keeps it.
-    #[tactic(auto, using(crate::proofs::OnTheWay::Generations::node_step_generation))]
-    pub fn node_step(&self, x: u16, packet: &Packet) -> Result<Move, Refused>
-        ensures moved { result ≡ move_given (tables self.now) x packet.now }
-        ensures generation { IfOk result (IsOfGeneration packet.now.generation) }
-    {
-        let nodes = self.parts.nodes;
-        if x >= nodes {
-            return Err(Refused::NoNode);
-        }
-        if packet.hops_left >= nodes {
-            return Err(Refused::Stray);
-        }
-        let Some(entry) = self.entry(x, packet.root) else {
-            return Err(Refused::Stray);
-        };
-        match step(&entry.tree_record, &packet.label) {
-            TreeStep::Arrived => delivered(x, packet),
-            TreeStep::Port(port) => self.forward(x, port, packet),
-            TreeStep::NoParent => Err(Refused::Stray),
-            TreeStep::NoLight => Err(Refused::Stray),
-        }
-    }
-}
-
-/// The packet with one hop less.
-fn one_hop_less(packet: &Packet) -> Packet
-    requires { 0 < packet.now.hops_left }
-    ensures { result ≡ one_less packet.now }
-{
-    Packet {
-        generation: packet.generation,
-        destination: packet.destination,
-        root: packet.root,
-        label: packet.label.copy(),
-        hops_left: packet.hops_left - 1,
-    }
-}
-
-/// What x does with a packet whose label is x's own in the packet's tree.
-fn delivered(x: u16, packet: &Packet) -> Result<Move, Refused>
-    ensures { result ≡ cond (x == packet.now.destination) (Ok Delivered) (Err Stray) }
-{
-    if x == packet.destination {
-        Ok(Move::Delivered)
-    } else {
-        Err(Refused::Stray)
     }
 }
 
