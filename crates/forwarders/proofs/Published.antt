@@ -1,8 +1,10 @@
 -- What stands on a shelf was published, and under one number one scheme was.
 use Rattle.std.proofs.Common.{◌≡◌, ◌⊎◌, inl, inr, ⊎_elim, ◌<◌, ◌+◌, ◌-◌, ◌==◌, ℕ, zero, suc, Bool, true, false, cond, List, [], ◌∷◌, ◌++◌, length, map, drop, fold, Option, Some, None, slice_index, slice_index_or, refl, sym, ap, ◌∙◌, subst, arith}
+use Rattle.std.specs.List.{Contains}
 use Rattle.std.specs.List.Sorted.{IsStrictlyIncreasing}
 use Rattle.std.proofs.lemmas.Bool.{eqb-true}
 use Rattle.std.proofs.lemmas.List.Concat.{flat_map-append}
+use Rattle.std.proofs.lemmas.List.Elements.{Contains-append_right}
 use mathlib.Core.List.{IsPrefix}
 use Rattle.node_table.specs.declared.parts.Parts.{Parts}
 use Rattle.generations.specs.declared.posting.Notice.{Notice}
@@ -102,3 +104,18 @@ found_published all seen n p q lawful has on found =
     let mine : Among (generations_in seen.log) n q =
     found_among (generations_in seen.log) (board_after seen).shelf n q (shelf_fold (generations_in seen.log) seen.log (fresh seen.opening.starts seen.opening.count) tt (λ m r h. h)) found in
     one_among (generations_in all.log) n q p lawful.numbers (among_prefix seen.log all.log n q on.1 mine) (among_at (generations_in all.log) n p has.0 has.1 has.2)
+
+contains_among : (gs : List (ℕ × Parts)) (n : ℕ) (p : Parts) → Among gs n p → Contains gs (n, p)
+contains_among [] n p h = absurd h
+contains_among (g ∷ gs) n p (inl same) = (0, omega arith, pair_is g n p same.0 same.1)
+  where
+    pair_is : (h : ℕ × Parts) (m : ℕ) (q : Parts) → h.0 ≡ m → h.1 ≡ q → h ≡ (m, q)
+    pair_is h m q a b = ap (λ (k : ℕ). (k, h.1)) a ∙ ap (λ (r : Parts). (m, r)) b
+contains_among (g ∷ gs) n p (inr behind) = Contains-append_right (g ∷ []) gs (n, p) (contains_among gs n p behind)
+
+-- a scheme that is found on the shelf of a beginning was published under its number
+pub published_there : (all seen : Beginning) (n : ℕ) (q : Parts) → GoesOn seen all → scheme_of n (board_after seen).shelf ≡ Some q → IsPublished all n q
+published_there all seen n q on found =
+    let mine : Among (generations_in seen.log) n q =
+    found_among (generations_in seen.log) (board_after seen).shelf n q (shelf_fold (generations_in seen.log) seen.log (fresh seen.opening.starts seen.opening.count) tt (λ m r h. h)) found in
+    contains_among (generations_in all.log) n q (among_prefix seen.log all.log n q on.1 mine)

@@ -6,3 +6,4 @@ pub mod Shelving
 pub mod Keeping
 pub mod Lawfulness
 pub mod Numbers
+pub mod LastMarks

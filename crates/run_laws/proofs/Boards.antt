@@ -1,18 +1,17 @@
 -- What a board of a life says of a session, and the state of its store.
-use Rattle.std.proofs.Common.{◌≡◌, ◌⊎◌, inl, inr, ⊎_elim, ◌<◌, ◌≤◌, ◌==◌, ℕ, zero, suc, Bool, true, false, true≢false, cond, List, [], ◌∷◌, ◌++◌, length, map, fold, take, drop, get_or, set, replicate, Option, Some, None, refl, sym, ap, ◌∙◌, subst, arith, append_assoc}
+use Rattle.std.proofs.Common.{◌≡◌, ◌<◌, ◌≤◌, ◌==◌, ℕ, zero, suc, Bool, true, false, true≢false, cond, List, [], ◌∷◌, ◌++◌, length, map, fold, take, drop, slice_index_or, Option, Some, None, refl, sym, ap, ◌∙◌, subst, arith, append_assoc}
 use Rattle.std.proofs.Math.Seq.{take-append_seam}
-use Rattle.std.proofs.lemmas.List.{take-append-drop, get_or-set_other, get_or-replicate, length-replicate}
-use Rattle.std.proofs.lemmas.List.Sums.{fold-append}
+use Rattle.std.proofs.lemmas.List.{take-append-drop}
 use Rattle.std.proofs.lemmas.Bool.{eqb-true}
 use Rattle.requests.specs.Tickets.{sessions, last_of, tickets_after, times, Rises, NoneOf}
 use Rattle.requests.specs.declared.request.Request.{Request}
-use Rattle.requests.proofs.TicketLemmas.{either_same, either_way, after_wide, no_less, greatest, rises_first, rises_rest, none_of, after_append}
+use Rattle.requests.proofs.TicketLemmas.{after_wide, no_less, greatest, rises_first, rises_rest, none_of, after_append}
 use Rattle.layout_2.specs.State.{State, asked}
 use Rattle.generations.specs.declared.posting.Mark.{Mark}
 use Rattle.generations.specs.declared.posting.Notice.{Notice}
-use Rattle.generations.specs.declared.posting.Notice.TheVariants.{Marked, Failed, Built}
-use Rattle.generations.specs.Notices.{told_to, marks_of, marks_in}
-use Rattle.generations.specs.Boards.{BoardState, after, fresh, board_of, marked, accepting, mark_of}
+use Rattle.generations.specs.Notices.{told_to, marks_in}
+use Rattle.generations.specs.Boards.{BoardState, board_of, accepting, mark_of}
+use Rattle.generations.proofs.LastMarks.{mark_there}
 use Rattle.generations.proofs.Lawfulness.{marks_append, accepted_as_told}
 use Rattle.group_commit.specs.Settling.{Settled, settle}
 use Rattle.group_commit.proofs.SettlingLemmas.{settle-append, one_mark_each}
@@ -25,53 +24,19 @@ use Rattle.run_laws.proofs.Settled.{board_shows, marks_take, untouched, own_time
 
 -- ---- the last marks of a board
 
-marks_by_one : (s : BoardState) (p : Notice) → (after s p).marks ≡ fold marked s.marks (marks_of p)
-marks_by_one s (Marked ms) = refl
-marks_by_one s Failed = refl
-marks_by_one s (Built number scheme) = refl
-
-marks_from : (s : BoardState) (log : List Notice) → (fold after s log).marks ≡ fold marked s.marks (marks_in log)
-marks_from s [] = refl
-marks_from s (p ∷ log) = marks_from (after s p) log ∙ (ap (λ (t : List (Option Mark)). fold marked t (marks_in log)) (marks_by_one s p) ∙ sym (fold-append marked s.marks (marks_of p) (marks_in log)))
-
--- what stands at a place after it was set stood there before, or is what was set
-set_at : {A : Type 0} (l : List A) (i : ℕ) (a d b : A) → get_or (set l i a) i d ≡ b → (get_or l i d ≡ b) ⊎ (a ≡ b)
-set_at [] i a d b e = inl e
-set_at (x ∷ l) zero a d b e = inr e
-set_at (x ∷ l) (suc i) a d b e = set_at l i a d b e
-
--- a last mark stood there before, or is among the marks
-marked_in : (ms : List Mark) (old : List (Option Mark)) (s : ℕ) (m : Mark) → get_or (fold marked old ms) s None ≡ Some m → (get_or old s None ≡ Some m) ⊎ (0 < times s m.ticket (map told_to ms))
-marked_in [] old s m e = inl e
-marked_in (x ∷ ms) old s m e = ⊎_elim
-    (λ at. ⊎_elim
-    (λ (same : x.session ≡ s).
-    ⊎_elim (λ before. inl before)
-    (λ (now : Some x ≡ Some m). inr (own_time s m.ticket (told_to x) (map told_to ms) same (let f : x ≡ m = cc in ap (λ (y : Mark). y.ticket) f)))
-    (set_at old s (Some x) None (Some m) (ap (λ (i : ℕ). get_or (set old i (Some x)) s None) (sym same) ∙ at)))
-    (λ (other : x.session ≡ s → ⊥). inl (sym (get_or-set_other old x.session s (Some x) None (λ e. other (sym e))) ∙ at))
-    (either_same x.session s))
-    (λ some. inr (more_times s m.ticket (told_to x) (map told_to ms) some))
-    (marked_in ms (marked old x) s m e)
-
-past_end : {A : Type 0} (l : List A) (i : ℕ) (d : A) → length l ≤ i → get_or l i d ≡ d
-past_end [] i d h = refl
-past_end (x ∷ l) zero d h = absurd (omega (arith, h))
-past_end (x ∷ l) (suc i) d h = past_end l i d (omega (arith, h))
-
-none_there : (n s : ℕ) (m : Mark) → get_or (replicate n None) s None ≡ Some m → ⊥
-none_there n s m e =
-    let o : Option Mark = None in
-    let none : get_or (replicate n o) s o ≡ o = ⊎_elim (λ le. past_end (replicate n o) s o (let l = length-replicate n o in omega (arith, l, le))) (λ lt. get_or-replicate n s o o lt) (either_way n s) in
-    let g : Some m ≡ o = sym e ∙ none in
-    cc
+-- a mark that was told counts under its ticket
+times_at : (ms : List Mark) (s : ℕ) (m : Mark) (k : ℕ) → m.session ≡ s → k < length ms → slice_index_or ms k m ≡ m → 0 < times s m.ticket (map told_to ms)
+times_at [] s m k own lt at = absurd (omega (arith, lt))
+times_at (x ∷ ms) s m zero own lt at =
+    let same : x ≡ m = at in
+    own_time s m.ticket (told_to x) (map told_to ms) (ap (λ (y : Mark). y.session) same ∙ own) (ap (λ (y : Mark). y.ticket) same)
+times_at (x ∷ ms) s m (suc k) own lt at = more_times s m.ticket (told_to x) (map told_to ms) (times_at ms s m k own (omega (arith, lt)) at)
 
 -- the session's last mark of a board is among the marks that were told
 mark_told : (starts : List ℕ) (count : ℕ) (log : List Notice) (s : ℕ) (m : Mark) → mark_of (board_of starts count log) s ≡ Some m → 0 < times s m.ticket (map told_to (marks_in log))
-mark_told starts count log s m e = ⊎_elim
-    (λ none. absurd (none_there sessions s m none))
-    (λ some. some)
-    (marked_in (marks_in log) (replicate sessions None) s m (ap (λ (l : List (Option Mark)). get_or l s None) (sym (marks_from (fresh starts count) log)) ∙ e))
+mark_told starts count log s m e =
+    let there = mark_there starts count log s m e in
+    times_at (marks_in log) s m there.1.0 there.0 there.1.1 there.1.2
 
 -- a ticket that isn't open on a board is that of the session's last mark there
 record IsMarked (o : Option Mark) (l : ℕ) : Type 0 where

@@ -8,23 +8,21 @@ use crate::committing::{Rebuilds, commit_all, first_generation};
 use checkpoint::Store;
 use committer::Committer;
 use disk_trait::Disk;
-use generations::Verdict;
 use graph_edits::Change;
 use service_workers::{
-    Carried, Coordinator, EditorOf, ForwarderOf, Hooks, Naming, Shares, StopCause, Trip,
+    Coordinator, Edited, EditorOf, Forwarded, ForwarderOf, Hooks, Naming, Shares, StopCause, Trip,
     WordSource, WorkerResults, edit_all, forward_all,
 };
 use std::alloc::{AllocError, Global};
-use std::collections::VecDeque;
 use std::sync::Wait;
 use std::thread;
 use std::thread::{JoinHandle, Scope, Threads};
 
 // The threads of editors and forwarders that were made.
 #[derive(Drop)]
-struct Started {
-    editing: Vec<JoinHandle<VecDeque<Verdict>>>,
-    forwarding: Vec<JoinHandle<VecDeque<Carried>>>,
+struct Started<J: Naming> {
+    editing: Vec<JoinHandle<Edited<J>>>,
+    forwarding: Vec<JoinHandle<Forwarded<J>>>,
 }
 
 /// The editors and forwarders at the board that `J` names.
@@ -36,7 +34,11 @@ pub struct Workers<J: Naming> {
 
 // Room for the handles of all threads. It is there before the first thread is made: a handle that found none would be dropped,
 // and nobody would wait for its thread.
-fn room(alloc: Global, editing: usize, forwarding: usize) -> Result<Started, AllocError>
+fn room<J: Naming>(
+    alloc: Global,
+    editing: usize,
+    forwarding: usize,
+) -> Result<Started<J>, AllocError>
     ensures editing { IfOk result (λ s. (s.editing.items ≡ []) × (editing ≤ vec_capacity s.editing)) }
     ensures forwarding { IfOk result (λ s. (s.forwarding.items ≡ []) × (forwarding ≤ vec_capacity s.forwarding)) }
 {
@@ -56,7 +58,7 @@ fn start_editors<'s, E, J: Naming + Send + Sync, R: Wait + Sync>(
     coordinator: &'s Coordinator<J>,
     editors: Vec<EditorOf<J>>,
     changes: Vec<Vec<Change>>,
-    handles: &mut Vec<JoinHandle<VecDeque<Verdict>>>,
+    handles: &mut Vec<JoinHandle<Edited<J>>>,
 ) {
     for (seat, changes) in editors.into_iter().zip(changes) {
         if handles.len() == handles.capacity() {
@@ -81,7 +83,7 @@ fn start_forwarders<'s, E, J: Naming + Send + Sync, G: Hooks + Sync, R: Wait + S
     hooks: &'s G,
     forwarders: Vec<ForwarderOf<J>>,
     trips: Vec<Vec<Trip>>,
-    handles: &mut Vec<JoinHandle<VecDeque<Carried>>>,
+    handles: &mut Vec<JoinHandle<Forwarded<J>>>,
 ) {
     for (seat, trips) in forwarders.into_iter().zip(trips) {
         if handles.len() == handles.capacity() {
@@ -98,28 +100,28 @@ fn start_forwarders<'s, E, J: Naming + Send + Sync, G: Hooks + Sync, R: Wait + S
 }
 
 // What the threads answered. All of them have ended then, also where memory ran out: the board must outlive them.
-fn joined<R: Threads>(
+fn joined<J: Naming, R: Threads>(
     rt: &R,
     alloc: Global,
-    started: Started,
+    started: Started<J>,
 ) -> Result<WorkerResults, AllocError> {
     let Started {
         editing,
         forwarding,
     } = started;
-    let mut verdicts = Vec::new(alloc);
+    let mut marks = Vec::new(alloc);
     let mut carried = Vec::new(alloc);
     let mut all = true;
     for handle in editing {
-        all = verdicts.push(handle.join(rt)).is_ok() && all;
+        all = marks.push(handle.join(rt).marks).is_ok() && all;
     }
     for handle in forwarding {
-        all = carried.push(handle.join(rt)).is_ok() && all;
+        all = carried.push(handle.join(rt).carried).is_ok() && all;
     }
     if !all {
         return Err(AllocError);
     }
-    Ok(WorkerResults { verdicts, carried })
+    Ok(WorkerResults { marks, carried })
 }
 
 // Why the threads gave no results, or their results. What the committer itself met goes before what another thread met; of the device

@@ -1,2 +1,4 @@
 pub mod Outcomes
 pub mod Turned
+pub mod ChangesInOrder
+pub mod PacketsInOrder

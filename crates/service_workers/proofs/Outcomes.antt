@@ -22,7 +22,7 @@ told_once l t (No op code) (Yes d) is = absurd (cc)
 told_once l t (No op code) (No place why) is = cc
 
 -- what isn't settled tells no verdict
-untold : (down : Bool) (t : ℕ) (v : Verdict) → cond down Down Waiting ≡ told t v → ⊥
+pub untold : (down : Bool) (t : ℕ) (v : Verdict) → cond down Down Waiting ≡ told t v → ⊥
 untold true t (Yes c) is = cc
 untold true t (No op code) is = cc
 untold false t (Yes c) is = cc

@@ -1,3 +1,5 @@
 pub mod Answers
 pub mod Settled
+pub mod Edited
+pub mod Forwarded
 pub mod Source

@@ -1,5 +1,7 @@
 // An editor's thread.
-ghost use Rattle.std.specs.Prelude.{◌≡◌, ◌++◌, ◌∷◌, [], IfSome};
+ghost use Rattle.std.specs.Prelude.{◌≡◌, ◌++◌, ◌∷◌, [], IfSome, None};
+ghost use mathlib.Core.List.{IsPrefix};
+ghost use Rattle.service_workers.specs.Edited.{AreEdited, IsEdited, IsSameEditor};
 ghost use Rattle.service_workers.specs.Settled.{IsMarkOf};
 
 use crate::coordinator::Coordinator;
@@ -43,9 +45,10 @@ fn put<J: Naming, R: Wait>(
     change: Change,
 ) -> Option<u64>
     requires { editor.old.known.opening ≡ J.opening }
-    ensures same { (editor.new.queue ≡ editor.old.queue) × ((editor.new.session ≡ editor.old.session) × (editor.new.start ≡ editor.old.start)) }
+    ensures same { IsSameEditor editor.old editor.new }
     ensures known { editor.new.known.opening ≡ J.opening }
     ensures put { IfSome result (λ ticket. editor.new.put ≡ editor.old.put ++ record { session = editor.old.session; ticket = ticket; change = change } ∷ []) }
+    ensures none_put { result ≡ None → editor.new.put ≡ editor.old.put }
 {
     let mut ticket = first;
     let mut change = change;
@@ -88,8 +91,9 @@ fn settled<J: Naming, R: Wait>(
     editor: &mut Editor,
 ) -> Option<Mark>
     requires { editor.old.known.opening ≡ J.opening }
-    ensures same { (editor.new.queue ≡ editor.old.queue) × ((editor.new.session ≡ editor.old.session) × ((editor.new.start ≡ editor.old.start) × (editor.new.put ≡ editor.old.put))) }
+    ensures same { IsSameEditor editor.old editor.new }
     ensures known { editor.new.known.opening ≡ J.opening }
+    ensures none_put { editor.new.put ≡ editor.old.put }
     ensures mark { IfSome result (λ mark. IsMarkOf editor.new mark) }
 {
     let session = editor.session();
@@ -134,35 +138,64 @@ fn edit<J: Naming, R: Wait>(
     change: Change,
 ) -> Option<Mark>
     requires { editor.old.known.opening ≡ J.opening }
+    ensures same { IsSameEditor editor.old editor.new }
     ensures known { editor.new.known.opening ≡ J.opening }
-    ensures mark { IfSome result (λ mark. IsMarkOf editor.new mark) }
-    ensures put { IfSome result (λ mark. editor.new.put ≡ editor.old.put ++ record { session = editor.old.session; ticket = mark.ticket; change = change } ∷ []) }
+    ensures edited { IfSome result (λ mark. IsEdited editor.old change editor.new mark) }
+    ensures put { IsPrefix editor.old.put editor.new.put }
 {
     put(rt, coordinator, editor, first, change)?;
     settled(rt, coordinator, editor)
 }
 
-/// Submits the changes one by one, none before the last one's mark is there, and answers their verdicts. Where all stop, some lack.
+// Submits the changes one by one, none before the last one's mark is there.
+fn edit_each<J: Naming, R: Wait>(
+    rt: &R,
+    alloc: Global,
+    coordinator: &Coordinator<J>,
+    editor: &mut Editor,
+    changes: Vec<Change>,
+) -> VecDeque<Mark>
+    requires { editor.old.known.opening ≡ J.opening }
+    ensures known { editor.new.known.opening ≡ J.opening }
+    ensures edited { AreEdited editor.old changes.items editor.new result.items }
+{
+    let mut marks = VecDeque::new(alloc);
+    let mut last = editor.resume();
+    for change in changes {
+        let Some(mark) = edit(rt, coordinator, editor, last.saturating_add(1), change) else {
+            return marks;
+        };
+        last = mark.ticket;
+        if marks.push_back(mark).is_err() {
+            coordinator.stop(rt, StopCause::Memory);
+            return marks;
+        }
+    }
+    marks
+}
+
+/// An editor that has done its part, and the marks of its changes, in their order.
+#[derive(Drop)]
+pub struct Edited<J: Naming> {
+    pub seat: EditorOf<J>,
+    pub marks: VecDeque<Mark>,
+}
+
+/// Submits the changes one by one, none before the last one's mark is there, and answers their marks. Where all stop, some lack.
 pub fn edit_all<J: Naming, R: Wait>(
     rt: &R,
     alloc: Global,
     coordinator: &Coordinator<J>,
     seat: EditorOf<J>,
     changes: Vec<Change>,
-) -> VecDeque<Verdict> {
+) -> Edited<J>
+    ensures { AreEdited seat.editor changes.items result.seat.editor result.marks.items }
+{
     let EditorOf { mut editor, of: _ } = seat;
-    let mut verdicts = VecDeque::new(alloc);
-    let mut last = editor.resume();
-    for change in changes {
-        let Some(mark) = edit(rt, coordinator, &mut editor, last.saturating_add(1), change) else {
-            break;
-        };
-        last = mark.ticket;
-        if verdicts.push_back(mark.verdict).is_err() {
-            coordinator.stop(rt, StopCause::Memory);
-            break;
-        }
-    }
+    let marks = edit_each(rt, alloc, coordinator, &mut editor, changes);
     coordinator.leave(rt);
-    verdicts
+    Edited {
+        seat: EditorOf::new(editor),
+        marks,
+    }
 }

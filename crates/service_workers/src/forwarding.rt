@@ -1,5 +1,7 @@
 // A forwarder's thread.
-ghost use Rattle.std.specs.Prelude.{◌≡◌};
+ghost use Rattle.std.specs.Prelude.{◌≡◌, IfSome};
+ghost use Rattle.generations.specs.Beginnings.{GoesOn};
+ghost use Rattle.service_workers.specs.Forwarded.{AreCarried, IsCarried, IsLaunched, IsSent, launched_at};
 
 use crate::coordinator::Coordinator;
 use crate::hooks::Hooks;
@@ -76,10 +78,12 @@ fn carry<J: Naming, G: Hooks, R: Wait>(
     coordinator: &Coordinator<J>,
     hooks: &G,
     forwarder: &mut Forwarder,
-    from: u16,
+    trip: Trip,
     packet: Packet,
 ) -> Launched
-    ensures { forwarder.new.opening ≡ forwarder.old.opening }
+    requires { IsSent forwarder.old trip.from trip.to packet }
+    ensures kept { GoesOn forwarder.old forwarder.new }
+    ensures launched { IsLaunched forwarder.new trip result }
 {
     let generation = packet.generation;
     // One that isn't shown any more has left the shelf, or is about to.
@@ -87,10 +91,10 @@ fn carry<J: Naming, G: Hooks, R: Wait>(
         return Launched::Again;
     };
     let mut nodes = Vec::new(alloc);
-    if nodes.push(from).is_err() {
+    if nodes.push(trip.from).is_err() {
         return Launched::Halted(StopCause::Memory);
     }
-    let mut at = from;
+    let mut at = trip.from;
     let mut packet = packet;
     for _ in rt.forever() {
         match forwarder.hop(at, packet) {
@@ -141,7 +145,8 @@ fn launch<J: Naming, G: Hooks, R: Wait>(
     forwarder: &mut Forwarder,
     trip: Trip,
 ) -> Launched
-    ensures { forwarder.new.opening ≡ forwarder.old.opening }
+    ensures kept { GoesOn forwarder.old forwarder.new }
+    ensures launched { IsLaunched forwarder.new trip result }
 {
     let Ok(Some(generation)) = forwarder.latest() else {
         return Launched::Again;
@@ -151,13 +156,15 @@ fn launch<J: Naming, G: Hooks, R: Wait>(
         Err(refused) => return refused_at(generation, refused),
     };
     match forwarder.launch(trip.from, &address) {
-        Ok(packet) => carry(rt, alloc, coordinator, hooks, forwarder, trip.from, packet),
+        Ok(packet) => carry(rt, alloc, coordinator, hooks, forwarder, trip, packet),
         Err(refused) => refused_at(generation, refused),
     }
 }
 
 // What becomes of a packet that isn't launched.
-fn refused_at(generation: u64, refused: Refused) -> Launched {
+fn refused_at(generation: u64, refused: Refused) -> Launched
+    ensures { result ≡ launched_at generation refused }
+{
     match refused {
         Refused::NoNode => Launched::Answered(Carried::NoNode),
         Refused::Unreachable => Launched::Answered(Carried::Unreachable { generation }),
@@ -176,7 +183,9 @@ fn forward<J: Naming, G: Hooks, R: Wait>(
     trip: Trip,
 ) -> Option<Carried>
     requires { forwarder.old.opening ≡ J.opening }
-    ensures { forwarder.new.opening ≡ J.opening }
+    ensures opening { forwarder.new.opening ≡ J.opening }
+    ensures kept { GoesOn forwarder.old forwarder.new }
+    ensures carried { IfSome result (λ carried. IsCarried forwarder.new trip carried) }
 {
     for _ in rt.forever() {
         hooks.before_launch();
@@ -197,6 +206,39 @@ fn forward<J: Naming, G: Hooks, R: Wait>(
     unreachable!()
 }
 
+// Forwards one packet after the other.
+fn forward_each<J: Naming, G: Hooks, R: Wait>(
+    rt: &R,
+    alloc: Global,
+    coordinator: &Coordinator<J>,
+    hooks: &G,
+    forwarder: &mut Forwarder,
+    trips: Vec<Trip>,
+) -> VecDeque<Carried>
+    requires { forwarder.old.opening ≡ J.opening }
+    ensures opening { forwarder.new.opening ≡ J.opening }
+    ensures carried { AreCarried forwarder.new trips.items result.items }
+{
+    let mut all = VecDeque::new(alloc);
+    for trip in trips {
+        let Some(carried) = forward(rt, alloc, coordinator, hooks, forwarder, trip) else {
+            return all;
+        };
+        if all.push_back(carried).is_err() {
+            coordinator.stop(rt, StopCause::Memory);
+            return all;
+        }
+    }
+    all
+}
+
+/// A forwarder that has done its part, and what became of each of its packets, in their order.
+#[derive(Drop)]
+pub struct Forwarded<J: Naming> {
+    pub seat: ForwarderOf<J>,
+    pub carried: VecDeque<Carried>,
+}
+
 /// Forwards one packet after the other, and answers what became of each. Where all stop, some lack.
 pub fn forward_all<J: Naming, G: Hooks, R: Wait>(
     rt: &R,
@@ -205,20 +247,19 @@ pub fn forward_all<J: Naming, G: Hooks, R: Wait>(
     hooks: &G,
     seat: ForwarderOf<J>,
     trips: Vec<Trip>,
-) -> VecDeque<Carried> {
+) -> Forwarded<J>
+    ensures { AreCarried result.seat.forwarder trips.items result.carried.items }
+{
     let ForwarderOf {
         mut forwarder,
         of: _,
     } = seat;
-    let mut all = VecDeque::new(alloc);
-    for trip in trips {
-        let Some(carried) = forward(rt, alloc, coordinator, hooks, &mut forwarder, trip) else {
-            break;
-        };
-        if all.push_back(carried).is_err() {
-            coordinator.stop(rt, StopCause::Memory);
-            break;
-        }
+    let carried = forward_each(rt, alloc, coordinator, hooks, &mut forwarder, trips);
+    Forwarded {
+        seat: ForwarderOf {
+            forwarder,
+            of: PhantomData,
+        },
+        carried,
     }
-    all
 }

@@ -13,8 +13,8 @@
 //! ```text
 //! let (turns, shares) = shared(alloc, 2, 2, script)?;
 //! let coordinator = Coordinator::new(told, graphs, 2);
-//! let verdicts = edit_all(rt, alloc, &coordinator, editor, changes);
-//! let carried = forward_all(rt, alloc, &coordinator, &NoHooks, forwarder, trips);
+//! let edited = edit_all(rt, alloc, &coordinator, editor, changes);
+//! let forwarded = forward_all(rt, alloc, &coordinator, &NoHooks, forwarder, trips);
 //! ```
 #![tactic(auto)]
 
@@ -31,8 +31,8 @@ mod word_source;
 
 pub use answer::Answer;
 pub use coordinator::{Coordinator, News, Work};
-pub use editing::{EditorOf, edit_all};
-pub use forwarding::{Carried, ForwarderOf, Trip, forward_all};
+pub use editing::{Edited, EditorOf, edit_all};
+pub use forwarding::{Carried, Forwarded, ForwarderOf, Trip, forward_all};
 pub use graphs::{GenerationGraph, Graphs, shared_graph};
 pub use hooks::{Hooks, NoHooks};
 pub use shares::{Shares, Turn, WorkerResults, in_order, shared};

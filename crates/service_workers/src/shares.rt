@@ -5,7 +5,7 @@ ghost use Rattle.service_workers.specs.Answers.{is_edit, is_verdict, is_editor};
 
 use crate::answer::Answer;
 use crate::forwarding::{Carried, Trip};
-use generations::Verdict;
+use generations::Mark;
 use graph_edits::Change;
 use std::alloc::{AllocError, Global};
 use std::collections::VecDeque;
@@ -28,7 +28,7 @@ pub struct Shares {
 /// What the threads did.
 #[derive(Drop)]
 pub struct WorkerResults {
-    pub verdicts: Vec<VecDeque<Verdict>>,
+    pub marks: Vec<VecDeque<Mark>>,
     pub carried: Vec<VecDeque<Carried>>,
 }
 
@@ -99,8 +99,8 @@ fn next_answer(turn: Turn, results: &mut WorkerResults) -> Option<Answer>
 {
     match turn {
         Turn::Editor(session) => {
-            let verdict = results.verdicts.get_mut(session as usize)?.pop_front()?;
-            Some(Answer::Settled(verdict))
+            let mark = results.marks.get_mut(session as usize)?.pop_front()?;
+            Some(Answer::Settled(mark.verdict))
         }
         Turn::Forwarder(place) => {
             let carried = results.carried.get_mut(place)?.pop_front()?;

@@ -1,7 +1,8 @@
 use Rattle.std.proofs.Common.{◌≡◌}
+use Rattle.service_workers.specs.Edited.{IsSameEditor}
 use Rattle.service_workers.proofs.editing.settled.Given as goal
 
 abbrev pub invariant-loop : goal.invariant-loop
 invariant-loop g l =
     (goal.iterator-loop g).can_next l.iterator' × ((goal.iterator-loop g).is_finite l.iterator' × ((l.editor.known.opening ≡ g.J.Naming.opening)
-    × ((l.editor.put ≡ l.initial.editor.put) × ((l.editor.queue ≡ l.initial.editor.queue) × ((l.editor.session ≡ l.initial.editor.session) × (l.editor.start ≡ l.initial.editor.start))))))
+    × ((l.editor.put ≡ l.initial.editor.put) × IsSameEditor l.initial.editor l.editor)))
