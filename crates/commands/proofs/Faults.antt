@@ -1,20 +1,22 @@
 -- Which faults may end a run.
-use Rattle.std.proofs.Common.{◌≡◌, ◌≢◌, ◌∙◌, ℕ, List, inl, inr, refl, sym, subst, Result, Ok, Err, IfErr, IsErrAnd, IsErrOf}
+use Rattle.std.proofs.Common.{◌≡◌, ◌≢◌, ◌∙◌, ℕ, List, Option, inl, inr, refl, sym, subst, Result, Ok, Err, IfErr, IfOk, IsErrAnd, IsErrOf}
 use Rattle.clap.specs.Walk.{Text}
+use Rattle.disk_trait.specs.declared.disk.Disk.{Ghosts}
 use Rattle.written_values.specs.declared.words.LandmarkWords.{LandmarkWords}
 use Rattle.written_values.specs.declared.words.LandmarkWords.TheVariants.{Greatest, ZeroAt, Drawn}
 use Rattle.written_values.specs.Words.{IsWithin}
 use Rattle.command_output.specs.declared.fault.Fault.{Fault}
 use Rattle.command_output.specs.declared.fault.Fault.TheVariants as told
-use Rattle.device_commands.specs.Openings.{IsEditFault, IsFormatFault, IsOpenFault, TellsOf}
-use Rattle.device_commands.specs.Moves.{IsMoveFault}
+use Rattle.device_commands.specs.Openings.{IsOpenFault, TellsOf}
 use Rattle.command_line.specs.Asked.{IsAskedFor, IsInRange, IsRefusedFor}
 use Rattle.command_line.specs.declared.refused.WordsRefused.{WordsRefused}
 use Rattle.command_line.specs.declared.refused.WordsRefused.TheVariants as why
 use Rattle.command_line.specs.declared.task.Task.{Task}
 use Rattle.command_output.specs.Faults.{IsNotUnderstood}
-use Rattle.service_lines.specs.ServedLines.{IsServeFault}
-use Rattle.commands.specs.Endings.{EndsCheck, EndsEdit, EndsFormat, EndsMigrate, EndsRoute, EndsServe, EndsShow, IsCheckDeviceFault, IsRouteDeviceFault, IsFaultFor, IsFileFault, IsRouteFault, IsScriptFault, IsQueryFault, IsThreadFault, IsWordsFault, MayEnd, NamesNodes, words_fault}
+use Rattle.command_output.specs.declared.ended.Ended.{Ended}
+use Rattle.commands.specs.declared.devices.Access.{Access}
+use Rattle.commands.specs.Printed.{AnswersWords, PrintedFor}
+use Rattle.commands.specs.Endings.{IsCheckDeviceFault, IsRouteDeviceFault, IsFaultFor, IsRouteFault, IsQueryFault, IsThreadFault, IsWordsFault, MayEnd, NamesNodes, words_fault}
 
 -- words of which a graph lacks a node name nodes
 pub names_nodes : (words : LandmarkWords) (nodes : ℕ) → ¬ IsWithin words nodes → NamesNodes words
@@ -23,77 +25,6 @@ names_nodes (ZeroAt named) nodes lacks = tt
 names_nodes (Drawn seed) nodes lacks = lacks tt
 
 -- ---- the faults of a part are faults of the whole
-
-pub format_formats : (nodes : ℕ) (fault : Fault) → IsFormatFault nodes fault → EndsFormat nodes fault
-format_formats nodes told.DeviceFile is = tt
-format_formats nodes told.DeviceInUse is = tt
-format_formats nodes told.Output is = tt
-format_formats nodes told.NodeCount is = is
-format_formats nodes told.DeviceLength is = tt
-format_formats nodes told.Device is = tt
-format_formats nodes _ is = absurd is
-
-pub show_opens : (fault : Fault) → IsOpenFault fault → EndsShow fault
-show_opens told.DeviceFile is = tt
-show_opens told.DeviceInUse is = tt
-show_opens told.Output is = tt
-show_opens told.NotFormatted is = tt
-show_opens told.LayoutNotKnown is = tt
-show_opens told.Damaged is = tt
-show_opens told.Device is = tt
-show_opens told.Memory is = tt
-show_opens _ is = absurd is
-
-pub edit_edits : (fault : Fault) → IsEditFault fault → EndsEdit fault
-edit_edits told.DeviceFile is = tt
-edit_edits told.DeviceInUse is = tt
-edit_edits told.Output is = tt
-edit_edits told.NotFormatted is = tt
-edit_edits told.LayoutNotKnown is = tt
-edit_edits told.Damaged is = tt
-edit_edits told.Device is = tt
-edit_edits told.Memory is = tt
-edit_edits told.Internal is = tt
-edit_edits told.Worn is = tt
-edit_edits told.AlreadyIn is = tt
-edit_edits _ is = absurd is
-
-pub move_moves : (fault : Fault) → IsMoveFault fault → EndsMigrate fault
-move_moves told.DeviceFile is = tt
-move_moves told.DeviceInUse is = tt
-move_moves told.Output is = tt
-move_moves told.NotFormatted is = tt
-move_moves told.LayoutNotKnown is = tt
-move_moves told.Damaged is = tt
-move_moves told.Device is = tt
-move_moves told.Memory is = tt
-move_moves told.DeviceLength is = tt
-move_moves _ is = absurd is
-
-pub serve_serves : (words : LandmarkWords) (fault : Fault) → IsServeFault fault → (fault ≡ told.Words → NamesNodes words) → EndsServe words fault
-serve_serves words told.NotFormatted is names = tt
-serve_serves words told.LayoutNotKnown is names = tt
-serve_serves words told.Damaged is names = tt
-serve_serves words told.Words is names = names refl
-serve_serves words told.Device is names = tt
-serve_serves words told.Worn is names = tt
-serve_serves words told.Memory is names = tt
-serve_serves words told.Internal is names = tt
-serve_serves words told.NoThread is names = tt
-serve_serves words told.Output is names = tt
-serve_serves words _ is names = absurd is
-
-pub serve_reads : (words : LandmarkWords) (fault : Fault) → IsScriptFault fault → EndsServe words fault
-serve_reads words told.Script is = tt
-serve_reads words told.Memory is = tt
-serve_reads words told.Output is = tt
-serve_reads words _ is = absurd is
-
--- a file's fault may end a command that both of its faults may end
-pub of_file : (P : Fault → Type 0) (fault : Fault) → P told.DeviceFile → P told.DeviceInUse → IsFileFault fault → P fault
-of_file P told.DeviceFile file used is = file
-of_file P told.DeviceInUse file used is = used
-of_file P _ file used is = absurd is
 
 -- what isn't understood is no fault of an output
 pub never_output : (fault : Fault) → IsNotUnderstood fault → fault ≢ told.Output
@@ -136,32 +67,6 @@ route_asks words told.Words is = is
 route_asks words told.Memory is = tt
 route_asks words _ is = absurd is
 
-pub check_ends : (words : LandmarkWords) (fault : Fault) → IsCheckDeviceFault words fault → EndsCheck words fault
-check_ends words told.DeviceFile is = tt
-check_ends words told.DeviceInUse is = tt
-check_ends words told.Output is = tt
-check_ends words told.Words is = is
-check_ends words told.NotFormatted is = tt
-check_ends words told.LayoutNotKnown is = tt
-check_ends words told.Damaged is = tt
-check_ends words told.Device is = tt
-check_ends words told.Memory is = tt
-check_ends words told.NoThread is = tt
-check_ends words _ is = absurd is
-
-pub route_ends : (words : LandmarkWords) (fault : Fault) → IsRouteDeviceFault words fault → EndsRoute words fault
-route_ends words told.DeviceFile is = tt
-route_ends words told.DeviceInUse is = tt
-route_ends words told.Output is = tt
-route_ends words told.NoNode is = tt
-route_ends words told.Words is = is
-route_ends words told.NotFormatted is = tt
-route_ends words told.LayoutNotKnown is = tt
-route_ends words told.Damaged is = tt
-route_ends words told.Device is = tt
-route_ends words told.Memory is = tt
-route_ends words _ is = absurd is
-
 pub thread_asks : (words : LandmarkWords) (fault : Fault) → IsThreadFault fault → IsQueryFault words fault
 thread_asks words told.Memory is = tt
 thread_asks words told.NoThread is = tt
@@ -201,9 +106,9 @@ memory_alone why.Op is = absurd (cc)
 memory_alone why.TooLong is = absurd (cc)
 
 -- words that are refused are so by a fault for them
-pub refused_for : (words : List Text) (refused : WordsRefused) (fault : Fault) → fault ≡ words_fault refused → IsRefusedFor words refused
-    → ((task : Task) → IsAskedFor words task → IsInRange task → refused ≡ why.Memory) → IsFaultFor words fault
-refused_for words refused fault is cause memory = inl (refused, is, cause, λ task asked fits. is ∙ memory_alone refused (memory task asked fits))
+pub refused_for : {D : Type 0} (model : Ghosts D) (opened : List ℕ → Access → D → Type 0) (words : List Text) (given : Option (List ℕ)) (refused : WordsRefused) (fault : Fault) → fault ≡ words_fault refused → IsRefusedFor words refused
+    → ((task : Task) → IsAskedFor words task → IsInRange task → refused ≡ why.Memory) → IsFaultFor model opened words given fault
+refused_for model opened words given refused fault is cause memory = inl (refused, is, cause, λ task asked fits. is ∙ memory_alone refused (memory task asked fits))
 
 -- a fault of a part, where it is handed up
 pub each_fault : {T : Type 0} (r : Result T Fault) (P Q : Fault → Type 0) → ((fault : Fault) → P fault → Q fault) → IfErr r P → IfErr r Q
@@ -220,9 +125,17 @@ pub not_told : {T : Type 0} (r : Result T Fault) (fault : Fault) (P : Fault → 
 not_told r fault P never may is = never (subst (λ x. IfErr x P) is may)
 
 -- a fault that may end the task that was understood is one for the words
-pub ends_task : {T : Type 0} (r : Result T Fault) (words : List Text) (understood task : Task) → IsAskedFor words understood → understood ≡ task → IfErr r (λ fault. MayEnd task fault)
-    → IfErr r (λ fault. IsFaultFor words fault)
-ends_task (Ok ended) words understood task asked is may = tt
-ends_task (Err fault) words understood task asked is may =
-    let there : IsFaultFor words fault = inr (task, subst (λ (t : Task). IsAskedFor words t) is asked, may) in
+pub ends_task : {D T : Type 0} (model : Ghosts D) (opened : List ℕ → Access → D → Type 0) (r : Result T Fault) (words : List Text) (given : Option (List ℕ)) (understood task : Task) → IsAskedFor words understood → understood ≡ task
+    → IfErr r (λ fault. MayEnd model opened task given fault) → IfErr r (λ fault. IsFaultFor model opened words given fault)
+ends_task model opened (Ok ended) words given understood task asked is may = tt
+ends_task model opened (Err fault) words given understood task asked is may =
+    let there : IsFaultFor model opened words given fault = inr (task, subst (λ (t : Task). IsAskedFor words t) is asked, may) in
     there
+
+-- and what is printed for it is the answer to the words
+pub answers_task : {D : Type 0} (model : Ghosts D) (opened : List ℕ → Access → D → Type 0) (r : Result Ended Fault) (words : List Text) (given old new : Option (List ℕ)) (understood task : Task) → IsAskedFor words understood → understood ≡ task
+    → IfOk r (λ ended. PrintedFor model opened task given ended old new) → IfOk r (λ ended. AnswersWords model opened words given ended old new)
+answers_task model opened (Ok ended) words given old new understood task asked is printed =
+    let there : AnswersWords model opened words given ended old new = (task, subst (λ (t : Task). IsAskedFor words t) is asked, printed) in
+    there
+answers_task model opened (Err fault) words given old new understood task asked is printed = tt

@@ -2,4 +2,6 @@ pub mod Answering
 pub mod SchemeAnswering
 pub mod ManyRoutes
 pub mod Faults
+pub mod OnDevices
+pub mod ScriptTexts
 pub mod Serving

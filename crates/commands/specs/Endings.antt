@@ -1,18 +1,33 @@
 -- Which faults may end a run.
-use Rattle.std.specs.Prelude.{◌≡◌, ℕ, List, ◌⊎◌}
+use Rattle.std.specs.Prelude.{◌≡◌, ◌≢◌, ◌<◌, ◌⊎◌, ℕ, List, Option, IsTrue, length}
 use Rattle.clap.specs.Walk.{Text}
+use Rattle.disk_trait.specs.declared.disk.Disk.{Ghosts}
+use Rattle.disk_trait.specs.Disk.{DiskView, OnlyRead}
+use Rattle.graph_edits.specs.declared.edits.Op.{Op}
+use Rattle.requests.specs.Tickets.{worn_limit}
+use Rattle.layout_2.specs.Layout.{device_len}
+use Rattle.layout_2.specs.State.{State}
+use Rattle.layout_2.specs.Standing.{StandsFor}
+use Rattle.written_values.specs.Words.{IsWithin}
 use Rattle.written_values.specs.declared.words.LandmarkWords.{LandmarkWords}
 use Rattle.written_values.specs.declared.words.LandmarkWords.TheVariants.{Greatest, ZeroAt, Drawn}
 use Rattle.command_output.specs.declared.fault.Fault.{Fault}
 use Rattle.command_output.specs.declared.fault.Fault.TheVariants as told
-use Rattle.device_commands.specs.Openings.{IsEditFault, IsFormatFault, IsOpenFault}
-use Rattle.device_commands.specs.Moves.{IsMoveFault}
-use Rattle.service_lines.specs.ServedLines.{IsServeFault}
+use Rattle.device_commands.specs.Answer.{IsNew, IsTaken, last_ticket, ticket_of}
+use Rattle.device_commands.specs.Openings.{IsEditFault, IsFormatFault, IsOpenFault, IsUnwrittenFault, TellsOf}
+use Rattle.device_commands.specs.Moves.{IsMoveFault, TellsOfOld}
+use Rattle.service_threads.specs.Kept.{IsLeftBy}
+use Rattle.service_lines.specs.ServedLines.{IsServeEnd}
 use Rattle.command_line.specs.Asked.{IsAskedFor, IsInRange, IsRefusedFor}
 use Rattle.command_line.specs.declared.refused.WordsRefused.{WordsRefused}
 use Rattle.command_line.specs.declared.refused.WordsRefused.TheVariants as why
 use Rattle.command_line.specs.declared.task.Task.{Task}
 use Rattle.command_line.specs.declared.task.Task.TheVariants.{Format, Show, Edit, Resume, Route, Check, Migrate, Serve}
+use Rattle.commands.specs.declared.devices.Access.{Access}
+use Rattle.commands.specs.declared.devices.Access.TheVariants.{ToRead, ToChange, Anew, New}
+use Rattle.commands.specs.Devices.{EndsBy, IsFileFault, OfOpened, OfServed}
+use Rattle.commands.specs.SchemeAnswers.{AreNodes}
+use Rattle.commands.specs.ServedScripts.{IsScriptFault}
 
 -- what is told of words that are no task
 abbrev pub words_fault : WordsRefused → Fault
@@ -28,39 +43,30 @@ NamesNodes Greatest = ⊥
 NamesNodes (ZeroAt nodes) = Unit {0}
 NamesNodes (Drawn seed) = ⊥
 
--- the faults of a file that is to be opened, made or locked
-abbrev pub IsFileFault : Fault → Type 0
-IsFileFault told.DeviceFile = Unit {0}
-IsFileFault told.DeviceInUse = Unit {0}
-IsFileFault fault = ⊥
+-- ---- why a command on a device ends, which it has opened
 
--- the faults that may end `format`
-abbrev pub EndsFormat : ℕ → Fault → Type 0
-EndsFormat nodes told.DeviceFile = Unit {0}
-EndsFormat nodes told.DeviceInUse = Unit {0}
-EndsFormat nodes told.Output = Unit {0}
-EndsFormat nodes fault = IsFormatFault nodes fault
+-- A device can't be formatted for so many nodes.
+pub record IsFormatEnd (nodes : ℕ) (disk left : DiskView) (fault : Fault) : Type 0 where
+  pub named : IsFormatFault nodes fault
+  pub wrong_length : fault ≡ told.DeviceLength → length disk.content ≢ device_len
+  pub device : fault ≡ told.Device → disk.failures < left.failures
 
--- those that may end `show` and `resume`
-abbrev pub EndsShow : Fault → Type 0
-EndsShow told.DeviceFile = Unit {0}
-EndsShow told.DeviceInUse = Unit {0}
-EndsShow told.Output = Unit {0}
-EndsShow fault = IsOpenFault fault
+-- A device is refused, or what was asked of it is: the fault is one of these, it tells of the content, and the device was only read.
+pub record IsReadingEnd (Named : Fault → Type 0) (disk left : DiskView) (fault : Fault) : Type 0 where
+  pub named : Named fault
+  pub tells : IsTrue disk.keeps_model → TellsOf fault disk.content
+  pub device : fault ≡ told.Device → disk.failures < left.failures
+  pub reads : IsTrue disk.keeps_model → OnlyRead disk left
 
--- those that may end `edit`
-abbrev pub EndsEdit : Fault → Type 0
-EndsEdit told.DeviceFile = Unit {0}
-EndsEdit told.DeviceInUse = Unit {0}
-EndsEdit told.Output = Unit {0}
-EndsEdit fault = IsEditFault fault
-
--- those that may end `migrate`
-abbrev pub EndsMigrate : Fault → Type 0
-EndsMigrate told.DeviceFile = Unit {0}
-EndsMigrate told.DeviceInUse = Unit {0}
-EndsMigrate told.Output = Unit {0}
-EndsMigrate fault = IsMoveFault fault
+-- A change isn't made.
+pub record IsEditEnd (session : ℕ) (ticket : Option ℕ) (change : List Op) (disk left : DiskView) (fault : Fault) : Type 0 where
+  pub named : IsEditFault fault
+  pub tells : IsTrue disk.keeps_model → TellsOf fault disk.content
+  pub already_in : IsTrue disk.keeps_model → (state : State) → StandsFor state disk.content → fault ≡ told.AlreadyIn → ¬ IsNew state session ticket
+  pub worn : IsTrue disk.keeps_model → (state : State) → StandsFor state disk.content → fault ≡ told.Worn
+      → IsNew state session ticket × ((worn_limit < ticket_of (last_ticket state session) ticket) ⊎ IsTaken state change)
+  pub device : fault ≡ told.Device → disk.failures < left.failures
+  pub unwritten : IsTrue disk.keeps_model → IsUnwrittenFault fault → OnlyRead disk left
 
 -- the faults of a check of a device: the words are not understood only where they name nodes
 abbrev pub IsCheckDeviceFault : LandmarkWords → Fault → Type 0
@@ -74,34 +80,30 @@ IsRouteDeviceFault words told.NoNode = Unit {0}
 IsRouteDeviceFault words told.Words = NamesNodes words
 IsRouteDeviceFault words fault = IsOpenFault fault
 
--- those that may end `check`
-abbrev pub EndsCheck : LandmarkWords → Fault → Type 0
-EndsCheck words told.DeviceFile = Unit {0}
-EndsCheck words told.DeviceInUse = Unit {0}
-EndsCheck words told.Output = Unit {0}
-EndsCheck words fault = IsCheckDeviceFault words fault
+-- Routes aren't found: a node lacks only where the state has not both nodes of each pair.
+pub record IsRouteEnd (pairs : List (ℕ × ℕ)) (asked : LandmarkWords) (disk left : DiskView) (fault : Fault) : Type 0 where
+  pub reading : IsReadingEnd (IsRouteDeviceFault asked) disk left fault
+  pub no_node : IsTrue disk.keeps_model → (state : State) → StandsFor state disk.content → fault ≡ told.NoNode → IsWithin asked state.graph.nodes × ¬ AreNodes state.graph.nodes pairs
+  pub not_within : IsTrue disk.keeps_model → (state : State) → StandsFor state disk.content → fault ≡ told.Words → ¬ IsWithin asked state.graph.nodes
 
--- those that may end `route`
-abbrev pub EndsRoute : LandmarkWords → Fault → Type 0
-EndsRoute words told.DeviceFile = Unit {0}
-EndsRoute words told.DeviceInUse = Unit {0}
-EndsRoute words told.Output = Unit {0}
-EndsRoute words fault = IsRouteDeviceFault words fault
+-- No scheme is checked.
+pub record IsCheckEnd (asked : LandmarkWords) (disk left : DiskView) (fault : Fault) : Type 0 where
+  pub reading : IsReadingEnd (IsCheckDeviceFault asked) disk left fault
+  pub not_within : IsTrue disk.keeps_model → (state : State) → StandsFor state disk.content → fault ≡ told.Words → ¬ IsWithin asked state.graph.nodes
 
--- the faults of a script: it can't be read, or isn't understood
-abbrev pub IsScriptFault : Fault → Type 0
-IsScriptFault told.Script = Unit {0}
-IsScriptFault told.Memory = Unit {0}
-IsScriptFault told.Output = Unit {0}
-IsScriptFault fault = ⊥
+-- A device isn't brought over.
+pub record IsMoveEnd (from from_left to to_left : DiskView) (fault : Fault) : Type 0 where
+  pub named : IsMoveFault fault
+  pub tells : IsTrue from.keeps_model → TellsOfOld fault from.content
+  pub wrong_length : fault ≡ told.DeviceLength → length to.content ≢ device_len
+  pub device : fault ≡ told.Device → (from.failures < from_left.failures) ⊎ (to.failures < to_left.failures)
 
--- those that may end `serve`: the words are not understood only where they name nodes
-abbrev pub EndsServe : LandmarkWords → Fault → Type 0
-EndsServe words told.DeviceFile = Unit {0}
-EndsServe words told.DeviceInUse = Unit {0}
-EndsServe words told.Script = Unit {0}
-EndsServe words told.Words = NamesNodes words
-EndsServe words fault = IsServeFault fault
+-- No script is run: it is none, the device can't be had, or the service ended by this fault.
+abbrev pub EndsServe : {D : Type 0} → Ghosts D → (D → Type 0) → Option (List ℕ) → ℕ → LandmarkWords → Fault → Type 0
+EndsServe model opened given editors words fault =
+    IsScriptFault given editors fault ⊎ IsFileFault fault ⊎ OfServed opened (λ disk back. IsServeEnd model disk words back fault × IsLeftBy model disk back)
+
+-- ---- the parts of these
 
 -- the faults of a query in a thread of its own
 abbrev pub IsThreadFault : Fault → Type 0
@@ -127,20 +129,23 @@ abbrev pub IsRouteFault : LandmarkWords → Fault → Type 0
 IsRouteFault words told.NoNode = Unit {0}
 IsRouteFault words fault = IsWordsFault words fault
 
--- those that may end a task that is under way
-abbrev pub MayEnd : Task → Fault → Type 0
-MayEnd (Format device nodes) fault = EndsFormat nodes fault
-MayEnd (Show device) fault = EndsShow fault
-MayEnd (Edit device session ticket change) fault = EndsEdit fault
-MayEnd (Resume device session) fault = EndsShow fault
-MayEnd (Route device pairs words) fault = EndsRoute words fault
-MayEnd (Check device words) fault = EndsCheck words fault
-MayEnd (Migrate old new) fault = EndsMigrate fault
-MayEnd (Serve device editors forwarders places words) fault = EndsServe words fault
+-- ---- why a run ends
+
+-- the faults that may end a task that is under way
+abbrev pub MayEnd : {D : Type 0} → Ghosts D → (List ℕ → Access → D → Type 0) → Task → Option (List ℕ) → Fault → Type 0
+MayEnd model opened (Format device nodes) given fault = EndsBy model (opened device.now Anew) (IsFormatEnd nodes) fault
+MayEnd model opened (Show device) given fault = EndsBy model (opened device.now ToRead) (IsReadingEnd IsOpenFault) fault
+MayEnd model opened (Edit device session ticket change) given fault = EndsBy model (opened device.now ToChange) (IsEditEnd session ticket change) fault
+MayEnd model opened (Resume device session) given fault = EndsBy model (opened device.now ToRead) (IsReadingEnd IsOpenFault) fault
+MayEnd model opened (Route device pairs words) given fault = EndsBy model (opened device.now ToRead) (IsRouteEnd pairs.items words) fault
+MayEnd model opened (Check device words) given fault = EndsBy model (opened device.now ToRead) (IsCheckEnd words) fault
+MayEnd model opened (Migrate device made) given fault = IsFileFault fault ⊎ (fault ≡ told.Output)
+    ⊎ OfOpened model (opened device.now ToRead) (λ from from_left. OfOpened model (opened made.now New) (λ to to_left. IsMoveEnd from from_left to to_left fault))
+MayEnd model opened (Serve device editors forwarders places words) given fault = EndsServe model (opened device.now ToChange) given editors words fault
 
 -- The words are no task that is in range, and the fault is the one for what is wrong with them, or memory ran out while they were read;
 -- or they ask for a task, and the fault is one that may end it.
-abbrev pub IsFaultFor : List Text → Fault → Type 0
-IsFaultFor words fault =
+abbrev pub IsFaultFor : {D : Type 0} → Ghosts D → (List ℕ → Access → D → Type 0) → List Text → Option (List ℕ) → Fault → Type 0
+IsFaultFor model opened words given fault =
     ((refused : WordsRefused) × (fault ≡ words_fault refused) × IsRefusedFor words refused × ((task : Task) → IsAskedFor words task → IsInRange task → fault ≡ told.Memory))
-    ⊎ ((task : Task) × IsAskedFor words task × MayEnd task fault)
+    ⊎ ((task : Task) × IsAskedFor words task × MayEnd model opened task given fault)

@@ -1,5 +1,6 @@
+pub mod Devices
 pub mod SchemeAnswers
+pub mod ServedScripts
 pub mod Printed
 pub mod Endings
-pub mod ServedScripts
 pub mod Outcomes

@@ -1,12 +1,19 @@
 -- What a command prints.
-use Rattle.std.specs.Prelude.{◌≡◌, ℕ, List, Option}
+use Rattle.std.specs.Prelude.{◌≡◌, ℕ, List, Option, IsTrue}
 use Rattle.std.specs.FinMap.{len}
 use Rattle.std.specs.Io.KnownBytes.{Appends}
 use Rattle.clap.specs.Walk.{Text}
-use Rattle.layout_2.specs.State.{State}
+use Rattle.disk_trait.specs.declared.disk.Disk.{Ghosts}
+use Rattle.disk_trait.specs.Disk.{DiskView, OnlyRead}
+use Rattle.graph_edits.specs.Edges.{Network}
+use Rattle.graph_edits.specs.declared.edits.Op.{Op}
+use Rattle.layout_2.specs.State.{State, first_state}
+use Rattle.layout_2.specs.Standing.{KeepsThrough, StandsFor}
 use Rattle.requests.specs.Tickets.{last_of}
 use Rattle.generations.specs.declared.posting.Verdict.{Verdict}
 use Rattle.generations.specs.declared.posting.Verdict.TheVariants.{Accepted, Refused}
+use Rattle.migrate.specs.Moved.{HasMoved}
+use Rattle.migrate.specs.declared.moving.Moved.{Moved}
 use Rattle.scheme_builds.specs.declared.queries.Checked.{Checked}
 use Rattle.scheme_builds.specs.declared.queries.Route.{Route as Found}
 use Rattle.command_output.specs.declared.ended.Ended.{Ended}
@@ -15,9 +22,14 @@ use Rattle.command_output.specs.Lines.{accepted_text, formatted_text, line, list
 use Rattle.command_line.specs.Asked.{IsAskedFor}
 use Rattle.command_line.specs.declared.task.Task.{Task}
 use Rattle.command_line.specs.declared.task.Task.TheVariants.{Format, Show, Edit, Resume, Route, Check, Migrate, Serve}
-use Rattle.device_commands.specs.Answer.{IsNew, verdict_of}
+use Rattle.device_commands.specs.Answer.{IsNew, state_after, verdict_of}
 use Rattle.written_values.specs.declared.line.ScriptLine.{ScriptLine}
+use Rattle.written_values.specs.declared.words.LandmarkWords.{LandmarkWords}
+use Rattle.service_threads.specs.Kept.{IsLeftBy}
 use Rattle.service_lines.specs.ServedLines.{IsServed}
+use Rattle.commands.specs.declared.devices.Access.{Access}
+use Rattle.commands.specs.declared.devices.Access.TheVariants.{ToRead, ToChange, Anew, New}
+use Rattle.commands.specs.Devices.{IsAnswerOf, OfOpened, OfServed}
 use Rattle.commands.specs.ServedScripts.{IsScriptOf}
 use Rattle.commands.specs.SchemeAnswers.{AreRoutesOf, IsCheckOf, checks_text, ended_after, ended_at, routes_text}
 
@@ -31,20 +43,66 @@ abbrev pub verdict_text : Verdict → List ℕ
 verdict_text (Accepted count) = accepted_text count
 verdict_text (Refused op code) = refused_text op code
 
--- a command that ends so has printed the answer to its task, and nothing else; the script of a service is what a reader gives
-abbrev pub PrintedFor : Task → Option (List ℕ) → Ended → Option (List ℕ) → Option (List ℕ) → Type 0
-PrintedFor (Format device nodes) given ended old new = (ended ≡ Done) × Appends old new (line (formatted_text nodes))
-PrintedFor (Show device) given ended old new = (ended ≡ Done) × (state : State) × Appends old new (listing_text state.count state.graph)
-PrintedFor (Edit device session ticket change) given ended old new =
-    (state : State) × IsNew state session ticket × (ended ≡ ended_by (verdict_of state change)) × Appends old new (line (verdict_text (verdict_of state change)))
-PrintedFor (Resume device session) given ended old new = (ended ≡ Done) × (state : State) × Appends old new (line (ticket_text session (last_of state.tickets session)))
-PrintedFor (Route device pairs words) given ended old new =
-    (state : State) × (routes : List Found) × AreRoutesOf state.graph words pairs.items routes × (ended ≡ ended_after routes) × Appends old new (routes_text state.count routes)
-PrintedFor (Check device words) given ended old new =
-    (state : State) × (checked : Checked) × IsCheckOf state.graph state.count words checked × (ended ≡ ended_at checked.fault) × Appends old new (line (checks_text state.count checked.landmarks checked.fault))
-PrintedFor (Migrate device made) given ended old new = (ended ≡ Done) × (state : State) × Appends old new (line (migrated_text state.count (len state.graph.edges)))
-PrintedFor (Serve device editors forwarders places words) given ended old new = (ended ≡ Done) × (lines : List ScriptLine) × IsScriptOf given editors lines × IsServed lines old new
+-- ---- what a command on a device has printed that ends so, and what it leaves of the device
+
+-- the device was only read
+abbrev pub IsOnlyRead : DiskView → DiskView → Type 0
+IsOnlyRead disk left = IsTrue disk.keeps_model → OnlyRead disk left
+
+-- `format`: how many nodes, and a device that was formatted for them
+abbrev pub PrintsFormatted : ℕ → DiskView → DiskView → Ended → Option (List ℕ) → Option (List ℕ) → Type 0
+PrintsFormatted nodes disk left ended old new =
+    (ended ≡ Done) × Appends old new (line (formatted_text nodes)) × (IsTrue disk.keeps_model → KeepsThrough left (first_state nodes))
+
+-- `show`: the listing of the device's state
+abbrev pub PrintsListing : DiskView → DiskView → Ended → Option (List ℕ) → Option (List ℕ) → Type 0
+PrintsListing disk left ended old new = IsAnswerOf disk (λ state. (ended ≡ Done) × Appends old new (listing_text state.count state.graph)) × IsOnlyRead disk left
+
+-- `edit`: what becomes of the change in that state, to which its ticket is new, and a device that stands for the state behind it
+abbrev pub PrintsVerdict : ℕ → Option ℕ → List Op → DiskView → DiskView → Ended → Option (List ℕ) → Option (List ℕ) → Type 0
+PrintsVerdict session ticket change disk left ended old new =
+    IsAnswerOf disk (λ state. IsNew state session ticket × (ended ≡ ended_by (verdict_of state change)) × Appends old new (line (verdict_text (verdict_of state change))))
+    × (IsTrue disk.keeps_model → (state : State) → StandsFor state disk.content → KeepsThrough left (state_after state session ticket change))
+
+-- `resume`: the last ticket of a session in that state
+abbrev pub PrintsTicket : ℕ → DiskView → DiskView → Ended → Option (List ℕ) → Option (List ℕ) → Type 0
+PrintsTicket session disk left ended old new =
+    IsAnswerOf disk (λ state. (ended ≡ Done) × Appends old new (line (ticket_text session (last_of state.tickets session)))) × IsOnlyRead disk left
+
+-- `route`: for each pair of nodes what becomes of a packet in that state's graph
+abbrev pub PrintsRoutes : List (ℕ × ℕ) → LandmarkWords → DiskView → DiskView → Ended → Option (List ℕ) → Option (List ℕ) → Type 0
+PrintsRoutes pairs words disk left ended old new =
+    IsAnswerOf disk (λ state. (routes : List Found) × AreRoutesOf state.graph words pairs routes × (ended ≡ ended_after routes) × Appends old new (routes_text state.count routes)) × IsOnlyRead disk left
+
+-- `check`: what the checks say of a scheme of that graph
+abbrev pub PrintsCheck : LandmarkWords → DiskView → DiskView → Ended → Option (List ℕ) → Option (List ℕ) → Type 0
+PrintsCheck words disk left ended old new =
+    IsAnswerOf disk (λ state. (checked : Checked) × IsCheckOf state.graph state.count words checked × (ended ≡ ended_at checked.fault)
+    × Appends old new (line (checks_text state.count checked.landmarks checked.fault))) × IsOnlyRead disk left
+
+-- `migrate`: how much the old device held, and a new one that holds the same
+abbrev pub PrintsMoved : DiskView → DiskView → DiskView → Ended → Option (List ℕ) → Option (List ℕ) → Type 0
+PrintsMoved from to left ended old new = (ended ≡ Done) × (moved : Moved) × ((graph : Network) × (moved.edges ≡ len graph.edges)) × Appends old new (line (migrated_text moved.count moved.edges))
+    × (IsTrue from.keeps_model → IsTrue to.keeps_model → HasMoved moved from.content left)
+
+-- `serve`: the lines of answers to the script that a reader gives
+abbrev pub PrintsServed : {D : Type 0} → Ghosts D → (D → Type 0) → Option (List ℕ) → ℕ → Ended → Option (List ℕ) → Option (List ℕ) → Type 0
+PrintsServed model opened given editors ended old new =
+    (ended ≡ Done) × (lines : List ScriptLine) × IsScriptOf given editors lines × OfServed opened (λ disk back. IsServed lines old new × IsLeftBy model disk back)
+
+-- A command that ends so has printed the answer to its task, and nothing else: of the device that it opened. The script of a service is
+-- what a reader gives.
+abbrev pub PrintedFor : {D : Type 0} → Ghosts D → (List ℕ → Access → D → Type 0) → Task → Option (List ℕ) → Ended → Option (List ℕ) → Option (List ℕ) → Type 0
+PrintedFor model opened (Format device nodes) given ended old new = OfOpened model (opened device.now Anew) (λ disk left. PrintsFormatted nodes disk left ended old new)
+PrintedFor model opened (Show device) given ended old new = OfOpened model (opened device.now ToRead) (λ disk left. PrintsListing disk left ended old new)
+PrintedFor model opened (Edit device session ticket change) given ended old new = OfOpened model (opened device.now ToChange) (λ disk left. PrintsVerdict session ticket change disk left ended old new)
+PrintedFor model opened (Resume device session) given ended old new = OfOpened model (opened device.now ToRead) (λ disk left. PrintsTicket session disk left ended old new)
+PrintedFor model opened (Route device pairs words) given ended old new = OfOpened model (opened device.now ToRead) (λ disk left. PrintsRoutes pairs.items words disk left ended old new)
+PrintedFor model opened (Check device words) given ended old new = OfOpened model (opened device.now ToRead) (λ disk left. PrintsCheck words disk left ended old new)
+PrintedFor model opened (Migrate device made) given ended old new =
+    OfOpened model (opened device.now ToRead) (λ from left. OfOpened model (opened made.now New) (λ to made. PrintsMoved from to made ended old new))
+PrintedFor model opened (Serve device editors forwarders places words) given ended old new = PrintsServed model (opened device.now ToChange) given editors ended old new
 
 -- the answer to a task that the words ask for was printed, and nothing else
-abbrev pub AnswersWords : List Text → Option (List ℕ) → Ended → Option (List ℕ) → Option (List ℕ) → Type 0
-AnswersWords words given ended old new = (task : Task) × IsAskedFor words task × PrintedFor task given ended old new
+abbrev pub AnswersWords : {D : Type 0} → Ghosts D → (List ℕ → Access → D → Type 0) → List Text → Option (List ℕ) → Ended → Option (List ℕ) → Option (List ℕ) → Type 0
+AnswersWords model opened words given ended old new = (task : Task) × IsAskedFor words task × PrintedFor model opened task given ended old new

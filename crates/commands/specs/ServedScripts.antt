@@ -1,6 +1,8 @@
 -- Which script a service runs, and which words ask for one.
 use Rattle.std.specs.Prelude.{ℕ, List, Option, All, IfSome}
 use Rattle.clap.specs.Walk.{Text}
+use Rattle.command_output.specs.declared.fault.Fault.{Fault}
+use Rattle.command_output.specs.declared.fault.Fault.TheVariants as told
 use Rattle.written_values.specs.Scripts.{IsWritten, MayStand}
 use Rattle.written_values.specs.declared.line.ScriptLine.{ScriptLine}
 use Rattle.command_line.specs.Asked.{IsAskedFor}
@@ -10,6 +12,21 @@ use Rattle.command_line.specs.declared.task.Task.TheVariants.{Serve}
 -- the lines of what a reader gives, where that is known: each may stand in a script for so many editors
 abbrev pub IsScriptOf : Option (List ℕ) → ℕ → List ScriptLine → Type 0
 IsScriptOf given editors lines = IfSome given (λ text. IsWritten text lines) × All (MayStand editors) lines
+
+-- what a reader gives, where that is known, is no script for so many editors
+abbrev pub IsNoScript : Option (List ℕ) → ℕ → Type 0
+IsNoScript given editors = IfSome given (λ text. (lines : List ScriptLine) → All (MayStand editors) lines → IsWritten text lines → ⊥)
+
+-- the faults of a script that can't be read
+abbrev pub IsReadFault : Fault → Type 0
+IsReadFault told.Memory = Unit {0}
+IsReadFault told.Output = Unit {0}
+IsReadFault fault = ⊥
+
+-- and of what is no script
+abbrev pub IsScriptFault : Option (List ℕ) → ℕ → Fault → Type 0
+IsScriptFault given editors told.Script = IsNoScript given editors
+IsScriptFault given editors fault = IsReadFault fault
 
 -- the task is a service
 abbrev pub IsService : Task → Type 0

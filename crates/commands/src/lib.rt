@@ -16,14 +16,19 @@
 //! is 64. Of all commands `serve` alone reads what the reader gives. What ends a command is a `Fault`, told on the second writer as
 //! `tznode: TEXT`.
 //!
-//! Here stand the files, the routes, the thread that builds a scheme to check it, and the run. The words are read in `command_line`, the lines and faults are
-//! spelt in `command_output`, and what `format`, `show`, `edit`, `resume` and `migrate` do on a device is in
-//! `device_commands`; the threads of `serve` are in `service_threads`, and its lines in `service_lines`.
+//! Here stand where devices are, what is printed of each command's answer, the routes, the thread that builds a scheme to check it,
+//! and the run. The words are read in `command_line`, the lines and faults are spelt in `command_output`, and what `format`, `show`,
+//! `edit`, `resume` and `migrate` do on a device is in `device_commands`; the threads of `serve` are in `service_threads`, and its
+//! lines in `service_lines`.
+//!
+//! A command is a call on a disk. The run opens that disk by the path of its words, at a place of [`Devices`], and drops it behind the
+//! call. The program's place is the system's files.
 //!
 //! The contract that the layer above uses is that of [`run_words`]: of any run that what it printed is the answer to what its words
 //! ask for, or which fault ended it, and with which status, and that no other command reads what is meant for `serve`. [`run`] says
-//! the same of how it ended ([`Outcome`]). Of a device that keeps the disk model it is proved what `route` and `check` answer
-//! ([`route_device`], [`check_device`]). What a file of the system holds is tested.
+//! the same of how it ended ([`Outcome`]), and [`run_on`] of devices of any kind. Where a device keeps the disk model, the answer is
+//! that of the state for which the content of the device by that path stands, and the fault is true of that device. What a file of
+//! the system holds is tested.
 //!
 //! ```text
 //! let words = ["edit", "device", "add:0:1:1"];
@@ -32,13 +37,15 @@
 #![tactic(auto)]
 
 mod checking;
-mod files;
+mod devices;
+mod on_device;
 mod outcome;
 mod routing;
 mod running;
 mod scheme_tasks;
 mod service;
 
+pub use devices::{Access, Devices};
 pub use outcome::Outcome;
-pub use running::{run, run_words};
+pub use running::{run, run_on, run_words};
 pub use scheme_tasks::{check_device, route_device};

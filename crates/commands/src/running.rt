@@ -1,44 +1,37 @@
 //! The program, on any words, reader and writers.
-ghost use Rattle.std.specs.Prelude.{◌≡◌, ◌≢◌, ◌≤◌, ◌<◌, ◌⊎◌, ℕ, IfOk, IfErr, OnOk};
+ghost use Rattle.std.specs.Prelude.{◌≡◌, ◌≢◌, ◌≤◌, ◌<◌, ◌⊎◌, ℕ, IfOk, IfErr};
 ghost use Rattle.clap.specs.Walk.{texts};
-ghost use Rattle.std.specs.FinMap.{len};
-ghost use Rattle.std.specs.Io.KnownBytes.{Appends};
-ghost use Rattle.layout_2.specs.State.{State};
-ghost use Rattle.requests.specs.Tickets.{last_of, sessions};
+ghost use Rattle.requests.specs.Tickets.{sessions};
 ghost use Rattle.command_output.specs.Faults.{IsNotUnderstood, status_of};
-ghost use Rattle.command_output.specs.Lines.{formatted_text, listing_text, line, migrated_text, ticket_text};
 ghost use Rattle.command_output.specs.declared.fault.Fault.{Fault};
-ghost use Rattle.device_commands.specs.Answer.{IsNew, verdict_of};
-ghost use Rattle.device_commands.specs.Openings.{IsEditFault};
-ghost use Rattle.device_files.specs.DeviceFiles.{lock_of};
-ghost use Rattle.device_files.specs.declared.file.Lock.{Lock};
+ghost use Rattle.device_commands.specs.Openings.{IsOpenFault};
 ghost use Rattle.command_line.specs.Asked.{IsAskedFor, IsInRange};
 ghost use Rattle.command_line.specs.declared.task.Task.{Task};
-ghost use Rattle.commands.specs.Endings.{EndsEdit, EndsFormat, EndsMigrate, EndsShow, IsFaultFor, MayEnd, words_fault};
+ghost use Rattle.commands.specs.Devices.{EndsBy, IsFileFault, IsFileOf, OfOpened};
+ghost use Rattle.commands.specs.Endings.{IsEditEnd, IsFaultFor, IsFormatEnd, IsMoveEnd, IsReadingEnd, MayEnd, words_fault};
 ghost use Rattle.commands.specs.Outcomes.{IsOutcome};
-ghost use Rattle.commands.specs.Printed.{AnswersWords, ended_by, verdict_text};
+ghost use Rattle.commands.specs.Printed.{AnswersWords, PrintsFormatted, PrintsListing, PrintsMoved, PrintsTicket, PrintsVerdict};
 ghost use Rattle.commands.specs.ServedScripts.{AskService};
 
-use crate::files::{format_file, migrate_file, open_file, read_file};
+use crate::devices::{Access, Devices, FileDevices};
+use crate::on_device::{edit_on, format_on, migrate_on, resume_on, show_on};
 use crate::outcome::Outcome;
 use crate::scheme_tasks::{run_check, run_route};
 use crate::service::run_serve;
 use command_line::{Task, WordsRefused, understood};
-use command_output::{
-    AcceptedLine, Ended, Fault, Formatted, MigratedLine, RefusedLine, TicketLine, print_line,
-    print_text, tell,
-};
+use command_output::{Ended, Fault, tell};
 use device_files::DeviceFile;
-use generations::Verdict;
+use disk_trait::Disk;
 use graph_edits::Change;
 use service_threads::ServiceConfig;
+use std::alloc::Global;
 use std::fs::File;
 use std::io::{Read, Write};
 use std::rt::Files;
 use std::sync::Wait;
 use std::thread::Threads;
 
-/// Does what the words ask for, and answers the exit status: 0 done, 1 refused, 2 not understood.
+/// Does what the words ask for on files, and answers the exit status: 0 done, 1 refused, 2 not understood.
 ///
 /// What is asked for is printed on `out`, and a fault is told on `err`. The words are judged before any file is opened. `serve` alone reads `script`, and reads it to its end.
 pub fn run_words<R, S, O, E>(rt: &R, words: &[&str], script: &mut S, out: &mut O, err: &mut E) -> u8
@@ -48,29 +41,52 @@ where
     O: Write,
     E: Write,
     ensures status { result ≤ 2 }
-    ensures done { result ≡ 0 → AnswersWords (texts words.now) (S.remaining script.old) Ended.Done (O.contents out.old) (O.contents out.new) }
+    ensures done { result ≡ 0 → AnswersWords ⟦<DeviceFile as Disk>⟧ IsFileOf (texts words.now) (S.remaining script.old) Ended.Done (O.contents out.old) (O.contents out.new) }
     // The answer is no, or one of the faults of the words' task ended the run; only where the output failed may a part be printed.
-    ensures refused { result ≡ 1 → AnswersWords (texts words.now) (S.remaining script.old) Ended.Refused (O.contents out.old) (O.contents out.new)
-        ⊎ ((fault : Fault) × (status_of fault ≡ 1) × IsFaultFor (texts words.now) fault × (fault ≢ Fault.Output → out.new ≡ out.old)) }
+    ensures refused { result ≡ 1 → AnswersWords ⟦<DeviceFile as Disk>⟧ IsFileOf (texts words.now) (S.remaining script.old) Ended.Refused (O.contents out.old) (O.contents out.new)
+        ⊎ ((fault : Fault) × (status_of fault ≡ 1) × IsFaultFor ⟦<DeviceFile as Disk>⟧ IsFileOf (texts words.now) (S.remaining script.old) fault × (fault ≢ Fault.Output → out.new ≡ out.old)) }
     // Words and scripts that aren't understood print nothing, and the fault says so.
-    ensures not_understood { result ≡ 2 → (out.new ≡ out.old) × ((fault : Fault) × IsNotUnderstood fault × IsFaultFor (texts words.now) fault) }
+    ensures not_understood { result ≡ 2 → (out.new ≡ out.old)
+        × ((fault : Fault) × IsNotUnderstood fault × IsFaultFor ⟦<DeviceFile as Disk>⟧ IsFileOf (texts words.now) (S.remaining script.old) fault) }
     ensures unread { ¬ AskService (texts words.now) → script.new ≡ script.old }
 {
     run(rt, words, script, out, err).status()
 }
 
-/// Does what the words ask for, and answers how it ended.
+/// Does what the words ask for on files, and answers how it ended.
 pub fn run<R, S, O, E>(rt: &R, words: &[&str], script: &mut S, out: &mut O, err: &mut E) -> Outcome
 where
     R: Files<File = File> + AllocGlobal + Threads + Wait + Sync,
     S: Read,
     O: Write,
     E: Write,
-    ensures outcome { IsOutcome (texts words.now) (S.remaining script.old) (O.contents out.old) (O.contents out.new) (E.contents err.old) (E.contents err.new) result }
+    ensures outcome { IsOutcome ⟦<DeviceFile as Disk>⟧ IsFileOf (texts words.now) (S.remaining script.old) (O.contents out.old) (O.contents out.new) (E.contents err.old) (E.contents err.new) result }
     ensures untouched { (fault : Fault) → fault ≢ Fault.Output → (result ≡ Outcome.Told fault) ⊎ (result ≡ Outcome.Untold fault) → out.new ≡ out.old }
     ensures unread { ¬ AskService (texts words.now) → script.new ≡ script.old }
 {
-    match run_task(rt, words, script, out) {
+    run_on(rt, &FileDevices { files: rt }, words, script, out, err)
+}
+
+/// Does what the words ask for on devices of any kind, and answers how it ended.
+pub fn run_on<R, F, S, O, E>(
+    rt: &R,
+    devices: &F,
+    words: &[&str],
+    script: &mut S,
+    out: &mut O,
+    err: &mut E,
+) -> Outcome
+where
+    R: AllocGlobal + Threads + Wait + Sync,
+    F: Devices,
+    S: Read,
+    O: Write,
+    E: Write,
+    ensures outcome { IsOutcome F.Device.Disk (F.opened devices.now) (texts words.now) (S.remaining script.old) (O.contents out.old) (O.contents out.new) (E.contents err.old) (E.contents err.new) result }
+    ensures untouched { (fault : Fault) → fault ≢ Fault.Output → (result ≡ Outcome.Told fault) ⊎ (result ≡ Outcome.Untold fault) → out.new ≡ out.old }
+    ensures unread { ¬ AskService (texts words.now) → script.new ≡ script.old }
+{
+    match run_task(rt, devices, words, script, out) {
         Ok(ended) => Outcome::Answered(ended),
         Err(fault) => match tell(err, fault) {
             Ok(()) => Outcome::Told(fault),
@@ -79,19 +95,26 @@ where
     }
 }
 
-fn run_task<R, S, O>(rt: &R, words: &[&str], script: &mut S, out: &mut O) -> Result<Ended, Fault>
+fn run_task<R, F, S, O>(
+    rt: &R,
+    devices: &F,
+    words: &[&str],
+    script: &mut S,
+    out: &mut O,
+) -> Result<Ended, Fault>
 where
-    R: Files<File = File> + AllocGlobal + Threads + Wait + Sync,
+    R: AllocGlobal + Threads + Wait + Sync,
+    F: Devices,
     S: Read,
     O: Write,
-    ensures printed { IfOk result (λ ended. AnswersWords (texts words.now) (S.remaining script.old) ended (O.contents out.old) (O.contents out.new)) }
-    ensures fault { IfErr result (λ fault. IsFaultFor (texts words.now) fault) }
+    ensures printed { IfOk result (λ ended. AnswersWords F.Device.Disk (F.opened devices.now) (texts words.now) (S.remaining script.old) ended (O.contents out.old) (O.contents out.new)) }
+    ensures fault { IfErr result (λ fault. IsFaultFor F.Device.Disk (F.opened devices.now) (texts words.now) (S.remaining script.old) fault) }
     ensures untouched { IfErr result (λ fault. fault ≢ Fault.Output → out.new ≡ out.old) }
     ensures unread { ¬ AskService (texts words.now) → script.new ≡ script.old }
 {
     match understood(rt.alloc(), words) {
-        Ok(Task::Format { device, nodes }) => run_format(rt, device, nodes, out),
-        Ok(Task::Show { device }) => run_show(rt, device, out),
+        Ok(Task::Format { device, nodes }) => run_format(devices, device, nodes, out),
+        Ok(Task::Show { device }) => run_show(rt.alloc(), devices, device, out),
         Ok(
             Task::Edit {
                 device,
@@ -99,17 +122,19 @@ where
                 ticket,
                 change,
             },
-        ) => run_edit(rt, device, session, ticket, change, out),
-        Ok(Task::Resume { device, session }) => run_resume(rt, device, session, out),
+        ) => run_edit(rt, devices, device, session, ticket, change, out),
+        Ok(Task::Resume { device, session }) => {
+            run_resume(rt.alloc(), devices, device, session, out)
+        }
         Ok(
             Task::Route {
                 device,
                 pairs,
                 words,
             },
-        ) => run_route(rt, device, &pairs, &words, out),
-        Ok(Task::Check { device, words }) => run_check(rt, device, &words, out),
-        Ok(Task::Migrate { old, new }) => run_migrate(rt, old, new, out),
+        ) => run_route(rt.alloc(), devices, device, &pairs, &words, out),
+        Ok(Task::Check { device, words }) => run_check(rt, devices, device, &words, out),
+        Ok(Task::Migrate { old, new }) => run_migrate(rt.alloc(), devices, old, new, out),
         Ok(
             Task::Serve {
                 device,
@@ -124,7 +149,7 @@ where
                 forwarders,
                 places,
             };
-            run_serve(rt, device, words, config, script, out)
+            run_serve(rt, devices, device, words, config, script, out)
         }
         Err(refused) => Err(fault_of(refused)),
     }
@@ -143,51 +168,39 @@ fn fault_of(refused: WordsRefused) -> Fault
     }
 }
 
-fn run_format<R, O>(rt: &R, device: &str, nodes: u16, out: &mut O) -> Result<Ended, Fault>
-where
-    R: Files<File = File> + AllocGlobal,
-    O: Write,
-    ensures printed { IfOk result (λ ended. (ended ≡ Ended.Done) × Appends (O.contents out.old) (O.contents out.new) (line (formatted_text nodes))) }
-    ensures fault { IfErr result (λ fault. EndsFormat nodes fault) }
+fn run_format<F: Devices, O: Write>(
+    devices: &F,
+    device: &str,
+    nodes: u16,
+    out: &mut O,
+) -> Result<Ended, Fault>
+    ensures printed { IfOk result (λ ended. OfOpened F.Device.Disk (F.opened devices.now device.now Access.Anew)
+        (λ disk left. PrintsFormatted nodes disk left ended (O.contents out.old) (O.contents out.new))) }
+    ensures fault { IfErr result (λ fault. EndsBy F.Device.Disk (F.opened devices.now device.now Access.Anew) (IsFormatEnd nodes) fault) }
     ensures untouched { IfErr result (λ fault. fault ≢ Fault.Output → out.new ≡ out.old) }
 {
-    format_file(rt, device, nodes)?;
-    print_line(out, Formatted { nodes })?;
-    Ok(Ended::Done)
+    let mut disk = devices.open(device, Access::Anew)?;
+    format_on(&mut disk, nodes, out)
 }
 
-fn run_show<R, O>(rt: &R, device: &str, out: &mut O) -> Result<Ended, Fault>
-where
-    R: Files<File = File> + AllocGlobal,
-    O: Write,
-    ensures printed { IfOk result (λ ended. (ended ≡ Ended.Done) × (state : State) × Appends (O.contents out.old) (O.contents out.new) (listing_text state.count state.graph)) }
-    ensures fault { IfErr result EndsShow }
+fn run_show<F: Devices, O: Write>(
+    alloc: Global,
+    devices: &F,
+    device: &str,
+    out: &mut O,
+) -> Result<Ended, Fault>
+    ensures printed { IfOk result (λ ended. OfOpened F.Device.Disk (F.opened devices.now device.now Access.ToRead)
+        (λ disk left. PrintsListing disk left ended (O.contents out.old) (O.contents out.new))) }
+    ensures fault { IfErr result (λ fault. EndsBy F.Device.Disk (F.opened devices.now device.now Access.ToRead) (IsReadingEnd IsOpenFault) fault) }
     ensures untouched { IfErr result (λ fault. fault ≢ Fault.Output → out.new ≡ out.old) }
 {
-    let (answer, _) = device_commands::listing(rt.alloc(), read_file(rt, device)?);
-    let text = answer?;
-    print_text(out, text.as_str())?;
-    Ok(Ended::Done)
+    let disk = devices.open(device, Access::ToRead)?;
+    show_on(alloc, disk, out).0
 }
 
-// Makes one change of a device whose file no other command has open.
-fn edit_alone<R: Threads + Wait + Sync + AllocGlobal>(
+fn run_edit<R, F, O>(
     rt: &R,
-    file: DeviceFile,
-    session: u8,
-    ticket: Option<u64>,
-    change: Change,
-) -> Result<Verdict, Fault>
-    requires alone { lock_of file ≡ Lock.Alone }
-    requires there { session < sessions }
-    ensures verdict { IfOk result (λ verdict. (state : State) × IsNew state session ticket × (verdict ≡ verdict_of state change)) }
-    ensures fault { IfErr result (λ fault. IsEditFault fault) }
-{
-    device_commands::edit(rt, rt.alloc(), file, session, ticket, change).0
-}
-
-fn run_edit<R, O>(
-    rt: &R,
+    devices: &F,
     device: &str,
     session: u8,
     ticket: Option<u64>,
@@ -195,64 +208,51 @@ fn run_edit<R, O>(
     out: &mut O,
 ) -> Result<Ended, Fault>
 where
-    R: Files<File = File> + AllocGlobal + Threads + Wait + Sync,
+    R: AllocGlobal + Threads + Wait + Sync,
+    F: Devices,
     O: Write,
     requires { session < sessions }
-    ensures printed { IfOk result (λ ended. (state : State) × IsNew state session ticket × (ended ≡ ended_by (verdict_of state change)) × Appends (O.contents out.old) (O.contents out.new) (line (verdict_text (verdict_of state change)))) }
-    ensures fault { IfErr result EndsEdit }
+    ensures printed { IfOk result (λ ended. OfOpened F.Device.Disk (F.opened devices.now device.now Access.ToChange)
+        (λ disk left. PrintsVerdict session ticket change disk left ended (O.contents out.old) (O.contents out.new))) }
+    ensures fault { IfErr result (λ fault. EndsBy F.Device.Disk (F.opened devices.now device.now Access.ToChange) (IsEditEnd session ticket change) fault) }
     ensures untouched { IfErr result (λ fault. fault ≢ Fault.Output → out.new ≡ out.old) }
 {
-    let answer = edit_alone(rt, open_file(rt, device)?, session, ticket, change);
-    print_verdict(out, answer?)
+    let disk = devices.open(device, Access::ToChange)?;
+    edit_on(rt, disk, session, ticket, change, out).0
 }
 
-fn run_resume<R, O>(rt: &R, device: &str, session: u8, out: &mut O) -> Result<Ended, Fault>
-where
-    R: Files<File = File> + AllocGlobal,
-    O: Write,
+fn run_resume<F: Devices, O: Write>(
+    alloc: Global,
+    devices: &F,
+    device: &str,
+    session: u8,
+    out: &mut O,
+) -> Result<Ended, Fault>
     requires { session < sessions }
-    ensures printed { IfOk result (λ ended. (ended ≡ Ended.Done) × (state : State) × Appends (O.contents out.old) (O.contents out.new) (line (ticket_text session (last_of state.tickets session)))) }
-    ensures fault { IfErr result EndsShow }
+    ensures printed { IfOk result (λ ended. OfOpened F.Device.Disk (F.opened devices.now device.now Access.ToRead)
+        (λ disk left. PrintsTicket session disk left ended (O.contents out.old) (O.contents out.new))) }
+    ensures fault { IfErr result (λ fault. EndsBy F.Device.Disk (F.opened devices.now device.now Access.ToRead) (IsReadingEnd IsOpenFault) fault) }
     ensures untouched { IfErr result (λ fault. fault ≢ Fault.Output → out.new ≡ out.old) }
 {
-    let (answer, _) = device_commands::resume(rt.alloc(), read_file(rt, device)?, session);
-    let ticket = answer?;
-    print_line(out, TicketLine { session, ticket })?;
-    Ok(Ended::Done)
+    let disk = devices.open(device, Access::ToRead)?;
+    resume_on(alloc, disk, session, out).0
 }
 
-fn run_migrate<R, O>(rt: &R, old: &str, new: &str, out: &mut O) -> Result<Ended, Fault>
-where
-    R: Files<File = File> + AllocGlobal,
-    O: Write,
-    ensures printed { IfOk result (λ ended. (ended ≡ Ended.Done) × (state : State) × Appends (O.contents out.old) (O.contents out.new) (line (migrated_text state.count (len state.graph.edges)))) }
-    ensures fault { IfErr result EndsMigrate }
+// The old device is opened first, and for reading alone.
+fn run_migrate<F: Devices, O: Write>(
+    alloc: Global,
+    devices: &F,
+    old: &str,
+    new: &str,
+    out: &mut O,
+) -> Result<Ended, Fault>
+    ensures printed { IfOk result (λ ended. OfOpened F.Device.Disk (F.opened devices.now old.now Access.ToRead)
+        (λ from left. OfOpened F.Device.Disk (F.opened devices.now new.now Access.New) (λ to made. PrintsMoved from to made ended (O.contents out.old) (O.contents out.new)))) }
+    ensures fault { IfErr result (λ fault. IsFileFault fault ⊎ (fault ≡ Fault.Output) ⊎ OfOpened F.Device.Disk (F.opened devices.now old.now Access.ToRead)
+        (λ from from_left. OfOpened F.Device.Disk (F.opened devices.now new.now Access.New) (λ to to_left. IsMoveEnd from from_left to to_left fault))) }
     ensures untouched { IfErr result (λ fault. fault ≢ Fault.Output → out.new ≡ out.old) }
 {
-    let moved = migrate_file(rt, old, new)?;
-    print_line(
-        out,
-        MigratedLine {
-            count: moved.count,
-            edges: moved.edges,
-        },
-    )?;
-    Ok(Ended::Done)
-}
-
-fn print_verdict<O: Write>(out: &mut O, verdict: Verdict) -> Result<Ended, Fault>
-    ensures ended { IfOk result (λ ended. ended ≡ ended_by verdict) }
-    ensures printed { OnOk result (Appends (O.contents out.old) (O.contents out.new) (line (verdict_text verdict))) }
-    ensures fault { IfErr result (λ fault. fault ≡ Fault.Output) }
-{
-    match verdict {
-        Verdict::Accepted { count } => {
-            print_line(out, AcceptedLine { count })?;
-            Ok(Ended::Done)
-        }
-        Verdict::Refused { op, code } => {
-            print_line(out, RefusedLine { op, code })?;
-            Ok(Ended::Refused)
-        }
-    }
+    let mut from = devices.open(old, Access::ToRead)?;
+    let mut to = devices.open(new, Access::New)?;
+    migrate_on(alloc, &mut from, &mut to, out)
 }

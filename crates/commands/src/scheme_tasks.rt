@@ -1,5 +1,5 @@
 //! The commands `route` and `check`.
-ghost use Rattle.std.specs.Prelude.{◌≡◌, ◌≢◌, ◌<◌, List, ℕ, length, IsTrue, IfOk, IfErr, IsErrOf, OnOk};
+ghost use Rattle.std.specs.Prelude.{◌≡◌, ◌≢◌, ◌<◌, ◌⊎◌, List, ℕ, length, IsTrue, IfOk, IfErr, IsErrOf, IsOkAnd, OnOk};
 ghost use Rattle.std.specs.Io.KnownBytes.{Appends};
 ghost use Rattle.layout_2.specs.State.{State};
 ghost use Rattle.layout_2.specs.Standing.{StandsFor};
@@ -7,11 +7,13 @@ ghost use Rattle.checkpoint.specs.StoreWords.{state_of};
 ghost use Rattle.written_values.specs.Words.{AreWords, IsWithin};
 ghost use Rattle.command_output.specs.Lines.{line};
 ghost use Rattle.device_commands.specs.Openings.{IsReading};
-ghost use Rattle.commands.specs.Endings.{EndsCheck, EndsRoute, IsCheckDeviceFault, IsRouteDeviceFault, IsRouteFault, IsQueryFault, IsWordsFault};
+ghost use Rattle.commands.specs.Endings.{IsCheckDeviceFault, IsCheckEnd, IsRouteDeviceFault, IsRouteEnd, IsRouteFault, IsQueryFault, IsWordsFault};
+ghost use Rattle.commands.specs.Devices.{EndsBy, OfOpened};
+ghost use Rattle.commands.specs.Printed.{PrintsCheck, PrintsRoutes};
 ghost use Rattle.commands.specs.SchemeAnswers.{AreNodes, AreRoutesOf, IsCheckOf, answered_text, checks_text, ended_after, ended_at, is_along, routes_text};
 
 use crate::checking::check_in_thread;
-use crate::files::read_file;
+use crate::devices::{Access, Devices};
 use crate::routing::{are_nodes, routes_by};
 use checkpoint::{Store, standing_law};
 use command_output::{
@@ -22,9 +24,7 @@ use disk_trait::Disk;
 use graph_edits::Graph;
 use scheme_builds::{Checked, Route};
 use std::alloc::Global;
-use std::fs::File;
 use std::io::Write;
-use std::rt::Files;
 use std::sync::Wait;
 use std::thread::Threads;
 use written_values::LandmarkWords;
@@ -161,22 +161,49 @@ pub fn check_device<R: Threads + Wait + Sync + AllocGlobal, D: Disk>(
     }
 }
 
-/// Prints a line for each pair of nodes of a device: the route of a packet from the first to the second, or that there is none.
-pub(crate) fn run_route<R, O>(
-    rt: &R,
+/// Prints a line for each pair of nodes of a device: the route of a packet from the first to the second, or that there is none. The
+/// device was only read.
+fn route_on<D: Disk, O: Write>(
+    alloc: Global,
+    disk: D,
+    pairs: &[(u16, u16)],
+    asked: &LandmarkWords,
+    out: &mut O,
+) -> (Result<Ended, Fault>, D)
+    ensures printed { IfOk result.0 (λ ended. PrintsRoutes pairs.now asked.now (D.view disk) (D.view result.1) ended (O.contents out.old) (O.contents out.new)) }
+    ensures fault { IfErr result.0 (λ fault. (fault ≡ Fault.Output) ⊎ IsRouteEnd pairs.now asked.now (D.view disk) (D.view result.1) fault) }
+    ensures untouched { IfErr result.0 (λ fault. fault ≢ Fault.Output → out.new ≡ out.old) }
+{
+    let (answer, disk) = route_device(alloc, disk, asked, pairs);
+    (print_found(out, answer), disk)
+}
+
+/// The same of the device by a path.
+pub(crate) fn run_route<F: Devices, O: Write>(
+    alloc: Global,
+    devices: &F,
     device: &str,
     pairs: &[(u16, u16)],
     asked: &LandmarkWords,
     out: &mut O,
 ) -> Result<Ended, Fault>
-where
-    R: Files<File = File> + AllocGlobal,
-    O: Write,
-    ensures printed { IfOk result (λ ended. (state : State) × (routes : List Route) × AreRoutesOf state.graph asked.now pairs.now routes × (ended ≡ ended_after routes) × Appends (O.contents out.old) (O.contents out.new) (routes_text state.count routes)) }
-    ensures fault { IfErr result (λ fault. EndsRoute asked.now fault) }
+    ensures printed { IfOk result (λ ended. OfOpened F.Device.Disk (F.opened devices.now device.now Access.ToRead)
+        (λ disk left. PrintsRoutes pairs.now asked.now disk left ended (O.contents out.old) (O.contents out.new))) }
+    ensures fault { IfErr result (λ fault. EndsBy F.Device.Disk (F.opened devices.now device.now Access.ToRead) (IsRouteEnd pairs.now asked.now) fault) }
     ensures untouched { IfErr result (λ fault. fault ≢ Fault.Output → out.new ≡ out.old) }
 {
-    let (answer, _) = route_device(rt.alloc(), read_file(rt, device)?, asked, pairs);
+    let disk = devices.open(device, Access::ToRead)?;
+    route_on(alloc, disk, pairs, asked, out).0
+}
+
+fn print_found<O: Write>(
+    out: &mut O,
+    answer: Result<(u64, Vec<Route>), Fault>,
+) -> Result<Ended, Fault>
+    ensures printed { IfOk result (λ ended. IsOkAnd answer (λ found. (ended ≡ ended_after found.1.items) × Appends (O.contents out.old) (O.contents out.new) (routes_text found.0 found.1.items))) }
+    ensures fault { IfErr result (λ fault. (fault ≡ Fault.Output) ⊎ IsErrOf answer fault) }
+    ensures untouched { IfErr result (λ fault. fault ≢ Fault.Output → out.new ≡ out.old) }
+{
     let (generation, routes) = answer?;
     print_routes(out, generation, &routes)
 }
@@ -229,21 +256,51 @@ fn print_route<O: Write>(out: &mut O, generation: u64, route: &Route) -> Result<
     }
 }
 
-/// Prints what the checks say of the scheme of a device's graph.
-pub(crate) fn run_check<R, O>(
+/// Prints what the checks say of the scheme of a device's graph. The device was only read.
+fn check_on<R: Threads + Wait + Sync + AllocGlobal, D: Disk, O: Write>(
     rt: &R,
+    disk: D,
+    asked: &LandmarkWords,
+    out: &mut O,
+) -> (Result<Ended, Fault>, D)
+    ensures printed { IfOk result.0 (λ ended. PrintsCheck asked.now (D.view disk) (D.view result.1) ended (O.contents out.old) (O.contents out.new)) }
+    ensures fault { IfErr result.0 (λ fault. (fault ≡ Fault.Output) ⊎ IsCheckEnd asked.now (D.view disk) (D.view result.1) fault) }
+    ensures untouched { IfErr result.0 (λ fault. fault ≢ Fault.Output → out.new ≡ out.old) }
+{
+    let (answer, disk) = check_device(rt, disk, asked);
+    (print_checked(out, answer), disk)
+}
+
+/// The same of the device by a path.
+pub(crate) fn run_check<R, F, O>(
+    rt: &R,
+    devices: &F,
     device: &str,
     asked: &LandmarkWords,
     out: &mut O,
 ) -> Result<Ended, Fault>
 where
-    R: Files<File = File> + AllocGlobal + Threads + Wait + Sync,
+    R: AllocGlobal + Threads + Wait + Sync,
+    F: Devices,
     O: Write,
-    ensures printed { IfOk result (λ ended. (state : State) × (checked : Checked) × IsCheckOf state.graph state.count asked.now checked × (ended ≡ ended_at checked.fault) × Appends (O.contents out.old) (O.contents out.new) (line (checks_text state.count checked.landmarks checked.fault))) }
-    ensures fault { IfErr result (λ fault. EndsCheck asked.now fault) }
+    ensures printed { IfOk result (λ ended. OfOpened F.Device.Disk (F.opened devices.now device.now Access.ToRead)
+        (λ disk left. PrintsCheck asked.now disk left ended (O.contents out.old) (O.contents out.new))) }
+    ensures fault { IfErr result (λ fault. EndsBy F.Device.Disk (F.opened devices.now device.now Access.ToRead) (IsCheckEnd asked.now) fault) }
     ensures untouched { IfErr result (λ fault. fault ≢ Fault.Output → out.new ≡ out.old) }
 {
-    let (answer, _) = check_device(rt, read_file(rt, device)?, asked);
+    let disk = devices.open(device, Access::ToRead)?;
+    check_on(rt, disk, asked, out).0
+}
+
+fn print_checked<O: Write>(
+    out: &mut O,
+    answer: Result<(u64, Checked), Fault>,
+) -> Result<Ended, Fault>
+    ensures printed { IfOk result (λ ended. IsOkAnd answer (λ found. (ended ≡ ended_at found.1.fault)
+        × Appends (O.contents out.old) (O.contents out.new) (line (checks_text found.0 found.1.landmarks found.1.fault)))) }
+    ensures fault { IfErr result (λ fault. (fault ≡ Fault.Output) ⊎ IsErrOf answer fault) }
+    ensures untouched { IfErr result (λ fault. fault ≢ Fault.Output → out.new ≡ out.old) }
+{
     let (generation, checked) = answer?;
     print_check(out, generation, checked.landmarks, checked.fault)
 }

@@ -1,4 +1,4 @@
-//! Tests of the program, as one call over its words, on real files, and of the commands on a disk in memory.
+//! Tests of the program, as one call over its words, on real files and on devices in memory, and of the commands on a disk in memory.
 //!
 //! There is nothing here but tests: so the crates below are proved once in the gate, and not again with their tests. Each command's
 //! texts and status, the bytes of devices, files that are no device, numbers at their limit, outputs and inputs that fail, routes and
@@ -14,6 +14,8 @@ mod devices;
 mod helpers;
 #[cfg(test)]
 mod locks;
+#[cfg(test)]
+mod memory_devices;
 #[cfg(test)]
 mod migrations;
 #[cfg(test)]

@@ -1,17 +1,25 @@
 -- The lines of a service's answers, and its faults.
-use Rattle.std.specs.Prelude.{◌≡◌, ℕ, List, Option, map}
+use Rattle.std.specs.Prelude.{◌≡◌, ℕ, List, Option, IfSome, IsTrue, map}
 use Rattle.std.specs.List.{flat_map}
 use Rattle.std.specs.Io.KnownBytes.{Appends}
+use Rattle.disk_trait.specs.declared.disk.Disk.{Ghosts}
+use Rattle.disk_trait.specs.Disk.{OnlyRead}
+use Rattle.layout_2.specs.State.{State}
+use Rattle.layout_2.specs.Standing.{StandsFor}
 use Rattle.generations.specs.declared.posting.Verdict.TheVariants.{Accepted, Refused}
 use Rattle.command_output.specs.Faults.{told_text}
 use Rattle.command_output.specs.declared.fault.Fault.{Fault}
 use Rattle.command_output.specs.declared.fault.Fault.TheVariants as told
 use Rattle.command_output.specs.Lines.{accepted_text, line, refused_text}
 use Rattle.command_output.specs.RouteLines.{absent_text, route_text, unreachable_text}
+use Rattle.device_commands.specs.Openings.{TellsOf}
+use Rattle.written_values.specs.Words.{IsWithin}
 use Rattle.written_values.specs.declared.line.ScriptLine.{ScriptLine}
+use Rattle.written_values.specs.declared.words.LandmarkWords.{LandmarkWords}
 use Rattle.service_workers.specs.Answers.{is_edit, is_verdict}
 use Rattle.service_workers.specs.declared.answer.Answer.{Answer}
 use Rattle.service_workers.specs.declared.answer.Answer.TheVariants.{Settled, Along, Unreachable, NoNode}
+use Rattle.service_threads.specs.Kept.{HasFailed}
 use Rattle.service_threads.specs.declared.fault.Fault.{Fault as Stopped}
 use Rattle.service_threads.specs.declared.fault.Fault.TheVariants as why
 use Rattle.service_lines.specs.declared.served.Served.{Served}
@@ -60,12 +68,6 @@ IsServeFault told.Internal = Unit {0}
 IsServeFault told.Output = Unit {0}
 IsServeFault fault = ⊥
 
--- what a service that ended so has printed on a writer, and told on another
-abbrev pub IsServedSo : List ScriptLine → Option (List ℕ) → Option (List ℕ) → Option (List ℕ) → Option (List ℕ) → Served → Type 0
-IsServedSo script old new told_old told_new Printed = IsServed script old new × (told_new ≡ told_old)
-IsServedSo script old new told_old told_new (Told fault) = IsServeFault fault × Appends told_old told_new (told_text fault)
-IsServedSo script old new told_old told_new (Untold fault) = IsServeFault fault
-
 -- the faults of a device that was refused, or whose nodes the words don't fit
 abbrev pub IsOpeningFault : Fault → Type 0
 IsOpeningFault told.NotFormatted = Unit {0}
@@ -73,3 +75,22 @@ IsOpeningFault told.LayoutNotKnown = Unit {0}
 IsOpeningFault told.Damaged = Unit {0}
 IsOpeningFault told.Words = Unit {0}
 IsOpeningFault fault = ⊥
+
+-- What a fault that ended a service under these words tells of its device, and what is left of that.
+pub record IsServeEnd {D : Type 0} (model : Ghosts D) (disk : D) (asked : LandmarkWords) (back : Option D) (fault : Fault) : Type 0 where
+  pub named : IsServeFault fault
+  -- that its content stands for no state, by its front
+  pub tells : IsTrue (model.view disk).keeps_model → TellsOf fault (model.view disk).content
+  -- that the words name a node which it hasn't; also of a disk that doesn't keep the model, one which a state hasn't
+  pub not_within : IsTrue (model.view disk).keeps_model → (state : State) → StandsFor state (model.view disk).content → fault ≡ told.Words → ¬ IsWithin asked state.graph.nodes
+  pub of_one : fault ≡ told.Words → (state : State) × ¬ IsWithin asked state.graph.nodes
+  -- one that was refused was only read
+  pub refused : IsTrue (model.view disk).keeps_model → IsOpeningFault fault → IfSome back (λ d. OnlyRead (model.view disk) (model.view d))
+  -- one whose failure is the fault has failed
+  pub device : fault ≡ told.Device → IfSome back (λ d. HasFailed (model.view disk) (model.view d))
+
+-- what a service that ended so has printed on a writer, and told on another
+abbrev pub IsServedSo : {D : Type 0} → Ghosts D → D → LandmarkWords → Option D → List ScriptLine → Option (List ℕ) → Option (List ℕ) → Option (List ℕ) → Option (List ℕ) → Served → Type 0
+IsServedSo model disk asked back script old new told_old told_new Printed = IsServed script old new × (told_new ≡ told_old)
+IsServedSo model disk asked back script old new told_old told_new (Told fault) = IsServeEnd model disk asked back fault × Appends told_old told_new (told_text fault)
+IsServedSo model disk asked back script old new told_old told_new (Untold fault) = IsServeEnd model disk asked back fault

@@ -1,16 +1,12 @@
 //! The service on a device, with its answers printed.
-ghost use Rattle.std.specs.Prelude.{◌≡◌, ◌≢◌, ◌≤◌, ◌⊎◌, List, IfErr, IfSome, IsErrOf, IsTrue, OnOk, map};
+ghost use Rattle.std.specs.Prelude.{◌≡◌, ◌≢◌, ◌≤◌, ◌⊎◌, List, IfErr, OnOk, map};
 ghost use Rattle.std.specs.Io.KnownBytes.{Appends};
 ghost use Rattle.command_output.specs.declared.fault.Fault.{Fault};
 ghost use Rattle.command_output.specs.Faults.{status_of};
 ghost use Rattle.written_values.specs.Scripts.{AreOfSessions};
 ghost use Rattle.service_threads.specs.Config.{IsServiceConfig};
-ghost use Rattle.disk_trait.specs.Disk.{OnlyRead};
-ghost use Rattle.layout_2.specs.State.{State};
-ghost use Rattle.written_values.specs.Words.{IsWithin};
-ghost use Rattle.device_commands.specs.Openings.{TellsOf};
-ghost use Rattle.service_threads.specs.Kept.{HasFailed, IsLeftBy};
-ghost use Rattle.service_lines.specs.ServedLines.{IsOpeningFault, IsServed, IsServedSo, IsServeFault, told_fault};
+ghost use Rattle.service_threads.specs.Kept.{IsLeftBy};
+ghost use Rattle.service_lines.specs.ServedLines.{IsServed, IsServedSo, IsServeEnd, told_fault};
 ghost use Rattle.service_lines.specs.declared.served.Served.{Served};
 
 use crate::lines::lines_of;
@@ -61,16 +57,11 @@ where
     requires config { IsServiceConfig config }
     requires sessions { AreOfSessions config.editors script.items }
     ensures printed { OnOk result.0 (IsServed script.items (O.contents out.old) (O.contents out.new)) }
-    ensures fault { IfErr result.0 (λ fault. IsServeFault fault) }
+    // A fault is true of the device.
+    ensures ended { IfErr result.0 (λ fault. IsServeEnd D.Disk disk words result.1 fault) }
     // No line is printed where the service gives no answers.
     ensures untouched { IfErr result.0 (λ fault. fault ≢ Fault.Output → out.new ≡ out.old) }
-    // A fault tells what is there: the device's content, or words that name a node that it hasn't.
-    ensures tells { IsTrue (D.view disk).keeps_model → IfErr result.0 (λ fault. TellsOf fault (D.view disk).content) }
-    ensures of_one { IfErr result.0 (λ fault. fault ≡ Fault.Words → (state : State) × ¬ IsWithin words state.graph.nodes) }
-    // What is left of the device; one that was refused was only read, and one whose failure is the fault has failed.
     ensures left { IsLeftBy D.Disk disk result.1 }
-    ensures refused { IsTrue (D.view disk).keeps_model → IfErr result.0 (λ fault. IsOpeningFault fault → IfSome result.1 (λ d. OnlyRead (D.view disk) (D.view d))) }
-    ensures device { IsErrOf result.0 Fault.Device → IfSome result.1 (λ d. HasFailed (D.view disk) (D.view d)) }
 {
     let (answers, disk) = service_threads::serve_on(rt, alloc, disk, words, config, script, hooks);
     let answers = match answers {
@@ -104,7 +95,7 @@ where
     E: Write,
     requires config { IsServiceConfig config }
     requires sessions { AreOfSessions config.editors script.items }
-    ensures so { IsServedSo script.items (O.contents out.old) (O.contents out.new) (E.contents err.old) (E.contents err.new) result.0 }
+    ensures so { IsServedSo D.Disk disk words result.1 script.items (O.contents out.old) (O.contents out.new) (E.contents err.old) (E.contents err.new) result.0 }
     ensures quiet { result.0 ≡ Served.Printed → err.new ≡ err.old }
     // No line is printed where the service gives no answers.
     ensures untouched { (fault : Fault) → (result.0 ≡ Served.Told fault) ⊎ (result.0 ≡ Served.Untold fault) → fault ≢ Fault.Output → out.new ≡ out.old }
@@ -143,7 +134,7 @@ where
     requires sessions { AreOfSessions config.editors script.items }
     ensures few { result.0 ≤ 2 }
     ensures done { result.0 ≡ 0 → IsServed script.items (O.contents out.old) (O.contents out.new) × (err.new ≡ err.old) }
-    ensures fault { (result.0 ≡ 0) ⊎ ((fault : Fault) × IsServeFault fault × (result.0 ≡ status_of fault) × (fault ≢ Fault.Output → out.new ≡ out.old)) }
+    ensures fault { (result.0 ≡ 0) ⊎ ((fault : Fault) × IsServeEnd D.Disk disk words result.1 fault × (result.0 ≡ status_of fault) × (fault ≢ Fault.Output → out.new ≡ out.old)) }
     ensures left { IsLeftBy D.Disk disk result.1 }
 {
     let (served, disk) = serve_told(rt, alloc, disk, words, config, script, hooks, out, err);

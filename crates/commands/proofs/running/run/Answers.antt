@@ -4,7 +4,7 @@ use Rattle.std.proofs.Crossing.{crosses}
 use Rattle.disk_trait.specs.contracts.file.FileDisk as disk
 use Rattle.disk_trait.specs.contracts.log.Log as log
 use Rattle.device_files.specs.contracts.file.DeviceFile as file
-use Rattle.commands.proofs.service.serve_alone.Goals as goal
+use Rattle.commands.proofs.running.run.Goals as goal
 
 logged : IsSend (log.the_row unit)
 logged = search (crosses, sendable) depth 40
@@ -17,5 +17,5 @@ disk_send = search (crosses, sendable, logged) depth 40
 file_send : IsSend file.the_row
 file_send = search (crosses, sendable, disk_send) depth 40
 
-pub serve_lines-requires-send-D : goal.serve_lines-requires-send-D
-serve_lines-requires-send-D g c κs within = search (crosses, sendable, file_send) depth 60
+pub run_on-requires-send-F-Device : goal.run_on-requires-send-F-Device
+run_on-requires-send-F-Device g c κs within = search (crosses, sendable, file_send) depth 60

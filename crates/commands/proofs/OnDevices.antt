@@ -1,0 +1,192 @@
+-- What was answered of a device, printed.
+use Rattle.std.proofs.Common.{◌≡◌, ◌∙◌, ◌<◌, ◌⊎◌, ap, inl, inr, refl, subst, sym, ⊎_elim, ℕ, List, Option, Result, Ok, Err, IfErr, IfOk, IsErrOf, IsTrue, OnOk}
+use Rattle.std.proofs.lemmas.Result.{IfErr-at_err}
+use Rattle.std.specs.Prelude.{IsOkAnd}
+use Rattle.std.specs.Global.{Vec}
+use Rattle.std.specs.FinMap.{len}
+use Rattle.std.specs.Io.KnownBytes.{Appends}
+use Rattle.disk_trait.specs.declared.disk.Disk.{Ghosts}
+use Rattle.disk_trait.specs.Disk.{DiskView, OnlyRead}
+use Rattle.graph_edits.specs.Edges.{Network}
+use Rattle.graph_edits.specs.declared.edits.Op.{Op}
+use Rattle.requests.specs.Tickets.{last_of, worn_limit}
+use Rattle.layout_2.specs.State.{State}
+use Rattle.layout_2.specs.Standing.{KeepsThrough, StandsFor}
+use Rattle.generations.specs.declared.posting.Verdict.{Verdict}
+use Rattle.written_values.specs.Words.{IsWithin}
+use Rattle.written_values.specs.declared.words.LandmarkWords.{LandmarkWords}
+use Rattle.scheme_builds.specs.declared.queries.Checked.{Checked}
+use Rattle.scheme_builds.specs.declared.queries.Route.{Route}
+use Rattle.command_output.specs.declared.ended.Ended.{Ended}
+use Rattle.command_output.specs.declared.ended.Ended.TheVariants.{Done}
+use Rattle.command_output.specs.declared.fault.Fault.{Fault}
+use Rattle.command_output.specs.declared.fault.Fault.TheVariants as told
+use Rattle.command_output.specs.Lines.{line, listing_text, ticket_text}
+use Rattle.device_commands.specs.Answer.{IsNew, IsTaken, last_ticket, state_after, ticket_of, verdict_of}
+use Rattle.device_commands.specs.Openings.{IsEditFault, IsReading, IsUnwrittenFault, TellsOf}
+use Rattle.commands.specs.Devices.{EndsBy, IsFileFault, OfOpened}
+use Rattle.commands.specs.Endings.{IsCheckDeviceFault, IsCheckEnd, IsEditEnd, IsReadingEnd, IsRouteDeviceFault, IsRouteEnd}
+use Rattle.commands.specs.Printed.{PrintsCheck, PrintsListing, PrintsRoutes, PrintsTicket, PrintsVerdict, ended_by, verdict_text}
+use Rattle.commands.specs.SchemeAnswers.{AreNodes, AreRoutesOf, IsCheckOf, checks_text, ended_after, ended_at, routes_text}
+
+-- ---- what was printed
+
+-- of a listing
+pub listing_printed : {X : Type 0} (bytes : X → List ℕ) (r : Result Ended Fault) (answer : Result X Fault) (disk left : DiskView) (old new : Option (List ℕ))
+    → IfOk answer (λ text. (state : State) × (bytes text ≡ listing_text state.count state.graph))
+    → (IsTrue disk.keeps_model → (state : State) → StandsFor state disk.content → IfOk answer (λ text. bytes text ≡ listing_text state.count state.graph))
+    → (IsTrue disk.keeps_model → OnlyRead disk left)
+    → IfOk r (λ ended. (ended ≡ Done) × IsOkAnd answer (λ text. Appends old new (bytes text))) → IfOk r (λ ended. PrintsListing disk left ended old new)
+listing_printed bytes (Ok ended) (Ok text) disk left old new one this reads printed = (
+  record {
+    of_one = (one.0, (printed.0, subst (λ (shown : List ℕ). Appends old new shown) one.1 printed.1));
+    of_this = λ keeps state stands. (printed.0, subst (λ (shown : List ℕ). Appends old new shown) (this keeps state stands) printed.1);
+  },
+  reads,
+)
+listing_printed bytes (Ok ended) (Err fault) disk left old new one this reads printed = absurd printed.1
+listing_printed bytes (Err fault) answer disk left old new one this reads printed = tt
+
+-- of a ticket
+pub ticket_printed : (r : Result Ended Fault) (answer : Result ℕ Fault) (session : ℕ) (disk left : DiskView) (old new : Option (List ℕ))
+    → IfOk answer (λ ticket. (state : State) × (ticket ≡ last_of state.tickets session))
+    → (IsTrue disk.keeps_model → (state : State) → StandsFor state disk.content → IfOk answer (λ ticket. ticket ≡ last_of state.tickets session))
+    → (IsTrue disk.keeps_model → OnlyRead disk left)
+    → IfOk r (λ ended. (ended ≡ Done) × IsOkAnd answer (λ ticket. Appends old new (line (ticket_text session ticket)))) → IfOk r (λ ended. PrintsTicket session disk left ended old new)
+ticket_printed (Ok ended) (Ok ticket) session disk left old new one this reads printed = (
+  record {
+    of_one = (one.0, (printed.0, subst (λ (t : ℕ). Appends old new (line (ticket_text session t))) one.1 printed.1));
+    of_this = λ keeps state stands. (printed.0, subst (λ (t : ℕ). Appends old new (line (ticket_text session t))) (this keeps state stands) printed.1);
+  },
+  reads,
+)
+ticket_printed (Ok ended) (Err fault) session disk left old new one this reads printed = absurd printed.1
+ticket_printed (Err fault) answer session disk left old new one this reads printed = tt
+
+-- of a verdict
+pub verdict_printed : (r : Result Ended Fault) (answer : Result Verdict Fault) (session : ℕ) (named : Option ℕ) (change : List Op) (disk left : DiskView) (old new : Option (List ℕ))
+    → IfOk answer (λ verdict. (state : State) × IsNew state session named × (verdict ≡ verdict_of state change))
+    → (IsTrue disk.keeps_model → (state : State) → StandsFor state disk.content → OnOk answer (IsNew state session named))
+    → (IsTrue disk.keeps_model → (state : State) → StandsFor state disk.content → IfOk answer (λ verdict. verdict ≡ verdict_of state change))
+    → (IsTrue disk.keeps_model → (state : State) → StandsFor state disk.content → OnOk answer (KeepsThrough left (state_after state session named change)))
+    → IfOk r (λ ended. IsOkAnd answer (λ verdict. (ended ≡ ended_by verdict) × Appends old new (line (verdict_text verdict)))) → IfOk r (λ ended. PrintsVerdict session named change disk left ended old new)
+verdict_printed (Ok ended) (Ok verdict) session named change disk left old new one fresh this keeps_after printed = (
+  record {
+    of_one = (one.0, (one.1, printed.0 ∙ ap ended_by one.2, subst (λ (v : Verdict). Appends old new (line (verdict_text v))) one.2 printed.1));
+    of_this = λ keeps state stands.
+        (fresh keeps state stands, printed.0 ∙ ap ended_by (this keeps state stands), subst (λ (v : Verdict). Appends old new (line (verdict_text v))) (this keeps state stands) printed.1);
+  },
+  keeps_after,
+)
+verdict_printed (Ok ended) (Err fault) session named change disk left old new one fresh this keeps_after printed = absurd printed
+verdict_printed (Err fault) answer session named change disk left old new one fresh this keeps_after printed = tt
+
+-- of routes
+pub routes_printed : (r : Result Ended Fault) (answer : Result (ℕ × Vec Route) Fault) (pairs : List (ℕ × ℕ)) (asked : LandmarkWords) (disk left : DiskView) (old new : Option (List ℕ))
+    → IfOk answer (λ found. (state : State) × (found.0 ≡ state.count) × AreRoutesOf state.graph asked pairs found.1.items)
+    → (IsTrue disk.keeps_model → (state : State) → StandsFor state disk.content → IfOk answer (λ found. found.0 ≡ state.count))
+    → (IsTrue disk.keeps_model → (state : State) → StandsFor state disk.content → IfOk answer (λ found. AreRoutesOf state.graph asked pairs found.1.items))
+    → (IsTrue disk.keeps_model → OnlyRead disk left)
+    → IfOk r (λ ended. IsOkAnd answer (λ found. (ended ≡ ended_after found.1.items) × Appends old new (routes_text found.0 found.1.items)))
+    → IfOk r (λ ended. PrintsRoutes pairs asked disk left ended old new)
+routes_printed (Ok ended) (Ok found) pairs asked disk left old new one count routes reads printed = (
+  record {
+    of_one = (one.0, (found.1.items, one.2, printed.0, subst (λ (n : ℕ). Appends old new (routes_text n found.1.items)) one.1 printed.1));
+    of_this = λ keeps state stands.
+        (found.1.items, routes keeps state stands, printed.0, subst (λ (n : ℕ). Appends old new (routes_text n found.1.items)) (count keeps state stands) printed.1);
+  },
+  reads,
+)
+routes_printed (Ok ended) (Err fault) pairs asked disk left old new one count routes reads printed = absurd printed
+routes_printed (Err fault) answer pairs asked disk left old new one count routes reads printed = tt
+
+-- of a check
+pub check_printed : (r : Result Ended Fault) (answer : Result (ℕ × Checked) Fault) (asked : LandmarkWords) (disk left : DiskView) (old new : Option (List ℕ))
+    → IfOk answer (λ found. (state : State) × (found.0 ≡ state.count) × IsCheckOf state.graph state.count asked found.1)
+    → (IsTrue disk.keeps_model → (state : State) → StandsFor state disk.content → IfOk answer (λ found. found.0 ≡ state.count))
+    → (IsTrue disk.keeps_model → (state : State) → StandsFor state disk.content → IfOk answer (λ found. IsCheckOf state.graph state.count asked found.1))
+    → (IsTrue disk.keeps_model → OnlyRead disk left)
+    → IfOk r (λ ended. IsOkAnd answer (λ found. (ended ≡ ended_at found.1.fault) × Appends old new (line (checks_text found.0 found.1.landmarks found.1.fault))))
+    → IfOk r (λ ended. PrintsCheck asked disk left ended old new)
+check_printed (Ok ended) (Ok found) asked disk left old new one count check reads printed = (
+  record {
+    of_one = (one.0, (found.1, one.2, printed.0, subst (λ (n : ℕ). Appends old new (line (checks_text n found.1.landmarks found.1.fault))) one.1 printed.1));
+    of_this = λ keeps state stands.
+        (found.1, check keeps state stands, printed.0, subst (λ (n : ℕ). Appends old new (line (checks_text n found.1.landmarks found.1.fault))) (count keeps state stands) printed.1);
+  },
+  reads,
+)
+check_printed (Ok ended) (Err fault) asked disk left old new one count check reads printed = absurd printed
+check_printed (Err fault) answer asked disk left old new one count check reads printed = tt
+
+-- ---- why it ends
+
+-- of an answer's fault and the output's
+pub told_of : {X : Type 0} (r : Result Ended Fault) (answer : Result X Fault) (P : Fault → Type 0) → IfErr r (λ fault. (fault ≡ told.Output) ⊎ IsErrOf answer fault) → IfErr answer P
+    → IfErr r (λ fault. (fault ≡ told.Output) ⊎ P fault)
+told_of (Ok ended) answer P ends has = tt
+told_of (Err fault) answer P ends has = ⊎_elim inl (λ is. inr (IfErr-at_err P is has)) ends
+
+-- a device that was read
+pub reading_end : {X : Type 0} (answer : Result X Fault) (Named : Fault → Type 0) (disk left : DiskView) → IfErr answer Named → IsReading disk left answer → IfErr answer (λ fault. IsReadingEnd Named disk left fault)
+reading_end (Ok x) Named disk left named reading = tt
+reading_end (Err fault) Named disk left named reading = record {
+  named = named;
+  tells = reading.tells;
+  device = λ is. reading.device (ap (λ (f : Fault). Err f) is);
+  reads = reading.reads;
+}
+
+-- routes
+pub route_end : {X : Type 0} (answer : Result X Fault) (pairs : List (ℕ × ℕ)) (asked : LandmarkWords) (disk left : DiskView) → IfErr answer (IsRouteDeviceFault asked) → IsReading disk left answer
+    → (IsTrue disk.keeps_model → (state : State) → StandsFor state disk.content → IsErrOf answer told.NoNode → IsWithin asked state.graph.nodes × ¬ AreNodes state.graph.nodes pairs)
+    → (IsTrue disk.keeps_model → (state : State) → StandsFor state disk.content → IsErrOf answer told.Words → ¬ IsWithin asked state.graph.nodes)
+    → IfErr answer (λ fault. IsRouteEnd pairs asked disk left fault)
+route_end (Ok x) pairs asked disk left named reading no_node not_within = tt
+route_end (Err fault) pairs asked disk left named reading no_node not_within = record {
+  reading = reading_end (Err fault) (IsRouteDeviceFault asked) disk left named reading;
+  no_node = λ keeps state stands is. no_node keeps state stands (ap (λ (f : Fault). Err f) is);
+  not_within = λ keeps state stands is. not_within keeps state stands (ap (λ (f : Fault). Err f) is);
+}
+
+-- a check
+pub check_end : {X : Type 0} (answer : Result X Fault) (asked : LandmarkWords) (disk left : DiskView) → IfErr answer (IsCheckDeviceFault asked) → IsReading disk left answer
+    → (IsTrue disk.keeps_model → (state : State) → StandsFor state disk.content → IsErrOf answer told.Words → ¬ IsWithin asked state.graph.nodes)
+    → IfErr answer (λ fault. IsCheckEnd asked disk left fault)
+check_end (Ok x) asked disk left named reading not_within = tt
+check_end (Err fault) asked disk left named reading not_within = record {
+  reading = reading_end (Err fault) (IsCheckDeviceFault asked) disk left named reading;
+  not_within = λ keeps state stands is. not_within keeps state stands (ap (λ (f : Fault). Err f) is);
+}
+
+-- a change
+pub edit_end : {X : Type 0} (answer : Result X Fault) (session : ℕ) (named_ticket : Option ℕ) (change : List Op) (disk left : DiskView) → IfErr answer IsEditFault
+    → (IsTrue disk.keeps_model → IfErr answer (λ fault. TellsOf fault disk.content))
+    → (IsTrue disk.keeps_model → (state : State) → StandsFor state disk.content → IsErrOf answer told.AlreadyIn → ¬ IsNew state session named_ticket)
+    → (IsTrue disk.keeps_model → (state : State) → StandsFor state disk.content → IsErrOf answer told.Worn
+    → IsNew state session named_ticket × ((worn_limit < ticket_of (last_ticket state session) named_ticket) ⊎ IsTaken state change))
+    → (IsErrOf answer told.Device → disk.failures < left.failures)
+    → (IsTrue disk.keeps_model → IfErr answer (λ fault. IsUnwrittenFault fault → OnlyRead disk left))
+    → IfErr answer (λ fault. IsEditEnd session named_ticket change disk left fault)
+edit_end (Ok x) session named_ticket change disk left named tells already worn device unwritten = tt
+edit_end (Err fault) session named_ticket change disk left named tells already worn device unwritten = record {
+  named = named;
+  tells = tells;
+  already_in = λ keeps state stands is. already keeps state stands (ap (λ (f : Fault). Err f) is);
+  worn = λ keeps state stands is. worn keeps state stands (ap (λ (f : Fault). Err f) is);
+  device = λ is. device (ap (λ (f : Fault). Err f) is);
+  unwritten = unwritten;
+}
+
+-- ---- the device by a path
+
+pub opened_ok : {D : Type 0} (model : Ghosts D) (opened : D → Type 0) (disk left : D) (r : Result Ended Fault) (P : Ended → DiskView → DiskView → Type 0) → opened disk
+    → IfOk r (λ ended. P ended (model.view disk) (model.view left)) → IfOk r (λ ended. OfOpened model opened (P ended))
+opened_ok model opened disk left (Ok ended) P was holds = record { disk = disk; was = was; left = left; holds = holds }
+opened_ok model opened disk left (Err fault) P was holds = tt
+
+pub opened_err : {D : Type 0} (model : Ghosts D) (opened : D → Type 0) (disk left : D) (r : Result Ended Fault) (Ends : DiskView → DiskView → Fault → Type 0) → opened disk
+    → IfErr r (λ fault. (fault ≡ told.Output) ⊎ Ends (model.view disk) (model.view left) fault) → IfErr r (λ fault. EndsBy model opened Ends fault)
+opened_err model opened disk left (Ok ended) Ends was ends = tt
+opened_err model opened disk left (Err fault) Ends was ends =
+    ⊎_elim (λ is. inr (inl is)) (λ why. inr (inr (record { disk = disk; was = was; left = left; holds = why }))) ends

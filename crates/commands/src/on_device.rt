@@ -1,0 +1,162 @@
+//! What `format`, `show`, `edit`, `resume` and `migrate` do on a device that is open, and print.
+ghost use Rattle.std.specs.Prelude.{◌≡◌, ◌≢◌, ◌<◌, ◌⊎◌, IfOk, IfErr, IsErrOf, IsOkAnd, IsTrue};
+ghost use Rattle.std.specs.String.{string_bytes};
+ghost use Rattle.std.specs.Io.KnownBytes.{Appends};
+ghost use Rattle.requests.specs.Tickets.{sessions};
+ghost use Rattle.layout_2.specs.State.{State};
+ghost use Rattle.layout_2.specs.Standing.{KeepsThrough, StandsFor};
+ghost use Rattle.disk_trait.specs.Disk.{LeavesOnly};
+ghost use Rattle.command_output.specs.Lines.{line, migrated_text, ticket_text};
+ghost use Rattle.device_commands.specs.Answer.{state_after};
+ghost use Rattle.device_commands.specs.Openings.{IsOpenFault};
+ghost use Rattle.commands.specs.Endings.{IsEditEnd, IsFormatEnd, IsMoveEnd, IsReadingEnd};
+ghost use Rattle.commands.specs.Printed.{PrintsFormatted, PrintsListing, PrintsMoved, PrintsTicket, PrintsVerdict, ended_by, verdict_text};
+
+use command_output::{
+    AcceptedLine, Ended, Fault, Formatted, MigratedLine, RefusedLine, TicketLine, print_line,
+    print_text,
+};
+use disk_trait::Disk;
+use generations::Verdict;
+use graph_edits::Change;
+use migrate::Moved;
+use std::alloc::Global;
+use std::io::Write;
+use std::sync::Wait;
+use std::thread::Threads;
+
+/// Formats a device for so many nodes, and prints that it did.
+pub(crate) fn format_on<D: Disk, O: Write>(
+    disk: &mut D,
+    nodes: u16,
+    out: &mut O,
+) -> Result<Ended, Fault>
+    ensures printed { IfOk result (λ ended. PrintsFormatted nodes (D.view disk.old) (D.view disk.new) ended (O.contents out.old) (O.contents out.new)) }
+    ensures fault { IfErr result (λ fault. (fault ≡ Fault.Output) ⊎ IsFormatEnd nodes (D.view disk.old) (D.view disk.new) fault) }
+    ensures untouched { IfErr result (λ fault. fault ≢ Fault.Output → out.new ≡ out.old) }
+{
+    device_commands::format(disk, nodes)?;
+    print_line(out, Formatted { nodes })?;
+    Ok(Ended::Done)
+}
+
+/// Prints the count and the edges of a device, which was only read.
+pub(crate) fn show_on<D: Disk, O: Write>(
+    alloc: Global,
+    disk: D,
+    out: &mut O,
+) -> (Result<Ended, Fault>, D)
+    ensures printed { IfOk result.0 (λ ended. PrintsListing (D.view disk) (D.view result.1) ended (O.contents out.old) (O.contents out.new)) }
+    ensures fault { IfErr result.0 (λ fault. (fault ≡ Fault.Output) ⊎ IsReadingEnd IsOpenFault (D.view disk) (D.view result.1) fault) }
+    ensures untouched { IfErr result.0 (λ fault. fault ≢ Fault.Output → out.new ≡ out.old) }
+{
+    let (answer, disk) = device_commands::listing(alloc, disk);
+    (print_listing(out, answer), disk)
+}
+
+fn print_listing<O: Write>(out: &mut O, answer: Result<String, Fault>) -> Result<Ended, Fault>
+    ensures printed { IfOk result (λ ended. (ended ≡ Ended.Done) × IsOkAnd answer (λ text. Appends (O.contents out.old) (O.contents out.new) (string_bytes text))) }
+    ensures fault { IfErr result (λ fault. (fault ≡ Fault.Output) ⊎ IsErrOf answer fault) }
+    ensures untouched { IfErr result (λ fault. fault ≢ Fault.Output → out.new ≡ out.old) }
+{
+    let text = answer?;
+    print_text(out, text.as_str())?;
+    Ok(Ended::Done)
+}
+
+/// Makes one change of a device, and prints what became of it.
+pub(crate) fn edit_on<D: Disk, R: Threads + Wait + Sync + AllocGlobal, O: Write>(
+    rt: &R,
+    disk: D,
+    session: u8,
+    ticket: Option<u64>,
+    change: Change,
+    out: &mut O,
+) -> (Result<Ended, Fault>, D)
+    requires { session < sessions }
+    ensures printed { IfOk result.0 (λ ended. PrintsVerdict session ticket change (D.view disk) (D.view result.1) ended (O.contents out.old) (O.contents out.new)) }
+    ensures fault { IfErr result.0 (λ fault. (fault ≡ Fault.Output) ⊎ IsEditEnd session ticket change (D.view disk) (D.view result.1) fault) }
+    ensures untouched { IfErr result.0 (λ fault. fault ≢ Fault.Output → out.new ≡ out.old) }
+    // Whatever ends it, and at any moment of it: a crash leaves the state before the change or the one after it.
+    ensures any_moment { IsTrue (D.view disk).keeps_model → (state : State) → StandsFor state (D.view disk).content → KeepsThrough (D.view disk) state
+        → LeavesOnly (D.view disk) (D.view result.1) (λ image. StandsFor state image ⊎ StandsFor (state_after state session ticket change) image) }
+{
+    let (answer, disk) = device_commands::edit(rt, rt.alloc(), disk, session, ticket, change);
+    (print_verdict(out, answer), disk)
+}
+
+fn print_verdict<O: Write>(out: &mut O, answer: Result<Verdict, Fault>) -> Result<Ended, Fault>
+    ensures printed { IfOk result (λ ended. IsOkAnd answer (λ verdict. (ended ≡ ended_by verdict) × Appends (O.contents out.old) (O.contents out.new) (line (verdict_text verdict)))) }
+    ensures fault { IfErr result (λ fault. (fault ≡ Fault.Output) ⊎ IsErrOf answer fault) }
+    ensures untouched { IfErr result (λ fault. fault ≢ Fault.Output → out.new ≡ out.old) }
+{
+    match answer? {
+        Verdict::Accepted { count } => {
+            print_line(out, AcceptedLine { count })?;
+            Ok(Ended::Done)
+        }
+        Verdict::Refused { op, code } => {
+            print_line(out, RefusedLine { op, code })?;
+            Ok(Ended::Refused)
+        }
+    }
+}
+
+/// Prints the last ticket of a session on a device, which was only read.
+pub(crate) fn resume_on<D: Disk, O: Write>(
+    alloc: Global,
+    disk: D,
+    session: u8,
+    out: &mut O,
+) -> (Result<Ended, Fault>, D)
+    requires { session < sessions }
+    ensures printed { IfOk result.0 (λ ended. PrintsTicket session (D.view disk) (D.view result.1) ended (O.contents out.old) (O.contents out.new)) }
+    ensures fault { IfErr result.0 (λ fault. (fault ≡ Fault.Output) ⊎ IsReadingEnd IsOpenFault (D.view disk) (D.view result.1) fault) }
+    ensures untouched { IfErr result.0 (λ fault. fault ≢ Fault.Output → out.new ≡ out.old) }
+{
+    let (answer, disk) = device_commands::resume(alloc, disk, session);
+    (print_ticket(out, session, answer), disk)
+}
+
+fn print_ticket<O: Write>(
+    out: &mut O,
+    session: u8,
+    answer: Result<u64, Fault>,
+) -> Result<Ended, Fault>
+    ensures printed { IfOk result (λ ended. (ended ≡ Ended.Done) × IsOkAnd answer (λ ticket. Appends (O.contents out.old) (O.contents out.new) (line (ticket_text session ticket)))) }
+    ensures fault { IfErr result (λ fault. (fault ≡ Fault.Output) ⊎ IsErrOf answer fault) }
+    ensures untouched { IfErr result (λ fault. fault ≢ Fault.Output → out.new ≡ out.old) }
+{
+    let ticket = answer?;
+    print_line(out, TicketLine { session, ticket })?;
+    Ok(Ended::Done)
+}
+
+/// Brings what a device of layout 1 holds to a new one, and prints how much that was.
+pub(crate) fn migrate_on<D: Disk, N: Disk, O: Write>(
+    alloc: Global,
+    old: &mut D,
+    new: &mut N,
+    out: &mut O,
+) -> Result<Ended, Fault>
+    ensures printed { IfOk result (λ ended. PrintsMoved (D.view old.old) (N.view new.old) (N.view new.new) ended (O.contents out.old) (O.contents out.new)) }
+    ensures fault { IfErr result (λ fault. (fault ≡ Fault.Output) ⊎ IsMoveEnd (D.view old.old) (D.view old.new) (N.view new.old) (N.view new.new) fault) }
+    ensures untouched { IfErr result (λ fault. fault ≢ Fault.Output → out.new ≡ out.old) }
+{
+    let moved = device_commands::migrate(alloc, old, new)?;
+    print_moved(out, moved)?;
+    Ok(Ended::Done)
+}
+
+fn print_moved<O: Write>(out: &mut O, moved: Moved) -> Result<(), Fault>
+    ensures printed { IfOk result (λ _. Appends (O.contents out.old) (O.contents out.new) (line (migrated_text moved.count moved.edges))) }
+    ensures fault { IfErr result (λ fault. fault ≡ Fault.Output) }
+{
+    print_line(
+        out,
+        MigratedLine {
+            count: moved.count,
+            edges: moved.edges,
+        },
+    )
+}

@@ -1,0 +1,90 @@
+// The program on devices in memory.
+use crate::helpers::{got, same, text_of, words_of};
+use checkpoint::DEVICE_LEN;
+use command_output::Fault;
+use commands::{Access, Devices, run_on};
+use device_commands::format;
+use disk_trait::MemDisk;
+use std::alloc::Global;
+
+// Devices in memory: by the path `three` a fresh one of three nodes, and by any other one of zeros. Each opening gives a new one.
+#[derive(Drop)]
+struct MemoryDevices {
+    alloc: Global,
+}
+
+impl Devices for MemoryDevices {
+    type Device = MemDisk;
+
+    ghost opened = { λ devices path access disk. Unit {0} };
+
+    fn open(&self, path: &str, _access: Access) -> Result<MemDisk, Fault> {
+        let Ok(mut disk) = MemDisk::new(self.alloc, DEVICE_LEN) else {
+            return Err(Fault::DeviceFile);
+        };
+        if path == "three" && format(&mut disk, 3).is_err() {
+            return Err(Fault::DeviceFile);
+        }
+        Ok(disk)
+    }
+}
+
+// The words, what the reader gives, the status, what is printed and what is told.
+type Row = (&'static str, &'static str, u8, &'static str, &'static str);
+
+const NO_STORE: &str = "tznode: not formatted\n";
+
+const ROWS: [Row; 14] = [
+    ("show three", "", 0, "count=0 edges=0\n", ""),
+    ("resume three 63", "", 0, "session=63 ticket=0\n", ""),
+    ("edit three add:0:1:7", "", 0, "accepted count=1\n", ""),
+    (
+        "edit three add:0:1:7 cut:0:2",
+        "",
+        1,
+        "refused op=1 code=5\n",
+        "",
+    ),
+    (
+        "route three 0 1 --words none",
+        "",
+        1,
+        "generation=0 unreachable\n",
+        "",
+    ),
+    (
+        "check three --words at:2",
+        "",
+        0,
+        "ok generation=0 landmarks=1\n",
+        "",
+    ),
+    (
+        "serve three --words none --editors 1",
+        "0 add:0:1:7\nroute 0 3\n",
+        0,
+        "accepted count=1\nno node\n",
+        "",
+    ),
+    ("format zeros 3", "", 0, "formatted nodes=3\n", ""),
+    ("show zeros", "", 1, "", NO_STORE),
+    ("resume zeros 0", "", 1, "", NO_STORE),
+    ("edit zeros add:0:1:7", "", 1, "", NO_STORE),
+    ("route zeros 0 1 --words none", "", 1, "", NO_STORE),
+    ("serve zeros --words none", "route 0 1\n", 1, "", NO_STORE),
+    ("migrate zeros three", "", 1, "", NO_STORE),
+];
+
+// Each command answers for the device of its path.
+#[test]
+fn commands_answer_for_the_device_of_their_path(rt: HostRuntime) {
+    let devices = MemoryDevices { alloc: rt.alloc() };
+    for (line, script, status, printed, told) in &ROWS {
+        let words = words_of(&rt, "", line);
+        let mut script = script.as_bytes();
+        let (mut out, mut err) = (Vec::new(rt.alloc()), Vec::new(rt.alloc()));
+        let outcome = run_on(&rt, &devices, &words, &mut script, &mut out, &mut err);
+        let found = (outcome.status(), text_of(&rt, &out), text_of(&rt, &err));
+        same(&rt, found, (*status, *printed, *told), line);
+    }
+}
