@@ -1,3 +1,7 @@
 pub mod WordLemmas
 pub mod RowLemmas
 pub mod HeaderLemmas
+pub mod EdgeLemmas
+pub mod NameLemmas
+pub mod TakeLemmas
+pub mod WrittenLemmas

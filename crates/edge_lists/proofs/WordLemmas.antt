@@ -1,10 +1,11 @@
 -- The words and fields of a line.
-use Rattle.std.proofs.Common.{arith, ◌≡◌, ◌≤◌, ◌<◌, ◌+◌, ◌∙◌, sym, ap, subst, refl, ℕ, List, [], ◌∷◌, Bool, true, false, cond, map, length, drop, get_or, Bor, nat_lt}
+use Rattle.std.proofs.Common.{arith, ◌≡◌, ◌≤◌, ◌<◌, ◌∙◌, sym, ap, refl, ℕ, List, [], ◌∷◌, Bool, true, false, cond, map, length, get_or, Bor}
 use Rattle.std.specs.List.{flat_map}
-use Rattle.std.proofs.lemmas.List.{at_drop_more, length-map}
+use Rattle.std.proofs.lemmas.List.{length-map}
 use Rattle.std.proofs.lemmas.List.Folds.{flat_map-map}
-use Rattle.std.proofs.lemmas.Bool.Decides.{nat_tests}
-use Rattle.edge_lists.specs.Rows.{fields_of, has_comma, is_header, lead, only_word, parts_at, says_nothing, unless_empty, words_of}
+use Rattle.std.specs.Str.{bytes_eq}
+use Rattle.std.proofs.lemmas.Slice.Eq.{bytes_eq-Decides}
+use Rattle.edge_lists.specs.Rows.{fields_of, has_comma, only_word, parts_at, unless_empty, words_of}
 
 -- what the references point to
 abbrev pub texts_at : List (Bor (List ℕ)) → List (List ℕ)
@@ -38,3 +39,13 @@ fields_as_words text fields is found = found ∙ ap (λ (b : Bool). cond b (map 
 pub map_through : (h : List ℕ → List ℕ) (xs : List (Bor (List ℕ))) → map (λ (x : Bor (List ℕ)). h x.now) xs ≡ map h (texts_at xs)
 map_through h [] = refl
 map_through h (x ∷ xs) = ap (λ (l : List (List ℕ)). h x.now ∷ l) (map_through h xs)
+
+-- the test of a list's only word
+pub only_decides : (words : List (Bor (List ℕ))) (d : Bor (List ℕ)) (text : List ℕ) (r : Bool) → 1 ≤ length words → length words < 2 → r ≡ bytes_eq (get_or words 0 d).now text
+    → (r ≡ true → texts_at words ≡ text ∷ []) × (texts_at words ≡ text ∷ [] → r ≡ true)
+only_decides [] d text r least most is = absurd (omega arith)
+only_decides (w ∷ v ∷ ws) d text r least most is = absurd (omega arith)
+only_decides (w ∷ []) d text r least most is = (
+  λ yes. let same : w.now ≡ text = (bytes_eq-Decides w.now text).0 (sym is ∙ yes) in ap (λ (t : List ℕ). t ∷ []) same,
+  λ same. let one : w.now ≡ text = cc in is ∙ (bytes_eq-Decides w.now text).1 one,
+)

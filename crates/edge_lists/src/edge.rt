@@ -1,4 +1,9 @@
 // Edges between nodes that have numbers.
+ghost use Rattle.std.specs.Prelude.{IfNone, IfOk, IfSome, List, map};
+ghost use Rattle.edge_lists.specs.declared.edge.Edge.{Edge};
+ghost use Rattle.edge_lists.specs.Edges.{AreNumbered, IsEdgeOf, IsNumber};
+ghost use Rattle.edge_lists.specs.Rows.{row_of};
+
 use crate::row::Row;
 use std::alloc::{AllocError, Global};
 use written_values::number;
@@ -14,7 +19,10 @@ pub struct Edge {
 }
 
 // The edge of a row whose ends are plain numbers up to `last`.
-fn edge_in(alloc: Global, row: &Row<'_>, last: u16) -> Result<Option<Edge>, AllocError> {
+fn edge_in(alloc: Global, row: &Row<'_>, last: u16) -> Result<Option<Edge>, AllocError>
+    ensures found { IfOk result (λ found. IfSome found (λ edge. IsEdgeOf (IsNumber last) (row_of row.now) edge)) }
+    ensures none { IfOk result (λ found. IfNone found ((edge : Edge) → IsEdgeOf (IsNumber last) (row_of row.now) edge → ⊥)) }
+{
     let Some(a) = number(alloc, row.a, last as u64)? else {
         return Ok(None);
     };
@@ -34,7 +42,10 @@ pub fn by_numbers(
     alloc: Global,
     rows: &[Row<'_>],
     last: u16,
-) -> Result<Option<Vec<Edge>>, AllocError> {
+) -> Result<Option<Vec<Edge>>, AllocError>
+    ensures found { IfOk result (λ found. IfSome found (λ edges. AreNumbered last (map row_of rows.now) edges.items)) }
+    ensures none { IfOk result (λ found. IfNone found ((edges : List Edge) → AreNumbered last (map row_of rows.now) edges → ⊥)) }
+{
     let mut edges = Vec::new(alloc);
     for row in rows {
         let Some(edge) = edge_in(alloc, row, last)? else {

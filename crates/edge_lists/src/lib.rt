@@ -24,6 +24,18 @@
 //! lines before it say edges, and whatever lines stand behind it, no edges are said by the lines up to it (`refused`).
 //! So a text that is an edge list is read.
 //!
+//! What the words stand for is a definition too (`specs/Edges`, `specs/NameLists`), and so is what is written
+//! (`specs/Written`):
+//!
+//! | Call | What it says |
+//! |---|---|
+//! | [`by_numbers`] | the edges have the rows' lines, weights and ends, where each end is the plain decimal form of a number up to `last` (`AreNumbered`); `None` only where no edges have |
+//! | [`Names`] | is a list of names in which none stands twice; a name's number is its place, and a new name gets the next one |
+//! | [`Names::take_rows`] | the edges have the rows' lines and weights, and the numbers of their names, which came in the rows' order (`AreTaken`); or the first line with a name that is one too many (`IsOneTooMany`) |
+//! | [`Names::read`] | the names are the lines; or the first line that is no name, and why (`IsFirstNoName`) |
+//! | [`Names::written`] | a line for each name; [`Names::read`] reads it as the same names (`AreListed`) |
+//! | [`edge_list`] | a line for each edge; [`read_edge_list`] reads it as the same edges, where a list may call nodes by the names (`AreRead`) |
+//!
 //! ```text
 //! read_edge_list(alloc, "# roads\nBern Thun 31\nThun,Spiez\n")?   // Ok: Bern Thun 31 of line 2, Thun Spiez 1 of 3
 //! read_edge_list(alloc, "0 1 5\n0 2 x\n")?                         // Err: line 2, a weight is wanted

@@ -1,54 +1,136 @@
 // Names of nodes.
+ghost use Rattle.std.specs.Prelude.{◌≡◌, ◌↔◌, ◌<◌, ◌+◌, ◌^◌, ◌∷◌, ◌++◌, [], All, IfErr, IfNone, IfOk, IfSome, IsTrue, OnErr, OnOk, OnSome, false, ℕ, is_some, length, map};
+ghost use Rattle.std.specs.String.{string_bytes};
+ghost use Rattle.written_values.specs.Scripts.{lines_of};
+ghost use Rattle.edge_lists.specs.Edges.{IsEdgeOf};
+ghost use Rattle.edge_lists.specs.NameLists.{AreBegun, AreNames, AreTaken, EndsAt, HaveNumbers, IsFirstNoName, IsNumberOf, IsOneTooMany, IsWord, NoneTwice, ends_of, has_number, is_among, with_name, with_names};
+ghost use Rattle.edge_lists.specs.Rows.{row_of};
+ghost use Rattle.edge_lists.specs.Written.{AreListed, IsOneLine, names_text};
+
 use crate::edge::Edge;
 use crate::refused::{NameForm, NameRefused};
 use crate::row::Row;
 use crate::words::words_in;
 use std::alloc::{AllocError, Global};
 use std::collections::HashMap;
+use std::marker::Model;
 use written_values::lines_in;
 
-/// Names, each of which stands for a number: they are numbered from 0 in the order in which they came.
+/// Names, each of which stands for a number: they are numbered from 0 in the order in which they came. Contracts see
+/// the list of them.
 #[derive(Drop)]
 pub struct Names<'a> {
     list: Vec<&'a str>,
     numbers: HashMap<&'a str, u16>,
 }
 
-// Whether a line is one word.
-fn is_word(alloc: Global, text: &str) -> Result<bool, AllocError> {
-    let words = words_in(alloc, text)?;
-    Ok(match words.as_slice() {
+impl<'a> Model for Names<'a> {
+    ghost use Rattle.std.specs.Prelude.{List, ℕ, map};
+    ghost use Rattle.std.specs.HashMap.{get_by};
+    ghost use Rattle.std.specs.Str.{bytes_eq};
+    ghost use Rattle.edge_lists.specs.NameLists.{IsIndexOf};
+
+    ghost Value = { List (List ℕ) };
+
+    ghost view = { λ names. map (λ name. name.now) names.list.items };
+
+    ghost invariant = { λ names. IsIndexOf (map (λ name. name.now) names.list.items) (λ name. get_by (λ key. bytes_eq name key.now) names.numbers) };
+}
+
+// Whether a text is the only one of these words.
+fn is_only(words: &[&str], text: &str) -> bool
+    ensures { IsTrue result ↔ (map (λ word. word.now) words.now ≡ text.now ∷ []) }
+{
+    match words {
         [word] => *word == text,
         _ => false,
-    })
+    }
+}
+
+// Whether a line is one word.
+fn is_word(alloc: Global, text: &str) -> Result<bool, AllocError>
+    ensures { IfOk result (λ is. IsTrue is ↔ IsWord text.now) }
+{
+    let words = words_in(alloc, text)?;
+    let is = is_only(&words, text);
+    Ok(is)
+}
+
+// Adds a line.
+fn push_line(text: &mut String, line: &str) -> Result<(), AllocError>
+    ensures { OnOk result (string_bytes text.new ≡ string_bytes text.old ++ (line.now ++ 10 ∷ [])) }
+{
+    text.push_str(line)?;
+    text.push_str("\n")
 }
 
 impl<'a> Names<'a> {
     /// No names.
-    pub fn new(alloc: Global) -> Names<'a> {
+    pub fn new(alloc: Global) -> Names<'a>
+        ensures { result ≡ [] }
+    {
         Names {
             list: Vec::new(alloc),
             numbers: HashMap::new(alloc),
         }
     }
 
-    /// The names that a text lists, a line each, in the order of their numbers; at most `most`. Or the first line that
-    /// is no name, or is one for the second time.
-    pub fn read(
+    // Whether a name is one of them.
+    fn has(&self, name: &str) -> bool
+        ensures { result ≡ is_among self.now name.now }
+    {
+        self.numbers.contains_key(name)
+    }
+
+    // How many there are.
+    fn len(&self) -> usize
+        ensures { result ≡ length self.now }
+    {
+        self.list.len()
+    }
+
+    // The number of a name that is one of them.
+    fn place_of(&self, name: &str) -> Option<u16>
+        ensures number { IfSome result (λ number. IsNumberOf self.now name.now number) }
+        ensures some { is_some result ≡ is_among self.now name.now }
+    {
+        self.numbers.get(name).copied()
+    }
+
+    // Puts a new name at the end.
+    fn push(&mut self, name: &'a str) -> Result<u16, AllocError>
+        requires new { is_among self.old name.now ≡ false }
+        requires few { length self.old + 1 < 2 ^ 16 }
+        ensures number { IfOk result (λ number. number ≡ length self.old) }
+        ensures ok { OnOk result (self.new ≡ self.old ++ name.entry.now ∷ []) }
+        ensures err { OnErr result (self.new ≡ self.old) }
+    {
+        let number = self.list.len() as u16;
+        self.list.reserve(1)?;
+        self.numbers.insert(name, number)?;
+        self.list.push_reserved(name);
+        Ok(number)
+    }
+
+    // The names that these lines are, or the first line that is none.
+    fn from_lines(
         alloc: Global,
-        text: &'a str,
+        lines: &[&'a str],
         most: u16,
-    ) -> Result<Result<Names<'a>, NameRefused>, AllocError> {
-        let texts = lines_in(alloc, text)?;
+    ) -> Result<Result<Names<'a>, NameRefused>, AllocError>
+        ensures lines { IfOk result (λ read. IfOk read (λ names. names ≡ map (λ line. line.now) lines.now)) }
+        ensures names { IfOk result (λ read. IfOk read (λ names. AreNames most names)) }
+        ensures refused { IfOk result (λ read. IfErr read (λ refused. IsFirstNoName most (map (λ line. line.now) lines.now) refused)) }
+    {
         let mut names = Names::new(alloc);
-        for index in 0..texts.len() {
+        for index in 0..lines.len() {
             let number = index + 1;
-            let name = texts[index];
+            let name = lines[index];
             if !is_word(alloc, name)? {
                 let form = NameForm::Word;
                 return Ok(Err(NameRefused { number, form }));
             }
-            if names.numbers.contains_key(name) {
+            if names.has(name) {
                 let form = NameForm::Twice;
                 return Ok(Err(NameRefused { number, form }));
             }
@@ -60,24 +142,53 @@ impl<'a> Names<'a> {
         Ok(Ok(names))
     }
 
+    /// The names that a text lists, a line each, in the order of their numbers; at most `most`. Or the first line that
+    /// is no name, or is one for the second time.
+    pub fn read(
+        alloc: Global,
+        text: &'a str,
+        most: u16,
+    ) -> Result<Result<Names<'a>, NameRefused>, AllocError>
+        ensures lines { IfOk result (λ read. IfOk read (λ names. names ≡ lines_of text.entry.now)) }
+        ensures names { IfOk result (λ read. IfOk read (λ names. AreNames most names)) }
+        ensures refused { IfOk result (λ read. IfErr read (λ refused. IsFirstNoName most (lines_of text.entry.now) refused)) }
+    {
+        let texts = lines_in(alloc, text)?;
+        match Names::from_lines(alloc, &texts, most)? {
+            Ok(names) => Ok(Ok(names)),
+            Err(refused) => Ok(Err(refused)),
+        }
+    }
+
     /// The number of a name, which gets the next one where it is new; `None` where there are `most` names already and
     /// it is none of them.
-    pub fn number_of(&mut self, name: &'a str, most: u16) -> Result<Option<u16>, AllocError> {
-        if let Some(number) = self.numbers.get(name) {
-            return Ok(Some(*number));
+    pub fn number_of(&mut self, name: &'a str, most: u16) -> Result<Option<u16>, AllocError>
+        ensures number { IfOk result (λ found. IfSome found (λ number. IsNumberOf self.new name.entry.now number)) }
+        ensures some { IfOk result (λ found. is_some found ≡ has_number most self.old name.entry.now) }
+        ensures names { IfOk result (λ found. OnSome found (self.new ≡ with_name self.old name.entry.now)) }
+
+        // Nothing changes where there is no number, or no memory.
+        ensures none { IfOk result (λ found. IfNone found (self.new ≡ self.old)) }
+        ensures err { OnErr result (self.new ≡ self.old) }
+    {
+        if let Some(number) = self.place_of(name) {
+            return Ok(Some(number));
         }
-        if self.list.len() >= most as usize {
+        if self.len() >= most as usize {
             return Ok(None);
         }
-        let number = self.list.len() as u16;
-        self.list.reserve(1)?;
-        self.numbers.insert(name, number)?;
-        self.list.push(name)?;
+        let number = self.push(name)?;
         Ok(Some(number))
     }
 
     // The edge of a row, by the numbers of its names.
-    fn edge_of(&mut self, row: &Row<'a>, most: u16) -> Result<Option<Edge>, AllocError> {
+    fn edge_of(&mut self, row: &Row<'a>, most: u16) -> Result<Option<Edge>, AllocError>
+        ensures edge { IfOk result (λ found. IfSome found (λ edge. IsEdgeOf (IsNumberOf self.new) (row_of row.now) edge)) }
+        ensures numbers { IfOk result (λ found. OnSome found (HaveNumbers most self.old (ends_of (row_of row.now ∷ [])))) }
+        ensures names { IfOk result (λ found. OnSome found (self.new ≡ with_names self.old (ends_of (row_of row.now ∷ [])))) }
+        ensures none { IfOk result (λ found. IfNone found (EndsAt most self.old (row_of row.now) self.new)) }
+        ensures err { OnErr result (AreBegun self.old (row_of row.now ∷ []) self.new) }
+    {
         let Some(a) = self.number_of(row.a, most)? else {
             return Ok(None);
         };
@@ -99,7 +210,11 @@ impl<'a> Names<'a> {
         alloc: Global,
         rows: &[Row<'a>],
         most: u16,
-    ) -> Result<Result<Vec<Edge>, NameRefused>, AllocError> {
+    ) -> Result<Result<Vec<Edge>, NameRefused>, AllocError>
+        ensures taken { IfOk result (λ taken. IfOk taken (λ edges. AreTaken most self.old (map row_of rows.now) edges.items self.new)) }
+        ensures refused { IfOk result (λ taken. IfErr taken (λ refused. IsOneTooMany most self.old (map row_of rows.now) refused self.new)) }
+        ensures err { OnErr result (AreBegun self.old (map row_of rows.now) self.new) }
+    {
         let mut edges = Vec::new(alloc);
         for row in rows {
             match self.edge_of(row, most)? {
@@ -115,16 +230,23 @@ impl<'a> Names<'a> {
     }
 
     /// The names in the order of their numbers.
-    pub fn list(&self) -> &[&'a str] {
+    pub fn list(&self) -> &[&'a str]
+        ensures names { map (λ name. name.now) result.now ≡ self.now }
+        ensures once { NoneTwice self.now }
+        ensures few { length self.now < 2 ^ 16 }
+    {
         self.list.as_slice()
     }
 
     /// A line for each name, in the order of their numbers: what [`Names::read`] reads.
-    pub fn written(&self, alloc: Global) -> Result<String, AllocError> {
+    pub fn written(&self, alloc: Global) -> Result<String, AllocError>
+        ensures text { IfOk result (λ text. string_bytes text ≡ names_text self.now) }
+        ensures read { IfOk result (λ text. (most : ℕ) → AreNames most self.now → All IsOneLine self.now
+            → AreListed most (string_bytes text) self.now) }
+    {
         let mut text = String::new(alloc);
         for name in &self.list {
-            text.push_str(*name)?;
-            text.push_str("\n")?;
+            push_line(&mut text, *name)?;
         }
         Ok(text)
     }

@@ -1,16 +1,25 @@
 // An edge list's text.
+ghost use Rattle.std.specs.Prelude.{◌≡◌, ◌++◌, ◌∷◌, [], All, IfOk, OnOk, map};
+ghost use Rattle.std.specs.String.{string_bytes};
+ghost use Rattle.edge_lists.specs.Written.{AreRead, FitTypes, IsLabel, edge_line, edges_text, label_of, said_of};
+
 use crate::edge::Edge;
 use std::alloc::{AllocError, Global};
 
 /// Adds what a node is called: its name, or its number where it has none.
-pub fn push_label(text: &mut String, names: &[&str], node: u16) -> Result<(), AllocError> {
+pub fn push_label(text: &mut String, names: &[&str], node: u16) -> Result<(), AllocError>
+    ensures { OnOk result (string_bytes text.new ≡ string_bytes text.old ++ label_of (map (λ name. name.now) names.now) node) }
+{
     match names.get(node as usize) {
         Some(name) => text.push_str(*name),
         None => write!(text, "{node}"),
     }
 }
 
-fn push_line(text: &mut String, names: &[&str], edge: &Edge) -> Result<(), AllocError> {
+fn push_line(text: &mut String, names: &[&str], edge: &Edge) -> Result<(), AllocError>
+    ensures line { OnOk result (string_bytes text.new ≡ string_bytes text.old ++ (edge_line (map (λ name. name.now) names.now) edge.now ++ 10 ∷ [])) }
+    ensures fits { FitTypes edge.now }
+{
     let (a, b, weight) = (edge.a, edge.b, edge.weight);
     push_label(text, names, a)?;
     text.push_str(" ")?;
@@ -20,7 +29,13 @@ fn push_line(text: &mut String, names: &[&str], edge: &Edge) -> Result<(), Alloc
 
 /// The text of an edge list: a line `A B W` for each edge. Nodes are called by these names, and by their numbers where
 /// they have none.
-pub fn edge_list(alloc: Global, edges: &[Edge], names: &[&str]) -> Result<String, AllocError> {
+///
+/// Where a list may call nodes by the names, [`crate::read_edge_list`] reads the text as just these edges.
+pub fn edge_list(alloc: Global, edges: &[Edge], names: &[&str]) -> Result<String, AllocError>
+    ensures text { IfOk result (λ text. string_bytes text ≡ edges_text (map (λ name. name.now) names.now) edges.now) }
+    ensures read { IfOk result (λ text. All IsLabel (map (λ name. name.now) names.now)
+        → AreRead (string_bytes text) (said_of (map (λ name. name.now) names.now) 0 edges.now)) }
+{
     let mut text = String::new(alloc);
     for edge in edges {
         push_line(&mut text, names, edge)?;

@@ -1,5 +1,5 @@
 -- Groups, one behind another.
-use Rattle.std.proofs.Common.{arith, [], ◌∷◌, ◌≡◌, ◌+◌, ◌-◌, ◌<◌, ◌≤◌, ◌^◌, ◌∙◌, ◌++◌, sym, ap, subst, refl, ℕ, zero, suc, List, length, length-append, length-take, length-drop, take, drop, Some, Err, append_assoc, min}
+use Rattle.std.proofs.Common.{arith, [], ◌∷◌, ◌≡◌, ◌+◌, ◌-◌, ◌<◌, ◌≤◌, ◌^◌, ◌∙◌, ◌++◌, sym, ap, subst, refl, ℕ, zero, suc, List, length, length-append, length-take, take, drop, Some, Err}
 use Rattle.std.specs.Prelude.{option_and_then}
 use Rattle.std.proofs.lemmas.List.{length-map, map-append, take-append-drop, take_all}
 use Rattle.std.proofs.lemmas.List.Concat.{flat_map-append}
@@ -13,9 +13,9 @@ use Rattle.layout_2.specs.State.{State, after}
 use Rattle.layout_2.proofs.Folds.{after-append, after-nil}
 use Rattle.network_import.specs.declared.refused.ImportRefused.{ImportRefused}
 use Rattle.network_import.specs.declared.refused.ImportRefused.TheVariants.{Op as RefusedOp, Device, Memory, Worn}
-use Rattle.network_import.specs.Imported.{AreInRow, FitsBehind, HasTaken, IsGroupRefused, IsLeft, IsRefusedAt, add_of, adds, moved_behind, ops_of}
+use Rattle.network_import.specs.Imported.{AreInRow, FitsBehind, HasTaken, IsGroupRefused, IsLeft, IsRefusedAt, add_of, adds, front_of, moved_behind, ops_of}
 use Rattle.network_import.proofs.Places.{err_moved, err_stays, err_within}
-use Rattle.network_import.proofs.RowsOfRequests.{row_both}
+use Rattle.network_import.proofs.RowsOfRequests.{row_both, row_last, tickets_behind}
 
 -- nothing is taken yet
 pub taken_none : (s : State) (edges : List Edge) → HasTaken s edges 0 s
@@ -27,6 +27,20 @@ taken_none s edges = record {
   leads = after-nil s;
   last = omega arith;
 }
+
+-- requests with the Adds of all edges take them
+pub taken_by : (old new : State) (edges : List Edge) (rs : List Request) (last : ℕ) → 0 < length old.tickets → last_of old.tickets 0 ≡ last → ops_of rs ≡ adds edges → AreInRow last rs → after old rs ≡ Some new
+    → HasTaken old edges (length edges) new
+taken_by old new edges rs last wide at ops row leads =
+    let whole : take (length edges) edges ≡ edges = take_all (length edges) edges (omega arith) in
+    record {
+      within = omega arith;
+      requests = rs;
+      ops = ops ∙ ap adds (sym whole);
+      row = subst (λ (n : ℕ). AreInRow n rs) (sym at) row;
+      leads = leads;
+      last = ap (λ (ts : List ℕ). last_of ts 0) (tickets_behind old new rs leads) ∙ row_last old.tickets last rs wide at row ∙ ap (λ (n : ℕ). n + length rs) (sym at);
+    }
 
 suc_take_both : (xs : List Edge) (d n : ℕ) → take (d + n) xs ≡ take d xs ++ take n (drop d xs)
 suc_take_both xs zero n = let same : 0 + n ≡ n = omega arith in ap (λ (k : ℕ). take k xs) same
@@ -65,15 +79,15 @@ group_fits g group d Memory fits is = tt
 group_fits g group d Worn fits is = tt
 
 -- what a group that isn't taken leaves
-pub left_behind : (old mid new : State) (edges group : List Edge) (d n : ℕ) (e : ImportRefused) → group ≡ take n (drop d edges) → n ≤ 1024 → HasTaken old edges d mid → new ≡ mid → IsGroupRefused mid.graph (adds group) e
+pub left_behind : (old mid new : State) (edges group : List Edge) (k d n : ℕ) (e : ImportRefused) → d ≡ front_of edges k → group ≡ take n (drop d edges) → n ≤ 1024 → HasTaken old edges d mid → new ≡ mid → IsGroupRefused mid.graph (adds group) e
     → IsLeft old edges new (moved_behind d e)
-left_behind old mid new edges group d n (RefusedOp place code) is few taken same why =
+left_behind old mid new edges group k d n (RefusedOp place code) at_front is few taken same why =
     let at = err_within mid.graph.nodes 0 place code mid.graph.edges (adds group) why in
     let long : length (adds group) ≡ length group = length-map group add_of in
     let size : length group ≤ n = let cut = ap length is in omega (arith, cut, length-take n (drop d edges)) in
     let moved : edges_after mid.graph.nodes mid.graph.edges (d + 0) (adds group) ≡ Err (d + place, code) = err_moved mid.graph.nodes 0 d place code mid.graph.edges (adds group) why in
     let zeroth : d + 0 ≡ d = omega arith in
-    let here : edges_after mid.graph.nodes mid.graph.edges d (adds group) ≡ Err (d + place, code) = subst (λ (k : ℕ). edges_after mid.graph.nodes mid.graph.edges k (adds group) ≡ Err (d + place, code)) zeroth moved in
+    let here : edges_after mid.graph.nodes mid.graph.edges d (adds group) ≡ Err (d + place, code) = subst (λ (j : ℕ). edges_after mid.graph.nodes mid.graph.edges j (adds group) ≡ Err (d + place, code)) zeroth moved in
     let behind = drop n (drop d edges) in
     let stays : edges_after mid.graph.nodes mid.graph.edges d (adds group ++ adds behind) ≡ Err (d + place, code) = err_stays mid.graph.nodes d (d + place, code) mid.graph.edges (adds group) (adds behind) here in
     let parts : adds group ++ adds behind ≡ adds (drop d edges) =
@@ -81,7 +95,7 @@ left_behind old mid new edges group d n (RefusedOp place code) is few taken same
     let first : edges_after mid.graph.nodes mid.graph.edges d (adds (drop d edges)) ≡ Err (d + place, code) =
     subst (λ (l : List Op). edges_after mid.graph.nodes mid.graph.edges d l ≡ Err (d + place, code)) parts stays in
     let refused : IsRefusedAt mid edges d (d + place) code = record { from = omega arith; in_group = omega (arith, at.1, long, size, few); first = first } in
-    (d, subst (HasTaken old edges d) (sym same) taken, subst (λ (s : State). IsRefusedAt s edges d (d + place) code) (sym same) refused)
-left_behind old mid new edges group d n Device is few taken same why = (d, subst (HasTaken old edges d) (sym same) taken)
-left_behind old mid new edges group d n Memory is few taken same why = (d, subst (HasTaken old edges d) (sym same) taken)
-left_behind old mid new edges group d n Worn is few taken same why = (d, subst (HasTaken old edges d) (sym same) taken)
+    (k, subst (λ (m : ℕ). HasTaken old edges m new) at_front (subst (HasTaken old edges d) (sym same) taken), subst (λ (m : ℕ). IsRefusedAt new edges m (d + place) code) at_front (subst (λ (s : State). IsRefusedAt s edges d (d + place) code) (sym same) refused))
+left_behind old mid new edges group k d n Device at_front is few taken same why = (k, subst (λ (m : ℕ). HasTaken old edges m new) at_front (subst (HasTaken old edges d) (sym same) taken))
+left_behind old mid new edges group k d n Memory at_front is few taken same why = (k, subst (λ (m : ℕ). HasTaken old edges m new) at_front (subst (HasTaken old edges d) (sym same) taken))
+left_behind old mid new edges group k d n Worn at_front is few taken same why = (k, subst (λ (m : ℕ). HasTaken old edges m new) at_front (subst (HasTaken old edges d) (sym same) taken))

@@ -1,3 +1,4 @@
 pub mod Places
 pub mod RowsOfRequests
 pub mod Groups
+pub mod StoreLeaves

@@ -1,5 +1,5 @@
 -- What an import makes of edges, and what it leaves.
-use Rattle.std.specs.Prelude.{◌≡◌, ◌+◌, ◌<◌, ◌≤◌, ◌^◌, ℕ, List, [], ◌∷◌, length, map, take, drop, Some, Err}
+use Rattle.std.specs.Prelude.{◌≡◌, ◌⊎◌, ◌+◌, ◌*◌, ◌<◌, ◌≤◌, ◌^◌, ℕ, List, [], ◌∷◌, length, map, min, take, drop, Some, Err}
 use Rattle.std.specs.List.{flat_map}
 use Rattle.edge_lists.specs.declared.edge.Edge.{Edge}
 use Rattle.graph_edits.specs.declared.edits.Op.{Op}
@@ -11,7 +11,9 @@ use Rattle.graph_edits.specs.Edges.{Network}
 use Rattle.graph_edits.specs.Changes.{edges_after}
 use Rattle.requests.specs.declared.request.Request.{Request}
 use Rattle.requests.specs.Tickets.{last_of}
+use Rattle.disk_trait.specs.Disk.{DiskView, MayLeave}
 use Rattle.layout_2.specs.State.{State, after}
+use Rattle.layout_2.specs.Standing.{StandsFor}
 use Rattle.network_import.specs.declared.refused.ImportRefused.{ImportRefused}
 use Rattle.network_import.specs.declared.refused.ImportRefused.TheVariants.{Op as RefusedOp, Device, Memory, Worn}
 
@@ -46,6 +48,10 @@ pub record HasTaken (old : State) (edges : List Edge) (done : ℕ) (new : State)
   pub leads : after old requests ≡ Some new
   pub last : last_of new.tickets 0 ≡ last_of old.tickets 0 + length requests
 
+-- how many edges so many groups have, each as long as a group may be but for the last
+abbrev pub front_of : List Edge → ℕ → ℕ
+front_of edges groups = min (groups * group_edges) (length edges)
+
 -- the first of the edges from `done` on whose Add the state's network refuses is at that place, in the group that was
 -- next
 pub record IsRefusedAt (state : State) (edges : List Edge) (done place : ℕ) (code : Code) : Type 0 where
@@ -53,12 +59,36 @@ pub record IsRefusedAt (state : State) (edges : List Edge) (done place : ℕ) (c
   pub in_group : place < done + group_edges
   pub first : edges_after state.graph.nodes state.graph.edges done (adds (drop done edges)) ≡ Err (place, code)
 
+-- the first `groups` of the edges' groups led from one state to the other
+abbrev pub HasTakenGroups : State → List Edge → ℕ → State → Type 0
+HasTakenGroups old edges groups new = HasTaken old edges (front_of edges groups) new
+
 -- what an import that is refused leaves: the groups before are taken, and where an op is refused it is the first
 abbrev pub IsLeft : State → List Edge → State → ImportRefused → Type 0
-IsLeft old edges new (RefusedOp place code) = (done : ℕ) × HasTaken old edges done new × IsRefusedAt new edges done place code
-IsLeft old edges new Device = (done : ℕ) × HasTaken old edges done new
-IsLeft old edges new Memory = (done : ℕ) × HasTaken old edges done new
-IsLeft old edges new Worn = (done : ℕ) × HasTaken old edges done new
+IsLeft old edges new (RefusedOp place code) = (groups : ℕ) × HasTakenGroups old edges groups new × IsRefusedAt new edges (front_of edges groups) place code
+IsLeft old edges new Device = (groups : ℕ) × HasTakenGroups old edges groups new
+IsLeft old edges new Memory = (groups : ℕ) × HasTakenGroups old edges groups new
+IsLeft old edges new Worn = (groups : ℕ) × HasTakenGroups old edges groups new
+
+-- ---- crashes
+
+-- the image stands for the state after a beginning of the groups
+pub record StandsForFront (old : State) (edges : List Edge) (image : List ℕ) : Type 0 where
+  pub groups : ℕ
+  pub state : State
+  pub taken : HasTakenGroups old edges groups state
+  pub stands : StandsFor state image
+
+-- the image stands for the state, or for the one after one group more, which is whole
+abbrev pub StandsForOneMore : State → List Edge → List ℕ → Type 0
+StandsForOneMore state group image = StandsFor state image ⊎ ((next : State) × HasTaken state group (length group) next × StandsFor next image)
+
+-- What a failed call leaves: of the groups before, each is in the state; a crash leaves this state, or the one with the whole
+-- group that was next.
+pub record IsCutOff (old : State) (edges : List Edge) (new : State) (disk : DiskView) : Type 0 where
+  pub groups : ℕ
+  pub taken : HasTakenGroups old edges groups new
+  pub left : (image : List ℕ) → MayLeave disk image → StandsForOneMore new (take group_edges (drop (front_of edges groups) edges)) image
 
 -- what is answered of a group that isn't taken: where an op is refused it is the first of them
 abbrev pub IsGroupRefused : Network → List Op → ImportRefused → Type 0

@@ -1,9 +1,10 @@
 // Committing a group that was judged.
-ghost use Rattle.std.specs.Prelude.{◌≡◌, ◌≤◌, Some, IfErr, IsErrOf, IsSome, IsTrue, OnErr, OnOk, false, length};
-ghost use Rattle.disk_trait.specs.Disk.{IsSameDevice};
+ghost use Rattle.std.specs.Prelude.{◌≡◌, ◌⊎◌, ◌≤◌, ◌<◌, Some, IfErr, IsErrOf, IsSome, IsTrue, OnErr, OnOk, false, true, length};
+ghost use Rattle.disk_trait.specs.Disk.{IsSameDevice, LeavesOnly};
 ghost use Rattle.graph_edits.specs.Changes.{fold};
 ghost use Rattle.journal.specs.Layout.{most_entries};
-ghost use Rattle.layout_2.specs.State.{AreInTurn, after, changes_of};
+ghost use Rattle.layout_2.specs.State.{AreInTurn, State, after, changes_of};
+ghost use Rattle.layout_2.specs.Standing.{StandsFor};
 ghost use Rattle.checkpoint.specs.StoreWords.{IsDurable, is_down, nodes_of, state_of, view_of};
 ghost use Rattle.network_import.specs.Imported.{IsNoOp};
 
@@ -27,6 +28,10 @@ pub(crate) fn commit_rolling<D: Disk>(
     ensures ok { OnOk result (after (state_of store.old) requests.now ≡ Some (state_of store.new)) }
     ensures err { OnErr result (state_of store.new ≡ state_of store.old) }
     ensures durable { IsTrue (view_of store.old).keeps_model → OnOk result (IsDurable store.new) }
+    ensures device { IsErrOf result ImportRefused.Device → (view_of store.old).failures < (view_of store.new).failures }
+    ensures lost { IsErrOf result ImportRefused.Device → is_down store.new ≡ true }
+    ensures any_moment { IsTrue (view_of store.old).keeps_model → (next : State) → after (state_of store.old) requests.now ≡ Some next
+        → LeavesOnly (view_of store.old) (view_of store.new) (λ image. StandsFor (state_of store.old) image ⊎ StandsFor next image) }
     ensures no_op { IfErr result IsNoOp }
     ensures stays_up { ¬ (IsErrOf result ImportRefused.Device) → is_down store.new ≡ false }
     ensures nodes { nodes_of store.new ≡ nodes_of store.old }

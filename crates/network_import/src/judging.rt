@@ -1,5 +1,5 @@
 // Judging a group.
-ghost use Rattle.std.specs.Prelude.{◌≡◌, ◌≤◌, Ok, IfErr, IsSome, OnOk, length};
+ghost use Rattle.std.specs.Prelude.{◌≡◌, ◌≢◌, ◌≤◌, Ok, IfErr, IsErrOf, IsSome, OnOk, length};
 ghost use Rattle.graph_edits.specs.Changes.{fold};
 ghost use Rattle.layout_2.specs.State.{changes_of};
 ghost use Rattle.network_import.specs.Imported.{FitsAt, IsGroupRefused, ops_of, told_behind};
@@ -15,6 +15,7 @@ pub(crate) fn judge(alloc: Global, graph: &Graph, requests: &[Request]) -> Resul
     requires { length requests.now ≤ 64 }
     ensures taken { OnOk result (IsSome (fold graph.now (changes_of requests.now))) }
     ensures refused { IfErr result (λ refused. IsGroupRefused graph.now (ops_of requests.now) refused) }
+    ensures no_device { ¬ (IsErrOf result ImportRefused.Device) }
 {
     let mut overlay = Overlay::over(alloc, graph);
     let mut done = 0;
@@ -31,7 +32,8 @@ pub(crate) fn judge(alloc: Global, graph: &Graph, requests: &[Request]) -> Resul
 // What is told of a change that is refused, where so many ops stand in front of it.
 fn told_at(done: usize, refused: EditRefused) -> ImportRefused
     requires { FitsAt done refused }
-    ensures { result ≡ told_behind done refused }
+    ensures value { result ≡ told_behind done refused }
+    ensures no_device { result ≢ ImportRefused.Device }
 {
     match refused {
         EditRefused::Op { index, code } => ImportRefused::Op {

@@ -18,8 +18,14 @@
 //! | `Device`, `Memory`, `Worn` | the state is the old one after the groups before |
 //!
 //! The requests are of session 0, each under the ticket behind the one before, and its last ticket goes on by as many.
-//! No clause needs a disk that keeps the disk model; what a crash leaves of each group is said by the store's own
-//! clauses, which hold at each of its calls.
+//!
+//! These clauses hold on any disk. On one that keeps the disk model, others say what a crash leaves:
+//!
+//! | Clause | What it says |
+//! |---|---|
+//! | `any_moment` | a crash at any moment of the call leaves the state after a beginning of the groups (`StandsForFront`) |
+//! | `durable` | behind any answer but `Device`, a crash leaves the store's state |
+//! | `cut_off` | behind `Device`, it leaves the store's state, or the one with the whole group that was next (`IsCutOff`) |
 //!
 //! ```text
 //! let edges = [Edge { line: 1, a: 0, b: 1, weight: 5 }, Edge { line: 2, a: 1, b: 0, weight: 7 }];

@@ -1,11 +1,16 @@
 // Want of memory. Run with each allocation refused in turn: an import whose allocation is refused says so and leaves
 // whole groups, and made again for the rest it is whole. What else a test allocates it asks for again where it is
 // refused.
+ghost use Rattle.std.specs.Prelude.{◌≡◌, false};
+ghost use Rattle.checkpoint.specs.StoreWords.{is_down};
+
 use crate::helpers::{Came, has_up_to};
 use checkpoint::{DEVICE_LEN, Store, format};
 use disk_trait::MemDisk;
-use edge_lists::{Edge, Form, LineRefused, read_edge_list};
+use edge_lists::{Edge, Form, LineRefused, Names, Row, by_numbers, edge_list, read_edge_list};
 use network_import::{ImportRefused, import};
+use std::alloc::Global;
+use std::process::Abort;
 
 const EDGES: [Edge; 3] = [
     Edge {
@@ -28,6 +33,19 @@ const EDGES: [Edge; 3] = [
     },
 ];
 
+// Imports the edges. A want of memory leaves none of them, and the import is made again.
+fn imported(rt: &impl Abort, alloc: Global, store: &mut Store<MemDisk>) -> Result<(), ImportRefused>
+    requires { is_down store.old ≡ false }
+{
+    let mut came = Came { edges: 0 };
+    match import(alloc, store, &EDGES, &mut came) {
+        Err(ImportRefused::Memory) => {}
+        answer => return answer,
+    }
+    has_up_to(rt, store, &EDGES, 0);
+    import(alloc, store, &EDGES, &mut came)
+}
+
 #[test]
 fn an_import_after_a_want_of_memory(rt: HostRuntime) {
     let alloc = rt.alloc();
@@ -46,12 +64,7 @@ fn an_import_after_a_want_of_memory(rt: HostRuntime) {
     let Ok(mut store) = store else {
         panic!(rt; "no store");
     };
-    let mut came = Came { edges: 0 };
-    let mut answer = import(alloc, &mut store, &EDGES, &mut came);
-    if answer == Err(ImportRefused::Memory) {
-        has_up_to(&rt, &store, &EDGES, 0);
-        answer = import(alloc, &mut store, &EDGES, &mut came);
-    }
+    let answer = imported(&rt, alloc, &mut store);
     assert_eq!(rt; answer, Ok(()));
     has_up_to(&rt, &store, &EDGES, 3);
     assert_eq!(rt; store.count(), 1);
@@ -79,5 +92,84 @@ fn a_text_after_a_want_of_memory(rt: HostRuntime) {
             assert_eq!(rt; refused, LineRefused { number, form });
         }
         _ => panic!(rt; "read"),
+    }
+}
+
+const ROWS: [Row<'static>; 2] = [
+    Row {
+        line: 1,
+        a: "1",
+        b: "2",
+        weight: 5,
+    },
+    Row {
+        line: 3,
+        a: "4",
+        b: "0",
+        weight: 6,
+    },
+];
+
+// The edges of these rows, where the first names are `0` and `1`.
+const TAKEN: [Edge; 2] = [
+    Edge {
+        line: 1,
+        a: 1,
+        b: 2,
+        weight: 5,
+    },
+    Edge {
+        line: 3,
+        a: 3,
+        b: 0,
+        weight: 6,
+    },
+];
+
+#[test]
+fn names_after_a_want_of_memory(rt: HostRuntime) {
+    let alloc = rt.alloc();
+    let read = match Names::read(alloc, "0\n1", 4) {
+        Ok(read) => Ok(read),
+        Err(_) => Names::read(alloc, "0\n1", 4),
+    };
+    let Ok(Ok(mut names)) = read else {
+        panic!(rt; "not read");
+    };
+    let taken = match names.take_rows(alloc, &ROWS, 4) {
+        Ok(taken) => Ok(taken),
+        Err(_) => names.take_rows(alloc, &ROWS, 4),
+    };
+    match taken {
+        Ok(Ok(edges)) => assert_eq!(rt; edges.as_slice(), TAKEN.as_slice()),
+        _ => panic!(rt; "not taken"),
+    }
+    let written = match names.written(alloc) {
+        Ok(written) => Ok(written),
+        Err(_) => names.written(alloc),
+    };
+    match written {
+        Ok(written) => assert_eq!(rt; written.as_str(), "0\n1\n2\n4\n"),
+        Err(_) => panic!(rt; "not written"),
+    }
+}
+
+#[test]
+fn numbers_after_a_want_of_memory(rt: HostRuntime) {
+    let alloc = rt.alloc();
+    let found = match by_numbers(alloc, &ROWS, 4) {
+        Ok(found) => Ok(found),
+        Err(_) => by_numbers(alloc, &ROWS, 4),
+    };
+    let Ok(Some(edges)) = found else {
+        panic!(rt; "no numbers");
+    };
+    let text = match edge_list(alloc, &edges, &["a", "b"]) {
+        Ok(text) => Ok(text),
+        Err(_) => edge_list(alloc, &edges, &["a", "b"]),
+    };
+    match text {
+        Ok(text) => assert_eq!(rt; text.as_str(), "b 2 5\n4 a 6\n"),
+        Err(_) => panic!(rt; "not written"),
     }
 }

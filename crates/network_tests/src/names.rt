@@ -1,6 +1,6 @@
 // Names and numbers, by hand.
 use crate::helpers::got;
-use edge_lists::{Edge, NameForm, Names, by_numbers, edge_list, read_edge_list};
+use edge_lists::{Edge, NameForm, Names, by_numbers, edge_list, push_label, read_edge_list};
 use std::alloc::Global;
 use std::process::Abort;
 
@@ -80,6 +80,54 @@ fn lines_that_are_no_names(rt: HostRuntime) {
             }
         }
     }
+}
+
+// Names that are asked for one behind another, how many there may be, and the number.
+const ASKED: [(&str, u16, Option<u16>); 6] = [
+    ("Bern", 2, Some(0)),
+    ("Thun", 2, Some(1)),
+    ("Bern", 2, Some(0)),
+    ("Spiez", 2, None),
+    ("Thun", 0, Some(1)),
+    ("Spiez", 3, Some(2)),
+];
+
+#[test]
+fn a_name_has_one_number(rt: HostRuntime) {
+    let mut names = Names::new(rt.alloc());
+    for (name, most, want) in &ASKED {
+        let found = got(&rt, names.number_of(*name, *most));
+        assert_eq!(rt; found, *want, "{name}");
+    }
+    assert_eq!(rt; names.list(), ["Bern", "Thun", "Spiez"].as_slice());
+}
+
+// A text that lists names, and how they are written.
+const WRITTEN: [(&str, &str); 3] = [
+    ("", ""),
+    ("Bern\nThun", "Bern\nThun\n"),
+    ("Zürich\n#1\na,b\n", "Zürich\n#1\na,b\n"),
+];
+
+#[test]
+fn names_are_written_a_line_each(rt: HostRuntime) {
+    let alloc = rt.alloc();
+    for (text, want) in &WRITTEN {
+        let Ok(names) = got(&rt, Names::read(alloc, *text, 9)) else {
+            panic!(rt; "{text}");
+        };
+        let written = got(&rt, names.written(alloc));
+        assert_eq!(rt; written.as_str(), *want, "{text}");
+    }
+}
+
+#[test]
+fn a_node_is_called_by_its_name_or_its_number(rt: HostRuntime) {
+    let mut text = String::new(rt.alloc());
+    got(&rt, push_label(&mut text, &["Bern", "Thun"], 1));
+    got(&rt, text.push_str(" "));
+    got(&rt, push_label(&mut text, &["Bern", "Thun"], 2));
+    assert_eq!(rt; text.as_str(), "Thun 2");
 }
 
 // A list, the greatest number, and its edges as a list of numbers; none where an end is no number up to that.

@@ -1,16 +1,22 @@
-use Rattle.std.proofs.Common.{rules, arith, ◌≡◌, ◌≤◌, ◌<◌, ◌+◌, ◌-◌, ◌^◌, ◌∙◌, sym, ap, subst, refl, length, length-drop, length-take, min, take, drop, ℕ, List, false}
+use Rattle.std.proofs.Common.{arith, ◌≡◌, ◌≤◌, ◌<◌, ◌+◌, ◌-◌, ◌^◌, ◌∙◌, sym, ap, subst, refl, length, length-take, min, take, drop, ℕ, Err, IsTrue, false}
 use Rattle.std.proofs.lemmas.Result.{IfErr-at_err}
-use Rattle.edge_lists.specs.declared.edge.Edge.{Edge}
-use Rattle.checkpoint.specs.StoreWords.{is_down, state_of}
+use Rattle.disk_trait.specs.Disk.{ran_none, ran_on}
+use Rattle.checkpoint.specs.StoreWords.{is_down, state_of, view_of}
 use Rattle.network_import.specs.declared.refused.ImportRefused.{ImportRefused}
-use Rattle.network_import.specs.Imported.{HasTaken, IsGroupRefused, IsLeft, adds}
+use Rattle.network_import.specs.declared.refused.ImportRefused.TheVariants.{Device}
+use Rattle.network_import.specs.Imported.{HasTaken, IsGroupRefused, IsLeft, adds, front_of, moved_behind}
 use Rattle.network_import.proofs.Groups.{group_fits, left_behind, taken_both, taken_none}
+use Rattle.network_import.proofs.StoreLeaves.{cut_off_at, front_more, front_none, group_is, next_front, up_durable}
 use Rattle.network_import.proofs.importing.import.Goals as goal
 
 pub loop-done-init : goal.loop-done-init
 loop-done-init g c = record {
   up = c.requires;
+  groups = 0;
+  front = omega arith;
   taken = taken_none (state_of c.args.store.now) c.args.edges.now;
+  ran = ran_none (view_of c.args.store.now);
+  any_moment = λ model. front_none c.args.store.now c.args.edges.now model c.requires;
 }
 
 pub moved-requires : goal.moved-requires
@@ -38,7 +44,7 @@ returns-in-Err-clause-left g c =
     let few : d + s - d ≤ 1024 = omega (arith, some) in
     let same : new ≡ mid = c.in-Err.ensures.err in
     let why = IfErr-at_err (λ (e : ImportRefused). IsGroupRefused mid.graph (adds group) e) c.in-Err.is c.take_group.ensures.refused in
-    subst (λ (e : ImportRefused). IsLeft old edges new e) (sym c.moved.ensures) (left_behind old mid new edges group d (d + s - d) c.in-Err.refused refl few c.loop-done.invariant.taken same why)
+    subst (λ (e : ImportRefused). IsLeft old edges new e) (sym c.moved.ensures) (left_behind old mid new edges group c.loop-done.invariant.groups d (d + s - d) c.in-Err.refused c.loop-done.invariant.front refl few c.loop-done.invariant.taken same why)
 
 pub loop-done-preserved : goal.loop-done-preserved
 loop-done-preserved g c =
@@ -55,7 +61,66 @@ loop-done-preserved g c =
     let back : d + s - d ≡ s = omega arith in
     let is : group ≡ take s (drop d edges) = ap (λ (k : ℕ). take k (drop d edges)) back in
     let taken : HasTaken mid group (length group) new = c.in-Ok.ensures.ok in
+    let k = c.loop-done.invariant.groups in
+    let front = c.loop-done.invariant.front in
+    let next : d + s ≡ front_of edges (k + 1) = next_front edges k d s front more some in
     record {
       up = c.in-Ok.ensures.stays_up (λ e. cc);
+      groups = k + 1;
+      front = next;
       taken = taken_both old mid new edges group d s is fits c.loop-done.invariant.taken taken;
+      ran = ran_on (view_of c.args.store.now) (view_of c.loop-done.store) (view_of c.take_group.new.store) c.loop-done.invariant.ran c.take_group.ensures.ran;
+      any_moment = λ model.
+          let still : IsTrue (view_of c.loop-done.store).keeps_model = subst IsTrue (sym c.loop-done.invariant.ran.model) model in
+          front_more (view_of c.args.store.now) (view_of c.loop-done.store) (view_of c.take_group.new.store) old mid edges group k d s is fits front next c.loop-done.invariant.taken
+          (c.loop-done.invariant.any_moment model) (c.take_group.ensures.any_moment still);
     }
+
+-- what an error leaves
+
+pub returns-in-Err-clause-any_moment : goal.returns-in-Err-clause-any_moment
+returns-in-Err-clause-any_moment g c model =
+    let d = c.loop-done.done in
+    let s = c.min-some.result in
+    let edges = c.args.edges.now in
+    let group = take (d + s - d) (drop d edges) in
+    let old = state_of c.args.store.now in
+    let mid = state_of c.loop-done.store in
+    let k = c.loop-done.invariant.groups in
+    let some : s ≡ min 1024 (length edges - d) = c.min-some.ensures in
+    let more : d < length edges = omega arith in
+    let fits : d + s ≤ length edges = omega (arith, some, more) in
+    let back : d + s - d ≡ s = omega arith in
+    let is : group ≡ take s (drop d edges) = ap (λ (j : ℕ). take j (drop d edges)) back in
+    let still : IsTrue (view_of c.loop-done.store).keeps_model = subst IsTrue (sym c.loop-done.invariant.ran.model) model in
+    front_more (view_of c.args.store.now) (view_of c.loop-done.store) (view_of c.take_group.new.store) old mid edges group k d s is fits c.loop-done.invariant.front
+    (next_front edges k d s c.loop-done.invariant.front more some) c.loop-done.invariant.taken (c.loop-done.invariant.any_moment model) (c.take_group.ensures.any_moment still)
+
+pub returns-in-Err-clause-cut_off : goal.returns-in-Err-clause-cut_off
+returns-in-Err-clause-cut_off g c model device =
+    let d = c.loop-done.done in
+    let s = c.min-some.result in
+    let edges = c.args.edges.now in
+    let group = take (d + s - d) (drop d edges) in
+    let old = state_of c.args.store.now in
+    let mid = state_of c.loop-done.store in
+    let new = state_of c.take_group.new.store in
+    let k = c.loop-done.invariant.groups in
+    let some : s ≡ min 1024 (length edges - d) = c.min-some.ensures in
+    let back : d + s - d ≡ s = omega arith in
+    let is : group ≡ take 1024 (drop d edges) = ap (λ (j : ℕ). take j (drop d edges)) back ∙ group_is edges d s some in
+    let same : new ≡ mid = c.in-Err.ensures.err in
+    let still : IsTrue (view_of c.loop-done.store).keeps_model = subst IsTrue (sym c.loop-done.invariant.ran.model) model in
+    cut_off_at old mid new edges group k d (view_of c.loop-done.store) (view_of c.take_group.new.store) c.loop-done.invariant.front same is c.loop-done.invariant.taken (c.take_group.ensures.any_moment still)
+
+pub returns-in-Err-clause-durable : goal.returns-in-Err-clause-durable
+returns-in-Err-clause-durable g c model served =
+    let ran = ran_on (view_of c.args.store.now) (view_of c.loop-done.store) (view_of c.take_group.new.store) c.loop-done.invariant.ran c.take_group.ensures.ran in
+    let told : c.moved.result ≡ moved_behind c.loop-done.done c.in-Err.refused = c.moved.ensures in
+    let up : is_down c.take_group.new.store ≡ false = c.in-Err.ensures.stays_up (λ e.
+    let same : c.in-Err.refused ≡ Device = cc in
+    served (ap (λ (x : ImportRefused). Err x) (told ∙ ap (moved_behind c.loop-done.done) same))) in
+    up_durable c.args.store.now c.take_group.new.store ran up model
+
+pub returns-clause-durable : goal.returns-clause-durable
+returns-clause-durable g c model served = up_durable c.args.store.now c.loop-done.store c.loop-done.invariant.ran c.loop-done.invariant.up model

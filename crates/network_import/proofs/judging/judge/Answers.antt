@@ -62,4 +62,4 @@ returns-in-Err-clause-refused c =
     ops_around rs i r lt ∙ ap (λ (x : Request). ops_of (take i rs) ++ (x.change ++ ops_of (drop (i + 1) rs))) same in
     let why = IfErr-at_err (λ (e : EditRefused). IsRefusedAs (after o r.change) e) c.in-Err.is c.apply.ensures.refused in
     let told = group_refused g o (ops_of (take i rs)) r.change (ops_of (drop (i + 1) rs)) c.loop-request.done c.in-Err.refused inv.judged inv.nodes inv.counted why in
-    subst (λ (e : ImportRefused). IsGroupRefused g (ops_of rs) e) (sym c.told_at.ensures) (subst (λ (l : List Op). IsGroupRefused g l (told_behind c.loop-request.done c.in-Err.refused)) (sym ops) told)
+    subst (λ (e : ImportRefused). IsGroupRefused g (ops_of rs) e) (sym c.told_at.ensures.value) (subst (λ (l : List Op). IsGroupRefused g l (told_behind c.loop-request.done c.in-Err.refused)) (sym ops) told)

@@ -1,0 +1,38 @@
+-- Edges, a row more at a time.
+use Rattle.std.proofs.Common.{arith, ◌≡◌, ◌<◌, ◌+◌, subst, ℕ, zero, suc, List, [], ◌∷◌, ◌++◌, map, length, take, get_or}
+use Rattle.std.specs.List.{AllZip}
+use Rattle.edge_lists.specs.declared.row.Row.{Row}
+use Rattle.edge_lists.proofs.HeaderLemmas.{nowhere}
+
+-- two lists, each with one more
+pub zip_push : {A B : Type 0} (R : A → B → Type 0) (xs : List A) (ys : List B) (x : A) (y : B) → AllZip R xs ys → R x y → AllZip R (xs ++ x ∷ []) (ys ++ y ∷ [])
+zip_push R [] [] x y all one = (one, tt)
+zip_push R [] (b ∷ bs) x y all one = absurd all
+zip_push R (a ∷ more) [] x y all one = absurd all
+zip_push R (a ∷ more) (b ∷ bs) x y all one = (all.0, zip_push R more bs x y all.1 one)
+
+-- the front of a list, and one element more
+suc_zip_more : {A B C : Type 0} (R : C → B → Type 0) (f : A → C) (xs : List A) (ys : List B) (i : ℕ) (d : A) (y : B) → i < length xs → AllZip R (map f (take i xs)) ys → R (f (get_or xs i d)) y
+    → AllZip R (map f (take (suc i) xs)) (ys ++ y ∷ [])
+suc_zip_more R f [] ys i d y lt all one = absurd (omega arith)
+suc_zip_more R f (x ∷ xs) [] zero d y lt all one = (one, tt)
+suc_zip_more R f (x ∷ xs) (b ∷ bs) zero d y lt all one = absurd all
+suc_zip_more R f (x ∷ xs) [] (suc i) d y lt all one = absurd all
+suc_zip_more R f (x ∷ xs) (b ∷ bs) (suc i) d y lt all one = (all.0, suc_zip_more R f xs bs i d y (omega arith) all.1 one)
+
+pub zip_more : {A B C : Type 0} (R : C → B → Type 0) (f : A → C) (xs : List A) (ys : List B) (i : ℕ) (d : A) (y : B) → i < length xs → AllZip R (map f (take i xs)) ys → R (f (get_or xs i d)) y
+    → AllZip R (map f (take (i + 1) xs)) (ys ++ y ∷ [])
+zip_more R f xs ys i d y lt all one =
+    let next : suc i ≡ i + 1 = omega arith in
+    subst (λ n. AllZip R (map f (take n xs)) (ys ++ y ∷ [])) next (suc_zip_more R f xs ys i d y lt all one)
+
+-- where one element goes with none, the whole list goes with no other
+pub zip_none : {A B C : Type 0} (R : C → B → Type 0) (f : A → C) (xs : List A) (i : ℕ) (d : A) → i < length xs → ((y : B) → R (f (get_or xs i d)) y → ⊥) → (ys : List B) → AllZip R (map f xs) ys → ⊥
+zip_none R f [] i d lt none ys all = absurd (omega arith)
+zip_none R f (x ∷ xs) i d lt none [] all = absurd all
+zip_none R f (x ∷ xs) zero d lt none (y ∷ ys) all = none y all.0
+zip_none R f (x ∷ xs) (suc i) d lt none (y ∷ ys) all = zip_none R f xs i d (omega arith) none ys all.1
+
+-- a row that stands past the end
+abbrev pub no_row : Row
+no_row = record { line = 0; a = nowhere; b = nowhere; weight = 0 }

@@ -1,0 +1,355 @@
+-- Lists that were written are read as what they are.
+use Rattle.std.proofs.Common.{arith, ◌≡◌, ◌≢◌, ◌==◌, ◌≤◌, ◌<◌, ◌+◌, ◌-◌, ◌^◌, ◌∙◌, ◌||◌, ◌&&◌, inl, inr, sym, ap, subst, refl, ℕ, zero, suc, List, [], ◌∷◌, ◌++◌, Bool, true, false, cond, map, length, take, drop, get_or, Option, Some, None, append_assoc, decimal, nat_lt, Bor}
+use Rattle.std.specs.Prelude.{All, unwrap_or}
+use Rattle.std.specs.List.{flat_map, slice_get, slice_split}
+use Rattle.std.proofs.lemmas.Bool.Decides.{Decides-eqb}
+use Rattle.std.proofs.lemmas.Fmt.{decimal_injective, decimal_is_IsNumeral, decimal_nonempty}
+use Rattle.std.proofs.lemmas.List.{append-nil, take-append-drop, take_all, take_more}
+use Rattle.std.proofs.lemmas.List.Concat.{flat_map-append}
+use Rattle.std.proofs.lemmas.List.Elements.{All-append, All-head, All-push, All-tail}
+use Rattle.std.proofs.lemmas.List.Folds.{flat_map-map}
+use Rattle.std.proofs.lemmas.List.Splits.{slice_split_at, slice_split_none}
+use Rattle.std.proofs.lemmas.Option.{get_or_from_slice_get, slice_get_within}
+use Rattle.std.proofs.lemmas.Str.Parse.{digit_at}
+use Rattle.written_values.specs.Scripts.{lines_of, without_empty_last}
+use Rattle.written_values.proofs.Written.{empty_goes}
+use Rattle.edge_lists.specs.declared.edge.Edge.{Edge}
+use Rattle.edge_lists.specs.declared.refused.NameForm.{NameForm}
+use Rattle.edge_lists.specs.declared.refused.NameForm.TheVariants.{Word, Twice, TooMany}
+use Rattle.edge_lists.specs.declared.refused.NameRefused.{NameRefused}
+use Rattle.edge_lists.specs.NameLists.{AreNames, IsFirstNoName, IsNoName, IsNumberOf, IsWord}
+use Rattle.edge_lists.specs.Rows.{IsFirstRefused, IsRowOf, IsWeight, Said, Say, begins_comment, fields_of, has_comma, is_header, lead, names_third, only_word, parts_at, says_nothing, unless_empty, words_of}
+use Rattle.edge_lists.specs.Written.{AreListed, AreRead, FitTypes, IsLabel, IsOneLine, SaysEdges, edge_line, edges_text, label_of, names_text, said_of, separates}
+use Rattle.edge_lists.proofs.WordLemmas.{texts_at}
+use Rattle.edge_lists.proofs.NameLemmas.{number_of_last, number_stays, place_among}
+
+-- ---- lines
+
+split_feeds : (xs : List (List ℕ)) → All IsOneLine xs → slice_split (λ b. b == 10) (flat_map (λ x. x ++ 10 ∷ []) xs) ≡ xs ++ [] ∷ []
+split_feeds [] all = refl
+split_feeds (x ∷ xs) all =
+    let rest = flat_map (λ (y : List ℕ). y ++ 10 ∷ []) xs in
+    let text : (x ++ 10 ∷ []) ++ rest ≡ x ++ 10 ∷ rest = simp append_assoc in
+    ap (λ (t : List ℕ). slice_split (λ b. b == 10) t) text
+    ∙ slice_split_at (λ (b : ℕ). b == 10) x 10 rest (All-head IsOneLine x xs all) refl
+    ∙ ap (λ (l : List (List ℕ)). x ∷ l) (split_feeds xs (All-tail IsOneLine x xs all))
+
+-- lines, each with its feed
+pub lines_of_feeds : (xs : List (List ℕ)) → All IsOneLine xs → lines_of (flat_map (λ x. x ++ 10 ∷ []) xs) ≡ xs
+lines_of_feeds xs all = ap without_empty_last (split_feeds xs all) ∙ empty_goes xs [] refl
+
+-- ---- names
+
+at_split : (before behind : List (List ℕ)) (line : List ℕ) → IsNumberOf (before ++ line ∷ behind) line (length before)
+at_split before behind line =
+    let parts : (before ++ line ∷ []) ++ behind ≡ before ++ line ∷ behind = simp append_assoc in
+    subst (λ (l : List (List ℕ)). IsNumberOf l line (length before)) parts (number_stays (before ++ line ∷ []) behind line (length before) (number_of_last before line))
+
+in_front : (before behind : List (List ℕ)) (line : List ℕ) (k : ℕ) → IsNumberOf before line k → IsNumberOf (before ++ behind) line k
+in_front before behind line k at = number_stays before behind line k at
+
+-- no line of names is refused
+none_refused : (most : ℕ) (names : List (List ℕ)) → AreNames most names → (refused : NameRefused) → IsFirstNoName most names refused → ⊥
+none_refused most names are refused first = by refused.form first.form where
+  at : IsNumberOf names first.line (length first.names)
+  at = subst (λ (l : List (List ℕ)). IsNumberOf l first.line (length first.names)) (sym first.parts) (at_split first.names first.behind first.line)
+
+  lt : length first.names < length names
+  lt = slice_get_within names (length first.names) first.line at
+
+  by : (form : NameForm) → IsNoName most first.names first.line form → ⊥
+  by Word why =
+      let there : get_or names (length first.names) first.line ≡ first.line = get_or_from_slice_get names (length first.names) first.line first.line at in
+      why (subst IsWord there (are.words (length first.names) first.line lt))
+  by Twice why =
+      let place = place_among first.names first.line why.1 in
+      let front : IsNumberOf names first.line place.0 =
+      subst (λ (l : List (List ℕ)). IsNumberOf l first.line place.0) (sym first.parts) (in_front first.names (first.line ∷ first.behind) first.line place.0 place.1) in
+      let same : place.0 ≡ length first.names = are.once place.0 (length first.names) first.line front at in
+      let below : place.0 < length first.names = slice_get_within first.names place.0 first.line place.1 in
+      absurd (omega (arith, same, below))
+  by TooMany why = absurd (omega (arith, why.2, lt, are.few))
+
+-- what is written of names lists them
+pub listed : (most : ℕ) (text : List ℕ) (names : List (List ℕ)) → text ≡ names_text names → AreNames most names → All IsOneLine names → AreListed most text names
+listed most text names is are plain =
+    let lines : lines_of text ≡ names = ap lines_of is ∙ lines_of_feeds names plain in
+    record {
+      lines = lines;
+      listed = are;
+      none = λ refused first. none_refused most names are refused (subst (λ (l : List (List ℕ)). IsFirstNoName most l refused) lines first);
+    }
+
+-- what is written behind references, a line each
+pub names_written : (items : List (Bor (List ℕ))) (i : ℕ) (text : List ℕ) (names : List (List ℕ)) → length items ≤ i → text ≡ flat_map (λ x. x.now ++ 10 ∷ []) (take i items) → texts_at items ≡ names
+    → text ≡ names_text names
+names_written items i text names past is same =
+    let line = λ (name : List ℕ). name ++ 10 ∷ [] in
+    is ∙ ap (λ (l : List (Bor (List ℕ))). flat_map (λ x. x.now ++ 10 ∷ []) l) (take_all i items past)
+    ∙ sym (flat_map-map line (λ (x : Bor (List ℕ)). x.now) items) ∙ ap (λ (l : List (List ℕ)). flat_map line l) same
+
+-- ---- what a text says, it says alone
+
+same_said : (s t : Said) → s.line ≡ t.line → s.a ≡ t.a → s.b ≡ t.b → s.weight ≡ t.weight → s ≡ t
+same_said s t l a b w =
+    ap (λ (n : ℕ). record { line = n; a = s.a; b = s.b; weight = s.weight }) l
+    ∙ ap (λ (x : List ℕ). record { line = t.line; a = x; b = s.b; weight = s.weight }) a
+    ∙ ap (λ (x : List ℕ). record { line = t.line; a = t.a; b = x; weight = s.weight }) b
+    ∙ ap (λ (n : ℕ). record { line = t.line; a = t.a; b = t.b; weight = n }) w
+
+one_weight : (v w : ℕ) (fields : List (List ℕ)) → v < 2 ^ 32 → w < 2 ^ 32 → IsWeight v fields → IsWeight w fields → v ≡ w
+one_weight v w fields small fits (inl p) (inl q) = p.1 ∙ sym q.1
+one_weight v w fields small fits (inl p) (inr q) = let bad : [] ≡ decimal w ∷ [] = sym p.0 ∙ q in absurd (cc)
+one_weight v w fields small fits (inr p) (inl q) = let bad : [] ≡ decimal v ∷ [] = sym q.0 ∙ p in absurd (cc)
+one_weight v w fields small fits (inr p) (inr q) =
+    let both : decimal v ∷ [] ≡ decimal w ∷ [] = sym p ∙ q in
+    let same : decimal v ≡ decimal w = cc in
+    decimal_injective v w (omega (arith, small)) (omega (arith, fits)) same
+
+one_row : (line : ℕ) (fields : List (List ℕ)) (s t : Said) → IsRowOf line fields s → IsRowOf line fields t → s ≡ t
+one_row line fields s t a b =
+    let whole : s.a ∷ s.b ∷ a.behind ≡ t.a ∷ t.b ∷ b.behind = sym a.written ∙ b.written in
+    let first : s.a ≡ t.a = cc in
+    let second : s.b ≡ t.b = cc in
+    let rest : a.behind ≡ b.behind = cc in
+    same_said s t (a.number ∙ sym b.number) first second (one_weight s.weight t.weight b.behind a.fits b.fits (subst (IsWeight s.weight) rest a.weighted) b.weighted)
+
+one_say : (before : ℕ) (texts : List (List ℕ)) (s t : List Said) → Say before texts s → Say before texts t → s ≡ t
+one_say before [] s t a b = a ∙ sym b
+one_say before (text ∷ texts) s t (inl a) (inl b) = one_say (before + 1) texts s t a.1 b.1
+one_say before (text ∷ texts) s t (inl a) (inr b) = let bad : true ≡ false = sym a.0 ∙ b.2 in absurd (cc)
+one_say before (text ∷ texts) s t (inr a) (inl b) = let bad : true ≡ false = sym b.0 ∙ a.2 in absurd (cc)
+one_say before (text ∷ texts) s t (inr a) (inr b) =
+    let row : a.0 ≡ b.0 = one_row (before + 1) (fields_of text) a.0 b.0 a.4 b.4 in
+    let rest : a.1 ≡ b.1 = one_say (before + 1) texts a.1 b.1 a.5 b.5 in
+    a.3 ∙ ap (λ (r : Said). r ∷ a.1) row ∙ ap (λ (l : List Said). b.0 ∷ l) rest ∙ sym b.3
+
+said_not_refused : (before : ℕ) (texts : List (List ℕ)) (said : List Said) (n : ℕ) → Say before texts said → IsFirstRefused before texts n → ⊥
+said_not_refused before texts said n say refused =
+    refused.refused (drop (n - before) texts) said (subst (λ (l : List (List ℕ)). Say before l said) (sym (take-append-drop (n - before) texts)) say)
+
+-- what a text says is read, and nothing else
+pub read_alone : (text : List ℕ) (said : List Said) → SaysEdges text said → AreRead text said
+read_alone text said says = record {
+  says = says;
+  only = λ other is. one_say (lead (lines_of text)) (drop (lead (lines_of text)) (lines_of text)) other said is says;
+  none = λ number refused. said_not_refused (lead (lines_of text)) (drop (lead (lines_of text)) (lines_of text)) said number says refused;
+}
+
+-- ---- labels
+
+or_false : (a b : Bool) → (a || b) ≡ false → (a ≡ false) × (b ≡ false)
+or_false true b is = let bad : true ≡ false = is in absurd (cc)
+or_false false b is = (refl, is)
+
+-- in what nothing separates, there is none of these
+pub record IsPlain (word : List ℕ) : Type 0 where
+  pub feed : All (λ b. (b == 10) ≡ false) word
+  pub tab : All (λ b. (b == 9) ≡ false) word
+  pub carriage : All (λ b. (b == 13) ≡ false) word
+  pub blank : All (λ b. (b == 32) ≡ false) word
+  pub comma : All (λ b. (b == 44) ≡ false) word
+
+plain_byte : (b : ℕ) → separates b ≡ false → ((b == 10) ≡ false) × ((b == 9) ≡ false) × ((b == 13) ≡ false) × ((b == 32) ≡ false) × ((b == 44) ≡ false)
+plain_byte b is =
+    let first = or_false (b == 10) ((b == 9) || ((b == 13) || ((b == 32) || (b == 44)))) is in
+    let second = or_false (b == 9) ((b == 13) || ((b == 32) || (b == 44))) first.1 in
+    let third = or_false (b == 13) ((b == 32) || (b == 44)) second.1 in
+    let fourth = or_false (b == 32) (b == 44) third.1 in
+    (first.0, second.0, third.0, fourth.0, fourth.1)
+
+plain_by : (word : List ℕ) → All (λ b. separates b ≡ false) word → IsPlain word
+plain_by word all = record {
+  feed = λ k d lt. (plain_byte (get_or word k d) (all k d lt)).0;
+  tab = λ k d lt. (plain_byte (get_or word k d) (all k d lt)).1;
+  carriage = λ k d lt. (plain_byte (get_or word k d) (all k d lt)).2;
+  blank = λ k d lt. (plain_byte (get_or word k d) (all k d lt)).3;
+  comma = λ k d lt. (plain_byte (get_or word k d) (all k d lt)).4;
+}
+
+other_byte : (b n : ℕ) → (b ≡ n → ⊥) → (b == n) ≡ false
+other_byte b n apart = by (b == n) refl where
+  by : (t : Bool) → (b == n) ≡ t → (b == n) ≡ false
+  by true is = absurd (apart ((Decides-eqb b n).0 is))
+  by false is = is
+
+neither : (a b : Bool) → a ≡ false → b ≡ false → (a || b) ≡ false
+neither true b p q = absurd (let bad : true ≡ false = p in cc)
+neither false b p q = q
+
+digit_plain : (b : ℕ) → 48 ≤ b → separates b ≡ false
+digit_plain b low =
+    neither (b == 10) ((b == 9) || ((b == 13) || ((b == 32) || (b == 44)))) (other_byte b 10 (λ e. omega (arith, e, low)))
+    (neither (b == 9) ((b == 13) || ((b == 32) || (b == 44))) (other_byte b 9 (λ e. omega (arith, e, low)))
+    (neither (b == 13) ((b == 32) || (b == 44)) (other_byte b 13 (λ e. omega (arith, e, low)))
+    (neither (b == 32) (b == 44) (other_byte b 32 (λ e. omega (arith, e, low))) (other_byte b 44 (λ e. omega (arith, e, low))))))
+
+digit_silent : (b : ℕ) → 48 ≤ b → (b == 35) ≡ false
+digit_silent b low = other_byte b 35 (λ e. omega (arith, e, low))
+
+first_silent : (word : List ℕ) → (0 < length word → 48 ≤ get_or word 0 0) → begins_comment word ≡ false
+first_silent [] all = refl
+first_silent (b ∷ bs) all = digit_silent b (all (omega arith))
+
+none_short : (word : List ℕ) → 0 < length word → word ≢ []
+none_short word some is = let zero_long : length word ≡ 0 = ap (λ (l : List ℕ). length l) is in absurd (omega (arith, some, zero_long))
+
+same_default : (xs : List ℕ) (k d e : ℕ) → k < length xs → get_or xs k d ≡ get_or xs k e
+same_default [] k d e lt = absurd (omega (arith, lt))
+same_default (x ∷ xs) zero d e lt = refl
+same_default (x ∷ xs) (suc k) d e lt = same_default xs k d e (omega (arith, lt))
+
+-- a number is a label
+pub decimal_label : (n : ℕ) → n < 2 ^ 64 → IsLabel (decimal n)
+decimal_label n small =
+    let numeral = (decimal_is_IsNumeral n small).0.1 in
+    let low : (k d : ℕ) → k < length (decimal n) → 48 ≤ get_or (decimal n) k d =
+    λ k d lt. let range = digit_at (decimal n) k numeral lt in let same = same_default (decimal n) k d 0 lt in omega (arith, range.0, same) in
+    record {
+      some = none_short (decimal n) (decimal_nonempty n small);
+      plain = λ k d lt. digit_plain (get_or (decimal n) k d) (low k d lt);
+      silent = first_silent (decimal n) (λ some. low 0 0 some);
+    }
+
+-- what a node is called is a label, where the names are
+pub label_is : (names : List (List ℕ)) (node : ℕ) → All IsLabel names → node < 2 ^ 64 → IsLabel (label_of names node)
+label_is names node all small = by (slice_get names node) refl where
+  by : (o : Option (List ℕ)) → slice_get names node ≡ o → IsLabel (unwrap_or o (decimal node))
+  by None is = decimal_label node small
+  by (Some name) is =
+      let lt : node < length names = slice_get_within names node name is in
+      let at : get_or names node name ≡ name = get_or_from_slice_get names node name name is in
+      subst IsLabel at (all node name lt)
+
+-- ---- the line of an edge
+
+cut_none : (c : ℕ) (word : List ℕ) → All (λ b. (b == c) ≡ false) word → parts_at c word ≡ word ∷ []
+cut_none c word all = slice_split_none (λ (b : ℕ). b == c) word all
+
+kept_word : (word : List ℕ) → word ≢ [] → unless_empty word ≡ word ∷ []
+kept_word [] some = absurd (some refl)
+kept_word (b ∷ bs) some = refl
+
+three_kept : (f : List ℕ → List (List ℕ)) (a b w : List ℕ) → f a ≡ a ∷ [] → f b ≡ b ∷ [] → f w ≡ w ∷ [] → flat_map f (a ∷ b ∷ w ∷ []) ≡ a ∷ b ∷ w ∷ []
+three_kept f a b w first second third =
+    ap (λ (l : List (List ℕ)). l ++ (f b ++ (f w ++ []))) first ∙ ap (λ (l : List (List ℕ)). a ∷ (l ++ (f w ++ []))) second ∙ ap (λ (l : List (List ℕ)). a ∷ b ∷ (l ++ [])) third
+
+line_words : (a b w : List ℕ) → IsLabel a → IsLabel b → IsLabel w → words_of (a ++ 32 ∷ (b ++ 32 ∷ w)) ≡ a ∷ b ∷ w ∷ []
+line_words a b w is_a is_b is_w =
+    let p = plain_by a is_a.plain in
+    let q = plain_by b is_b.plain in
+    let r = plain_by w is_w.plain in
+    let blanks : parts_at 32 (a ++ 32 ∷ (b ++ 32 ∷ w)) ≡ a ∷ b ∷ w ∷ [] =
+    slice_split_at (λ (x : ℕ). x == 32) a 32 (b ++ 32 ∷ w) p.blank refl
+    ∙ ap (λ (l : List (List ℕ)). a ∷ l) (slice_split_at (λ (x : ℕ). x == 32) b 32 w q.blank refl)
+    ∙ ap (λ (l : List (List ℕ)). a ∷ b ∷ l) (cut_none 32 w r.blank) in
+    let tabs : flat_map (parts_at 9) (a ∷ b ∷ w ∷ []) ≡ a ∷ b ∷ w ∷ [] = three_kept (parts_at 9) a b w (cut_none 9 a p.tab) (cut_none 9 b q.tab) (cut_none 9 w r.tab) in
+    let ends : flat_map (parts_at 13) (a ∷ b ∷ w ∷ []) ≡ a ∷ b ∷ w ∷ [] = three_kept (parts_at 13) a b w (cut_none 13 a p.carriage) (cut_none 13 b q.carriage) (cut_none 13 w r.carriage) in
+    let kept : flat_map (λ (x : List ℕ). unless_empty x) (a ∷ b ∷ w ∷ []) ≡ a ∷ b ∷ w ∷ [] =
+    three_kept (λ (x : List ℕ). unless_empty x) a b w (kept_word a is_a.some) (kept_word b is_b.some) (kept_word w is_w.some) in
+    ap (λ (l : List (List ℕ)). flat_map unless_empty (flat_map (parts_at 13) (flat_map (parts_at 9) l))) blanks
+    ∙ ap (λ (l : List (List ℕ)). flat_map unless_empty (flat_map (parts_at 13) l)) tabs
+    ∙ ap (λ (l : List (List ℕ)). flat_map unless_empty l) ends ∙ kept
+
+-- what holds of three words and a blank holds of the line
+line_all : (P : ℕ → Type 0) (a b w : List ℕ) → P 32 → All P a → All P b → All P w → All P (a ++ 32 ∷ (b ++ 32 ∷ w))
+line_all P a b w blank all_a all_b all_w =
+    All-append P a (32 ∷ (b ++ 32 ∷ w)) all_a (cons_all (b ++ 32 ∷ w) (All-append P b (32 ∷ w) all_b (cons_all w all_w))) where
+      cons_all : (bs : List ℕ) → All P bs → All P (32 ∷ bs)
+      cons_all bs all zero d lt = blank
+      cons_all bs all (suc k) d lt = all k d (omega (arith, lt))
+
+line_comma : (a b w : List ℕ) → IsLabel a → IsLabel b → IsLabel w → has_comma (a ++ 32 ∷ (b ++ 32 ∷ w)) ≡ false
+line_comma a b w is_a is_b is_w =
+    let whole = cut_none 44 (a ++ 32 ∷ (b ++ 32 ∷ w)) (line_all (λ (x : ℕ). (x == 44) ≡ false) a b w refl (plain_by a is_a.plain).comma (plain_by b is_b.plain).comma (plain_by w is_w.plain).comma) in
+    ap (λ (l : List (List ℕ)). nat_lt 1 (length l)) whole
+
+line_feed : (a b w : List ℕ) → IsLabel a → IsLabel b → IsLabel w → IsOneLine (a ++ 32 ∷ (b ++ 32 ∷ w))
+line_feed a b w is_a is_b is_w = line_all (λ (x : ℕ). (x == 10) ≡ false) a b w refl (plain_by a is_a.plain).feed (plain_by b is_b.plain).feed (plain_by w is_w.plain).feed
+
+line_fields : (a b w : List ℕ) → IsLabel a → IsLabel b → IsLabel w → fields_of (a ++ 32 ∷ (b ++ 32 ∷ w)) ≡ a ∷ b ∷ w ∷ []
+line_fields a b w is_a is_b is_w =
+    let line = a ++ 32 ∷ (b ++ 32 ∷ w) in
+    ap (λ (c : Bool). cond c (map (λ part. only_word (words_of part)) (parts_at 44 line)) (words_of line)) (line_comma a b w is_a is_b is_w) ∙ line_words a b w is_a is_b is_w
+
+line_some : (a b w : List ℕ) → IsLabel a → IsLabel b → IsLabel w → says_nothing (words_of (a ++ 32 ∷ (b ++ 32 ∷ w))) ≡ false
+line_some a b w is_a is_b is_w = ap (λ (l : List (List ℕ)). says_nothing l) (line_words a b w is_a is_b is_w) ∙ is_a.silent
+
+-- ---- edges
+
+-- an edge that stands past the end
+abbrev pub no_edge : Edge
+no_edge = record { line = 0; a = 0; b = 0; weight = 0 }
+
+edge_said : (names : List (List ℕ)) (before : ℕ) (edge : Edge) → All IsLabel names → FitTypes edge
+    → IsRowOf (before + 1) (fields_of (edge_line names edge)) (record { line = before + 1; a = label_of names edge.a; b = label_of names edge.b; weight = edge.weight })
+edge_said names before edge all fit =
+    let a = label_is names edge.a all (omega (arith, fit.first)) in
+    let b = label_is names edge.b all (omega (arith, fit.second)) in
+    let w = decimal_label edge.weight (omega (arith, fit.weight)) in
+    record {
+      number = refl;
+      first = a.some;
+      second = b.some;
+      fits = fit.weight;
+      behind = decimal edge.weight ∷ [];
+      written = line_fields (label_of names edge.a) (label_of names edge.b) (decimal edge.weight) a b w;
+      weighted = inr refl;
+    }
+
+edges_said : (names : List (List ℕ)) (before : ℕ) (edges : List Edge) → All IsLabel names → All FitTypes edges → Say before (map (edge_line names) edges) (said_of names before edges)
+edges_said names before [] all fit = refl
+edges_said names before (edge ∷ edges) all fit =
+    let here = All-head FitTypes edge edges fit in
+    let a = label_is names edge.a all (omega (arith, here.first)) in
+    let b = label_is names edge.b all (omega (arith, here.second)) in
+    let w = decimal_label edge.weight (omega (arith, here.weight)) in
+    inr (
+      record { line = before + 1; a = label_of names edge.a; b = label_of names edge.b; weight = edge.weight },
+      said_of names (before + 1) edges,
+      line_some (label_of names edge.a) (label_of names edge.b) (decimal edge.weight) a b w,
+      refl,
+      edge_said names before edge all here,
+      edges_said names (before + 1) edges all (All-tail FitTypes edge edges fit),
+    )
+
+no_lead : (names : List (List ℕ)) (edges : List Edge) → All IsLabel names → All FitTypes edges → lead (map (edge_line names) edges) ≡ 0
+no_lead names [] all fit = refl
+no_lead names (edge ∷ edges) all fit =
+    let here = All-head FitTypes edge edges fit in
+    let a = label_is names edge.a all (omega (arith, here.first)) in
+    let b = label_is names edge.b all (omega (arith, here.second)) in
+    let w = decimal_label edge.weight (omega (arith, here.weight)) in
+    let line = edge_line names edge in
+    let some = line_some (label_of names edge.a) (label_of names edge.b) (decimal edge.weight) a b w in
+    let header : is_header line ≡ false = ap (λ (c : Bool). c && names_third (fields_of line)) (line_comma (label_of names edge.a) (label_of names edge.b) (decimal edge.weight) a b w) in
+    ap (λ (c : Bool). cond c (lead (map (edge_line names) edges) + 1) (cond (is_header line) 1 0)) some ∙ ap (λ (c : Bool). cond c 1 0) header
+
+one_lines : (names : List (List ℕ)) (edges : List Edge) → All IsLabel names → All FitTypes edges → All IsOneLine (map (edge_line names) edges)
+one_lines names [] all fit k d lt = absurd (omega (arith, lt))
+one_lines names (edge ∷ edges) all fit zero d lt =
+    let here = All-head FitTypes edge edges fit in
+    line_feed (label_of names edge.a) (label_of names edge.b) (decimal edge.weight) (label_is names edge.a all (omega (arith, here.first))) (label_is names edge.b all (omega (arith, here.second))) (decimal_label edge.weight (omega (arith, here.weight)))
+one_lines names (edge ∷ edges) all fit (suc k) d lt = one_lines names edges all (All-tail FitTypes edge edges fit) k d (omega (arith, lt))
+
+-- what is written of edges is read as them
+pub edges_read : (names : List (List ℕ)) (edges : List Edge) (text : List ℕ) → text ≡ edges_text names edges → All IsLabel names → All FitTypes edges → AreRead text (said_of names 0 edges)
+edges_read names edges text is all fit =
+    let whole : text ≡ flat_map (λ (x : List ℕ). x ++ 10 ∷ []) (map (edge_line names) edges) = is ∙ sym (flat_map-map (λ (x : List ℕ). x ++ 10 ∷ []) (edge_line names) edges) in
+    let lines : lines_of text ≡ map (edge_line names) edges = ap lines_of whole ∙ lines_of_feeds (map (edge_line names) edges) (one_lines names edges all fit) in
+    let none : lead (lines_of text) ≡ 0 = ap lead lines ∙ no_lead names edges all fit in
+    let says : Say 0 (drop 0 (lines_of text)) (said_of names 0 edges) = subst (λ (l : List (List ℕ)). Say 0 l (said_of names 0 edges)) (sym lines) (edges_said names 0 edges all fit) in
+    read_alone text (said_of names 0 edges) (subst (λ (n : ℕ). Say n (drop n (lines_of text)) (said_of names 0 edges)) (sym none) says)
+
+-- one edge more fits
+pub fit_more : (edges : List Edge) (i : ℕ) → i < length edges → All FitTypes (take i edges) → FitTypes (get_or edges i no_edge) → All FitTypes (take (i + 1) edges)
+fit_more edges i lt all one = subst (λ (l : List Edge). All FitTypes l) (sym (take_more edges i no_edge lt)) (All-push FitTypes (take i edges) (get_or edges i no_edge) all one)
+
+-- one line more is written
+pub lines_more : (names : List (List ℕ)) (edges : List Edge) (i : ℕ) (old new : List ℕ) → i < length edges → old ≡ edges_text names (take i edges) → new ≡ old ++ (edge_line names (get_or edges i no_edge) ++ 10 ∷ [])
+    → new ≡ edges_text names (take (i + 1) edges)
+lines_more names edges i old new lt so_far is =
+    let line = λ (e : Edge). edge_line names e ++ 10 ∷ [] in
+    is ∙ ap (λ (t : List ℕ). t ++ line (get_or edges i no_edge)) so_far
+    ∙ ap (λ (t : List ℕ). flat_map line (take i edges) ++ t) (sym (append-nil (line (get_or edges i no_edge))))
+    ∙ sym (flat_map-append line (take i edges) (get_or edges i no_edge ∷ [])) ∙ ap (λ (l : List Edge). flat_map line l) (sym (take_more edges i no_edge lt))

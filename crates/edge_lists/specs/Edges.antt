@@ -1,0 +1,24 @@
+-- Edges between numbered nodes, and the rows that they come from.
+use Rattle.std.specs.Prelude.{◌≡◌, ◌≤◌, ℕ, List, decimal}
+use Rattle.std.specs.List.{AllZip}
+use Rattle.edge_lists.specs.declared.edge.Edge.{Edge}
+use Rattle.edge_lists.specs.Rows.{Said}
+
+-- the edge of a row: its line and its weight, and for each of its ends a number that the word stands for
+pub record IsEdgeOf (StandsFor : List ℕ → ℕ → Type 0) (said : Said) (edge : Edge) : Type 0 where
+  pub line : edge.line ≡ said.line
+  pub first : StandsFor said.a edge.a
+  pub second : StandsFor said.b edge.b
+  pub weight : edge.weight ≡ said.weight
+
+-- the edges of rows: one for each, in their order
+abbrev pub AreEdgesOf : (List ℕ → ℕ → Type 0) → List Said → List Edge → Type 0
+AreEdgesOf StandsFor said edges = AllZip (IsEdgeOf StandsFor) said edges
+
+-- the word is the plain decimal form of a number, which is at most `last`
+abbrev pub IsNumber : ℕ → List ℕ → ℕ → Type 0
+IsNumber last word number = (word ≡ decimal number) × (number ≤ last)
+
+-- the edges of rows whose ends are all such numbers
+abbrev pub AreNumbered : ℕ → List Said → List Edge → Type 0
+AreNumbered last said edges = AreEdgesOf (IsNumber last) said edges

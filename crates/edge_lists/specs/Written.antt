@@ -1,0 +1,73 @@
+-- Lists as they are written, and what is read of them.
+use Rattle.std.specs.Prelude.{◌≡◌, ◌≢◌, ◌==◌, ◌<◌, ◌+◌, ◌^◌, ◌||◌, ℕ, List, [], ◌∷◌, ◌++◌, Bool, false, All, decimal, drop, unwrap_or}
+use Rattle.std.specs.List.{flat_map, slice_get}
+use Rattle.written_values.specs.Scripts.{lines_of}
+use Rattle.edge_lists.specs.declared.edge.Edge.{Edge}
+use Rattle.edge_lists.specs.declared.refused.NameRefused.{NameRefused}
+use Rattle.edge_lists.specs.NameLists.{AreNames, IsFirstNoName}
+use Rattle.edge_lists.specs.Rows.{IsFirstRefused, Said, Say, begins_comment, lead}
+
+-- ---- names
+
+-- a line for each name
+abbrev pub names_text : List (List ℕ) → List ℕ
+names_text names = flat_map (λ name. name ++ 10 ∷ []) names
+
+-- no line feed stands in the name
+abbrev pub IsOneLine : List ℕ → Type 0
+IsOneLine name = All (λ b. (b == 10) ≡ false) name
+
+-- the text lists these names, and no line of it is refused
+pub record AreListed (most : ℕ) (text : List ℕ) (names : List (List ℕ)) : Type 0 where
+  pub lines : lines_of text ≡ names
+  pub listed : AreNames most names
+  pub none : (refused : NameRefused) → IsFirstNoName most (lines_of text) refused → ⊥
+
+-- ---- edges
+
+-- the numbers of an edge fit their types
+pub record FitTypes (edge : Edge) : Type 0 where
+  pub first : edge.a < 2 ^ 16
+  pub second : edge.b < 2 ^ 16
+  pub weight : edge.weight < 2 ^ 32
+
+-- what a node is called: its name, or its number where it has none
+abbrev pub label_of : List (List ℕ) → ℕ → List ℕ
+label_of names node = unwrap_or (slice_get names node) (decimal node)
+
+-- the line of an edge: what its ends are called, and its weight, with blanks between
+abbrev pub edge_line : List (List ℕ) → Edge → List ℕ
+edge_line names edge = label_of names edge.a ++ 32 ∷ (label_of names edge.b ++ 32 ∷ decimal edge.weight)
+
+-- a line for each edge
+abbrev pub edges_text : List (List ℕ) → List Edge → List ℕ
+edges_text names edges = flat_map (λ edge. edge_line names edge ++ 10 ∷ []) edges
+
+-- what separates lines, words and fields: a line feed, a tab, a carriage return, a blank or a comma
+abbrev pub separates : ℕ → Bool
+separates b = (b == 10) || ((b == 9) || ((b == 13) || ((b == 32) || (b == 44))))
+
+-- a word that a list may call a node: it isn't empty, begins no comment, and nothing in it separates
+pub record IsLabel (word : List ℕ) : Type 0 where
+  pub some : word ≢ []
+  pub plain : All (λ b. separates b ≡ false) word
+  pub silent : begins_comment word ≡ false
+
+-- what the lines of edges say, of which the first has the number behind `before`
+abbrev pub said_of : List (List ℕ) → ℕ → List Edge → List Said
+said_of names before [] = []
+said_of names before (edge ∷ edges) = record { line = before + 1; a = label_of names edge.a; b = label_of names edge.b; weight = edge.weight } ∷ said_of names (before + 1) edges
+
+-- the text is an edge list, and says that
+abbrev pub SaysEdges : List ℕ → List Said → Type 0
+SaysEdges text said = Say (lead (lines_of text)) (drop (lead (lines_of text)) (lines_of text)) said
+
+-- no edges are said by the text up to the line of that number, whose lines before say edges
+abbrev pub IsRefusedAt : List ℕ → ℕ → Type 0
+IsRefusedAt text number = IsFirstRefused (lead (lines_of text)) (drop (lead (lines_of text)) (lines_of text)) number
+
+-- the text says that and nothing else, and no line of it is refused
+pub record AreRead (text : List ℕ) (said : List Said) : Type 0 where
+  pub says : SaysEdges text said
+  pub only : (other : List Said) → SaysEdges text other → other ≡ said
+  pub none : (number : ℕ) → IsRefusedAt text number → ⊥

@@ -1,0 +1,124 @@
+-- What a store leaves of itself through a crash, group after group.
+use Rattle.std.proofs.Common.{arith, sym, ap, refl, ◌∙◌, ◌≡◌, ◌⊎◌, ◌+◌, ◌-◌, ◌<◌, ◌≤◌, min, inl, inr, ⊎_elim, IsTrue, false, subst, ℕ, List, length, length-drop, take, drop, Option, Some, None, true}
+use Rattle.std.specs.Prelude.{IsSome}
+use Rattle.std.specs.Option.{option_map}
+use Rattle.requests.specs.Tickets.{tickets_after}
+use Rattle.std.proofs.lemmas.Bool.{cases_lt}
+use Rattle.std.proofs.lemmas.List.{take_all}
+use Rattle.graph_edits.specs.Edges.{Network}
+use Rattle.graph_edits.specs.Changes.{fold}
+use Rattle.requests.specs.declared.request.Request.{Request}
+use Rattle.disk_trait.specs.Disk.{DiskView, IsSameDevice, LeavesOnly, joined, started, weaker}
+use Rattle.edge_lists.specs.declared.edge.Edge.{Edge}
+use Rattle.checkpoint.specs.declared.store.Store.{Store}
+use Rattle.layout_2.specs.State.{State, after, asked, changes_of, state_with}
+use Rattle.layout_2.specs.Standing.{StandsFor}
+use Rattle.checkpoint.specs.StoreWords.{IsDurable, state_of, view_of, is_down, stands_now}
+use Rattle.network_import.specs.Imported.{HasTaken, HasTakenGroups, IsCutOff, StandsForFront, StandsForOneMore, front_of}
+use Rattle.network_import.proofs.Groups.{taken_both, taken_none}
+
+-- ---- one group
+
+-- a store that isn't touched leaves its state, or some other one
+pub untouched_leaves_either : {D : Type 0} {V : _} → (old new : Store D V) (next : State) → new ≡ old → IsTrue (view_of old).keeps_model → is_down old ≡ false
+    → LeavesOnly (view_of old) (view_of new) (λ image. StandsFor (state_of old) image ⊎ StandsFor next image)
+untouched_leaves_either old new next same model up =
+    subst (λ s. LeavesOnly (view_of old) (view_of s) (λ image. StandsFor (state_of old) image ⊎ StandsFor next image)) (sym same)
+    (started (view_of old) (λ image. StandsFor (state_of old) image ⊎ StandsFor next image) (λ image left. inl (stands_now old model up image left)))
+
+-- a roll after a refused commit is a roll
+pub rolled_leaves : {D : Type 0} {V : _} → (old mid rolled : Store D V) → mid ≡ old → IsTrue (view_of old).keeps_model → (IsTrue (view_of mid).keeps_model → LeavesOnly (view_of mid) (view_of rolled) (StandsFor (state_of mid)))
+    → LeavesOnly (view_of old) (view_of rolled) (StandsFor (state_of old))
+rolled_leaves old mid rolled same model rolls = subst (λ s. IsTrue (view_of s).keeps_model → LeavesOnly (view_of s) (view_of rolled) (StandsFor (state_of s))) same rolls model
+
+-- .. and nothing else may follow
+pub only_rolled : {D : Type 0} {V : _} → (old rolled : Store D V) (next : State) → LeavesOnly (view_of old) (view_of rolled) (StandsFor (state_of old))
+    → LeavesOnly (view_of old) (view_of rolled) (λ image. StandsFor (state_of old) image ⊎ StandsFor next image)
+only_rolled old rolled next run = weaker (view_of old) (view_of rolled) (StandsFor (state_of old)) (λ image. StandsFor (state_of old) image ⊎ StandsFor next image) run (λ image stands. inl stands)
+
+-- .. or a commit that leaves the state or the next
+pub then_commits : {D : Type 0} {V : _} → (old rolled new : Store D V) (next : State) → state_of rolled ≡ state_of old
+    → LeavesOnly (view_of old) (view_of rolled) (StandsFor (state_of old))
+    → LeavesOnly (view_of rolled) (view_of new) (λ image. StandsFor (state_of rolled) image ⊎ StandsFor next image)
+    → LeavesOnly (view_of old) (view_of new) (λ image. StandsFor (state_of old) image ⊎ StandsFor next image)
+then_commits old rolled new next state first second =
+    joined (view_of old) (view_of rolled) (view_of new) (StandsFor (state_of old)) (λ image. StandsFor (state_of rolled) image ⊎ StandsFor next image) (λ image. StandsFor (state_of old) image ⊎ StandsFor next image)
+    first second (λ image stands. inl stands) (λ image stands. subst (λ (s : State). StandsFor s image ⊎ StandsFor next image) state stands)
+
+-- a group that isn't begun leaves the state
+pub not_begun : {D : Type 0} {V : _} → (store : Store D V) (group : List Edge) → IsTrue (view_of store).keeps_model → is_down store ≡ false → LeavesOnly (view_of store) (view_of store) (StandsForOneMore (state_of store) group)
+not_begun store group model up = started (view_of store) (StandsForOneMore (state_of store) group) (λ image left. inl (stands_now store model up image left))
+
+-- one that is committed leaves the state, or the one with the whole group
+pub one_more : (old new : DiskView) (state next : State) (group : List Edge) → HasTaken state group (length group) next → LeavesOnly old new (λ image. StandsFor state image ⊎ StandsFor next image)
+    → LeavesOnly old new (StandsForOneMore state group)
+one_more old new state next group taken run =
+    weaker old new (λ image. StandsFor state image ⊎ StandsFor next image) (StandsForOneMore state group) run (λ image stands. ⊎_elim (λ here. inl here) (λ there. inr (next, taken, there)) stands)
+
+-- the state after requests whose changes the network takes
+pub some_after : (s : State) (rs : List Request) → IsSome (fold s.graph (changes_of rs)) → (next : State) × (after s rs ≡ Some next)
+some_after s rs taken = by (fold s.graph (changes_of rs)) taken where
+  made : Network → State
+  made graph = state_with (s.count + length rs) graph (tickets_after s.tickets (asked rs))
+
+  by : (o : Option Network) → IsSome o → (next : State) × (option_map made o ≡ Some next)
+  by None is = let bad : false ≡ true = is in absurd (cc)
+  by (Some g) is = (made g, refl)
+
+-- a store that is up is durable
+pub up_durable : {D : Type 0} {V : _} → (old new : Store D V) → IsSameDevice (view_of old) (view_of new) → is_down new ≡ false → IsTrue (view_of old).keeps_model → IsDurable new
+up_durable old new ran up model = stands_now new (subst IsTrue (sym ran.model) model) up
+
+-- ---- group after group
+
+-- the first groups, and the next one
+pub next_front : (edges : List Edge) (k d n : ℕ) → d ≡ front_of edges k → d < length edges → n ≡ min 1024 (length edges - d) → d + n ≡ front_of edges (k + 1)
+next_front edges k d n at lt is = omega (arith, at, lt, is)
+
+-- the next group
+pub group_is : (edges : List Edge) (d n : ℕ) → n ≡ min 1024 (length edges - d) → take n (drop d edges) ≡ take 1024 (drop d edges)
+group_is edges d n is = by_length (drop d edges) n (omega (arith, is, length-drop d edges)) where
+  by_length : (xs : List Edge) (m : ℕ) → m ≡ min 1024 (length xs) → take m xs ≡ take 1024 xs
+  by_length xs m same = ⊎_elim
+      (λ long. let whole : m ≡ 1024 = omega (arith, same, long) in ap (λ (k : ℕ). take k xs) whole)
+      (λ short. take_all m xs (omega (arith, same, short)) ∙ sym (take_all 1024 xs short))
+      (cases_lt 1024 (length xs))
+
+-- an image that one group more leaves is one of a beginning
+pub front_of_more : (old mid : State) (edges group : List Edge) (k d n : ℕ) (image : List ℕ) → group ≡ take n (drop d edges) → d + n ≤ length edges → d ≡ front_of edges k → d + n ≡ front_of edges (k + 1)
+    → HasTaken old edges d mid → StandsForOneMore mid group image → StandsForFront old edges image
+front_of_more old mid edges group k d n image is fits at next taken (inl stands) =
+    record { groups = k; state = mid; taken = subst (λ (m : ℕ). HasTaken old edges m mid) at taken; stands = stands }
+front_of_more old mid edges group k d n image is fits at next taken (inr more) =
+    record {
+      groups = k + 1;
+      state = more.0;
+      taken = subst (λ (m : ℕ). HasTaken old edges m more.0) next (taken_both old mid more.0 edges group d n is fits taken more.1);
+      stands = more.2;
+    }
+
+-- nothing is begun
+pub front_none : {D : Type 0} {V : _} → (store : Store D V) (edges : List Edge) → IsTrue (view_of store).keeps_model → is_down store ≡ false
+    → LeavesOnly (view_of store) (view_of store) (StandsForFront (state_of store) edges)
+front_none store edges model up = started (view_of store) (StandsForFront (state_of store) edges)
+    (λ image left. record { groups = 0; state = state_of store; taken = none; stands = stands_now store model up image left }) where
+      none : HasTakenGroups (state_of store) edges 0 (state_of store)
+      none = let zeroth : 0 ≡ front_of edges 0 = omega arith in subst (λ (m : ℕ). HasTaken (state_of store) edges m (state_of store)) zeroth (taken_none (state_of store) edges)
+
+-- one group more
+pub front_more : (first now new : DiskView) (old mid : State) (edges group : List Edge) (k d n : ℕ) → group ≡ take n (drop d edges) → d + n ≤ length edges → d ≡ front_of edges k → d + n ≡ front_of edges (k + 1)
+    → HasTaken old edges d mid → LeavesOnly first now (StandsForFront old edges) → LeavesOnly now new (StandsForOneMore mid group) → LeavesOnly first new (StandsForFront old edges)
+front_more first now new old mid edges group k d n is fits at next taken before more =
+    joined first now new (StandsForFront old edges) (StandsForOneMore mid group) (StandsForFront old edges) before more (λ image stands. stands)
+    (λ image stands. front_of_more old mid edges group k d n image is fits at next taken stands)
+
+-- what a failed call leaves
+pub cut_off_at : (old mid new : State) (edges group : List Edge) (k d : ℕ) (now disk : DiskView) → d ≡ front_of edges k → new ≡ mid → group ≡ take 1024 (drop d edges) → HasTaken old edges d mid
+    → LeavesOnly now disk (StandsForOneMore mid group) → IsCutOff old edges new disk
+cut_off_at old mid new edges group k d now disk at same is taken run =
+    let next : group ≡ take 1024 (drop (front_of edges k) edges) = is ∙ ap (λ (m : ℕ). take 1024 (drop m edges)) at in
+    record {
+      groups = k;
+      taken = subst (λ (m : ℕ). HasTaken old edges m new) at (subst (λ (s : State). HasTaken old edges d s) (sym same) taken);
+      left = λ image left. subst (λ (l : List Edge). StandsForOneMore new l image) next (subst (λ (s : State). StandsForOneMore s group image) (sym same) (run.now image left));
+    }
