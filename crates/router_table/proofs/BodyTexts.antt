@@ -1,0 +1,219 @@
+-- Heads, lists and bodies: what was read is what was written, and what was written is read again.
+use Rattle.std.proofs.Common.{◌≡◌, ◌≢◌, ℕ, zero, suc, ◌+◌, ◌-◌, ◌^◌, ◌<◌, ◌≤◌, ◌==◌, Bool, true, false, cond, ltb, eqb, List, [], ◌∷◌, ◌++◌, length, take, drop, Option, Some, None, IfSome, MatchOption, refl, sym, ap, subst, ◌∙◌, append_assoc, arith}
+use Rattle.std.specs.Int.{w16, w64, to_be_bytes}
+use Rattle.std.specs.List.{flat_map}
+use Rattle.std.proofs.lemmas.Bool.{eqb-true}
+use Rattle.std.proofs.lemmas.List.{append-nil, drop_at, length-append, nil_from_length, take_at, take-append-drop}
+use Rattle.node_table.specs.declared.packet.Address.{Address}
+use Rattle.node_table.specs.declared.packet.Home.{Home}
+use Rattle.node_table.specs.declared.parts.Listed.{Listed}
+use Rattle.packet_bytes.specs.declared.wire.WireRefused.{WireRefused}
+use Rattle.packet_bytes.specs.Layout.{address_size}
+use Rattle.packet_bytes.specs.Refusals.{address_refusal, home_refusal}
+use Rattle.packet_bytes.specs.Spelling.{IsHome, SpellsAddress, address_text}
+use Rattle.packet_bytes.proofs.Spellings.{addresses_are_read, one_address}
+use Rattle.router_table.specs.declared.head.Head.{Head}
+use Rattle.router_table.specs.declared.tree_entry.TreeEntry.{TreeEntry}
+use Rattle.router_table.specs.Order.{IsHead, IsHomeAmong, IsTable}
+use Rattle.router_table.specs.Reading.{◌>>=◌, GaveNothing, IsHeadIn, IsHeadWith, IsTableIn, entry_at, list_at, lists_at, member_at, number_at, numbers_at}
+use Rattle.router_table.specs.declared.refused.ReadRefused.{ReadRefused}
+use Rattle.router_table.specs.declared.refused.ReadRefused.TheVariants.{NoTable, UnknownVersion, CutShort, TooLong, Damaged, NotInOrder, Memory}
+use Rattle.router_table.specs.Refusals.{IsBodyRefused, head_size}
+use Rattle.router_table.specs.Spelling.{number, letters, version, router_text, head_text, list_text, lists_text, entry_text, member_text, body_text}
+use Rattle.router_table.specs.Table.{Table, address_of}
+use Rattle.router_table.proofs.Fits.{few_ports, few_entries, few_members, ports_fit, entries_fit, members_fit}
+use Rattle.router_table.proofs.ItemTexts.{IsNumber, EntryFits, MemberFits, number_item, entry_item, member_item}
+use Rattle.router_table.proofs.Taking.{IsBytes, IsBytes-drop, Takes, Takes-then, bind_some, some_is, passed_some, u16_takes, u16_again, number_takes, number_again, wide64, list_takes, list_again}
+
+pub take_take : {X : Type 0} (i n : ℕ) (xs : List X) → i ≤ n → take i (take n xs) ≡ take i xs
+take_take zero n xs le = refl
+take_take (suc i) zero xs le = absurd (omega arith)
+take_take (suc i) (suc n) [] le = refl
+take_take (suc i) (suc n) (x ∷ xs) le = ap (λ (ys : List _). x ∷ ys) (take_take i n xs (omega arith))
+
+-- ---- heads
+
+home_fits : (nodes : ℕ) (o : Option Home) → nodes < 2 ^ 16 → IsHomeAmong nodes o → IsHome o
+home_fits nodes None lt ok = tt
+home_fits nodes (Some at) lt ok = (omega (arith, ok.0), ok.1)
+
+-- the address of a head is spelled where its text stands
+pub spells : (h : Head) → IsHead h → SpellsAddress (address_text (address_of h)) (address_of h)
+spells h ok = record { fits = record { generation = ok.generation; node = omega (arith, ok.node, ok.nodes); home = home_fits h.nodes h.home ok.nodes ok.home }; text = refl }
+
+sized : (bytes : List ℕ) → address_refusal bytes ≡ None → length bytes ≡ address_size
+sized bytes none = go (length bytes == address_size) refl none
+  where
+    go : (b : Bool) → (length bytes == address_size) ≡ b → address_refusal bytes ≡ None → length bytes ≡ address_size
+    go true e n = eqb-true _ _ e
+    go false e n = absurd (let k = rw e at n in cc)
+
+length_address : (h : Head) → IsHead h → length (address_text (address_of h)) ≡ 42
+length_address h ok = sized (address_text (address_of h)) (addresses_are_read _ (address_of h) (spells h ok))
+
+abbrev numbers_text : ℕ → ℕ → ℕ → List ℕ → List ℕ
+numbers_text generation nodes node rest = to_be_bytes w64 generation ++ (number nodes ++ (number node ++ rest))
+
+pub numbers_take : (bytes : List ℕ) (g n x : ℕ) (rest : List ℕ) → IsBytes bytes → numbers_at bytes ≡ Some (g, n, x, rest) → bytes ≡ numbers_text g n x rest
+unfolding numbers_at
+numbers_take bytes g n x rest ok e =
+    let a = bind_some (number_at w64 bytes) _ (g, n, x, rest) e in
+    let b = bind_some (number_at w16 a.0.1) _ (g, n, x, rest) a.2 in
+    let c = bind_some (number_at w16 b.0.1) _ (g, n, x, rest) b.2 in
+    let ta = number_takes w64 (2 ^ 64) wide64 bytes a.0.0 a.0.1 ok a.1 in
+    let tb = u16_takes a.0.1 b.0.0 b.0.1 ta.rest_fits b.1 in
+    let tc = u16_takes b.0.1 c.0.0 c.0.1 tb.rest_fits c.1 in
+    let made : ℕ × ℕ × ℕ × List ℕ = (a.0.0, b.0.0, c.0.0, c.0.1) in
+    subst (λ (y : ℕ × ℕ × ℕ × List ℕ). bytes ≡ numbers_text y.0 y.1 y.2 y.3) (some_is made (g, n, x, rest) c.2)
+    (ta.parts ∙ ap (λ (t : List ℕ). to_be_bytes w64 a.0.0 ++ t) (tb.parts ∙ ap (λ (t : List ℕ). number b.0.0 ++ t) tc.parts))
+
+numbers_again : (g n x : ℕ) (rest : List ℕ) → g < 2 ^ 64 → n < 2 ^ 16 → x < 2 ^ 16 → numbers_at (numbers_text g n x rest) ≡ Some (g, n, x, rest)
+unfolding numbers_at
+numbers_again g n x rest lg ln lx = rw (number_again w64 (2 ^ 64) wide64 g (number n ++ (number x ++ rest)) lg, u16_again n (number x ++ rest) ln, u16_again x rest lx) refl
+
+pub router_again : (h : Head) → IsHead h → numbers_at (router_text h) ≡ Some (h.generation, h.nodes, h.node, address_text (address_of h))
+unfolding router_text
+router_again h ok = numbers_again h.generation h.nodes h.node (address_text (address_of h)) ok.generation ok.nodes (omega (arith, ok.node, ok.nodes))
+
+abbrev Numbers : Type 0
+Numbers = ℕ × ℕ × ℕ × List ℕ
+
+none_some : {X : Type 0} {x : X} {o : Option X} → o ≡ None → o ≡ Some x → ⊥
+none_some e f = cc
+
+pub no_numbers : (bytes : List ℕ) → numbers_at bytes ≡ None → (h : Head) → IsHead h → bytes ≢ router_text h
+no_numbers bytes none h ok same = none_some none (ap numbers_at same ∙ router_again h ok)
+
+pub same_numbers : (bytes : List ℕ) (g n x : ℕ) (rest : List ℕ) (h : Head) → numbers_at bytes ≡ Some (g, n, x, rest) → IsHead h → bytes ≡ router_text h
+    → (h.generation ≡ g) × (h.nodes ≡ n) × (h.node ≡ x) × (address_text (address_of h) ≡ rest)
+same_numbers bytes g n x rest h found ok same =
+    let e : (h.generation, h.nodes, h.node, address_text (address_of h)) ≡ (g, n, x, rest) = some_is {A = Numbers} _ _ (sym (router_again h ok) ∙ ap numbers_at (sym same) ∙ found) in
+    (ap (λ (y : Numbers). y.0) e, ap (λ (y : Numbers). y.1) e, ap (λ (y : Numbers). y.2) e, ap (λ (y : Numbers). y.3) e)
+
+pub no_address : (bytes : List ℕ) (g n x : ℕ) (rest : List ℕ) (refused : WireRefused) → numbers_at bytes ≡ Some (g, n, x, rest) → address_refusal rest ≡ Some refused → (h : Head) → IsHead h → bytes ≢ router_text h
+no_address bytes g n x rest refused found is_refused h ok same =
+    let e = same_numbers bytes g n x rest h found ok same in
+    none_some (addresses_are_read _ (address_of h) (spells h ok)) (ap address_refusal e.3 ∙ is_refused)
+
+pub other_address : (bytes : List ℕ) (g n x : ℕ) (rest : List ℕ) (a : Address) → numbers_at bytes ≡ Some (g, n, x, rest) → SpellsAddress rest a → (a.generation ≡ g → a.node ≡ x → ⊥) → (h : Head) → IsHead h → bytes ≢ router_text h
+other_address bytes g n x rest a found spelled other h ok same =
+    let e = same_numbers bytes g n x rest h found ok same in
+    let one : address_of h ≡ a = one_address rest (address_of h) a (subst (λ (t : List ℕ). SpellsAddress t (address_of h)) e.3 (spells h ok)) spelled in
+    other (ap (λ (b : Address). b.generation) (sym one) ∙ e.0) (ap (λ (b : Address). b.node) (sym one) ∙ e.2)
+
+pub its_address : (bytes : List ℕ) (g n x : ℕ) (rest : List ℕ) (a : Address) (h : Head) → IsBytes bytes → numbers_at bytes ≡ Some (g, n, x, rest) → SpellsAddress rest a → IsHeadWith g n x a h → bytes ≡ router_text h
+unfolding router_text
+its_address bytes g n x rest a h ok found spelled with =
+    let same : router_text h ≡ numbers_text g n x (address_text (record { generation = g; node = x; home = a.home })) = ap router_text with.same_head in
+    let address : record { generation = g; node = x; home = a.home } ≡ a = λ i. record { generation = sym with.same_generation i; node = sym with.same_node i; home = a.home } in
+    numbers_take bytes g n x rest ok found ∙ ap (numbers_text g n x) (spelled.text ∙ ap address_text (sym address)) ∙ sym same
+
+its_head : (bytes : List ℕ) (g n x : ℕ) (rest : List ℕ) (a : Address) (h : Head) → numbers_at bytes ≡ Some (g, n, x, rest) → SpellsAddress rest a → IsHeadWith g n x a h → (k : Head) → IsHead k → bytes ≡ router_text k → k ≡ h
+its_head bytes g n x rest a h found spelled with k ok same =
+    let e = same_numbers bytes g n x rest k found ok same in
+    let one : address_of k ≡ a = one_address rest (address_of k) a (subst (λ (t : List ℕ). SpellsAddress t (address_of k)) e.3 (spells k ok)) spelled in
+    let made : k ≡ record { generation = g; nodes = n; node = x; home = a.home } = λ i. record { generation = e.0 i; nodes = e.1 i; node = e.2 i; home = (one i).home } in
+    made ∙ sym with.same_head
+
+-- what is answered of an address that was read
+pub head_read : (bytes : List ℕ) (g n x : ℕ) (rest : List ℕ) (a : Address) (o : Option Head) → IsBytes bytes → numbers_at bytes ≡ Some (g, n, x, rest) → SpellsAddress rest a
+    → MatchOption o (a.generation ≡ g → a.node ≡ x → ⊥) (IsHeadWith g n x a) → MatchOption o ((h : Head) → IsHead h → bytes ≢ router_text h) (IsHeadIn bytes)
+head_read bytes g n x rest a None ok found spelled other = other_address bytes g n x rest a found spelled other
+head_read bytes g n x rest a (Some h) ok found spelled with = record { text = its_address bytes g n x rest a h ok found spelled with; only = its_head bytes g n x rest a h found spelled with }
+
+pub length_router : (h : Head) → IsHead h → length (router_text h) ≡ 54
+unfolding router_text
+length_router h ok = omega (arith, length_address h ok)
+
+pub length_head : (h : Head) → IsHead h → length (head_text h) ≡ head_size
+unfolding head_text
+length_head h ok = omega (arith, length_router h ok)
+
+-- ---- lists
+
+pub lists_take : (bytes : List ℕ) (ports : List ℕ) (entries : List TreeEntry) (directory : List Listed) → IsBytes bytes → lists_at bytes ≡ Some (ports, entries, directory) → bytes ≡ lists_text ports entries directory
+unfolding lists_at lists_text
+lists_take bytes ports entries directory ok e =
+    let all : List ℕ × List TreeEntry × List Listed = (ports, entries, directory) in
+    let a = bind_some (list_at (number_at w16) bytes) _ all e in
+    let b = bind_some (list_at entry_at a.0.1) _ all a.2 in
+    let c = bind_some (list_at member_at b.0.1) _ all b.2 in
+    let made : List ℕ × List TreeEntry × List Listed = (a.0.0, b.0.0, c.0.0) in
+    let g = passed_some (eqb (length c.0.1) 0) made all c.2 in
+    let ta = list_takes number IsNumber (number_at w16) number_item bytes a.0.0 a.0.1 ok a.1 in
+    let tb = list_takes entry_text EntryFits entry_at entry_item a.0.1 b.0.0 b.0.1 ta.rest_fits b.1 in
+    let tc = list_takes member_text MemberFits member_at member_item b.0.1 c.0.0 c.0.1 tb.rest_fits c.1 in
+    let nothing : c.0.1 ≡ [] = nil_from_length c.0.1 (eqb-true _ _ g.0) in
+    let last : b.0.1 ≡ list_text member_text c.0.0 = tc.parts ∙ ap (λ (t : List ℕ). list_text member_text c.0.0 ++ t) nothing ∙ append-nil (list_text member_text c.0.0) in
+    subst (λ (y : List ℕ × List TreeEntry × List Listed). bytes ≡ list_text number y.0 ++ (list_text entry_text y.1 ++ list_text member_text y.2)) g.1
+    (ta.parts ∙ ap (λ (t : List ℕ). list_text number a.0.0 ++ t) (tb.parts ∙ ap (λ (t : List ℕ). list_text entry_text b.0.0 ++ t) last))
+
+pub lists_again : (a : Table) → IsTable a → lists_at (lists_text a.ports a.entries a.directory) ≡ Some (a.ports, a.entries, a.directory)
+unfolding lists_at lists_text
+lists_again a ok =
+    let members = list_text member_text a.directory in
+    let entries = list_text entry_text a.entries ++ members in
+    let last : list_at member_at members ≡ Some (a.directory, []) = ap (list_at member_at) (sym (append-nil members)) ∙ list_again member_text MemberFits member_at member_item a.directory [] (few_members a ok) (members_fit a ok) in
+    rw (
+      list_again number IsNumber (number_at w16) number_item a.ports entries (few_ports a ok) (ports_fit a ok),
+      list_again entry_text EntryFits entry_at entry_item a.entries members (few_entries a ok) (entries_fit a ok),
+      last,
+    ) refl
+
+-- ---- bodies
+
+-- a body in its parts
+pub body_parts : (a : Table) → IsTable a → (take head_size (body_text a) ≡ head_text a.head) × (drop head_size (body_text a) ≡ lists_text a.ports a.entries a.directory)
+unfolding body_text
+body_parts a ok =
+    let long = length_head a.head ok.head in
+    let lists = lists_text a.ports a.entries a.directory in
+    (take_at (head_text a.head) lists head_size long, drop_at (head_text a.head) lists head_size long)
+
+pub head_front : (h : Head) → (take 8 (head_text h) ≡ letters ++ version) × (drop 8 (head_text h) ≡ router_text h)
+unfolding head_text
+head_front h = (refl, refl)
+
+-- where no head stands in front, or no lists behind it, no table in order has the body
+pub no_head : (body : List ℕ) → ((h : Head) → IsHead h → drop 8 (take head_size body) ≢ router_text h) → (a : Table) → IsTable a → body ≢ body_text a
+no_head body none a ok same =
+    none a.head ok.head (ap (λ (t : List ℕ). drop 8 (take head_size t)) same ∙ ap (λ (t : List ℕ). drop 8 t) (body_parts a ok).0 ∙ (head_front a.head).1)
+
+pub no_lists : (body : List ℕ) → lists_at (drop head_size body) ≡ None → (a : Table) → IsTable a → body ≢ body_text a
+no_lists body none a ok same =
+    none_some none (ap (λ (t : List ℕ). lists_at (drop head_size t)) same ∙ ap lists_at (body_parts a ok).1 ∙ lists_again a ok)
+
+-- of lists that were refused
+pub lists_refused : (body rest : List ℕ) (e : ReadRefused) → rest ≡ drop head_size body → GaveNothing e (lists_at rest) → IsBodyRefused body e
+lists_refused body rest NoTable same none = none
+lists_refused body rest UnknownVersion same none = none
+lists_refused body rest CutShort same none = none
+lists_refused body rest TooLong same none = none
+lists_refused body rest Damaged same none = none
+lists_refused body rest NotInOrder same none = no_lists body (ap lists_at (sym same) ∙ none)
+lists_refused body rest Memory same none = tt
+
+-- the body of a head and lists that were read
+body_text_read : (body : List ℕ) (a : Table) → IsBytes body → take 8 body ≡ letters ++ version → head_size ≤ length body → drop 8 (take head_size body) ≡ router_text a.head
+    → lists_at (drop head_size body) ≡ Some (a.ports, a.entries, a.directory) → body ≡ body_text a
+unfolding body_text head_text
+body_text_read body a ok front long router lists =
+    let head = take head_size body in
+    let first : take 8 head ≡ letters ++ version = take_take 8 head_size body (omega arith) ∙ front in
+    let text : head ≡ head_text a.head = sym (take-append-drop 8 head) ∙ ap (λ (t : List ℕ). t ++ drop 8 head) first ∙ ap (λ (t : List ℕ). (letters ++ version) ++ t) router in
+    sym (take-append-drop head_size body) ∙ ap (λ (t : List ℕ). t ++ drop head_size body) text ∙ ap (λ (t : List ℕ). head_text a.head ++ t) (lists_take (drop head_size body) a.ports a.entries a.directory (IsBytes-drop head_size body ok) lists)
+
+pub body_read : (body front rest : List ℕ) (a : Table) → IsBytes body → take 8 body ≡ letters ++ version → head_size ≤ length body → front ≡ take head_size body → rest ≡ drop head_size body
+    → IsHeadIn (drop 8 front) a.head → lists_at rest ≡ Some (a.ports, a.entries, a.directory) → IsTableIn body a
+body_read body front rest a ok first long front_is rest_is head lists =
+    let router : drop 8 (take head_size body) ≡ router_text a.head = ap (λ (t : List ℕ). drop 8 t) (sym front_is) ∙ head.text in
+    let found : lists_at (drop head_size body) ≡ Some (a.ports, a.entries, a.directory) = ap lists_at (sym rest_is) ∙ lists in
+    record {
+      text = body_text_read body a ok first long router found;
+      only = λ (b : Table) (fits : IsTable b) (same : body ≡ body_text b). (
+          let parts = body_parts b fits in
+          let heads : b.head ≡ a.head = head.only b.head fits.head (ap (λ (t : List ℕ). drop 8 t) (front_is ∙ ap (λ (t : List ℕ). take head_size t) same ∙ parts.0) ∙ (head_front b.head).1) in
+          let all : (b.ports, b.entries, b.directory) ≡ (a.ports, a.entries, a.directory) = some_is {A = List ℕ × List TreeEntry × List Listed} _ _
+          (sym (ap lists_at (ap (λ (t : List ℕ). drop head_size t) same ∙ parts.1) ∙ lists_again b fits) ∙ found) in
+          λ i. record { head = heads i; ports = (all i).0; entries = (all i).1; directory = (all i).2 });
+    }

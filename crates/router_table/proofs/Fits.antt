@@ -1,0 +1,66 @@
+-- How many items there are in order, and that what is in order has bytes.
+use Rattle.std.proofs.Common.{◌≡◌, ℕ, zero, suc, ◌+◌, ◌-◌, ◌^◌, ◌<◌, ◌≤◌, length, get_or, List, [], ◌∷◌, Option, Some, None, IfSome, refl, sym, subst, arith}
+use Rattle.std.specs.List.{All, AllByRecursion}
+use Rattle.std.proofs.lemmas.List.Elements.{recursion_from_All}
+use Rattle.heavy_labels.specs.declared.tree_record.Record.{Record}
+use Rattle.node_table.specs.declared.parts.Listed.{Listed}
+use Rattle.router_table.specs.declared.tree_entry.TreeEntry.{TreeEntry}
+use Rattle.router_table.specs.Items.{AreInOrder}
+use Rattle.router_table.specs.Order.{AreLists, IsHead, IsRecord, IsTable}
+use Rattle.router_table.specs.Spelling.{no_port}
+use Rattle.router_table.specs.Table.{Table}
+use Rattle.router_table.proofs.ItemTexts.{EntryFits, HasBytes, IsNumber, MemberFits}
+use Rattle.router_table.proofs.Searching.{next_rises}
+
+-- a number of ascending ones is no less than its place
+at_least : {X : Type 0} (key : X → ℕ) (limit : ℕ) (xs : List X) → AreInOrder key limit xs → (i : ℕ) (d : X) → i < length xs → i ≤ key (get_or xs i d)
+at_least key limit xs ok zero d lt = omega arith
+at_least key limit xs ok (suc i) d lt =
+    let before = at_least key limit xs ok i d (omega arith) in
+    let e : i + 1 ≡ suc i = omega arith in
+    let next = next_rises key 0 xs ok.ascend i d (omega arith) in
+    subst (λ k. suc i ≤ key (get_or xs k d)) e (omega (arith, before, next))
+
+-- so there are no more of them than numbers below the limit
+pub few : {X : Type 0} (key : X → ℕ) (limit : ℕ) (xs : List X) → AreInOrder key limit xs → length xs ≤ limit
+few key limit [] ok = omega arith
+few key limit (x ∷ xs) ok =
+    let last = at_least key limit (x ∷ xs) ok (length xs) x (omega arith) in
+    let below = ok.below (length xs) x (omega arith) in
+    omega (arith, last, below)
+
+port_fits : (many : ℕ) (o : Option ℕ) → many ≤ no_port → IfSome o (λ p. p < many) → IfSome o (λ p. p < no_port)
+port_fits many None le fits = tt
+port_fits many (Some p) le fits = omega arith
+
+pub has_bytes : (many : ℕ) (r : Record) → many ≤ no_port → IsRecord many r → HasBytes r
+has_bytes many r le fits = record {
+  first = fits.first;
+  last = fits.last;
+  heavy_last = fits.heavy_last;
+  parent_port = port_fits many r.parent_port le fits.parent_port;
+  heavy_port = port_fits many r.heavy_port le fits.heavy_port;
+  light_depth = fits.light_depth;
+}
+
+module _ (a : Table) (ok : IsTable a) where
+  nodes : a.head.nodes < 2 ^ 16
+  nodes = ok.head.nodes
+
+  pub few_ports : length a.ports < 2 ^ 16
+  few_ports = omega (arith, few (λ (port : ℕ). port) a.head.nodes a.ports ok.lists.ports, nodes)
+
+  pub few_entries : length a.entries < 2 ^ 16
+  few_entries = omega (arith, few (λ (e : TreeEntry). e.root) a.head.nodes a.entries ok.lists.entries, nodes)
+
+  pub few_members : length a.directory < 2 ^ 16
+  few_members = omega (arith, few (λ (m : Listed). m.node) a.head.nodes a.directory ok.lists.directory, nodes)
+
+  pub ports_fit : AllByRecursion IsNumber a.ports
+  ports_fit = recursion_from_All IsNumber a.ports (λ k d lt. omega (arith, ok.lists.ports.below k d lt, nodes))
+
+  pub entries_fit : AllByRecursion EntryFits a.entries
+  entries_fit = recursion_from_All EntryFits a.entries (λ k d lt. (omega (arith, ok.lists.entries.below k d lt, nodes), has_bytes (length a.ports) _ (omega (arith, few_ports)) (ok.lists.records k d lt)))
+
+  pub members_fit : AllByRecursion MemberFits a.directory
+  members_fit = recursion_from_All MemberFits a.directory (λ k d lt. (omega (arith, ok.lists.directory.below k d lt, nodes), ok.lists.labels k d lt))

@@ -1,0 +1,9 @@
+pub mod Items
+pub mod Table
+pub mod Fields
+pub mod Order
+pub mod Spelling
+pub mod Reading
+pub mod Refusals
+pub mod Handing
+pub mod Laws

@@ -1,0 +1,54 @@
+//! A router's own table: what one node keeps of a generation, and forwards by.
+//!
+//! A [`RouterTable`] says who the router is, which neighbour stands behind each port, in which trees it is and where in them, and
+//! its directory. It is made of a scheme ([`RouterTable::of`]) or read from bytes ([`RouterTable::read`]), and is always in order:
+//! neighbours, roots and members strictly ascend and are nodes, so that a look-up halves.
+//!
+//! The contract that the layers above use: a router launches the packet and hops as the scheme's tables say of its node, exactly
+//! (`IsTableOf` of `specs/Table`). That packets which are handed from table to table go over good trips, and that all handing
+//! ends, are the laws of [`table_laws`].
+//!
+//! In bytes each number begins with its highest byte:
+//!
+//! ```text
+//! head:      "TZTABL01", generation u64, number of nodes u16, node u16, the node's address (42 bytes)
+//! ports:     how many there are, u16, and the neighbour behind each, u16
+//! entries:   how many there are, u16, and for each: root, first, last, heavy last, parent port, heavy port, u16 each
+//!            (65535: no port), light depth u8
+//! directory: how many members there are, u16, and for each: node u16, the label's number u16, how many ports it has u8,
+//!            these, u16 each
+//! digest:    the SHA-256 of all bytes before it
+//! ```
+//!
+//! A table has one spelling. [`RouterTable::write`] writes it, and [`RouterTable::read`] reads it, or says of any bytes what is
+//! the first thing that is wrong with them ([`ReadRefused`]).
+//!
+//! ```text
+//! let table = RouterTable::of(alloc, &scheme, 4)?;
+//! let bytes = table.write(alloc)?;
+//! let table = RouterTable::read(alloc, &bytes)?;      // the same table
+//! let packet = table.launch(&address)?;
+//! table.hop(&packet)?                                 // Forward { port, next, packet }
+//! ```
+#![tactic(auto)]
+
+mod entry_item;
+mod fields;
+mod form;
+mod head;
+mod item;
+mod laws;
+mod listed_item;
+mod numbers;
+mod reading;
+mod refused;
+mod search;
+mod table;
+mod tree_entry;
+mod writing;
+
+pub use head::Head;
+pub use laws::table_laws;
+pub use refused::{ReadRefused, TableRefused};
+pub use table::RouterTable;
+pub use tree_entry::TreeEntry;

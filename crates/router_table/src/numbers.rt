@@ -1,0 +1,56 @@
+// Numbers at the front of bytes, their first byte the highest, and at their end.
+ghost use Rattle.std.specs.Prelude.{◌≡◌, ◌++◌, OnOk, None, Some, MatchOption};
+ghost use Rattle.std.specs.Int.{w16, w64, to_be_bytes};
+ghost use Rattle.router_table.specs.Reading.{byte_at, number_at};
+
+use std::alloc::AllocError;
+
+/// The `u16` at the front, and the bytes behind it.
+pub(crate) fn u16_at(bytes: &[u8]) -> Option<(u16, &[u8])>
+    ensures { MatchOption result (number_at w16 bytes.now ≡ None) (λ x. number_at w16 bytes.now ≡ Some (x.0, x.1.now)) }
+{
+    if bytes.len() < 2 {
+        return None;
+    }
+    let (front, rest) = bytes.split_at(2);
+    let number = u16::from_be_bytes([front[0], front[1]]);
+    Some((number, rest))
+}
+
+/// The `u64` at the front, and the bytes behind it.
+pub(crate) fn u64_at(bytes: &[u8]) -> Option<(u64, &[u8])>
+    ensures { MatchOption result (number_at w64 bytes.now ≡ None) (λ x. number_at w64 bytes.now ≡ Some (x.0, x.1.now)) }
+{
+    if bytes.len() < 8 {
+        return None;
+    }
+    let (front, rest) = bytes.split_at(8);
+    let number = u64::from_be_bytes([
+        front[0], front[1], front[2], front[3], front[4], front[5], front[6], front[7],
+    ]);
+    Some((number, rest))
+}
+
+/// The byte at the front, and the bytes behind it.
+pub(crate) fn u8_at(bytes: &[u8]) -> Option<(u8, &[u8])>
+    ensures { MatchOption result (byte_at bytes.now ≡ None) (λ x. byte_at bytes.now ≡ Some (x.0, x.1.now)) }
+{
+    match bytes {
+        [] => None,
+        [byte, rest @ ..] => Some((*byte, rest)),
+    }
+}
+
+/// Writes a `u16` at the end.
+pub(crate) fn put_u16(out: &mut Vec<u8>, number: u16) -> Result<(), AllocError>
+    ensures { OnOk result (out.new.items ≡ out.old.items ++ to_be_bytes w16 number) }
+{
+    out.extend_from_slice(&number.to_be_bytes())
+}
+
+/// Writes a `u64` at the end.
+pub(crate) fn put_u64(out: &mut Vec<u8>, number: u64) -> Result<(), AllocError>
+    ensures { OnOk result (out.new.items ≡ out.old.items ++ to_be_bytes w64 number) }
+{
+    out.extend_from_slice(&number.to_be_bytes())
+}

@@ -1,0 +1,223 @@
+// Tables of which a byte is changed, that are cut, that go on behind their end, or that are drawn: each is refused by its own name, or
+// is written as it was read.
+use crate::helpers::{RING, bytes_at, got, is_written_so, refusal_of, same, scheme_at};
+use rand_core::{Rng, SeedableRng};
+use rand_xoshiro::Xoshiro256PlusPlus;
+use router_table::ReadRefused;
+use sha2::{Digest, Sha256};
+use std::alloc::Global;
+use std::process::Abort;
+
+/// The bytes of a table of a ring of nine nodes.
+fn ring_bytes(rt: &impl Abort, alloc: Global, node: u16) -> Vec<u8> {
+    let scheme = scheme_at(rt, alloc, 9, &RING, &[2, 6]);
+    bytes_at(rt, alloc, &scheme, node)
+}
+
+/// A number of two bytes.
+fn number_at(bytes: &[u8], at: usize) -> Option<u16> {
+    let high = bytes.get(at).copied()?;
+    let low = bytes.get(at.saturating_add(1)).copied()?;
+    Some(u16::from_be_bytes([high, low]))
+}
+
+/// How many bytes the members of a directory take that begins here.
+fn directory_size(bytes: &[u8], at: usize) -> Option<usize> {
+    let members = number_at(bytes, at)?;
+    let mut size = 2usize;
+    for _ in 0..members {
+        let ports = bytes
+            .get(at.saturating_add(size).saturating_add(4))
+            .copied()?;
+        size = size.saturating_add(5 + 2 * ports as usize);
+    }
+    Some(size)
+}
+
+/// How many bytes a table takes, by the counts in it. None where a count stands behind the end.
+fn size_by_counts(bytes: &[u8]) -> Option<usize> {
+    let ports = number_at(bytes, 62)?;
+    let entries_at = 64 + 2 * ports as usize;
+    let entries = number_at(bytes, entries_at)?;
+    let directory_at = entries_at + 2 + 13 * entries as usize;
+    let directory = directory_size(bytes, directory_at)?;
+    Some(directory_at.saturating_add(directory).saturating_add(32))
+}
+
+/// Why bytes are refused that have a table's front but not its digest.
+fn wrong_inside(bytes: &[u8]) -> ReadRefused {
+    match size_by_counts(bytes) {
+        None => ReadRefused::CutShort,
+        Some(size) => {
+            if bytes.len() < size {
+                ReadRefused::CutShort
+            } else if size < bytes.len() {
+                ReadRefused::TooLong
+            } else {
+                ReadRefused::Damaged
+            }
+        }
+    }
+}
+
+/// Why a table is refused whose byte at this place was changed.
+fn wrong_at(bytes: &[u8], at: usize) -> ReadRefused {
+    if at < 6 {
+        ReadRefused::NoTable
+    } else if at < 8 {
+        ReadRefused::UnknownVersion
+    } else {
+        wrong_inside(bytes)
+    }
+}
+
+/// Changes each byte, one after the other, and sees why the table is refused.
+fn expect_refused_changed(rt: &impl Abort, alloc: Global, bytes: &mut [u8], change: u8) {
+    for at in 0..bytes.len() {
+        bytes[at] ^= change;
+        let want = Some(wrong_at(bytes, at));
+        same(rt, refusal_of(alloc, bytes), want, "a changed byte");
+        bytes[at] ^= change;
+    }
+}
+
+#[test]
+fn refuses_each_byte_changed(rt: HostRuntime) {
+    let alloc = rt.alloc();
+    for node in 0..9u16 {
+        let mut bytes = ring_bytes(&rt, alloc, node);
+        expect_refused_changed(&rt, alloc, bytes.as_mut_slice(), 1);
+        expect_refused_changed(&rt, alloc, bytes.as_mut_slice(), 128);
+        expect_refused_changed(&rt, alloc, bytes.as_mut_slice(), 255);
+        same(&rt, refusal_of(alloc, bytes.as_slice()), None, "as it was");
+    }
+}
+
+/// Why so many bytes of a table are refused, where there are more.
+fn wrong_cut(length: usize) -> ReadRefused {
+    if length < 8 {
+        ReadRefused::NoTable
+    } else {
+        ReadRefused::CutShort
+    }
+}
+
+/// Cuts a table at each length, and sees why it is refused.
+fn expect_refused_cut(rt: &impl Abort, alloc: Global, bytes: &[u8]) {
+    for length in 0..bytes.len() {
+        let want = Some(wrong_cut(length));
+        same(rt, refusal_of(alloc, &bytes[..length]), want, "a cut");
+    }
+}
+
+#[test]
+fn refuses_each_length_cut(rt: HostRuntime) {
+    let alloc = rt.alloc();
+    for node in 0..9u16 {
+        let mut bytes = ring_bytes(&rt, alloc, node);
+        expect_refused_cut(&rt, alloc, bytes.as_slice());
+        got(&rt, bytes.push(0));
+        let want = Some(ReadRefused::TooLong);
+        same(
+            &rt,
+            refusal_of(alloc, bytes.as_slice()),
+            want,
+            "a byte more",
+        );
+    }
+}
+
+/// Writes the digest of the bytes before it at the end.
+pub(crate) fn mend(bytes: &mut [u8]) {
+    if bytes.len() < 32 {
+        return;
+    }
+    let at = bytes.len() - 32;
+    let digest = Sha256::digest(&bytes[..at]);
+    bytes[at..].copy_from_slice(&digest);
+}
+
+/// Drawn bytes behind a table's front.
+fn drawn_bytes(
+    rt: &impl Abort,
+    alloc: Global,
+    rng: &mut Xoshiro256PlusPlus,
+    length: usize,
+) -> Vec<u8> {
+    let mut bytes = got(rt, Vec::from_slice(alloc, b"TZTABL01"));
+    for _ in 8..length {
+        got(rt, bytes.push((rng.next_u64() % 256) as u8));
+    }
+    bytes
+}
+
+#[test]
+fn refuses_drawn_bytes(rt: HostRuntime) {
+    let alloc = rt.alloc();
+    let mut rng = Xoshiro256PlusPlus::seed_from_u64(50);
+    for _ in 0..2000u16 {
+        let length = (rng.next_u64() % 200) as usize;
+        let bytes = drawn_bytes(&rt, alloc, &mut rng, length);
+        let want = Some(wrong_inside(bytes.as_slice()));
+        same(&rt, refusal_of(alloc, bytes.as_slice()), want, "drawn");
+    }
+}
+
+/// Draws a byte of a table anew and mends its digest. Answers whether it is read: then it is written as it was, and else it is refused
+/// by its size or its order.
+fn is_read_drawn(
+    rt: &impl Abort,
+    alloc: Global,
+    rng: &mut Xoshiro256PlusPlus,
+    bytes: &mut [u8],
+) -> bool {
+    if bytes.len() <= 40 {
+        panic!(rt; "no table");
+    }
+    let at = 8 + (rng.next_u64() % (bytes.len() as u64 - 40)) as usize;
+    bytes[at] = (rng.next_u64() % 256) as u8;
+    mend(bytes);
+    match refusal_of(alloc, bytes) {
+        None => {
+            assert!(rt; is_written_so(rt, alloc, bytes), "written otherwise");
+            true
+        }
+        Some(refused) => {
+            let want = match wrong_inside(bytes) {
+                ReadRefused::Damaged => ReadRefused::NotInOrder,
+                size => size,
+            };
+            same(rt, refused, want, "a mended table");
+            false
+        }
+    }
+}
+
+/// How many of 300 tables with one byte drawn anew are read.
+fn read_of_drawn(
+    rt: &impl Abort,
+    alloc: Global,
+    rng: &mut Xoshiro256PlusPlus,
+    bytes: &[u8],
+) -> u32 {
+    let mut read = 0u32;
+    for _ in 0..300u16 {
+        let mut other = got(rt, Vec::from_slice(alloc, bytes));
+        if is_read_drawn(rt, alloc, rng, other.as_mut_slice()) {
+            read = read.saturating_add(1);
+        }
+    }
+    read
+}
+
+#[test]
+fn writes_what_it_reads_of_drawn_tables(rt: HostRuntime) {
+    let alloc = rt.alloc();
+    let mut rng = Xoshiro256PlusPlus::seed_from_u64(51);
+    let mut read = 0u32;
+    for node in 0..9u16 {
+        let bytes = ring_bytes(&rt, alloc, node);
+        read = read.saturating_add(read_of_drawn(&rt, alloc, &mut rng, bytes.as_slice()));
+    }
+    assert!(&rt; 0 < read && read < 2700);
+}

@@ -1,0 +1,117 @@
+// Graphs, schemes and tables that the tests share.
+ghost use Rattle.std.specs.Prelude.{◌≤◌};
+
+use graph_edits::{Change, EditRefused, Graph, MOST_NODES, Op};
+use node_table::Scheme;
+use router_table::{ReadRefused, RouterTable};
+use scheme_builds::scheme_of;
+use std::alloc::{AllocError, Global};
+use std::fmt::Debug;
+use std::process::Abort;
+
+pub(crate) type Edge = (u16, u16, u32);
+
+/// The generation of all schemes here.
+const GENERATION: u64 = 7;
+
+/// The value of an answer that has to have one.
+pub(crate) fn got<T, E: Drop>(rt: &impl Abort, answer: Result<T, E>) -> T {
+    match answer {
+        Ok(value) => value,
+        Err(_) => panic!(rt; "no value"),
+    }
+}
+
+/// Sees that two values are the same.
+pub(crate) fn same<T: Copy + PartialEq + Debug>(rt: &impl Abort, found: T, want: T, name: &str) {
+    assert_eq!(rt; found, want, "{name}");
+}
+
+/// Why bytes are no table, where they are none.
+pub(crate) fn refusal_of(alloc: Global, bytes: &[u8]) -> Option<ReadRefused> {
+    match RouterTable::read(alloc, bytes) {
+        Ok(_) => None,
+        Err(refused) => Some(refused),
+    }
+}
+
+/// Whether bytes are read as a table that is written as they are.
+pub(crate) fn is_written_so(rt: &impl Abort, alloc: Global, bytes: &[u8]) -> bool {
+    let table = got(rt, RouterTable::read(alloc, bytes));
+    let again = got(rt, table.write(alloc));
+    again.as_slice() == bytes
+}
+
+fn scheme_once(alloc: Global, nodes: u16, edges: &[Edge], at: &[u16]) -> Result<Scheme, AllocError>
+    requires some { 1 ≤ nodes }
+    requires few { nodes ≤ MOST_NODES }
+{
+    let mut graph = Graph::empty(alloc, nodes)?;
+    for (a, b, weight) in edges {
+        let Ok(change) = Change::new(&[Op::Add(*a, *b, *weight)]) else {
+            continue;
+        };
+        if let Err(EditRefused::Memory) = graph.apply(&change) {
+            return Err(AllocError);
+        }
+    }
+    let mut words = Vec::with_capacity(alloc, nodes as usize)?;
+    for v in 0..nodes {
+        words.push(if at.contains(&v) { 0u64 } else { u64::MAX })?;
+    }
+    scheme_of(alloc, &graph, words.as_slice(), GENERATION, alloc)
+}
+
+/// The scheme of these edges, but for those that a graph refuses, with these landmarks. It is asked for again where memory is refused.
+pub(crate) fn scheme_at(
+    rt: &impl Abort,
+    alloc: Global,
+    nodes: u16,
+    edges: &[Edge],
+    at: &[u16],
+) -> Scheme {
+    assert!(rt; 1 <= nodes && nodes <= MOST_NODES);
+    match scheme_once(alloc, nodes, edges, at) {
+        Ok(scheme) => scheme,
+        Err(_) => got(rt, scheme_once(alloc, nodes, edges, at)),
+    }
+}
+
+/// The table of a node, written.
+pub(crate) fn bytes_at(rt: &impl Abort, alloc: Global, scheme: &Scheme, node: u16) -> Vec<u8> {
+    let table = got(rt, RouterTable::of(alloc, scheme, node));
+    got(rt, table.write(alloc))
+}
+
+/// The table of a node, written and read again.
+fn table_at(rt: &impl Abort, alloc: Global, scheme: &Scheme, node: u16) -> RouterTable {
+    let bytes = bytes_at(rt, alloc, scheme, node);
+    got(rt, RouterTable::read(alloc, bytes.as_slice()))
+}
+
+/// The tables of all nodes, each written and read again.
+pub(crate) fn tables_of(rt: &impl Abort, alloc: Global, scheme: &Scheme) -> Vec<RouterTable> {
+    let mut tables = Vec::new(alloc);
+    for node in 0..scheme.parts().nodes {
+        got(rt, tables.push(table_at(rt, alloc, scheme, node)));
+    }
+    tables
+}
+
+/// The path 0, 1, 2, 3, 4 of edges of weight 1.
+pub(crate) const PATH: [Edge; 4] = [(0, 1, 1), (1, 2, 1), (2, 3, 1), (3, 4, 1)];
+
+/// A ring of nine nodes with two chords.
+pub(crate) const RING: [Edge; 11] = [
+    (0, 1, 2),
+    (1, 2, 1),
+    (2, 3, 3),
+    (3, 4, 1),
+    (4, 5, 2),
+    (5, 6, 1),
+    (6, 7, 4),
+    (7, 8, 1),
+    (8, 0, 2),
+    (1, 5, 3),
+    (3, 7, 2),
+];
