@@ -97,6 +97,8 @@ fn room_on_both_sides_of_the_last_byte(rt: HostRuntime) {
             got(&rt, answer);
         }
         let group = group_of(&rt, rt.alloc(), last);
+        // 112 records of 9,287 bytes stand there, and a gate.
+        same(&rt, journal.room_left(), 8_431, "the room left");
         same(&rt, has_room(&rt, &journal, &group), want.is_ok(), "room");
         let answer = append_to(&rt, rt.alloc(), &mut journal, &mut disk, &group);
         same(&rt, answer, *want, "the last group");
