@@ -1,14 +1,11 @@
 -- Where things stand on a device of layout 1, as its format gives the numbers.
-use Rattle.std.specs.Prelude.{◌+◌, ◌*◌, ℕ, List, [], ◌∷◌, ◌++◌}
-use Rattle.std.specs.Int.{w16, w64, to_be_bytes, from_be_bytes}
-use Rattle.disk_trait.specs.Disk.{bytes_at}
+use Rattle.std.specs.Prelude.{◌+◌, ℕ, List}
 use Rattle.journal.specs.declared.area.Area.{Area}
+use Rattle.layout_parts.specs.declared.sizes.Sizes.{Sizes}
+use Rattle.layout_parts.specs.Sizes.{slot_start as slot_start_of, journal_of as journal_by, version as version_of_sizes}
+pub use Rattle.requests.specs.Tickets.{worn_limit}
 pub use Rattle.layout_parts.specs.Heads.{slots_start, other}
 pub use Rattle.layout_parts.specs.Refusals.{magic}
-
--- the greatest count and the greatest epoch
-abbrev pub worn_limit : ℕ
-worn_limit = 9223372036854775807
 
 -- how many bytes a device has
 abbrev pub device_len : ℕ
@@ -38,9 +35,13 @@ journal_room = 1048576
 abbrev pub slot_room : ℕ
 slot_room = 1183744
 
+-- these numbers, and the digit 1 of the version; there are no tickets
+abbrev pub sizes : Sizes
+sizes = record { digit = 0x31; most_nodes = most_nodes; most_edges = most_edges; tickets_len = 0; checkpoint_room = checkpoint_room; journal_room = journal_room }
+
 -- where a slot begins, at its gate
 abbrev pub slot_start : ℕ → ℕ
-slot_start slot = slots_start + slot_room * slot
+slot_start = slot_start_of sizes
 
 -- where a slot's journal begins
 abbrev pub journal_start : ℕ → ℕ
@@ -48,16 +49,8 @@ journal_start slot = slot_start slot + checkpoint_room
 
 -- where a slot's journal stands
 abbrev pub journal_of : ℕ → Area
-journal_of slot = record { start = journal_start slot; room = journal_room }
-
--- the number behind a slot's gate
-abbrev pub epoch_at : ℕ → List ℕ → ℕ
-epoch_at slot image = from_be_bytes w64 (bytes_at image (slot_start slot + 1) 8)
+journal_of = journal_by sizes
 
 -- the layout that is described here
 abbrev pub version : List ℕ
-version = 0x30 ∷ 0x31 ∷ []
-
--- magic, version and the number of nodes
-abbrev pub header : ℕ → List ℕ
-header nodes = magic ++ version ++ to_be_bytes w16 nodes
+version = version_of_sizes sizes

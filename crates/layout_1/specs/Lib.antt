@@ -1,8 +1,9 @@
 pub mod Layout
 pub mod Records
+pub mod Form
+pub mod FormLaws
 pub mod Fronts
 pub mod State
 pub mod Standing
 pub mod InUse
-pub mod Slots
 pub mod Refusals

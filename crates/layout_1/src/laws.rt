@@ -3,6 +3,7 @@ ghost use Rattle.std.specs.Prelude.{◌≡◌};
 ghost use Rattle.layout_1.specs.Layout.{device_len, worn_limit, head_len, most_nodes, most_edges, checkpoint_room, journal_room, slot_room, version, slot_start, journal_start};
 ghost use Rattle.layout_1.specs.Standing.{OneState};
 
+use crate::form::Layout1;
 use crate::layout::{
     CHECKPOINT_ROOM, DEVICE_LEN, HEAD_LEN, JOURNAL_ROOM, MOST_EDGES, MOST_NODES, SLOT_ROOM,
     VERSION, WORN_LIMIT,
@@ -11,7 +12,9 @@ use crate::layout::{
 /// An image stands for at most one state.
 pub fn standing_law()
     ensures { OneState }
-{}
+{
+    layout_parts::standing_law::<Layout1>()
+}
 
 /// The constants are the numbers of the format.
 pub fn layout_law()

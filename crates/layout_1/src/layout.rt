@@ -1,9 +1,10 @@
 //! Where things stand on a device, and the limit of its numbers.
 
+use layout_parts::Sizes;
 pub use layout_parts::layout::{EDGE_LEN, HEAD_LEN, HEADER_LEN, MAGIC, OPEN_GATE, SLOTS_START};
 
 /// The greatest count of accepted changes, and the greatest epoch: 2^63 - 1.
-pub const WORN_LIMIT: u64 = 9_223_372_036_854_775_807;
+pub use requests::WORN_LIMIT;
 
 /// The layout that is described here.
 pub const VERSION: [u8; 2] = *b"01";
@@ -25,3 +26,13 @@ pub const SLOT_ROOM: usize = CHECKPOINT_ROOM + JOURNAL_ROOM;
 
 /// The number of bytes of a device.
 pub const DEVICE_LEN: usize = SLOTS_START + 2 * SLOT_ROOM;
+
+/// These numbers, as the reader of `layout_parts` takes them. There are no tickets.
+pub const SIZES: Sizes = Sizes {
+    digit: VERSION[1],
+    most_nodes: MOST_NODES,
+    most_edges: MOST_EDGES,
+    tickets_len: 0,
+    checkpoint_room: CHECKPOINT_ROOM,
+    journal_room: JOURNAL_ROOM,
+};

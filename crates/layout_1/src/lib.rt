@@ -3,7 +3,8 @@
 //! A device holds two slots. A slot is a checkpoint (an epoch, the count and the edges) and behind it a journal of the groups that were
 //! committed since. The open slot of greater epoch counts. What an image of a device means is one definition, `StandsFor state image`
 //! (specs/Standing.antt): the state that the checkpoint's edges and the fold of the journal's changes give. An image stands for at most
-//! one state ([`standing_law`]). Each place and size is a constant of [`layout`]; what both layouts share is `layout_parts`.
+//! one state ([`standing_law`]). Each place and size is a constant of [`layout`]. The definition, the reader and the proofs are those of
+//! `layout_parts`, over the form of this layout (specs/Form.antt).
 //!
 //! The contract that the layer above uses is that of [`load`]. It syncs, reads, and writes nothing:
 //!
@@ -23,8 +24,7 @@
 //! ```
 #![tactic(auto)]
 
-mod base;
-mod header;
+mod form;
 mod laws;
 pub mod layout;
 mod opening;
@@ -32,4 +32,4 @@ mod opening;
 pub use laws::{layout_law, standing_law};
 pub use layout::{DEVICE_LEN, WORN_LIMIT};
 pub use layout_parts::OpenRefused;
-pub use opening::{Loaded, journal_area, load};
+pub use opening::{Loaded, load};

@@ -2,156 +2,21 @@
 ghost use Rattle.std.specs.Prelude.{◌≡◌, ◌≢◌, ◌≤◌, ◌<◌, ◌+◌, ◌*◌, ◌^◌, ◌↔◌, ℕ, List, length, IsTrue, IfOk, IfErr, OnOk, OnErr, IsErrOf, Some, None};
 ghost use Rattle.disk_trait.specs.Disk.{IsSameDevice, IsSettled, OnlyRead};
 ghost use Rattle.layout_1.specs.Layout.{device_len, worn_limit, journal_of};
-ghost use Rattle.layout_1.specs.State.{after, fold};
+ghost use Rattle.layout_1.specs.State.{counted, after};
 ghost use Rattle.layout_1.specs.Standing.{StandsForNone};
 ghost use Rattle.layout_1.specs.Fronts.{HasThisVersion};
-ghost use Rattle.layout_1.specs.Refusals.{IsFormatFault, IsFrontFault, IsNoDeviceFault, TellsOf};
+ghost use Rattle.layout_1.specs.Refusals.{IsFormatFault, IsNoDeviceFault, TellsOf};
 ghost use Rattle.layout_1.specs.InUse.{IsInUse};
-ghost use Rattle.layout_1.specs.Slots.{HasBase, LeadsNowhere};
-ghost use Rattle.layout_1.specs.Records.{entries_of, Spells};
+ghost use Rattle.layout_1.specs.Records.{entries_of};
 
-use crate::base::read_base;
-use crate::header::read_header;
-use crate::layout::{
-    CHECKPOINT_ROOM, JOURNAL_ROOM, MOST_EDGES, SLOT_ROOM, SLOTS_START, WORN_LIMIT,
-};
+use crate::form::Layout1;
 use disk_trait::Disk;
-use graph_edits::{Change, EditRefused, Graph};
-use journal::{Area, Journal, ScanRefused};
-use layout_parts::{Chosen, OpenRefused, choose_slot};
+use graph_edits::Change;
+use layout_parts::OpenRefused;
 use std::alloc::Global;
-use std::snapshot::Snapshot;
 
-/// What stands on a device: the state, and the slot, the checkpoint and the journal that it comes from.
-#[derive(Drop)]
-pub struct Loaded {
-    /// The journal of the slot in use.
-    pub journal: Journal<Change>,
-    /// The slot in use, 0 or 1.
-    pub slot: usize,
-    /// Its epoch.
-    pub epoch: u64,
-    /// The other slot's gate byte.
-    pub other_gate: u8,
-    /// The count that the checkpoint in use holds.
-    pub base_count: u64,
-    /// The network that it holds, for contracts alone.
-    pub base: Snapshot<Graph>,
-    /// How many changes were accepted, with those of the journal.
-    pub count: u64,
-    /// The network that they made.
-    pub graph: Graph,
-}
-
-/// Where a slot's journal stands.
-pub fn journal_area(slot: usize) -> Area
-    requires { slot < 2 }
-    ensures { result ≡ journal_of slot }
-{
-    Area {
-        start: SLOTS_START + SLOT_ROOM * slot + CHECKPOINT_ROOM,
-        room: JOURNAL_ROOM,
-    }
-}
-
-// Makes the changes in order, each once.
-fn apply_all(graph: &mut Graph, changes: &[Change]) -> Result<(), OpenRefused>
-    ensures ok { OnOk result (fold graph.old changes.now ≡ Some graph.new) }
-    ensures damaged { IsErrOf result OpenRefused.Damaged → fold graph.old changes.now ≡ None }
-    ensures others { ¬ (IsErrOf result OpenRefused.NotFormatted) × ¬ (IsErrOf result OpenRefused.BadVersion) × ¬ (IsErrOf result OpenRefused.Device) }
-    ensures later { IfErr result (λ e. ¬ (IsFrontFault e)) }
-{
-    for change in changes {
-        match graph.apply_within(change, MOST_EDGES) {
-            Ok(()) => {}
-            Err(EditRefused::Op { .. }) => return Err(OpenRefused::Damaged),
-            Err(EditRefused::Memory) => return Err(OpenRefused::Memory),
-        }
-    }
-    Ok(())
-}
-
-// The store's parts, once the slot in use and its checkpoint are read.
-fn load_records<D: Disk>(
-    alloc: Global,
-    disk: &mut D,
-    slot: usize,
-    epoch: u64,
-    other_gate: u8,
-    base_count: u64,
-    base: Graph,
-) -> Result<Loaded, OpenRefused>
-    requires long { length (D.view disk.old).content ≡ device_len }
-    requires slot { slot < 2 }
-    requires count { base_count ≤ worn_limit }
-    ensures ran { IsSameDevice (D.view disk.old) (D.view disk.new) }
-    ensures no_failure { OnOk result ((D.view disk.new).failures ≡ (D.view disk.old).failures) }
-    ensures reads { IsTrue (D.view disk.old).keeps_model → OnlyRead (D.view disk.old) (D.view disk.new) }
-    ensures served { IfErr result (λ e. IsNoDeviceFault e → (D.view disk.new).failures ≡ (D.view disk.old).failures) }
-    ensures device { IsErrOf result OpenRefused.Device → (D.view disk.old).failures < (D.view disk.new).failures }
-    ensures later { IfErr result (λ e. ¬ (IsFrontFault e)) }
-    ensures slot { IfOk result (λ l. (l.slot ≡ slot) × (l.epoch ≡ epoch) × (l.other_gate ≡ other_gate) × (l.base_count ≡ base_count) × (l.base.value ≡ base)) }
-    ensures area { IfOk result (λ l. l.journal.area ≡ journal_of slot) }
-    ensures fits { IfOk result (λ l. l.count ≤ worn_limit) }
-    ensures folds { IfOk result (λ l. after (record { count = base_count; graph = base }) (entries_of l.journal.groups) ≡ Some (record { count = l.count; graph = l.graph })) }
-    ensures spells { IsTrue (D.view disk.old).keeps_model → IfOk result (λ l. Spells (journal_of slot) l.journal.groups (D.view disk.old).content) }
-    ensures refused { IsTrue (D.view disk.old).keeps_model → IfErr result (λ e. IsFormatFault e → LeadsNowhere slot (record { count = base_count; graph = base }) (D.view disk.old).content) }
-{
-    let (journal, changes) = match Journal::scan(alloc, disk, journal_area(slot)) {
-        Ok(scanned) => scanned,
-        Err(ScanRefused::Damaged) => return Err(OpenRefused::Damaged),
-        Err(ScanRefused::Device) => return Err(OpenRefused::Device),
-        Err(ScanRefused::Memory) => return Err(OpenRefused::Memory),
-    };
-    if WORN_LIMIT - base_count < changes.len() as u64 {
-        return Err(OpenRefused::Damaged);
-    }
-    let snapshot = Snapshot::of(&base);
-    let mut graph = base;
-    match apply_all(&mut graph, &changes) {
-        Ok(()) => {}
-        Err(refused) => return Err(refused),
-    }
-    Ok(Loaded {
-        journal,
-        slot,
-        epoch,
-        other_gate,
-        base_count,
-        base: snapshot,
-        count: base_count + changes.len() as u64,
-        graph,
-    })
-}
-
-// The slot in use, and the network of its checkpoint.
-fn read_checkpoint<D: Disk>(alloc: Global, disk: &mut D) -> Result<(Chosen, Graph), OpenRefused>
-    ensures ran { IsSameDevice (D.view disk.old) (D.view disk.new) }
-    ensures no_failure { OnOk result ((D.view disk.new).failures ≡ (D.view disk.old).failures) }
-    ensures reads { IsTrue (D.view disk.old).keeps_model → OnlyRead (D.view disk.old) (D.view disk.new) }
-    ensures served { IfErr result (λ e. IsNoDeviceFault e → (D.view disk.new).failures ≡ (D.view disk.old).failures) }
-    ensures device { IsErrOf result OpenRefused.Device → (D.view disk.old).failures < (D.view disk.new).failures }
-    ensures long { OnOk result (length (D.view disk.old).content ≡ device_len) }
-    ensures slot { IfOk result (λ r. r.0.slot < 2) }
-    ensures count { IfOk result (λ r. r.0.head.count ≤ worn_limit) }
-    ensures has_base { IsTrue (D.view disk.old).keeps_model → IfOk result (λ r. HasBase r.0.slot r.0.head.epoch r.0.other_gate (record { count = r.0.head.count; graph = r.1 }) (D.view disk.old).content) }
-    ensures this_version { IsTrue (D.view disk.old).keeps_model → OnOk result (HasThisVersion (D.view disk.old).content) }
-    ensures tells { IsTrue (D.view disk.old).keeps_model → IfErr result (λ e. TellsOf e (D.view disk.old).content) }
-    ensures refused { IsTrue (D.view disk.old).keeps_model → IfErr result (λ e. IsFormatFault e → StandsForNone (D.view disk.old).content) }
-{
-    let nodes = match read_header(disk) {
-        Ok(nodes) => nodes,
-        Err(refused) => return Err(refused),
-    };
-    let chosen = match choose_slot(disk, SLOT_ROOM) {
-        Ok(chosen) => chosen,
-        Err(refused) => return Err(refused),
-    };
-    match read_base(alloc, disk, nodes, chosen) {
-        Ok(base) => Ok((chosen, base)),
-        Err(refused) => Err(refused),
-    }
-}
+/// What stands on a device: the state, and the slot, the checkpoint and the journal that it comes from. There are no tickets.
+pub type Loaded = layout_parts::Loaded<Change, ()>;
 
 /// What stands on a device. It syncs, and writes nothing.
 pub fn load<D: Disk>(alloc: Global, disk: &mut D) -> Result<Loaded, OpenRefused>
@@ -164,31 +29,12 @@ pub fn load<D: Disk>(alloc: Global, disk: &mut D) -> Result<Loaded, OpenRefused>
     ensures slot { IfOk result (λ l. l.slot < 2) }
     ensures area { IfOk result (λ l. l.journal.area ≡ journal_of l.slot) }
     ensures fits { IfOk result (λ l. l.count ≤ worn_limit) }
-    ensures folds { IfOk result (λ l. after (record { count = l.base_count; graph = l.base.value }) (entries_of l.journal.groups) ≡ Some (record { count = l.count; graph = l.graph })) }
-    ensures in_use { IsTrue (D.view disk.old).keeps_model → IfOk result (λ l. IsInUse l.slot l.epoch l.other_gate (record { count = l.base_count; graph = l.base.value }) l.journal.groups (D.view disk.old).content) }
+    ensures folds { IfOk result (λ l. after (counted l.base_count l.base.value) (entries_of l.journal.groups) ≡ Some (counted l.count l.graph)) }
+    ensures in_use { IsTrue (D.view disk.old).keeps_model → IfOk result (λ l. IsInUse l.slot l.epoch l.other_gate (counted l.base_count l.base.value) l.journal.groups (D.view disk.old).content) }
     ensures settled { IsTrue (D.view disk.old).keeps_model → OnOk result (IsSettled (D.view disk.new)) }
     ensures this_version { IsTrue (D.view disk.old).keeps_model → OnOk result (HasThisVersion (D.view disk.old).content) }
     ensures tells { IsTrue (D.view disk.old).keeps_model → IfErr result (λ e. TellsOf e (D.view disk.old).content) }
     ensures refused { IsTrue (D.view disk.old).keeps_model → IfErr result (λ e. IsFormatFault e → StandsForNone (D.view disk.old).content) }
 {
-    match disk.sync() {
-        Ok(()) => {}
-        Err(_) => return Err(OpenRefused::Device),
-    }
-    let (chosen, base) = match read_checkpoint(alloc, disk) {
-        Ok(read) => read,
-        Err(refused) => return Err(refused),
-    };
-    match load_records(
-        alloc,
-        disk,
-        chosen.slot,
-        chosen.head.epoch,
-        chosen.other_gate,
-        chosen.head.count,
-        base,
-    ) {
-        Ok(loaded) => Ok(loaded),
-        Err(refused) => Err(refused),
-    }
+    layout_parts::load::<Layout1, D>(alloc, disk)
 }

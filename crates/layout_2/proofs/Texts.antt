@@ -1,25 +1,16 @@
 -- The sizes of a checkpoint's text.
-use Rattle.std.proofs.Common.{◌≡◌, ℕ, ◌+◌, ◌*◌, ◌<◌, List, [], ◌∷◌, ◌++◌, length, refl, ap, ◌∙◌, arith, length-append}
-use Rattle.std.specs.List.{flat_map}
-use Rattle.std.specs.Int.{w16, w32, w64, to_be_bytes}
-use Rattle.std.proofs.lemmas.List.Concat.{flat_map-cons}
+use Rattle.std.proofs.Common.{◌≡◌, ℕ, ◌+◌, ◌*◌, ◌<◌, length, ◌∙◌, arith}
 use Rattle.std.specs.FinMap.{entries}
+use Rattle.layout_parts.proofs.Texts as parts
 use Rattle.layout_2.specs.Layout.{checkpoint_room, tickets_len, sessions}
-use Rattle.layout_2.specs.State.{State, edge_text, tickets_text, state_text, checkpoint_text, IsLawful}
-use Rattle.layout_2.proofs.TicketTexts.{length_tickets}
-
-pub length_edges : (es : List ((ℕ × ℕ) × ℕ)) → length (flat_map edge_text es) ≡ 8 * length es
-length_edges [] = refl
-length_edges (e ∷ es) = ap length (flat_map-cons edge_text e es) ∙ omega (arith, length-append (edge_text e) (flat_map edge_text es), length_edges es)
+use Rattle.layout_2.specs.State.{State, checkpoint_text, IsLawful}
+use Rattle.layout_2.specs.Form.{layout_form}
+use Rattle.layout_2.specs.FormLaws.{layout_is_form}
+use Rattle.layout_2.specs.TicketTexts.{tickets_wide}
 
 pub length_text : (epoch : ℕ) (state : State) → length state.tickets ≡ sessions → length (checkpoint_text epoch state) ≡ 22 + (tickets_len + 8 * length (entries state.graph.edges))
-length_text epoch state wide =
-    let es = entries state.graph.edges in
-    let five = tickets_text state.tickets ++ flat_map edge_text es in
-    let four = to_be_bytes w32 (length es) ++ five in
-    let six = to_be_bytes w16 state.graph.nodes ++ four in
-    omega (arith, length-append (to_be_bytes w64 epoch) (state_text state), length-append (to_be_bytes w64 state.count) six, length-append (to_be_bytes w16 state.graph.nodes) four, length-append (to_be_bytes w32 (length es)) five, length-append (tickets_text state.tickets) (flat_map edge_text es), length_tickets state.tickets, length_edges es, wide)
+length_text epoch state wide = parts.length_text layout_form epoch state (tickets_wide state.tickets wide)
 
 -- it fits in its area
 pub text_fits : (epoch : ℕ) (state : State) → length state.tickets ≡ sessions → IsLawful state.graph → length (checkpoint_text epoch state) < checkpoint_room
-text_fits epoch state wide lawful = omega (arith, length_text epoch state wide, lawful.few_edges)
+text_fits epoch state wide lawful = parts.text_fits layout_form layout_is_form epoch state (tickets_wide state.tickets wide) lawful

@@ -1,5 +1,9 @@
 pub mod Layout
 pub mod Records
+pub mod Tickets
+pub mod TicketTexts
+pub mod Form
+pub mod FormLaws
 pub mod Fronts
 pub mod State
 pub mod Standing

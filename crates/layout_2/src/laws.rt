@@ -3,6 +3,7 @@ ghost use Rattle.std.specs.Prelude.{◌≡◌};
 ghost use Rattle.layout_2.specs.Layout.{device_len, worn_limit, sessions, magic, header_len, slots_start, head_len, tickets_len, edges_start, most_nodes, most_edges, checkpoint_room, journal_room, slot_room, version, slot_start, journal_start};
 ghost use Rattle.layout_2.specs.Standing.{OneState};
 
+use crate::form::Layout2;
 use crate::layout::{
     CHECKPOINT_ROOM, CLOSED_GATE, DEVICE_LEN, EDGES_START, FIRST_EPOCH, HEAD_LEN, HEADER_LEN,
     JOURNAL_ROOM, MAGIC, MOST_EDGES, MOST_NODES, OPEN_GATE, SLOT_ROOM, SLOTS_START, TICKETS_LEN,
@@ -13,7 +14,9 @@ use requests::SESSIONS;
 /// An image stands for at most one state.
 pub fn standing_law()
     ensures { OneState }
-{}
+{
+    layout_parts::standing_law::<Layout2>()
+}
 
 /// The constants are the numbers of the format.
 pub fn layout_law()

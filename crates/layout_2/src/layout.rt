@@ -1,5 +1,6 @@
 //! Where things stand on a device of layout 2, and the limits of its numbers.
 
+use layout_parts::Sizes;
 pub use layout_parts::layout::{EDGE_LEN, HEAD_LEN, HEADER_LEN, MAGIC, OPEN_GATE, SLOTS_START};
 use requests::SESSIONS;
 
@@ -41,3 +42,13 @@ pub const SLOT_ROOM: usize = CHECKPOINT_ROOM + JOURNAL_ROOM;
 
 /// The number of bytes of a device.
 pub const DEVICE_LEN: usize = SLOTS_START + 2 * SLOT_ROOM;
+
+/// These numbers, as the reader of `layout_parts` takes them.
+pub const SIZES: Sizes = Sizes {
+    digit: VERSION[1],
+    most_nodes: MOST_NODES,
+    most_edges: MOST_EDGES,
+    tickets_len: TICKETS_LEN,
+    checkpoint_room: CHECKPOINT_ROOM,
+    journal_room: JOURNAL_ROOM,
+};

@@ -5,7 +5,7 @@
 //! one definition, `StandsFor state image` (specs/Standing.antt): the state that the checkpoint and the fold of the journal's requests
 //! give, each request in turn: its session is there, and its ticket is above the session's last one and within the limit. An image stands
 //! for at most one state ([`standing_law`]). Each place and size is a constant of [`layout`], proved equal to the format's number by
-//! [`layout_law`]; what both layouts share is `layout_parts`.
+//! [`layout_law`]. The definition, the reader and the proofs are those of `layout_parts`, over the form of this layout (specs/Form.antt).
 //!
 //! The contract that the layer above uses is that of [`load`]. It syncs, reads, and writes nothing:
 //!
@@ -24,8 +24,7 @@
 //! ```
 #![tactic(auto)]
 
-mod base;
-mod header;
+mod form;
 mod laws;
 pub mod layout;
 mod opening;

@@ -5,3 +5,9 @@ pub mod Maps
 pub mod ReadLemmas
 pub mod HeadLemmas
 pub mod EdgeLemmas
+pub mod Folds
+pub mod Texts
+pub mod OneStateLemmas
+pub mod NewestLemmas
+pub mod BaseLemmas
+pub mod OpenLemmas

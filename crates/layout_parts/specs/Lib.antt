@@ -2,3 +2,8 @@ pub mod Ascending
 pub mod EdgeTexts
 pub mod Refusals
 pub mod Heads
+pub mod Sizes
+pub mod Forms
+pub mod State
+pub mod Standing
+pub mod Slots

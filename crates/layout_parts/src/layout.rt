@@ -1,4 +1,4 @@
-//! What both layouts have in common: places and sizes at the front of a device and of a slot.
+//! What all layouts have in common: places and sizes at the front of a device and of a slot.
 
 /// Magic, version and number of nodes.
 pub const HEADER_LEN: usize = 10;

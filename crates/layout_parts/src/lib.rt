@@ -1,24 +1,47 @@
-//! What the readers of both layouts share: the front of a device, the heads of its two slots, the edges of a
-//! checkpoint, and why a device can't be opened.
+//! What every layout has in common: what an image of a device stands for, and reading it.
 //!
-//! A device begins with magic, version and number of nodes. Two slots stand one behind the other; a slot begins with a
-//! gate byte, an epoch, a count, a number of nodes and a number of edges. The open slot of greater epoch is in use
-//! ([`choose_slot`]). Edges ascend, 8 bytes each ([`read_edges`]). How large a slot is, what stands between its head and
-//! its edges, and what all of it means is the layout's: `layout_1` and `layout_2` stand on this crate.
+//! A device begins with magic, version and number of nodes. Two slots stand one behind the other. A slot is a checkpoint (a gate
+//! byte, an epoch, a count, a number of nodes and of edges, tickets, and the edges) and behind it a journal of the groups that were
+//! committed since. The open slot of greater epoch is in use ([`choose_slot`]). Edges ascend, 8 bytes each ([`read_edges`]).
+//!
+//! A layout is what stands open in this: [`Sizes`] (digit of the version, limits, rooms), the entry of its journal, and its tickets. It
+//! is an impl of [`Layout`], which gives a form (specs/Forms.antt) and proves what a form keeps. What an image means is one definition over
+//! the form, `StandsFor form state image` (specs/Standing.antt): the state that the checkpoint and the entries of the journal give,
+//! each in turn. An image stands for at most one state ([`standing_law`]). `layout_1` and `layout_2` are two impls.
+//!
+//! The contract that the layers above use is that of [`load`]. It syncs, reads, and writes nothing:
+//!
+//! - Ok gives a count, a graph and tickets, and the slot and the journal that they come from: the content has that checkpoint and those
+//!   records (`IsInUse`), and the entries of the records are in turn and lead to the state.
+//! - NotFormatted comes only where the magic isn't there, BadVersion where it is and the version is another, Damaged and Memory where
+//!   both are right (specs/Refusals.antt); of the three faults of the format, each comes only where the content stands for no state.
+//!   Device comes only where a call of the device failed.
 //!
 //! ```text
-//! let chosen = choose_slot(&mut disk, room)?;      // slot 0 or 1, its head, and the other slot's gate byte
-//! let graph = read_edges(alloc, nodes, edges, &bytes)?;
+//! let loaded = load::<Layout2, _>(alloc, &mut disk)?;
+//! loaded.count     // 3
+//! loaded.graph     // after these changes
+//! loaded.slot      // 0 or 1
 //! ```
 #![tactic(auto)]
 
+mod base;
 mod edges;
+mod form;
+mod header;
 mod heads;
+mod laws;
 pub mod layout;
+mod opening;
 mod reading;
 mod refusals;
+mod sizes;
 
 pub use edges::read_edges;
+pub use form::Layout;
 pub use heads::{Chosen, SlotHead, choose_slot, u64_of};
+pub use laws::standing_law;
+pub use opening::{Loaded, load};
 pub use reading::{header_nodes, read_array, read_bytes};
 pub use refusals::OpenRefused;
+pub use sizes::Sizes;

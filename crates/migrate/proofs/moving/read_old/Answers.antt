@@ -1,5 +1,6 @@
 use Rattle.std.proofs.Common.{subst, sym}
 use Rattle.layout_1.specs.Refusals.{IsFormatFault, TellsOf}
+use Rattle.layout_1.specs.State.{counted}
 use Rattle.migrate.proofs.moving.read_old.Goals as goal
 
 pub returns-in-Ok-clause-ok : goal.returns-in-Ok-clause-ok
@@ -8,11 +9,12 @@ returns-in-Ok-clause-ok g c model =
     record {
       slot = l.slot;
       epoch = l.epoch;
-      base = record { count = l.base_count; graph = l.base.value };
+      base = counted l.base_count l.base.value;
       groups = l.journal.groups;
       is_slot = c.in-Ok.ensures.slot;
       by = (c.in-Ok.ensures.in_use model).stands;
       folds = c.in-Ok.ensures.folds;
+      in_turn = tt;
       count_fits = c.in-Ok.ensures.fits;
     }
 

@@ -1,6 +1,0 @@
-pub mod Folds
-pub mod Texts
-pub mod OneStateLemmas
-pub mod HeadLemmas
-pub mod BaseLemmas
-pub mod OpenLemmas

@@ -1,5 +1,0 @@
-use Rattle.layout_1.proofs.OneStateLemmas.{one_state}
-use Rattle.layout_1.proofs.laws.standing_law.Goals as goal
-
-pub returns : goal.returns
-returns c = one_state

@@ -1,0 +1,16 @@
+-- The form of layout 1: its journal lists accepted changes, and its checkpoints hold no tickets.
+use Rattle.std.specs.Prelude.{ℕ, List, []}
+use Rattle.journal.specs.ChangeForm.{change_form}
+use Rattle.layout_parts.specs.Forms.{LayoutForm}
+use Rattle.layout_1.specs.Layout.{sizes}
+
+-- what the reader and the laws of layout_parts are told of layout 1
+abbrev pub layout_form : LayoutForm change_form (Unit {0})
+layout_form = record {
+  sizes = sizes;
+  change_of = λ change. change;
+  tickets_text = λ none. [];
+  AreTickets = λ none. Unit {0};
+  tickets_after = λ none changes. none;
+  AreInTurn = λ none changes. Unit {0};
+}
