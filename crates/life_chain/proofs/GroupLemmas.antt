@@ -1,162 +1,18 @@
 -- What events and replies say of the committer fits what the machine has come to.
-use Rattle.std.proofs.Common.{arith, ◌≡◌, ◌<◌, ◌≤◌, ⊎_elim, inl, ◌+◌, ◌++◌, ◌||◌, ℕ, Bool, true, false, cond, nat_le, is_some, List, [], ◌∷◌, length, Option, Some, None, slice_get, Result, Ok, Err, refl, sym, ap, ◌∙◌, subst}
+use Rattle.std.proofs.Common.{arith, ◌≡◌, ◌<◌, ◌≤◌, ⊎_elim, ◌+◌, ◌++◌, ℕ, Bool, true, false, cond, nat_le, List, [], ◌∷◌, refl, sym, ap, ◌∙◌, subst}
 use Rattle.std.proofs.lemmas.Bool.Decides.{nat_tests}
-use Rattle.requests.specs.Tickets.{last_of}
-use Rattle.requests.specs.declared.request.Request.{Request}
 use Rattle.layout_2.specs.State.{State}
-use Rattle.node_table.specs.declared.packet.Packet.{Packet}
-use Rattle.node_table.specs.declared.packet.Move.{Move}
-use Rattle.node_table.specs.declared.packet.Move.TheVariants as packets
-use Rattle.generations.specs.declared.posting.Notice.{Notice}
-use Rattle.group_commit.specs.Limits.{most_held}
-use Rattle.group_commit.specs.declared.refused.DeskRefused.TheVariants.{Device, Down, Worn}
-use Rattle.forwarders.specs.declared.refused.Refused.{Refused}
-use Rattle.forwarders.specs.Answers.{hop_at}
-use Rattle.intake.specs.declared.outcome.SubmitRefused.{SubmitRefused}
-use Rattle.intake.specs.declared.outcome.SubmitRefused.TheVariants.{QueueFull}
-use Rattle.intake.specs.Outcomes.{refusal_on}
-use Rattle.event_runs.specs.declared.session.Session.{Session}
+use Rattle.group_commit.specs.declared.refused.DeskRefused.TheVariants.{Device, Worn}
 use Rattle.event_runs.specs.declared.event.Event.{Event}
-use Rattle.event_runs.specs.declared.event.Event.TheVariants.{Submit, Look, Take, Commit, Post, Rebuild, Launch, Hop}
+use Rattle.event_runs.specs.declared.event.Event.TheVariants.{Commit}
 use Rattle.event_runs.specs.declared.reply.Reply.{Reply}
-use Rattle.event_runs.specs.declared.reply.Reply.TheVariants.{Submitted, NotSubmitted, Taken, Committed, NotCommitted, Rebuilt, NotRebuilt, Idle, NoActor, Memory}
-use Rattle.event_runs.specs.Trips.{Trip, launch_by}
-use Rattle.event_runs.specs.Machines.{Machine, begun, held, waiting, board_at, let_in}
-use Rattle.event_runs.specs.Answers.{Answer, answer, unless_refused, submit_by, submit, look_by, look, take_by, take_one, post_by, post, CommitAnswers, IsBuilt, RebuildAnswers, sees, looked, launch_as, launch, hop_as, hop_by, hop, OrMemory, Answers}
+use Rattle.event_runs.specs.declared.reply.Reply.TheVariants.{Taken, Committed, NotCommitted, Rebuilt, NotRebuilt, Memory}
+use Rattle.event_runs.specs.Machines.{Machine, begun}
+use Rattle.event_runs.specs.Answers.{RebuildAnswers}
 use Rattle.run_laws.specs.History.{Whole, EndBy}
 use Rattle.run_laws.specs.Replies.{RunRoutes}
 use Rattle.life_chain.specs.Groups.{Given, nothing_given, with_group, given_after, given_by}
-
--- what the committer has come to in a machine
-abbrev pub come_to : Machine → Given
-come_to m = record { taken = m.taken; done = m.done; groups = m.groups; down = m.down }
-
--- after a reply, with the groups that a machine has: none of a commit that had no memory
-abbrev stored_after : Given → Reply → Given
-stored_after g (Taken session ticket) = record g { taken = g.taken + 1 }
-stored_after g (Committed accepted) = record (with_group g) { done = g.taken }
-stored_after g (NotCommitted Device) = record (with_group g) { down = true }
-stored_after g (NotCommitted Worn) = with_group g
-stored_after g reply = g
-
--- a reply says so
-abbrev Gives : Machine → Reply → Machine → Type 0
-Gives m reply n = stored_after (come_to m) reply ≡ come_to n
-
-same : (m n : Machine) → n ≡ m → come_to m ≡ come_to n
-same m n e = sym (ap (λ (x : Machine). come_to x) e)
-
--- what an answer does to it, or Memory
-or_memory : (a : Answer) (m : Machine) (reply : Reply) (n : Machine) → OrMemory a m reply n → Gives m a.reply a.after → Gives m reply n
-or_memory a m reply n h will =
-    ⊎_elim (λ (x : (reply ≡ a.reply) × (n ≡ a.after)). subst (λ (y : Reply × Machine). Gives m y.0 y.1) (λ i. (sym x.0 i, sym x.1 i)) will)
-    (λ (x : (reply ≡ Memory) × (n ≡ m)). subst (λ (y : Reply). Gives m y n) (sym x.0) (same m n x.1)) h
-
--- ---- each event
-
-submit_gives : (m : Machine) (r : Request) → Gives m (submit m r).reply (submit m r).after
-submit_gives m r = by (slice_get m.sessions r.session)
-  where
-    queue : (x : Session) (full : Bool) → Gives m (cond full (answer (NotSubmitted QueueFull) m) (answer (Submitted r.ticket) (let_in m (record { seen = x.seen; last = Some r.ticket }) r))).reply
-        (cond full (answer (NotSubmitted QueueFull) m) (answer (Submitted r.ticket) (let_in m (record { seen = x.seen; last = Some r.ticket }) r))).after
-    queue x true = refl
-    queue x false = refl
-
-    refused : (x : Session) (o : Option SubmitRefused) → Gives m (unless_refused m x r o).reply (unless_refused m x r o).after
-    refused x (Some e) = refl
-    refused x None = queue x (nat_le m.capacity (length (waiting m)))
-
-    by : (o : Option Session) → Gives m (submit_by m r o).reply (submit_by m r o).after
-    by None = refl
-    by (Some x) = refused x (refusal_on (board_at m x.seen) r.session (last_of m.starts r.session) x.last r.ticket)
-
-look_gives : (m : Machine) (s at : ℕ) → Gives m (look m s at).reply (look m s at).after
-look_gives m s at = by (slice_get m.sessions s)
-  where
-    by : (o : Option Session) → Gives m (look_by m s at o).reply (look_by m s at o).after
-    by None = refl
-    by (Some x) = refl
-
-take_gives : (m : Machine) → Gives m (take_one m).reply (take_one m).after
-take_gives m = by (slice_get m.asked m.taken)
-  where
-    free : (r : Request) (full : Bool) → Gives m (cond full (answer Idle m) (answer (Taken r.session r.ticket) (record m { taken = m.taken + 1 }))).reply
-        (cond full (answer Idle m) (answer (Taken r.session r.ticket) (record m { taken = m.taken + 1 }))).after
-    free r true = refl
-    free r false = refl
-
-    by : (o : Option Request) → Gives m (take_by m o).reply (take_by m o).after
-    by None = refl
-    by (Some r) = free r (is_some m.due || nat_le most_held (length (held m)))
-
-post_gives : (m : Machine) → Gives m (post m).reply (post m).after
-post_gives m = by m.due
-  where
-    by : (o : Option Notice) → Gives m (post_by m o).reply (post_by m o).after
-    by None = refl
-    by (Some notice) = refl
-
-commit_gives : (m : Machine) (reply : Reply) (n : Machine) → CommitAnswers m reply n → Gives m reply n
-commit_gives m Idle n h = same m n h.1
-commit_gives m (Committed accepted) n h = sym (ap (λ (x : Machine). come_to x) h.3)
-commit_gives m (NotCommitted Device) n h = sym (ap (λ (x : Machine). come_to x) h.2)
-commit_gives m (NotCommitted Down) n h = same m n h.2
-commit_gives m (NotCommitted Worn) n h = sym (ap (λ (x : Machine). come_to x) h.2)
-commit_gives m Memory n h = same m n h.2
-commit_gives m reply n h = absurd h
-
--- what was due is posted
-post_same : (m : Machine) → come_to m ≡ come_to (post m).after
-post_same m = by m.due
-  where
-    by : (o : Option Notice) → come_to m ≡ come_to (post_by m o).after
-    by None = refl
-    by (Some notice) = refl
-
-built_gives : (words : List ℕ) (m n : Machine) → IsBuilt words m n → come_to m ≡ come_to n
-built_gives words m n h = ⊎_elim (λ x. same m n x.1) (λ x. sym (ap (λ (y : Machine). come_to y) x.1.1.1)) h
-
-rebuild_gives : (words : List ℕ) (m : Machine) (reply : Reply) (n : Machine) → RebuildAnswers words m reply n → Gives m reply n
-rebuild_gives words m NotRebuilt n h = same m n h.1
-rebuild_gives words m (Rebuilt generation) n h = post_same m ∙ built_gives words (post m).after n h.2
-rebuild_gives words m Memory n h = ⊎_elim (λ (e : n ≡ m). same m n e) (λ (e : n ≡ (post m).after). post_same m ∙ same (post m).after n e) h.1
-rebuild_gives words m reply n h = absurd h
-
-launch_gives : (m : Machine) (u v at : ℕ) → Gives m (launch m u v at).reply (launch m u v at).after
-launch_gives m u v at = by (launch_by (board_at m (sees m at)).shelf u v)
-  where
-    by : (o : Result Packet Refused) → Gives m (launch_as (looked m at) u v o).reply (launch_as (looked m at) u v o).after
-    by (Ok packet) = refl
-    by (Err refused) = refl
-
-hop_gives : (m : Machine) (i at : ℕ) → Gives m (hop m i at).reply (hop m i at).after
-hop_gives m i at = by (slice_get m.ways i)
-  where
-    moved : (way : Trip) (o : Result Move Refused) → Gives m (hop_as (looked m at) i way o).reply (hop_as (looked m at) i way o).after
-    moved way (Ok packets.Delivered) = refl
-    moved way (Ok (packets.Forward port next packet)) = refl
-    moved way (Err e) = refl
-
-    there : (way : Trip) (b : Bool) → Gives m (cond b (hop_as (looked m at) i way (hop_at way.at way.packet (board_at m (sees m at)).shelf)) (answer NoActor m)).reply
-        (cond b (hop_as (looked m at) i way (hop_at way.at way.packet (board_at m (sees m at)).shelf)) (answer NoActor m)).after
-    there way true = moved way (hop_at way.at way.packet (board_at m (sees m at)).shelf)
-    there way false = refl
-
-    by : (o : Option Trip) → Gives m (hop_by m i at o).reply (hop_by m i at o).after
-    by None = refl
-    by (Some way) = there way way.there
-
-gives : (event : Event) (m : Machine) (reply : Reply) (n : Machine) → Answers event m reply n → Gives m reply n
-gives (Submit session ticket change) m reply n h =
-    let r : Request = record { session = session; ticket = ticket; change = change } in
-    or_memory (submit m r) m reply n h (submit_gives m r)
-gives (Look session at) m reply n h = or_memory (look m session at) m reply n h (look_gives m session at)
-gives Take m reply n h = or_memory (take_one m) m reply n (inl h) (take_gives m)
-gives Commit m reply n h = commit_gives m reply n h
-gives Post m reply n h = or_memory (post m) m reply n h (post_gives m)
-gives (Rebuild words) m reply n h = rebuild_gives words.items m reply n h
-gives (Launch from to at) m reply n h = or_memory (launch m from to at) m reply n h (launch_gives m from to at)
-gives (Hop packet at) m reply n h = or_memory (hop m packet at) m reply n h (hop_gives m packet at)
+use Rattle.life_chain.proofs.EventLemmas.{Tally, come_to, stored_after, gives, rebuild_keeps}
 
 -- ---- the groups that are told of
 
@@ -274,23 +130,23 @@ run_fits first m [] [] n told f run = subst (λ (x : Machine). Fits (come_to x) 
 run_fits first m [] (reply ∷ replies) n told f run = absurd run
 run_fits first m (event ∷ events) [] n told f run = absurd run
 run_fits first m (event ∷ events) (reply ∷ replies) n told f run =
-    run_fits first run.0 events replies n (given_after told event reply) (subst (λ (g : Given). Fits g (given_after told event reply)) (gives event m reply run.0 run.1.0) (reply_fits event reply (come_to m) told f)) run.1.1.1
+    run_fits first run.0 events replies n (given_after told event reply) (subst (λ (g : Given). Fits g (given_after told event reply)) (ap (λ (t : Tally). t.committer) (gives event m reply run.0 run.1.0)) (reply_fits event reply (come_to m) told f)) run.1.1.1
 
 -- a life's rebuild, at its beginning, asks and takes nothing
 pub nothing_yet : (first : State) (capacity n : ℕ) (words : List ℕ) (reply : Reply) (built : Machine) → RebuildAnswers words (begun capacity n first false) reply built → (built.asked ≡ []) × (come_to built ≡ nothing_given)
-nothing_yet first capacity n words reply built is = by reply is
+nothing_yet first capacity n words reply built is = (asked reply is, sym (ap (λ (t : Tally). t.committer) (rebuild_keeps words start reply built is)))
   where
     start : Machine
     start = begun capacity n first false
 
-    is_start : built ≡ start → (built.asked ≡ []) × (come_to built ≡ nothing_given)
-    is_start e = (ap (λ (x : Machine). x.asked) e, ap (λ (x : Machine). come_to x) e)
+    as_it_was : built ≡ start → built.asked ≡ []
+    as_it_was e = ap (λ (x : Machine). x.asked) e
 
-    by : (r : Reply) → RebuildAnswers words start r built → (built.asked ≡ []) × (come_to built ≡ nothing_given)
-    by NotRebuilt h = is_start h.1
-    by (Rebuilt generation) h = ⊎_elim (λ x. is_start x.1) (λ x. (ap (λ (y : Machine). y.asked) x.1.1.1, ap (λ (y : Machine). come_to y) x.1.1.1)) h.2
-    by Memory h = ⊎_elim (λ (e : built ≡ start). is_start e) (λ (e : built ≡ start). is_start e) h.1
-    by r h = absurd h
+    asked : (r : Reply) → RebuildAnswers words start r built → built.asked ≡ []
+    asked NotRebuilt h = as_it_was h.1
+    asked (Rebuilt generation) h = ⊎_elim (λ x. as_it_was x.1) (λ x. ap (λ (y : Machine). y.asked) x.1.1.1) h.2
+    asked Memory h = ⊎_elim (λ (e : built ≡ start). as_it_was e) (λ (e : built ≡ start). as_it_was e) h.1
+    asked r h = absurd h
 
 -- so what events and replies tell of a life fits what is stored at its end
 pub life_fits : (first : State) (capacity n : ℕ) (words : List ℕ) (reply : Reply) (built : Machine) (events : List Event) (replies : List Reply) (m : Machine)

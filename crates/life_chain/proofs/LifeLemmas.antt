@@ -33,7 +33,8 @@ use Rattle.life_chain.specs.declared.report.LifeReport.{LifeReport}
 use Rattle.life_chain.specs.Groups.{nothing_given, given_by}
 use Rattle.life_chain.specs.Reports.{opened_of, taken_of, ended_with}
 use Rattle.life_chain.specs.Lived.{IsLived, IsServed, IsAnswered, IsRunOn, IsSafe, IsSafeAtAnyMoment}
-use Rattle.life_chain.proofs.GroupLemmas.{come_to, Fits, nothing_yet, life_fits}
+use Rattle.life_chain.proofs.EventLemmas.{come_to}
+use Rattle.life_chain.proofs.GroupLemmas.{Fits, nothing_yet, life_fits}
 
 -- ---- taken apart
 

@@ -1,28 +1,19 @@
 -- What a text says, a line more at a time.
-use Rattle.std.proofs.Common.{arith, ◌≡◌, ◌<◌, ◌+◌, ◌-◌, ◌∙◌, sym, ap, ap₂, refl, ℕ, zero, suc, List, [], ◌∷◌, ◌++◌, map, length, take, get_or, Bor, append_assoc}
+use Rattle.std.proofs.Common.{arith, ◌≡◌, ◌<◌, ◌+◌, ◌-◌, ◌∙◌, sym, ap, ap₂, ℕ, List, [], ◌∷◌, ◌++◌, map, length, take, get_or, Bor, append_assoc, append-nil}
 use Rattle.std.specs.List.{flat_map}
 use Rattle.std.proofs.lemmas.Grind.{flat_map-append}
-use Rattle.std.proofs.lemmas.List.{flat_map_more, map-append}
+use Rattle.std.proofs.lemmas.List.{flat_map_more, get_or-map, length-map, map-append, take_more}
 use Rattle.rehearsal_lines.specs.declared.line.RehearsalLine.{RehearsalLine}
 use Rattle.rehearsal_lines.specs.declared.stage.Stage.TheVariants.{Empty}
 use Rattle.rehearsal_lines.specs.Grammar.{IsRehearsal, MayStand, line_words, stage_of}
 use Rattle.rehearsal_lines.specs.Said.{IsFirstRefused, Say, said_by}
 use Rattle.rehearsal_lines.proofs.Orders.{none_goes_on}
 
-suc_text_more : (xs : List (Bor (List ℕ))) (i : ℕ) (d : Bor (List ℕ)) → i < length xs → take (suc i) (map (λ x. x.now) xs) ≡ take i (map (λ x. x.now) xs) ++ (get_or xs i d).now ∷ []
-suc_text_more [] i d lt = absurd (omega arith)
-suc_text_more (x ∷ xs) zero d lt = refl
-suc_text_more (x ∷ xs) (suc i) d lt = ap (λ (t : List (List ℕ)). x.now ∷ t) (suc_text_more xs i d (omega arith))
-
 -- one text more
 pub one_text_more : (xs : List (Bor (List ℕ))) (i : ℕ) (d : Bor (List ℕ)) → i < length xs → take (i + 1) (map (λ x. x.now) xs) ≡ take i (map (λ x. x.now) xs) ++ (get_or xs i d).now ∷ []
 one_text_more xs i d lt =
-    let next : i + 1 ≡ suc i = omega arith in
-    ap (λ n. take n (map (λ (x : Bor (List ℕ)). x.now) xs)) next ∙ suc_text_more xs i d lt
-
-nil_right : {A : Type 0} (xs : List A) → xs ++ [] ≡ xs
-nil_right [] = refl
-nil_right (x ∷ xs) = ap (λ ys. x ∷ ys) (nil_right xs)
+    let now : Bor (List ℕ) → List ℕ = λ x. x.now in
+    take_more (map now xs) i d.now (omega (arith, length-map xs now)) ∙ ap (λ (t : List ℕ). take i (map now xs) ++ t ∷ []) (get_or-map now xs i d d.now lt)
 
 pub said_more : (texts : List (List ℕ)) (text : List ℕ) → flat_map said_by (texts ++ text ∷ []) ≡ flat_map said_by texts ++ said_by text
 said_more texts text = sym (flat_map_more said_by [] texts text)
@@ -33,7 +24,7 @@ blank_more before after text lines is say none =
     ap (λ ts. flat_map said_by ts) is
     ∙ said_more before text
     ∙ ap₂ (λ (a b : List (List (List ℕ))). a ++ b) say none
-    ∙ nil_right (map line_words lines)
+    ∙ append-nil (map line_words lines)
 
 -- another says a line more
 pub line_more : (before after : List (List ℕ)) (text : List ℕ) (lines : List RehearsalLine) (line : RehearsalLine) → after ≡ before ++ text ∷ [] → Say before lines → said_by text ≡ line_words line ∷ [] → Say after (lines ++ line ∷ [])

@@ -1,5 +1,5 @@
 -- How lines of a rehearsal are written, and which line may stand where.
-use Rattle.std.specs.Prelude.{ℕ, ◌<◌, ◌≤◌, ◌^◌, List, [], ◌∷◌, ◌++◌, map, codes, decimal, Bool, true, false, cond, ◌==◌}
+use Rattle.std.specs.Prelude.{◌≡◌, ◌≢◌, ◌⊎◌, ℕ, ◌<◌, ◌≤◌, ◌^◌, List, [], ◌∷◌, ◌++◌, map, codes, decimal, Bool, true, false, cond, ◌==◌}
 use Rattle.disk_trait.specs.declared.plan.Plan.{Plan}
 use Rattle.disk_trait.specs.declared.plan.Plan.TheVariants as plans
 use Rattle.written_values.specs.OpText.{op_text, pair_text}
@@ -8,6 +8,8 @@ use Rattle.written_values.specs.Words.{IsWithin}
 use Rattle.written_values.specs.declared.words.LandmarkWords.{LandmarkWords}
 use Rattle.written_values.specs.WordsText.{IsAsked, words_text}
 use Rattle.rehearsal_lines.specs.declared.line.LifeLine.{LifeLine}
+use Rattle.rehearsal_lines.specs.declared.refused.Form.{Form}
+use Rattle.rehearsal_lines.specs.declared.refused.Form.TheVariants as forms
 use Rattle.rehearsal_lines.specs.declared.line.RehearsalLine.{RehearsalLine}
 use Rattle.rehearsal_lines.specs.declared.line.RehearsalLine.TheVariants.{Device, Life, Submit, Look, Take, Commit, Post, Rebuild, Launch, Hop}
 use Rattle.rehearsal_lines.specs.declared.stage.Stage.{Stage}
@@ -49,6 +51,23 @@ line_words Post = codes "post" ∷ []
 line_words (Rebuild words) = codes "rebuild" ∷ words_text words ∷ []
 line_words (Launch from to at) = codes "launch" ∷ decimal from ∷ decimal to ∷ decimal at ∷ []
 line_words (Hop packet at) = codes "hop" ∷ decimal packet ∷ decimal at ∷ []
+
+-- whether one of the three steps of the committer is written so
+abbrev pub IsStep : List ℕ → Type 0
+IsStep name = (name ≡ codes "take") ⊎ ((name ≡ codes "commit") ⊎ (name ≡ codes "post"))
+
+-- the word by which lives and events of a form begin, or that none of them begins so
+abbrev pub IsBegunBy : Form → List ℕ → Type 0
+IsBegunBy forms.Device name = ⊥
+IsBegunBy forms.Life name = name ≡ codes "life"
+IsBegunBy forms.Submit name = name ≡ codes "submit"
+IsBegunBy forms.Look name = name ≡ codes "look"
+IsBegunBy forms.Step name = IsStep name
+IsBegunBy forms.Rebuild name = name ≡ codes "rebuild"
+IsBegunBy forms.Launch name = name ≡ codes "launch"
+IsBegunBy forms.Hop name = name ≡ codes "hop"
+IsBegunBy forms.Line name =
+    (name ≢ codes "life") × (name ≢ codes "submit") × (name ≢ codes "look") × (name ≢ codes "rebuild") × (name ≢ codes "launch") × (name ≢ codes "hop") × ¬ IsStep name
 
 -- ---- which line may stand where
 

@@ -1,6 +1,7 @@
 -- What the lines of a text say.
 use Rattle.std.specs.Prelude.{◌≡◌, ◌==◌, ◌≤◌, ◌-◌, ℕ, List, [], ◌∷◌, ◌++◌, cond, length, map, take}
-use Rattle.std.specs.List.{flat_map, slice_split}
+use Rattle.std.specs.List.{flat_map}
+use Rattle.written_values.specs.Scripts.{words_of as parts_of}
 use Rattle.rehearsal_lines.specs.declared.line.RehearsalLine.{RehearsalLine}
 use Rattle.rehearsal_lines.specs.Grammar.{IsRehearsal, MayStand, line_words}
 use Rattle.rehearsal_lines.specs.declared.stage.Stage.{Stage}
@@ -19,7 +20,7 @@ unless_empty (x ∷ xs) = (x ∷ xs) ∷ []
 
 -- the words of a line: what stands between blanks, where something does
 abbrev pub words_of : List ℕ → List (List ℕ)
-words_of text = flat_map unless_empty (slice_split (λ b. b == 32) (bare text))
+words_of text = flat_map unless_empty (parts_of (bare text))
 
 -- the words of a line that has one
 abbrev pub said_by : List ℕ → List (List (List ℕ))

@@ -8,12 +8,13 @@ ghost use Rattle.written_values.specs.WordsText.{words_text};
 ghost use Rattle.written_values.specs.declared.words.LandmarkWords.{LandmarkWords};
 ghost use Rattle.rehearsal_lines.specs.declared.line.LifeLine.{LifeLine};
 ghost use Rattle.rehearsal_lines.specs.declared.line.RehearsalLine.{RehearsalLine};
-ghost use Rattle.rehearsal_lines.specs.Grammar.{AreOfDevice, FitsPlan, IsEvent, IsFew, IsLife, IsLifeOrEvent, MayStand, field_text, has_none, life_fields, line_words, plan_words};
+ghost use Rattle.rehearsal_lines.specs.Grammar.{AreOfDevice, FitsPlan, IsBegunBy, IsEvent, IsFew, IsLife, IsLifeOrEvent, MayStand, field_text, has_none, life_fields, line_words, plan_words};
 
 use crate::fields::{
     device_words, field_first, number_field, number_first, only_number, pair_in, two_numbers,
 };
 use crate::line::{LifeLine, RehearsalLine};
+use crate::refused::Form;
 use crate::stage::Stage;
 use disk_trait::Plan;
 use graph_edits::Change;
@@ -81,36 +82,38 @@ fn living_in(
     ensures found { IfOk result (λ o. IfSome o (λ line. (name.now ∷ map (λ x. x.now) rest.now ≡ line_words line) × IsLifeOrEvent nodes line)) }
     ensures only { (line : RehearsalLine) → IsLifeOrEvent nodes line → name.now ∷ map (λ x. x.now) rest.now ≡ line_words line → IfOk result (λ o. IsSome o) }
 {
-    if name == "life" {
-        life_line(alloc, name, rest, nodes)
-    } else {
-        event_in(alloc, name, rest, nodes)
+    match begun_by(name) {
+        Form::Life => life_line(alloc, name, rest, nodes),
+        Form::Submit => submit_in(alloc, rest),
+        Form::Look => look_in(alloc, rest),
+        Form::Step if rest.is_empty() => Ok(step_in(name)),
+        Form::Rebuild => rebuild_in(alloc, rest, nodes),
+        Form::Launch => launch_in(alloc, rest),
+        Form::Hop => hop_in(alloc, rest),
+        _ => Ok(None),
     }
 }
 
-fn event_in(
-    alloc: Global,
-    name: &str,
-    rest: &[&str],
-    nodes: u16,
-) -> Result<Option<RehearsalLine>, AllocError>
-    ensures found { IfOk result (λ o. IfSome o (λ line. (name.now ∷ map (λ x. x.now) rest.now ≡ line_words line) × IsEvent nodes line)) }
-    ensures only { (line : RehearsalLine) → IsEvent nodes line → name.now ∷ map (λ x. x.now) rest.now ≡ line_words line → IfOk result (λ o. IsSome o) }
+/// What a life or an event should be that begins with this word.
+pub(crate) fn begun_by(name: &str) -> Form
+    ensures { IsBegunBy result name.now }
 {
-    if rest.is_empty() {
-        Ok(step_in(name))
+    if name == "life" {
+        Form::Life
     } else if name == "submit" {
-        submit_in(alloc, rest)
+        Form::Submit
     } else if name == "look" {
-        look_in(alloc, rest)
+        Form::Look
     } else if name == "rebuild" {
-        rebuild_in(alloc, rest, nodes)
+        Form::Rebuild
     } else if name == "launch" {
-        launch_in(alloc, rest)
+        Form::Launch
     } else if name == "hop" {
-        hop_in(alloc, rest)
+        Form::Hop
+    } else if step_in(name).is_some() {
+        Form::Step
     } else {
-        Ok(None)
+        Form::Line
     }
 }
 

@@ -1,13 +1,13 @@
 // Reading a rehearsal.
-ghost use Rattle.std.specs.Prelude.{◌≡◌, ◌==◌, ◌∷◌, [], List, ℕ, IfOk, IfErr, map};
-ghost use Rattle.std.specs.List.{flat_map, slice_split};
-ghost use Rattle.written_values.specs.Scripts.{lines_of};
+ghost use Rattle.std.specs.Prelude.{◌≡◌, ◌∷◌, [], List, ℕ, IfOk, IfErr, map};
+ghost use Rattle.std.specs.List.{flat_map};
+ghost use Rattle.written_values.specs.Scripts.{lines_of, words_of as parts_of};
 ghost use Rattle.rehearsal_lines.specs.declared.line.RehearsalLine.{RehearsalLine};
 ghost use Rattle.rehearsal_lines.specs.Grammar.{IsRehearsal, MayStand, line_words};
 ghost use Rattle.rehearsal_lines.specs.Said.{IsFirstRefused, IsReadAs, Say, bare, unless_empty, words_of};
 
 use crate::line::RehearsalLine;
-use crate::line_reading::line_in;
+use crate::line_reading::{begun_by, line_in};
 use crate::refused::{Form, LineRefused};
 use crate::stage::Stage;
 use std::alloc::{AllocError, Global};
@@ -80,29 +80,9 @@ fn form_of(stage: Stage, words: &[&str]) -> Form {
         Stage::Empty => Form::Device,
         Stage::Made(_) => Form::Life,
         Stage::Living(_) => match words.first() {
-            Some(name) => form_named(*name),
+            Some(name) => begun_by(*name),
             None => Form::Line,
         },
-    }
-}
-
-fn form_named(name: &str) -> Form {
-    if name == "life" {
-        Form::Life
-    } else if name == "submit" {
-        Form::Submit
-    } else if name == "look" {
-        Form::Look
-    } else if name == "take" || name == "commit" || name == "post" {
-        Form::Step
-    } else if name == "rebuild" {
-        Form::Rebuild
-    } else if name == "launch" {
-        Form::Launch
-    } else if name == "hop" {
-        Form::Hop
-    } else {
-        Form::Line
     }
 }
 
@@ -132,7 +112,7 @@ fn kept<'a>(alloc: Global, parts: &[&'a str]) -> Result<Vec<&'a str>, AllocError
 
 // What stands between the blanks of a text, in front of them and behind.
 fn parts_in<'a>(alloc: Global, text: &'a str) -> Result<Vec<&'a str>, AllocError>
-    ensures { IfOk result (λ parts. map (λ x. x.now) parts.items ≡ slice_split (λ b. b == 32) text.entry.now) }
+    ensures { IfOk result (λ parts. map (λ x. x.now) parts.items ≡ parts_of text.entry.now) }
 {
     text.split(' ').collect(alloc)
 }

@@ -3,13 +3,14 @@
 //! # What it is
 //!
 //! [`rehearse`] runs the lives of a rehearsal (crate `rehearsal_lines`) on a device in memory, which it makes and formats, by one call of
-//! `lives_in_memory` of the crate `life_chain`. Behind them comes a life that only opens. The lines are those of the report of that call.
+//! `lives_in_memory` of the crate `life_chain` ([`run_lives`]). Behind them comes a life that only opens. The lines are those of the report
+//! of that call.
 //!
 //! # The contract
 //!
 //! The text that [`rehearse`] answers is the text of a report (`report_text`, specs/Reports.antt), and that report is of the lives that it was
-//! given, of a device in memory that was formatted for so many nodes (`IsRehearsed`, specs/Rehearsed.antt). Three clauses of
-//! `lives_in_memory` stand in that record, so they hold of what is printed:
+//! given, of a device in memory that was formatted for so many nodes (`IsRehearsed` and `IsReported`, specs/Rehearsed.antt). Three clauses
+//! of `lives_in_memory` stand in `IsReported`, so they hold of what is printed:
 //!
 //! - each life is of the very disk that the crash of the life before left, by the crash's word, and each reply is the answer of its event,
 //!   in the order of the events (`AreLived`);
@@ -40,4 +41,4 @@ pub use asked::{Rehearsal, lives_of};
 pub use life_lines::{CrashLine, NotOpenedLine, OpenedLine};
 pub use lines::ReplyLine;
 pub use report::report_text;
-pub use run::{RehearseRefused, formatted_device, rehearse};
+pub use run::{RehearseRefused, formatted_device, rehearse, run_lives};

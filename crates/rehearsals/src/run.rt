@@ -4,13 +4,14 @@ ghost use Rattle.std.specs.String.{string_bytes};
 ghost use Rattle.disk_trait.specs.Memory.{mem_view};
 ghost use Rattle.layout_2.specs.State.{first_state};
 ghost use Rattle.layout_2.specs.Standing.{StandsFor};
-ghost use Rattle.rehearsals.specs.Rehearsed.{IsRehearsed};
+ghost use Rattle.life_chain.specs.Words.{IsLeftByWord};
+ghost use Rattle.rehearsals.specs.Rehearsed.{IsRehearsed, IsReported};
 
 use crate::asked::Rehearsal;
 use crate::report::report_text;
 use checkpoint::{DEVICE_LEN, FormatRefused, format};
 use disk_trait::{Disk, MemDisk};
-use life_chain::lives_in_memory;
+use life_chain::{Life, LivesReport, lives_in_memory};
 use std::alloc::{AllocError, Global};
 use thiserror::Error;
 
@@ -41,11 +42,19 @@ pub fn rehearse(alloc: Global, rehearsal: &Rehearsal) -> Result<String, Rehearse
     ensures printed { IfOk result (λ text. IsRehearsed ⟦<MemDisk as Disk>⟧ rehearsal.now.nodes rehearsal.now.lives.items (length rehearsal.now.lives.items - 1) (string_bytes text)) }
     ensures nodes { IsErrOf result RehearseRefused.Nodes → ¬ ((1 ≤ rehearsal.now.nodes) × (rehearsal.now.nodes ≤ 16384)) }
 {
-    let disk = formatted_device(alloc, rehearsal.nodes)?;
-    let (report, _) = lives_in_memory(alloc, disk, &rehearsal.lives);
-    let report = report?;
+    let report = run_lives(alloc, rehearsal.nodes, &rehearsal.lives)?;
     let whole = rehearsal.lives.len().saturating_sub(1);
     Ok(report_text(alloc, whole, &report)?)
+}
+
+/// Runs these lives on a device in memory that is made for them, and answers their report.
+pub fn run_lives(alloc: Global, nodes: u16, lives: &[Life]) -> Result<LivesReport, RehearseRefused>
+    ensures reported { IfOk result (λ report. (left : MemDisk) × IsReported ⟦<MemDisk as Disk>⟧ IsLeftByWord nodes lives.now report left) }
+    ensures nodes { IsErrOf result RehearseRefused.Nodes → ¬ ((1 ≤ nodes) × (nodes ≤ 16384)) }
+{
+    let disk = formatted_device(alloc, nodes)?;
+    let (report, _) = lives_in_memory(alloc, disk, lives);
+    Ok(report?)
 }
 
 /// A device in memory, formatted for so many nodes.
