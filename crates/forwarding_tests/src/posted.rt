@@ -7,11 +7,10 @@ ghost use Rattle.forwarding_tests.specs.InARow.{IsInARow};
 
 use forwarders::{ByteMove, BytesRefused, Forwarder};
 use generations::{Board, BoardReader, BoardWriter, PostRefused, Posting, board};
-use graph_edits::{Change, Graph, MOST_NODES, Op};
-use landmarks::Landmarks;
 use node_table::{Parts, Scheme, build};
 use packet_bytes::PACKET_SIZE;
 use requests::SESSIONS;
+use sample_networks::{Edge, PATH, graph_of, landmarks_at};
 use std::alloc::{AllocError, Global};
 use std::fmt::Debug;
 use std::process::Abort;
@@ -40,33 +39,6 @@ pub(crate) fn popped<T: Drop>(rt: &impl Abort, list: &mut Vec<T>) -> T
     }
 }
 
-/// The edges of a network, each of one weight.
-pub(crate) type Edge = (u16, u16, u32);
-
-pub(crate) const PATH_OF_FIVE: [Edge; 4] = [(0, 1, 1), (1, 2, 1), (2, 3, 1), (3, 4, 1)];
-
-// The network of these edges.
-fn graph_of(rt: &impl Abort, alloc: Global, nodes: u16, edges: &[Edge]) -> Graph {
-    assert!(rt; 1 <= nodes && nodes <= MOST_NODES);
-    let mut graph = got(rt, Graph::empty(alloc, nodes));
-    for (a, b, weight) in edges {
-        let change = got(rt, Change::new(&[Op::Add(*a, *b, *weight)]));
-        let _taken = graph.apply(&change);
-    }
-    graph
-}
-
-// The choice of one landmark among so many nodes.
-fn one_landmark(rt: &impl Abort, alloc: Global, nodes: u16, landmark: u16) -> Landmarks {
-    let mut words = Vec::new(alloc);
-    for v in 0..nodes {
-        let word = if v == landmark { 0u64 } else { u64::MAX };
-        got(rt, words.push(word));
-    }
-    assert!(rt; 1 <= words.len());
-    got(rt, Landmarks::choose(alloc, words.len(), &words))
-}
-
 /// The scheme of these edges with one landmark.
 pub(crate) fn scheme_of(
     rt: &impl Abort,
@@ -76,8 +48,8 @@ pub(crate) fn scheme_of(
     landmark: u16,
     generation: u64,
 ) -> Scheme {
-    let graph = graph_of(rt, alloc, nodes, edges);
-    let landmarks = one_landmark(rt, alloc, nodes, landmark);
+    let graph = got(rt, graph_of(alloc, nodes, edges));
+    let landmarks = got(rt, landmarks_at(alloc, nodes, &[landmark]));
     let nodes = graph.nodes() as usize;
     let marked = landmarks.flags().len();
     assert!(rt; marked == nodes);
@@ -188,7 +160,7 @@ pub(crate) fn post_next<R: Wait + Drop>(
     ensures row { IsInARow writer.new (posted + 1) }
 {
     let number = posted + 1;
-    let scheme = scheme_of(rt, alloc, 5, &PATH_OF_FIVE, 2, number);
+    let scheme = scheme_of(rt, alloc, 5, &PATH, 2, number);
     let scheme = Arc::new(alloc, scheme).expect(rt, "memory");
     let _kept = writer.kept();
     post_now(rt, writer, Posting::Generation { number, scheme });

@@ -2,15 +2,14 @@
 ghost use Rattle.std.specs.Prelude.{◌≡◌};
 ghost use Rattle.forwarding_tests.specs.InARow.{IsInARow};
 
-use crate::posted::{
-    PATH_OF_FIVE, got, one_forwarder, post_next, post_up_to, same, scheme_of, way,
-};
+use crate::posted::{got, one_forwarder, post_next, post_up_to, same, scheme_of, way};
 use arrayvec::ArrayVec;
 use forwarders::{ByteMove, BytesRefused, Forwarder, Refused};
 use generations::BoardWriter;
 use heavy_labels::{Label, MOST_LIGHTS};
 use node_table::{Address, Home, Move, Packet};
 use packet_bytes::{ADDRESS_SIZE, PACKET_SIZE, Wire, WireRefused};
+use sample_networks::{PAIRS, PATH};
 use std::alloc::Global;
 use std::process::Abort;
 use std::sync::Wait;
@@ -42,12 +41,12 @@ fn with<const N: usize>(head: &[u8], at: usize, value: u8) -> [u8; N] {
 #[test]
 fn spells_the_path(rt: HostRuntime) {
     let alloc = rt.alloc();
-    let scheme = scheme_of(&rt, alloc, 5, &PATH_OF_FIVE, 2, 1);
+    let scheme = scheme_of(&rt, alloc, 5, &PATH, 2, 1);
     let address = got(&rt, scheme.address(4));
     assert!(&rt; address.to_bytes() == padded::<ADDRESS_SIZE>(&ADDRESS));
     let packet = got(&rt, scheme.decide(0, &address));
     assert!(&rt; packet.to_bytes() == padded::<PACKET_SIZE>(&LAUNCHED));
-    let apart = scheme_of(&rt, alloc, 4, &[(0, 1, 5), (2, 3, 5)], 0, 1);
+    let apart = scheme_of(&rt, alloc, 4, &PAIRS, 0, 1);
     let homeless = got(&rt, apart.address(3));
     assert!(&rt; homeless.to_bytes() == padded::<ADDRESS_SIZE>(&[0, 0, 0, 0, 0, 0, 0, 1, 0, 3]));
 }

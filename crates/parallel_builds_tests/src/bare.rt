@@ -1,5 +1,6 @@
 // Networks with hardly anything in them, and how many workers pay.
 use crate::helpers::{Edge, built, expect_same, got, graph_of, landmarks_at};
+use sample_networks::PATH;
 use scheme_builds::{scheme_of, scheme_of_in_threads, workers_for};
 use std::alloc::Global;
 use std::process::Abort;
@@ -39,11 +40,12 @@ fn builds_where_there_is_no_edge(rt: HostRuntime) {
 #[test]
 fn builds_with_more_workers_than_nodes(rt: HostRuntime) {
     let alloc = rt.alloc();
-    let path: [Edge; 4] = [(0, 1, 1), (1, 2, 1), (2, 3, 1), (3, 4, 1)];
+    let whole = PATH;
     for nodes in 2..6u16 {
-        expect_all(&rt, alloc, nodes, &path, &[]);
-        expect_all(&rt, alloc, nodes, &path, &[1]);
-        expect_all(&rt, alloc, nodes, &path, &[0, 4]);
+        let path = &whole[..nodes as usize - 1];
+        expect_all(&rt, alloc, nodes, path, &[]);
+        expect_all(&rt, alloc, nodes, path, &[1]);
+        expect_all(&rt, alloc, nodes, path, &[0, 4]);
     }
 }
 
@@ -79,9 +81,8 @@ fn says_how_many_workers_pay(rt: HostRuntime) {
 #[test]
 fn builds_by_landmark_words(rt: HostRuntime) {
     let alloc = rt.alloc();
-    let path: [Edge; 4] = [(0, 1, 1), (1, 2, 1), (2, 3, 1), (3, 4, 1)];
     let words = [u64::MAX, 0];
-    let graph = graph_of(&rt, alloc, 5, &path);
+    let graph = graph_of(&rt, alloc, 5, &PATH);
     let want = got(&rt, scheme_of(alloc, &graph, &words, 7, alloc));
     let found = got(&rt, scheme_of_in_threads(&rt, alloc, &graph, &words, 7, 3));
     assert!(&rt; found.parts() == want.parts());

@@ -1,16 +1,13 @@
 // Graphs, landmarks and the comparison that the tests share: each call is made again where memory was refused.
-ghost use Rattle.std.specs.Prelude.{◌≡◌, ◌≤◌, length};
-
-use graph_edits::{Change, EditRefused, Graph, MOST_NODES, Op};
+use graph_edits::Graph;
 use landmarks::Landmarks;
 use node_table::{Scheme, build};
+pub(crate) use sample_networks::Edge;
 use scheme_builds::scheme_in_threads;
-use std::alloc::{AllocError, Global};
+use std::alloc::Global;
 use std::process::Abort;
 use std::sync::Wait;
 use std::thread::Threads;
-
-pub(crate) type Edge = (u16, u16, u32);
 
 /// The value of an answer that has to have one.
 pub(crate) fn got<T, E: Drop>(rt: &impl Abort, answer: Result<T, E>) -> T {
@@ -20,54 +17,17 @@ pub(crate) fn got<T, E: Drop>(rt: &impl Abort, answer: Result<T, E>) -> T {
     }
 }
 
-fn graph_once(alloc: Global, nodes: u16, edges: &[Edge]) -> Result<Graph, AllocError>
-    requires some { 1 ≤ nodes }
-    requires few { nodes ≤ MOST_NODES }
-{
-    let mut graph = Graph::empty(alloc, nodes)?;
-    for (a, b, weight) in edges {
-        let Ok(change) = Change::new(&[Op::Add(*a, *b, *weight)]) else {
-            continue;
-        };
-        if let Err(EditRefused::Memory) = graph.apply(&change) {
-            return Err(AllocError);
-        }
-    }
-    Ok(graph)
-}
-
-/// The graph of these edges, but for those that it refuses.
+/// The graph of a table.
 pub(crate) fn graph_of(rt: &impl Abort, alloc: Global, nodes: u16, edges: &[Edge]) -> Graph {
-    assert!(rt; 1 <= nodes && nodes <= MOST_NODES);
-    match graph_once(alloc, nodes, edges) {
+    match sample_networks::graph_of(alloc, nodes, edges) {
         Ok(graph) => graph,
-        Err(_) => got(rt, graph_once(alloc, nodes, edges)),
+        Err(refused) => panic!(rt; "{refused}"),
     }
-}
-
-fn words_once(alloc: Global, nodes: u16, at: &[u16]) -> Result<Vec<u64>, AllocError> {
-    let mut words = Vec::with_capacity(alloc, nodes as usize)?;
-    for v in 0..nodes {
-        words.push(if at.contains(&v) { 0u64 } else { u64::MAX })?;
-    }
-    Ok(words)
-}
-
-fn landmarks_once(alloc: Global, nodes: u16, at: &[u16]) -> Result<Landmarks, AllocError>
-    requires { 1 ≤ nodes }
-{
-    let mut words = words_once(alloc, nodes, at)?;
-    words.resize(nodes as usize, u64::MAX)?;
-    Landmarks::choose(alloc, nodes as usize, &words)
 }
 
 /// These nodes as landmarks.
 pub(crate) fn landmarks_at(rt: &impl Abort, alloc: Global, nodes: u16, at: &[u16]) -> Landmarks {
-    assert!(rt; 1 <= nodes);
-    match landmarks_once(alloc, nodes, at) {
-        Ok(landmarks) => landmarks,
-        Err(_) => got(rt, landmarks_once(alloc, nodes, at)),
-    }
+    got(rt, sample_networks::landmarks_at(alloc, nodes, at))
 }
 
 /// The scheme of one build, under the generation 7.

@@ -1,18 +1,16 @@
 // A scheme that was built and one that was assembled of the same tables are searched in different lists: both answer alike.
 use crate::changes::copied;
 use crate::drawn::graph_of;
-use crate::plain_graph::{Edge, PlainGraph};
+use crate::plain_graph::PlainGraph;
 use graph_edits::Graph;
 use node_table::Scheme;
+use sample_networks::PATH;
 use scheme_builds::scheme_of;
 use std::alloc::{AllocError, Global};
 use std::process::Abort;
 use std::test::Fail;
 
-/// The edges of a path of five nodes.
-const PATH: [Edge; 4] = [(0, 1, 1), (1, 2, 1), (2, 3, 1), (3, 4, 1)];
-
-/// Its landmark words: the landmark in the middle, none, and all.
+/// The landmark words of the path of five nodes: the landmark in the middle, none, and all.
 const WORDS: [[u64; 5]; 3] = [
     [u64::MAX, u64::MAX, 0, u64::MAX, u64::MAX],
     [u64::MAX; 5],

@@ -1,6 +1,6 @@
 // Drawn graphs with drawn landmarks.
 use crate::plain_graph::{Edge, PlainGraph};
-use graph_edits::{Change, Graph, MOST_NODES, Op};
+use graph_edits::Graph;
 use rand_core::Rng;
 use rand_xoshiro::Xoshiro256PlusPlus;
 use std::alloc::{AllocError, Global};
@@ -44,14 +44,10 @@ pub(crate) fn drawn_graph(
 
 /// The same graph, made by edits.
 pub(crate) fn graph_of(rt: &impl Abort, alloc: Global, plain: &PlainGraph) -> Graph {
-    let nodes = plain.nodes;
-    assert!(rt; 1 <= nodes && nodes <= MOST_NODES);
-    let mut graph = Graph::empty(alloc, nodes).expect(rt, "memory");
-    for (a, b, weight) in &plain.edges {
-        let change = Change::new(&[Op::Add(*a, *b, *weight)]).expect(rt, "a change");
-        graph.apply(&change).expect(rt, "an edge");
+    match sample_networks::graph_of(alloc, plain.nodes, &plain.edges) {
+        Ok(graph) => graph,
+        Err(refused) => panic!(rt; "{refused}"),
     }
-    graph
 }
 
 /// Landmark words of so many nodes: of none, of all, or of each with a chance of one in three.

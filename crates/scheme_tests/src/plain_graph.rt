@@ -1,8 +1,6 @@
 // A graph as its edges, and as the weight of each pair of nodes.
+pub(crate) use sample_networks::Edge;
 use std::alloc::{AllocError, Global};
-
-/// Two nodes and the weight of the edge between them.
-pub(crate) type Edge = (u16, u16, u32);
 
 /// A graph of nodes numbered from 0.
 #[derive(Drop)]

@@ -4,25 +4,20 @@ ghost use Rattle.distances.specs.Nearest.{AreNearest};
 
 use crate::helpers::got;
 use distances::{Nearest, from_landmarks};
-use graph_edits::{Change, GREATEST_WEIGHT, Graph, MOST_NODES, Op};
+use graph_edits::{GREATEST_WEIGHT, Graph, MOST_NODES};
 use landmarks::Landmarks;
 use rand_core::Rng;
 use rand_xoshiro::Xoshiro256PlusPlus;
+pub(crate) use sample_networks::Edge;
 use std::alloc::Global;
 use std::process::Abort;
 
-/// Two nodes and the weight of the edge between them.
-pub(crate) type Edge = (u16, u16, u32);
-
-/// The graph of these edges.
+/// The graph of a table.
 pub(crate) fn graph_of(rt: &impl Abort, alloc: Global, nodes: u16, edges: &[Edge]) -> Graph {
-    assert!(rt; 1 <= nodes && nodes <= MOST_NODES);
-    let mut graph = got(rt, Graph::empty(alloc, nodes));
-    for (a, b, weight) in edges {
-        let change = got(rt, Change::new(&[Op::Add(*a, *b, *weight)]));
-        got(rt, graph.apply(&change));
+    match sample_networks::graph_of(alloc, nodes, edges) {
+        Ok(graph) => graph,
+        Err(refused) => panic!(rt; "{refused}"),
     }
-    graph
 }
 
 /// The nearest landmarks of a graph, where the nodes with a flag are the landmarks.

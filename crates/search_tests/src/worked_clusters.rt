@@ -7,6 +7,7 @@ use crate::drawn::{graph_of, nearest_of};
 use crate::helpers::same;
 use distances::{Nearest, Reached, Workspace};
 use graph_edits::Graph;
+use sample_networks::{PATH, TRIANGLE};
 use std::alloc::Global;
 use std::process::Abort;
 
@@ -30,7 +31,7 @@ fn expect_cluster(
 #[test]
 fn clusters_of_a_path(rt: HostRuntime) {
     let alloc = rt.alloc();
-    let graph = graph_of(&rt, alloc, 5, &[(0, 1, 1), (1, 2, 1), (2, 3, 1), (3, 4, 1)]);
+    let graph = graph_of(&rt, alloc, 5, &PATH);
     let nearest = nearest_of(&rt, alloc, &graph, &[false, false, true, false, false]);
     let of_1 = [member(1, 0, None), member(0, 1, Some(1))];
     let of_3 = [member(3, 0, None), member(4, 1, Some(3))];
@@ -49,7 +50,7 @@ fn clusters_of_a_path(rt: HostRuntime) {
 #[test]
 fn a_node_as_near_to_the_landmark_is_no_member(rt: HostRuntime) {
     let alloc = rt.alloc();
-    let graph = graph_of(&rt, alloc, 3, &[(0, 1, 1), (1, 2, 1), (0, 2, 2)]);
+    let graph = graph_of(&rt, alloc, 3, &TRIANGLE);
     let nearest = nearest_of(&rt, alloc, &graph, &[true, false, false]);
     let of_1 = [member(1, 0, None), member(2, 1, Some(1))];
     expect_cluster(&rt, alloc, &graph, &nearest, 1, &of_1);

@@ -3,10 +3,9 @@ use crate::calls::{expect_tree_in, member, near_of, reach_of};
 use crate::drawn::{Edge, graph_of, nearest_of};
 use crate::helpers::{got, same};
 use distances::{Near, Nearest, Workspace};
+use sample_networks::PATH;
 use std::alloc::Global;
 use std::process::Abort;
-
-const PATH: [Edge; 4] = [(0, 1, 1), (1, 2, 1), (2, 3, 1), (3, 4, 1)];
 
 #[test]
 fn reaches_from_the_middle_of_a_path(rt: HostRuntime) {

@@ -2,19 +2,14 @@
 use crate::helpers::{
     Edge, PATH, Way, ends_of, expect_trail, got, graph_of, landmarks_at, routed, routes_in, same,
 };
+use sample_networks::{PAIRS, TRIANGLE};
 use single_route::{NoTrail, route_of};
-
-/// A triangle whose long side is as long as the way round.
-const TRIANGLE: [Edge; 3] = [(0, 1, 1), (1, 2, 1), (0, 2, 2)];
 
 /// A square: two ways of one length from corner to corner.
 const SQUARE: [Edge; 4] = [(0, 1, 1), (0, 2, 1), (1, 3, 1), (2, 3, 1)];
 
 /// Two nodes behind one, which is behind a fourth.
 const FORK: [Edge; 3] = [(0, 1, 1), (1, 2, 1), (1, 3, 1)];
-
-/// Two pairs of nodes, apart.
-const PAIRS: [Edge; 2] = [(0, 1, 5), (2, 3, 5)];
 
 /// A long edge beside a short way, between two landmarks: the ends are 0 and 4, each beside a landmark.
 const BRIDGE: [Edge; 5] = [(0, 1, 1), (1, 2, 2), (2, 3, 2), (3, 4, 1), (0, 4, 9)];

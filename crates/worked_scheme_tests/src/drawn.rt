@@ -153,14 +153,17 @@ fn one_tree_at_a_time(rt: HostRuntime) {
     assert!(&rt; scheme_of(alloc, &graph, &words, 1, &small).is_err());
 }
 
-/// The edges of the large drawn graph: from each node but the first to two of those before it.
+/// The edges of the large drawn graph: from each node but the first to two of those before it, or to one that was drawn twice.
 fn many_edges(alloc: Global) -> Result<Vec<Edge>, AllocError> {
     let mut rng = Xoshiro256PlusPlus::seed_from_u64(11);
     let mut edges: Vec<Edge> = Vec::new(alloc);
     for v in 1..MANY as u64 {
         for _ in 0..2 {
             let weight = 1 + (rng.next_u64() % 9) as u32;
-            edges.push((v as u16, (rng.next_u64() % v) as u16, weight))?;
+            let ends = (v as u16, (rng.next_u64() % v) as u16);
+            if edges.last().is_none_or(|last| (last.0, last.1) != ends) {
+                edges.push((ends.0, ends.1, weight))?;
+            }
         }
     }
     Ok(edges)

@@ -1,0 +1,30 @@
+//! Small networks for tests, written down as tables.
+//!
+//! # What it is
+//!
+//! A test writes a network down as a table of [`Edge`]s, and names its landmarks. [`graph_of`] makes the network of a table. [`words_at`]
+//! are the landmark words that choose the named nodes and no others, and [`landmarks_at`] is that choice. [`PATH`], [`TRIANGLE`] and
+//! [`PAIRS`] are tables that several tests work with.
+//!
+//! # The contract
+//!
+//! - [`graph_of`]: the network has exactly the edges of the table. Each row adds one, in order (`IsOfTable`, specs/Tables.antt), so there are
+//!   as many edges as rows. A table of which a row adds none has no network, and that row is named.
+//! - [`words_at`], [`landmarks_at`]: a named node is a landmark, and no other node is one (`words_at` and `flags_at`, specs/Named.antt).
+//!
+//! Where memory is refused, each call asks once more. So a test of which each allocation is refused in turn comes to what it tests.
+//!
+//! ```text
+//! let path = graph_of(alloc, 5, &PATH)?;       // 0 - 1 - 2 - 3 - 4
+//! let middle = landmarks_at(alloc, 5, &[2])?;  // node 2 alone
+//! graph_of(alloc, 3, &PATH)                    // Err(Row { place: 2, .. }): there is no node 3
+//! ```
+#![tactic(auto)]
+
+mod named;
+mod samples;
+mod tables;
+
+pub use named::{landmarks_at, words_at};
+pub use samples::{PAIRS, PATH, TRIANGLE};
+pub use tables::{Edge, TableRefused, graph_of};
