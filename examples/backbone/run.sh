@@ -23,10 +23,12 @@ for pair in "Lisboa Helsinki" "Napoli Oslo" "Bilbao Krakow"; do
     read -r from to <<<"$pair"
     "$top/tznode" route "$device" "$(number "$from")" "$(number "$to")" --words draw:7 | named
 done
-for form in edges csv json dot; do
+for form in edges csv json; do
     "$top/tzlab" export "$device" --as "$form" >"$folder/backbone.$form"
     echo "$folder/backbone.$form"
 done
+"$top/tzlab" export "$device" --as dot --words draw:7 >"$folder/backbone.dot"
+echo "$folder/backbone.dot"
 if command -v dot >/dev/null; then
     dot -Kneato -Tsvg "$folder/backbone.dot" >"$folder/backbone.svg"
     echo "$folder/backbone.svg"

@@ -1,9 +1,12 @@
--- What the figures of a device say of its state.
-use Rattle.std.specs.Prelude.{◌≡◌, ℕ, suc, ◌<◌, ◌==◌, cond, List, [], ◌∷◌, length}
+-- What the figures of a device say of what stands on it.
+use Rattle.std.specs.Prelude.{◌≡◌, ◌+◌, ℕ, suc, ◌==◌, cond, List, [], ◌∷◌, length}
 use Rattle.std.specs.FinMap.{len}
-use Rattle.layout_2.specs.Records.{Entry, entries_of}
+use Rattle.journal.specs.Records.{records}
+use Rattle.journal.specs.RequestForm.{request_form}
+use Rattle.layout_2.specs.Layout.{journal_room}
+use Rattle.layout_2.specs.Records.{entries_of}
 use Rattle.layout_2.specs.State.{State}
-use Rattle.layout_2.specs.Standing.{StandsBy}
+use Rattle.layout_2.specs.Standing.{StandsFor}
 use Rattle.device_info.specs.declared.info.DeviceInfo.{DeviceInfo}
 use Rattle.device_info.specs.declared.info.Held.{Held}
 
@@ -12,17 +15,16 @@ abbrev pub held_after : ℕ → List ℕ → List Held
 held_after session [] = []
 held_after session (ticket ∷ tickets) = cond (ticket == 0) (held_after (suc session) tickets) ((record { session = session; ticket = ticket }) ∷ held_after (suc session) tickets)
 
--- the figures of a state
-pub record IsInfoOf (state : State) (info : DeviceInfo) : Type 0 where
+-- the figures are those of the state for which the image stands, and of the slot, the checkpoint and the records by which it does
+pub record IsInfoOf (info : DeviceInfo) (image : List ℕ) : Type 0 where
+  pub state : State
+  pub stands : StandsFor state image
   pub nodes : info.nodes ≡ state.graph.nodes
   pub edges : info.edges ≡ len state.graph.edges
   pub count : info.count ≡ state.count
   pub held : info.held.items ≡ held_after 0 state.tickets
-
--- the slot, the epoch and the changes of the journal are those of the checkpoint by which the bytes stand
-pub record IsFrom (info : DeviceInfo) (image : List ℕ) : Type 0 where
-  pub base : State
-  pub groups : List (List Entry)
-  pub stands : StandsBy info.slot info.epoch base groups image
-  pub is_slot : info.slot < 2
-  pub journal : info.since_checkpoint ≡ length (entries_of groups)
+  pub slot : info.slot ≡ stands.slot
+  pub epoch : info.epoch ≡ stands.epoch
+  pub journal : info.since_checkpoint ≡ length (entries_of stands.groups)
+  -- the records, the gate behind them and what is left make up the journal's area
+  pub room : length (records request_form stands.groups) + 1 + info.journal_room_left ≡ journal_room

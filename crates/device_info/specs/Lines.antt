@@ -16,17 +16,17 @@ held_line one = codes "session=" ++ (decimal one.session ++ (codes " ticket=" ++
 abbrev pub network_text : DeviceInfo → List ℕ
 network_text info = figure_line (codes "nodes") info.nodes ++ (figure_line (codes "edges") info.edges ++ figure_line (codes "count") info.count)
 
--- the lines of where on the device it stands
+-- the lines of its layout, and of the checkpoint in use
 abbrev pub place_text : DeviceInfo → List ℕ
-place_text info = figure_line (codes "layout") 2 ++ figure_line (codes "slot") info.slot
+place_text info = figure_line (codes "layout") 2 ++ (figure_line (codes "slot") info.slot ++ figure_line (codes "epoch") info.epoch)
 
--- the lines of its checkpoint
-abbrev pub checkpoint_text : DeviceInfo → List ℕ
-checkpoint_text info = figure_line (codes "epoch") info.epoch ++ figure_line (codes "since_checkpoint") info.since_checkpoint
+-- the lines of the journal behind that checkpoint
+abbrev pub journal_text : DeviceInfo → List ℕ
+journal_text info = figure_line (codes "since_checkpoint") info.since_checkpoint ++ figure_line (codes "journal_room_left") info.journal_room_left
 
 -- the lines of all figures but the tickets
 abbrev pub figures_text : DeviceInfo → List ℕ
-figures_text info = network_text info ++ (place_text info ++ checkpoint_text info)
+figures_text info = network_text info ++ (place_text info ++ journal_text info)
 
 -- all lines
 abbrev pub info_lines : DeviceInfo → List ℕ

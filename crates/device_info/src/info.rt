@@ -1,13 +1,12 @@
 //! The figures of a device.
-ghost use Rattle.std.specs.Prelude.{◌≡◌, ◌<◌, ◌≤◌, IfOk, IfErr, IsErrOf, IsTrue, OnOk};
+ghost use Rattle.std.specs.Prelude.{◌≡◌, ◌<◌, IfOk, IfErr, IsErrOf, IsTrue, OnOk};
 ghost use Rattle.disk_trait.specs.Disk.{IsSameDevice, OnlyRead};
-ghost use Rattle.layout_2.specs.State.{State};
-ghost use Rattle.layout_2.specs.Standing.{StandsFor, StandsForNone};
-ghost use Rattle.layout_parts.specs.Refusals.{IsFormatFault};
-ghost use Rattle.device_info.specs.Info.{IsFrom, IsInfoOf, held_after};
+ghost use Rattle.layout_2.specs.Refusals.{IsFormatFault, IsNoDeviceFault, TellsOf};
+ghost use Rattle.layout_2.specs.Standing.{StandsForNone};
+ghost use Rattle.device_info.specs.Info.{IsInfoOf, held_after};
 
 use disk_trait::Disk;
-use layout_2::{OpenRefused, load, standing_law};
+use layout_2::{OpenRefused, load};
 use std::alloc::{AllocError, Global};
 
 /// A session that has a last ticket, with it.
@@ -30,6 +29,8 @@ pub struct DeviceInfo {
     pub epoch: u64,
     /// The accepted changes that stand in the journal behind the checkpoint in use.
     pub since_checkpoint: u64,
+    /// How many bytes of the journal are left for records.
+    pub journal_room_left: usize,
     /// The sessions that have a last ticket, in ascending order.
     pub held: Vec<Held>,
 }
@@ -50,17 +51,16 @@ fn held_of(alloc: Global, tickets: &[u64]) -> Result<Vec<Held>, AllocError>
 
 /// What a device holds. It syncs, reads, and writes nothing.
 pub fn info_of<D: Disk>(alloc: Global, disk: &mut D) -> Result<DeviceInfo, OpenRefused>
-    ensures figures { IsTrue (D.view disk.old).keeps_model → (state : State) → StandsFor state (D.view disk.old).content
-        → IfOk result (λ info. IsInfoOf state info) }
-    ensures place { IsTrue (D.view disk.old).keeps_model → IfOk result (λ info. IsFrom info (D.view disk.old).content) }
+    ensures figures { IsTrue (D.view disk.old).keeps_model → IfOk result (λ info. IsInfoOf info (D.view disk.old).content) }
+    ensures no_failure { OnOk result ((D.view disk.new).failures ≡ (D.view disk.old).failures) }
     ensures reads { IsTrue (D.view disk.old).keeps_model → OnlyRead (D.view disk.old) (D.view disk.new) }
     ensures ran { IsSameDevice (D.view disk.old) (D.view disk.new) }
     ensures refused { IsTrue (D.view disk.old).keeps_model
         → IfErr result (λ e. IsFormatFault e → StandsForNone (D.view disk.old).content) }
+    ensures tells { IsTrue (D.view disk.old).keeps_model → IfErr result (λ e. TellsOf e (D.view disk.old).content) }
+    ensures served { IfErr result (λ e. IsNoDeviceFault e → (D.view disk.new).failures ≡ (D.view disk.old).failures) }
     ensures device { IsErrOf result OpenRefused.Device → (D.view disk.old).failures < (D.view disk.new).failures }
-    ensures no_failure { OnOk result ((D.view disk.new).failures ≡ (D.view disk.old).failures) }
 {
-    standing_law();
     let loaded = match load(alloc, disk) {
         Ok(loaded) => loaded,
         Err(refused) => return Err(refused),
@@ -75,6 +75,7 @@ pub fn info_of<D: Disk>(alloc: Global, disk: &mut D) -> Result<DeviceInfo, OpenR
         slot: loaded.slot,
         epoch: loaded.epoch,
         since_checkpoint: loaded.count.saturating_sub(loaded.base_count),
+        journal_room_left: loaded.journal.room_left(),
         held,
     })
 }

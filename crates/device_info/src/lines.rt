@@ -2,7 +2,7 @@
 ghost use Rattle.std.specs.Prelude.{◌≡◌, ◌++◌, IfOk, OnOk};
 ghost use Rattle.std.specs.List.{flat_map};
 ghost use Rattle.std.specs.String.{string_bytes};
-ghost use Rattle.device_info.specs.Lines.{checkpoint_text, figure_line, figures_text, held_line, info_lines, network_text, place_text};
+ghost use Rattle.device_info.specs.Lines.{figure_line, figures_text, held_line, info_lines, journal_text, network_text, place_text};
 
 use crate::info::{DeviceInfo, Held};
 use std::alloc::{AllocError, Global};
@@ -23,7 +23,7 @@ fn push_figures(text: &mut String, info: &DeviceInfo) -> Result<(), AllocError>
 {
     push_network(text, info)?;
     push_place(text, info)?;
-    push_checkpoint(text, info)
+    push_journal(text, info)
 }
 
 fn push_network(text: &mut String, info: &DeviceInfo) -> Result<(), AllocError>
@@ -38,14 +38,15 @@ fn push_place(text: &mut String, info: &DeviceInfo) -> Result<(), AllocError>
     ensures { OnOk result (string_bytes text.new ≡ string_bytes text.old ++ place_text info.now) }
 {
     push_figure(text, "layout", 2)?;
-    push_figure(text, "slot", info.slot as u64)
+    push_figure(text, "slot", info.slot as u64)?;
+    push_figure(text, "epoch", info.epoch)
 }
 
-fn push_checkpoint(text: &mut String, info: &DeviceInfo) -> Result<(), AllocError>
-    ensures { OnOk result (string_bytes text.new ≡ string_bytes text.old ++ checkpoint_text info.now) }
+fn push_journal(text: &mut String, info: &DeviceInfo) -> Result<(), AllocError>
+    ensures { OnOk result (string_bytes text.new ≡ string_bytes text.old ++ journal_text info.now) }
 {
-    push_figure(text, "epoch", info.epoch)?;
     push_figure(text, "since_checkpoint", info.since_checkpoint)?;
+    push_figure(text, "journal_room_left", info.journal_room_left as u64)?;
     Ok(())
 }
 

@@ -1,4 +1,8 @@
 //! A figure.
+ghost use Rattle.std.specs.Prelude.{◌≡◌, ◌++◌, ◌∷◌, [], IfOk, OnOk, map};
+ghost use Rattle.figure_lines.specs.Figures.{said, thousandths as said_thousandths, whole as said_whole};
+
+use serde::{Described, Serialize, Serializer};
 use spreads::Thousandths;
 use std::alloc::{AllocError, Global};
 
@@ -10,13 +14,30 @@ pub struct Figure {
     pub unit: &'static str,
 }
 
+impl Described for Figure {
+    ghost use Rattle.serde_json.specs.Events.{SendsValue};
+    ghost use Rattle.figure_lines.specs.Figures.{figure_data, said};
+
+    ghost writes = { λ figure. SendsValue (figure_data (said figure)) };
+}
+
+impl Serialize for Figure {
+    fn serialize<S: Serializer>(&self, out: &mut S) -> Result<(), S::Error> {
+        out.begin_map(Some(3))?;
+        out.key("name")?;
+        out.str(self.name.as_str())?;
+        out.key("value")?;
+        out.str(self.value.as_str())?;
+        out.key("unit")?;
+        out.str(self.unit)?;
+        out.end_map()
+    }
+}
+
 /// A figure of a whole number.
-pub(crate) fn whole(
-    alloc: Global,
-    name: &str,
-    value: u64,
-    unit: &'static str,
-) -> Result<Figure, AllocError> {
+fn whole(alloc: Global, name: &str, value: u64, unit: &'static str) -> Result<Figure, AllocError>
+    ensures { IfOk result (λ figure. said figure ≡ said_whole name.now value unit.entry.now) }
+{
     Ok(Figure {
         name: String::from_str(alloc, name)?,
         value: format!(in alloc; "{value}")?,
@@ -25,12 +46,14 @@ pub(crate) fn whole(
 }
 
 /// A figure of thousandths, or of nothing.
-pub(crate) fn thousandths(
+fn thousandths(
     alloc: Global,
     name: &str,
     value: Option<u64>,
     unit: &'static str,
-) -> Result<Figure, AllocError> {
+) -> Result<Figure, AllocError>
+    ensures { IfOk result (λ figure. said figure ≡ said_thousandths name.now value unit.entry.now) }
+{
     let value = match value {
         Some(value) => format!(in alloc; "{}", Thousandths(value))?,
         None => String::from_str(alloc, "none")?,
@@ -40,4 +63,32 @@ pub(crate) fn thousandths(
         value,
         unit,
     })
+}
+
+/// Puts a figure of a whole number behind the others.
+pub(crate) fn push_whole(
+    alloc: Global,
+    figures: &mut Vec<Figure>,
+    name: &str,
+    value: u64,
+    unit: &'static str,
+) -> Result<(), AllocError>
+    ensures { OnOk result (map said figures.new.items ≡ map said figures.old.items ++ said_whole name.now value unit.entry.now ∷ []) }
+{
+    figures.push(whole(alloc, name, value, unit)?)?;
+    Ok(())
+}
+
+/// The same of thousandths.
+pub(crate) fn push_thousandths(
+    alloc: Global,
+    figures: &mut Vec<Figure>,
+    name: &str,
+    value: Option<u64>,
+    unit: &'static str,
+) -> Result<(), AllocError>
+    ensures { OnOk result (map said figures.new.items ≡ map said figures.old.items ++ said_thousandths name.now value unit.entry.now ∷ []) }
+{
+    figures.push(thousandths(alloc, name, value, unit)?)?;
+    Ok(())
 }

@@ -1,4 +1,4 @@
-//! Figures as a program prints them: as lines, as CSV and as JSON.
+//! What a program prints of figures and of networks: as lines, as CSV, as JSON and as a picture.
 //!
 //! A [`Figure`] has a name, a value and a unit. A value is a whole number, or a decimal with three digits behind the
 //! point, rounded to the nearest and a half up; where there is nothing to take it of it is `none`.
@@ -6,8 +6,12 @@
 //! [`figures_text`], [`figures_csv`] and [`figures_json`] print the same list. [`info_json`] prints what a device holds
 //! as an object of JSON.
 //!
-//! This is layout alone, and tested: what the numbers are is proved where they are made (`scheme_figures`, `spreads`,
-//! `device_info`).
+//! [`edges_of`] lists the edges of a graph; [`network_csv`], [`network_json`] and [`network_dot`] print them, the last
+//! in the language of graphviz, where [`marks_of`] marks each node by the landmark that is nearest to it.
+//!
+//! The contract that the layer above uses: each text is exactly the one that `specs/` defines (`Figures`, `Info`,
+//! `Networks`), and the figures are those of the tables and of the measures (`AreSchemeFigures` of `specs/Schemes`,
+//! `AreWayFigures` of `specs/Ways`). Rows of CSV and values of JSON are the ones of the crates that write them.
 //!
 //! ```text
 //! landmarks=1 unit=nodes
@@ -15,14 +19,21 @@
 //! ```
 #![tactic(auto)]
 
+mod dot;
 mod figure;
 mod info;
+mod json;
+mod marks;
+mod networks;
 mod printed;
 mod schemes;
 mod ways;
 
+pub use dot::network_dot;
 pub use figure::Figure;
 pub use info::info_json;
+pub use marks::{Mark, marks_of};
+pub use networks::{edges_of, network_csv, network_json};
 pub use printed::{figures_csv, figures_json, figures_text};
 pub use schemes::scheme_figures_of;
 pub use ways::way_figures_of;

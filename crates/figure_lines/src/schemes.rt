@@ -1,5 +1,10 @@
 //! The figures of a scheme's tables.
-use crate::figure::{Figure, thousandths, whole};
+ghost use Rattle.std.specs.Prelude.{◌≡◌, ◌++◌, ◌∷◌, [], IfOk, OnOk, fold, map, max};
+ghost use Rattle.figure_lines.specs.Figures.{said};
+ghost use Rattle.figure_lines.specs.Schemes.{AreSchemeFigures, cell_figure, cell_name, full_figures, length_figures, node_figures, share, spread_figures};
+ghost use Rattle.std.specs.String.{string_bytes};
+
+use crate::figure::{Figure, push_thousandths, push_whole};
 use node_table::Scheme;
 use scheme_figures::{directory_lengths, entry_counts, full_length, landmark_count, table_lengths};
 use spreads::{Cell, Spread, ratio, spread_of, sum_of};
@@ -7,28 +12,49 @@ use std::alloc::{AllocError, Global};
 
 /// How many landmarks a scheme has, how its entries and directories are spread, and how many bytes its tables take
 /// beside full ones.
-pub fn scheme_figures_of(alloc: Global, scheme: &Scheme) -> Result<Vec<Figure>, AllocError> {
+pub fn scheme_figures_of(alloc: Global, scheme: &Scheme) -> Result<Vec<Figure>, AllocError>
+    ensures { IfOk result (λ figures. AreSchemeFigures scheme.now (map said figures.items)) }
+{
     let mut figures = Vec::new(alloc);
-    let nodes = scheme.parts().nodes;
-    figures.push(whole(alloc, "nodes", nodes as u64, "nodes")?)?;
-    let landmarks = landmark_count(scheme);
-    figures.push(whole(alloc, "landmarks", landmarks as u64, "nodes")?)?;
+    push_nodes(alloc, &mut figures, scheme)?;
     let entries = spread_of(alloc, &entry_counts(alloc, scheme)?)?;
     push_spread(alloc, &mut figures, "entries", &entries, "entries")?;
     let members = spread_of(alloc, &directory_lengths(alloc, scheme)?)?;
     push_spread(alloc, &mut figures, "directory", &members, "members")?;
-    push_bytes(alloc, &mut figures, "table", &table_lengths(alloc, scheme)?)?;
-    push_full(alloc, &mut figures, nodes)?;
+    push_lengths(alloc, &mut figures, &table_lengths(alloc, scheme)?)?;
+    push_full(alloc, &mut figures, scheme.parts().nodes)?;
     Ok(figures)
 }
 
-// The mean over so many, none where there is none.
-fn mean(sum: u64, count: usize) -> Option<u64> {
+// How many nodes and landmarks there are.
+fn push_nodes(alloc: Global, figures: &mut Vec<Figure>, scheme: &Scheme) -> Result<(), AllocError>
+    ensures { OnOk result (map said figures.new.items ≡ map said figures.old.items ++ node_figures scheme.now) }
+{
+    push_whole(
+        alloc,
+        figures,
+        "nodes",
+        scheme.parts().nodes as u64,
+        "nodes",
+    )?;
+    push_whole(
+        alloc,
+        figures,
+        "landmarks",
+        landmark_count(scheme) as u64,
+        "nodes",
+    )
+}
+
+/// A part of so many in thousandths, none where there are none.
+pub(crate) fn share_of(part: u64, count: usize) -> Option<u64>
+    ensures { result ≡ share part count }
+{
     let count = count as u64;
     if count == 0 {
         return None;
     }
-    Some(ratio(sum, count))
+    Some(ratio(part, count))
 }
 
 fn push_spread(
@@ -37,13 +63,20 @@ fn push_spread(
     name: &str,
     spread: &Spread,
     unit: &'static str,
-) -> Result<(), AllocError> {
+) -> Result<(), AllocError>
+    ensures { OnOk result (map said figures.new.items ≡ map said figures.old.items ++ spread_figures name.now spread.now unit.entry.now) }
+{
     let mean_name = format!(in alloc; "{name}_mean")?;
-    let mean_of = mean(spread.sum, spread.count);
-    figures.push(thousandths(alloc, mean_name.as_str(), mean_of, unit)?)?;
+    let mean = share_of(spread.sum, spread.count);
+    push_thousandths(alloc, figures, mean_name.as_str(), mean, unit)?;
     let greatest_name = format!(in alloc; "{name}_greatest")?;
-    let greatest = spread.greatest as u64;
-    figures.push(whole(alloc, greatest_name.as_str(), greatest, unit)?)?;
+    push_whole(
+        alloc,
+        figures,
+        greatest_name.as_str(),
+        spread.greatest as u64,
+        unit,
+    )?;
     for cell in spread.cells.iter() {
         push_cell(alloc, figures, name, *cell)?;
     }
@@ -56,39 +89,63 @@ fn push_cell(
     figures: &mut Vec<Figure>,
     name: &str,
     cell: Cell,
-) -> Result<(), AllocError> {
-    let cell_name = if cell.low == cell.high {
-        format!(in alloc; "{name}_of_{}", cell.low)?
-    } else {
-        format!(in alloc; "{name}_of_{}_to_{}", cell.low, cell.high)?
-    };
-    figures.push(whole(alloc, cell_name.as_str(), cell.count as u64, "nodes")?)?;
-    Ok(())
+) -> Result<(), AllocError>
+    ensures { OnOk result (map said figures.new.items ≡ map said figures.old.items ++ cell_figure name.now cell ∷ []) }
+{
+    let cell_name = name_of(alloc, name, cell)?;
+    push_whole(
+        alloc,
+        figures,
+        cell_name.as_str(),
+        cell.count as u64,
+        "nodes",
+    )
 }
 
-fn push_bytes(
-    alloc: Global,
-    figures: &mut Vec<Figure>,
-    name: &str,
-    lengths: &[u64],
-) -> Result<(), AllocError> {
+// What a cell is called.
+fn name_of(alloc: Global, name: &str, cell: Cell) -> Result<String, AllocError>
+    ensures { IfOk result (λ text. string_bytes text ≡ cell_name name.now cell) }
+{
+    if cell.low == cell.high {
+        return format!(in alloc; "{name}_of_{}", cell.low);
+    }
+    format!(in alloc; "{name}_of_{}_to_{}", cell.low, cell.high)
+}
+
+// How many bytes the tables take.
+fn push_lengths(alloc: Global, figures: &mut Vec<Figure>, lengths: &[u64]) -> Result<(), AllocError>
+    ensures { OnOk result (map said figures.new.items ≡ map said figures.old.items ++ length_figures lengths.now) }
+{
     let sum = sum_of(lengths);
-    let mean_name = format!(in alloc; "{name}_mean")?;
-    let mean_of = mean(sum, lengths.len());
-    figures.push(thousandths(alloc, mean_name.as_str(), mean_of, "bytes")?)?;
-    let greatest_name = format!(in alloc; "{name}_greatest")?;
-    let greatest = lengths.iter().copied().max().unwrap_or(0);
-    figures.push(whole(alloc, greatest_name.as_str(), greatest, "bytes")?)?;
-    let all_name = format!(in alloc; "{name}s_all")?;
-    figures.push(whole(alloc, all_name.as_str(), sum, "bytes")?)?;
-    Ok(())
+    let mean = share_of(sum, lengths.len());
+    push_thousandths(alloc, figures, "table_mean", mean, "bytes")?;
+    push_whole(
+        alloc,
+        figures,
+        "table_greatest",
+        greatest_of(lengths),
+        "bytes",
+    )?;
+    push_whole(alloc, figures, "tables_all", sum, "bytes")
+}
+
+// The greatest length, 0 where there is none.
+fn greatest_of(lengths: &[u64]) -> u64
+    ensures { result ≡ fold max 0 lengths.now }
+{
+    let mut greatest = 0;
+    for one in lengths {
+        greatest = u64::max(greatest, *one);
+    }
+    greatest
 }
 
 // Full tables are all as long.
-fn push_full(alloc: Global, figures: &mut Vec<Figure>, nodes: u16) -> Result<(), AllocError> {
+fn push_full(alloc: Global, figures: &mut Vec<Figure>, nodes: u16) -> Result<(), AllocError>
+    ensures { OnOk result (map said figures.new.items ≡ map said figures.old.items ++ full_figures nodes) }
+{
     let each = full_length(nodes);
-    figures.push(whole(alloc, "full_table", each, "bytes")?)?;
-    let all = each.saturating_mul(nodes as u64);
-    figures.push(whole(alloc, "full_tables_all", all, "bytes")?)?;
-    Ok(())
+    push_whole(alloc, figures, "full_table", each, "bytes")?;
+    let all = each * nodes as u64;
+    push_whole(alloc, figures, "full_tables_all", all, "bytes")
 }

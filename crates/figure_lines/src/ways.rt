@@ -1,46 +1,82 @@
 //! The figures of what was measured in a scheme.
-use crate::figure::{Figure, thousandths, whole};
-use scheme_figures::{Measured, stretches_of};
-use spreads::{percentile, ratio, rounded, sum_of};
+ghost use Rattle.std.specs.Prelude.{◌≡◌, ◌++◌, ◌∷◌, [], IfOk, OnOk, length, map};
+ghost use Rattle.figure_lines.specs.Figures.{said};
+ghost use Rattle.figure_lines.specs.Ways.{AreWayFigures, exact_figure, mean_of as mean_in, pair_figures, stretch_figures};
+
+use crate::figure::{Figure, push_thousandths, push_whole};
+use crate::schemes::share_of;
+use scheme_figures::{Measured, Stretches, stretches_of};
+use spreads::{percentile, rounded, sum_of};
 use std::alloc::{AllocError, Global};
 
 /// How many pairs there are and how many of them no walk joins; of the others the stretch: its mean, its place at 50,
 /// 95 and 99 hundredths, the greatest, and the share of those that went a shortest way.
-pub fn way_figures_of(alloc: Global, measured: &[Measured]) -> Result<Vec<Figure>, AllocError> {
+pub fn way_figures_of(alloc: Global, measured: &[Measured]) -> Result<Vec<Figure>, AllocError>
+    ensures { IfOk result (λ figures. AreWayFigures measured.now (map said figures.items)) }
+{
     let found = stretches_of(alloc, measured)?;
     let stretches = found.sorted.as_slice();
     let mut figures = Vec::new(alloc);
-    figures.push(whole(alloc, "pairs", measured.len() as u64, "pairs")?)?;
-    figures.push(whole(alloc, "unreachable", found.apart as u64, "pairs")?)?;
-    let mean = mean_of(stretches);
-    figures.push(thousandths(alloc, "stretch_mean", mean, "times")?)?;
-    let middle = percentile(stretches, 50);
-    figures.push(thousandths(alloc, "stretch_p50", middle, "times")?)?;
-    let high = percentile(stretches, 95);
-    figures.push(thousandths(alloc, "stretch_p95", high, "times")?)?;
-    let higher = percentile(stretches, 99);
-    figures.push(thousandths(alloc, "stretch_p99", higher, "times")?)?;
-    let greatest = percentile(stretches, 100);
-    figures.push(thousandths(alloc, "stretch_greatest", greatest, "times")?)?;
+    push_whole(alloc, &mut figures, "pairs", measured.len() as u64, "pairs")?;
+    push_whole(
+        alloc,
+        &mut figures,
+        "unreachable",
+        found.apart as u64,
+        "pairs",
+    )?;
+    push_stretches(alloc, &mut figures, stretches)?;
     let exact = share_of(found.exact as u64, stretches.len());
-    figures.push(thousandths(alloc, "exact_share", exact, "share")?)?;
+    push_thousandths(alloc, &mut figures, "exact_share", exact, "share")?;
     Ok(figures)
 }
 
+// The mean of stretches, and those at 50, 95, 99 and all hundredths.
+fn push_stretches(
+    alloc: Global,
+    figures: &mut Vec<Figure>,
+    stretches: &[u64],
+) -> Result<(), AllocError>
+    ensures { OnOk result (map said figures.new.items ≡ map said figures.old.items ++ stretch_figures stretches.now) }
+{
+    push_thousandths(alloc, figures, "stretch_mean", mean_of(stretches), "times")?;
+    push_thousandths(
+        alloc,
+        figures,
+        "stretch_p50",
+        percentile(stretches, 50),
+        "times",
+    )?;
+    push_thousandths(
+        alloc,
+        figures,
+        "stretch_p95",
+        percentile(stretches, 95),
+        "times",
+    )?;
+    push_thousandths(
+        alloc,
+        figures,
+        "stretch_p99",
+        percentile(stretches, 99),
+        "times",
+    )?;
+    push_thousandths(
+        alloc,
+        figures,
+        "stretch_greatest",
+        percentile(stretches, 100),
+        "times",
+    )
+}
+
 // The mean of thousandths, none where there is none.
-fn mean_of(stretches: &[u64]) -> Option<u64> {
+fn mean_of(stretches: &[u64]) -> Option<u64>
+    ensures { result ≡ mean_in stretches.now }
+{
     let count = stretches.len() as u64;
     if count == 0 {
         return None;
     }
     Some(rounded(sum_of(stretches), count))
-}
-
-// A part of so many in thousandths, none where there is none.
-fn share_of(part: u64, count: usize) -> Option<u64> {
-    let count = count as u64;
-    if count == 0 {
-        return None;
-    }
-    Some(ratio(part, count))
 }

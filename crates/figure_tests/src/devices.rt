@@ -38,9 +38,10 @@ fn expect_info(rt: &impl Abort, alloc: Global, disk: &mut MemDisk, lines: &str, 
 #[test]
 fn info_of_a_new_device(rt: HostRuntime) {
     let mut disk = formatted(&rt, rt.alloc());
-    let lines = "nodes=5\nedges=0\ncount=0\nlayout=2\nslot=0\nepoch=1\nsince_checkpoint=0\n";
+    let lines =
+        "nodes=5\nedges=0\ncount=0\nlayout=2\nslot=0\nepoch=1\nsince_checkpoint=0\njournal_room_left=1048575\n";
     let json =
-        "{\"nodes\":5,\"edges\":0,\"count\":0,\"layout\":2,\"slot\":0,\"epoch\":1,\"since_checkpoint\":0,\"tickets\":[]}\n";
+        "{\"nodes\":5,\"edges\":0,\"count\":0,\"layout\":2,\"slot\":0,\"epoch\":1,\"since_checkpoint\":0,\"journal_room_left\":1048575,\"tickets\":[]}\n";
     expect_info(&rt, rt.alloc(), &mut disk, lines, json);
 }
 
@@ -73,6 +74,29 @@ fn after(
     desk.into_store()
 }
 
+// The area has 1,048,576 bytes. A record of one request with one op has 26, one of one request with two ops 35, and the
+// gate behind the last record has 1.
+#[test]
+fn info_of_two_records(rt: HostRuntime) {
+    let Ok(store) = Store::open(rt.alloc(), formatted(&rt, rt.alloc())) else {
+        panic!(rt; "no store");
+    };
+    let store = after(&rt, rt.alloc(), store, (0, 1), &[Op::Add(0, 1, 1)]);
+    let store = after(
+        &rt,
+        rt.alloc(),
+        store,
+        (3, 9),
+        &[Op::Add(1, 2, 3), Op::Set(0, 1, 2)],
+    );
+    let mut disk = store.into_disk();
+    let lines =
+        "nodes=5\nedges=2\ncount=2\nlayout=2\nslot=0\nepoch=1\nsince_checkpoint=2\njournal_room_left=1048514\nsession=0 ticket=1\nsession=3 ticket=9\n";
+    let json =
+        "{\"nodes\":5,\"edges\":2,\"count\":2,\"layout\":2,\"slot\":0,\"epoch\":1,\"since_checkpoint\":2,\"journal_room_left\":1048514,\"tickets\":[{\"session\":0,\"ticket\":1},{\"session\":3,\"ticket\":9}]}\n";
+    expect_info(&rt, rt.alloc(), &mut disk, lines, json);
+}
+
 #[test]
 fn info_of_two_sessions(rt: HostRuntime) {
     let Ok(store) = Store::open(rt.alloc(), formatted(&rt, rt.alloc())) else {
@@ -92,9 +116,9 @@ fn info_of_two_sessions(rt: HostRuntime) {
     let store = after(&rt, rt.alloc(), store, (3, 12), &[Op::Cut(0, 1)]);
     let mut disk = store.into_disk();
     let lines =
-        "nodes=5\nedges=1\ncount=3\nlayout=2\nslot=1\nepoch=2\nsince_checkpoint=1\nsession=0 ticket=1\nsession=3 ticket=12\n";
+        "nodes=5\nedges=1\ncount=3\nlayout=2\nslot=1\nepoch=2\nsince_checkpoint=1\njournal_room_left=1048549\nsession=0 ticket=1\nsession=3 ticket=12\n";
     let json =
-        "{\"nodes\":5,\"edges\":1,\"count\":3,\"layout\":2,\"slot\":1,\"epoch\":2,\"since_checkpoint\":1,\"tickets\":[{\"session\":0,\"ticket\":1},{\"session\":3,\"ticket\":12}]}\n";
+        "{\"nodes\":5,\"edges\":1,\"count\":3,\"layout\":2,\"slot\":1,\"epoch\":2,\"since_checkpoint\":1,\"journal_room_left\":1048549,\"tickets\":[{\"session\":0,\"ticket\":1},{\"session\":3,\"ticket\":12}]}\n";
     expect_info(&rt, rt.alloc(), &mut disk, lines, json);
 }
 

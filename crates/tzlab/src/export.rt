@@ -1,28 +1,77 @@
 // The command `export`.
+ghost use Rattle.written_values.specs.Words.{IsWithin};
+
 use crate::device::{names_in, names_path, store_in, text_of};
-use crate::telling::{printed, told_memory, told_of};
+use crate::telling::{printed, told, told_memory, told_of};
 use clap::ArgMatches;
-use csv::WriterBuilder;
+use command_output::Fault;
 use device_files::DeviceFile;
-use edge_lists::{Edge, Names, edge_list, push_label};
+use edge_lists::{Names, edge_list};
+use figure_lines::{Mark, edges_of, marks_of, network_csv, network_dot, network_json};
 use graph_edits::{Graph, MOST_NODES};
-use serde_json::{Value, json};
+use landmarks::Landmarks;
 use std::alloc::{AllocError, Global};
-use std::io::Write;
+use written_values::{LandmarkWords, landmark_words};
+
+// In which form a network is printed.
+#[derive(Drop)]
+enum Form {
+    Edges,
+    Csv,
+    Json,
+    // With its nodes marked, where landmark words are named.
+    Dot(Option<LandmarkWords>),
+}
 
 /// Prints the network of a device, and answers the exit status.
 pub(crate) fn run(rt: &HostRuntime, found: &ArgMatches) -> u8 {
     let Some(device) = found.get_str("device") else {
         return 2;
     };
-    let form = found.get_str("as").unwrap_or("edges");
-    match export(rt, device, form) {
+    let form = match form_in(rt.alloc(), found) {
+        Ok(Ok(form)) => form,
+        Ok(Err(text)) => return told(rt, 2, text),
+        Err(_) => return told_memory(rt),
+    };
+    match export(rt, device, &form) {
         Ok(status) => status,
         Err(status) => status,
     }
 }
 
-fn export(rt: &HostRuntime, device: &str, form: &str) -> Result<u8, u8> {
+// The form that is asked for, or what isn't understood of it.
+fn form_in(alloc: Global, found: &ArgMatches) -> Result<Result<Form, &'static str>, AllocError> {
+    let form = found.get_str("as").unwrap_or("edges");
+    if form == "dot" {
+        return dot_in(alloc, found);
+    }
+    let form = if form == "edges" {
+        Form::Edges
+    } else if form == "csv" {
+        Form::Csv
+    } else if form == "json" {
+        Form::Json
+    } else {
+        return Ok(Err("--as takes edges, csv, dot or json"));
+    };
+    if found.get_str("words").is_some() {
+        return Ok(Err("--words goes with --as dot"));
+    }
+    Ok(Ok(form))
+}
+
+// The same of a picture.
+fn dot_in(alloc: Global, found: &ArgMatches) -> Result<Result<Form, &'static str>, AllocError> {
+    let Some(text) = found.get_str("words") else {
+        return Ok(Ok(Form::Dot(None)));
+    };
+    match landmark_words(alloc, text)? {
+        Some(words) => Ok(Ok(Form::Dot(Some(words)))),
+        None => Ok(Err(Fault::Words.text())),
+    }
+}
+
+fn export(rt: &HostRuntime, device: &str, form: &Form) -> Result<u8, u8> {
     let Ok(path) = names_path(rt, device) else {
         return Err(told_memory(rt));
     };
@@ -35,135 +84,44 @@ fn export(rt: &HostRuntime, device: &str, form: &str) -> Result<u8, u8> {
         Some(text) => names_in(rt, path.as_str(), text.as_str(), MOST_NODES)?,
         None => Names::new(rt.alloc()),
     };
-    match text_as(rt.alloc(), store.graph(), names.list(), form) {
-        Ok(Some(text)) => Ok(printed(rt, text.as_bytes())),
-        Ok(None) => {
-            let _told = writeln!(rt.stderr(), "tzlab: --as takes edges, csv, dot or json");
-            Err(2)
-        }
+    match text_in(rt.alloc(), store.graph(), names.list(), form) {
+        Ok(Some(text)) => Ok(printed(rt, &text)),
+        Ok(None) => Err(told(rt, 2, Fault::Words.text())),
         Err(_) => Err(told_memory(rt)),
     }
 }
 
-// The text of a network in this form, where there is one.
-fn text_as(
+// The text of a network in this form; none where the words name a node that it hasn't.
+fn text_in(
     alloc: Global,
     graph: &Graph,
     names: &[&str],
-    form: &str,
-) -> Result<Option<String>, AllocError> {
+    form: &Form,
+) -> Result<Option<Vec<u8>>, AllocError> {
     let edges = edges_of(alloc, graph)?;
-    Ok(Some(if form == "edges" {
-        edge_list(alloc, &edges, names)?
-    } else if form == "csv" {
-        csv_text(alloc, &edges, names)?
-    } else if form == "dot" {
-        dot_text(alloc, &edges, names)?
-    } else if form == "json" {
-        json_text(alloc, graph.nodes(), &edges, names)?
-    } else {
-        return Ok(None);
+    Ok(Some(match form {
+        Form::Edges => edge_list(alloc, &edges, names)?.into_bytes(),
+        Form::Csv => network_csv(alloc, &edges, names)?,
+        Form::Json => network_json(alloc, graph.nodes(), &edges, names)?.into_bytes(),
+        Form::Dot(None) => network_dot(alloc, &edges, names, &[])?,
+        Form::Dot(Some(words)) => {
+            if !words.is_within(graph.nodes()) {
+                return Ok(None);
+            }
+            network_dot(alloc, &edges, names, &marks_by(alloc, graph, words)?)?
+        }
     }))
 }
 
-// The edges of a graph, ascending.
-fn edges_of(alloc: Global, graph: &Graph) -> Result<Vec<Edge>, AllocError> {
-    let mut edges = Vec::new(alloc);
-    for a in 0..graph.nodes() {
-        for (b, weight) in graph.neighbours(a) {
-            if a < *b {
-                edges.push(Edge {
-                    line: 0,
-                    a,
-                    b: *b,
-                    weight: *weight,
-                })?;
-            }
-        }
-    }
-    Ok(edges)
-}
-
-fn label(alloc: Global, names: &[&str], node: u16) -> Result<String, AllocError> {
-    let mut text = String::new(alloc);
-    push_label(&mut text, names, node)?;
-    Ok(text)
-}
-
-// A line for each edge behind a header.
-fn csv_text(alloc: Global, edges: &[Edge], names: &[&str]) -> Result<String, AllocError> {
-    let mut writer = WriterBuilder::new().from_writer(Vec::new(alloc));
-    if writer.write_record(["a", "b", "weight"]).is_err() {
-        return Err(AllocError);
-    }
-    for edge in edges {
-        let a = label(alloc, names, edge.a)?;
-        let b = label(alloc, names, edge.b)?;
-        let weight = format!(in alloc; "{}", edge.weight)?;
-        if writer
-            .write_record([a.as_str(), b.as_str(), weight.as_str()])
-            .is_err()
-        {
-            return Err(AllocError);
-        }
-    }
-    match writer.into_inner() {
-        Ok(bytes) => match String::from_utf8(bytes) {
-            Ok(text) => Ok(text),
-            Err(_) => Err(AllocError),
-        },
-        Err(_) => Err(AllocError),
-    }
-}
-
-// An undirected graph of graphviz, with the weights as labels.
-fn dot_text(alloc: Global, edges: &[Edge], names: &[&str]) -> Result<String, AllocError> {
-    let mut text = String::from_str(alloc, "graph network {\n")?;
-    for edge in edges {
-        text.push_str("    ")?;
-        push_quoted(&mut text, label(alloc, names, edge.a)?.as_str())?;
-        text.push_str(" -- ")?;
-        push_quoted(&mut text, label(alloc, names, edge.b)?.as_str())?;
-        writeln!(text, " [label={}];", edge.weight)?;
-    }
-    text.push_str("}\n")?;
-    Ok(text)
-}
-
-// A name between quotes, with a backslash before each quote and backslash of it.
-fn push_quoted(text: &mut String, name: &str) -> Result<(), AllocError> {
-    text.push_str("\"")?;
-    for c in name.chars() {
-        if c == '"' || c == '\\' {
-            text.push('\\')?;
-        }
-        text.push(c)?;
-    }
-    text.push_str("\"")
-}
-
-// The number of nodes, the edges as `[a, b, weight]`, and the names in the order of their nodes.
-fn json_text(
+// The marks of a network's nodes by these landmark words.
+fn marks_by(
     alloc: Global,
-    nodes: u16,
-    edges: &[Edge],
-    names: &[&str],
-) -> Result<String, AllocError> {
-    let mut rows = Vec::new(alloc);
-    for edge in edges {
-        let (a, b, weight) = (edge.a as u64, edge.b as u64, edge.weight as u64);
-        rows.push(json!(in alloc; [a, b, weight])?)?;
-    }
-    let mut called = Vec::new(alloc);
-    for name in names {
-        called.push(Value::String(String::from_str(alloc, *name)?))?;
-    }
-    let nodes = nodes as u64;
-    let rows = Value::Array(rows);
-    let called = Value::Array(called);
-    let mut text = json!(in alloc; {"edges": &rows, "names": &called, "nodes": nodes})?.to_string(
-        alloc,
-    )?;
-    text.push_str("\n")?;
-    Ok(text)
+    graph: &Graph,
+    words: &LandmarkWords,
+) -> Result<Vec<Option<Mark>>, AllocError>
+    requires { IsWithin words.now graph.now.nodes }
+{
+    let words = words.of_nodes(alloc, graph.nodes())?;
+    let landmarks = Landmarks::choose(alloc, graph.nodes() as usize, &words)?;
+    marks_of(alloc, graph, &landmarks)
 }

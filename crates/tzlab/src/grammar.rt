@@ -84,6 +84,12 @@ fn export<'a>(alloc: Global) -> Result<Command<'a>, AllocError> {
             "as",
             "FORM",
             "edges (an edge list, as without it), csv, dot or json",
+        ))?
+        .arg(value(
+            alloc,
+            "words",
+            "W",
+            "With dot: marks the landmarks none, at:2,5 or draw:7, and the nodes that are nearest to each",
         ))
 }
 

@@ -1,15 +1,12 @@
-use Rattle.std.proofs.Common.{◌≡◌, ◌∙◌, sym, ap, arith, ◌+◌, List, length}
+use Rattle.std.proofs.Common.{◌≡◌, sym, ap, rules, arith, ◌+◌, List, length}
 use Rattle.std.specs.Prelude.{Option, Some, None}
 use Rattle.std.specs.Option.{option_map}
-use Rattle.std.specs.FinMap.{len}
 use Rattle.graph_edits.specs.Edges.{Network}
 use Rattle.graph_edits.specs.Changes.{fold}
-use Rattle.layout_2.specs.Records.{Entry, entries_of}
+use Rattle.layout_2.specs.Records.{Area, Entry, entries_of}
 use Rattle.layout_2.specs.State.{State, after, asked, changes_of, state_with}
-use Rattle.layout_2.specs.Standing.{StandsFor}
 use Rattle.requests.specs.Tickets.{tickets_after}
 use Rattle.std.proofs.lemmas.Option.{none-some, same_Some}
-use Rattle.device_info.specs.Info.{held_after}
 use Rattle.device_info.proofs.info.info_of.Goals as goal
 
 -- the count after requests is that before them with one for each
@@ -21,37 +18,30 @@ counted : (base state : State) (requests : List Entry) → after base requests �
 counted base state requests e = count_by_fold base state requests (fold base.graph (changes_of requests)) e
 
 pub returns-clause-figures : goal.returns-clause-figures
-returns-clause-figures g c model state stands =
-    let l = c.in-Ok.loaded in
-    let found = c.in-Ok.ensures in
-    let own : StandsFor (state_with l.count l.graph l.tickets) (g.D.Disk.view c.args.disk.now).content = record {
-      slot = l.slot;
-      epoch = l.epoch;
-      base = state_with l.base_count l.base.value l.base_tickets.value;
-      groups = l.journal.groups;
-      is_slot = found.slot;
-      by = (found.in_use model).stands;
-      folds = found.folds;
-      in_turn = found.in_turn;
-      count_fits = found.fits;
-    } in
-    let same : state_with l.count l.graph l.tickets ≡ state = c.standing_law.ensures _ _ _ own stands in
-    record {
-      nodes = c.nodes.ensures.nodes ∙ ap (λ (s : State). s.graph.nodes) same;
-      edges = c.edges.ensures ∙ ap (λ (s : State). len s.graph.edges) same;
-      count = ap (λ (s : State). s.count) same;
-      held = c.in-Ok-held_of.ensures ∙ ap (λ (s : State). held_after 0 s.tickets) same;
-    }
-
-pub returns-clause-place : goal.returns-clause-place
-returns-clause-place g c model =
+returns-clause-figures g c model =
     let l = c.in-Ok.loaded in
     let found = c.in-Ok.ensures in
     let more : l.count ≡ l.base_count + length (entries_of l.journal.groups) = counted _ _ _ found.folds in
+    let room = ap (λ (a : Area). a.room) found.area in
     record {
-      base = state_with l.base_count l.base.value l.base_tickets.value;
-      groups = l.journal.groups;
-      stands = (found.in_use model).stands;
-      is_slot = found.slot;
+      state = state_with l.count l.graph l.tickets;
+      stands = record {
+        slot = l.slot;
+        epoch = l.epoch;
+        base = state_with l.base_count l.base.value l.base_tickets.value;
+        groups = l.journal.groups;
+        is_slot = found.slot;
+        by = (found.in_use model).stands;
+        folds = found.folds;
+        in_turn = found.in_turn;
+        count_fits = found.fits;
+      };
+      nodes = c.nodes.ensures.nodes;
+      edges = c.edges.ensures;
+      count = search rules;
+      held = c.in-Ok-held_of.ensures;
+      slot = search rules;
+      epoch = search rules;
       journal = omega (arith, more, c.saturating_sub.ensures);
+      room = omega (arith, room, c.room_left.ensures);
     }

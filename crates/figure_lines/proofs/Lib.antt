@@ -1,0 +1,6 @@
+pub mod EdgeLists
+pub mod Lines
+pub mod Marked
+pub mod Pushes
+pub mod Rows
+pub mod Whole

@@ -1,0 +1,7 @@
+pub mod Csv
+pub mod Json
+pub mod Figures
+pub mod Info
+pub mod Schemes
+pub mod Ways
+pub mod Networks

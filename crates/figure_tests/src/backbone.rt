@@ -1,0 +1,416 @@
+// The example `examples/backbone`: its list is read, imported, exported, measured and routed in. What the landmark words
+// `draw:7` choose, the figures and the way were found by another program, written from docs/FORMATS.md; all ways are
+// measured beside the slow count.
+use crate::helpers::{Edge as Joined, got, graph_of, measured_at, scheme_at};
+use crate::slow::{Distances, distance, distances_of, expect_sizes, expect_ways};
+use checkpoint::{DEVICE_LEN, Store, format};
+use disk_trait::MemDisk;
+use edge_lists::{Edge, Names, edge_list, read_edge_list};
+use figure_lines::{
+    Mark, edges_of, figures_text, marks_of, network_csv, network_dot, network_json,
+    scheme_figures_of, way_figures_of,
+};
+use graph_edits::{Code, Graph};
+use landmarks::Landmarks;
+use network_import::{ImportRefused, Progress, import};
+use scheme_builds::carry_in;
+use scheme_figures::drawn_pairs;
+use std::alloc::Global;
+use std::process::Abort;
+use std::str;
+use written_values::landmark_words;
+
+/// What `examples/backbone/backbone.txt` holds.
+const LIST: &str =
+    "# A backbone between forty-six cities: a line for each span, with its length in kilometres.
+# The lengths are made up, near those of roads.
+
+# the west
+Lisboa Porto 313
+Lisboa Madrid 625
+Lisboa Sevilla 402
+Porto Bilbao 690
+Sevilla Madrid 530
+Madrid Bilbao 395
+Madrid Valencia 357
+Valencia Barcelona 349
+Bilbao Bordeaux 335
+Barcelona Toulouse 394
+Barcelona Marseille 506
+Toulouse Bordeaux 245
+
+# the middle
+Bordeaux Nantes 347
+Nantes Paris 385
+Bordeaux Paris 584
+Toulouse Lyon 538
+Marseille Lyon 314
+Marseille Genova 400
+Lyon Paris 466
+Lyon Geneve 150
+Geneve Bern 159
+Bern Zurich 125
+Zurich Milano 280
+Milano Genova 146
+Milano Venezia 270
+Paris Lille 225
+Paris Strasbourg 489
+Lille Bruxelles 117
+Bruxelles Amsterdam 210
+Bruxelles Koln 213
+Amsterdam Hamburg 465
+Koln Frankfurt 190
+Frankfurt Strasbourg 217
+Strasbourg Zurich 224
+Frankfurt Munchen 392
+Frankfurt Leipzig 392
+Zurich Munchen 313
+Munchen Wien 435
+Munchen Praha 383
+Leipzig Praha 256
+Leipzig Berlin 190
+Hamburg Berlin 289
+
+# the north
+Hamburg Kobenhavn 340
+Kobenhavn Goteborg 318
+Goteborg Oslo 294
+Goteborg Stockholm 470
+Oslo Stockholm 522
+Stockholm Helsinki 480
+
+# the east and the south
+Berlin Poznan 277
+Poznan Warszawa 310
+Praha Wroclaw 289
+Wroclaw Poznan 181
+Wroclaw Krakow 271
+Krakow Warszawa 293
+Warszawa Vilnius 460
+Vilnius Riga 294
+Riga Helsinki 390
+Wien Budapest 243
+Wien Venezia 600
+Krakow Budapest 392
+Venezia Bologna 154
+Bologna Genova 297
+Bologna Roma 377
+Roma Napoli 225
+";
+
+/// Its cities, in the order in which it names them.
+const CITIES: &str = "Lisboa
+Porto
+Madrid
+Sevilla
+Bilbao
+Valencia
+Barcelona
+Bordeaux
+Toulouse
+Marseille
+Nantes
+Paris
+Lyon
+Genova
+Geneve
+Bern
+Zurich
+Milano
+Venezia
+Lille
+Strasbourg
+Bruxelles
+Amsterdam
+Koln
+Hamburg
+Frankfurt
+Munchen
+Leipzig
+Wien
+Praha
+Berlin
+Kobenhavn
+Goteborg
+Oslo
+Stockholm
+Helsinki
+Poznan
+Warszawa
+Wroclaw
+Krakow
+Vilnius
+Riga
+Budapest
+Bologna
+Roma
+Napoli
+";
+
+/// The nodes that `draw:7` makes landmarks.
+const LANDMARKS: [u16; 11] = [0, 9, 10, 13, 15, 18, 25, 26, 27, 31, 42];
+
+/// Nobody is told how far an import has come.
+#[derive(Drop)]
+struct Untold;
+
+impl Progress for Untold {
+    fn came_to(&mut self, _: usize) {}
+}
+
+/// The names of a text, a line each.
+fn names_in<'a>(rt: &impl Abort, alloc: Global, text: &'a str) -> Names<'a> {
+    match got(rt, Names::read(alloc, text, 46)) {
+        Ok(names) => names,
+        Err(_) => panic!(rt; "names"),
+    }
+}
+
+/// The edges that a list says, by the numbers of these names.
+fn edges_in<'a>(rt: &impl Abort, alloc: Global, names: &mut Names<'a>, text: &'a str) -> Vec<Edge> {
+    let Ok(rows) = got(rt, read_edge_list(alloc, text)) else {
+        panic!(rt; "rows");
+    };
+    match got(rt, names.take_rows(alloc, &rows, 46)) {
+        Ok(edges) => edges,
+        Err(_) => panic!(rt; "edges"),
+    }
+}
+
+/// A store of a new device for the cities.
+fn new_store(rt: &impl Abort, alloc: Global) -> Store<MemDisk> {
+    let mut disk = got(rt, MemDisk::new(alloc, DEVICE_LEN));
+    got(rt, format(&mut disk, 46));
+    match Store::open(alloc, disk) {
+        Ok(store) => store,
+        Err(_) => panic!(rt; "a store"),
+    }
+}
+
+/// Imports edges into a store.
+fn imported(
+    rt: &impl Abort,
+    alloc: Global,
+    store: &mut Store<MemDisk>,
+    edges: &[Edge],
+) -> Result<(), ImportRefused> {
+    assert!(rt; !store.is_down(), "it is up");
+    let mut told = Untold;
+    import(alloc, store, edges, &mut told)
+}
+
+/// The edges of the list, as the slow count has them.
+fn joined(rt: &impl Abort, alloc: Global) -> Vec<Joined> {
+    let mut names = Names::new(alloc);
+    let mut all = Vec::new(alloc);
+    for edge in edges_in(rt, alloc, &mut names, LIST) {
+        got(rt, all.push((edge.a, edge.b, edge.weight)));
+    }
+    all
+}
+
+#[test]
+fn backbone_is_imported_once(rt: HostRuntime) {
+    let alloc = rt.alloc();
+    let mut names = Names::new(alloc);
+    let edges = edges_in(&rt, alloc, &mut names, LIST);
+    assert_eq!(rt; got(&rt, names.written(alloc)).as_str(), CITIES, "names");
+    let mut store = new_store(&rt, alloc);
+    let answer = imported(&rt, alloc, &mut store, &edges);
+    assert_eq!(rt; answer, Ok(()));
+    let found = (store.count(), store.graph().edges(), store.nodes());
+    assert_eq!(rt; found, (4, 64, 46));
+    assert_eq!(rt; store.resume(0), 4);
+    for edge in &edges {
+        assert_eq!(rt;
+            store.graph().weight(edge.a, edge.b),
+            Some(edge.weight),
+            "line {}",
+            edge.line
+        );
+    }
+
+    // The same list again is refused at its first edge, which stands in line 5.
+    let answer = imported(&rt, alloc, &mut store, &edges);
+    assert_eq!(rt;
+        answer,
+        Err(ImportRefused::Op {
+            place: 0,
+            code: Code::EdgeThere,
+        },)
+    );
+    assert_eq!(rt; edges.first().map(|edge| edge.line), Some(5));
+    assert_eq!(rt; (store.count(), store.graph().edges()), (4, 64));
+}
+
+/// Sees that a list says the edges of a network.
+fn expect_list(rt: &impl Abort, alloc: Global, graph: &Graph, text: &str) {
+    let mut names = names_in(rt, alloc, CITIES);
+    let edges = edges_in(rt, alloc, &mut names, text);
+    assert_eq!(rt; edges.len(), 64, "edges");
+    for edge in &edges {
+        assert_eq!(rt;
+            graph.weight(edge.a, edge.b),
+            Some(edge.weight),
+            "line {}",
+            edge.line
+        );
+    }
+}
+
+#[test]
+fn backbone_is_exported(rt: HostRuntime) {
+    let alloc = rt.alloc();
+    let all = joined(&rt, alloc);
+    let graph = graph_of(&rt, alloc, 46, &all);
+    let names = names_in(&rt, alloc, CITIES);
+    let names = names.list();
+    let edges = got(&rt, edges_of(alloc, &graph));
+    let text = got(&rt, edge_list(alloc, &edges, names));
+    expect_list(&rt, alloc, &graph, text.as_str());
+    let text = got(&rt, network_csv(alloc, &edges, names));
+    let text = got(&rt, str::from_utf8(&text));
+    assert!(rt; text.starts_with("a,b,weight\nLisboa,Porto,313\nLisboa,Madrid,625\n"));
+    expect_list(&rt, alloc, &graph, text);
+    let text = got(&rt, network_json(alloc, 46, &edges, names));
+    let text = text.as_str();
+    assert!(rt; text.starts_with("{\"edges\":[[0,1,313],[0,2,625],[0,3,402],[1,4,690],"));
+    assert!(rt; text.contains("],\"names\":[\"Lisboa\",\"Porto\",\"Madrid\","));
+    assert!(rt; text.ends_with(",\"Roma\",\"Napoli\"],\"nodes\":46}\n"));
+}
+
+/// The nearest landmark of a node by the slow count, the smaller one of two that are as near.
+fn nearest_of(all: &Distances, node: u16) -> Option<u16> {
+    let mut nearest = None;
+    let mut least = u64::MAX;
+    for landmark in &LANDMARKS {
+        if let Some(there) = distance(all, node, *landmark)
+            && there < least
+        {
+            nearest = Some(*landmark);
+            least = there;
+        }
+    }
+    nearest
+}
+
+/// The landmarks that are drawn among the cities.
+fn drawn_landmarks(rt: &impl Abort, alloc: Global) -> Landmarks {
+    let Some(words) = got(rt, landmark_words(alloc, "draw:7")) else {
+        panic!(rt; "no words");
+    };
+    assert!(rt; words.is_within(46));
+    let words = got(rt, words.of_nodes(alloc, 46));
+    let words = words.as_slice();
+    assert!(rt; words.len() == 46);
+    got(rt, Landmarks::choose(alloc, 46, words))
+}
+
+#[test]
+fn backbone_is_marked(rt: HostRuntime) {
+    let alloc = rt.alloc();
+    let all = joined(&rt, alloc);
+    let graph = graph_of(&rt, alloc, 46, &all);
+    let landmarks = drawn_landmarks(&rt, alloc);
+    let nodes = graph.nodes() as usize;
+    let marked = landmarks.flags().len();
+    assert!(rt; marked == nodes && nodes == 46);
+    for (node, flag) in landmarks.flags().iter().enumerate() {
+        assert_eq!(rt; *flag, LANDMARKS.contains(&(node as u16)), "{node}");
+    }
+    let marks = got(&rt, marks_of(alloc, &graph, &landmarks));
+    let distances = distances_of(&all);
+    assert_eq!(rt; marks.len(), 46, "marks");
+    for (node, mark) in marks.iter().enumerate() {
+        let nearest = nearest_of(&distances, node as u16);
+        assert_eq!(rt; mark.map(|mark| mark.landmark), nearest, "{node}");
+    }
+    let names = names_in(&rt, alloc, CITIES);
+    let edges = got(&rt, edges_of(alloc, &graph));
+    let text = got(&rt, network_dot(alloc, &edges, names.list(), &marks));
+    let text = got(&rt, str::from_utf8(&text));
+    let front =
+        "graph network {\n    \"Lisboa\" [shape=doublecircle, style=filled, fillcolor=\"/set312/1\", landmark=\"Lisboa\"];\n    \"Porto\" [style=filled, fillcolor=\"/set312/1\", landmark=\"Lisboa\"];\n";
+    assert!(rt; text.starts_with(front));
+    assert_eq!(rt; text.lines().count(), 1 + 46 + 64 + 1, "lines");
+}
+
+const FIGURES: &str = "nodes=46 unit=nodes
+landmarks=11 unit=nodes
+entries_mean=13.609 unit=entries
+entries_greatest=22 unit=entries
+entries_of_0=0 unit=nodes
+entries_of_1=0 unit=nodes
+entries_of_2_to_3=0 unit=nodes
+entries_of_4_to_7=0 unit=nodes
+entries_of_8_to_15=35 unit=nodes
+entries_of_16_to_31=11 unit=nodes
+directory_mean=2.609 unit=members
+directory_greatest=7 unit=members
+directory_of_0=11 unit=nodes
+directory_of_1=5 unit=nodes
+directory_of_2_to_3=14 unit=nodes
+directory_of_4_to_7=16 unit=nodes
+table_mean=198.957 unit=bytes
+table_greatest=312 unit=bytes
+tables_all=9152 unit=bytes
+full_table=90 unit=bytes
+full_tables_all=4140 unit=bytes
+";
+
+const WAYS: &str = "pairs=1000 unit=pairs
+unreachable=0 unit=pairs
+stretch_mean=1.070 unit=times
+stretch_p50=1.000 unit=times
+stretch_p95=1.418 unit=times
+stretch_p99=2.062 unit=times
+stretch_greatest=2.641 unit=times
+exact_share=0.714 unit=share
+";
+
+#[test]
+fn backbone_has_these_figures(rt: HostRuntime) {
+    let alloc = rt.alloc();
+    let all = joined(&rt, alloc);
+    let graph = graph_of(&rt, alloc, 46, &all);
+    let scheme = scheme_at(&rt, alloc, &graph, &LANDMARKS);
+    let figures = got(&rt, scheme_figures_of(alloc, &scheme));
+    let text = got(&rt, figures_text(alloc, &figures));
+    assert_eq!(rt; text.as_str(), FIGURES, "the scheme's");
+    let pairs = got(&rt, drawn_pairs(alloc, 46, 1000, 0));
+    let measured = measured_at(&rt, alloc, &graph, &LANDMARKS, &pairs);
+    let figures = got(&rt, way_figures_of(alloc, &measured));
+    let text = got(&rt, figures_text(alloc, &figures));
+    assert_eq!(rt; text.as_str(), WAYS, "the ways'");
+}
+
+#[test]
+fn backbone_beside_the_slow_count(rt: HostRuntime) {
+    let all = joined(&rt, rt.alloc());
+    expect_sizes(&rt, rt.alloc(), 46, &all, &LANDMARKS);
+    expect_ways(&rt, rt.alloc(), 46, &all, &LANDMARKS);
+}
+
+/// The way from Bilbao to Krakow.
+const WAY: [u16; 11] = [4, 7, 8, 12, 14, 15, 16, 26, 28, 42, 39];
+
+// By the landmark Budapest it is 2,935 km; the shortest way has 2,808.
+#[test]
+fn backbone_routes_from_bilbao_to_krakow(rt: HostRuntime) {
+    let alloc = rt.alloc();
+    let all = joined(&rt, alloc);
+    let names = names_in(&rt, alloc, CITIES);
+    assert_eq!(rt; names.list().get(4).copied(), Some("Bilbao"));
+    assert_eq!(rt; names.list().get(39).copied(), Some("Krakow"));
+    let graph = graph_of(&rt, alloc, 46, &all);
+    let scheme = scheme_at(&rt, alloc, &graph, &LANDMARKS);
+    assert!(rt; graph.nodes() == 46);
+    let trail = got(&rt, carry_in(alloc, &graph, &scheme, 4, 39));
+    assert_eq!(rt; trail.nodes.as_slice(), WAY.as_slice(), "the way");
+    assert_eq!(rt; trail.length, 2935, "its length");
+    assert_eq!(rt;
+        distance(&distances_of(&all), 4, 39),
+        Some(2808),
+        "the shortest"
+    );
+}
