@@ -1,0 +1,3 @@
+pub mod Shelves
+pub mod Lines
+pub mod Answers

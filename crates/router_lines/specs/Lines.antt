@@ -1,0 +1,86 @@
+-- What lines ask for.
+use Rattle.std.specs.Prelude.{◌≡◌, ◌≢◌, ◌⊎◌, ◌*◌, ℕ, Result, Ok, Err, Option, Some, List, ◌++◌, codes, length}
+use Rattle.hex.specs.Hex.{decode_sized}
+use Rattle.packet_bytes.specs.Layout.{address_size, packet_size}
+use Rattle.packet_bytes.specs.Refusals.{address_refusal, packet_refusal}
+use Rattle.packet_bytes.specs.Spelling.{SpellsAddress, SpellsPacket}
+use Rattle.packet_bytes.specs.declared.wire.WireRefused.{WireRefused}
+use Rattle.packet_bytes.specs.declared.wire.WireRefused.TheVariants.{BadLength}
+use Rattle.router_lines.specs.declared.line.NoBytes.{NoBytes}
+use Rattle.router_lines.specs.declared.line.NoBytes.TheVariants.{OtherLength, NoDigits}
+use Rattle.router_lines.specs.declared.line.Asked.{Asked}
+use Rattle.router_lines.specs.declared.line.Asked.TheVariants.{Address, Launch, Hop, Tables, Unread, NotUnderstood}
+
+-- the words of lines
+abbrev pub address_word : List ℕ
+address_word = codes "address"
+
+abbrev pub tables_word : List ℕ
+tables_word = codes "tables"
+
+abbrev pub launch_word : List ℕ
+launch_word = codes "launch "
+
+abbrev pub hop_word : List ℕ
+hop_word = codes "hop "
+
+abbrev pub load_word : List ℕ
+load_word = codes "load "
+
+-- digits are the hex of bytes that spell a value
+pub record AreDigitsOf {X : Type 0} (size : ℕ) (spells : List ℕ → X → Type 0) (digits : List ℕ) (x : X) : Type 0 where
+  pub bytes : List ℕ
+  pub decoded : decode_sized digits size ≡ Ok bytes
+  pub spelled : spells bytes x
+
+-- digits are as many as those of so many bytes, and the hex of none
+abbrev pub HasNoBytes : ℕ → List ℕ → Type 0
+HasNoBytes size digits = (length digits ≡ 2 * size) × ((bytes : List ℕ) → decode_sized digits size ≢ Ok bytes)
+
+-- so many bytes of digits, exactly
+abbrev pub IsDecoded : ℕ → List ℕ → Result (List ℕ) NoBytes → Type 0
+IsDecoded size digits (Ok bytes) = (length digits ≡ 2 * size) × (decode_sized digits size ≡ Ok bytes)
+IsDecoded size digits (Err OtherLength) = length digits ≢ 2 * size
+IsDecoded size digits (Err NoDigits) = HasNoBytes size digits
+
+-- why digits are those of no value: they are more or fewer, or their bytes are refused
+abbrev pub IsUnread : ℕ → (List ℕ → Option WireRefused) → List ℕ → WireRefused → Type 0
+IsUnread size refusal digits e =
+    ((e ≡ BadLength) × (length digits ≢ 2 * size))
+    ⊎ ((length digits ≡ 2 * size) × ((bytes : List ℕ) × ((decode_sized digits size ≡ Ok bytes) × (refusal bytes ≡ Some e))))
+
+-- what the digits of an address ask for, and those of a packet
+abbrev pub IsLaunch : List ℕ → Asked → Type 0
+IsLaunch digits (Launch a) = AreDigitsOf address_size SpellsAddress digits a
+IsLaunch digits (Unread e) = IsUnread address_size address_refusal digits e
+IsLaunch digits NotUnderstood = HasNoBytes address_size digits
+IsLaunch digits (Hop k) = ⊥
+IsLaunch digits Address = ⊥
+IsLaunch digits Tables = ⊥
+
+abbrev pub IsHop : List ℕ → Asked → Type 0
+IsHop digits (Hop k) = AreDigitsOf packet_size SpellsPacket digits k
+IsHop digits (Unread e) = IsUnread packet_size packet_refusal digits e
+IsHop digits NotUnderstood = HasNoBytes packet_size digits
+IsHop digits (Launch a) = ⊥
+IsHop digits Address = ⊥
+IsHop digits Tables = ⊥
+
+-- a line asks for something that is known
+abbrev pub Asks : List ℕ → Asked → Type 0
+Asks line Address = line ≡ address_word
+Asks line Tables = line ≡ tables_word
+Asks line (Launch a) = (digits : List ℕ) × ((line ≡ launch_word ++ digits) × AreDigitsOf address_size SpellsAddress digits a)
+Asks line (Hop k) = (digits : List ℕ) × ((line ≡ hop_word ++ digits) × AreDigitsOf packet_size SpellsPacket digits k)
+Asks line (Unread e) =
+    (digits : List ℕ) × (((line ≡ launch_word ++ digits) × IsUnread address_size address_refusal digits e) ⊎ ((line ≡ hop_word ++ digits) × IsUnread packet_size packet_refusal digits e))
+Asks line NotUnderstood = ⊥
+
+-- what a line asks for, exactly: for nothing where it asks for nothing that is known
+abbrev pub IsAskedIn : List ℕ → Asked → Type 0
+IsAskedIn line Address = Asks line Address
+IsAskedIn line Tables = Asks line Tables
+IsAskedIn line (Launch a) = Asks line (Launch a)
+IsAskedIn line (Hop k) = Asks line (Hop k)
+IsAskedIn line (Unread e) = Asks line (Unread e)
+IsAskedIn line NotUnderstood = (asked : Asked) → Asks line asked → ⊥

@@ -1,0 +1,113 @@
+// What a line asks for.
+ghost use Rattle.std.specs.Prelude.{◌≡◌, ◌≢◌, ◌++◌, MatchOption, ℕ, List};
+ghost use Rattle.router_lines.specs.Lines.{IsAskedIn, IsDecoded, IsLaunch, IsHop, load_word};
+
+use hex::FromHex;
+use node_table::{Address, Packet};
+use packet_bytes::{ADDRESS_SIZE, PACKET_SIZE, Wire, WireRefused};
+
+/// What a line asks for.
+#[derive(Drop)]
+pub enum Asked {
+    /// Where the router is to be found.
+    Address,
+    /// A packet to an address.
+    Launch(Address),
+    /// What becomes of a packet.
+    Hop(Packet),
+    /// Which tables there are.
+    Tables,
+    /// What is to be launched or to hop has no spelling.
+    Unread(WireRefused),
+    /// Nothing that is known.
+    NotUnderstood,
+}
+
+/// What stands behind a word at the front of a line.
+#[tactic(auto, using(crate::proofs::Fronts::short_front, crate::proofs::Fronts::front_of_other, crate::proofs::Fronts::front_and_rest))]
+fn behind<'a>(line: &'a [u8], word: &[u8]) -> Option<&'a [u8]>
+    ensures { MatchOption result ((rest : List ℕ) → line.now ≢ word.now ++ rest) (λ rest. line.now ≡ word.now ++ rest.now) }
+{
+    if line.len() < word.len() {
+        return None;
+    }
+    let (front, rest) = line.split_at(word.len());
+    if front == word { Some(rest) } else { None }
+}
+
+/// The file that a line names behind `load `.
+pub fn file_in(line: &[u8]) -> Option<&[u8]>
+    ensures { MatchOption result ((file : List ℕ) → line.now ≢ load_word ++ file) (λ file. line.now ≡ load_word ++ file.now) }
+{
+    behind(line, b"load ")
+}
+
+/// What digits are not, where they aren't those of so many bytes: too many or too few of them, or no digits at all.
+#[derive(Clone, Copy, Drop)]
+pub(crate) enum NoBytes {
+    OtherLength,
+    NoDigits,
+}
+
+/// The bytes of so many hex digits.
+fn bytes_in<const N: usize>(digits: &[u8]) -> Result<[u8; N], NoBytes>
+    ensures { IsDecoded N digits.now result }
+{
+    if digits.len() % 2 != 0 || digits.len() / 2 != N {
+        return Err(NoBytes::OtherLength);
+    }
+    match <[u8; N] as FromHex>::from_hex(digits) {
+        Ok(bytes) => Ok(bytes),
+        Err(_) => Err(NoBytes::NoDigits),
+    }
+}
+
+/// What is asked for by the digits of an address.
+fn launch_of(digits: &[u8]) -> Asked
+    ensures { IsLaunch digits.now result }
+{
+    let bytes = match bytes_in::<ADDRESS_SIZE>(digits) {
+        Ok(bytes) => bytes,
+        Err(NoBytes::OtherLength) => return Asked::Unread(WireRefused::BadLength),
+        Err(NoBytes::NoDigits) => return Asked::NotUnderstood,
+    };
+    match Address::from_bytes(&bytes) {
+        Ok(address) => Asked::Launch(address),
+        Err(refused) => Asked::Unread(refused),
+    }
+}
+
+/// What is asked for by the digits of a packet.
+fn hop_of(digits: &[u8]) -> Asked
+    ensures { IsHop digits.now result }
+{
+    let bytes = match bytes_in::<PACKET_SIZE>(digits) {
+        Ok(bytes) => bytes,
+        Err(NoBytes::OtherLength) => return Asked::Unread(WireRefused::BadLength),
+        Err(NoBytes::NoDigits) => return Asked::NotUnderstood,
+    };
+    match Packet::from_bytes(&bytes) {
+        Ok(packet) => Asked::Hop(packet),
+        Err(refused) => Asked::Unread(refused),
+    }
+}
+
+/// What a line asks for, where it doesn't name a file.
+#[tactic(auto, using(crate::proofs::Asking::launch_asked, crate::proofs::Asking::hop_asked, crate::proofs::Asking::nothing_asked))]
+pub fn asked_in(line: &[u8]) -> Asked
+    ensures { IsAskedIn line.now result }
+{
+    if line == b"address".as_slice() {
+        return Asked::Address;
+    }
+    if line == b"tables".as_slice() {
+        return Asked::Tables;
+    }
+    if let Some(digits) = behind(line, b"launch ") {
+        return launch_of(digits);
+    }
+    match behind(line, b"hop ") {
+        Some(digits) => hop_of(digits),
+        None => Asked::NotUnderstood,
+    }
+}
