@@ -1,5 +1,5 @@
 -- The stops of calls.
-use Rattle.std.specs.Prelude.{ℕ, suc, ◌+◌, List, [], ◌∷◌, ◌++◌, map, take}
+use Rattle.std.specs.Prelude.{ℕ, suc, ◌+◌, List, [], ◌∷◌, ◌++◌, length, map, take}
 use Rattle.std.specs.List.{range_with_len}
 use Rattle.device_stops.specs.declared.stops.Call.{Call}
 use Rattle.device_stops.specs.declared.stops.Call.TheVariants.{Read, Write, Sync}
@@ -27,3 +27,7 @@ stops_from number (call ∷ calls) = stops_at number call ++ stops_from (number 
 -- the first so many stops of calls
 abbrev pub first_stops : ℕ → List Call → List Stop
 first_stops most calls = take most (stops_from 1 calls)
+
+-- how many stops calls have
+abbrev pub stop_count : List Call → ℕ
+stop_count calls = length (stops_from 1 calls)

@@ -1,13 +1,18 @@
 -- A watched disk, as contracts see it.
-use Rattle.std.specs.Prelude.{IsTrue}
+use Rattle.std.specs.Prelude.{IsTrue, List}
 use Rattle.disk_trait.specs.declared.memory.MemDisk.{MemDisk}
 use Rattle.disk_trait.specs.Disk.{DiskView, MayLeave}
 use Rattle.disk_trait.specs.Memory.{mem_view, mem_present}
+use Rattle.device_stops.specs.declared.stops.Call.{Call}
 use Rattle.device_stops.specs.declared.watched.Watched.{Watched}
 
 -- the disk that is watched
 abbrev pub disk_in : Watched → MemDisk
 disk_in watched = watched.disk
+
+-- the calls that were made of it since it was armed last, in their order
+abbrev pub calls_made : Watched → List Call
+calls_made watched = watched.notes.made.items
 
 -- what is seen of it
 abbrev pub watched_view : Watched → DiskView

@@ -3,12 +3,13 @@
 //! # What it is
 //!
 //! A device can stop at each of its calls, and in a write behind each number of bytes. [`Watched`] is a disk in memory that notes the calls
-//! that were made of it since it was last armed. [`stops_of`] lists the [`Stop`]s of such calls. Whoever tries them says what kind each
-//! [`Trial`] came to, and [`table_of`] counts the kinds.
+//! that were made of it since it was last armed. [`stops_of`] lists the [`Stop`]s of such calls, and [`count_stops`] counts them. Whoever
+//! tries them says what [`Kind`] each trial came to, and [`table_of`] counts the kinds.
 //!
 //! # The contract
 //!
-//! - [`Watched`] is the disk in it: it has its view, so all that holds of a disk in memory holds of it.
+//! - [`Watched`] is the disk in it: it has its view, so all that holds of a disk in memory holds of it. Each call of it adds that call to
+//!   those that were made (`calls_made`, specs/WatchedWords.antt), and these come out.
 //! - [`stops_of`] answers the first stops of these calls, in order, at most as many as are asked for (`first_stops`, specs/Stops.antt).
 //! - [`table_of`] answers a table of these kinds (`IsTableOf`, specs/Tables.antt): its rows ascend, each counts exactly the trials of its
 //!   kind, and together they count all trials.
@@ -20,11 +21,12 @@
 #![tactic(auto)]
 
 mod kinds;
+mod notes;
 mod stops;
 mod tables;
 mod watched;
 
 pub use kinds::{Kind, KindCount};
-pub use stops::{Call, Stop, stops_of};
+pub use stops::{Call, Stop, count_stops, stops_of};
 pub use tables::table_of;
-pub use watched::{Watched, WatchedCalls};
+pub use watched::Watched;

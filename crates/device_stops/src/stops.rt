@@ -1,6 +1,6 @@
 //! The stops of calls.
-ghost use Rattle.std.specs.Prelude.{◌≡◌, ◌≤◌, ◌++◌, [], ◌∷◌, length, take, IfOk, OnOk};
-ghost use Rattle.device_stops.specs.Stops.{bytes_of, first_stops, stops_at};
+ghost use Rattle.std.specs.Prelude.{◌≡◌, ◌≤◌, ◌-◌, ◌^◌, ◌++◌, [], ◌∷◌, length, min, take, IfOk, OnOk};
+ghost use Rattle.device_stops.specs.Stops.{bytes_of, first_stops, stop_count, stops_at};
 
 use std::alloc::{AllocError, Global};
 
@@ -73,4 +73,16 @@ fn push_stop(stops: &mut Vec<Stop>, stop: Stop, most: usize) -> Result<(), Alloc
         stops.push(stop)?;
     }
     Ok(())
+}
+
+/// How many stops these calls have, or the greatest number that there is for that.
+pub fn count_stops(calls: &[Call]) -> u64
+    ensures { result ≡ min (stop_count calls.now) (2 ^ 64 - 1) }
+{
+    let mut stops: u64 = 0;
+    for call in calls {
+        let here = (call.bytes() as u64).saturating_add(1);
+        stops = stops.saturating_add(here);
+    }
+    stops
 }

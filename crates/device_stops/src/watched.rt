@@ -1,75 +1,44 @@
 //! A disk in memory whose calls are noted.
-ghost use Rattle.std.specs.Prelude.{◌≡◌, ◌≤◌, ◌+◌, length, OnOk, IsTrue};
+ghost use Rattle.std.specs.Prelude.{◌≡◌, ◌≤◌, ◌+◌, ◌++◌, [], ◌∷◌, length, IfOk, OnOk, IsTrue};
 ghost use Rattle.disk_trait.specs.Disk.{MayLeave, IsSameDevice, IsDeviceCall, IsSettled, Unchanged, overwritten, bytes_at};
+ghost use Rattle.device_stops.specs.declared.stops.Call.{Call};
 
+use crate::notes::Notes;
 use crate::stops::Call;
 use disk_trait::{CrashDisk, DeviceFault, Disk, MemDisk, Plan};
 use std::alloc::{AllocError, Global};
-
-/// The calls that a watched disk has noted.
-#[derive(Drop)]
-pub struct WatchedCalls {
-    /// The first of them, at most as many as were asked for.
-    pub calls: Vec<Call>,
-    /// How many stops all calls have.
-    pub stops: u64,
-}
 
 /// A disk in memory that notes its calls. What is noted begins anew where the disk is armed.
 #[derive(Drop)]
 pub struct Watched {
     disk: MemDisk,
-    calls: Vec<Call>,
-    // At most so many calls are noted.
-    most: usize,
-    // How many stops all calls have, noted or not.
-    stops: u64,
-    // Whether a call wasn't noted for want of memory.
-    missed: bool,
+    notes: Notes,
 }
 
 impl Watched {
-    ghost use Rattle.disk_trait.specs.Memory.{mem_view};
-    ghost use Rattle.device_stops.specs.WatchedWords.{watched_view, disk_in};
+    ghost use Rattle.device_stops.specs.WatchedWords.{calls_made, disk_in};
 
-    /// This disk, of which at most so many calls are noted.
-    pub fn new(alloc: Global, disk: MemDisk, most: usize) -> Watched
-        ensures { disk_in result ≡ disk }
+    /// This disk, of which no call is noted yet.
+    pub fn new(alloc: Global, disk: MemDisk) -> Watched
+        ensures disk { disk_in result ≡ disk }
+        ensures calls { calls_made result ≡ [] }
     {
         Watched {
             disk,
-            calls: Vec::new(alloc),
-            most,
-            stops: 0,
-            missed: false,
+            notes: Notes::new(alloc),
         }
     }
 
-    /// What was noted since the disk was armed last; not where memory ran out for a note.
-    pub fn into_calls(self) -> Result<WatchedCalls, AllocError> {
-        if self.missed {
-            return Err(AllocError);
-        }
-        Ok(WatchedCalls {
-            calls: self.calls,
-            stops: self.stops,
-        })
-    }
-
-    // One call more.
-    fn note(&mut self, call: Call)
-        ensures { self.new.disk ≡ self.old.disk }
+    /// The calls since the disk was armed last, in their order; not where memory ran out for a note.
+    pub fn into_calls(self) -> Result<Vec<Call>, AllocError>
+        ensures { IfOk result (λ calls. calls.items ≡ calls_made self) }
     {
-        let stops = (call.bytes() as u64).saturating_add(1);
-        self.stops = self.stops.saturating_add(stops);
-        if self.calls.len() < self.most && self.calls.push(call).is_err() {
-            self.missed = true;
-        }
+        self.notes.into_calls()
     }
 }
 
 impl Disk for Watched {
-    ghost use Rattle.device_stops.specs.WatchedWords.{watched_view, watched_present};
+    ghost use Rattle.device_stops.specs.WatchedWords.{calls_made, watched_view, watched_present};
 
     ghost view = { watched_view };
 
@@ -79,39 +48,60 @@ impl Disk for Watched {
         self.disk.len()
     }
 
-    fn read(&mut self, at: usize, bytes: &mut [u8]) -> Result<(), DeviceFault> {
-        self.note(Call::Read);
+    fn read(&mut self, at: usize, bytes: &mut [u8]) -> Result<(), DeviceFault>
+        requires { at + length bytes.old ≤ length (watched_view self.old).content }
+        ensures call { IsDeviceCall 0 0 (watched_view self.old) (watched_view self.new) result }
+        ensures bytes { IsTrue (watched_view self.old).keeps_model →
+            OnOk result (bytes.new ≡ bytes_at (watched_view self.old).content at (length bytes.old)) }
+        ensures noted { calls_made self.new ≡ calls_made self.old ++ Call.Read ∷ [] }
+    {
+        self.notes.add(Call::Read);
         self.disk.read(at, bytes)
     }
 
-    fn write_at(&mut self, at: usize, bytes: &[u8]) -> Result<(), DeviceFault> {
-        self.note(Call::Write(bytes.len()));
+    fn write_at(&mut self, at: usize, bytes: &[u8]) -> Result<(), DeviceFault>
+        requires { at + length bytes.now ≤ length (watched_view self.old).content }
+        ensures call { IsDeviceCall at (length bytes.now) (watched_view self.old) (watched_view self.new) result }
+        ensures written { IsTrue (watched_view self.old).keeps_model →
+            OnOk result ((watched_view self.new).content ≡ overwritten (watched_view self.old).content at bytes.now) }
+        ensures noted { calls_made self.new ≡ calls_made self.old ++ Call.Write (length bytes.now) ∷ [] }
+    {
+        self.notes.add(Call::Write(bytes.len()));
         self.disk.write_at(at, bytes)
     }
 
-    fn sync(&mut self) -> Result<(), DeviceFault> {
-        self.note(Call::Sync);
+    fn sync(&mut self) -> Result<(), DeviceFault>
+        ensures call { IsDeviceCall 0 0 (watched_view self.old) (watched_view self.new) result }
+        ensures settled { IsTrue (watched_view self.old).keeps_model →
+            OnOk result (IsSettled (watched_view self.new)) }
+        ensures noted { calls_made self.new ≡ calls_made self.old ++ Call.Sync ∷ [] }
+    {
+        self.notes.add(Call::Sync);
         self.disk.sync()
     }
 }
 
 impl CrashDisk for Watched {
-    ghost use Rattle.device_stops.specs.WatchedWords.{watched_view};
+    ghost use Rattle.device_stops.specs.WatchedWords.{calls_made, watched_view};
 
-    fn crash(self, word: u64) -> Watched {
+    fn crash(self, word: u64) -> Watched
+        ensures image { IsTrue (watched_view self).keeps_model →
+            MayLeave (watched_view self) (watched_view result).content }
+        ensures settled { IsTrue (watched_view self).keeps_model → IsSettled (watched_view result) }
+        ensures ran { IsSameDevice (watched_view self) (watched_view result) }
+        ensures noted { calls_made result ≡ calls_made self }
+    {
         Watched {
             disk: self.disk.crash(word),
-            calls: self.calls,
-            most: self.most,
-            stops: self.stops,
-            missed: self.missed,
+            notes: self.notes,
         }
     }
 
-    fn arm(&mut self, plan: Plan) {
-        self.calls.clear();
-        self.stops = 0;
-        self.missed = false;
+    fn arm(&mut self, plan: Plan)
+        ensures same { Unchanged (watched_view self.old) (watched_view self.new) }
+        ensures anew { calls_made self.new ≡ [] }
+    {
+        self.notes.clear();
         self.disk.arm(plan);
     }
 }

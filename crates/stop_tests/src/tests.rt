@@ -1,13 +1,16 @@
-// What the tests share.
-use device_stops::{Call, Kind, KindCount, Stop, Watched, stops_of, table_of};
+// What the tests share: each call is made again where memory was refused.
+ghost use Rattle.rehearsal_lines.specs.Grammar.{IsRehearsal};
+
+use device_stops::{Call, Kind, KindCount, Stop, Watched, count_stops, stops_of, table_of};
 use disk_trait::{CrashDisk, Disk, MemDisk, Plan};
 use rehearsal_lines::{RehearsalLine, read_rehearsal};
-use rehearsals::{Rehearsal, lives_of};
-use std::alloc::Global;
+use rehearsals::{Rehearsal, RehearseRefused, lives_of};
+use std::alloc::{AllocError, Global};
 use std::process::Abort;
-use stop_trials::try_every_stop;
+use stop_trials::{StopFound, calls_of_last, trials_text, try_every_stop, try_stop, try_stops};
 
 mod counting;
+mod memory;
 mod trying;
 
 // The value of an answer that has to have one.
@@ -17,3 +20,34 @@ fn got<T, E: Drop>(rt: &impl Abort, answer: Result<T, E>) -> T {
         Err(_) => panic!(rt; "no value"),
     }
 }
+
+// The lines of a text that is a rehearsal.
+fn read(rt: &impl Abort, alloc: Global, text: &str) -> Vec<RehearsalLine>
+    ensures { IsRehearsal result.items }
+{
+    if let Ok(Ok(lines)) = read_rehearsal(alloc, text) {
+        return lines;
+    }
+    match read_rehearsal(alloc, text) {
+        Ok(Ok(lines)) => lines,
+        _ => panic!(rt; "no rehearsal: {text}"),
+    }
+}
+
+// The rehearsal that a text asks for.
+fn asked(rt: &impl Abort, alloc: Global, text: &str) -> Rehearsal {
+    if let Ok(Some(rehearsal)) = lives_of(alloc, read(rt, alloc, text)) {
+        return rehearsal;
+    }
+    match lives_of(alloc, read(rt, alloc, text)) {
+        Ok(Some(rehearsal)) => rehearsal,
+        _ => panic!(rt; "nothing is asked for: {text}"),
+    }
+}
+
+const ONE_CHANGE: &str = "device 5
+life sessions=1 places=4 words=none crash=1
+submit 0 1 add:0:1:1
+take
+commit
+";

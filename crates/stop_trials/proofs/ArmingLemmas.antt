@@ -1,5 +1,5 @@
 -- Lives that are armed.
-use Rattle.std.proofs.Common.{◌≡◌, ◌∙◌, refl, sym, ap, ℕ, zero, suc, ◌-◌, ◌+◌, ◌<◌, ◌≤◌, List, [], ◌∷◌, get_or, set, length, arith}
+use Rattle.std.proofs.Common.{◌≡◌, ◌∙◌, refl, ap, ℕ, zero, suc, ◌-◌, ◌<◌, ◌≤◌, List, [], ◌∷◌, get_or, set, length, arith}
 use Rattle.std.proofs.Props.{props}
 use Rattle.disk_trait.specs.declared.plan.Plan.{Plan}
 use Rattle.life_chain.specs.declared.life.Life.{Life}

@@ -1,5 +1,5 @@
 -- What lives came to: nothing that was found or acknowledged is gone.
-use Rattle.std.proofs.Common.{◌≡◌, ◌∙◌, refl, sym, ap, subst, ℕ, zero, suc, ◌+◌, ◌≤◌, List, [], ◌∷◌, ◌++◌, get_or, length, take, Option, None, Some, is_some, false, arith}
+use Rattle.std.proofs.Common.{◌≡◌, ◌∙◌, sym, ap, subst, ℕ, zero, suc, ◌+◌, ◌-◌, ◌≤◌, List, [], ◌∷◌, ◌++◌, get_or, length, take, Option, false, arith}
 use Rattle.disk_trait.specs.declared.disk.Disk.{Ghosts}
 use Rattle.layout_parts.specs.declared.refusals.OpenRefused.{OpenRefused}
 use Rattle.layout_2.specs.State.{State}
@@ -9,7 +9,7 @@ use Rattle.run_laws.specs.Listed.{IsListed}
 use Rattle.interleave.specs.WorldWords.{machine_of}
 use Rattle.life_chain.specs.declared.life.Life.{Life}
 use Rattle.life_chain.specs.declared.report.LifeReport.{LifeReport}
-use Rattle.life_chain.specs.Reports.{opened_of, taken_of, ended_with}
+use Rattle.life_chain.specs.Reports.{opened_of, taken_of}
 use Rattle.life_chain.specs.Lived.{IsLived, AreLived, IsSafe}
 use Rattle.life_chain.specs.Chains.{IsNextOf, AreChained}
 use Rattle.life_chain.proofs.LifeLemmas.{Ended, settled_is}
@@ -49,12 +49,12 @@ module _ {D : Type 0} (model : Ghosts D) (by_word : D → ℕ → D → Type 0) 
 
 -- ---- the last two lives
 
-pub last_kept : (before : List LifeReport) (stopped last : LifeReport) → AreKept (before ++ (stopped ∷ (last ∷ []))) → stopped.count + accepted_by stopped.replies.items ≤ last.count
+last_kept : (before : List LifeReport) (stopped last : LifeReport) → AreKept (before ++ (stopped ∷ (last ∷ []))) → stopped.count + accepted_by stopped.replies.items ≤ last.count
 last_kept [] stopped last kept = kept.0
 last_kept (x ∷ []) stopped last kept = kept.1.0
 last_kept (x ∷ (y ∷ ys)) stopped last kept = last_kept (y ∷ ys) stopped last kept.1
 
-pub two_last : (reports : List LifeReport) (n : ℕ) (stopped last : LifeReport) → n + 2 ≡ length reports → stopped ≡ get_or reports n stopped → last ≡ get_or reports (n + 1) last → reports ≡ take n reports ++ (stopped ∷ (last ∷ []))
+two_last : (reports : List LifeReport) (n : ℕ) (stopped last : LifeReport) → n + 2 ≡ length reports → stopped ≡ get_or reports n stopped → last ≡ get_or reports (n + 1) last → reports ≡ take n reports ++ (stopped ∷ (last ∷ []))
 two_last [] n stopped last many s l = absurd (omega arith)
 two_last (x ∷ []) n stopped last many s l = absurd (omega arith)
 two_last (x ∷ (y ∷ [])) zero stopped last many s l = λ i. sym s i ∷ (sym l i ∷ [])
@@ -64,6 +64,13 @@ two_last (x ∷ (y ∷ (z ∷ zs))) (suc n) stopped last many s l =
     let e : suc n + 1 ≡ suc (n + 1) = omega arith in
     ap (λ (r : List LifeReport). x ∷ r) (two_last (y ∷ (z ∷ zs)) n stopped last (omega arith) s (subst (λ (k : ℕ). last ≡ get_or (x ∷ (y ∷ (z ∷ zs))) k last) e l))
 
-pub none_is : {X : Type 0} → (o : Option X) → is_some o ≡ false → o ≡ None
-none_is None e = refl
-none_is (Some x) e = cc
+-- two reports stand behind so many, and the last one keeps what the one before it had
+pub record AreLastTwo (reports : List LifeReport) (before : ℕ) (stopped last : LifeReport) : Type 0 where
+  pub is : reports ≡ take before reports ++ (stopped ∷ (last ∷ []))
+  pub kept : stopped.count + accepted_by stopped.replies.items ≤ last.count
+
+pub last_two : (reports : List LifeReport) (many : ℕ) (stopped last : LifeReport) → many ≡ length reports → 2 ≤ many → stopped ≡ get_or reports (many - 2) stopped → last ≡ get_or reports (many - 1) last → AreKept reports → AreLastTwo reports (many - 2) stopped last
+last_two reports many stopped last all some s l kept =
+    let behind : many - 1 ≡ many - 2 + 1 = omega arith in
+    let is : reports ≡ take (many - 2) reports ++ (stopped ∷ (last ∷ [])) = two_last reports (many - 2) stopped last (omega arith) s (subst (λ (k : ℕ). last ≡ get_or reports k last) behind l) in
+    record { is = is; kept = last_kept (take (many - 2) reports) stopped last (subst AreKept is kept) }

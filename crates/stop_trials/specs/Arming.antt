@@ -1,5 +1,5 @@
 -- The plan of the last life that is written.
-use Rattle.std.specs.Prelude.{ℕ, zero, suc, ◌-◌, List, [], ◌∷◌, length}
+use Rattle.std.specs.Prelude.{ℕ, zero, suc, ◌-◌, List, [], ◌∷◌, length, take}
 use Rattle.disk_trait.specs.declared.plan.Plan.{Plan}
 use Rattle.life_chain.specs.declared.life.Life.{Life}
 
@@ -16,3 +16,7 @@ armed_at (suc place) plan (life ∷ lives) = life ∷ armed_at place plan lives
 -- Lives of which the last but one has this plan: it is the last that is written, since behind it comes one that only opens.
 abbrev pub armed_with : Plan → List Life → List Life
 armed_with plan lives = armed_at (length lives - 2) plan lives
+
+-- those that are written: all but the last
+abbrev pub written : List Life → List Life
+written lives = take (length lives - 1) lives

@@ -1,34 +1,29 @@
 -- Trials of a rehearsal with its device stopped.
-use Rattle.std.specs.Prelude.{ℕ, List}
+use Rattle.std.specs.Prelude.{◌≡◌, ◌-◌, ◌^◌, ℕ, List, map, min, true}
 use Rattle.std.specs.List.{AllByRecursion}
 use Rattle.disk_trait.specs.declared.disk.Disk.{Ghosts}
 use Rattle.disk_trait.specs.declared.memory.MemDisk.{MemDisk}
 use Rattle.disk_trait.specs.declared.plan.Plan.TheVariants as plans
-use Rattle.disk_trait.specs.Memory.{mem_view}
-use Rattle.layout_2.specs.State.{first_state}
-use Rattle.layout_2.specs.Standing.{StandsFor}
 use Rattle.life_chain.specs.declared.life.Life.{Life}
 use Rattle.life_chain.specs.declared.report.LivesReport.{LivesReport}
-use Rattle.life_chain.specs.Chains.{AreChained, AreExactlyOnce}
-use Rattle.life_chain.specs.Lived.{AreLived}
-use Rattle.life_chain.specs.Words.{IsLeftByWord}
+use Rattle.life_chain.specs.Words.{IsLeftByWord, any_word}
 use Rattle.device_stops.specs.declared.kinds.Kind.{Kind}
+use Rattle.device_stops.specs.declared.stops.Call.{Call}
 use Rattle.device_stops.specs.declared.stops.Stop.{Stop}
+use Rattle.device_stops.specs.declared.watched.Watched.{Watched}
+use Rattle.device_stops.specs.Stops.{first_stops, stop_count}
+use Rattle.device_stops.specs.WatchedWords.{calls_made}
+use Rattle.rehearsals.specs.Rehearsed.{IsReported}
 use Rattle.stop_trials.specs.declared.trial.StopFound.{StopFound}
-use Rattle.stop_trials.specs.Arming.{armed_with}
-use Rattle.stop_trials.specs.Kinds.{IsKindOf}
+use Rattle.stop_trials.specs.Arming.{armed_with, written}
+use Rattle.stop_trials.specs.Kinds.{IsKindOf, is_whole}
 use Rattle.stop_trials.specs.Texts.{IsTrialsText}
 
--- These lives, of a device in memory that was formatted for so many nodes, came to this: all that is promised of such lives holds of the
--- report that says so.
+-- These lives, of a device in memory that was formatted for so many nodes, came to this.
 pub record IsLivedTo (model : Ghosts MemDisk) (nodes : ℕ) (lives : List Life) (kind : Kind) : Type 0 where
-  pub disk : MemDisk
-  pub formatted : StandsFor (first_state nodes) (mem_view disk).content
   pub report : LivesReport
   pub left : MemDisk
-  pub lived : AreLived model IsLeftByWord disk lives report.lives.items report.refused left
-  pub chained : AreChained lives report.lives.items
-  pub exactly_once : AreExactlyOnce report.lives.items
+  pub reported : IsReported model IsLeftByWord nodes lives report left
   pub told : IsKindOf report kind
 
 -- What was found after a stop is what these lives came to, where the device of the last written one stops there.
@@ -39,9 +34,21 @@ IsStopFound model nodes lives found = IsLivedTo model nodes (armed_with (plans.S
 abbrev pub stop_of : StopFound → Stop
 stop_of found = found.stop
 
--- The text is that of trials of these lives, each of which came to what is told of it.
-pub record IsTried (model : Ghosts MemDisk) (nodes : ℕ) (lives : List Life) (text : List ℕ) : Type 0 where
+-- These are the calls that the last of these lives made: a watched device, formatted for so many nodes, had noted them when all of them had
+-- gone on whole.
+pub record AreCallsOf (model : Ghosts Watched) (nodes : ℕ) (lives : List Life) (calls : List Call) : Type 0 where
+  pub report : LivesReport
+  pub left : Watched
+  pub reported : IsReported model any_word nodes lives report left
+  pub all : is_whole report ≡ true
+  pub noted : calls ≡ calls_made left
+
+-- The text is that of the trials at the first `most` stops of the calls that the last written life made of a device that doesn't fail. All
+-- of these stops were tried, in their order, and each trial came to what is told of it.
+pub record IsTried (model : Ghosts MemDisk) (watched : Ghosts Watched) (nodes : ℕ) (lives : List Life) (most : ℕ) (text : List ℕ) : Type 0 where
+  pub calls : List Call
+  pub unstopped : AreCallsOf watched nodes (written (armed_with plans.None lives)) calls
   pub tried : List StopFound
+  pub stops : map stop_of tried ≡ first_stops most calls
   pub each : AllByRecursion (IsStopFound model nodes lives) tried
-  pub stops : ℕ
-  pub told : IsTrialsText stops tried text
+  pub told : IsTrialsText (min (stop_count calls) (2 ^ 64 - 1)) tried text

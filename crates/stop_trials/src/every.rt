@@ -1,19 +1,21 @@
 //! All trials.
-ghost use Rattle.std.specs.Prelude.{◌≡◌, ◌≤◌, ◌++◌, [], ◌∷◌, IfOk, OnOk, length, map};
+ghost use Rattle.std.specs.Prelude.{◌≡◌, ◌<◌, ◌≤◌, ◌++◌, [], ◌∷◌, IfOk, OnOk, length, map};
 ghost use Rattle.std.specs.List.{AllByRecursion};
 ghost use Rattle.std.specs.String.{string_bytes};
+ghost use Rattle.stop_trials.specs.Texts.{IsTrialsText};
 ghost use Rattle.stop_trials.specs.Trials.{IsStopFound, IsTried, stop_of};
 
 use crate::listing::calls_of_last;
 use crate::texts::trials_text;
 use crate::trial::{StopFound, try_stop};
-use device_stops::{Stop, stops_of};
+use device_stops::{Stop, Watched, count_stops, stops_of};
 use disk_trait::{Disk, MemDisk};
 use rehearsals::{Rehearsal, RehearseRefused};
 use std::alloc::{AllocError, Global};
 
 /// Tries the last written life at each stop of its device, at most `most` of them, and answers the lines of what they came to. A rehearsal
-/// that writes no life has no stop. Before each trial `told` hears how many there were.
+/// that writes no life has no stop. Before each trial `told` hears how many there were. It is refused where a device can't have so many
+/// nodes; or where memory ran out, also in a life.
 pub fn try_every_stop<F: Fn(usize)>(
     alloc: Global,
     rehearsal: &mut Rehearsal,
@@ -21,16 +23,18 @@ pub fn try_every_stop<F: Fn(usize)>(
     told: F,
 ) -> Result<String, RehearseRefused>
     requires { F.IsAlwaysCallable told }
-    ensures tried { IfOk result (λ text. IsTried ⟦<MemDisk as Disk>⟧ rehearsal.old.nodes rehearsal.old.lives.items (string_bytes text)) }
+    ensures none { length rehearsal.old.lives.items < 2 → IfOk result (λ text. IsTrialsText 0 [] (string_bytes text)) }
+    ensures tried { 2 ≤ length rehearsal.old.lives.items →
+        IfOk result (λ text. IsTried ⟦<MemDisk as Disk>⟧ ⟦<Watched as Disk>⟧ rehearsal.old.nodes rehearsal.old.lives.items most (string_bytes text)) }
 {
     if rehearsal.lives.len() < 2 {
         let none = trials_text(alloc, 0, &[])?;
         return Ok(none);
     }
-    let watched = calls_of_last(alloc, rehearsal, most)?;
-    let stops = stops_of(alloc, &watched.calls, most)?;
+    let calls = calls_of_last(alloc, rehearsal)?;
+    let stops = stops_of(alloc, &calls, most)?;
     let tried = try_stops(alloc, rehearsal, &stops, told)?;
-    let text = trials_text(alloc, watched.stops, &tried)?;
+    let text = trials_text(alloc, count_stops(&calls), &tried)?;
     Ok(text)
 }
 

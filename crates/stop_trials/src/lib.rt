@@ -14,10 +14,12 @@
 //! answered Ok for, and each ticket is in at most once. One thing follows of the three numbers that are told (`kept`): what the stopped
 //! life found, and what its commits answered Ok for, are no more than the next opening found.
 //!
-//! The table's lines count exactly the trials of their kind, ascend, and together count all trials (`IsTried`).
+//! Which stops there are is known from one run of the lives, with no stop, on a disk that notes its calls ([`calls_of_last`], `AreCallsOf`).
+//! Those that are tried are exactly the first of the stops of these calls, in their order, as many as were asked for or all (`IsTried`). The
+//! table's lines count exactly the trials of their kind, ascend, and together count all trials. No clause says that a trial meets these very
+//! calls, and none needs it: each trial is judged by what it left.
 //!
-//! Which stops there are is known from one run of the lives on a disk that notes its calls ([`calls_of_last`]). No clause says that a
-//! trial meets these very calls, and none needs it: each trial is judged by what it left.
+//! A run in which memory ran out, in an opening or for a reply, is no trial and lists no calls: it is refused.
 //!
 //! | Line | Is |
 //! |---|---|

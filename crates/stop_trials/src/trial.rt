@@ -8,8 +8,8 @@ use crate::arming::arm_last;
 use crate::found::kind_of;
 use device_stops::{Kind, Stop};
 use disk_trait::{Disk, MemDisk, Plan};
-use life_chain::{Life, lives_in_memory};
-use rehearsals::{Rehearsal, RehearseRefused, formatted_device};
+use life_chain::Life;
+use rehearsals::{Rehearsal, RehearseRefused, run_lives};
 use std::alloc::Global;
 
 /// What a trial came to whose device stopped here.
@@ -20,7 +20,7 @@ pub struct StopFound {
 }
 
 /// Runs the rehearsal's lives on a new device, which stops here in the last life but the one that only opens, and answers what they came
-/// to. It is refused where a device can't have so many nodes; or where memory ran out, also in a life's opening.
+/// to. It is refused where a device can't have so many nodes; or where memory ran out, also in a life.
 pub fn try_stop(
     alloc: Global,
     rehearsal: &mut Rehearsal,
@@ -44,9 +44,7 @@ fn lived(alloc: Global, nodes: u16, lives: &[Life]) -> Result<Kind, RehearseRefu
     ensures lived { IfOk result (λ kind. IsLivedTo ⟦<MemDisk as Disk>⟧ nodes lives.now kind) }
     ensures out_of_range { IsErrOf result RehearseRefused.Nodes → ¬ ((1 ≤ nodes) × (nodes ≤ 16384)) }
 {
-    let disk = formatted_device(alloc, nodes)?;
-    let (report, _) = lives_in_memory(alloc, disk, lives);
-    let report = report?;
+    let report = run_lives(alloc, nodes, lives)?;
     match kind_of(&report) {
         Some(kind) => Ok(kind),
         None => Err(RehearseRefused::Memory),

@@ -1,9 +1,8 @@
-use Rattle.std.proofs.Common.{◌≡◌, ◌∙◌, sym, ap, subst, ◌<◌, ◌≤◌, List, length, take}
+use Rattle.std.proofs.Common.{◌∙◌, sym, ap, subst, ◌<◌, ◌≤◌, List, length}
 use Rattle.std.specs.List.{AllByRecursion}
 use Rattle.std.proofs.lemmas.List.{get_or_default, take_all}
 use Rattle.disk_trait.specs.contracts.memory.MemDiskDisk.TheImpl.{ghosts}
 use Rattle.life_chain.specs.declared.life.Life.{Life}
-use Rattle.device_stops.specs.declared.stops.Stop.{Stop}
 use Rattle.stop_trials.specs.declared.trial.StopFound.{StopFound}
 use Rattle.stop_trials.specs.Arming.{armed_with}
 use Rattle.stop_trials.specs.Trials.{IsStopFound}

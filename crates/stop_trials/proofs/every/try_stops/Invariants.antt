@@ -1,4 +1,4 @@
-use Rattle.std.proofs.Common.{◌≡◌, List, length, map, take}
+use Rattle.std.proofs.Common.{◌≡◌, length, map, take}
 use Rattle.std.specs.List.{AllByRecursion}
 use Rattle.disk_trait.specs.contracts.memory.MemDiskDisk.TheImpl.{ghosts}
 use Rattle.disk_trait.specs.declared.plan.Plan.{Plan}

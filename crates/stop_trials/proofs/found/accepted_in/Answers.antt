@@ -1,7 +1,8 @@
-use Rattle.std.proofs.Common.{◌≡◌, ◌∙◌, ap, ◌+◌, ◌<◌, ◌≤◌, length, take, arith}
+use Rattle.std.proofs.Common.{◌∙◌, ap, ◌+◌, ◌<◌, ◌≤◌, length, arith}
 use Rattle.std.proofs.lemmas.List.{get_or_default, take_all}
 use Rattle.std.proofs.lemmas.List.Sums.{sum_by-take-le}
-use Rattle.stop_trials.specs.Kinds.{accepted_of, accepted_by}
+use Rattle.event_runs.specs.Answers.{number_of}
+use Rattle.stop_trials.specs.Kinds.{accepted_by}
 use Rattle.stop_trials.proofs.CountLemmas.{one_reply_more}
 use Rattle.stop_trials.proofs.found.accepted_in.Goals as goal
 
@@ -9,7 +10,7 @@ pub overflow_add-sum : goal.overflow_add-sum
 overflow_add-sum c =
     let lt : c.loop-reply.reply-index < length c.args.replies.now = c.loop-reply-test.true in
     let more = one_reply_more c.args.replies.now c.loop-reply.reply-index _ c.loop-reply.sum c.accepted_of-sum.result lt (get_or_default c.args.replies.now c.loop-reply.reply-index _ _ lt) c.loop-reply.invariant c.accepted_of-sum.ensures in
-    omega (arith, more, sum_by-take-le accepted_of c.args.replies.now (c.loop-reply.reply-index + 1))
+    omega (arith, more, sum_by-take-le number_of c.args.replies.now (c.loop-reply.reply-index + 1))
 
 pub loop-reply-preserved : goal.loop-reply-preserved
 loop-reply-preserved c =

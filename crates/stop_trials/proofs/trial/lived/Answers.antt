@@ -4,22 +4,10 @@ use Rattle.stop_trials.proofs.trial.lived.Goals as goal
 
 pub kind_of-requires : goal.kind_of-requires
 kind_of-requires c =
-    let lived_there = rw c.in_ok-report.was at c.lives_in_memory-report.ensures.lived in
-    let chained_there = rw c.in_ok-report.was at c.lives_in_memory-report.ensures.chained in
-    are_kept _ IsLeftByWord c.in_ok-disk.disk c.lives_in_memory-report.result.1 c.args.lives.now _ _ lived_there chained_there
+    let reported = c.in_ok-report.ensures.reported in
+    are_kept _ IsLeftByWord reported.1.disk reported.0 c.args.lives.now _ _ reported.1.lived reported.1.chained
 
 pub returns-in-Some-clause-lived : goal.returns-in-Some-clause-lived
 returns-in-Some-clause-lived c =
-    let lived_there = rw c.in_ok-report.was at c.lives_in_memory-report.ensures.lived in
-    let chained_there = rw c.in_ok-report.was at c.lives_in_memory-report.ensures.chained in
-    let once = rw c.in_ok-report.was at c.lives_in_memory-report.ensures.exactly_once in
-    record {
-      disk = c.in_ok-disk.disk;
-      formatted = c.in_ok-disk.ensures.formatted;
-      report = c.in_ok-report.report;
-      left = c.lives_in_memory-report.result.1;
-      lived = lived_there;
-      chained = chained_there;
-      exactly_once = once;
-      told = c.in-Some.ensures;
-    }
+    let reported = c.in_ok-report.ensures.reported in
+    record { report = c.in_ok-report.report; left = reported.0; reported = reported.1; told = c.in-Some.ensures }
