@@ -1,6 +1,6 @@
 // Commits on a device beside the one that is asked about.
 use crate::device::fault_of;
-use crate::samples::{Clock, Samples, TimeRefused};
+use crate::samples::{Samples, TimeRefused, Timed, samples_of};
 use checkpoint::{DEVICE_LEN, format};
 use command_output::Fault;
 use device_commands::open;
@@ -19,21 +19,32 @@ pub(crate) fn time_commits(
     device: &str,
     runs: u16,
     changes: u8,
-) -> Result<Samples, TimeRefused> {
+) -> Result<(), TimeRefused> {
     let scratch = match format!(in rt.alloc(); "{device}.time") {
         Ok(text) => text,
         Err(_) => return Err(TimeRefused::Fault(Fault::Memory)),
     };
-    let file = match DeviceFile::make_new(rt, scratch.as_str(), DEVICE_LEN) {
+    let samples = samples_at(rt, scratch.as_str(), runs, changes);
+    samples?.print_of(rt, "commit", "changes", changes as u16)
+}
+
+// The same of a file under this path.
+fn samples_at(
+    rt: &HostRuntime,
+    scratch: &str,
+    runs: u16,
+    changes: u8,
+) -> Result<Samples, TimeRefused> {
+    let file = match DeviceFile::make_new(rt, scratch, DEVICE_LEN) {
         Ok(file) => file,
         Err(refused) => return Err(TimeRefused::Fault(fault_of(refused))),
     };
-    let samples = commits_on(rt, file, runs.saturating_mul(COMMITS), changes);
-    let _removed = fs::remove_file(rt, scratch.as_str());
+    let samples = samples_on(rt, file, runs.saturating_mul(COMMITS), changes);
+    let _removed = fs::remove_file(rt, scratch);
     samples
 }
 
-fn commits_on(
+fn samples_on(
     rt: &HostRuntime,
     mut file: DeviceFile,
     commits: u16,
@@ -42,25 +53,45 @@ fn commits_on(
     if format(&mut file, 2).is_err() {
         return Err(TimeRefused::Fault(Fault::Device));
     }
-    let mut desk = match open(rt.alloc(), file) {
-        Ok(store) => Desk::new(store),
-        Err((fault, _)) => return Err(TimeRefused::Fault(fault)),
-    };
-    let mut samples = Samples::new(rt.alloc());
-    let mut ticket = 0;
-    for _ in 0..commits {
-        for _ in 0..changes {
-            ticket = u64::saturating_add(ticket, 1);
-            fill(&mut desk, ticket);
+    match open(rt.alloc(), file) {
+        Ok(store) => {
+            let mut commit = Commit {
+                desk: Desk::new(store),
+                ticket: 0,
+                changes,
+            };
+            samples_of(rt, commits, &mut commit)
         }
-        let clock = Clock::start(rt)?;
-        if desk.held() == 0 || desk.commit(rt.alloc()).is_err() {
+        Err((fault, _)) => Err(TimeRefused::Fault(fault)),
+    }
+}
+
+/// A group of so many changes is committed.
+#[derive(Drop)]
+struct Commit {
+    desk: Desk<DeviceFile>,
+    /// The last ticket that was given.
+    ticket: u64,
+    changes: u8,
+}
+
+impl Timed for Commit {
+    type Made = ();
+
+    fn prepare(&mut self) {
+        let _told = self.desk.paid();
+        for _ in 0..self.changes {
+            self.ticket = self.ticket.saturating_add(1);
+            fill(&mut self.desk, self.ticket);
+        }
+    }
+
+    fn run(&mut self, rt: &HostRuntime, _: u16) -> Result<(), TimeRefused> {
+        if self.desk.held() == 0 || self.desk.commit(rt.alloc()).is_err() {
             return Err(TimeRefused::Fault(Fault::Device));
         }
-        samples.add(clock.nanos(rt)?)?;
-        let _told = desk.paid();
+        Ok(())
     }
-    Ok(samples)
 }
 
 // Gives the desk a change of the one edge's weight, under the next ticket of session 0.

@@ -76,15 +76,25 @@ fn export(rt: &HostRuntime, device: &str, form: &Form) -> Result<u8, u8> {
         return Err(told_memory(rt));
     };
     let beside = text_of(rt, path.as_str())?;
-    let store = match store_in(rt, DeviceFile::open_to_read(rt, device)) {
-        Ok(store) => store,
-        Err(fault) => return Err(told_of(rt, device, fault.text())),
-    };
-    let names = match &beside {
-        Some(text) => names_in(rt, path.as_str(), text.as_str(), MOST_NODES)?,
+    match store_in(rt, DeviceFile::open_to_read(rt, device)) {
+        Ok(store) => print_network(rt, path.as_str(), beside.as_deref(), store.graph(), form),
+        Err(fault) => Err(told_of(rt, device, fault.text())),
+    }
+}
+
+// Prints a network, with the names of the text beside its device.
+fn print_network(
+    rt: &HostRuntime,
+    path: &str,
+    beside: Option<&str>,
+    graph: &Graph,
+    form: &Form,
+) -> Result<u8, u8> {
+    let names = match beside {
+        Some(text) => names_in(rt, path, text, MOST_NODES)?,
         None => Names::new(rt.alloc()),
     };
-    match text_in(rt.alloc(), store.graph(), names.list(), form) {
+    match text_in(rt.alloc(), graph, names.list(), form) {
         Ok(Some(text)) => Ok(printed(rt, &text)),
         Ok(None) => Err(told(rt, 2, Fault::Words.text())),
         Err(_) => Err(told_memory(rt)),
@@ -99,21 +109,31 @@ fn text_in(
     form: &Form,
 ) -> Result<Option<Vec<u8>>, AllocError> {
     let edges = edges_of(alloc, graph)?;
-    Ok(Some(match form {
-        Form::Edges => edge_list(alloc, &edges, names)?.into_bytes(),
-        Form::Csv => network_csv(alloc, &edges, names)?,
-        Form::Json => network_json(alloc, graph.nodes(), &edges, names)?.into_bytes(),
-        Form::Dot(None) => network_dot(alloc, &edges, names, &[])?,
-        Form::Dot(Some(words)) => {
-            if !words.is_within(graph.nodes()) {
-                return Ok(None);
-            }
-            network_dot(alloc, &edges, names, &marks_by(alloc, graph, words)?)?
-        }
-    }))
+    match form {
+        Form::Edges => Ok(Some(edge_list(alloc, &edges, names)?.into_bytes())),
+        Form::Csv => Ok(Some(network_csv(alloc, &edges, names)?)),
+        Form::Json => { Ok(Some(network_json(alloc, graph.nodes(), &edges, names)?.into_bytes())) }
+        Form::Dot(None) => Ok(Some(network_dot(alloc, &edges, names, &[])?)),
+        Form::Dot(Some(words)) => match marks_in(alloc, graph, words)? {
+            Some(marks) => Ok(Some(network_dot(alloc, &edges, names, &marks)?)),
+            None => Ok(None),
+        },
+    }
 }
 
-// The marks of a network's nodes by these landmark words.
+// The marks of a network's nodes by these landmark words; none where they name a node that it hasn't.
+fn marks_in(
+    alloc: Global,
+    graph: &Graph,
+    words: &LandmarkWords,
+) -> Result<Option<Vec<Option<Mark>>>, AllocError> {
+    if !words.is_within(graph.nodes()) {
+        return Ok(None);
+    }
+    Ok(Some(marks_by(alloc, graph, words)?))
+}
+
+// The marks by words that name none but its nodes.
 fn marks_by(
     alloc: Global,
     graph: &Graph,

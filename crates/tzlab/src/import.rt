@@ -27,36 +27,43 @@ pub(crate) fn run(rt: &HostRuntime, found: &ArgMatches) -> u8 {
         },
         None => None,
     };
-    match import_files(rt, device, file, nodes) {
+    let asked = Asked {
+        device,
+        file,
+        nodes,
+    };
+    match import_files(rt, &asked) {
         Ok(status) => status,
         Err(status) => status,
     }
 }
 
-fn import_files(rt: &HostRuntime, device: &str, file: &str, nodes: Option<u16>) -> Result<u8, u8> {
-    let Ok(path) = names_path(rt, device) else {
+// What is asked for.
+#[derive(Drop)]
+struct Asked<'a> {
+    device: &'a str,
+    file: &'a str,
+    nodes: Option<u16>,
+}
+
+fn import_files(rt: &HostRuntime, asked: &Asked<'_>) -> Result<u8, u8> {
+    let Ok(path) = names_path(rt, asked.device) else {
         return Err(told_memory(rt));
     };
-    let Some(text) = text_of(rt, file)? else {
-        return Err(told_of(rt, file, "the file is not there"));
-    };
-    match text_of(rt, path.as_str())? {
-        Some(beside) => {
-            let rows = rows_of(rt, file, text.as_str())?;
-            let (there, most) = opened(rt, device, nodes)?;
-            by_name(
-                rt,
-                device,
-                file,
-                path.as_str(),
-                &rows,
-                beside.as_str(),
-                most,
-                there,
-                nodes,
-            )
-        }
-        None => import_text(rt, device, file, path.as_str(), text.as_str(), nodes),
+    match text_of(rt, asked.file)? {
+        Some(text) => import_text(rt, asked, path.as_str(), text.as_str()),
+        None => Err(told_of(rt, asked.file, "the file is not there")),
+    }
+}
+
+// A text, with the names beside the device, where they are kept there. Else its ends are names as soon as one of them is no
+// number of a node.
+fn import_text(rt: &HostRuntime, asked: &Asked<'_>, path: &str, text: &str) -> Result<u8, u8> {
+    let beside = text_of(rt, path)?;
+    let rows = rows_of(rt, asked.file, text)?;
+    match beside {
+        Some(beside) => import_names(rt, asked, path, &rows, beside.as_str()),
+        None => import_rows(rt, asked, path, &rows),
     }
 }
 
@@ -74,43 +81,64 @@ fn rows_of<'a>(rt: &HostRuntime, file: &str, text: &'a str) -> Result<Vec<Row<'a
     }
 }
 
-// An edge list, where no names are kept beside the device: its ends are names as soon as one of them is no number of a node.
-fn import_text(
+// Rows where no names are kept beside the device.
+fn import_rows(
     rt: &HostRuntime,
-    device: &str,
-    file: &str,
+    asked: &Asked<'_>,
     path: &str,
-    text: &str,
-    nodes: Option<u16>,
+    rows: &[Row<'_>],
 ) -> Result<u8, u8> {
-    let rows = rows_of(rt, file, text)?;
-    let (there, most) = opened(rt, device, nodes)?;
-    match by_numbers(rt.alloc(), &rows, MOST_NODES - 1) {
+    let (there, most) = opened(rt, asked)?;
+    match by_numbers(rt.alloc(), rows, MOST_NODES - 1) {
         Ok(Some(edges)) => {
-            let mut store = stored(rt, device, there, nodes.unwrap_or(nodes_of(&edges)))?;
-            Ok(import_edges(rt, device, file, &mut store, &edges))
+            let nodes = nodes_of(&edges);
+            import_into(rt, asked, there, nodes, &edges)
         }
-        Ok(None) => by_name(rt, device, file, path, &rows, "", most, there, nodes),
+        Ok(None) => match named_in(rt, asked, path, rows, "", most) {
+            Ok(named) => import_named(rt, asked, path, there, &named),
+            Err(status) => Err(status),
+        },
         Err(_) => Err(told_memory(rt)),
     }
 }
 
-// Rows whose ends are names, with the names that are kept beside the device already.
-fn by_name<'a>(
+// Rows whose ends are names, with those that are kept beside the device already.
+fn import_names<'a>(
     rt: &HostRuntime,
-    device: &str,
-    file: &str,
+    asked: &Asked<'_>,
+    path: &str,
+    rows: &[Row<'a>],
+    beside: &'a str,
+) -> Result<u8, u8> {
+    let (there, most) = opened(rt, asked)?;
+    match named_in(rt, asked, path, rows, beside, most) {
+        Ok(named) => import_named(rt, asked, path, there, &named),
+        Err(status) => Err(status),
+    }
+}
+
+// Edges between names, and the text of all names.
+#[derive(Drop)]
+struct Named {
+    edges: Vec<Edge>,
+    text: String,
+    count: u16,
+}
+
+// The edges of rows whose ends are names. What is refused is told.
+fn named_in<'a>(
+    rt: &HostRuntime,
+    asked: &Asked<'_>,
     path: &str,
     rows: &[Row<'a>],
     beside: &'a str,
     most: u16,
-    there: Option<Store<DeviceFile>>,
-    nodes: Option<u16>,
-) -> Result<u8, u8> {
+) -> Result<Named, u8> {
     let mut names = names_in(rt, path, beside, most)?;
     let edges = match names.take_rows(rt.alloc(), rows, most) {
         Ok(Ok(edges)) => edges,
         Ok(Err(refused)) => {
+            let file = asked.file;
             let number = refused.number;
             let form = refused.form;
             let _told = writeln!(rt.stderr(), "tzlab: {file}:{number}: {form}");
@@ -118,13 +146,37 @@ fn by_name<'a>(
         }
         Err(_) => return Err(told_memory(rt)),
     };
-    let Ok(text) = names.written(rt.alloc()) else {
-        return Err(told_memory(rt));
-    };
     let count = u16::try_from(names.list().len()).unwrap_or(u16::MAX);
-    let mut store = stored(rt, device, there, nodes.unwrap_or(count))?;
-    put_text(rt, path, text.as_str())?;
-    Ok(import_edges(rt, device, file, &mut store, &edges))
+    match names.written(rt.alloc()) {
+        Ok(text) => Ok(Named { edges, text, count }),
+        Err(_) => Err(told_memory(rt)),
+    }
+}
+
+// Edges between names: the names are written in front of the first edge.
+fn import_named(
+    rt: &HostRuntime,
+    asked: &Asked<'_>,
+    path: &str,
+    there: Option<Store<DeviceFile>>,
+    named: &Named,
+) -> Result<u8, u8> {
+    let mut store = stored(rt, asked, there, named.count)?;
+    match put_text(rt, path, named.text.as_str()) {
+        Ok(()) => Ok(import_edges(rt, asked, &mut store, &named.edges)),
+        Err(status) => Err(status),
+    }
+}
+
+fn import_into(
+    rt: &HostRuntime,
+    asked: &Asked<'_>,
+    there: Option<Store<DeviceFile>>,
+    nodes: u16,
+    edges: &[Edge],
+) -> Result<u8, u8> {
+    let mut store = stored(rt, asked, there, nodes)?;
+    Ok(import_edges(rt, asked, &mut store, edges))
 }
 
 // One more than the greatest number.
@@ -144,38 +196,40 @@ fn told_fault(rt: &HostRuntime, device: &str, fault: Fault) -> u8 {
 }
 
 // The store of a device, where it is there, and how many nodes it has; else how many it may have.
-fn opened(
-    rt: &HostRuntime,
-    device: &str,
-    nodes: Option<u16>,
-) -> Result<(Option<Store<DeviceFile>>, u16), u8> {
-    if let Ok(false) = std::fs::exists(rt, device) {
-        return Ok((None, nodes.unwrap_or(MOST_NODES)));
+fn opened(rt: &HostRuntime, asked: &Asked<'_>) -> Result<(Option<Store<DeviceFile>>, u16), u8> {
+    if let Ok(false) = std::fs::exists(rt, asked.device) {
+        return Ok((None, asked.nodes.unwrap_or(MOST_NODES)));
     }
-    let store = match store_in(rt, DeviceFile::open(rt, device)) {
-        Ok(store) => store,
-        Err(fault) => return Err(told_fault(rt, device, fault)),
-    };
-    let has = store.nodes();
-    if let Some(nodes) = nodes
-        && nodes != has
-    {
-        let _told = writeln!(rt.stderr(), "tzlab: {device}: it has {has} nodes");
-        return Err(1);
+    match store_in(rt, DeviceFile::open(rt, asked.device)) {
+        Ok(store) => {
+            let has = store.nodes();
+            expect_nodes(rt, asked, has)?;
+            Ok((Some(store), has))
+        }
+        Err(fault) => Err(told_fault(rt, asked.device, fault)),
     }
-    Ok((Some(store), has))
 }
 
-// The store, or that of a device that is made, with so many nodes.
+// Tells it where another number of nodes is asked for.
+fn expect_nodes(rt: &HostRuntime, asked: &Asked<'_>, has: u16) -> Result<(), u8> {
+    if asked.nodes.unwrap_or(has) == has {
+        return Ok(());
+    }
+    let device = asked.device;
+    let _told = writeln!(rt.stderr(), "tzlab: {device}: it has {has} nodes");
+    Err(1)
+}
+
+// The store, or that of a device that is made, with so many nodes where no number is asked for.
 fn stored(
     rt: &HostRuntime,
-    device: &str,
+    asked: &Asked<'_>,
     there: Option<Store<DeviceFile>>,
     nodes: u16,
 ) -> Result<Store<DeviceFile>, u8> {
     match there {
         Some(store) => Ok(store),
-        None => made(rt, device, nodes),
+        None => made(rt, asked.device, asked.nodes.unwrap_or(nodes)),
     }
 }
 
@@ -200,6 +254,7 @@ fn made(rt: &HostRuntime, device: &str, nodes: u16) -> Result<Store<DeviceFile>,
 // ---- what is told
 
 // Tells on a terminal how far it has come.
+#[derive(Drop)]
 struct Told<'a> {
     rt: &'a HostRuntime,
     edges: usize,
@@ -218,42 +273,50 @@ impl<'a> Progress for Told<'a> {
 
 fn import_edges(
     rt: &HostRuntime,
-    device: &str,
-    file: &str,
+    asked: &Asked<'_>,
     store: &mut Store<DeviceFile>,
     edges: &[Edge],
 ) -> u8 {
     if store.is_down() {
-        return told_fault(rt, device, Fault::Device);
+        return told_fault(rt, asked.device, Fault::Device);
     }
+    let is_shown = rt.stderr().is_terminal();
     let mut told = Told {
         rt,
         edges: edges.len(),
-        is_shown: rt.stderr().is_terminal(),
+        is_shown,
     };
     let answer = import(rt.alloc(), store, edges, &mut told);
-    let Told {
-        rt: _,
-        edges: _,
-        is_shown,
-    } = told;
     if is_shown {
         let _told = writeln!(rt.stderr(), "");
     }
     let status = match answer {
         Ok(()) => 0,
-        Err(ImportRefused::Op { place, code }) => match edges.get(place) {
-            Some(edge) => {
+        Err(refused) => told_refused(rt, asked, edges, refused),
+    };
+    status.max(print_totals(rt, store))
+}
+
+// Tells why an import ended.
+fn told_refused(rt: &HostRuntime, asked: &Asked<'_>, edges: &[Edge], refused: ImportRefused) -> u8 {
+    let fault = match refused {
+        ImportRefused::Op { place, code } => {
+            if let Some(edge) = edges.get(place) {
+                let file = asked.file;
                 let line = edge.line;
                 let _told = writeln!(rt.stderr(), "tzlab: {file}:{line}: {code}");
-                1
             }
-            None => 1,
-        },
-        Err(ImportRefused::Device) => told_fault(rt, device, Fault::Device),
-        Err(ImportRefused::Memory) => told_fault(rt, device, Fault::Memory),
-        Err(ImportRefused::Worn) => told_fault(rt, device, Fault::Worn),
+            return 1;
+        }
+        ImportRefused::Device => Fault::Device,
+        ImportRefused::Memory => Fault::Memory,
+        ImportRefused::Worn => Fault::Worn,
     };
+    told_fault(rt, asked.device, fault)
+}
+
+// Prints what is on the device.
+fn print_totals(rt: &HostRuntime, store: &Store<DeviceFile>) -> u8 {
     let totals = format!(in rt.alloc();
         "count={} edges={} nodes={}\n",
         store.count(),
@@ -261,7 +324,7 @@ fn import_edges(
         store.nodes()
     );
     match totals {
-        Ok(text) => status.max(printed(rt, text.as_bytes())),
+        Ok(text) => printed(rt, text.as_bytes()),
         Err(_) => told_memory(rt),
     }
 }

@@ -25,6 +25,7 @@ use std::thread::Threads;
 mod commits;
 mod device;
 mod export;
+mod forwarder;
 mod grammar;
 mod import;
 mod info;

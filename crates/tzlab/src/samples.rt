@@ -55,6 +55,56 @@ impl Clock {
     }
 }
 
+/// What is run and timed.
+pub(crate) trait Timed {
+    /// What a run makes. It is let go of when the clock has been read.
+    type Made: Drop;
+
+    /// Does what has to be done before a run. It isn't timed.
+    fn prepare(&mut self) {}
+
+    /// Runs it once: runs are counted from 0.
+    fn run(&mut self, rt: &HostRuntime, number: u16) -> Result<Self::Made, TimeRefused>;
+
+    /// How many parts the run had: its time is that of one part.
+    fn parts(made: &Self::Made) -> u64 {
+        let _made = made;
+        1
+    }
+}
+
+/// The times of so many runs.
+pub(crate) fn samples_of<T: Timed>(
+    rt: &HostRuntime,
+    runs: u16,
+    timed: &mut T,
+) -> Result<Samples, TimeRefused> {
+    let mut samples = Samples::new(rt.alloc());
+    for number in 0..runs {
+        samples.add(nanos_of(rt, number, timed)?)?;
+    }
+    Ok(samples)
+}
+
+// How many nanoseconds a run takes, or a part of it.
+fn nanos_of<T: Timed>(rt: &HostRuntime, number: u16, timed: &mut T) -> Result<u64, TimeRefused> {
+    timed.prepare();
+    let clock = Clock::start(rt)?;
+    let made = timed.run(rt, number)?;
+    let nanos = clock.nanos(rt)?;
+    Ok(nanos.checked_div(T::parts(&made)).unwrap_or(0))
+}
+
+/// Times so many runs, and prints what they took.
+pub(crate) fn time_runs<T: Timed>(
+    rt: &HostRuntime,
+    runs: u16,
+    what: &str,
+    timed: &mut T,
+) -> Result<(), TimeRefused> {
+    samples_of(rt, runs, timed)?.print(rt, what)
+}
+
 /// The nanoseconds of each run.
 #[derive(Drop)]
 pub(crate) struct Samples {

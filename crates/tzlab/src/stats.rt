@@ -65,27 +65,37 @@ fn asked_in(alloc: Global, found: &ArgMatches) -> Result<Result<Asked, &'static 
     let Some(words) = landmark_words(alloc, words)? else {
         return Ok(Err("words not understood"));
     };
+    match measures_in(alloc, found)? {
+        Ok((pairs, seed, layout)) => Ok(Ok(Asked {
+            words,
+            pairs,
+            seed,
+            layout,
+        })),
+        Err(text) => Ok(Err(text)),
+    }
+}
+
+// The same beside the words: how many pairs, their seed, and how it is printed.
+fn measures_in(
+    alloc: Global,
+    found: &ArgMatches,
+) -> Result<Result<(u16, u64, Layout), &'static str>, AllocError> {
     let pairs = found.get_str("pairs").unwrap_or("1000");
     let Some(pairs) = number(alloc, pairs, MOST_PAIRS as u64)? else {
         return Ok(Err("pairs not understood"));
     };
+    let pairs = pairs.min(MOST_PAIRS as u64) as u16;
     let seed = found.get_str("seed").unwrap_or("0");
     let Some(seed) = number(alloc, seed, u64::MAX)? else {
         return Ok(Err("seed not understood"));
     };
-    let layout = match (found.get_flag("csv"), found.get_flag("json")) {
-        (true, true) => return Ok(Err("either --csv or --json")),
-        (true, false) => Layout::Csv,
-        (false, true) => Layout::Json,
-        (false, false) => Layout::Lines,
-    };
-    let pairs = pairs.min(MOST_PAIRS as u64) as u16;
-    Ok(Ok(Asked {
-        words,
-        pairs,
-        seed,
-        layout,
-    }))
+    match (found.get_flag("csv"), found.get_flag("json")) {
+        (true, true) => Ok(Err("either --csv or --json")),
+        (true, false) => Ok(Ok((pairs, seed, Layout::Csv))),
+        (false, true) => Ok(Ok((pairs, seed, Layout::Json))),
+        (false, false) => Ok(Ok((pairs, seed, Layout::Lines))),
+    }
 }
 
 fn print_stats<R: Threads + Wait + Sync>(
@@ -120,13 +130,38 @@ fn figures_of<R: Threads + Wait + Sync>(
 {
     let words = asked.words.of_nodes(alloc, graph.nodes())?;
     let workers = workers_here(threads, graph.nodes());
-    let scheme = scheme_of_in_threads(threads, alloc, graph, &words, generation, workers)?;
-    let mut figures = scheme_figures_of(alloc, &scheme)?;
-    let measured = measured_by(alloc, graph, &scheme, asked)?;
-    for figure in way_figures_of(alloc, &measured)? {
+    match scheme_of_in_threads(threads, alloc, graph, &words, generation, workers) {
+        Ok(scheme) => both_figures(alloc, graph, &scheme, asked),
+        Err(AllocError) => Err(AllocError),
+    }
+}
+
+fn both_figures(
+    alloc: Global,
+    graph: &Graph,
+    scheme: &Scheme,
+    asked: &Asked,
+) -> Result<Vec<Figure>, AllocError>
+    requires { IsChecked graph.now scheme.now }
+{
+    let mut figures = scheme_figures_of(alloc, scheme)?;
+    let more = ways_of(alloc, graph, scheme, asked)?;
+    for figure in more {
         figures.push(figure)?;
     }
     Ok(figures)
+}
+
+fn ways_of(
+    alloc: Global,
+    graph: &Graph,
+    scheme: &Scheme,
+    asked: &Asked,
+) -> Result<Vec<Figure>, AllocError>
+    requires { IsChecked graph.now scheme.now }
+{
+    let measured = measured_by(alloc, graph, scheme, asked)?;
+    way_figures_of(alloc, &measured)
 }
 
 // What is measured of the pairs that are drawn. A node alone has none.

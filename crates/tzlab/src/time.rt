@@ -1,16 +1,18 @@
 // The command `time`: how long builds, searches, packets, openings and commits take.
 use crate::commits::time_commits;
 use crate::device::store_in;
-use crate::samples::{Clock, Samples, TimeRefused};
+use crate::forwarder::forwarder_with;
+use crate::samples::{Clock, Samples, TimeRefused, Timed, time_runs};
 use crate::telling::{told, told_of};
-use crate::walks::{drawn_pairs, time_byte_steps, time_decisions, time_steps};
+use crate::walks::{ByForwarder, ByTables, Decisions, Walks, drawn_pairs, in_bytes, packets_of};
 use checkpoint::Store;
 use clap::ArgMatches;
 use command_output::Fault;
 use device_files::DeviceFile;
-use distances::from_root;
+use distances::{Reach, from_root};
 use graph_edits::Graph;
 use node_table::Scheme;
+use packet_bytes::PACKET_SIZE;
 use scheme_builds::{LEAST_SHARED, scheme_of_in_threads, workers_here};
 use std::sync::Wait;
 use std::thread::Threads;
@@ -62,10 +64,13 @@ fn timed<R: Threads + Wait + Sync>(
     threads: &R,
     asked: &Asked<'_>,
 ) -> Result<(), TimeRefused> {
-    time_openings(rt, asked)?.print(rt, "open")?;
+    let mut opening = Opening {
+        device: asked.device,
+    };
+    time_runs(rt, asked.runs, "open", &mut opening)?;
     time_network(rt, threads, asked)?;
-    time_commits(rt, asked.device, asked.runs, 1)?.print(rt, "commit changes=1")?;
-    time_commits(rt, asked.device, asked.runs, 64)?.print(rt, "commit changes=64")
+    time_commits(rt, asked.device, asked.runs, 1)?;
+    time_commits(rt, asked.device, asked.runs, 64)
 }
 
 // Times what is done with the network that the device holds.
@@ -77,7 +82,7 @@ fn time_network<R: Threads + Wait + Sync>(
     let store = store_in(rt, DeviceFile::open_to_read(rt, asked.device))?;
     let words = words_for(rt, asked, store.nodes());
     match words {
-        Ok(words) => time_graph(rt, threads, asked, &store, &words),
+        Ok(words) => time_graph(rt, threads, asked.runs, &store, &words),
         Err(refused) => Err(refused),
     }
 }
@@ -93,124 +98,134 @@ fn words_for(rt: &HostRuntime, asked: &Asked<'_>, nodes: u16) -> Result<Vec<u64>
 fn time_graph<R: Threads + Wait + Sync>(
     rt: &HostRuntime,
     threads: &R,
-    asked: &Asked<'_>,
+    runs: u16,
     store: &Store<DeviceFile>,
     words: &[u64],
 ) -> Result<(), TimeRefused> {
+    time_builds(rt, threads, runs, store, words, 1)?;
     let workers = workers_here(threads, store.nodes().max(LEAST_SHARED));
-    time_builds(rt, threads, asked, store, words, 1)?.print_of(rt, "build", "workers", 1)?;
-    time_builds(rt, threads, asked, store, words, workers)?.print_of(
-        rt, "build", "workers", workers,
-    )?;
-    time_searches(rt, asked, store.graph())?.print(rt, "search")?;
-    time_scheme(rt, threads, asked, store, words, workers)
+    time_builds(rt, threads, runs, store, words, workers)?;
+    let mut search = Search {
+        graph: store.graph(),
+        runs,
+    };
+    time_runs(rt, runs, "search", &mut search)?;
+    let scheme = built(rt, threads, store, words, workers)?;
+    time_scheme(rt, threads, runs, store, scheme)
 }
 
-fn time_scheme<R: Threads + Wait + Sync>(
+fn time_builds<R: Threads + Wait + Sync>(
     rt: &HostRuntime,
     threads: &R,
-    asked: &Asked<'_>,
+    runs: u16,
     store: &Store<DeviceFile>,
     words: &[u64],
     workers: u16,
 ) -> Result<(), TimeRefused> {
-    let scheme = scheme_of_in_threads(
+    let mut samples = Samples::new(rt.alloc());
+    for _ in 0..runs {
+        samples.add(nanos_of_build(rt, threads, store, words, workers)?)?;
+    }
+    samples.print_of(rt, "build", "workers", workers)
+}
+
+// How many nanoseconds a build takes. The scheme is let go of when the clock has been read.
+fn nanos_of_build<R: Threads + Wait + Sync>(
+    rt: &HostRuntime,
+    threads: &R,
+    store: &Store<DeviceFile>,
+    words: &[u64],
+    workers: u16,
+) -> Result<u64, TimeRefused> {
+    let clock = Clock::start(rt)?;
+    let _scheme = built(rt, threads, store, words, workers)?;
+    clock.nanos(rt)
+}
+
+// The scheme of a store's network.
+fn built<R: Threads + Wait + Sync>(
+    rt: &HostRuntime,
+    threads: &R,
+    store: &Store<DeviceFile>,
+    words: &[u64],
+    workers: u16,
+) -> Result<Scheme, TimeRefused> {
+    Ok(scheme_of_in_threads(
         threads,
         rt.alloc(),
         store.graph(),
         words,
         store.count(),
         workers,
-    )?;
-    time_packets(rt, asked.runs, &scheme, store.nodes())
+    )?)
 }
 
-fn time_openings(rt: &HostRuntime, asked: &Asked<'_>) -> Result<Samples, TimeRefused> {
-    let mut samples = Samples::new(rt.alloc());
-    for _ in 0..asked.runs {
-        let clock = Clock::start(rt)?;
-        let store = store_in(rt, DeviceFile::open_to_read(rt, asked.device))?;
-        samples.add(clock.nanos(rt)?)?;
-        drop(store);
-    }
-    Ok(samples)
-}
-
-fn time_builds<R: Threads + Wait + Sync>(
+// What deciding on a packet takes, and a step of it: by the scheme's tables, and by a forwarder.
+fn time_scheme<R: Threads + Wait + Sync>(
     rt: &HostRuntime,
     threads: &R,
-    asked: &Asked<'_>,
+    runs: u16,
     store: &Store<DeviceFile>,
-    words: &[u64],
-    workers: u16,
-) -> Result<Samples, TimeRefused> {
-    let mut samples = Samples::new(rt.alloc());
-    for _ in 0..asked.runs {
-        let clock = Clock::start(rt)?;
-        let scheme = scheme_of_in_threads(
-            threads,
-            rt.alloc(),
-            store.graph(),
-            words,
-            store.count(),
-            workers,
-        )?;
-        samples.add(clock.nanos(rt)?)?;
-        drop(scheme);
-    }
-    Ok(samples)
+    scheme: Scheme,
+) -> Result<(), TimeRefused> {
+    let packets = time_tables(rt, runs, store.nodes(), &scheme)?;
+    let (_writer, forwarder) = forwarder_with(rt.alloc(), threads, store, scheme)?;
+    let mut walks = Walks {
+        by: ByForwarder(forwarder),
+        packets: &packets,
+    };
+    time_runs(rt, runs, "hop_bytes", &mut walks)
 }
 
-// One search over the whole graph, from nodes that lie apart.
-fn time_searches(
-    rt: &HostRuntime,
-    asked: &Asked<'_>,
-    graph: &Graph,
-) -> Result<Samples, TimeRefused> {
-    let mut samples = Samples::new(rt.alloc());
-    let nodes = graph.nodes();
-    let apart = nodes.checked_div(asked.runs).unwrap_or(1).max(1);
-    for run in 0..asked.runs {
-        let root = run.saturating_mul(apart);
-        if root >= nodes {
-            break;
-        }
-        let clock = Clock::start(rt)?;
-        let reach = from_root(rt.alloc(), graph, root)?;
-        samples.add(clock.nanos(rt)?)?;
-        drop(reach);
-    }
-    Ok(samples)
-}
-
-// What deciding on a packet takes, and a step of it.
-fn time_packets(
+// The part of the tables. It answers its packets in bytes.
+fn time_tables(
     rt: &HostRuntime,
     runs: u16,
-    scheme: &Scheme,
     nodes: u16,
-) -> Result<(), TimeRefused> {
+    scheme: &Scheme,
+) -> Result<Vec<(u16, [u8; PACKET_SIZE])>, TimeRefused> {
     let pairs = drawn_pairs(rt.alloc(), nodes)?;
-    time_walks(rt, runs, scheme, &pairs, "decide")?;
-    time_walks(rt, runs, scheme, &pairs, "node_step")?;
-    time_walks(rt, runs, scheme, &pairs, "step_in_bytes")
+    let mut decisions = Decisions {
+        scheme,
+        pairs: &pairs,
+    };
+    time_runs(rt, runs, "decide", &mut decisions)?;
+    let packets = packets_of(rt.alloc(), scheme, &pairs)?;
+    let mut walks = Walks {
+        by: ByTables(scheme),
+        packets: &packets,
+    };
+    time_runs(rt, runs, "node_step", &mut walks)?;
+    Ok(in_bytes(rt.alloc(), &packets)?)
 }
 
-fn time_walks(
-    rt: &HostRuntime,
-    runs: u16,
-    scheme: &Scheme,
-    pairs: &[(u16, u16)],
-    what: &str,
-) -> Result<(), TimeRefused> {
-    let mut samples = Samples::new(rt.alloc());
-    for _ in 0..runs {
-        let nanos = match what {
-            "decide" => time_decisions(rt, scheme, pairs)?,
-            "node_step" => time_steps(rt, scheme, pairs)?,
-            _ => time_byte_steps(rt, scheme, pairs)?,
-        };
-        samples.add(nanos)?;
+/// The device's file is opened and read.
+#[derive(Drop)]
+struct Opening<'a> {
+    device: &'a str,
+}
+
+impl<'a> Timed for Opening<'a> {
+    type Made = Store<DeviceFile>;
+
+    fn run(&mut self, rt: &HostRuntime, _: u16) -> Result<Store<DeviceFile>, TimeRefused> {
+        Ok(store_in(rt, DeviceFile::open_to_read(rt, self.device))?)
     }
-    samples.print(rt, what)
+}
+
+/// One search over the whole graph, from nodes that lie apart.
+#[derive(Drop)]
+struct Search<'a> {
+    graph: &'a Graph,
+    runs: u16,
+}
+
+impl<'a> Timed for Search<'a> {
+    type Made = Reach;
+
+    fn run(&mut self, rt: &HostRuntime, number: u16) -> Result<Reach, TimeRefused> {
+        let nodes = self.graph.nodes();
+        let apart = nodes.checked_div(self.runs).unwrap_or(0).max(1);
+        Ok(from_root(rt.alloc(), self.graph, number.saturating_mul(apart) % nodes)?)
+    }
 }

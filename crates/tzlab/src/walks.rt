@@ -1,5 +1,6 @@
-// Packets that are walked to their end.
-use crate::samples::{Clock, TimeRefused};
+// Packets that are decided on, and walked to their end.
+use crate::samples::{TimeRefused, Timed};
+use forwarders::{ByteMove, Forwarder};
 use node_table::{Move, Packet, Scheme};
 use packet_bytes::{PACKET_SIZE, Wire};
 use rand_core::{Rng, SeedableRng};
@@ -21,7 +22,7 @@ pub(crate) fn drawn_pairs(alloc: Global, nodes: u16) -> Result<Vec<(u16, u16)>, 
     Ok(pairs)
 }
 
-/// The packet of a pair, where a way is there.
+// The packet of a pair, where a way is there.
 fn packet_of(scheme: &Scheme, from: u16, to: u16) -> Option<Packet> {
     match scheme.address(to) {
         Ok(address) => scheme.decide(from, &address).ok(),
@@ -29,31 +30,75 @@ fn packet_of(scheme: &Scheme, from: u16, to: u16) -> Option<Packet> {
     }
 }
 
-/// How many nanoseconds it takes to decide on a packet, with its address, on average over the pairs.
-pub(crate) fn time_decisions(
-    rt: &HostRuntime,
+/// The packets of pairs, each with the node that sends it, where a way is there.
+pub(crate) fn packets_of(
+    alloc: Global,
     scheme: &Scheme,
     pairs: &[(u16, u16)],
-) -> Result<u64, TimeRefused> {
-    let mut found = 0u64;
-    let clock = Clock::start(rt)?;
+) -> Result<Vec<(u16, Packet)>, AllocError> {
+    let mut packets = Vec::with_capacity(alloc, pairs.len())?;
     for (from, to) in pairs {
-        if packet_of(scheme, *from, *to).is_some() {
-            found = found.saturating_add(1);
+        if let Some(packet) = packet_of(scheme, *from, *to) {
+            packets.push((*from, packet))?;
         }
     }
-    Ok(clock.nanos(rt)?.checked_div(found).unwrap_or(0))
+    Ok(packets)
 }
 
-/// A packet that nodes step on.
-trait Stepped: Sized {
+/// The same packets in bytes.
+pub(crate) fn in_bytes(
+    alloc: Global,
+    packets: &[(u16, Packet)],
+) -> Result<Vec<(u16, [u8; PACKET_SIZE])>, AllocError> {
+    let mut all = Vec::with_capacity(alloc, packets.len())?;
+    for (from, packet) in packets {
+        all.push((*from, packet.to_bytes()))?;
+    }
+    Ok(all)
+}
+
+/// Decides on a packet for each pair, with its address: a part for each that has a way.
+#[derive(Drop)]
+pub(crate) struct Decisions<'a> {
+    pub(crate) scheme: &'a Scheme,
+    pub(crate) pairs: &'a [(u16, u16)],
+}
+
+impl<'a> Timed for Decisions<'a> {
+    type Made = u64;
+
+    fn run(&mut self, _: &HostRuntime, _: u16) -> Result<u64, TimeRefused> {
+        let mut found = 0u64;
+        for (from, to) in self.pairs {
+            if packet_of(self.scheme, *from, *to).is_some() {
+                found = found.saturating_add(1);
+            }
+        }
+        Ok(found)
+    }
+
+    fn parts(made: &u64) -> u64 {
+        *made
+    }
+}
+
+/// What makes the steps of packets.
+pub(crate) trait Stepping {
+    type Packet: Drop;
+
     /// The next node, and the packet that goes there; none at its end.
-    fn stepped(&self, scheme: &Scheme, at: u16) -> Option<(u16, Self)>;
+    fn step(&mut self, at: u16, packet: &Self::Packet) -> Option<(u16, Self::Packet)>;
 }
 
-impl Stepped for Packet {
-    fn stepped(&self, scheme: &Scheme, at: u16) -> Option<(u16, Packet)> {
-        match scheme.node_step(at, self) {
+/// Steps by a scheme's tables.
+#[derive(Drop)]
+pub(crate) struct ByTables<'a>(pub(crate) &'a Scheme);
+
+impl<'a> Stepping for ByTables<'a> {
+    type Packet = Packet;
+
+    fn step(&mut self, at: u16, packet: &Packet) -> Option<(u16, Packet)> {
+        match self.0.node_step(at, packet) {
             Ok(
                 Move::Forward {
                     port: _,
@@ -66,69 +111,58 @@ impl Stepped for Packet {
     }
 }
 
-/// A packet in bytes, which each node reads and writes again.
+/// Steps of packets in bytes, by a forwarder.
 #[derive(Drop)]
-struct InBytes([u8; PACKET_SIZE]);
+pub(crate) struct ByForwarder(pub(crate) Forwarder);
 
-impl Stepped for InBytes {
-    fn stepped(&self, scheme: &Scheme, at: u16) -> Option<(u16, InBytes)> {
-        let Ok(packet) = Packet::from_bytes(&self.0) else {
-            return None;
-        };
-        let (next, onward) = packet.stepped(scheme, at)?;
-        Some((next, InBytes(onward.to_bytes())))
-    }
-}
+impl Stepping for ByForwarder {
+    type Packet = [u8; PACKET_SIZE];
 
-/// How many nanoseconds a step of a packet takes, on average over all packets and all of their steps.
-pub(crate) fn time_steps(
-    rt: &HostRuntime,
-    scheme: &Scheme,
-    pairs: &[(u16, u16)],
-) -> Result<u64, TimeRefused> {
-    let mut packets = Vec::with_capacity(rt.alloc(), pairs.len())?;
-    for (from, to) in pairs {
-        if let Some(packet) = packet_of(scheme, *from, *to) {
-            packets.push((*from, packet))?;
+    fn step(&mut self, at: u16, packet: &[u8; PACKET_SIZE]) -> Option<(u16, [u8; PACKET_SIZE])> {
+        match self.0.hop_bytes(at, packet) {
+            Ok(
+                ByteMove::Forward {
+                    port: _,
+                    next,
+                    bytes,
+                },
+            ) => Some((next, bytes)),
+            Ok(ByteMove::Delivered) | Err(_) => None,
         }
     }
-    time_walks(rt, scheme, packets)
 }
 
-/// The same of a packet in bytes.
-pub(crate) fn time_byte_steps(
-    rt: &HostRuntime,
-    scheme: &Scheme,
-    pairs: &[(u16, u16)],
-) -> Result<u64, TimeRefused> {
-    let mut packets = Vec::with_capacity(rt.alloc(), pairs.len())?;
-    for (from, to) in pairs {
-        if let Some(packet) = packet_of(scheme, *from, *to) {
-            packets.push((*from, InBytes(packet.to_bytes())))?;
+/// Walks packets to their ends: a part for each step of each.
+#[derive(Drop)]
+pub(crate) struct Walks<'a, S: Stepping + Drop> {
+    pub(crate) by: S,
+    pub(crate) packets: &'a [(u16, S::Packet)],
+}
+
+impl<'a, S: Stepping + Drop> Timed for Walks<'a, S> {
+    type Made = u64;
+
+    fn run(&mut self, _: &HostRuntime, _: u16) -> Result<u64, TimeRefused> {
+        let mut steps = 0u64;
+        for (from, packet) in self.packets {
+            steps = steps.saturating_add(steps_of(&mut self.by, *from, packet));
         }
+        Ok(steps)
     }
-    time_walks(rt, scheme, packets)
-}
 
-// Walks packets to their ends.
-fn time_walks<S: Stepped + Drop>(
-    rt: &HostRuntime,
-    scheme: &Scheme,
-    packets: Vec<(u16, S)>,
-) -> Result<u64, TimeRefused> {
-    let mut steps = 0u64;
-    let clock = Clock::start(rt)?;
-    for (from, packet) in packets {
-        steps = steps.saturating_add(steps_of(scheme, from, packet));
+    fn parts(made: &u64) -> u64 {
+        *made
     }
-    Ok(clock.nanos(rt)?.checked_div(steps).unwrap_or(0))
 }
 
 // How many steps a packet takes to its end. It has fewer hops than there are nodes.
-fn steps_of<S: Stepped + Drop>(scheme: &Scheme, from: u16, packet: S) -> u64 {
-    let (mut at, mut packet) = (from, packet);
-    for steps in 1..=u16::MAX as u64 {
-        match packet.stepped(scheme, at) {
+fn steps_of<S: Stepping>(by: &mut S, from: u16, packet: &S::Packet) -> u64 {
+    let Some((next, onward)) = by.step(from, packet) else {
+        return 1;
+    };
+    let (mut at, mut packet) = (next, onward);
+    for steps in 2..=u16::MAX as u64 {
+        match by.step(at, &packet) {
             Some((next, onward)) => {
                 at = next;
                 packet = onward;
