@@ -14,9 +14,9 @@ use Rattle.written_values.specs.WordsText.{IsAsked, IsSame, words_text}
 use Rattle.command_line.specs.declared.refused.WordsRefused.{WordsRefused}
 use Rattle.command_line.specs.declared.refused.WordsRefused.TheVariants as why
 use Rattle.command_line.specs.declared.task.Task.{Task}
-use Rattle.command_line.specs.declared.task.Task.TheVariants.{Format, Show, Edit, Resume, Route, Check, Migrate, Serve}
-use Rattle.command_line.specs.Asked.{AreOpsGiven, ArePairsAsked, Gives, IsCause, IsGiven, IsInRange, IsLacking, IsOpsCause, IsPairInRange, IsSameTask, IsSeats, IsSessionAsked, IsSessionText, IsShapedAs, IsTask, IsTicket, IsTicketAsked, IsWordsCause, LacksOps, LacksWords, usual_places, usual_seats}
-use Rattle.command_line.proofs.Pairing.{one_pairs}
+use Rattle.command_line.specs.declared.task.Task.TheVariants.{Format, Show, Edit, Resume, Route, Check, Migrate, Serve, Tables}
+use Rattle.command_line.specs.Asked.{AreNodesAsked, AreOpsGiven, ArePairsAsked, Gives, IsCause, IsGiven, IsInRange, IsLacking, IsNodeInRange, IsOpsCause, IsPairInRange, IsSameTask, IsSeats, IsSessionAsked, IsSessionText, IsShapedAs, IsTask, IsTicket, IsTicketAsked, IsWordsCause, LacksOps, LacksWords, usual_places, usual_seats}
+use Rattle.command_line.proofs.Pairing.{one_nodes, one_pairs}
 
 -- one name has one letter at a place
 apart : (i : ℕ) (name a b : Text) → name ≡ a → name ≡ b → (get_or a i 0 == get_or b i 0) ≡ false → ⊥
@@ -42,6 +42,7 @@ IsNamed name (Route device pairs words) = name ≡ codes "route"
 IsNamed name (Check device words) = name ≡ codes "check"
 IsNamed name (Migrate old new) = name ≡ codes "migrate"
 IsNamed name (Serve device editors forwarders places words) = name ≡ codes "serve"
+IsNamed name (Tables device folder nodes words) = name ≡ codes "tables"
 
 task_named : (name : Text) (rows : List Row) (task : Task) → IsTask name rows task → IsNamed name task
 task_named name rows (Format device nodes) is = is.0
@@ -52,6 +53,7 @@ task_named name rows (Route device pairs words) is = is.0
 task_named name rows (Check device words) is = is.0
 task_named name rows (Migrate old new) is = is.0
 task_named name rows (Serve device editors forwarders places words) is = is.0
+task_named name rows (Tables device folder nodes words) is = is.0
 
 shape_named : (name : Text) (rows : List Row) (task : Task) → IsShapedAs name rows task → IsNamed name task
 shape_named name rows (Format device nodes) is = is.0
@@ -62,6 +64,7 @@ shape_named name rows (Route device pairs words) is = is.0
 shape_named name rows (Check device words) is = is.0
 shape_named name rows (Migrate old new) is = is.0
 shape_named name rows (Serve device editors forwarders places words) is = is.0
+shape_named name rows (Tables device folder nodes words) is = is.0
 
 -- each shape names a device
 pub has_device : (name : Text) (rows : List Row) (task : Task) → IsShapedAs name rows task → (device : Text) × Gives rows (codes "device") device
@@ -73,17 +76,7 @@ has_device name rows (Route device pairs words) is = (device.now, is.1)
 has_device name rows (Check device words) is = (device.now, is.1)
 has_device name rows (Migrate old new) is = (old.now, is.1)
 has_device name rows (Serve device editors forwarders places words) is = (device.now, is.1)
-
--- and one of the commands
-pub is_named : (name : Text) (rows : List Row) (task : Task) → IsShapedAs name rows task → name ≢ codes "format" → name ≢ codes "show" → name ≢ codes "edit" → name ≢ codes "resume" → name ≢ codes "route" → name ≢ codes "check" → name ≢ codes "migrate" → name ≢ codes "serve" → ⊥
-is_named name rows (Format device nodes) is format show edit resume route check migrate serve = format is.0
-is_named name rows (Show device) is format show edit resume route check migrate serve = show is.0
-is_named name rows (Edit device session ticket change) is format show edit resume route check migrate serve = edit is.0
-is_named name rows (Resume device session) is format show edit resume route check migrate serve = resume is.0
-is_named name rows (Route device pairs words) is format show edit resume route check migrate serve = route is.0
-is_named name rows (Check device words) is format show edit resume route check migrate serve = check is.0
-is_named name rows (Migrate old new) is format show edit resume route check migrate serve = migrate is.0
-is_named name rows (Serve device editors forwarders places words) is format show edit resume route check migrate serve = serve is.0
+has_device name rows (Tables device folder nodes words) is = (device.now, is.1)
 
 -- a change of one op or more gives texts
 some_texts : (change : List Op) → 1 ≤ length change → map op_text change ≢ []
@@ -100,6 +93,7 @@ shaped name rows (Route device pairs words) is fits = (is.0, is.1, is.2, (words_
 shaped name rows (Check device words) is fits = (is.0, is.1, (words_text words, is.2.0))
 shaped name rows (Migrate old new) is fits = is
 shaped name rows (Serve device editors forwarders places words) is fits = (is.0, is.1, is.2, is.3, is.4, (words_text words, is.5.0))
+shaped name rows (Tables device folder nodes words) is fits = (is.0, is.1, is.2, is.3, (words_text words, is.4.0), fits)
 
 -- ---- what holds of each task of a command holds of the one that was asked for
 
@@ -112,6 +106,7 @@ only_format P name (Route device pairs words) named is each = absurd (apart 2 na
 only_format P name (Check device words) named is each = absurd (apart 2 name _ _ named is refl)
 only_format P name (Migrate old new) named is each = absurd (apart 2 name _ _ named is refl)
 only_format P name (Serve device editors forwarders places words) named is each = absurd (apart 0 name _ _ named is refl)
+only_format P name (Tables device folder nodes words) named is each = absurd (apart 2 name _ _ named is refl)
 
 only_show : (P : Task → Type 0) (name : Text) (task : Task) → name ≡ codes "show" → IsNamed name task → ((device : Bor Text) → P (Show device)) → P task
 only_show P name (Format device nodes) named is each = absurd (apart 2 name _ _ named is refl)
@@ -122,6 +117,7 @@ only_show P name (Route device pairs words) named is each = absurd (apart 2 name
 only_show P name (Check device words) named is each = absurd (apart 2 name _ _ named is refl)
 only_show P name (Migrate old new) named is each = absurd (apart 2 name _ _ named is refl)
 only_show P name (Serve device editors forwarders places words) named is each = absurd (apart 2 name _ _ named is refl)
+only_show P name (Tables device folder nodes words) named is each = absurd (apart 2 name _ _ named is refl)
 
 only_edit : (P : Task → Type 0) (name : Text) (task : Task) → name ≡ codes "edit" → IsNamed name task → ((device : Bor Text) (session : ℕ) (ticket : Option ℕ) (change : List Op) → P (Edit device session ticket change)) → P task
 only_edit P name (Format device nodes) named is each = absurd (apart 2 name _ _ named is refl)
@@ -132,6 +128,7 @@ only_edit P name (Route device pairs words) named is each = absurd (apart 2 name
 only_edit P name (Check device words) named is each = absurd (apart 2 name _ _ named is refl)
 only_edit P name (Migrate old new) named is each = absurd (apart 2 name _ _ named is refl)
 only_edit P name (Serve device editors forwarders places words) named is each = absurd (apart 2 name _ _ named is refl)
+only_edit P name (Tables device folder nodes words) named is each = absurd (apart 2 name _ _ named is refl)
 
 only_resume : (P : Task → Type 0) (name : Text) (task : Task) → name ≡ codes "resume" → IsNamed name task → ((device : Bor Text) (session : ℕ) → P (Resume device session)) → P task
 only_resume P name (Format device nodes) named is each = absurd (apart 2 name _ _ named is refl)
@@ -142,6 +139,7 @@ only_resume P name (Route device pairs words) named is each = absurd (apart 2 na
 only_resume P name (Check device words) named is each = absurd (apart 2 name _ _ named is refl)
 only_resume P name (Migrate old new) named is each = absurd (apart 2 name _ _ named is refl)
 only_resume P name (Serve device editors forwarders places words) named is each = absurd (apart 2 name _ _ named is refl)
+only_resume P name (Tables device folder nodes words) named is each = absurd (apart 2 name _ _ named is refl)
 
 only_route : (P : Task → Type 0) (name : Text) (task : Task) → name ≡ codes "route" → IsNamed name task → ((device : Bor Text) (pairs : Vec (ℕ × ℕ)) (words : LandmarkWords) → P (Route device pairs words)) → P task
 only_route P name (Format device nodes) named is each = absurd (apart 2 name _ _ named is refl)
@@ -152,6 +150,7 @@ only_route P name (Route device pairs words) named is each = each device pairs w
 only_route P name (Check device words) named is each = absurd (apart 2 name _ _ named is refl)
 only_route P name (Migrate old new) named is each = absurd (apart 2 name _ _ named is refl)
 only_route P name (Serve device editors forwarders places words) named is each = absurd (apart 2 name _ _ named is refl)
+only_route P name (Tables device folder nodes words) named is each = absurd (apart 2 name _ _ named is refl)
 
 only_check : (P : Task → Type 0) (name : Text) (task : Task) → name ≡ codes "check" → IsNamed name task → ((device : Bor Text) (words : LandmarkWords) → P (Check device words)) → P task
 only_check P name (Format device nodes) named is each = absurd (apart 2 name _ _ named is refl)
@@ -162,6 +161,7 @@ only_check P name (Route device pairs words) named is each = absurd (apart 2 nam
 only_check P name (Check device words) named is each = each device words
 only_check P name (Migrate old new) named is each = absurd (apart 2 name _ _ named is refl)
 only_check P name (Serve device editors forwarders places words) named is each = absurd (apart 2 name _ _ named is refl)
+only_check P name (Tables device folder nodes words) named is each = absurd (apart 2 name _ _ named is refl)
 
 only_migrate : (P : Task → Type 0) (name : Text) (task : Task) → name ≡ codes "migrate" → IsNamed name task → ((old new : Bor Text) → P (Migrate old new)) → P task
 only_migrate P name (Format device nodes) named is each = absurd (apart 2 name _ _ named is refl)
@@ -172,6 +172,7 @@ only_migrate P name (Route device pairs words) named is each = absurd (apart 2 n
 only_migrate P name (Check device words) named is each = absurd (apart 2 name _ _ named is refl)
 only_migrate P name (Migrate old new) named is each = each old new
 only_migrate P name (Serve device editors forwarders places words) named is each = absurd (apart 2 name _ _ named is refl)
+only_migrate P name (Tables device folder nodes words) named is each = absurd (apart 2 name _ _ named is refl)
 
 only_serve : (P : Task → Type 0) (name : Text) (task : Task) → name ≡ codes "serve" → IsNamed name task → ((device : Bor Text) (editors forwarders places : ℕ) (words : LandmarkWords) → P (Serve device editors forwarders places words)) → P task
 only_serve P name (Format device nodes) named is each = absurd (apart 0 name _ _ named is refl)
@@ -182,6 +183,18 @@ only_serve P name (Route device pairs words) named is each = absurd (apart 2 nam
 only_serve P name (Check device words) named is each = absurd (apart 2 name _ _ named is refl)
 only_serve P name (Migrate old new) named is each = absurd (apart 2 name _ _ named is refl)
 only_serve P name (Serve device editors forwarders places words) named is each = each device editors forwarders places words
+only_serve P name (Tables device folder nodes words) named is each = absurd (apart 2 name _ _ named is refl)
+
+only_tables : (P : Task → Type 0) (name : Text) (task : Task) → name ≡ codes "tables" → IsNamed name task → ((device folder : Bor Text) (nodes : Vec ℕ) (words : LandmarkWords) → P (Tables device folder nodes words)) → P task
+only_tables P name (Format device nodes) named is each = absurd (apart 2 name _ _ named is refl)
+only_tables P name (Show device) named is each = absurd (apart 2 name _ _ named is refl)
+only_tables P name (Edit device session ticket change) named is each = absurd (apart 2 name _ _ named is refl)
+only_tables P name (Resume device session) named is each = absurd (apart 2 name _ _ named is refl)
+only_tables P name (Route device pairs words) named is each = absurd (apart 2 name _ _ named is refl)
+only_tables P name (Check device words) named is each = absurd (apart 2 name _ _ named is refl)
+only_tables P name (Migrate old new) named is each = absurd (apart 2 name _ _ named is refl)
+only_tables P name (Serve device editors forwarders places words) named is each = absurd (apart 2 name _ _ named is refl)
+only_tables P name (Tables device folder nodes words) named is each = each device folder nodes words
 
 -- ---- the task that was read is the one that was asked for
 
@@ -232,6 +245,14 @@ same_serve name rows device editors forwarders places words task named gives sea
     only_serve (λ t. IsTask name rows t → IsSameTask (Serve device editors forwarders places words) t) name task named (task_named name rows task is)
     (λ other e f q asked is. (one_text rows _ _ _ gives is.1, seats e is.2, carriers f is.3, queue q is.4, read asked is.5.1 is.5.0)) is
 
+pub same_tables : (rows : List Row) (device folder : Bor Text) (nodes : Vec ℕ) (words : LandmarkWords) (task : Task) → Gives rows (codes "device") device.now → Gives rows (codes "folder") folder.now
+    → AreNodesAsked rows nodes.items → All IsNodeInRange nodes.items
+    → ((asked : LandmarkWords) → IsAsked asked → Gives rows (codes "words") (words_text asked) → IsSame words asked) → IsTask (codes "tables") rows task → IsInRange task → IsSameTask (Tables device folder nodes words) task
+same_tables rows device folder nodes words task gives placed named range read is fits =
+    only_tables (λ t. IsTask (codes "tables") rows t → IsInRange t → IsSameTask (Tables device folder nodes words) t) (codes "tables") task refl (task_named (codes "tables") rows task is)
+    (λ other place others asked is fits.
+    (one_text rows _ _ _ gives is.1, one_text rows _ _ _ placed is.2, one_nodes nodes.items others.items range fits (sym named ∙ is.3), read asked is.4.1 is.4.0)) is fits
+
 -- ---- why a command is no task
 
 -- so many texts are so many ops
@@ -256,6 +277,8 @@ no_words name rows (Route device pairs words) task shaped lacks is =
 no_words name rows (Check device words) task shaped lacks is = only_check (λ t. IsTask name rows t → ⊥) name task shaped.0 (task_named name rows task is) (λ other asked is. lacks asked is.2) is
 no_words name rows (Serve device editors forwarders places words) task shaped lacks is =
     only_serve (λ t. IsTask name rows t → ⊥) name task shaped.0 (task_named name rows task is) (λ other e f q asked is. lacks asked is.5) is
+no_words name rows (Tables device folder nodes words) task shaped lacks is =
+    only_tables (λ t. IsTask name rows t → ⊥) name task shaped.0 (task_named name rows task is) (λ other place others asked is. lacks asked is.4) is
 no_words name rows _ task shaped lacks is = absurd lacks
 
 -- nor does one of which a text is no op
@@ -323,6 +346,11 @@ pub pairs_refused : (rows : List Row) (refused : WordsRefused) → ((pairs : Lis
 pairs_refused rows refused read task is =
     only_route (λ t. IsShapedAs (codes "route") rows t → refused ≡ why.Memory) (codes "route") task refl (shape_named (codes "route") rows task is) (λ other pairs asked is. read pairs.items is.4 is.2) is
 
+pub named_nodes_refused : (rows : List Row) (refused : WordsRefused) → ((nodes : List ℕ) → All IsNodeInRange nodes → AreNodesAsked rows nodes → refused ≡ why.Memory) → (task : Task)
+    → IsShapedAs (codes "tables") rows task → refused ≡ why.Memory
+named_nodes_refused rows refused read task is =
+    only_tables (λ t. IsShapedAs (codes "tables") rows t → refused ≡ why.Memory) (codes "tables") task refl (shape_named (codes "tables") rows task is) (λ other place nodes asked is. read nodes.items is.5 is.3) is
+
 pub editors_refused : (rows : List Row) (refused : WordsRefused) → ((n : ℕ) → IsSeats (first_of (codes "editors") rows) usual_seats n → refused ≡ why.Memory) → (task : Task)
     → IsShapedAs (codes "serve") rows task → refused ≡ why.Memory
 editors_refused rows refused read task is =
@@ -343,6 +371,12 @@ pub new_given : (name : Text) (rows : List Row) → name ≡ codes "migrate" →
 new_given name rows named task is =
     only_migrate (λ t. IsShapedAs name rows t → (new : Text) × Gives rows (codes "new") new) name task named (shape_named name rows task is) (λ old new is. (new.now, is.2)) is
 
+-- and so is the folder's
+pub folder_given : (rows : List Row) (task : Task) → IsShapedAs (codes "tables") rows task → (folder : Text) × Gives rows (codes "folder") folder
+folder_given rows task is =
+    only_tables (λ t. IsShapedAs (codes "tables") rows t → (folder : Text) × Gives rows (codes "folder") folder) (codes "tables") task refl (shape_named (codes "tables") rows task is)
+    (λ other place nodes asked is. (place.now, is.2)) is
+
 -- Landmark words that can't be read: the command is shaped as this one where a text of them is given, and each shape gives one.
 pub of_words : (name : Text) (rows : List Row) (refused : WordsRefused) (task : Task) → IsWordsCause rows refused → ((other : Task) → IsShapedAs name rows other → IsGiven rows (codes "words"))
     → (IsGiven rows (codes "words") → IsShapedAs name rows task) → (LacksWords rows → IsLacking rows task why.Words) → IsCause name rows refused
@@ -361,6 +395,10 @@ check_words name rows named task is = only_check (λ t. IsShapedAs name rows t �
 pub serve_words : (rows : List Row) (task : Task) → IsShapedAs (codes "serve") rows task → IsGiven rows (codes "words")
 serve_words rows task is =
     only_serve (λ t. IsShapedAs (codes "serve") rows t → IsGiven rows (codes "words")) (codes "serve") task refl (shape_named (codes "serve") rows task is) (λ other e f q asked is. is.5) is
+
+pub tables_words : (rows : List Row) (task : Task) → IsShapedAs (codes "tables") rows task → IsGiven rows (codes "words")
+tables_words rows task is =
+    only_tables (λ t. IsShapedAs (codes "tables") rows t → IsGiven rows (codes "words")) (codes "tables") task refl (shape_named (codes "tables") rows task is) (λ other place nodes asked is. is.4) is
 
 -- ops that can't be read, behind a session and a ticket that can
 pub of_ops : (rows : List Row) (refused : WordsRefused) (device : Bor Text) (session : ℕ) (ticket : Option ℕ) → Gives rows (codes "device") device.now → IsSessionAsked rows session → IsTicketAsked rows ticket

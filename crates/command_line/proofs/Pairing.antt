@@ -6,11 +6,24 @@ use Rattle.std.proofs.lemmas.List.Elements.{All-head, All-tail, recursion_from_A
 use Rattle.std.specs.Borrow.{Bor}
 use Rattle.std.specs.List.{AllByRecursion}
 use Rattle.clap.specs.Walk.{Row, Text, all_of, texts}
-use Rattle.command_line.specs.Asked.{ArePairsAsked, Gives, IsPairInRange, nodes_of, texts_in}
+use Rattle.command_line.specs.Asked.{ArePairsAsked, Gives, IsNodeInRange, IsPairInRange, nodes_of, texts_in}
 
 -- a text is that of one node
 one_node : (a b : ℕ) → a < 2 ^ 16 → b < 2 ^ 16 → decimal a ≡ decimal b → a ≡ b
 one_node a b fits other same = decimal_injective a b (omega arith) (omega arith) same
+
+each_one : (a b : List ℕ) → AllByRecursion IsNodeInRange a → AllByRecursion IsNodeInRange b → map decimal a ≡ map decimal b → a ≡ b
+each_one [] [] fits others same = refl
+each_one [] (y ∷ b) fits others same = absurd (cc)
+each_one (x ∷ a) [] fits others same = absurd (cc)
+each_one (x ∷ a) (y ∷ b) fits others same =
+    let first : decimal x ≡ decimal y = cc in
+    let rest : map decimal a ≡ map decimal b = cc in
+    ap₂ (λ (n : ℕ) (ns : List ℕ). n ∷ ns) (one_node x y fits.0 others.0 first) (each_one a b fits.1 others.1 rest)
+
+-- and texts are those of one list of nodes
+pub one_nodes : (a b : List ℕ) → All IsNodeInRange a → All IsNodeInRange b → map decimal a ≡ map decimal b → a ≡ b
+one_nodes a b fits others same = each_one a b (recursion_from_All IsNodeInRange a fits) (recursion_from_All IsNodeInRange b others) same
 
 -- the texts of nodes are those of one list of pairs
 one_list : (a b : List (ℕ × ℕ)) → AllByRecursion IsPairInRange a → AllByRecursion IsPairInRange b → map decimal (nodes_of a) ≡ map decimal (nodes_of b) → a ≡ b
@@ -56,7 +69,7 @@ one_pair_more [] from to = refl
 one_pair_more (p ∷ pairs) from to = ap (λ (ns : List ℕ). p.0 ∷ p.1 ∷ ns) (one_pair_more pairs from to)
 
 -- nodes whose texts were read, and the one of the next text
-one_text_more : (ns : List ℕ) (node : ℕ) (given : List (Bor Text)) (i : ℕ) (d : Bor Text) → i < length given → (get_or given i d).now ≡ decimal node → map decimal ns ≡ texts (take i given)
+pub one_text_more : (ns : List ℕ) (node : ℕ) (given : List (Bor Text)) (i : ℕ) (d : Bor Text) → i < length given → (get_or given i d).now ≡ decimal node → map decimal ns ≡ texts (take i given)
     → map decimal (ns ++ node ∷ []) ≡ texts (take (i + 1) given)
 one_text_more ns node given i d lt is same =
     map-append decimal ns (node ∷ [])
@@ -89,6 +102,10 @@ node_at_in (n ∷ ns) (t ∷ given) zero d lt fit same = (n, fit.0, cc)
 node_at_in (n ∷ ns) (t ∷ given) (suc i) d lt fit same =
     let rest : map decimal ns ≡ texts given = cc in
     node_at_in ns given i d (omega arith) fit.1 rest
+
+-- where texts are those of nodes, each text is that of one
+pub named_at : (ns : List ℕ) (given : List (Bor Text)) (i : ℕ) (d : Bor Text) → i < length given → All IsNodeInRange ns → texts given ≡ map decimal ns → (n : ℕ) × (n < 2 ^ 16) × ((get_or given i d).now ≡ decimal n)
+named_at ns given i d lt fit same = node_at_in ns given i d lt (recursion_from_All IsNodeInRange ns fit) (sym same)
 
 each_node : (pairs : List (ℕ × ℕ)) → AllByRecursion IsPairInRange pairs → AllByRecursion (λ n. n < 2 ^ 16) (nodes_of pairs)
 each_node [] fits = tt

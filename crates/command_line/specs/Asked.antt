@@ -13,7 +13,7 @@ use Rattle.written_values.specs.WordsText.{IsAsked, IsSame, words_text}
 use Rattle.command_line.specs.declared.refused.WordsRefused.{WordsRefused}
 use Rattle.command_line.specs.declared.refused.WordsRefused.TheVariants as why
 use Rattle.command_line.specs.declared.task.Task.{Task}
-use Rattle.command_line.specs.declared.task.Task.TheVariants.{Format, Show, Edit, Resume, Route, Check, Migrate, Serve}
+use Rattle.command_line.specs.declared.task.Task.TheVariants.{Format, Show, Edit, Resume, Route, Check, Migrate, Serve, Tables}
 use Rattle.command_line.specs.Grammar.{program}
 
 -- the argument has this text
@@ -110,6 +110,15 @@ IsServe name rows device editors forwarders places words =
     × IsSeats (first_of (codes "queue") rows) usual_places places
     × AreWordsAsked rows words
 
+-- `[--node N]..`, with each node in decimal, in order, and no other
+abbrev pub AreNodesAsked : List Row → List ℕ → Type 0
+AreNodesAsked rows nodes = texts_in (all_of (codes "node") rows) ≡ map decimal nodes
+
+-- `tables DEVICE FOLDER --words W [--node N]..`
+abbrev pub IsTables : Text → List Row → Text → Text → List ℕ → LandmarkWords → Type 0
+IsTables name rows device folder nodes words =
+    (name ≡ codes "tables") × Gives rows (codes "device") device × Gives rows (codes "folder") folder × AreNodesAsked rows nodes × AreWordsAsked rows words
+
 -- a command of this name, with these texts of its arguments, is this task
 abbrev pub IsTask : Text → List Row → Task → Type 0
 IsTask name rows (Format device nodes) = IsFormat name rows device.now nodes
@@ -120,6 +129,7 @@ IsTask name rows (Route device pairs words) = IsRoute name rows device.now pairs
 IsTask name rows (Check device words) = IsCheck name rows device.now words
 IsTask name rows (Migrate old new) = IsMigrate name rows old.now new.now
 IsTask name rows (Serve device editors forwarders places words) = IsServe name rows device.now editors forwarders places words
+IsTask name rows (Tables device folder nodes words) = IsTables name rows device.now folder.now nodes.items words
 
 -- the grammar takes the words, and they name this command, with these texts of its arguments
 abbrev pub IsCommand : List Text → Text → List Row → Type 0
@@ -133,6 +143,10 @@ IsAskedFor words task = (name : Text) × (rows : List Row) × IsCommand words na
 abbrev pub IsPairInRange : ℕ × ℕ → Type 0
 IsPairInRange p = (p.0 < 2 ^ 16) × (p.1 < 2 ^ 16)
 
+-- a node fits its type
+abbrev pub IsNodeInRange : ℕ → Type 0
+IsNodeInRange node = node < 2 ^ 16
+
 -- the numbers of a task fit their types, and a change has from 1 op to the most
 abbrev pub IsInRange : Task → Type 0
 IsInRange (Format device nodes) = nodes < 2 ^ 16
@@ -143,6 +157,7 @@ IsInRange (Route device pairs words) = All IsPairInRange pairs.items
 IsInRange (Check device words) = Unit {0}
 IsInRange (Migrate old new) = Unit {0}
 IsInRange (Serve device editors forwarders places words) = Unit {0}
+IsInRange (Tables device folder nodes words) = All IsNodeInRange nodes.items
 
 -- the same command, with the same texts and numbers
 abbrev pub IsSameTask : Task → Task → Type 0
@@ -154,6 +169,7 @@ IsSameTask (Route device pairs words) (Route other others asked) = (device.now �
 IsSameTask (Check device words) (Check other asked) = (device.now ≡ other.now) × IsSame words asked
 IsSameTask (Migrate old new) (Migrate other made) = (old.now ≡ other.now) × (new.now ≡ made.now)
 IsSameTask (Serve device editors forwarders places words) (Serve other e f q asked) = (device.now ≡ other.now) × (editors ≡ e) × (forwarders ≡ f) × (places ≡ q) × IsSame words asked
+IsSameTask (Tables device folder nodes words) (Tables other place named asked) = (device.now ≡ other.now) × (folder.now ≡ place.now) × (nodes.items ≡ named.items) × IsSame words asked
 IsSameTask task other = ⊥
 
 -- ---- why words are no task
@@ -181,6 +197,8 @@ IsShapedAs name rows (Serve device editors forwarders places words) =
     (name ≡ codes "serve") × Gives rows (codes "device") device.now × IsSeats (first_of (codes "editors") rows) usual_seats editors × IsSeats (first_of (codes "forwarders") rows) usual_seats forwarders
     × IsSeats (first_of (codes "queue") rows) usual_places places
     × IsGiven rows (codes "words")
+IsShapedAs name rows (Tables device folder nodes words) =
+    (name ≡ codes "tables") × Gives rows (codes "device") device.now × Gives rows (codes "folder") folder.now × AreNodesAsked rows nodes.items × IsGiven rows (codes "words") × All IsNodeInRange nodes.items
 
 -- what stands behind `--words` is of none of the forms
 abbrev pub LacksWords : List Row → Type 0
@@ -216,6 +234,7 @@ IsLacking rows (Edit device session ticket change) why.TooLong = HasTooManyOps r
 IsLacking rows (Route device pairs words) why.Words = LacksWords rows
 IsLacking rows (Check device words) why.Words = LacksWords rows
 IsLacking rows (Serve device editors forwarders places words) why.Words = LacksWords rows
+IsLacking rows (Tables device folder nodes words) why.Words = LacksWords rows
 IsLacking rows task refused = ⊥
 
 -- why a command of this name, with these texts of its arguments, is no task

@@ -25,6 +25,10 @@ words_rule = record (text_rule (codes "words")) { long = Some (codes "words") }
 abbrev pub option_rule : Text → Rule
 option_rule id = record (new_rule id) { long = Some id; action = Some Set }
 
+-- `--ID N`, which may be left out, and be given any number of times
+abbrev pub repeated_rule : Text → Rule
+repeated_rule id = record (new_rule id) { long = Some id; action = Some Append }
+
 -- a command on a device: `NAME DEVICE`
 abbrev pub on_device_app : Text → App
 on_device_app name = with_rule (new_app name) (text_rule (codes "device"))
@@ -63,6 +67,10 @@ serve_app =
     with_rule (with_rule (with_rule (with_rule (on_device_app (codes "serve")) words_rule) (option_rule (codes "editors"))) (option_rule (codes "forwarders")))
     (option_rule (codes "queue"))
 
+-- `tables DEVICE FOLDER --words W [--node N]..`
+abbrev pub tables_app : App
+tables_app = with_rule (with_rule (with_rule (on_device_app (codes "tables")) (text_rule (codes "folder"))) words_rule) (repeated_rule (codes "node"))
+
 -- one of the commands has to be given, and the program's name is not among the words
 abbrev pub bare_app : App
 bare_app = on_top (λ s. record s { no_binary_name = true; subcommand_required = true }) (new_app (codes "tznode"))
@@ -71,6 +79,10 @@ bare_app = on_top (λ s. record s { no_binary_name = true; subcommand_required =
 abbrev pub plain_program : App
 plain_program = with_subcommand (with_subcommand (with_subcommand (with_subcommand bare_app format_app.top) show_app.top) edit_app.top) resume_app.top
 
+-- these, and the commands that answer of a network under landmark words
+abbrev pub asking_program : App
+asking_program = with_subcommand (with_subcommand (with_subcommand plain_program route_app.top) check_app.top) tables_app.top
+
 -- the program's grammar
 unfoldable pub program : App
-program = with_subcommand (with_subcommand (with_subcommand (with_subcommand plain_program route_app.top) check_app.top) migrate_app.top) serve_app.top
+program = with_subcommand (with_subcommand asking_program migrate_app.top) serve_app.top

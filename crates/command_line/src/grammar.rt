@@ -3,7 +3,7 @@ ghost use Rattle.std.specs.Prelude.{◌≡◌, IfOk, codes, false};
 ghost use Rattle.clap.specs.Walk.{rule_of};
 ghost use Rattle.clap.specs.Words.{app_of, with_rule};
 ghost use Rattle.clap.specs.declared.builder.command.Command.TheViews.{out-Command};
-ghost use Rattle.command_line.specs.Grammar.{check_app, edit_app, more_rule, on_device_app, ops_rule, option_rule, plain_program, program, route_app, serve_app, text_rule, words_rule};
+ghost use Rattle.command_line.specs.Grammar.{asking_program, check_app, edit_app, more_rule, on_device_app, ops_rule, option_rule, plain_program, program, repeated_rule, route_app, serve_app, tables_app, text_rule, words_rule};
 
 use clap::{Arg, ArgAction, Command};
 use std::alloc::{AllocError, Global};
@@ -105,6 +105,23 @@ fn check_command<'a>(alloc: Global) -> Result<Command<'a>, AllocError>
     with_words(alloc, on_device(alloc, "check")?)
 }
 
+// An option that may be given any number of times.
+fn repeated<'a>(alloc: Global, id: &'a str) -> Arg<'a>
+    ensures rule { rule_of result ≡ repeated_rule id.entry.now }
+    ensures local { result.global ≡ false }
+{
+    Arg::new(alloc, id).long(id).action(ArgAction::Append)
+}
+
+fn tables_command<'a>(alloc: Global) -> Result<Command<'a>, AllocError>
+    ensures app { IfOk result (λ command. app_of command ≡ tables_app) }
+    ensures local { IfOk result (λ command. (out-Command command).has_globals ≡ false) }
+{
+    let folder = on_device_with(alloc, "tables", "folder")?;
+    let worded = with_words(alloc, folder)?;
+    worded.arg(repeated(alloc, "node"))
+}
+
 // The first commands. One at a time is joined to those before, so that an exit has few of them to drop.
 fn plain_commands<'a>(alloc: Global) -> Result<Command<'a>, AllocError>
     ensures { IfOk result (λ command. app_of command ≡ plain_program) }
@@ -118,13 +135,21 @@ fn plain_commands<'a>(alloc: Global) -> Result<Command<'a>, AllocError>
     edits.subcommand(on_device_with(alloc, "resume", "session")?)
 }
 
-/// The grammar, as clap takes it.
-pub(crate) fn grammar<'a>(alloc: Global) -> Result<Command<'a>, AllocError>
-    ensures { IfOk result (λ command. app_of command ≡ program) }
+// These, and the commands that answer of a network under landmark words.
+fn asking_commands<'a>(alloc: Global) -> Result<Command<'a>, AllocError>
+    ensures { IfOk result (λ command. app_of command ≡ asking_program) }
 {
     let plain = plain_commands(alloc)?;
     let routes = plain.subcommand(route_command(alloc)?)?;
     let checks = routes.subcommand(check_command(alloc)?)?;
-    let migrates = checks.subcommand(on_device_with(alloc, "migrate", "new")?)?;
+    checks.subcommand(tables_command(alloc)?)
+}
+
+/// The grammar, as clap takes it.
+pub(crate) fn grammar<'a>(alloc: Global) -> Result<Command<'a>, AllocError>
+    ensures { IfOk result (λ command. app_of command ≡ program) }
+{
+    let asking = asking_commands(alloc)?;
+    let migrates = asking.subcommand(on_device_with(alloc, "migrate", "new")?)?;
     migrates.subcommand(serve_command(alloc)?)
 }

@@ -7,7 +7,7 @@ ghost use Rattle.requests.specs.Tickets.{sessions};
 ghost use Rattle.written_values.specs.declared.words.LandmarkWords.{LandmarkWords};
 ghost use Rattle.written_values.specs.OpText.{Fits, op_text};
 ghost use Rattle.written_values.specs.WordsText.{IsAsked, IsSame, words_text};
-ghost use Rattle.command_line.specs.Asked.{ArePairsAsked, IsAskedFor, IsCause, IsInRange, IsOpsCause, IsPairInRange, IsRefusedFor, IsSameTask, IsSeats, IsSessionText, IsTask, IsTicket, IsWordsCause, nodes_of, texts_in};
+ghost use Rattle.command_line.specs.Asked.{ArePairsAsked, IsAskedFor, IsCause, IsInRange, IsNodeInRange, IsOpsCause, IsPairInRange, IsRefusedFor, IsSameTask, IsSeats, IsSessionText, IsTask, IsTicket, IsWordsCause, nodes_of, texts_in};
 ghost use Rattle.command_line.specs.declared.task.Task.{Task};
 
 use crate::grammar::grammar;
@@ -71,6 +71,14 @@ pub enum Task<'a> {
         forwarders: u8,
         /// How many changes may wait in the queue.
         places: u8,
+        words: LandmarkWords,
+    },
+    /// Put the routers' tables of nodes into a folder.
+    Tables {
+        device: &'a str,
+        folder: &'a str,
+        /// The nodes that are named, in order; all are meant where none is.
+        nodes: Vec<u16>,
         words: LandmarkWords,
     },
 }
@@ -155,6 +163,8 @@ fn task_of<'a>(alloc: Global, name: &str, found: &ArgMatches<'a>) -> Result<Task
         })
     } else if name == "serve" {
         serve_of(alloc, device, found)
+    } else if name == "tables" {
+        tables_of(alloc, device, found)
     } else {
         Err(WordsRefused::Usage)
     }
@@ -221,6 +231,55 @@ fn serve_of<'a>(
         places,
         words,
     })
+}
+
+// Tables of a device's network.
+fn tables_of<'a>(
+    alloc: Global,
+    device: &'a str,
+    found: &ArgMatches<'a>,
+) -> Result<Task<'a>, WordsRefused>
+    ensures asked { first_of (codes "device") (rows_of (found_of found.entry.now)) ≡ Some device.entry.now → IfOk result (λ task. IsTask (codes "tables") (rows_of (found_of found.entry.now)) task) }
+    ensures only { first_of (codes "device") (rows_of (found_of found.entry.now)) ≡ Some device.entry.now → (task : Task) → IsTask (codes "tables") (rows_of (found_of found.entry.now)) task → IsInRange task → IfOk result (λ read. IsSameTask read task) }
+    ensures cause { first_of (codes "device") (rows_of (found_of found.entry.now)) ≡ Some device.entry.now → IfErr result (λ refused. IsCause (codes "tables") (rows_of (found_of found.entry.now)) refused) }
+{
+    let folder = text(found, "folder")?;
+    let nodes = named_nodes(alloc, found)?;
+    let words = words_asked(alloc, found)?;
+    Ok(Task::Tables {
+        device,
+        folder,
+        nodes,
+        words,
+    })
+}
+
+// The nodes that are named, in order.
+fn named_nodes(alloc: Global, found: &ArgMatches<'_>) -> Result<Vec<u16>, WordsRefused>
+    ensures found { IfOk result (λ nodes. texts_in (option_map raw_values (matched_of (found_of found.entry.now) (codes "node"))) ≡ map decimal nodes.items) }
+    ensures fits { IfOk result (λ nodes. All IsNodeInRange nodes.items) }
+    ensures only { (nodes : List ℕ) → All IsNodeInRange nodes → texts_in (option_map raw_values (matched_of (found_of found.entry.now) (codes "node"))) ≡ map decimal nodes → IfErr result (λ refused. refused ≡ WordsRefused.Memory) }
+    ensures refusals { IfErr result (λ refused. (refused ≡ WordsRefused.Usage) ⊎ (refused ≡ WordsRefused.Memory)) }
+{
+    match found.get_strs("node") {
+        Some(texts) => nodes_in(alloc, texts),
+        None => Ok(Vec::new(alloc)),
+    }
+}
+
+// Each text as a node.
+fn nodes_in(alloc: Global, given: &[&str]) -> Result<Vec<u16>, WordsRefused>
+    ensures found { IfOk result (λ nodes. texts given.now ≡ map decimal nodes.items) }
+    ensures fits { IfOk result (λ nodes. All IsNodeInRange nodes.items) }
+    ensures only { (nodes : List ℕ) → All IsNodeInRange nodes → texts given.now ≡ map decimal nodes → IfErr result (λ refused. refused ≡ WordsRefused.Memory) }
+    ensures refusals { IfErr result (λ refused. (refused ≡ WordsRefused.Usage) ⊎ (refused ≡ WordsRefused.Memory)) }
+{
+    let mut nodes = Vec::new(alloc);
+    for text in given {
+        let node = whole_in(alloc, *text)?;
+        nodes.push(node)?;
+    }
+    Ok(nodes)
 }
 
 // A number from 1 to 64, or the usual one where none is named.

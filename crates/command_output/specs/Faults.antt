@@ -3,7 +3,7 @@ use Rattle.std.specs.Prelude.{ℕ, List, [], ◌∷◌, ◌++◌, codes}
 use Rattle.command_output.specs.declared.ended.Ended.{Ended}
 use Rattle.command_output.specs.declared.ended.Ended.TheVariants.{Done, Refused}
 use Rattle.command_output.specs.declared.fault.Fault.{Fault}
-use Rattle.command_output.specs.declared.fault.Fault.TheVariants.{Usage, Op, Words, Script, ChangeTooLong, NodeCount, DeviceLength, DeviceFile, DeviceInUse, NotFormatted, LayoutNotKnown, Damaged, Device, Memory, NoThread, Internal, Worn, AlreadyIn, NoNode, Output}
+use Rattle.command_output.specs.declared.fault.Fault.TheVariants.{Usage, Op, Words, Script, ChangeTooLong, NodeCount, DeviceLength, DeviceFile, DeviceInUse, NotFormatted, LayoutNotKnown, Damaged, Device, Memory, NoThread, Internal, Worn, AlreadyIn, NoNode, Output, TableFile}
 
 -- what is told of a fault
 abbrev pub fault_text : Fault → List ℕ
@@ -27,6 +27,7 @@ fault_text Worn = codes "worn out"
 fault_text AlreadyIn = codes "already in"
 fault_text NoNode = codes "no node"
 fault_text Output = codes "input or output failed"
+fault_text TableFile = codes "table file cannot be written"
 
 -- the line that tells it
 abbrev pub told_text : Fault → List ℕ
@@ -62,6 +63,7 @@ status_of Worn = 1
 status_of AlreadyIn = 1
 status_of NoNode = 1
 status_of Output = 1
+status_of TableFile = 1
 
 -- the exit status of a command that ends so
 abbrev pub status_at : Ended → ℕ

@@ -1,4 +1,4 @@
--- The lines that `route` and `check` print.
+-- The lines that `route`, `check` and `tables` print.
 use Rattle.std.specs.Prelude.{ℕ, List, ◌∷◌, ◌++◌, codes, decimal}
 use Rattle.std.specs.List.{flat_map}
 
@@ -25,6 +25,11 @@ absent_text = codes "no node"
 -- all checks hold, of a scheme with so many landmarks
 abbrev pub checked_text : ℕ → ℕ → List ℕ
 checked_text generation landmarks = codes "ok generation=" ++ (decimal generation ++ (codes " landmarks=" ++ decimal landmarks))
+
+-- so many tables were put, so many bytes in all, and the greatest has so many
+abbrev pub tables_text : ℕ → ℕ → ℕ → ℕ → List ℕ
+tables_text generation tables bytes greatest =
+    codes "generation=" ++ (decimal generation ++ (codes " tables=" ++ (decimal tables ++ (codes " bytes=" ++ (decimal bytes ++ (codes " greatest=" ++ decimal greatest))))))
 
 -- the first check that doesn't hold, by its name
 abbrev pub broken_text : List ℕ → List ℕ

@@ -49,6 +49,8 @@ pub enum Fault {
     NoNode,
     /// What was to be printed couldn't be, or a script couldn't be read.
     Output,
+    /// The file of a router's table can't be written.
+    TableFile,
 }
 
 impl Fault {
@@ -74,6 +76,7 @@ impl Fault {
             Fault::Worn => "worn out",
             Fault::AlreadyIn => "already in",
             Fault::NoNode => "no node",
+            Fault::TableFile => "table file cannot be written",
             // No text of their own is among those that scripts know: this one is the nearest.
             Fault::NoThread | Fault::Internal | Fault::Output => "input or output failed",
         }

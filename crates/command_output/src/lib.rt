@@ -10,6 +10,7 @@
 //! | [`RouteLine`], [`UnreachableLine`] | `generation=G route 0 1 2 length L`, `generation=G unreachable` |
 //! | [`AbsentLine`] | `no node` |
 //! | [`CheckedLine`], [`BrokenLine`] | `ok generation=G landmarks=K`, `fault K4` |
+//! | [`TablesLine`] | `generation=G tables=K bytes=B greatest=M` |
 //!
 //! Each is shown by its `Display`, whose `output` is the text that `specs/` defines (`Lines`, `RouteLines`); [`listing_of`] is all
 //! that is printed of a graph. A command that ends without a fault ends in one of two ways ([`Ended`]), and a [`Fault`] has a text
@@ -39,4 +40,6 @@ pub use fault::Fault;
 pub use lines::{AcceptedLine, EdgeLine, Formatted, MigratedLine, RefusedLine, TicketLine, Totals};
 pub use listing::listing_of;
 pub use printing::{print_line, print_text, tell};
-pub use route_lines::{AbsentLine, BrokenLine, CheckedLine, RouteLine, UnreachableLine};
+pub use route_lines::{
+    AbsentLine, BrokenLine, CheckedLine, RouteLine, TablesLine, UnreachableLine,
+};

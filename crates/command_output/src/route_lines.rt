@@ -1,6 +1,6 @@
-//! The lines that `route` and `check` print.
+//! The lines that `route`, `check` and `tables` print.
 ghost use Rattle.std.specs.Prelude.{Some, option_map};
-ghost use Rattle.command_output.specs.RouteLines.{absent_text, broken_text, checked_text, route_text, stops_text, unreachable_text};
+ghost use Rattle.command_output.specs.RouteLines.{absent_text, broken_text, checked_text, route_text, stops_text, tables_text, unreachable_text};
 
 use std::fmt;
 
@@ -56,7 +56,7 @@ impl fmt::Display for UnreachableLine {
     }
 }
 
-/// A node of a route that isn't there: `no node`.
+/// A node that isn't there: `no node`.
 #[derive(Drop)]
 pub struct AbsentLine;
 
@@ -83,6 +83,29 @@ impl fmt::Display for CheckedLine {
             f,
             "ok generation={} landmarks={}",
             self.generation, self.landmarks
+        )
+    }
+}
+
+/// Tables that were put: `generation=G tables=K bytes=B greatest=M`.
+#[derive(Drop)]
+pub struct TablesLine {
+    pub generation: u64,
+    pub tables: usize,
+    /// How many bytes all have together.
+    pub bytes: u128,
+    /// How many the greatest has.
+    pub greatest: usize,
+}
+
+impl fmt::Display for TablesLine {
+    ghost output = { λ x. Some (tables_text x.generation x.tables x.bytes x.greatest) };
+
+    fn fmt<W: fmt::Write>(&self, f: &mut fmt::Formatter<W>) -> fmt::Result {
+        write!(
+            f,
+            "generation={} tables={} bytes={} greatest={}",
+            self.generation, self.tables, self.bytes, self.greatest
         )
     }
 }

@@ -12,6 +12,7 @@ use Rattle.commands.specs.declared.outcome.Outcome.TheVariants.{Answered, Told, 
 use Rattle.commands.specs.Endings.{IsFaultFor}
 use Rattle.commands.specs.Outcomes.{IsOutcome, status_in}
 use Rattle.commands.specs.Printed.{AnswersWords}
+use Rattle.table_files.specs.Files.{Put}
 
 -- the faults of status 2 are those by which words are not understood
 is_not_understood : (fault : Fault) → status_of fault ≡ 2 → IsNotUnderstood fault
@@ -35,14 +36,15 @@ is_not_understood told.Worn is = absurd (cc)
 is_not_understood told.AlreadyIn is = absurd (cc)
 is_not_understood told.NoNode is = absurd (cc)
 is_not_understood told.Output is = absurd (cc)
+is_not_understood told.TableFile is = absurd (cc)
 
 -- a run of status 2 ends so by one of them
-pub not_understood : {D : Type 0} (model : Ghosts D) (opened : List ℕ → Access → D → Type 0) (words : List Text) (given old new told_old told_new : Option (List ℕ)) (outcome : Outcome) → IsOutcome model opened words given old new told_old told_new outcome → status_in outcome ≡ 2
-    → (fault : Fault) × IsNotUnderstood fault × IsFaultFor model opened words given fault × ((outcome ≡ Told fault) ⊎ (outcome ≡ Untold fault))
-not_understood model opened words given old new told_old told_new (Answered Done) is two = absurd (cc)
-not_understood model opened words given old new told_old told_new (Answered Refused) is two = absurd (cc)
-not_understood model opened words given old new told_old told_new (Told fault) is two = (fault, is_not_understood fault two, is.0, inl refl)
-not_understood model opened words given old new told_old told_new (Untold fault) is two = (fault, is_not_understood fault two, is, inr refl)
+pub not_understood : {D : Type 0} (model : Ghosts D) (opened : List ℕ → Access → D → Type 0) (put : List Put → Type 0) (words : List Text) (given old new told_old told_new : Option (List ℕ)) (outcome : Outcome) → IsOutcome model opened put words given old new told_old told_new outcome → status_in outcome ≡ 2
+    → (fault : Fault) × IsNotUnderstood fault × IsFaultFor model opened put words given fault × ((outcome ≡ Told fault) ⊎ (outcome ≡ Untold fault))
+not_understood model opened put words given old new told_old told_new (Answered Done) is two = absurd (cc)
+not_understood model opened put words given old new told_old told_new (Answered Refused) is two = absurd (cc)
+not_understood model opened put words given old new told_old told_new (Told fault) is two = (fault, is_not_understood fault two, is.0, inl refl)
+not_understood model opened put words given old new told_old told_new (Untold fault) is two = (fault, is_not_understood fault two, is, inr refl)
 
 -- no fault has status 0
 not_done : (fault : Fault) → status_of fault ≡ 0 → ⊥
@@ -66,19 +68,20 @@ not_done told.Worn is = absurd (cc)
 not_done told.AlreadyIn is = absurd (cc)
 not_done told.NoNode is = absurd (cc)
 not_done told.Output is = absurd (cc)
+not_done told.TableFile is = absurd (cc)
 
 -- a run of status 0 has printed the answer
-pub answered : {D : Type 0} (model : Ghosts D) (opened : List ℕ → Access → D → Type 0) (words : List Text) (given old new told_old told_new : Option (List ℕ)) (outcome : Outcome) → IsOutcome model opened words given old new told_old told_new outcome → status_in outcome ≡ 0
-    → AnswersWords model opened words given Done old new
-answered model opened words given old new told_old told_new (Answered Done) is zero = is.0
-answered model opened words given old new told_old told_new (Answered Refused) is zero = absurd (cc)
-answered model opened words given old new told_old told_new (Told fault) is zero = absurd (not_done fault zero)
-answered model opened words given old new told_old told_new (Untold fault) is zero = absurd (not_done fault zero)
+pub answered : {D : Type 0} (model : Ghosts D) (opened : List ℕ → Access → D → Type 0) (put : List Put → Type 0) (words : List Text) (given old new told_old told_new : Option (List ℕ)) (outcome : Outcome) → IsOutcome model opened put words given old new told_old told_new outcome → status_in outcome ≡ 0
+    → AnswersWords model opened put words given Done old new
+answered model opened put words given old new told_old told_new (Answered Done) is zero = is.0
+answered model opened put words given old new told_old told_new (Answered Refused) is zero = absurd (cc)
+answered model opened put words given old new told_old told_new (Told fault) is zero = absurd (not_done fault zero)
+answered model opened put words given old new told_old told_new (Untold fault) is zero = absurd (not_done fault zero)
 
 -- one of status 1 has printed that the answer is no, or a fault ended it
-pub refused : {D : Type 0} (model : Ghosts D) (opened : List ℕ → Access → D → Type 0) (words : List Text) (given old new told_old told_new : Option (List ℕ)) (outcome : Outcome) → IsOutcome model opened words given old new told_old told_new outcome → status_in outcome ≡ 1
-    → AnswersWords model opened words given Refused old new ⊎ ((fault : Fault) × (status_of fault ≡ 1) × IsFaultFor model opened words given fault × ((outcome ≡ Told fault) ⊎ (outcome ≡ Untold fault)))
-refused model opened words given old new told_old told_new (Answered Done) is one = absurd (cc)
-refused model opened words given old new told_old told_new (Answered Refused) is one = inl is.0
-refused model opened words given old new told_old told_new (Told fault) is one = inr (fault, one, is.0, inl refl)
-refused model opened words given old new told_old told_new (Untold fault) is one = inr (fault, one, is, inr refl)
+pub refused : {D : Type 0} (model : Ghosts D) (opened : List ℕ → Access → D → Type 0) (put : List Put → Type 0) (words : List Text) (given old new told_old told_new : Option (List ℕ)) (outcome : Outcome) → IsOutcome model opened put words given old new told_old told_new outcome → status_in outcome ≡ 1
+    → AnswersWords model opened put words given Refused old new ⊎ ((fault : Fault) × (status_of fault ≡ 1) × IsFaultFor model opened put words given fault × ((outcome ≡ Told fault) ⊎ (outcome ≡ Untold fault)))
+refused model opened put words given old new told_old told_new (Answered Done) is one = absurd (cc)
+refused model opened put words given old new told_old told_new (Answered Refused) is one = inl is.0
+refused model opened put words given old new told_old told_new (Told fault) is one = inr (fault, one, is.0, inl refl)
+refused model opened put words given old new told_old told_new (Untold fault) is one = inr (fault, one, is, inr refl)

@@ -5,3 +5,4 @@ pub mod Faults
 pub mod OnDevices
 pub mod ScriptTexts
 pub mod Serving
+pub mod Tabling

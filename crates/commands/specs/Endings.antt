@@ -1,5 +1,5 @@
 -- Which faults may end a run.
-use Rattle.std.specs.Prelude.{◌≡◌, ◌≢◌, ◌<◌, ◌⊎◌, ℕ, List, Option, IsTrue, length}
+use Rattle.std.specs.Prelude.{◌≡◌, ◌≢◌, ◌<◌, ◌⊎◌, ℕ, List, [], Option, IsTrue, length}
 use Rattle.clap.specs.Walk.{Text}
 use Rattle.disk_trait.specs.declared.disk.Disk.{Ghosts}
 use Rattle.disk_trait.specs.Disk.{DiskView, OnlyRead}
@@ -8,6 +8,7 @@ use Rattle.requests.specs.Tickets.{worn_limit}
 use Rattle.layout_2.specs.Layout.{device_len}
 use Rattle.layout_2.specs.State.{State}
 use Rattle.layout_2.specs.Standing.{StandsFor}
+use Rattle.node_table.specs.declared.parts.Parts.{Parts}
 use Rattle.written_values.specs.Words.{IsWithin}
 use Rattle.written_values.specs.declared.words.LandmarkWords.{LandmarkWords}
 use Rattle.written_values.specs.declared.words.LandmarkWords.TheVariants.{Greatest, ZeroAt, Drawn}
@@ -22,12 +23,15 @@ use Rattle.command_line.specs.Asked.{IsAskedFor, IsInRange, IsRefusedFor}
 use Rattle.command_line.specs.declared.refused.WordsRefused.{WordsRefused}
 use Rattle.command_line.specs.declared.refused.WordsRefused.TheVariants as why
 use Rattle.command_line.specs.declared.task.Task.{Task}
-use Rattle.command_line.specs.declared.task.Task.TheVariants.{Format, Show, Edit, Resume, Route, Check, Migrate, Serve}
+use Rattle.command_line.specs.declared.task.Task.TheVariants.{Format, Show, Edit, Resume, Route, Check, Migrate, Serve, Tables}
 use Rattle.commands.specs.declared.devices.Access.{Access}
 use Rattle.commands.specs.declared.devices.Access.TheVariants.{ToRead, ToChange, Anew, New}
-use Rattle.commands.specs.Devices.{EndsBy, IsFileFault, OfOpened, OfServed}
+use Rattle.commands.specs.Devices.{EndsBy, IsAnswerOf, IsFileFault, OfOpened, OfServed}
 use Rattle.commands.specs.SchemeAnswers.{AreNodes}
 use Rattle.commands.specs.ServedScripts.{IsScriptFault}
+use Rattle.table_files.specs.Files.{Put}
+use Rattle.commands.specs.SchemeAnswers.{IsSchemeBy}
+use Rattle.table_files.specs.Tables.{EndsPutting}
 
 -- what is told of words that are no task
 abbrev pub words_fault : WordsRefused → Fault
@@ -103,6 +107,16 @@ abbrev pub EndsServe : {D : Type 0} → Ghosts D → (D → Type 0) → Option (
 EndsServe model opened given editors words fault =
     IsScriptFault given editors fault ⊎ IsFileFault fault ⊎ OfServed opened (λ disk back. IsServeEnd model disk words back fault × IsLeftBy model disk back)
 
+-- No tables are asked of a scheme, and nothing is put; or the scheme is there, and some of them may be put by then. The device was only read.
+abbrev pub IsTablesEnd : LandmarkWords → List ℕ → List ℕ → (List Put → Type 0) → DiskView → DiskView → Fault → Type 0
+IsTablesEnd asked folder named put disk left fault =
+    (put [] × IsCheckEnd asked disk left fault)
+    ⊎ (IsAnswerOf disk (λ state. (p : Parts) × IsSchemeBy state.graph state.count asked p × EndsPutting p folder named put fault) × (IsTrue disk.keeps_model → OnlyRead disk left))
+
+-- No tables are put, since the device can't be had, or it was opened and this ends the command.
+abbrev pub EndsTables : {D : Type 0} → Ghosts D → (D → Type 0) → LandmarkWords → List ℕ → List ℕ → (List Put → Type 0) → Fault → Type 0
+EndsTables model opened asked folder named put fault = (put [] × IsFileFault fault) ⊎ OfOpened model opened (λ disk left. IsTablesEnd asked folder named put disk left fault)
+
 -- ---- the parts of these
 
 -- the faults of a query in a thread of its own
@@ -132,20 +146,21 @@ IsRouteFault words fault = IsWordsFault words fault
 -- ---- why a run ends
 
 -- the faults that may end a task that is under way
-abbrev pub MayEnd : {D : Type 0} → Ghosts D → (List ℕ → Access → D → Type 0) → Task → Option (List ℕ) → Fault → Type 0
-MayEnd model opened (Format device nodes) given fault = EndsBy model (opened device.now Anew) (IsFormatEnd nodes) fault
-MayEnd model opened (Show device) given fault = EndsBy model (opened device.now ToRead) (IsReadingEnd IsOpenFault) fault
-MayEnd model opened (Edit device session ticket change) given fault = EndsBy model (opened device.now ToChange) (IsEditEnd session ticket change) fault
-MayEnd model opened (Resume device session) given fault = EndsBy model (opened device.now ToRead) (IsReadingEnd IsOpenFault) fault
-MayEnd model opened (Route device pairs words) given fault = EndsBy model (opened device.now ToRead) (IsRouteEnd pairs.items words) fault
-MayEnd model opened (Check device words) given fault = EndsBy model (opened device.now ToRead) (IsCheckEnd words) fault
-MayEnd model opened (Migrate device made) given fault = IsFileFault fault ⊎ (fault ≡ told.Output)
+abbrev pub MayEnd : {D : Type 0} → Ghosts D → (List ℕ → Access → D → Type 0) → (List Put → Type 0) → Task → Option (List ℕ) → Fault → Type 0
+MayEnd model opened put (Format device nodes) given fault = EndsBy model (opened device.now Anew) (IsFormatEnd nodes) fault
+MayEnd model opened put (Show device) given fault = EndsBy model (opened device.now ToRead) (IsReadingEnd IsOpenFault) fault
+MayEnd model opened put (Edit device session ticket change) given fault = EndsBy model (opened device.now ToChange) (IsEditEnd session ticket change) fault
+MayEnd model opened put (Resume device session) given fault = EndsBy model (opened device.now ToRead) (IsReadingEnd IsOpenFault) fault
+MayEnd model opened put (Route device pairs words) given fault = EndsBy model (opened device.now ToRead) (IsRouteEnd pairs.items words) fault
+MayEnd model opened put (Check device words) given fault = EndsBy model (opened device.now ToRead) (IsCheckEnd words) fault
+MayEnd model opened put (Migrate device made) given fault = IsFileFault fault ⊎ (fault ≡ told.Output)
     ⊎ OfOpened model (opened device.now ToRead) (λ from from_left. OfOpened model (opened made.now New) (λ to to_left. IsMoveEnd from from_left to to_left fault))
-MayEnd model opened (Serve device editors forwarders places words) given fault = EndsServe model (opened device.now ToChange) given editors words fault
+MayEnd model opened put (Serve device editors forwarders places words) given fault = EndsServe model (opened device.now ToChange) given editors words fault
+MayEnd model opened put (Tables device folder nodes words) given fault = EndsTables model (opened device.now ToRead) words folder.now nodes.items put fault
 
 -- The words are no task that is in range, and the fault is the one for what is wrong with them, or memory ran out while they were read;
 -- or they ask for a task, and the fault is one that may end it.
-abbrev pub IsFaultFor : {D : Type 0} → Ghosts D → (List ℕ → Access → D → Type 0) → List Text → Option (List ℕ) → Fault → Type 0
-IsFaultFor model opened words given fault =
+abbrev pub IsFaultFor : {D : Type 0} → Ghosts D → (List ℕ → Access → D → Type 0) → (List Put → Type 0) → List Text → Option (List ℕ) → Fault → Type 0
+IsFaultFor model opened put words given fault =
     ((refused : WordsRefused) × (fault ≡ words_fault refused) × IsRefusedFor words refused × ((task : Task) → IsAskedFor words task → IsInRange task → fault ≡ told.Memory))
-    ⊎ ((task : Task) × IsAskedFor words task × MayEnd model opened task given fault)
+    ⊎ ((task : Task) × IsAskedFor words task × MayEnd model opened put task given fault)

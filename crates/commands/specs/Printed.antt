@@ -14,6 +14,7 @@ use Rattle.generations.specs.declared.posting.Verdict.{Verdict}
 use Rattle.generations.specs.declared.posting.Verdict.TheVariants.{Accepted, Refused}
 use Rattle.migrate.specs.Moved.{HasMoved}
 use Rattle.migrate.specs.declared.moving.Moved.{Moved}
+use Rattle.node_table.specs.declared.parts.Parts.{Parts}
 use Rattle.scheme_builds.specs.declared.queries.Checked.{Checked}
 use Rattle.scheme_builds.specs.declared.queries.Route.{Route as Found}
 use Rattle.command_output.specs.declared.ended.Ended.{Ended}
@@ -21,7 +22,7 @@ use Rattle.command_output.specs.declared.ended.Ended.TheVariants.{Done, Refused 
 use Rattle.command_output.specs.Lines.{accepted_text, formatted_text, line, listing_text, migrated_text, refused_text, ticket_text}
 use Rattle.command_line.specs.Asked.{IsAskedFor}
 use Rattle.command_line.specs.declared.task.Task.{Task}
-use Rattle.command_line.specs.declared.task.Task.TheVariants.{Format, Show, Edit, Resume, Route, Check, Migrate, Serve}
+use Rattle.command_line.specs.declared.task.Task.TheVariants.{Format, Show, Edit, Resume, Route, Check, Migrate, Serve, Tables}
 use Rattle.device_commands.specs.Answer.{IsNew, state_after, verdict_of}
 use Rattle.written_values.specs.declared.line.ScriptLine.{ScriptLine}
 use Rattle.written_values.specs.declared.words.LandmarkWords.{LandmarkWords}
@@ -31,7 +32,9 @@ use Rattle.commands.specs.declared.devices.Access.{Access}
 use Rattle.commands.specs.declared.devices.Access.TheVariants.{ToRead, ToChange, Anew, New}
 use Rattle.commands.specs.Devices.{IsAnswerOf, OfOpened, OfServed}
 use Rattle.commands.specs.ServedScripts.{IsScriptOf}
-use Rattle.commands.specs.SchemeAnswers.{AreRoutesOf, IsCheckOf, checks_text, ended_after, ended_at, routes_text}
+use Rattle.table_files.specs.Files.{Put}
+use Rattle.table_files.specs.Tables.{AnswersTables}
+use Rattle.commands.specs.SchemeAnswers.{AreRoutesOf, IsCheckOf, IsSchemeBy, checks_text, ended_after, ended_at, routes_text}
 
 -- how a command ends that answers this verdict
 abbrev pub ended_by : Verdict → Ended
@@ -90,19 +93,25 @@ abbrev pub PrintsServed : {D : Type 0} → Ghosts D → (D → Type 0) → Optio
 PrintsServed model opened given editors ended old new =
     (ended ≡ Done) × (lines : List ScriptLine) × IsScriptOf given editors lines × OfServed opened (λ disk back. IsServed lines old new × IsLeftBy model disk back)
 
+-- `tables`: the files of the tables that a scheme of that graph has of nodes, and their line, or that a node isn't there
+abbrev pub PrintsTables : LandmarkWords → List ℕ → List ℕ → (List Put → Type 0) → DiskView → DiskView → Ended → Option (List ℕ) → Option (List ℕ) → Type 0
+PrintsTables words folder named put disk left ended old new =
+    IsAnswerOf disk (λ state. (p : Parts) × IsSchemeBy state.graph state.count words p × AnswersTables p state.count folder named put ended old new) × IsOnlyRead disk left
+
 -- A command that ends so has printed the answer to its task, and nothing else: of the device that it opened. The script of a service is
--- what a reader gives.
-abbrev pub PrintedFor : {D : Type 0} → Ghosts D → (List ℕ → Access → D → Type 0) → Task → Option (List ℕ) → Ended → Option (List ℕ) → Option (List ℕ) → Type 0
-PrintedFor model opened (Format device nodes) given ended old new = OfOpened model (opened device.now Anew) (λ disk left. PrintsFormatted nodes disk left ended old new)
-PrintedFor model opened (Show device) given ended old new = OfOpened model (opened device.now ToRead) (λ disk left. PrintsListing disk left ended old new)
-PrintedFor model opened (Edit device session ticket change) given ended old new = OfOpened model (opened device.now ToChange) (λ disk left. PrintsVerdict session ticket change disk left ended old new)
-PrintedFor model opened (Resume device session) given ended old new = OfOpened model (opened device.now ToRead) (λ disk left. PrintsTicket session disk left ended old new)
-PrintedFor model opened (Route device pairs words) given ended old new = OfOpened model (opened device.now ToRead) (λ disk left. PrintsRoutes pairs.items words disk left ended old new)
-PrintedFor model opened (Check device words) given ended old new = OfOpened model (opened device.now ToRead) (λ disk left. PrintsCheck words disk left ended old new)
-PrintedFor model opened (Migrate device made) given ended old new =
+-- what a reader gives, and the files of `tables` are those that were put.
+abbrev pub PrintedFor : {D : Type 0} → Ghosts D → (List ℕ → Access → D → Type 0) → (List Put → Type 0) → Task → Option (List ℕ) → Ended → Option (List ℕ) → Option (List ℕ) → Type 0
+PrintedFor model opened put (Format device nodes) given ended old new = OfOpened model (opened device.now Anew) (λ disk left. PrintsFormatted nodes disk left ended old new)
+PrintedFor model opened put (Show device) given ended old new = OfOpened model (opened device.now ToRead) (λ disk left. PrintsListing disk left ended old new)
+PrintedFor model opened put (Edit device session ticket change) given ended old new = OfOpened model (opened device.now ToChange) (λ disk left. PrintsVerdict session ticket change disk left ended old new)
+PrintedFor model opened put (Resume device session) given ended old new = OfOpened model (opened device.now ToRead) (λ disk left. PrintsTicket session disk left ended old new)
+PrintedFor model opened put (Route device pairs words) given ended old new = OfOpened model (opened device.now ToRead) (λ disk left. PrintsRoutes pairs.items words disk left ended old new)
+PrintedFor model opened put (Check device words) given ended old new = OfOpened model (opened device.now ToRead) (λ disk left. PrintsCheck words disk left ended old new)
+PrintedFor model opened put (Migrate device made) given ended old new =
     OfOpened model (opened device.now ToRead) (λ from left. OfOpened model (opened made.now New) (λ to made. PrintsMoved from to made ended old new))
-PrintedFor model opened (Serve device editors forwarders places words) given ended old new = PrintsServed model (opened device.now ToChange) given editors ended old new
+PrintedFor model opened put (Serve device editors forwarders places words) given ended old new = PrintsServed model (opened device.now ToChange) given editors ended old new
+PrintedFor model opened put (Tables device folder nodes words) given ended old new = OfOpened model (opened device.now ToRead) (λ disk left. PrintsTables words folder.now nodes.items put disk left ended old new)
 
 -- the answer to a task that the words ask for was printed, and nothing else
-abbrev pub AnswersWords : {D : Type 0} → Ghosts D → (List ℕ → Access → D → Type 0) → List Text → Option (List ℕ) → Ended → Option (List ℕ) → Option (List ℕ) → Type 0
-AnswersWords model opened words given ended old new = (task : Task) × IsAskedFor words task × PrintedFor model opened task given ended old new
+abbrev pub AnswersWords : {D : Type 0} → Ghosts D → (List ℕ → Access → D → Type 0) → (List Put → Type 0) → List Text → Option (List ℕ) → Ended → Option (List ℕ) → Option (List ℕ) → Type 0
+AnswersWords model opened put words given ended old new = (task : Task) × IsAskedFor words task × PrintedFor model opened put task given ended old new

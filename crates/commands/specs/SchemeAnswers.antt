@@ -1,4 +1,4 @@
--- What `route` and `check` answer of a device.
+-- What `route`, `check` and `tables` answer of a device, and by which scheme.
 use Rattle.std.specs.Prelude.{◌≡◌, ℕ, ◌<◌, Bool, true, false, cond, List, [], ◌∷◌, Option, Some, None, All}
 use Rattle.std.specs.List.{flat_map, list_all}
 use Rattle.certificate.specs.declared.fault.Fault.{Fault}
@@ -74,6 +74,13 @@ pub record IsCheckOf (graph : Network) (generation : ℕ) (asked : LandmarkWords
   pub passes : checked.fault ≡ None
   pub count : (words : List ℕ) × (AreWords asked graph.nodes words × IsLandmarkCount graph words checked.landmarks)
   pub scheme : (words : List ℕ) × (AreWords asked graph.nodes words × ((p : Parts) × (IsSchemeOf graph words generation p × IsFaultIn graph p checked.fault)))
+
+-- a scheme of a graph, of this generation, by the words that were asked for
+pub record IsSchemeBy (graph : Network) (generation : ℕ) (asked : LandmarkWords) (p : Parts) : Type 0 where
+  pub within : IsWithin asked graph.nodes
+  pub words : List ℕ
+  pub are : AreWords asked graph.nodes words
+  pub scheme : IsSchemeOf graph words generation p
 
 -- whether a route goes along a trail
 abbrev pub is_along : Route → Bool

@@ -1,4 +1,4 @@
--- Which script a service runs, and which words ask for one.
+-- Which script a service runs, and which words ask for one, and which for tables.
 use Rattle.std.specs.Prelude.{ℕ, List, Option, All, IfSome}
 use Rattle.clap.specs.Walk.{Text}
 use Rattle.command_output.specs.declared.fault.Fault.{Fault}
@@ -7,7 +7,7 @@ use Rattle.written_values.specs.Scripts.{IsWritten, MayStand}
 use Rattle.written_values.specs.declared.line.ScriptLine.{ScriptLine}
 use Rattle.command_line.specs.Asked.{IsAskedFor}
 use Rattle.command_line.specs.declared.task.Task.{Task}
-use Rattle.command_line.specs.declared.task.Task.TheVariants.{Serve}
+use Rattle.command_line.specs.declared.task.Task.TheVariants.{Serve, Tables}
 
 -- the lines of what a reader gives, where that is known: each may stand in a script for so many editors
 abbrev pub IsScriptOf : Option (List ℕ) → ℕ → List ScriptLine → Type 0
@@ -36,3 +36,12 @@ IsService task = ⊥
 -- the words ask for a service
 abbrev pub AskService : List Text → Type 0
 AskService words = (task : Task) × IsAskedFor words task × IsService task
+
+-- the task is of tables
+abbrev pub IsOfTables : Task → Type 0
+IsOfTables (Tables device folder nodes words) = Unit {0}
+IsOfTables task = ⊥
+
+-- the words ask for tables
+abbrev pub AskTables : List Text → Type 0
+AskTables words = (task : Task) × IsAskedFor words task × IsOfTables task

@@ -14,7 +14,7 @@ use std::thread;
 use std::thread::{Promise, Threads};
 
 /// How many bytes of stack a thread has that builds a scheme.
-const STACK_LEN: usize = 67_108_864;
+pub(crate) const STACK_LEN: usize = 67_108_864;
 
 // That a thread answers as `check_scheme` does.
 #[derive(Drop)]

@@ -9,6 +9,7 @@
 //! | `route DEVICE FROM TO [FROM TO].. --words W` | for each pair of nodes the route under the landmarks that these words give is found | a line for each pair, `generation=G route 0 1 2 length L` or `generation=G unreachable` |
 //! | `check DEVICE --words W` | the scheme that these words give is built and checked | `ok generation=G landmarks=K` or `fault K4` |
 //! | `migrate OLD NEW` | what OLD holds, a device of layout 1, is brought to a new file | `migrated count=C edges=E` |
+//! | `tables DEVICE FOLDER --words W --node N..` | the scheme is built, and the tables of these nodes, or of all, are put into the folder | `generation=G tables=K bytes=B greatest=M`, or `no node` |
 //! | `serve DEVICE --words W --editors E --forwarders F --queue Q` | the script that the reader gives is run, by E editors and F forwarders, with Q places in the queue | a line for each of its lines, as `edit` and `route` print them, or `no node` |
 //!
 //! An OP is `add:A:B:W`, `set:A:B:W` or `cut:A:B`. W says which nodes are landmarks: `none`, those of `at:2,5`, or those that
@@ -16,19 +17,19 @@
 //! is 64. Of all commands `serve` alone reads what the reader gives. What ends a command is a `Fault`, told on the second writer as
 //! `tznode: TEXT`.
 //!
-//! Here stand where devices are, what is printed of each command's answer, the routes, the thread that builds a scheme to check it,
-//! and the run. The words are read in `command_line`, the lines and faults are spelt in `command_output`, and what `format`, `show`,
-//! `edit`, `resume` and `migrate` do on a device is in `device_commands`; the threads of `serve` are in `service_threads`, and its
-//! lines in `service_lines`.
+//! Here stand where devices are, what is printed of each command's answer, the routes, the threads that build a scheme for a check and
+//! for tables, and the run. The words are read in `command_line`, the lines and faults are spelt in `command_output`, and what
+//! `format`, `show`, `edit`, `resume` and `migrate` do on a device is in `device_commands`; the files of `tables` are put in
+//! `table_files`, the threads of `serve` are in `service_threads`, and its lines in `service_lines`.
 //!
 //! A command is a call on a disk. The run opens that disk by the path of its words, at a place of [`Devices`], and drops it behind the
-//! call. The program's place is the system's files.
+//! call. The program's place is the system's files. `tables` puts its files at a place of `TableFiles`, which lists what was put.
 //!
 //! The contract that the layer above uses is that of [`run_words`]: of any run that what it printed is the answer to what its words
 //! ask for, or which fault ended it, and with which status, and that no other command reads what is meant for `serve`. [`run`] says
-//! the same of how it ended ([`Outcome`]), and [`run_on`] of devices of any kind. Where a device keeps the disk model, the answer is
-//! that of the state for which the content of the device by that path stands, and the fault is true of that device. What a file of
-//! the system holds is tested.
+//! the same of how it ended ([`Outcome`]), and [`run_on`] of devices and files of any kind, and that no other command than `tables`
+//! puts a file. Where a device keeps the disk model, the answer is that of the state for which the content of the device by that path
+//! stands, and the fault is true of that device. What a file of the system holds is tested.
 //!
 //! ```text
 //! let words = ["edit", "device", "add:0:1:1"];
@@ -36,6 +37,7 @@
 //! ```
 #![tactic(auto)]
 
+mod building;
 mod checking;
 mod devices;
 mod on_device;
@@ -44,6 +46,7 @@ mod routing;
 mod running;
 mod scheme_tasks;
 mod service;
+mod tables;
 
 pub use devices::{Access, Devices};
 pub use outcome::Outcome;

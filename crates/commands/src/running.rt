@@ -9,15 +9,17 @@ ghost use Rattle.command_line.specs.Asked.{IsAskedFor, IsInRange};
 ghost use Rattle.command_line.specs.declared.task.Task.{Task};
 ghost use Rattle.commands.specs.Devices.{EndsBy, IsFileFault, IsFileOf, OfOpened};
 ghost use Rattle.commands.specs.Endings.{IsEditEnd, IsFaultFor, IsFormatEnd, IsMoveEnd, IsReadingEnd, MayEnd, words_fault};
-ghost use Rattle.commands.specs.Outcomes.{IsOutcome};
+ghost use Rattle.commands.specs.Outcomes.{AnyPut, IsOutcome};
 ghost use Rattle.commands.specs.Printed.{AnswersWords, PrintsFormatted, PrintsListing, PrintsMoved, PrintsTicket, PrintsVerdict};
-ghost use Rattle.commands.specs.ServedScripts.{AskService};
+ghost use Rattle.commands.specs.ServedScripts.{AskService, AskTables};
+ghost use Rattle.table_files.specs.Files.{HasPut};
 
 use crate::devices::{Access, Devices, FileDevices};
 use crate::on_device::{edit_on, format_on, migrate_on, resume_on, show_on};
 use crate::outcome::Outcome;
 use crate::scheme_tasks::{run_check, run_route};
 use crate::service::run_serve;
+use crate::tables::run_tables;
 use command_line::{Task, WordsRefused, understood};
 use command_output::{Ended, Fault, tell};
 use device_files::DeviceFile;
@@ -30,6 +32,7 @@ use std::io::{Read, Write};
 use std::rt::Files;
 use std::sync::Wait;
 use std::thread::Threads;
+use table_files::{SystemTables, TableFiles};
 
 /// Does what the words ask for on files, and answers the exit status: 0 done, 1 refused, 2 not understood.
 ///
@@ -41,13 +44,13 @@ where
     O: Write,
     E: Write,
     ensures status { result ≤ 2 }
-    ensures done { result ≡ 0 → AnswersWords ⟦<DeviceFile as Disk>⟧ IsFileOf (texts words.now) (S.remaining script.old) Ended.Done (O.contents out.old) (O.contents out.new) }
+    ensures done { result ≡ 0 → AnswersWords ⟦<DeviceFile as Disk>⟧ IsFileOf AnyPut (texts words.now) (S.remaining script.old) Ended.Done (O.contents out.old) (O.contents out.new) }
     // The answer is no, or one of the faults of the words' task ended the run; only where the output failed may a part be printed.
-    ensures refused { result ≡ 1 → AnswersWords ⟦<DeviceFile as Disk>⟧ IsFileOf (texts words.now) (S.remaining script.old) Ended.Refused (O.contents out.old) (O.contents out.new)
-        ⊎ ((fault : Fault) × (status_of fault ≡ 1) × IsFaultFor ⟦<DeviceFile as Disk>⟧ IsFileOf (texts words.now) (S.remaining script.old) fault × (fault ≢ Fault.Output → out.new ≡ out.old)) }
+    ensures refused { result ≡ 1 → AnswersWords ⟦<DeviceFile as Disk>⟧ IsFileOf AnyPut (texts words.now) (S.remaining script.old) Ended.Refused (O.contents out.old) (O.contents out.new)
+        ⊎ ((fault : Fault) × (status_of fault ≡ 1) × IsFaultFor ⟦<DeviceFile as Disk>⟧ IsFileOf AnyPut (texts words.now) (S.remaining script.old) fault × (fault ≢ Fault.Output → out.new ≡ out.old)) }
     // Words and scripts that aren't understood print nothing, and the fault says so.
     ensures not_understood { result ≡ 2 → (out.new ≡ out.old)
-        × ((fault : Fault) × IsNotUnderstood fault × IsFaultFor ⟦<DeviceFile as Disk>⟧ IsFileOf (texts words.now) (S.remaining script.old) fault) }
+        × ((fault : Fault) × IsNotUnderstood fault × IsFaultFor ⟦<DeviceFile as Disk>⟧ IsFileOf AnyPut (texts words.now) (S.remaining script.old) fault) }
     ensures unread { ¬ AskService (texts words.now) → script.new ≡ script.old }
 {
     run(rt, words, script, out, err).status()
@@ -60,17 +63,20 @@ where
     S: Read,
     O: Write,
     E: Write,
-    ensures outcome { IsOutcome ⟦<DeviceFile as Disk>⟧ IsFileOf (texts words.now) (S.remaining script.old) (O.contents out.old) (O.contents out.new) (E.contents err.old) (E.contents err.new) result }
+    ensures outcome { IsOutcome ⟦<DeviceFile as Disk>⟧ IsFileOf AnyPut (texts words.now) (S.remaining script.old) (O.contents out.old) (O.contents out.new) (E.contents err.old) (E.contents err.new) result }
     ensures untouched { (fault : Fault) → fault ≢ Fault.Output → (result ≡ Outcome.Told fault) ⊎ (result ≡ Outcome.Untold fault) → out.new ≡ out.old }
     ensures unread { ¬ AskService (texts words.now) → script.new ≡ script.old }
 {
-    run_on(rt, &FileDevices { files: rt }, words, script, out, err)
+    let devices = FileDevices { files: rt };
+    let mut tables = SystemTables::new(rt);
+    run_on(rt, &devices, &mut tables, words, script, out, err)
 }
 
 /// Does what the words ask for on devices of any kind, and answers how it ended.
-pub fn run_on<R, F, S, O, E>(
+pub fn run_on<R, F, T, S, O, E>(
     rt: &R,
     devices: &F,
+    tables: &mut T,
     words: &[&str],
     script: &mut S,
     out: &mut O,
@@ -79,14 +85,16 @@ pub fn run_on<R, F, S, O, E>(
 where
     R: AllocGlobal + Threads + Wait + Sync,
     F: Devices,
+    T: TableFiles,
     S: Read,
     O: Write,
     E: Write,
-    ensures outcome { IsOutcome F.Device.Disk (F.opened devices.now) (texts words.now) (S.remaining script.old) (O.contents out.old) (O.contents out.new) (E.contents err.old) (E.contents err.new) result }
+    ensures outcome { IsOutcome F.Device.Disk (F.opened devices.now) (HasPut (T.puts tables.old) (T.puts tables.new)) (texts words.now) (S.remaining script.old) (O.contents out.old) (O.contents out.new) (E.contents err.old) (E.contents err.new) result }
     ensures untouched { (fault : Fault) → fault ≢ Fault.Output → (result ≡ Outcome.Told fault) ⊎ (result ≡ Outcome.Untold fault) → out.new ≡ out.old }
     ensures unread { ¬ AskService (texts words.now) → script.new ≡ script.old }
+    ensures unput { ¬ AskTables (texts words.now) → T.puts tables.new ≡ T.puts tables.old }
 {
-    match run_task(rt, devices, words, script, out) {
+    match run_task(rt, devices, tables, words, script, out) {
         Ok(ended) => Outcome::Answered(ended),
         Err(fault) => match tell(err, fault) {
             Ok(()) => Outcome::Told(fault),
@@ -95,9 +103,10 @@ where
     }
 }
 
-fn run_task<R, F, S, O>(
+fn run_task<R, F, T, S, O>(
     rt: &R,
     devices: &F,
+    tables: &mut T,
     words: &[&str],
     script: &mut S,
     out: &mut O,
@@ -105,12 +114,14 @@ fn run_task<R, F, S, O>(
 where
     R: AllocGlobal + Threads + Wait + Sync,
     F: Devices,
+    T: TableFiles,
     S: Read,
     O: Write,
-    ensures printed { IfOk result (λ ended. AnswersWords F.Device.Disk (F.opened devices.now) (texts words.now) (S.remaining script.old) ended (O.contents out.old) (O.contents out.new)) }
-    ensures fault { IfErr result (λ fault. IsFaultFor F.Device.Disk (F.opened devices.now) (texts words.now) (S.remaining script.old) fault) }
+    ensures printed { IfOk result (λ ended. AnswersWords F.Device.Disk (F.opened devices.now) (HasPut (T.puts tables.old) (T.puts tables.new)) (texts words.now) (S.remaining script.old) ended (O.contents out.old) (O.contents out.new)) }
+    ensures fault { IfErr result (λ fault. IsFaultFor F.Device.Disk (F.opened devices.now) (HasPut (T.puts tables.old) (T.puts tables.new)) (texts words.now) (S.remaining script.old) fault) }
     ensures untouched { IfErr result (λ fault. fault ≢ Fault.Output → out.new ≡ out.old) }
     ensures unread { ¬ AskService (texts words.now) → script.new ≡ script.old }
+    ensures unput { ¬ AskTables (texts words.now) → T.puts tables.new ≡ T.puts tables.old }
 {
     match understood(rt.alloc(), words) {
         Ok(Task::Format { device, nodes }) => run_format(devices, device, nodes, out),
@@ -151,6 +162,14 @@ where
             };
             run_serve(rt, devices, device, words, config, script, out)
         }
+        Ok(
+            Task::Tables {
+                device,
+                folder,
+                nodes,
+                words,
+            },
+        ) => run_tables(rt, devices, device, tables, &words, folder, &nodes, out),
         Err(refused) => Err(fault_of(refused)),
     }
 }

@@ -30,7 +30,11 @@ use std::thread::Threads;
 use written_values::LandmarkWords;
 
 /// The landmark words of a graph's nodes, as they were asked for. A node that is named and that the graph hasn't isn't understood.
-fn words_of(alloc: Global, graph: &Graph, asked: &LandmarkWords) -> Result<Vec<u64>, Fault>
+pub(crate) fn words_of(
+    alloc: Global,
+    graph: &Graph,
+    asked: &LandmarkWords,
+) -> Result<Vec<u64>, Fault>
     ensures within { IfOk result (λ _. IsWithin asked.now graph.now.nodes) }
     ensures words { IfOk result (λ words. AreWords asked.now graph.now.nodes words.items) }
     ensures count { IfOk result (λ words. length words.items ≡ graph.now.nodes) }

@@ -2,8 +2,8 @@
 //!
 //! There is nothing here but tests: so the crates below are proved once in the gate, and not again with their tests. Each command's
 //! texts and status, the bytes of devices, files that are no device, numbers at their limit, outputs and inputs that fail, routes and
-//! checks, devices of layout 1 that are brought over, devices that another program holds, and scripts of services. Expected texts and bytes are written out from the
-//! tables of docs/FORMATS.md, and lines are worked out by hand.
+//! checks, devices of layout 1 that are brought over, devices that another program holds, scripts of services, and tables that are put
+//! into folders. Expected texts and bytes are written out from the tables of docs/FORMATS.md, and lines are worked out by hand.
 #![tactic(auto)]
 
 #[cfg(test)]
@@ -22,3 +22,5 @@ mod migrations;
 mod routes;
 #[cfg(test)]
 mod services;
+#[cfg(test)]
+mod tables;

@@ -6,6 +6,7 @@ use commands::{Access, Devices, run_on};
 use device_commands::format;
 use disk_trait::MemDisk;
 use std::alloc::Global;
+use table_files::{TableFile, TableFiles};
 
 // Devices in memory: by the path `three` a fresh one of three nodes, and by any other one of zeros. Each opening gives a new one.
 #[derive(Drop)]
@@ -29,12 +30,26 @@ impl Devices for MemoryDevices {
     }
 }
 
+// No file can be put.
+#[derive(Drop)]
+struct NoFiles;
+
+impl TableFiles for NoFiles {
+    ghost use Rattle.std.specs.Prelude.{[]};
+
+    ghost puts = { λ files. [] };
+
+    fn put(&mut self, _file: TableFile) -> Result<(), Fault> {
+        Err(Fault::TableFile)
+    }
+}
+
 // The words, what the reader gives, the status, what is printed and what is told.
 type Row = (&'static str, &'static str, u8, &'static str, &'static str);
 
 const NO_STORE: &str = "tznode: not formatted\n";
 
-const ROWS: [Row; 14] = [
+const ROWS: [Row; 17] = [
     ("show three", "", 0, "count=0 edges=0\n", ""),
     ("resume three 63", "", 0, "session=63 ticket=0\n", ""),
     ("edit three add:0:1:7", "", 0, "accepted count=1\n", ""),
@@ -66,12 +81,27 @@ const ROWS: [Row; 14] = [
         "accepted count=1\nno node\n",
         "",
     ),
+    (
+        "tables three out --words none",
+        "",
+        1,
+        "",
+        "tznode: table file cannot be written\n",
+    ),
+    (
+        "tables three out --words none --node 3",
+        "",
+        1,
+        "no node\n",
+        "",
+    ),
     ("format zeros 3", "", 0, "formatted nodes=3\n", ""),
     ("show zeros", "", 1, "", NO_STORE),
     ("resume zeros 0", "", 1, "", NO_STORE),
     ("edit zeros add:0:1:7", "", 1, "", NO_STORE),
     ("route zeros 0 1 --words none", "", 1, "", NO_STORE),
     ("serve zeros --words none", "route 0 1\n", 1, "", NO_STORE),
+    ("tables zeros out --words none", "", 1, "", NO_STORE),
     ("migrate zeros three", "", 1, "", NO_STORE),
 ];
 
@@ -83,7 +113,15 @@ fn commands_answer_for_the_device_of_their_path(rt: HostRuntime) {
         let words = words_of(&rt, "", line);
         let mut script = script.as_bytes();
         let (mut out, mut err) = (Vec::new(rt.alloc()), Vec::new(rt.alloc()));
-        let outcome = run_on(&rt, &devices, &words, &mut script, &mut out, &mut err);
+        let outcome = run_on(
+            &rt,
+            &devices,
+            &mut NoFiles,
+            &words,
+            &mut script,
+            &mut out,
+            &mut err,
+        );
         let found = (outcome.status(), text_of(&rt, &out), text_of(&rt, &err));
         same(&rt, found, (*status, *printed, *told), line);
     }

@@ -149,6 +149,28 @@ fn pairs_of_routes(rt: HostRuntime) -> io::Result<()> {
     )
 }
 
+// A task of tables, of the device `d` into the folder `f`, with the landmark words of seed 7.
+fn expect_tables<R: AllocGlobal + Abort>(rt: &R, line: &str, nodes: &[u16]) -> io::Result<()> {
+    let tables = Task::Tables {
+        device: "d",
+        folder: "f",
+        nodes: Vec::from_slice(rt.alloc(), nodes)?,
+        words: LandmarkWords::Drawn(7),
+    };
+    expect_task(rt, line, tables)
+}
+
+#[test]
+fn nodes_of_tables(rt: HostRuntime) -> io::Result<()> {
+    expect_tables(&rt, "tables|d|f|--words|draw:7", &[])?;
+    expect_tables(&rt, "tables|--words=draw:7|d|f|--node|0", &[0])?;
+    expect_tables(
+        &rt,
+        "tables|--node|65535|d|--node=3|f|--words|draw:7|--node|65535",
+        &[65_535, 3, 65_535],
+    )
+}
+
 const USAGE: &str = "
 help
 help|format
@@ -260,7 +282,24 @@ migrate
 migrate|d
 migrate|d|e|f
 migrate|d|e|--words|none
-migrate|--help";
+migrate|--help
+tables
+tables|d
+tables|d|f
+tables|d|f|--words
+tables|d|--words|none
+tables|d|f|g|--words|none
+tables|d|f|--words|none|--words|none
+tables|d|f|--words|none|--node
+tables|d|f|--words|none|--node|
+tables|d|f|--words|none|--node|01
+tables|d|f|--words|none|--node|-1
+tables|d|f|--words|none|--node|65536
+tables|d|f|--words|none|--node|1|2
+tables|d|f|--words|none|--node|1,2
+tables|d|f|--words|x|--node|x
+tables|d|f|--words|none|--nodes|1
+tables|--help";
 
 #[test]
 fn words_that_ask_for_nothing(rt: HostRuntime) -> io::Result<()> {
@@ -275,7 +314,7 @@ fn words_that_ask_for_nothing(rt: HostRuntime) -> io::Result<()> {
 fn parts_of_another_form(rt: HostRuntime) -> io::Result<()> {
     expect_refused(
         &rt,
-        "route|d|0|1|--words|at:\nroute|d|0|1|2|3|--words|at:\ncheck|d|--words|\nserve|d|--words|at:|--editors|3",
+        "route|d|0|1|--words|at:\nroute|d|0|1|2|3|--words|at:\ncheck|d|--words|\nserve|d|--words|at:|--editors|3\ntables|d|f|--words|at:|--node|3",
         WordsRefused::Words,
     )?;
     expect_refused(&rt, "edit|d|\nedit|d|add:0:1:1|add:0:1", WordsRefused::Op)

@@ -1,7 +1,8 @@
 // Lines and faults as texts. Expected texts are those of docs/FORMATS.md.
 use command_output::{
     AbsentLine, AcceptedLine, BrokenLine, CheckedLine, Ended, Fault, Formatted, MigratedLine,
-    RefusedLine, RouteLine, TicketLine, UnreachableLine, listing_of, print_line, print_text, tell,
+    RefusedLine, RouteLine, TablesLine, TicketLine, UnreachableLine, listing_of, print_line,
+    print_text, tell,
 };
 use graph_edits::{Change, Code, Graph, Op};
 use std::alloc::AllocError;
@@ -49,6 +50,17 @@ fn texts_of_lines(rt: HostRuntime) {
         landmarks: 0,
     };
     expect_line(&rt, checked, "ok generation=1 landmarks=0\n");
+    let tables = TablesLine {
+        generation: 1,
+        tables: 2,
+        bytes: 18_446_744_073_709_551_616,
+        greatest: 140,
+    };
+    expect_line(
+        &rt,
+        tables,
+        "generation=1 tables=2 bytes=18446744073709551616 greatest=140\n",
+    );
     expect_line(&rt, BrokenLine { check: "K4" }, "fault K4\n");
     assert_eq!(&rt; Ended::Done.status(), 0);
     assert_eq!(&rt; Ended::Refused.status(), 1);
@@ -70,7 +82,7 @@ fn listing_of_a_graph(rt: HostRuntime) -> io::Result<()> {
 }
 
 // Each fault, its text and its status.
-const FAULTS: [(Fault, &str, u8); 20] = [
+const FAULTS: [(Fault, &str, u8); 21] = [
     (Fault::Usage, "usage", 2),
     (Fault::Op, "op not understood", 2),
     (Fault::Words, "words not understood", 2),
@@ -91,6 +103,7 @@ const FAULTS: [(Fault, &str, u8); 20] = [
     (Fault::AlreadyIn, "already in", 1),
     (Fault::NoNode, "no node", 1),
     (Fault::Output, "input or output failed", 1),
+    (Fault::TableFile, "table file cannot be written", 1),
 ];
 
 #[test]

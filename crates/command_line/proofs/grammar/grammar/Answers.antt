@@ -8,7 +8,5 @@ pub returns : goal.returns
 unfolding program
 returns c =
     let top : App → Shape = λ (app : App). app.top in
-    let with_route = c.in_ok-routes.ensures.shape c.in_ok-route_command.ensures.local ∙ ap₂ with_subcommand c.in_ok-plain.ensures (ap top c.in_ok-route_command.ensures.app) in
-    let with_check = c.in_ok-checks.ensures.shape c.in_ok-check_command.ensures.local ∙ ap₂ with_subcommand with_route (ap top c.in_ok-check_command.ensures.app) in
-    let with_migrate = c.in_ok-migrates.ensures.shape c.in_ok-on_device_with.ensures.local ∙ ap₂ with_subcommand with_check (ap top c.in_ok-on_device_with.ensures.app) in
-    IfOk-weaker c.subcommand-4.result _ _ (λ command added. added.shape c.in_ok-serve_command.ensures.local ∙ ap₂ with_subcommand with_migrate (ap top c.in_ok-serve_command.ensures.app)) c.subcommand-4.ensures
+    let with_migrate = c.in_ok-migrates.ensures.shape c.in_ok-on_device_with.ensures.local ∙ ap₂ with_subcommand c.in_ok-asking.ensures (ap top c.in_ok-on_device_with.ensures.app) in
+    IfOk-weaker c.subcommand-2.result _ _ (λ command added. added.shape c.in_ok-serve_command.ensures.local ∙ ap₂ with_subcommand with_migrate (ap top c.in_ok-serve_command.ensures.app)) c.subcommand-2.ensures

@@ -201,3 +201,27 @@ returns-then-eq-8-clause-cause c =
 
 pub returns-then-eq-8-clause-refused : goal.returns-then-eq-8-clause-refused
 returns-then-eq-8-clause-refused c task is fits = only_memory c.serve_of.result c.args.name.now (rows_of (found_of c.args.found.now)) task is fits (returns-then-eq-8-clause-cause c)
+
+pub returns-then-eq-9-clause-asked : goal.returns-then-eq-9-clause-asked
+returns-then-eq-9-clause-asked c =
+    let f = found_of c.args.found.now in
+    let named : c.args.name.now ≡ codes "tables" = search rules in
+    let device : first_value f (codes "device") ≡ Some c.in-Some.device.now = search rules in
+    subst (λ (name : Text). IfOk c.tables_of.result (λ task. IsTask name (rows_of f) task)) (sym named) (c.tables_of.ensures.asked (gives f _ _ device))
+
+pub returns-then-eq-9-clause-only : goal.returns-then-eq-9-clause-only
+returns-then-eq-9-clause-only c task is fits =
+    let f = found_of c.args.found.now in
+    let named : c.args.name.now ≡ codes "tables" = search rules in
+    let device : first_value f (codes "device") ≡ Some c.in-Some.device.now = search rules in
+    c.tables_of.ensures.only (gives f _ _ device) task (subst (λ (name : Text). IsTask name (rows_of f) task) named is) fits
+
+pub returns-then-eq-9-clause-cause : goal.returns-then-eq-9-clause-cause
+returns-then-eq-9-clause-cause c =
+    let f = found_of c.args.found.now in
+    let named : c.args.name.now ≡ codes "tables" = search rules in
+    let device : first_value f (codes "device") ≡ Some c.in-Some.device.now = search rules in
+    subst (λ (name : Text). IfErr c.tables_of.result (λ refused. IsCause name (rows_of f) refused)) (sym named) (c.tables_of.ensures.cause (gives f _ _ device))
+
+pub returns-then-eq-9-clause-refused : goal.returns-then-eq-9-clause-refused
+returns-then-eq-9-clause-refused c task is fits = only_memory c.tables_of.result c.args.name.now (rows_of (found_of c.args.found.now)) task is fits (returns-then-eq-9-clause-cause c)

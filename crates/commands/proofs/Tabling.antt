@@ -1,0 +1,186 @@
+-- Tables that are put: what was answered and why it ended, of a scheme, of a device and of a run.
+use Rattle.std.proofs.Common.{◌≡◌, ◌≢◌, ◌⊎◌, ◌∙◌, ap, arith, inl, inr, refl, sym, subst, ⊎_elim, ℕ, ◌+◌, ◌<◌, ◌≤◌, ◌*◌, ◌^◌, List, [], ◌∷◌, ◌++◌, All, length, map, take, Option, Result, Ok, Err, IfErr, IfOk, IsErrOf, IsTrue}
+use Rattle.std.proofs.lemmas.List.{append-nil}
+use Rattle.std.proofs.lemmas.Result.{IfErr-at_err}
+use Rattle.std.specs.Prelude.{IsOkAnd}
+use Rattle.clap.specs.Walk.{Text}
+use Rattle.disk_trait.specs.declared.disk.Disk.{Ghosts}
+use Rattle.disk_trait.specs.Disk.{DiskView, OnlyRead}
+use Rattle.graph_edits.specs.Edges.{Network}
+use Rattle.layout_2.specs.State.{State}
+use Rattle.layout_2.specs.Standing.{StandsFor}
+use Rattle.node_table.specs.declared.parts.Parts.{Parts}
+use Rattle.scheme_builds.specs.Schemes.{IsSchemeOf}
+use Rattle.written_values.specs.Words.{AreWords, IsWithin}
+use Rattle.written_values.specs.declared.words.LandmarkWords.{LandmarkWords}
+use Rattle.command_output.specs.declared.ended.Ended.{Ended}
+use Rattle.command_output.specs.declared.fault.Fault.{Fault}
+use Rattle.command_output.specs.declared.fault.Fault.TheVariants as told
+use Rattle.device_commands.specs.Openings.{IsReading}
+use Rattle.command_line.specs.declared.task.Task.{Task}
+use Rattle.command_line.specs.declared.task.Task.TheVariants.{Format, Show, Edit, Resume, Route, Check, Migrate, Serve, Tables}
+use Rattle.commands.specs.declared.devices.Access.{Access}
+use Rattle.commands.specs.declared.outcome.Outcome.{Outcome}
+use Rattle.commands.specs.declared.outcome.Outcome.TheVariants.{Answered, Told, Untold}
+use Rattle.commands.specs.Devices.{IsAnswerOf, IsFileFault, OfOpened}
+use Rattle.commands.specs.Endings.{EndsTables, IsCheckDeviceFault, IsCheckEnd, IsFaultFor, IsTablesEnd, MayEnd}
+use Rattle.commands.specs.Outcomes.{AnyPut, IsOutcome}
+use Rattle.commands.specs.Printed.{AnswersWords, PrintedFor, PrintsTables}
+use Rattle.table_files.specs.Files.{HasPut, Put}
+use Rattle.commands.specs.SchemeAnswers.{IsSchemeBy}
+use Rattle.table_files.specs.Tables.{AnswersTables, EndsPutting}
+use Rattle.commands.proofs.OnDevices.{check_end}
+
+-- nothing was put
+pub none_put : (puts : List Put) → HasPut puts puts []
+none_put puts = sym (append-nil puts)
+
+-- ---- a scheme by the words that were asked for
+
+pub scheme_by : (graph : Network) (generation : ℕ) (asked : LandmarkWords) (words : List ℕ) (answer : Result Parts Fault) → IsWithin asked graph.nodes → AreWords asked graph.nodes words
+    → IfOk answer (λ p. IsSchemeOf graph words generation p) → IfOk answer (λ p. IsSchemeBy graph generation asked p)
+scheme_by graph generation asked words (Ok p) within are is = record { within = within; words = words; are = are; scheme = is }
+scheme_by graph generation asked words (Err e) within are is = tt
+
+-- ---- on a device
+
+-- what was printed
+pub tables_printed : (r : Result Ended Fault) (answer : Result (ℕ × Parts) Fault) (asked : LandmarkWords) (folder named : List ℕ) (put : List Put → Type 0) (disk left : DiskView) (old new : Option (List ℕ))
+    → IfOk answer (λ found. (state : State) × (found.0 ≡ state.count) × IsSchemeBy state.graph state.count asked found.1)
+    → (IsTrue disk.keeps_model → (state : State) → StandsFor state disk.content → IfOk answer (λ found. found.0 ≡ state.count))
+    → (IsTrue disk.keeps_model → (state : State) → StandsFor state disk.content → IfOk answer (λ found. IsSchemeBy state.graph state.count asked found.1))
+    → (IsTrue disk.keeps_model → OnlyRead disk left)
+    → IfOk r (λ ended. IsOkAnd answer (λ found. AnswersTables found.1 found.0 folder named put ended old new))
+    → IfOk r (λ ended. PrintsTables asked folder named put disk left ended old new)
+tables_printed (Ok ended) (Ok found) asked folder named put disk left old new one count scheme reads printed = (
+  record {
+    of_one = (one.0, (found.1, one.2, subst (λ (n : ℕ). AnswersTables found.1 n folder named put ended old new) one.1 printed));
+    of_this = λ keeps state stands.
+        (found.1, scheme keeps state stands, subst (λ (n : ℕ). AnswersTables found.1 n folder named put ended old new) (count keeps state stands) printed);
+  },
+  reads,
+)
+tables_printed (Ok ended) (Err fault) asked folder named put disk left old new one count scheme reads printed = absurd printed
+tables_printed (Err fault) answer asked folder named put disk left old new one count scheme reads printed = tt
+
+-- why it ends, where there is a scheme
+ends_by_scheme : (found : ℕ × Parts) (asked : LandmarkWords) (folder named : List ℕ) (put : List Put → Type 0) (disk left : DiskView) (fault : Fault)
+    → ((state : State) × (found.0 ≡ state.count) × IsSchemeBy state.graph state.count asked found.1)
+    → (IsTrue disk.keeps_model → (state : State) → StandsFor state disk.content → IsSchemeBy state.graph state.count asked found.1)
+    → (IsTrue disk.keeps_model → OnlyRead disk left) → EndsPutting found.1 folder named put fault → IsTablesEnd asked folder named put disk left fault
+ends_by_scheme found asked folder named put disk left fault one scheme reads ends =
+    inr (record { of_one = (one.0, (found.1, one.2, ends)); of_this = λ keeps state stands. (found.1, scheme keeps state stands, ends) }, reads)
+
+-- and where there may be none
+pub tables_end : (r : Result Ended Fault) (answer : Result (ℕ × Parts) Fault) (asked : LandmarkWords) (folder named : List ℕ) (put : List Put → Type 0) (disk left : DiskView)
+    → IfOk answer (λ found. (state : State) × (found.0 ≡ state.count) × IsSchemeBy state.graph state.count asked found.1)
+    → (IsTrue disk.keeps_model → (state : State) → StandsFor state disk.content → IfOk answer (λ found. IsSchemeBy state.graph state.count asked found.1))
+    → (IsTrue disk.keeps_model → OnlyRead disk left)
+    → IfErr answer (λ fault. IsCheckEnd asked disk left fault)
+    → IfErr r (λ fault. (IsErrOf answer fault × put []) ⊎ IsOkAnd answer (λ found. EndsPutting found.1 folder named put fault))
+    → IfErr r (λ fault. IsTablesEnd asked folder named put disk left fault)
+tables_end (Ok ended) answer asked folder named put disk left one scheme reads early ends = tt
+tables_end (Err fault) (Ok found) asked folder named put disk left one scheme reads early ends =
+    ⊎_elim (λ is. absurd (let never : ◌≡◌ {A = Result (ℕ × Parts) Fault} (Ok found) (Err fault) = is.0 in cc)) (λ is. ends_by_scheme found asked folder named put disk left fault one scheme reads is) ends
+tables_end (Err fault) (Err other) asked folder named put disk left one scheme reads early ends =
+    ⊎_elim (λ is. inl (is.1, IfErr-at_err (λ (f : Fault). IsCheckEnd asked disk left f) is.0 early)) (λ is. absurd is) ends
+
+-- of the device by a path
+pub tables_opened : {D : Type 0} (model : Ghosts D) (opened : D → Type 0) (asked : LandmarkWords) (folder named : List ℕ) (put : List Put → Type 0) (disk left : D) (r : Result Ended Fault) → opened disk
+    → IfErr r (λ fault. IsTablesEnd asked folder named put (model.view disk) (model.view left) fault) → IfErr r (λ fault. EndsTables model opened asked folder named put fault)
+tables_opened model opened asked folder named put disk left (Ok ended) was ends = tt
+tables_opened model opened asked folder named put disk left (Err fault) was ends = inr (record { disk = disk; was = was; left = left; holds = ends })
+
+-- ---- of files of which nothing is known
+
+answers_any : (p : Parts) (generation : ℕ) (folder named : List ℕ) (put : List Put → Type 0) (ended : Ended) (old new : Option (List ℕ)) → AnswersTables p generation folder named put ended old new
+    → AnswersTables p generation folder named AnyPut ended old new
+answers_any p generation folder named put ended old new (inl all) =
+    inl (record { there = all.there; ends = all.ends; order = all.order; files = tt; printed = all.printed })
+answers_any p generation folder named put ended old new (inr lacks) =
+    inr (record { lacks = lacks.lacks; ends = lacks.ends; nothing = tt; printed = lacks.printed })
+
+prints_any : (words : LandmarkWords) (folder named : List ℕ) (put : List Put → Type 0) (disk left : DiskView) (ended : Ended) (old new : Option (List ℕ)) → PrintsTables words folder named put disk left ended old new
+    → PrintsTables words folder named AnyPut disk left ended old new
+prints_any words folder named put disk left ended old new (is, reads) = (
+  record {
+    of_one =
+        let one = is.of_one in
+        (one.0, (one.1.0, one.1.1, answers_any one.1.0 one.0.count folder named put ended old new one.1.2));
+    of_this = λ keeps state stands.
+        let this = is.of_this keeps state stands in
+        (this.0, this.1, answers_any this.0 state.count folder named put ended old new this.2);
+  },
+  reads,
+)
+
+printed_any : {D : Type 0} (model : Ghosts D) (opened : List ℕ → Access → D → Type 0) (put : List Put → Type 0) (task : Task) (given : Option (List ℕ)) (ended : Ended) (old new : Option (List ℕ))
+    → PrintedFor model opened put task given ended old new → PrintedFor model opened AnyPut task given ended old new
+printed_any model opened put (Format device nodes) given ended old new is = is
+printed_any model opened put (Show device) given ended old new is = is
+printed_any model opened put (Edit device session ticket change) given ended old new is = is
+printed_any model opened put (Resume device session) given ended old new is = is
+printed_any model opened put (Route device pairs words) given ended old new is = is
+printed_any model opened put (Check device words) given ended old new is = is
+printed_any model opened put (Migrate device made) given ended old new is = is
+printed_any model opened put (Serve device editors forwarders places words) given ended old new is = is
+printed_any model opened put (Tables device folder nodes words) given ended old new is = record {
+  disk = is.disk;
+  was = is.was;
+  left = is.left;
+  holds = prints_any words folder.now nodes.items put (model.view is.disk) (model.view is.left) ended old new is.holds;
+}
+
+putting_any : (p : Parts) (folder named : List ℕ) (put : List Put → Type 0) (fault : Fault) → EndsPutting p folder named put fault → EndsPutting p folder named AnyPut fault
+putting_any p folder named put fault (inl some) = inl (record { named = some.named; count = some.count; files = tt; internal = some.internal; output = some.output })
+putting_any p folder named put fault (inr lacks) = inr (lacks.0, tt, lacks.2)
+
+end_any : (asked : LandmarkWords) (folder named : List ℕ) (put : List Put → Type 0) (disk left : DiskView) (fault : Fault) → IsTablesEnd asked folder named put disk left fault
+    → IsTablesEnd asked folder named AnyPut disk left fault
+end_any asked folder named put disk left fault (inl early) = inl (tt, early.1)
+end_any asked folder named put disk left fault (inr (is, reads)) = inr (
+  record {
+    of_one =
+        let one = is.of_one in
+        (one.0, (one.1.0, one.1.1, putting_any one.1.0 folder named put fault one.1.2));
+    of_this = λ keeps state stands.
+        let this = is.of_this keeps state stands in
+        (this.0, this.1, putting_any this.0 folder named put fault this.2);
+  },
+  reads,
+)
+
+tables_any : {D : Type 0} (model : Ghosts D) (opened : D → Type 0) (asked : LandmarkWords) (folder named : List ℕ) (put : List Put → Type 0) (fault : Fault) → EndsTables model opened asked folder named put fault
+    → EndsTables model opened asked folder named AnyPut fault
+tables_any model opened asked folder named put fault (inl early) = inl (tt, early.1)
+tables_any model opened asked folder named put fault (inr is) = inr (record {
+  disk = is.disk;
+  was = is.was;
+  left = is.left;
+  holds = end_any asked folder named put (model.view is.disk) (model.view is.left) fault is.holds;
+})
+
+may_any : {D : Type 0} (model : Ghosts D) (opened : List ℕ → Access → D → Type 0) (put : List Put → Type 0) (task : Task) (given : Option (List ℕ)) (fault : Fault)
+    → MayEnd model opened put task given fault → MayEnd model opened AnyPut task given fault
+may_any model opened put (Format device nodes) given fault is = is
+may_any model opened put (Show device) given fault is = is
+may_any model opened put (Edit device session ticket change) given fault is = is
+may_any model opened put (Resume device session) given fault is = is
+may_any model opened put (Route device pairs words) given fault is = is
+may_any model opened put (Check device words) given fault is = is
+may_any model opened put (Migrate device made) given fault is = is
+may_any model opened put (Serve device editors forwarders places words) given fault is = is
+may_any model opened put (Tables device folder nodes words) given fault is = tables_any model _ words folder.now nodes.items put fault is
+
+fault_any : {D : Type 0} (model : Ghosts D) (opened : List ℕ → Access → D → Type 0) (put : List Put → Type 0) (words : List Text) (given : Option (List ℕ)) (fault : Fault) → IsFaultFor model opened put words given fault
+    → IsFaultFor model opened AnyPut words given fault
+fault_any model opened put words given fault (inl refused) = inl refused
+fault_any model opened put words given fault (inr is) = inr (is.0, is.1, may_any model opened put is.0 given fault is.2)
+
+-- a run on files of which nothing is known has the outcome of one on files of which all is
+pub outcome_any : {D : Type 0} (model : Ghosts D) (opened : List ℕ → Access → D → Type 0) (put : List Put → Type 0) (words : List Text) (given old new told_old told_new : Option (List ℕ)) (outcome : Outcome)
+    → IsOutcome model opened put words given old new told_old told_new outcome → IsOutcome model opened AnyPut words given old new told_old told_new outcome
+outcome_any model opened put words given old new told_old told_new (Answered ended) is =
+    ((is.0.0, is.0.1, printed_any model opened put is.0.0 given ended old new is.0.2), is.1)
+outcome_any model opened put words given old new told_old told_new (Told fault) is = (fault_any model opened put words given fault is.0, is.1)
+outcome_any model opened put words given old new told_old told_new (Untold fault) is = fault_any model opened put words given fault is

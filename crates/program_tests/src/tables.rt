@@ -1,0 +1,366 @@
+// `tables`, over devices and files in memory, and on real files. The numbers of the lines are worked out by hand: by docs/FORMATS.md a
+// table has 100 bytes, 2 for each port, 13 for each entry, and 5 for each member of the directory and 2 for each port of its label.
+use crate::helpers::{
+    bytes_of, device_in, expect_run, got, make_folder, path_in, remove_folder, same, text_of,
+    words_of,
+};
+use checkpoint::DEVICE_LEN;
+use command_output::Fault;
+use commands::{Access, Devices, run_on};
+use device_commands::{edit, format};
+use disk_trait::{Disk, MemDisk};
+use graph_edits::{Change, Graph, Op};
+use node_table::Scheme;
+use router_table::RouterTable;
+use scheme_builds::scheme_of;
+use std::alloc::Global;
+use std::fs::File;
+use std::process::Abort;
+use std::rt::Files;
+use std::sync::Wait;
+use std::thread::Threads;
+use std::{fs, io};
+use table_files::{TableFile, TableFiles};
+
+// Devices in memory: each opening gives a disk of these bytes, whatever the path.
+#[derive(Drop)]
+struct Copies {
+    alloc: Global,
+    bytes: Vec<u8>,
+}
+
+impl Devices for Copies {
+    type Device = MemDisk;
+
+    ghost opened = { λ devices path access disk. Unit {0} };
+
+    fn open(&self, _path: &str, _access: Access) -> Result<MemDisk, Fault> {
+        let Ok(mut disk) = MemDisk::new(self.alloc, self.bytes.len()) else {
+            return Err(Fault::DeviceFile);
+        };
+        if disk.write_at(0, &self.bytes).is_err() {
+            return Err(Fault::DeviceFile);
+        }
+        Ok(disk)
+    }
+}
+
+// Files in memory: there is room for so many, and the next one is refused.
+#[derive(Drop)]
+struct MemoryFiles {
+    files: Vec<TableFile>,
+    room: usize,
+}
+
+impl TableFiles for MemoryFiles {
+    ghost use Rattle.std.specs.Prelude.{map};
+    ghost use Rattle.table_files.specs.Files.{put_of};
+
+    ghost puts = { λ files. map put_of files.files.items };
+
+    fn put(&mut self, file: TableFile) -> Result<(), Fault> {
+        if self.files.len() >= self.room {
+            return Err(Fault::TableFile);
+        }
+        self.files.push(file)?;
+        Ok(())
+    }
+}
+
+// The edges of the path 0, 1, 2, 3, 4.
+const PATH: [Op; 4] = [
+    Op::Add(0, 1, 1),
+    Op::Add(1, 2, 1),
+    Op::Add(2, 3, 1),
+    Op::Add(3, 4, 1),
+];
+
+// The bytes of a disk.
+fn contents_of<R: AllocGlobal + Abort>(rt: &R, disk: &mut MemDisk) -> Vec<u8> {
+    let mut bytes = got(rt, Vec::from_elem(rt.alloc(), 0, disk.len()));
+    if bytes.len() != disk.len() {
+        panic!(rt; "another length");
+    }
+    got(rt, disk.read(0, &mut bytes));
+    bytes
+}
+
+// A device of the path, made by one change.
+fn path_device<R: AllocGlobal + Abort + Threads + Wait + Sync>(rt: &R) -> Copies {
+    let mut disk = got(rt, MemDisk::new(rt.alloc(), DEVICE_LEN));
+    got(rt, format(&mut disk, 5));
+    let change = got(rt, Change::new(&PATH));
+    let (answer, mut disk) = edit(rt, rt.alloc(), disk, 0, None, change);
+    got(rt, answer);
+    Copies {
+        alloc: rt.alloc(),
+        bytes: contents_of(rt, &mut disk),
+    }
+}
+
+// The scheme of the path under generation 1, with the greatest word everywhere but 0 at these nodes.
+fn path_scheme(rt: &impl Abort, alloc: Global, landmarks: &[u16]) -> Scheme {
+    let mut graph = got(rt, Graph::empty(alloc, 5));
+    let change = got(rt, Change::new(&PATH));
+    got(rt, graph.apply(&change));
+    let mut words = Vec::new(alloc);
+    for node in 0..5 {
+        let word = if landmarks.contains(&node) {
+            0u64
+        } else {
+            u64::MAX
+        };
+        got(rt, words.push(word));
+    }
+    got(rt, scheme_of(alloc, &graph, &words, 1, &alloc))
+}
+
+// Sees that a file has this path and the bytes of a node's table, and that these are read as the node's.
+fn expect_table(
+    rt: &impl Abort,
+    alloc: Global,
+    scheme: &Scheme,
+    file: &TableFile,
+    path: &str,
+    node: u16,
+) {
+    same(rt, file.path.as_str(), path, "the path");
+    let table = got(rt, RouterTable::of(alloc, scheme, node));
+    let want = got(rt, table.write(alloc));
+    same(rt, file.bytes.as_slice() == want.as_slice(), true, path);
+    let read = got(rt, RouterTable::read(alloc, &file.bytes));
+    same(rt, read.head().node, node, path);
+    same(rt, read.head().generation, 1, path);
+}
+
+// The words, how many files there is room for, the status, what is printed and what is told; and the landmarks and the nodes of the
+// files that are put, in order.
+type Row = (
+    &'static str,
+    usize,
+    u8,
+    &'static str,
+    &'static str,
+    &'static [u16],
+    &'static [u16],
+);
+
+const NO_WORDS: &str = "tznode: words not understood\n";
+
+const USAGE: &str = "tznode: usage\n";
+
+const REFUSED: &str = "tznode: table file cannot be written\n";
+
+// With the landmark 2 the nodes have 146, 140, 117, 140 and 146 bytes: the first 1 port, entries for 0, 1 and 2, and itself listed.
+// With none each node has an entry for each and lists all: 192, 196, 198, 196 and 192 bytes.
+const ROWS: [Row; 17] = [
+    (
+        "tables d out --words at:2",
+        9,
+        0,
+        "generation=1 tables=5 bytes=689 greatest=146\n",
+        "",
+        &[2],
+        &[0, 1, 2, 3, 4],
+    ),
+    (
+        "tables d out --words none",
+        9,
+        0,
+        "generation=1 tables=5 bytes=974 greatest=198\n",
+        "",
+        &[],
+        &[0, 1, 2, 3, 4],
+    ),
+    (
+        "tables d out --words at:2 --node 4 --node 2",
+        9,
+        0,
+        "generation=1 tables=2 bytes=263 greatest=146\n",
+        "",
+        &[2],
+        &[4, 2],
+    ),
+    (
+        "tables --node=2 d --words=at:2 out --node 2",
+        9,
+        0,
+        "generation=1 tables=2 bytes=234 greatest=117\n",
+        "",
+        &[2],
+        &[2, 2],
+    ),
+    (
+        "tables d out --words at:2 --node 1 --node 5",
+        9,
+        1,
+        "no node\n",
+        "",
+        &[2],
+        &[],
+    ),
+    ("tables d out --words at:2", 1, 1, "", REFUSED, &[2], &[0]),
+    (
+        "tables d out --words at:2 --node 3 --node 1 --node 0",
+        2,
+        1,
+        "",
+        REFUSED,
+        &[2],
+        &[3, 1],
+    ),
+    ("tables d out --words at:2", 0, 1, "", REFUSED, &[2], &[]),
+    (
+        "tables d out --words at:5 --node 5",
+        9,
+        2,
+        "",
+        NO_WORDS,
+        &[],
+        &[],
+    ),
+    ("tables d out --words every", 9, 2, "", NO_WORDS, &[], &[]),
+    ("tables d out", 9, 2, "", USAGE, &[], &[]),
+    ("tables d --words at:2", 9, 2, "", USAGE, &[], &[]),
+    ("tables d out more --words at:2", 9, 2, "", USAGE, &[], &[]),
+    (
+        "tables d out --words at:2 --node",
+        9,
+        2,
+        "",
+        USAGE,
+        &[],
+        &[],
+    ),
+    (
+        "tables d out --words at:2 --node x",
+        9,
+        2,
+        "",
+        USAGE,
+        &[],
+        &[],
+    ),
+    (
+        "tables d out --words at:2 --node 65536",
+        9,
+        2,
+        "",
+        USAGE,
+        &[],
+        &[],
+    ),
+    (
+        "tables d out --words at:2 --node 01",
+        9,
+        2,
+        "",
+        USAGE,
+        &[],
+        &[],
+    ),
+];
+
+// Sees that the files are those of these nodes' tables, in order.
+fn expect_files<R: AllocGlobal + Abort>(
+    rt: &R,
+    files: &[TableFile],
+    landmarks: &[u16],
+    nodes: &[u16],
+    line: &str,
+) {
+    same(rt, files.len(), nodes.len(), line);
+    let scheme = path_scheme(rt, rt.alloc(), landmarks);
+    for (file, node) in files.iter().zip(nodes) {
+        let path = got(rt, format!(in rt.alloc(); "out/{node}.table"));
+        expect_table(rt, rt.alloc(), &scheme, file, path.as_str(), *node);
+    }
+}
+
+// Runs a row, and compares all that it answers and puts.
+fn expect_row<R: AllocGlobal + Abort + Threads + Wait + Sync>(rt: &R, devices: &Copies, row: &Row) {
+    let (line, room, status, printed, told, landmarks, nodes) = *row;
+    let words = words_of(rt, "", line);
+    let mut files = MemoryFiles {
+        files: Vec::new(rt.alloc()),
+        room,
+    };
+    let (mut out, mut err) = (Vec::new(rt.alloc()), Vec::new(rt.alloc()));
+    let outcome = run_on(
+        rt,
+        devices,
+        &mut files,
+        &words,
+        &mut io::empty(),
+        &mut out,
+        &mut err,
+    );
+    let found = (outcome.status(), text_of(rt, &out), text_of(rt, &err));
+    same(rt, found, (status, printed, told), line);
+    expect_files(rt, &files.files, landmarks, nodes, line);
+}
+
+#[test]
+fn tables_of_a_path(rt: HostRuntime) {
+    let devices = path_device(&rt);
+    for row in &ROWS {
+        expect_row(&rt, &devices, row);
+    }
+}
+
+// Runs `tables` on the device of a folder, into a folder of it, and compares what it answers.
+fn expect_tables<R: Files<File = File> + AllocGlobal + Abort + Threads + Wait + Sync>(
+    rt: &R,
+    folder: &str,
+    nodes: &str,
+    status: u8,
+    text: &str,
+) {
+    let device = device_in(rt, folder);
+    let into = path_in(rt, folder, "out");
+    let line = got(
+        rt,
+        format!(in rt.alloc(); "tables @ {} --words at:2{nodes}", into.as_str()),
+    );
+    expect_run(rt, device.as_str(), line.as_str(), status, text);
+}
+
+// Sees that a file is read as the table of a node.
+fn expect_read<R: Files<File = File> + AllocGlobal + Abort>(rt: &R, path: &str, node: u16) {
+    let bytes = bytes_of(rt, path);
+    let read = got(rt, RouterTable::read(rt.alloc(), &bytes));
+    same(rt, read.head().node, node, path);
+    same(rt, read.head().generation, 1, path);
+}
+
+// Sees that the tables of these nodes stand in a folder, and nothing else: it's empty once they are removed.
+fn expect_all<R: Files<File = File> + AllocGlobal + Abort>(rt: &R, folder: &str, nodes: u16) {
+    for node in 0..nodes {
+        let path = got(rt, format!(in rt.alloc(); "{folder}/{node}.table"));
+        expect_read(rt, path.as_str(), node);
+        got(rt, fs::remove_file(rt, path.as_str()));
+    }
+    got(rt, fs::remove_dir(rt, folder));
+}
+
+const NOT_PUT: &str = "tznode: table file cannot be written";
+
+// Real files: each has its name alone, and stands in the place of the one before.
+#[test]
+fn tables_in_a_folder(rt: HostRuntime) {
+    let folder = got(&rt, make_folder(&rt, "tables_in_a_folder"));
+    let folder = folder.as_str();
+    let out = path_in(&rt, folder, "out");
+    let device = device_in(&rt, folder);
+    let made = "edit @ add:0:1:1 add:1:2:1 add:2:3:1 add:3:4:1";
+    expect_run(&rt, device.as_str(), "format @ 5", 0, "formatted nodes=5");
+    expect_run(&rt, device.as_str(), made, 0, "accepted count=1");
+    expect_tables(&rt, folder, "", 1, NOT_PUT);
+    got(&rt, fs::create_dir(&rt, out.as_str()));
+    let whole = "generation=1 tables=5 bytes=689 greatest=146";
+    expect_tables(&rt, folder, "", 0, whole);
+    let two = "generation=1 tables=2 bytes=257 greatest=140";
+    expect_tables(&rt, folder, " --node 3 --node 2", 0, two);
+    expect_all(&rt, out.as_str(), 5);
+    remove_folder(&rt, folder);
+}

@@ -1,0 +1,98 @@
+//! Where tables are put, and how one is.
+ghost use Rattle.std.specs.Prelude.{◌≡◌, ◌++◌, ◌∷◌, [], List, IfErr, IfOk, OnErr, OnOk, map};
+ghost use Rattle.std.specs.String.{string_bytes};
+ghost use Rattle.table_files.specs.Files.{IsPutFault, put_of, table_path};
+
+use command_output::Fault;
+use disk_trait::Log;
+use std::alloc::{AllocError, Global};
+use std::fs::{self, File};
+use std::io::{self, ErrorKind};
+use std::rt::Files;
+
+/// The file of a router's table, that is to be put.
+#[derive(Debug, PartialEq, Eq, Drop)]
+pub struct TableFile {
+    /// Where it is to stand.
+    pub path: String,
+    pub bytes: Vec<u8>,
+}
+
+/// Where tables are put. Whoever puts tables does it here, and has no other way to make a file.
+pub trait TableFiles {
+    ghost use Rattle.table_files.specs.Files.{Put};
+
+    /// The files that were put, in order.
+    ghost puts: { Self → List Put };
+
+    /// Puts a file in the place of what stands by its path. Whoever reads there meanwhile sees the old bytes or the new ones.
+    fn put(&mut self, file: TableFile) -> Result<(), Fault>
+        ensures put { OnOk result (puts self.new ≡ puts self.old ++ put_of file ∷ []) }
+        ensures kept { OnErr result (puts self.new ≡ puts self.old) }
+        ensures fault { IfErr result (λ fault. IsPutFault fault) };
+}
+
+/// Tables that are files of the system.
+#[derive(Drop)]
+pub struct SystemTables<'a, R> {
+    files: &'a R,
+    // For contracts alone: it has no bytes.
+    put: Log<TableFile>,
+}
+
+impl<'a, R> SystemTables<'a, R> {
+    /// Where nothing was put yet.
+    pub fn new(files: &'a R) -> SystemTables<'a, R> {
+        SystemTables {
+            files,
+            put: Log::new(),
+        }
+    }
+}
+
+impl<R: Files<File = File> + AllocGlobal> TableFiles for SystemTables<'_, R> {
+    ghost use Rattle.table_files.specs.Files.{put_of};
+
+    ghost puts = { λ tables. map put_of tables.put.items };
+
+    fn put(&mut self, file: TableFile) -> Result<(), Fault> {
+        let beside = path_beside(self.files.alloc(), file.path.as_str())?;
+        if let Err(error) = replace(self.files, beside.as_str(), &file) {
+            return Err(fault_of(error));
+        }
+        self.put = self.put.with_entry(&file);
+        Ok(())
+    }
+}
+
+// What is told of a file that can't be put.
+fn fault_of(error: io::Error) -> Fault
+    ensures { IsPutFault result }
+{
+    match error.kind() {
+        ErrorKind::OutOfMemory => Fault::Memory,
+        _ => Fault::TableFile,
+    }
+}
+
+// The path of what is written first.
+fn path_beside(alloc: Global, path: &str) -> Result<String, AllocError> {
+    format!(in alloc; "{path}.new")
+}
+
+// Writes a file by this path, and then gives it its own.
+fn replace<R: Files<File = File>>(files: &R, beside: &str, file: &TableFile) -> io::Result<()> {
+    fs::write(files, beside, file.bytes.as_slice())?;
+    fs::rename(files, beside, file.path.as_str())
+}
+
+/// The path of the file of a node's table in a folder.
+pub(crate) fn path_of(alloc: Global, folder: &str, node: u16) -> Result<String, AllocError>
+    ensures { IfOk result (λ path. string_bytes path ≡ table_path folder.now node) }
+{
+    if folder.is_empty() {
+        format!(in alloc; "{node}.table")
+    } else {
+        format!(in alloc; "{folder}/{node}.table")
+    }
+}

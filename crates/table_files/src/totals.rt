@@ -1,0 +1,40 @@
+//! How much was put.
+ghost use Rattle.std.specs.Prelude.{◌≡◌, ◌≤◌, ◌<◌, ◌+◌, ◌*◌, ◌^◌, max};
+
+/// How many tables were put, how many bytes they have in all, and how many the greatest has.
+#[derive(Clone, Copy, Drop)]
+pub(crate) struct Totals {
+    pub(crate) tables: usize,
+    pub(crate) bytes: u128,
+    pub(crate) greatest: usize,
+}
+
+impl Totals {
+    /// Nothing was put.
+    pub(crate) fn none() -> Totals
+        ensures tables { result.tables ≡ 0 }
+        ensures bytes { result.bytes ≡ 0 }
+        ensures greatest { result.greatest ≡ 0 }
+    {
+        Totals {
+            tables: 0,
+            bytes: 0,
+            greatest: 0,
+        }
+    }
+
+    /// One table more, of so many bytes.
+    pub(crate) fn with(self, len: usize) -> Totals
+        requires few { self.tables + 1 < 2 ^ 64 }
+        requires room { self.bytes ≤ self.tables * 2 ^ 64 }
+        ensures tables { result.tables ≡ self.tables + 1 }
+        ensures bytes { result.bytes ≡ self.bytes + len }
+        ensures greatest { result.greatest ≡ max self.greatest len }
+    {
+        Totals {
+            tables: self.tables + 1,
+            bytes: self.bytes + len as u128,
+            greatest: self.greatest.max(len),
+        }
+    }
+}
