@@ -44,7 +44,7 @@ pub enum Answer {
 }
 
 /// Why a packet isn't sent or carried.
-fn refused_name(refused: Refused) -> &'static str
+pub fn refused_name(refused: Refused) -> &'static str
     ensures { result.now ≡ refused_text refused }
 {
     match refused {
@@ -56,7 +56,7 @@ fn refused_name(refused: Refused) -> &'static str
 }
 
 /// Why bytes are no packet or address.
-fn unread_name(refused: WireRefused) -> &'static str
+pub fn unread_name(refused: WireRefused) -> &'static str
     ensures { result.now ≡ unread_text refused }
 {
     match refused {
@@ -94,7 +94,7 @@ fn load_name(refused: LoadRefused) -> &'static str
 }
 
 /// `packet=` and the packet's digits.
-fn packet_text(alloc: Global, packet: &Packet) -> Result<String, AllocError>
+pub fn packet_text(alloc: Global, packet: &Packet) -> Result<String, AllocError>
     ensures { IfOk result (λ text. string_bytes text ≡ packet_line packet.now) }
 {
     let digits = hex::encode(alloc, packet.to_bytes().as_slice())?;
@@ -102,7 +102,7 @@ fn packet_text(alloc: Global, packet: &Packet) -> Result<String, AllocError>
 }
 
 /// Where a packet goes, or that it is delivered.
-fn moved_text(alloc: Global, moved: &Move) -> Result<String, AllocError>
+pub fn moved_text(alloc: Global, moved: &Move) -> Result<String, AllocError>
     ensures { IfOk result (λ text. string_bytes text ≡ move_text moved.now) }
 {
     match moved {
@@ -115,7 +115,7 @@ fn moved_text(alloc: Global, moved: &Move) -> Result<String, AllocError>
 }
 
 /// Where the router is to be found.
-fn told_text(alloc: Global, address: &Address) -> Result<String, AllocError>
+pub fn told_text(alloc: Global, address: &Address) -> Result<String, AllocError>
     ensures { IfOk result (λ text. string_bytes text ≡ answer_text (Answer.Told address.now)) }
 {
     let digits = hex::encode(alloc, address.to_bytes().as_slice())?;

@@ -44,13 +44,13 @@ pub fn file_in(line: &[u8]) -> Option<&[u8]>
 
 /// What digits are not, where they aren't those of so many bytes: too many or too few of them, or no digits at all.
 #[derive(Clone, Copy, Drop)]
-pub(crate) enum NoBytes {
+pub enum NoBytes {
     OtherLength,
     NoDigits,
 }
 
 /// The bytes of so many hex digits.
-fn bytes_in<const N: usize>(digits: &[u8]) -> Result<[u8; N], NoBytes>
+pub fn bytes_in<const N: usize>(digits: &[u8]) -> Result<[u8; N], NoBytes>
     ensures { IsDecoded N digits.now result }
 {
     if digits.len() % 2 != 0 || digits.len() / 2 != N {
