@@ -1,0 +1,80 @@
+-- What a live service answers to a line, and the text of an answer.
+use Rattle.std.specs.Prelude.{◌≡◌, ℕ, Option, Some, None, List, [], ◌∷◌, ◌++◌, codes, decimal}
+use Rattle.command_output.specs.Lines.{accepted_text, refused_text as refused_change, ticket_text}
+use Rattle.command_output.specs.RouteLines.{absent_text, route_text, unreachable_text}
+use Rattle.generations.specs.declared.posting.Verdict.{Verdict}
+use Rattle.generations.specs.declared.posting.Verdict.TheVariants.{Accepted, Refused}
+use Rattle.hex.specs.Hex.{encode_lower}
+use Rattle.packet_bytes.specs.Spelling.{address_text}
+use Rattle.router_lines.specs.Answers.{move_text, packet_line, refused_text, unread_text}
+use Rattle.live_lines.specs.declared.asked.Asked.{Asked}
+use Rattle.live_lines.specs.declared.asked.Asked.TheVariants as asks
+use Rattle.live_lines.specs.declared.answer.Answer.{Answer}
+use Rattle.live_lines.specs.declared.answer.Answer.TheVariants.{Settled, AlreadyIn, Resumed, Along, Unreachable, NoNode, Told, Sent, Moved, NotCarried, Gone, Unread, State, Waited, NotUnderstood}
+
+-- ---- which answers are of a line
+
+-- an answer's ticket is the one that was named, where one was
+abbrev pub IsOfTicket : Option ℕ → ℕ → Type 0
+IsOfTicket None ticket = Unit {0}
+IsOfTicket (Some named) ticket = ticket ≡ named
+
+-- the nodes begin with the one and end with the other
+pub record Join (from to : ℕ) (nodes : List ℕ) : Type 0 where
+  pub starts : (rest : List ℕ) × (nodes ≡ from ∷ rest)
+  pub ends : (before : List ℕ) × (nodes ≡ before ++ to ∷ [])
+
+-- the answer is one to what is asked for
+abbrev pub Fits : Asked → Answer → Type 0
+Fits (asks.Edit session ticket change) (Settled s t verdict) = (s ≡ session) × IsOfTicket ticket t
+Fits (asks.Edit session ticket change) (AlreadyIn s t) = (s ≡ session) × IsOfTicket ticket t
+Fits (asks.Resume session) (Resumed s t) = s ≡ session
+Fits (asks.Route from to) (Along generation nodes length) = Join from to nodes.items
+Fits (asks.Route from to) (Unreachable generation) = Unit {0}
+Fits (asks.Route from to) NoNode = Unit {0}
+Fits (asks.Address node) (Told address) = address.node ≡ node
+Fits (asks.Address node) NoNode = Unit {0}
+Fits (asks.Launch from to) (Sent packet) = Unit {0}
+Fits (asks.Launch from to) (NotCarried refused) = Unit {0}
+Fits (asks.Launch from to) Gone = Unit {0}
+Fits (asks.Hop at packet) (Moved moved) = Unit {0}
+Fits (asks.Hop at packet) (NotCarried refused) = Unit {0}
+Fits (asks.Hop at packet) Gone = Unit {0}
+Fits asks.State (State count generation queue) = Unit {0}
+Fits asks.Wait (Waited generation) = Unit {0}
+Fits (asks.Unread why) (Unread told) = told ≡ why
+Fits asks.NotUnderstood NotUnderstood = Unit {0}
+Fits asked answer = ⊥
+
+-- ---- texts
+
+-- what became of an edit
+abbrev pub verdict_text : Verdict → List ℕ
+verdict_text (Accepted count) = accepted_text count
+verdict_text (Refused op code) = refused_change op code
+
+-- a session and a ticket before what is said of them
+abbrev pub of_edit : ℕ → ℕ → List ℕ → List ℕ
+of_edit session ticket said = decimal session ++ (32 ∷ (decimal ticket ++ (32 ∷ said)))
+
+-- how much the service has done, and how much waits
+abbrev pub state_text : ℕ → ℕ → ℕ → List ℕ
+state_text count generation queue = codes "count=" ++ (decimal count ++ (codes " generation=" ++ (decimal generation ++ (codes " queue=" ++ decimal queue))))
+
+-- the line of an answer
+abbrev pub answer_text : Answer → List ℕ
+answer_text (Settled session ticket verdict) = of_edit session ticket (verdict_text verdict)
+answer_text (AlreadyIn session ticket) = of_edit session ticket (codes "already in")
+answer_text (Resumed session ticket) = ticket_text session ticket
+answer_text (Along generation nodes length) = route_text generation nodes.items length
+answer_text (Unreachable generation) = unreachable_text generation
+answer_text NoNode = absent_text
+answer_text (Told a) = codes "generation=" ++ (decimal a.generation ++ (codes " address=" ++ encode_lower (address_text a)))
+answer_text (Sent k) = packet_line k
+answer_text (Moved m) = move_text m
+answer_text (NotCarried e) = refused_text e
+answer_text Gone = codes "generation gone"
+answer_text (Unread e) = unread_text e
+answer_text (State count generation queue) = state_text count generation queue
+answer_text (Waited generation) = codes "generation=" ++ decimal generation
+answer_text NotUnderstood = codes "not understood"

@@ -1,0 +1,141 @@
+-- What lines of a live service ask for.
+use Rattle.std.specs.Prelude.{◌≡◌, ◌≢◌, ◌⊎◌, ◌*◌, ◌<◌, ◌≤◌, ◌^◌, ℕ, Ok, Option, Some, None, List, [], ◌∷◌, All, IsTrue, codes, decimal, length, map}
+use Rattle.hex.specs.Hex.{decode_sized, is_hex_digit}
+use Rattle.graph_edits.specs.declared.edits.Op.{Op}
+use Rattle.requests.specs.Tickets.{worn_limit}
+use Rattle.packet_bytes.specs.Layout.{address_size, packet_size}
+use Rattle.packet_bytes.specs.Refusals.{address_refusal, packet_refusal}
+use Rattle.packet_bytes.specs.Spelling.{SpellsAddress, SpellsPacket}
+use Rattle.packet_bytes.specs.declared.wire.WireRefused.{WireRefused}
+use Rattle.packet_bytes.specs.declared.wire.WireRefused.TheVariants.{BadLength}
+use Rattle.router_lines.specs.Lines.{AreDigitsOf}
+use Rattle.written_values.specs.OpText.{op_text}
+use Rattle.written_values.specs.Scripts.{IsChange, words_of}
+use Rattle.live_lines.specs.declared.words.Word.{Word}
+use Rattle.live_lines.specs.declared.words.Word.TheVariants as word
+use Rattle.live_lines.specs.declared.asked.Asked.{Asked}
+use Rattle.live_lines.specs.declared.asked.Asked.TheVariants.{Edit, Resume, Route, Address, Launch, Hop, State, Wait, Unread, NotUnderstood}
+
+-- the first words of lines
+abbrev pub word_text : Word → List ℕ
+word_text word.Edit = codes "edit"
+word_text word.Resume = codes "resume"
+word_text word.Route = codes "route"
+word_text word.Address = codes "address"
+word_text word.Launch = codes "launch"
+word_text word.Hop = codes "hop"
+word_text word.State = codes "state"
+word_text word.Wait = codes "wait"
+
+-- ---- edits
+
+-- a ticket, or `-` for the next one
+abbrev pub ticket_word : Option ℕ → List ℕ
+ticket_word None = codes "-"
+ticket_word (Some ticket) = decimal ticket
+
+-- a ticket that is named is from 1 to the greatest one
+abbrev pub IsTicket : Option ℕ → Type 0
+IsTicket None = Unit {0}
+IsTicket (Some ticket) = (1 ≤ ticket) × (ticket ≤ worn_limit)
+
+-- the words behind `edit`
+abbrev pub edit_words : ℕ → Option ℕ → List Op → List (List ℕ)
+edit_words session ticket change = decimal session ∷ ticket_word ticket ∷ map op_text change
+
+-- the session has an editor, the ticket is one, and there are ops enough and not too many, whose numbers fit their types
+pub record MayEdit (editors session : ℕ) (ticket : Option ℕ) (change : List Op) : Type 0 where
+  pub editor : session < editors
+  pub named : IsTicket ticket
+  pub ops : IsChange change
+
+-- ---- addresses and packets in digits
+
+-- one hex digit or more, in either case, and nothing else
+abbrev pub AreHex : List ℕ → Type 0
+AreHex digits = (digits ≢ []) × All (λ c. IsTrue (is_hex_digit c)) digits
+
+-- why digits are those of no value: they are more or fewer, or their bytes are refused
+abbrev pub IsUnread : ℕ → (List ℕ → Option WireRefused) → List ℕ → WireRefused → Type 0
+IsUnread size refusal digits e =
+    ((e ≡ BadLength) × (length digits ≢ 2 * size))
+    ⊎ ((length digits ≡ 2 * size) × ((bytes : List ℕ) × ((decode_sized digits size ≡ Ok bytes) × (refusal bytes ≡ Some e))))
+
+-- what digits ask for: something of the value that they spell, or they are those of none
+pub record DigitsAsk {X : Type 0} (size : ℕ) (spells : List ℕ → X → Type 0) (refusal : List ℕ → Option WireRefused) (something : X → Asked) (digits : List ℕ) (asked : Asked) : Type 0 where
+  pub hex : AreHex digits
+  pub read : ((x : X) × ((asked ≡ something x) × AreDigitsOf size spells digits x)) ⊎ ((e : WireRefused) × ((asked ≡ Unread e) × IsUnread size refusal digits e))
+
+-- what the digits of an address ask a node for, and those of a packet
+abbrev pub LaunchAsks : ℕ → List ℕ → Asked → Type 0
+LaunchAsks node digits asked = DigitsAsk address_size SpellsAddress address_refusal (Launch node) digits asked
+
+abbrev pub HopAsks : ℕ → List ℕ → Asked → Type 0
+HopAsks node digits asked = DigitsAsk packet_size SpellsPacket packet_refusal (Hop node) digits asked
+
+-- the words are a node and digits, which ask for this
+pub record NodeAsks (Behind : ℕ → List ℕ → Asked → Type 0) (words : List (List ℕ)) (asked : Asked) : Type 0 where
+  pub node : ℕ
+  pub digits : List ℕ
+  pub written : words ≡ decimal node ∷ digits ∷ []
+  pub fits : node < 2 ^ 16
+  pub asks : Behind node digits asked
+
+-- ---- lines
+
+-- the words behind a first word ask for this
+pub record EditAsks (editors : ℕ) (words : List (List ℕ)) (asked : Asked) : Type 0 where
+  pub session : ℕ
+  pub ticket : Option ℕ
+  pub change : List Op
+  pub written : words ≡ edit_words session ticket change
+  pub may : MayEdit editors session ticket change
+  pub same : asked ≡ Edit session ticket change
+
+pub record ResumeAsks (editors : ℕ) (words : List (List ℕ)) (asked : Asked) : Type 0 where
+  pub session : ℕ
+  pub written : words ≡ decimal session ∷ []
+  pub editor : session < editors
+  pub same : asked ≡ Resume session
+
+pub record RouteAsks (words : List (List ℕ)) (asked : Asked) : Type 0 where
+  pub from : ℕ
+  pub to : ℕ
+  pub written : words ≡ decimal from ∷ decimal to ∷ []
+  pub fit : (from < 2 ^ 16) × (to < 2 ^ 16)
+  pub same : asked ≡ Route from to
+
+pub record AddressAsks (words : List (List ℕ)) (asked : Asked) : Type 0 where
+  pub node : ℕ
+  pub written : words ≡ decimal node ∷ []
+  pub fits : node < 2 ^ 16
+  pub same : asked ≡ Address node
+
+abbrev pub AsksBehind : ℕ → Word → List (List ℕ) → Asked → Type 0
+AsksBehind editors word.Edit words asked = EditAsks editors words asked
+AsksBehind editors word.Resume words asked = ResumeAsks editors words asked
+AsksBehind editors word.Route words asked = RouteAsks words asked
+AsksBehind editors word.Address words asked = AddressAsks words asked
+AsksBehind editors word.Launch words asked = NodeAsks LaunchAsks words asked
+AsksBehind editors word.Hop words asked = NodeAsks HopAsks words asked
+AsksBehind editors word.State words asked = (words ≡ []) × (asked ≡ State)
+AsksBehind editors word.Wait words asked = (words ≡ []) × (asked ≡ Wait)
+
+-- the words of a line ask for something that is known, in a service of so many editors
+pub record WordsAsk (editors : ℕ) (words : List (List ℕ)) (asked : Asked) : Type 0 where
+  pub first : Word
+  pub others : List (List ℕ)
+  pub written : words ≡ word_text first ∷ others
+  pub asks : AsksBehind editors first others asked
+
+-- so does a line, cut at each blank
+abbrev pub Asks : ℕ → List ℕ → Asked → Type 0
+Asks editors line asked = WordsAsk editors (words_of line) asked
+
+-- This is asked for; or it isn't understood, and then nothing that is known is asked for.
+abbrev pub AsksJust : (Asked → Type 0) → Asked → Type 0
+AsksJust AsksFor asked = AsksFor asked ⊎ ((asked ≡ NotUnderstood) × ((other : Asked) → AsksFor other → ⊥))
+
+-- what a line asks for, exactly
+abbrev pub IsAskedIn : ℕ → List ℕ → Asked → Type 0
+IsAskedIn editors line asked = AsksJust (Asks editors line) asked

@@ -1,0 +1,159 @@
+// What is answered to a line, and the line that is printed of it.
+ghost use Rattle.std.specs.Prelude.{◌≡◌, IfOk};
+ghost use Rattle.std.specs.String.{string_bytes};
+ghost use Rattle.command_output.specs.RouteLines.{route_text};
+ghost use Rattle.live_lines.specs.Answers.{answer_text, of_edit, verdict_text};
+
+use command_output::{
+    AbsentLine, AcceptedLine, RefusedLine, RouteLine, TicketLine, UnreachableLine,
+};
+use generations::Verdict;
+use node_table::{Address, Move, Packet, Refused};
+use packet_bytes::WireRefused;
+use router_lines::{moved_text, packet_text, refused_name, told_text, unread_name};
+use std::alloc::{AllocError, Global};
+
+/// What is answered to a line.
+#[derive(Debug, PartialEq, Eq, Drop)]
+pub enum Answer {
+    /// What became of an edit of this session, under this ticket.
+    Settled {
+        session: u8,
+        ticket: u64,
+        verdict: Verdict,
+    },
+    /// The session has taken this ticket, or a later one.
+    AlreadyIn {
+        session: u8,
+        ticket: u64,
+    },
+    /// The last ticket of a session.
+    Resumed {
+        session: u8,
+        ticket: u64,
+    },
+    /// A packet goes over these nodes, its first and last among them, in this generation. The length is the way's in its graph.
+    Along {
+        generation: u64,
+        nodes: Vec<u16>,
+        length: u64,
+    },
+    /// In this generation no way leads there.
+    Unreachable {
+        generation: u64,
+    },
+    /// A node isn't one of the device's.
+    NoNode,
+    /// Where a node is to be found.
+    Told(Address),
+    /// The packet that a node sends.
+    Sent(Packet),
+    /// What becomes of a packet.
+    Moved(Move),
+    /// Why no packet is sent, or it is carried no further.
+    NotCarried(Refused),
+    /// The generation of the packet or the address is on no shelf any more.
+    Gone,
+    /// What was to be launched or to hop has no spelling.
+    Unread(WireRefused),
+    /// How many changes count, the newest generation, and how many edits wait.
+    State {
+        count: u64,
+        generation: u64,
+        queue: u64,
+    },
+    /// The newest generation, in which all changes are that were answered before.
+    Waited {
+        generation: u64,
+    },
+    /// The line asks for nothing that is known.
+    NotUnderstood,
+}
+
+/// What became of an edit.
+fn settled_text(
+    alloc: Global,
+    session: u8,
+    ticket: u64,
+    verdict: Verdict,
+) -> Result<String, AllocError>
+    ensures { IfOk result (λ text. string_bytes text ≡ of_edit session ticket (verdict_text verdict)) }
+{
+    match verdict {
+        Verdict::Accepted { count } => {
+            let line = AcceptedLine { count };
+            format!(in alloc; "{session} {ticket} {line}")
+        }
+        Verdict::Refused { op, code } => {
+            let line = RefusedLine { op, code };
+            format!(in alloc; "{session} {ticket} {line}")
+        }
+    }
+}
+
+/// A route.
+fn along_text(
+    alloc: Global,
+    generation: u64,
+    nodes: &[u16],
+    length: u64,
+) -> Result<String, AllocError>
+    ensures { IfOk result (λ text. string_bytes text ≡ route_text generation nodes.now length) }
+{
+    let line = RouteLine {
+        generation,
+        nodes,
+        length,
+    };
+    format!(in alloc; "{line}")
+}
+
+impl Answer {
+    /// The line of the answer. An `Err` means that memory was refused.
+    pub fn text(&self, alloc: Global) -> Result<String, AllocError>
+        ensures { IfOk result (λ text. string_bytes text ≡ answer_text self.now) }
+    {
+        match self {
+            Answer::Settled {
+                session,
+                ticket,
+                verdict,
+            } => settled_text(alloc, *session, *ticket, *verdict),
+            Answer::AlreadyIn { session, ticket } => {
+                format!(in alloc; "{session} {ticket} already in")
+            }
+            Answer::Resumed { session, ticket } => {
+                let line = TicketLine {
+                    session: *session,
+                    ticket: *ticket,
+                };
+                format!(in alloc; "{line}")
+            }
+            Answer::Along {
+                generation,
+                nodes,
+                length,
+            } => along_text(alloc, *generation, nodes, *length),
+            Answer::Unreachable { generation } => {
+                let line = UnreachableLine {
+                    generation: *generation,
+                };
+                format!(in alloc; "{line}")
+            }
+            Answer::NoNode => format!(in alloc; "{AbsentLine}"),
+            Answer::Told(address) => told_text(alloc, address),
+            Answer::Sent(packet) => packet_text(alloc, packet),
+            Answer::Moved(moved) => moved_text(alloc, moved),
+            Answer::NotCarried(refused) => String::from_str(alloc, refused_name(*refused)),
+            Answer::Gone => String::from_str(alloc, "generation gone"),
+            Answer::Unread(refused) => String::from_str(alloc, unread_name(*refused)),
+            Answer::State {
+                count,
+                generation,
+                queue,
+            } => format!(in alloc; "count={count} generation={generation} queue={queue}"),
+            Answer::Waited { generation } => format!(in alloc; "generation={generation}"),
+            Answer::NotUnderstood => String::from_str(alloc, "not understood"),
+        }
+    }
+}

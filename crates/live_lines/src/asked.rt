@@ -1,0 +1,273 @@
+// What a line asks for.
+ghost use Rattle.std.specs.Prelude.{◌≡◌, ◌≢◌, ◌∷◌, ◌<◌, ◌^◌, [], ℕ, List, Option, IfOk, IfSome, IsSomeAnd, None, Some, decimal, map};
+ghost use Rattle.graph_edits.specs.declared.edits.Op.{Op};
+ghost use Rattle.live_lines.specs.declared.asked.Asked.{Asked};
+ghost use Rattle.live_lines.specs.declared.words.Word.{Word};
+ghost use Rattle.live_lines.specs.Lines.{AddressAsks, AsksBehind, AsksJust, HopAsks, IsAskedIn, IsTicket, LaunchAsks, MayEdit, NodeAsks, RouteAsks, WordsAsk, edit_words, ticket_word};
+
+use crate::digits::{hop_of, launch_of};
+use crate::words::{Word, word_in, words_in};
+use graph_edits::Change;
+use node_table::{Address, Packet};
+use packet_bytes::WireRefused;
+use requests::WORN_LIMIT;
+use std::alloc::{AllocError, Global};
+use written_values::{change_in, node, number};
+
+/// What a line asks for.
+#[derive(Debug, PartialEq, Eq, Drop)]
+pub enum Asked {
+    /// A change of a session, under a ticket of its own or under the next one.
+    Edit {
+        /// Below the number of editors.
+        session: u8,
+        /// 1 to the greatest ticket, where one is named.
+        ticket: Option<u64>,
+        change: Change,
+    },
+    /// The last ticket of a session, which is below the number of editors.
+    Resume {
+        session: u8,
+    },
+    /// The way of a packet from a node to a node.
+    Route {
+        from: u16,
+        to: u16,
+    },
+    /// Where a node is to be found.
+    Address {
+        node: u16,
+    },
+    /// The packet that a node sends to an address.
+    Launch {
+        from: u16,
+        to: Address,
+    },
+    /// What a node does with a packet.
+    Hop {
+        at: u16,
+        packet: Packet,
+    },
+    /// How much is done, and how much waits.
+    State,
+    /// That what was answered is in the newest generation.
+    Wait,
+    /// What is to be launched or to hop has no spelling.
+    Unread(WireRefused),
+    /// Nothing that is known.
+    NotUnderstood,
+}
+
+/// A session that has an editor.
+fn session_in(alloc: Global, text: &str, editors: u8) -> Result<Option<u8>, AllocError>
+    ensures found { IfOk result (λ o. IfSome o (λ session. (text.now ≡ decimal session) × (session < editors))) }
+    ensures only { (session : ℕ) → session < editors → text.now ≡ decimal session → IfOk result (λ o. o ≡ Some session) }
+{
+    match number(alloc, text, u8::MAX as u64)? {
+        Some(session) if session < editors as u64 => Ok(Some(session as u8)),
+        _ => Ok(None),
+    }
+}
+
+/// A ticket, or `-` for the next one.
+fn ticket_in(alloc: Global, text: &str) -> Result<Option<Option<u64>>, AllocError>
+    ensures found { IfOk result (λ o. IfSome o (λ ticket. (text.now ≡ ticket_word ticket) × IsTicket ticket)) }
+    ensures only { (ticket : Option ℕ) → IsTicket ticket → text.now ≡ ticket_word ticket → IfOk result (λ o. o ≡ Some ticket) }
+{
+    if text == "-" {
+        return Ok(Some(None));
+    }
+    match number(alloc, text, WORN_LIMIT)? {
+        Some(0) | None => Ok(None),
+        ticket => Ok(Some(ticket)),
+    }
+}
+
+/// A session, a ticket and a change.
+fn edit_in(
+    alloc: Global,
+    words: &[&str],
+    editors: u8,
+) -> Result<Option<(u8, Option<u64>, Change)>, AllocError>
+    ensures found { IfOk result (λ o. IfSome o (λ edit. (map (λ x. x.now) words.now ≡ edit_words edit.0 edit.1 edit.2) × MayEdit editors edit.0 edit.1 edit.2)) }
+    ensures only { (session : ℕ) (ticket : Option ℕ) (ops : List Op) → MayEdit editors session ticket ops → map (λ x. x.now) words.now ≡ edit_words session ticket ops → IfOk result (λ o. o ≡ Some (session, ticket, ops)) }
+{
+    let [session, ticket, ops @ ..] = words else {
+        return Ok(None);
+    };
+    let Some(session) = session_in(alloc, session, editors)? else {
+        return Ok(None);
+    };
+    let Some(ticket) = ticket_in(alloc, ticket)? else {
+        return Ok(None);
+    };
+    match change_in(alloc, ops)? {
+        Some(change) => Ok(Some((session, ticket, change))),
+        None => Ok(None),
+    }
+}
+
+/// What is asked for behind `edit`.
+#[tactic(auto, using(crate::proofs::Asking::edit_asked, crate::proofs::Asking::no_edit))]
+fn edit_of(alloc: Global, words: &[&str], editors: u8) -> Result<Asked, AllocError>
+    ensures { IfOk result (AsksJust (AsksBehind editors Word.Edit (map (λ x. x.now) words.now))) }
+{
+    match edit_in(alloc, words, editors)? {
+        Some((session, ticket, change)) => Ok(Asked::Edit {
+            session,
+            ticket,
+            change,
+        }),
+        None => Ok(Asked::NotUnderstood),
+    }
+}
+
+/// What is asked for behind `resume`.
+#[tactic(auto, using(crate::proofs::Asking::resume_asked, crate::proofs::Asking::no_resume))]
+fn resume_of(alloc: Global, words: &[&str], editors: u8) -> Result<Asked, AllocError>
+    ensures { IfOk result (AsksJust (AsksBehind editors Word.Resume (map (λ x. x.now) words.now))) }
+{
+    let [session] = words else {
+        return Ok(Asked::NotUnderstood);
+    };
+    match session_in(alloc, session, editors)? {
+        Some(session) => Ok(Asked::Resume { session }),
+        None => Ok(Asked::NotUnderstood),
+    }
+}
+
+/// The nodes that two words are.
+fn nodes_in(alloc: Global, words: &[&str]) -> Result<Option<(u16, u16)>, AllocError>
+    ensures found { IfOk result (λ o. IfSome o (λ ends. map (λ x. x.now) words.now ≡ decimal ends.0 ∷ decimal ends.1 ∷ [])) }
+    ensures fits { IfOk result (λ o. IfSome o (λ ends. (ends.0 < 2 ^ 16) × (ends.1 < 2 ^ 16))) }
+    ensures only { (from to : ℕ) → from < 2 ^ 16 → to < 2 ^ 16 → map (λ x. x.now) words.now ≡ decimal from ∷ decimal to ∷ [] → IfOk result (λ o. o ≡ Some (from, to)) }
+{
+    let [from, to] = words else {
+        return Ok(None);
+    };
+    let Some(from) = node(alloc, from)? else {
+        return Ok(None);
+    };
+    match node(alloc, to)? {
+        Some(to) => Ok(Some((from, to))),
+        None => Ok(None),
+    }
+}
+
+/// What is asked for behind `route`.
+#[tactic(auto, using(crate::proofs::Asking::route_asked, crate::proofs::Asking::no_route))]
+fn route_of(alloc: Global, words: &[&str]) -> Result<Asked, AllocError>
+    ensures { IfOk result (AsksJust (RouteAsks (map (λ x. x.now) words.now))) }
+{
+    match nodes_in(alloc, words)? {
+        Some((from, to)) => Ok(Asked::Route { from, to }),
+        None => Ok(Asked::NotUnderstood),
+    }
+}
+
+/// What is asked for behind `address`.
+#[tactic(auto, using(crate::proofs::Asking::address_asked, crate::proofs::Asking::no_address))]
+fn address_of(alloc: Global, words: &[&str]) -> Result<Asked, AllocError>
+    ensures { IfOk result (AsksJust (AddressAsks (map (λ x. x.now) words.now))) }
+{
+    let [text] = words else {
+        return Ok(Asked::NotUnderstood);
+    };
+    match node(alloc, text)? {
+        Some(node) => Ok(Asked::Address { node }),
+        None => Ok(Asked::NotUnderstood),
+    }
+}
+
+/// A node, and the word behind it.
+fn node_and_digits<'a>(
+    alloc: Global,
+    words: &[&'a str],
+) -> Result<Option<(u16, &'a str)>, AllocError>
+    ensures found { IfOk result (λ o. IfSome o (λ p. (map (λ x. x.now) words.now ≡ decimal p.0 ∷ p.1.now ∷ []) × (p.0 < 2 ^ 16))) }
+    ensures only { (node : ℕ) (digits : List ℕ) → node < 2 ^ 16 → map (λ x. x.now) words.now ≡ decimal node ∷ digits ∷ [] → IfOk result (λ o. IsSomeAnd o (λ p. (p.0 ≡ node) × (p.1.now ≡ digits))) }
+{
+    let [first, digits] = words else {
+        return Ok(None);
+    };
+    match node(alloc, first)? {
+        Some(node) => Ok(Some((node, *digits))),
+        None => Ok(None),
+    }
+}
+
+/// What is asked for behind `launch`.
+fn launch_in(alloc: Global, words: &[&str]) -> Result<Asked, AllocError>
+    ensures { IfOk result (AsksJust (NodeAsks LaunchAsks (map (λ x. x.now) words.now))) }
+{
+    match node_and_digits(alloc, words)? {
+        Some((from, digits)) => Ok(launch_of(from, digits.as_bytes())),
+        None => Ok(Asked::NotUnderstood),
+    }
+}
+
+/// What is asked for behind `hop`.
+fn hop_in(alloc: Global, words: &[&str]) -> Result<Asked, AllocError>
+    ensures { IfOk result (AsksJust (NodeAsks HopAsks (map (λ x. x.now) words.now))) }
+{
+    match node_and_digits(alloc, words)? {
+        Some((at, digits)) => Ok(hop_of(at, digits.as_bytes())),
+        None => Ok(Asked::NotUnderstood),
+    }
+}
+
+/// What is asked for by a first word alone.
+fn alone(words: &[&str], asked: Asked) -> Asked
+    ensures empty { map (λ x. x.now) words.now ≡ [] → result ≡ asked }
+    ensures others { map (λ x. x.now) words.now ≢ [] → result ≡ Asked.NotUnderstood }
+{
+    if words.is_empty() {
+        asked
+    } else {
+        Asked::NotUnderstood
+    }
+}
+
+/// What is asked for behind a first word.
+#[tactic(auto, using(crate::proofs::Asking::alone_asked))]
+fn behind(alloc: Global, first: Word, words: &[&str], editors: u8) -> Result<Asked, AllocError>
+    ensures { IfOk result (AsksJust (AsksBehind editors first (map (λ x. x.now) words.now))) }
+{
+    match first {
+        Word::Edit => edit_of(alloc, words, editors),
+        Word::Resume => resume_of(alloc, words, editors),
+        Word::Route => route_of(alloc, words),
+        Word::Address => address_of(alloc, words),
+        Word::Launch => launch_in(alloc, words),
+        Word::Hop => hop_in(alloc, words),
+        Word::State => Ok(alone(words, Asked::State)),
+        Word::Wait => Ok(alone(words, Asked::Wait)),
+    }
+}
+
+/// What words ask for.
+#[tactic(auto, using(crate::proofs::Asking::words_asked, crate::proofs::Asking::no_words, crate::proofs::Asking::nothing_asked))]
+fn asked_by(alloc: Global, words: &[&str], editors: u8) -> Result<Asked, AllocError>
+    ensures { IfOk result (AsksJust (WordsAsk editors (map (λ x. x.now) words.now))) }
+{
+    let Some((text, others)) = words.split_first() else {
+        return Ok(Asked::NotUnderstood);
+    };
+    match word_in(text) {
+        Some(first) => behind(alloc, first, others, editors),
+        None => Ok(Asked::NotUnderstood),
+    }
+}
+
+/// What a line asks for, in a service with editors for the sessions from 0 on, so many. The line is what stands before its line
+/// feed. An `Err` means that memory was refused.
+#[tactic(auto, using(crate::proofs::Ascii::no_text))]
+pub fn asked_in(alloc: Global, line: &[u8], editors: u8) -> Result<Asked, AllocError>
+    ensures { IfOk result (IsAskedIn editors line.now) }
+{
+    let Ok(text) = str::from_utf8(line) else {
+        return Ok(Asked::NotUnderstood);
+    };
+    let words = words_in(alloc, text)?;
+    asked_by(alloc, &words, editors)
+}

@@ -1,0 +1,53 @@
+// The words of a line.
+ghost use Rattle.std.specs.Prelude.{◌≡◌, IfOk, IfSome, Some, map};
+ghost use Rattle.live_lines.specs.declared.words.Word.{Word};
+ghost use Rattle.live_lines.specs.Lines.{word_text};
+ghost use Rattle.written_values.specs.Scripts.{words_of};
+
+use std::alloc::{AllocError, Global};
+
+/// The first word of a line.
+#[derive(Clone, Copy, Drop)]
+pub(crate) enum Word {
+    Edit,
+    Resume,
+    Route,
+    Address,
+    Launch,
+    Hop,
+    State,
+    Wait,
+}
+
+/// The first word that a text is.
+pub(crate) fn word_in(text: &str) -> Option<Word>
+    ensures found { IfSome result (λ word. text.now ≡ word_text word) }
+    ensures only { (word : Word) → text.now ≡ word_text word → result ≡ Some word }
+{
+    if text == "edit" {
+        Some(Word::Edit)
+    } else if text == "resume" {
+        Some(Word::Resume)
+    } else if text == "route" {
+        Some(Word::Route)
+    } else if text == "address" {
+        Some(Word::Address)
+    } else if text == "launch" {
+        Some(Word::Launch)
+    } else if text == "hop" {
+        Some(Word::Hop)
+    } else if text == "state" {
+        Some(Word::State)
+    } else if text == "wait" {
+        Some(Word::Wait)
+    } else {
+        None
+    }
+}
+
+/// A line, cut at each blank.
+pub(crate) fn words_in<'a>(alloc: Global, line: &'a str) -> Result<Vec<&'a str>, AllocError>
+    ensures { IfOk result (λ words. map (λ x. x.now) words.items ≡ words_of line.entry.now) }
+{
+    line.split(' ').collect(alloc)
+}

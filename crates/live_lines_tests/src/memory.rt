@@ -1,0 +1,62 @@
+// Want of memory. Run by `./refuse-memory`, each allocation refused in turn: a line that is refused memory is read when it is read again, and
+// so is an answer's text. What a test allocates is asked for again where it is refused.
+use crate::helpers::{address, expect_asked, expect_text, got, packet};
+use graph_edits::{Change, Op};
+use live_lines::{Answer, Asked};
+use node_table::Move;
+
+#[test]
+fn reads_an_edit_again(rt: HostRuntime) {
+    let change = got(&rt, Change::new(&[Op::Add(0, 1, 7), Op::Cut(3, 4)]));
+    let want = Asked::Edit {
+        session: 1,
+        ticket: Some(20),
+        change,
+    };
+    expect_asked(&rt, rt.alloc(), "edit 1 20 add:0:1:7 cut:3:4", 2, &want);
+}
+
+#[test]
+fn reads_a_hop_again(rt: HostRuntime) {
+    let want = Asked::Hop {
+        at: 3,
+        packet: packet(),
+    };
+    expect_asked(
+        &rt,
+        rt.alloc(),
+        "hop 3 00000000000000070004000200040003010001000000000000000000000000000000000000000000000000",
+        1,
+        &want,
+    );
+}
+
+#[test]
+fn writes_answers_again(rt: HostRuntime) {
+    expect_text(
+        &rt,
+        rt.alloc(),
+        &Answer::Told(address()),
+        "generation=7 address=000000000000000700040100020004010001000000000000000000000000000000000000000000000000",
+    );
+    let on = Answer::Moved(Move::Forward {
+        port: 1,
+        next: 2,
+        packet: packet(),
+    });
+    expect_text(
+        &rt,
+        rt.alloc(),
+        &on,
+        "port=1 next=2 packet=00000000000000070004000200040003010001000000000000000000000000000000000000000000000000",
+    );
+    expect_text(
+        &rt,
+        rt.alloc(),
+        &Answer::AlreadyIn {
+            session: 63,
+            ticket: 9,
+        },
+        "63 9 already in",
+    );
+}

@@ -1,0 +1,205 @@
+// Each answer, and its line.
+use crate::helpers::{address, expect_text, got, packet};
+use generations::Verdict;
+use graph_edits::Code;
+use live_lines::Answer;
+use node_table::{Move, Refused};
+use packet_bytes::WireRefused;
+use std::alloc::Global;
+use std::process::Abort;
+
+/// Sees how a verdict on an edit of session 3 under ticket 20 is printed.
+fn expect_verdict(rt: &impl Abort, alloc: Global, verdict: Verdict, want: &str) {
+    let answer = Answer::Settled {
+        session: 3,
+        ticket: 20,
+        verdict,
+    };
+    expect_text(rt, alloc, &answer, want);
+}
+
+#[test]
+fn verdicts(rt: HostRuntime) {
+    expect_verdict(
+        &rt,
+        rt.alloc(),
+        Verdict::Accepted { count: 41 },
+        "3 20 accepted count=41",
+    );
+    expect_verdict(
+        &rt,
+        rt.alloc(),
+        Verdict::Refused {
+            op: 0,
+            code: Code::NoNode,
+        },
+        "3 20 refused op=0 code=1",
+    );
+    expect_verdict(
+        &rt,
+        rt.alloc(),
+        Verdict::Refused {
+            op: 15,
+            code: Code::TooManyEdges,
+        },
+        "3 20 refused op=15 code=6",
+    );
+}
+
+#[test]
+fn tickets(rt: HostRuntime) {
+    expect_text(
+        &rt,
+        rt.alloc(),
+        &Answer::AlreadyIn {
+            session: 63,
+            ticket: 9,
+        },
+        "63 9 already in",
+    );
+    expect_text(
+        &rt,
+        rt.alloc(),
+        &Answer::Resumed {
+            session: 5,
+            ticket: 0,
+        },
+        "session=5 ticket=0",
+    );
+}
+
+#[test]
+fn ways(rt: HostRuntime) {
+    let nodes = got(&rt, Vec::from_slice(rt.alloc(), &[0, 2, 65_535]));
+    let answer = Answer::Along {
+        generation: 7,
+        nodes,
+        length: 11,
+    };
+    expect_text(
+        &rt,
+        rt.alloc(),
+        &answer,
+        "generation=7 route 0 2 65535 length 11",
+    );
+    expect_text(
+        &rt,
+        rt.alloc(),
+        &Answer::Unreachable { generation: 8 },
+        "generation=8 unreachable",
+    );
+    expect_text(&rt, rt.alloc(), &Answer::NoNode, "no node");
+}
+
+#[test]
+fn addresses_and_packets(rt: HostRuntime) {
+    expect_text(
+        &rt,
+        rt.alloc(),
+        &Answer::Told(address()),
+        "generation=7 address=000000000000000700040100020004010001000000000000000000000000000000000000000000000000",
+    );
+    expect_text(
+        &rt,
+        rt.alloc(),
+        &Answer::Sent(packet()),
+        "packet=00000000000000070004000200040003010001000000000000000000000000000000000000000000000000",
+    );
+}
+
+#[test]
+fn moves(rt: HostRuntime) {
+    let on = Move::Forward {
+        port: 1,
+        next: 65_535,
+        packet: packet(),
+    };
+    expect_text(
+        &rt,
+        rt.alloc(),
+        &Answer::Moved(on),
+        "port=1 next=65535 packet=00000000000000070004000200040003010001000000000000000000000000000000000000000000000000",
+    );
+    expect_text(
+        &rt,
+        rt.alloc(),
+        &Answer::Moved(Move::Delivered),
+        "delivered",
+    );
+}
+
+#[test]
+fn refusals_of_nodes(rt: HostRuntime) {
+    expect_text(
+        &rt,
+        rt.alloc(),
+        &Answer::NotCarried(Refused::NoNode),
+        "no node",
+    );
+    expect_text(
+        &rt,
+        rt.alloc(),
+        &Answer::NotCarried(Refused::Unreachable),
+        "unreachable",
+    );
+    expect_text(
+        &rt,
+        rt.alloc(),
+        &Answer::NotCarried(Refused::Stray),
+        "stray",
+    );
+    expect_text(
+        &rt,
+        rt.alloc(),
+        &Answer::NotCarried(Refused::Spent),
+        "spent",
+    );
+    expect_text(&rt, rt.alloc(), &Answer::Gone, "generation gone");
+}
+
+#[test]
+fn refusals_of_digits(rt: HostRuntime) {
+    expect_text(
+        &rt,
+        rt.alloc(),
+        &Answer::Unread(WireRefused::BadLength),
+        "bad length",
+    );
+    expect_text(
+        &rt,
+        rt.alloc(),
+        &Answer::Unread(WireRefused::BadFlag),
+        "bad flag",
+    );
+    expect_text(
+        &rt,
+        rt.alloc(),
+        &Answer::Unread(WireRefused::BadCount),
+        "bad count",
+    );
+    expect_text(
+        &rt,
+        rt.alloc(),
+        &Answer::Unread(WireRefused::BadPadding),
+        "bad padding",
+    );
+}
+
+#[test]
+fn states(rt: HostRuntime) {
+    let state = Answer::State {
+        count: 12,
+        generation: 7,
+        queue: 3,
+    };
+    expect_text(&rt, rt.alloc(), &state, "count=12 generation=7 queue=3");
+    expect_text(
+        &rt,
+        rt.alloc(),
+        &Answer::Waited {
+            generation: 18_446_744_073_709_551_615,
+        },
+        "generation=18446744073709551615",
+    );
+    expect_text(&rt, rt.alloc(), &Answer::NotUnderstood, "not understood");
+}
