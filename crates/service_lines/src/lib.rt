@@ -28,5 +28,5 @@ mod serve;
 mod served;
 
 pub use lines::lines_of;
-pub use serve::{serve_lines, serve_on, serve_told};
+pub use serve::{fault_of, serve_lines, serve_on, serve_told};
 pub use served::Served;

@@ -20,8 +20,8 @@ use std::sync::Wait;
 use std::thread::Threads;
 use written_values::{LandmarkWords, ScriptLine};
 
-// What is told of a service that gives no answers.
-fn fault_of(fault: service_threads::Fault) -> Fault
+/// What is told of a service that gives no answers.
+pub fn fault_of(fault: service_threads::Fault) -> Fault
     ensures { result ≡ told_fault fault }
 {
     match fault {

@@ -21,18 +21,41 @@ use std::alloc::{AllocError, Global};
 use std::sync::{Arc, Wait};
 use std::thread::Threads;
 
-/// What rebuilds take: the landmark words, and the one heap for the trees of each scheme that is built in the committer's thread.
+/// What rebuilds take: the landmark words, the one heap for the trees of each scheme that is built in the committer's thread, and
+/// their pace.
 #[derive(Drop)]
 pub struct Rebuilds {
     source: WordSource,
     heap: LocalHeap,
+    // After so many rounds a change that was accepted is in a generation.
+    rounds: u32,
+    // How many rounds there were since the first change that is in none, that one's among them.
+    owed: u32,
 }
 
 impl Rebuilds {
-    /// Rebuilds by these words, over a heap of their own.
-    pub(crate) fn new(alloc: Global, source: WordSource) -> Result<Rebuilds, AllocError> {
+    /// Rebuilds by these words, over a heap of their own. A generation is built where something accepted isn't in one and a round
+    /// took nothing, or `rounds` rounds after the first such change at the latest: with 1 after each round that accepted something.
+    pub fn new(alloc: Global, source: WordSource, rounds: u32) -> Result<Rebuilds, AllocError> {
         let heap = LocalHeap::new(alloc, SCRATCH_LEN)?;
-        Ok(Rebuilds { source, heap })
+        Ok(Rebuilds {
+            source,
+            heap,
+            rounds,
+            owed: 0,
+        })
+    }
+
+    // Whether a generation is due behind a round.
+    fn is_due(&mut self, round: &Round) -> bool {
+        if round.accepted > 0 || self.owed > 0 {
+            self.owed = self.owed.saturating_add(1);
+        }
+        if self.owed == 0 || (round.taken > 0 && self.owed < self.rounds) {
+            return false;
+        }
+        self.owed = 0;
+        true
     }
 
     // Builds a generation of the store's graph, and posts it. The store stays as it is.
@@ -48,7 +71,7 @@ impl Rebuilds {
         ensures stays { StaysPut committer.old committer.new }
         ensures not_device { IfErr result (λ stop. stop.cause ≢ StopCause.Device) }
     {
-        let Rebuilds { source, heap } = self;
+        let Rebuilds { source, heap, .. } = self;
         match source {
             WordSource::Same(words) => {
                 rebuild_by::<D, R, S>(rt, alloc, committer, words, heap)?;
@@ -121,8 +144,9 @@ fn told<J: Naming, D: Disk, R: Wait + Drop>(committer: &Committer<D, R>) -> Told
     ToldOf::new(committer.told())
 }
 
-// One round, its marks told, and the generation that it makes due. Its graph is shown before it is posted, so that whoever sees it
-// on the board finds its graph too. Whatever ends it, the device holds the state before the turn or the one after its whole group.
+// One round, its marks told, and the generation that is due behind it, told too. Its graph is shown before it is posted, so that
+// whoever sees it on the board finds its graph too. Whatever ends it, the device holds the state before the turn or the one after its
+// whole group.
 fn turn<J: Naming, D: Disk, R: Wait + Drop, S: Threads + Wait + Sync>(
     rt: &S,
     alloc: Global,
@@ -139,18 +163,21 @@ fn turn<J: Naming, D: Disk, R: Wait + Drop, S: Threads + Wait + Sync>(
 {
     let round = committer.round(alloc, rt)?;
     if round.taken > 0 {
+        coordinator.count(rt, round.taken, committer.store().count());
         coordinator.tell(rt, told::<J, D, R>(committer));
     }
-    if round.accepted > 0 {
+    if rebuilds.is_due(&round) {
         coordinator.show(rt, next_graph(alloc, committer)?);
         rebuilds.rebuild::<J, D, R, S>(rt, alloc, committer)?;
+        coordinator.see(rt, committer.store().count());
+        coordinator.tell(rt, told::<J, D, R>(committer));
     }
     Ok(round)
 }
 
 /// Commits what editors submit, until all of them have left, or all stop. An `Err` is why the committer itself stopped.
 #[tactic(auto, using(crate::proofs::Settling::on_course_first, crate::proofs::Settling::on_course_still, crate::proofs::Settling::turned_settles))]
-pub(crate) fn commit_all<J: Naming, D: Disk, R: Wait + Drop, S: Threads + Wait + Sync>(
+pub fn commit_all<J: Naming, D: Disk, R: Wait + Drop, S: Threads + Wait + Sync>(
     rt: &S,
     alloc: Global,
     coordinator: &Coordinator<J>,
@@ -182,7 +209,7 @@ pub(crate) fn commit_all<J: Naming, D: Disk, R: Wait + Drop, S: Threads + Wait +
 }
 
 /// Builds the first generation, and gives the coordinator that begins with it.
-pub(crate) fn first_generation<J: Naming, D: Disk, R: Wait + Drop, S: Threads + Wait + Sync>(
+pub fn first_generation<J: Naming, D: Disk, R: Wait + Drop, S: Threads + Wait + Sync>(
     rt: &S,
     alloc: Global,
     committer: &mut Committer<D, R>,
@@ -198,5 +225,8 @@ pub(crate) fn first_generation<J: Naming, D: Disk, R: Wait + Drop, S: Threads + 
     let mut graphs = Graphs::new();
     graphs.push(next_graph(alloc, committer)?);
     rebuilds.rebuild::<J, D, R, S>(rt, alloc, committer)?;
-    Ok(Coordinator::new(told::<J, D, R>(committer), graphs, editing))
+    let coordinator = Coordinator::new(told::<J, D, R>(committer), graphs, editing);
+    coordinator.count(rt, 0, committer.store().count());
+    coordinator.see(rt, committer.store().count());
+    Ok(coordinator)
 }

@@ -37,6 +37,8 @@ mod fault;
 mod running;
 mod serve;
 
+pub use committer_stop::CommitterStop;
+pub use committing::{Rebuilds, commit_all, first_generation};
 pub use fault::Fault;
-pub use serve::{STACK_LEN, ServiceConfig, serve_on};
+pub use serve::{STACK_LEN, ServiceConfig, open_device, serve_on};
 pub use service_workers::{Answer, Hooks, NoHooks};

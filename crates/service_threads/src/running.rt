@@ -239,7 +239,7 @@ pub(crate) fn run<
     ensures device { IsErrOf result.0 StopCause.Device → HasFailed (view_of (store_of committer)) (view_of result.1) }
 {
     let mut committer = committer;
-    let Ok(mut rebuilds) = Rebuilds::new(alloc, source) else {
+    let Ok(mut rebuilds) = Rebuilds::new(alloc, source, 1) else {
         return (Err(StopCause::Memory), committer.into_store());
     };
     let editing = workers.editors.len();

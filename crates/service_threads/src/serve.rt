@@ -239,8 +239,8 @@ fn serve_there<'a, D: Disk + Drop + Send, G: Hooks + Sync, R: Threads + Wait + S
     )
 }
 
-// Opens a device, and reads which landmark words its nodes get. One that is refused was only read, and is handed back.
-fn open_device<D: Disk>(
+/// Opens a device, and reads which landmark words its nodes get. One that is refused was only read, and is handed back.
+pub fn open_device<D: Disk>(
     alloc: Global,
     disk: D,
     words: &LandmarkWords,

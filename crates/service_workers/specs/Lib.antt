@@ -1,5 +1,6 @@
 pub mod Answers
 pub mod Settled
 pub mod Edited
+pub mod EditedAsAsked
 pub mod Forwarded
 pub mod Source

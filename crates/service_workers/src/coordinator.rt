@@ -19,6 +19,23 @@ struct SharedState<J: Naming> {
     editing: usize,
     // Why all stop: the first fault.
     cause: Option<StopCause>,
+    standing: Standing,
+    // How many changes were submitted and taken.
+    submitted: u64,
+    taken: u64,
+}
+
+/// How a service stands, as far as its threads have told.
+#[derive(Clone, Copy, Debug, PartialEq, Eq, Drop)]
+pub struct Standing {
+    /// How many changes are accepted.
+    pub count: u64,
+    /// The number of the newest generation.
+    pub generation: u64,
+    /// How many changes wait at the queue.
+    pub queue: u64,
+    pub turn: u64,
+    pub stopped: bool,
 }
 
 /// What the committer told last.
@@ -77,6 +94,38 @@ impl<J: Naming> SharedState<J> {
         self.asked = self.asked.wrapping_add(1);
     }
 
+    fn submit(&mut self) {
+        self.submitted = self.submitted.wrapping_add(1);
+        self.ask();
+    }
+
+    fn count(&mut self, count: u64) {
+        if self.standing.count < count {
+            self.standing.count = count;
+        }
+    }
+
+    fn see(&mut self, generation: u64) {
+        if self.standing.generation < generation {
+            self.standing.generation = generation;
+        }
+    }
+
+    fn take(&mut self, taken: usize, count: u64) {
+        self.taken = self.taken.wrapping_add(taken as u64);
+        self.count(count);
+    }
+
+    fn standing(&self) -> Standing {
+        Standing {
+            count: self.standing.count,
+            generation: self.standing.generation,
+            queue: self.submitted.saturating_sub(self.taken),
+            turn: self.turn,
+            stopped: self.cause.is_some(),
+        }
+    }
+
     fn leave(&mut self) {
         self.editing = self.editing.saturating_sub(1);
         self.ask();
@@ -94,6 +143,15 @@ impl<J: Naming> Coordinator<J> {
                 asked: 0,
                 editing,
                 cause: None,
+                standing: Standing {
+                    count: 0,
+                    generation: 0,
+                    queue: 0,
+                    turn: 0,
+                    stopped: false,
+                },
+                submitted: 0,
+                taken: 0,
             }),
             news: Condvar::new(),
             work: Condvar::new(),
@@ -104,6 +162,26 @@ impl<J: Naming> Coordinator<J> {
     pub fn tell<R: Wait>(&self, rt: &R, told: ToldOf<J>) {
         self.shared.lock(rt).tell(told);
         self.news.notify_all();
+    }
+
+    /// So many changes were taken from the queue, and so many are accepted now.
+    pub fn count<R: Wait>(&self, rt: &R, taken: usize, count: u64) {
+        self.shared.lock(rt).take(taken, count);
+    }
+
+    /// A change was accepted as the one of this number.
+    pub fn reach<R: Wait>(&self, rt: &R, count: u64) {
+        self.shared.lock(rt).count(count);
+    }
+
+    /// The generation of this number was seen.
+    pub fn see<R: Wait>(&self, rt: &R, generation: u64) {
+        self.shared.lock(rt).see(generation);
+    }
+
+    /// How the service stands.
+    pub fn standing<R: Wait>(&self, rt: &R) -> Standing {
+        self.shared.lock(rt).standing()
     }
 
     /// Shows the graph of a generation that is about to be posted.
@@ -129,7 +207,7 @@ impl<J: Naming> Coordinator<J> {
 
     /// An editor has submitted a change.
     pub fn ask<R: Wait>(&self, rt: &R) {
-        self.shared.lock(rt).ask();
+        self.shared.lock(rt).submit();
         self.work.notify_all();
     }
 

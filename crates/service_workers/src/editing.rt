@@ -19,8 +19,8 @@ use std::thread;
 /// An editor of the board that `J` names.
 #[derive(Drop)]
 pub struct EditorOf<J: Naming> {
-    editor: Editor,
-    of: PhantomData<J>,
+    pub(crate) editor: Editor,
+    pub(crate) of: PhantomData<J>,
     ghost named: { editor.known.opening ≡ J.opening },
 }
 
@@ -85,7 +85,7 @@ fn put<J: Naming, R: Wait>(
 }
 
 // Waits until the last ticket is settled. Without an answer all stop.
-fn settled<J: Naming, R: Wait>(
+pub(crate) fn settled<J: Naming, R: Wait>(
     rt: &R,
     coordinator: &Coordinator<J>,
     editor: &mut Editor,

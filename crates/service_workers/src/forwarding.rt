@@ -45,8 +45,8 @@ pub enum Carried {
 /// A forwarder at the board that `J` names.
 #[derive(Drop)]
 pub struct ForwarderOf<J: Naming> {
-    forwarder: Forwarder,
-    of: PhantomData<J>,
+    pub(crate) forwarder: Forwarder,
+    pub(crate) of: PhantomData<J>,
     ghost named: { forwarder.opening ≡ J.opening },
 }
 
@@ -174,7 +174,7 @@ fn refused_at(generation: u64, refused: Refused) -> Launched
 }
 
 // One trip, until it has an answer. Without one all stop.
-fn forward<J: Naming, G: Hooks, R: Wait>(
+pub(crate) fn forward<J: Naming, G: Hooks, R: Wait>(
     rt: &R,
     alloc: Global,
     coordinator: &Coordinator<J>,

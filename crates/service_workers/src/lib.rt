@@ -19,22 +19,25 @@
 #![tactic(auto)]
 
 mod answer;
+mod asked_forwarding;
 mod coordinator;
 mod editing;
 mod forwarding;
 mod graphs;
 mod hooks;
+mod session_editor;
 mod shares;
 mod stop_cause;
 mod told;
 mod word_source;
 
 pub use answer::Answer;
-pub use coordinator::{Coordinator, News, Work};
+pub use coordinator::{Coordinator, News, Standing, Work};
 pub use editing::{Edited, EditorOf, edit_all};
 pub use forwarding::{Carried, Forwarded, ForwarderOf, Trip, forward_all};
 pub use graphs::{GenerationGraph, Graphs, shared_graph};
 pub use hooks::{Hooks, NoHooks};
+pub use session_editor::{EditEnd, SessionEditor};
 pub use shares::{Shares, Turn, WorkerResults, in_order, shared};
 pub use stop_cause::StopCause;
 pub use told::{Naming, ToldOf};

@@ -1,0 +1,200 @@
+// An editor that takes its changes one at a time, as they are asked for.
+ghost use Rattle.std.specs.Prelude.{◌≡◌, [], IfSome};
+ghost use Rattle.intake.specs.Turns.{last_or_start};
+ghost use Rattle.service_workers.specs.Edited.{IsSameEditor};
+ghost use Rattle.service_workers.specs.EditedAsAsked.{HasPut, IsEditEnd, asked_ticket};
+
+use crate::coordinator::Coordinator;
+use crate::editing::settled;
+use crate::told::Naming;
+use generations::{Mark, Verdict};
+use graph_edits::Change;
+use intake::{Editor, SubmitRefused};
+use std::marker::PhantomData;
+use std::sync::Wait;
+use std::thread;
+
+// What came of a change that was to be put into the queue.
+#[derive(Clone, Copy, Drop)]
+enum Put {
+    In,
+    Old,
+    PastLimit,
+}
+
+/// What came of a change that was asked for under a ticket.
+#[derive(Clone, Copy, Debug, PartialEq, Eq, Drop)]
+pub enum EditEnd {
+    /// It is settled.
+    Settled(Mark),
+    /// Nothing was submitted: the ticket is at most the last one that is in, or that was submitted.
+    AlreadyIn,
+    /// Nothing was submitted: the ticket is past its limit.
+    PastLimit,
+}
+
+/// An editor of the board that `J` names, which takes its changes one at a time.
+#[derive(Drop)]
+pub struct SessionEditor<J: Naming> {
+    editor: Editor,
+    // The last ticket that was submitted, or the start.
+    last: u64,
+    // The last ticket that was accepted, or the start.
+    accepted: u64,
+    of: PhantomData<J>,
+    ghost named: { editor.known.opening ≡ J.opening },
+    ghost last_is: { last ≡ last_or_start editor.start editor.put },
+}
+
+// Puts a change into the queue, under this ticket, unless that is refused. Without an answer all stop.
+fn put_as_asked<J: Naming, R: Wait>(
+    rt: &R,
+    coordinator: &Coordinator<J>,
+    editor: &mut Editor,
+    ticket: u64,
+    change: Change,
+) -> Option<Put>
+    requires { editor.old.known.opening ≡ J.opening }
+    ensures same { IsSameEditor editor.old editor.new }
+    ensures known { editor.new.known.opening ≡ J.opening }
+    ensures put { IfSome result (λ put. HasPut editor.old ticket change editor.new put) }
+{
+    let mut change = change;
+    for _ in rt.forever() {
+        let news = coordinator.news(rt);
+        if news.stopped {
+            return None;
+        }
+        editor.learn(news.told.told());
+        match editor.submit(rt, ticket, change) {
+            Ok(()) => {
+                coordinator.ask(rt);
+                return Some(Put::In);
+            }
+            Err((SubmitRefused::BoardShut, back)) => {
+                change = back;
+                thread::yield_now();
+            }
+            Err((SubmitRefused::QueueFull, back)) | Err((SubmitRefused::Busy, back)) => {
+                change = back;
+                coordinator.await_news(rt, news.turn);
+            }
+            Err((SubmitRefused::AlreadyIn, _)) => return Some(Put::Old),
+            Err((SubmitRefused::OldTicket, _)) => return Some(Put::Old),
+            Err((SubmitRefused::Worn, _)) => return Some(Put::PastLimit),
+        }
+    }
+    unreachable!()
+}
+
+// One change under a ticket that is asked for. Without an answer all stop.
+fn edit_as_asked<J: Naming, R: Wait>(
+    rt: &R,
+    coordinator: &Coordinator<J>,
+    editor: &mut Editor,
+    ticket: u64,
+    change: Change,
+) -> Option<EditEnd>
+    requires { editor.old.known.opening ≡ J.opening }
+    ensures same { IsSameEditor editor.old editor.new }
+    ensures known { editor.new.known.opening ≡ J.opening }
+    ensures ended { IfSome result (λ end. IsEditEnd editor.old ticket change editor.new end) }
+{
+    match put_as_asked(rt, coordinator, editor, ticket, change)? {
+        Put::In => Some(EditEnd::Settled(settled(rt, coordinator, editor)?)),
+        Put::Old => Some(EditEnd::AlreadyIn),
+        Put::PastLimit => Some(EditEnd::PastLimit),
+    }
+}
+
+impl<J: Naming> SessionEditor<J> {
+    /// An editor that has submitted nothing.
+    pub fn new(editor: Editor) -> SessionEditor<J>
+        requires named { editor.known.opening ≡ J.opening }
+        requires fresh { editor.put ≡ [] }
+        ensures { result.editor ≡ editor }
+    {
+        let start = editor.resume();
+        SessionEditor {
+            editor,
+            last: start,
+            accepted: start,
+            of: PhantomData,
+        }
+    }
+
+    /// The last ticket of the session that was accepted, or where its tickets start.
+    pub fn accepted(&self) -> u64 {
+        self.accepted
+    }
+
+    /// Its session.
+    pub fn session(&self) -> u8
+        ensures { result ≡ self.now.editor.session }
+    {
+        self.editor.session()
+    }
+
+    #[tactic(auto, using(crate::proofs::AsAsked::last_settled))]
+    /// Submits a change under a ticket, or where none is named under the one behind the last, and waits for its mark. Gives the
+    /// editor back, with the ticket and what came of the change. None where all stop.
+    pub fn edit<R: Wait>(
+        self,
+        rt: &R,
+        coordinator: &Coordinator<J>,
+        ticket: Option<u64>,
+        change: Change,
+    ) -> Option<(SessionEditor<J>, u64, EditEnd)>
+        ensures same { IfSome result (λ r. IsSameEditor self.editor r.0.editor) }
+        ensures ticket { IfSome result (λ r. r.1 ≡ asked_ticket self.editor ticket) }
+        ensures ended { IfSome result (λ r. IsEditEnd self.editor r.1 change r.0.editor r.2) }
+    {
+        let SessionEditor {
+            mut editor,
+            last,
+            accepted,
+            of,
+        } = self;
+        let ticket = match ticket {
+            Some(ticket) => ticket,
+            None => last.saturating_add(1),
+        };
+        match edit_as_asked(rt, coordinator, &mut editor, ticket, change)? {
+            EditEnd::Settled(mark) => {
+                let editor = SessionEditor {
+                    editor,
+                    last: ticket,
+                    accepted: accepted_by(&mark, accepted),
+                    of,
+                };
+                Some((editor, ticket, EditEnd::Settled(mark)))
+            }
+            EditEnd::AlreadyIn => {
+                let editor = SessionEditor {
+                    editor,
+                    last,
+                    accepted,
+                    of,
+                };
+                Some((editor, ticket, EditEnd::AlreadyIn))
+            }
+            EditEnd::PastLimit => {
+                let editor = SessionEditor {
+                    editor,
+                    last,
+                    accepted,
+                    of,
+                };
+                Some((editor, ticket, EditEnd::PastLimit))
+            }
+        }
+    }
+}
+
+// The last ticket that was accepted, behind a mark.
+fn accepted_by(mark: &Mark, accepted: u64) -> u64 {
+    match mark.verdict {
+        Verdict::Accepted { count: _ } => mark.ticket,
+        Verdict::Refused { op: _, code: _ } => accepted,
+    }
+}
