@@ -1,0 +1,88 @@
+// The buffer that brings items into order.
+use mailboxes::{Placed, ReorderBuffer};
+use std::alloc::{AllocError, Global};
+
+/// A card with its place.
+#[derive(Clone, Copy, Drop)]
+struct Card {
+    place: u64,
+    face: u8,
+}
+
+impl Placed for Card {
+    ghost place_of = { λ card. card.place };
+
+    fn place(&self) -> u64 {
+        self.place
+    }
+}
+
+/// A buffer with a window of so many places.
+fn buffer(alloc: Global, window: usize) -> Result<ReorderBuffer<Card>, AllocError> {
+    ReorderBuffer::new(alloc, window)
+}
+
+/// The face of a card, where there is one.
+fn face(card: Option<Card>) -> Option<u8> {
+    match card {
+        Some(card) => Some(card.face),
+        None => None,
+    }
+}
+
+#[test]
+fn gives_in_the_order_of_places(rt: HostRuntime) {
+    let Ok(cards) = buffer(rt.alloc(), 4) else {
+        assert!(rt; false, "no memory");
+        return;
+    };
+    assert!(rt; cards.put(&rt, Card { place: 2, face: 12 }));
+    assert!(rt; cards.put(&rt, Card { place: 0, face: 10 }));
+    assert!(rt; face(cards.take(&rt, 0)) == Some(10));
+    assert!(rt; face(cards.try_take(&rt, 1)).is_none());
+    assert!(rt; cards.put(&rt, Card { place: 1, face: 11 }));
+    assert!(rt; face(cards.try_take(&rt, 1)) == Some(11));
+    assert!(rt; face(cards.take(&rt, 2)) == Some(12));
+    assert!(rt; face(cards.take(&rt, 2)).is_none(), "it was taken");
+}
+
+#[test]
+fn takes_no_place_out_of_its_window(rt: HostRuntime) {
+    let Ok(cards) = buffer(rt.alloc(), 2) else {
+        assert!(rt; false, "no memory");
+        return;
+    };
+    assert!(rt;
+        !cards.put(&rt, Card { place: 2, face: 12 }),
+        "behind the window"
+    );
+    assert!(rt; cards.put(&rt, Card { place: 0, face: 10 }));
+    assert!(rt;
+        !cards.put(&rt, Card { place: 0, face: 99 }),
+        "its slot is full"
+    );
+    assert!(rt; face(cards.take(&rt, 0)) == Some(10));
+    assert!(rt;
+        !cards.put(&rt, Card { place: 0, face: 98 }),
+        "before the window"
+    );
+    assert!(rt; cards.put(&rt, Card { place: 2, face: 12 }));
+    assert!(rt; cards.await_room(&rt, 2));
+    assert!(rt; cards.await_turn(&rt, 1));
+}
+
+#[test]
+fn gives_what_is_there_once_it_is_ended(rt: HostRuntime) {
+    let Ok(cards) = buffer(rt.alloc(), 2) else {
+        assert!(rt; false, "no memory");
+        return;
+    };
+    assert!(rt; cards.put(&rt, Card { place: 0, face: 10 }));
+    cards.end(&rt);
+    assert!(rt; !cards.put(&rt, Card { place: 1, face: 11 }));
+    assert!(rt; !cards.await_room(&rt, 0));
+    assert!(rt; cards.await_turn(&rt, 0));
+    assert!(rt; !cards.await_turn(&rt, 1));
+    assert!(rt; face(cards.take(&rt, 0)) == Some(10));
+    assert!(rt; face(cards.take(&rt, 1)).is_none());
+}
