@@ -21,7 +21,7 @@ use Rattle.clap.proofs.WalkLemmas.{first_value-rows, raw_values-rows}
 use Rattle.graph_edits.specs.declared.edits.Op.{Op}
 use Rattle.written_values.specs.OpText.{Fits, op_text}
 use Rattle.command_line.specs.Grammar.{program}
-use Rattle.command_line.specs.Asked.{Gives, IsCause, IsCommand, IsRefusedFor, IsSeats, IsSessionText, IsShapedAs}
+use Rattle.command_line.specs.Asked.{Gives, IsCause, IsCommand, IsLive, IsLiveAsked, IsRefusedFor, IsSeats, IsSessionText, IsShapedAs}
 use Rattle.command_line.specs.declared.refused.WordsRefused.{WordsRefused}
 use Rattle.command_line.specs.declared.refused.WordsRefused.TheVariants as why
 
@@ -74,6 +74,12 @@ given_all f id all is = raw_values-rows f id ∙ is
 -- so with a number that may be left out
 pub seats_of : (f : Found) (id : Text) (usual n : ℕ) → IsSeats (first_value f id) usual n → IsSeats (first_of id (rows_of f)) usual n
 seats_of f id usual n is = subst (λ (o : Option Text). IsSeats o usual n) (first_value-rows f id) is
+
+pub live_of : (f : Found) (live : Option ℕ) → IsLive (first_value f (codes "live")) (first_value f (codes "rounds")) live → IsLiveAsked (rows_of f) live
+live_of f live is = subst (λ (o : Option Text). IsLive o (first_of (codes "rounds") (rows_of f)) live) (first_value-rows f (codes "live")) (subst (λ (o : Option Text). IsLive (first_value f (codes "live")) o live) (first_value-rows f (codes "rounds")) is)
+
+pub live_given : (f : Found) (live : Option ℕ) → IsLiveAsked (rows_of f) live → IsLive (first_value f (codes "live")) (first_value f (codes "rounds")) live
+live_given f live is = subst (λ (o : Option Text). IsLive o (first_value f (codes "rounds")) live) (sym (first_value-rows f (codes "live"))) (subst (λ (o : Option Text). IsLive (first_of (codes "live") (rows_of f)) o live) (sym (first_value-rows f (codes "rounds"))) is)
 
 pub seats_given : (f : Found) (id : Text) (usual n : ℕ) → IsSeats (first_of id (rows_of f)) usual n → IsSeats (first_value f id) usual n
 seats_given f id usual n is = subst (λ (o : Option Text). IsSeats o usual n) (sym (first_value-rows f id)) is

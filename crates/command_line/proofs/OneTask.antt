@@ -15,7 +15,7 @@ use Rattle.command_line.specs.declared.refused.WordsRefused.{WordsRefused}
 use Rattle.command_line.specs.declared.refused.WordsRefused.TheVariants as why
 use Rattle.command_line.specs.declared.task.Task.{Task}
 use Rattle.command_line.specs.declared.task.Task.TheVariants.{Format, Show, Edit, Resume, Route, Check, Migrate, Serve, Tables}
-use Rattle.command_line.specs.Asked.{AreNodesAsked, AreOpsGiven, ArePairsAsked, Gives, IsCause, IsGiven, IsInRange, IsLacking, IsNodeInRange, IsOpsCause, IsPairInRange, IsSameTask, IsSeats, IsSessionAsked, IsSessionText, IsShapedAs, IsTask, IsTicket, IsTicketAsked, IsWordsCause, LacksOps, LacksWords, usual_places, usual_seats}
+use Rattle.command_line.specs.Asked.{AreNodesAsked, AreOpsGiven, ArePairsAsked, Gives, IsCause, IsGiven, IsInRange, IsLacking, IsLiveAsked, IsNodeInRange, IsOpsCause, IsPairInRange, IsSameTask, IsSeats, IsSessionAsked, IsSessionText, IsShapedAs, IsTask, IsTicket, IsTicketAsked, IsWordsCause, LacksOps, LacksWords, usual_places, usual_seats}
 use Rattle.command_line.proofs.Pairing.{one_nodes, one_pairs}
 
 -- one name has one letter at a place
@@ -41,7 +41,7 @@ IsNamed name (Resume device session) = name ≡ codes "resume"
 IsNamed name (Route device pairs words) = name ≡ codes "route"
 IsNamed name (Check device words) = name ≡ codes "check"
 IsNamed name (Migrate old new) = name ≡ codes "migrate"
-IsNamed name (Serve device editors forwarders places words) = name ≡ codes "serve"
+IsNamed name (Serve device editors forwarders places live words) = name ≡ codes "serve"
 IsNamed name (Tables device folder nodes words) = name ≡ codes "tables"
 
 task_named : (name : Text) (rows : List Row) (task : Task) → IsTask name rows task → IsNamed name task
@@ -52,7 +52,7 @@ task_named name rows (Resume device session) is = is.0
 task_named name rows (Route device pairs words) is = is.0
 task_named name rows (Check device words) is = is.0
 task_named name rows (Migrate old new) is = is.0
-task_named name rows (Serve device editors forwarders places words) is = is.0
+task_named name rows (Serve device editors forwarders places live words) is = is.0
 task_named name rows (Tables device folder nodes words) is = is.0
 
 shape_named : (name : Text) (rows : List Row) (task : Task) → IsShapedAs name rows task → IsNamed name task
@@ -63,7 +63,7 @@ shape_named name rows (Resume device session) is = is.0
 shape_named name rows (Route device pairs words) is = is.0
 shape_named name rows (Check device words) is = is.0
 shape_named name rows (Migrate old new) is = is.0
-shape_named name rows (Serve device editors forwarders places words) is = is.0
+shape_named name rows (Serve device editors forwarders places live words) is = is.0
 shape_named name rows (Tables device folder nodes words) is = is.0
 
 -- each shape names a device
@@ -75,7 +75,7 @@ has_device name rows (Resume device session) is = (device.now, is.1)
 has_device name rows (Route device pairs words) is = (device.now, is.1)
 has_device name rows (Check device words) is = (device.now, is.1)
 has_device name rows (Migrate old new) is = (old.now, is.1)
-has_device name rows (Serve device editors forwarders places words) is = (device.now, is.1)
+has_device name rows (Serve device editors forwarders places live words) is = (device.now, is.1)
 has_device name rows (Tables device folder nodes words) is = (device.now, is.1)
 
 -- a change of one op or more gives texts
@@ -92,7 +92,7 @@ shaped name rows (Resume device session) is fits = is
 shaped name rows (Route device pairs words) is fits = (is.0, is.1, is.2, (words_text words, is.3.0), fits)
 shaped name rows (Check device words) is fits = (is.0, is.1, (words_text words, is.2.0))
 shaped name rows (Migrate old new) is fits = is
-shaped name rows (Serve device editors forwarders places words) is fits = (is.0, is.1, is.2, is.3, is.4, (words_text words, is.5.0))
+shaped name rows (Serve device editors forwarders places live words) is fits = (is.0, is.1, is.2, is.3, is.4, is.5, (words_text words, is.6.0))
 shaped name rows (Tables device folder nodes words) is fits = (is.0, is.1, is.2, is.3, (words_text words, is.4.0), fits)
 
 -- ---- what holds of each task of a command holds of the one that was asked for
@@ -105,7 +105,7 @@ only_format P name (Resume device session) named is each = absurd (apart 2 name 
 only_format P name (Route device pairs words) named is each = absurd (apart 2 name _ _ named is refl)
 only_format P name (Check device words) named is each = absurd (apart 2 name _ _ named is refl)
 only_format P name (Migrate old new) named is each = absurd (apart 2 name _ _ named is refl)
-only_format P name (Serve device editors forwarders places words) named is each = absurd (apart 0 name _ _ named is refl)
+only_format P name (Serve device editors forwarders places live words) named is each = absurd (apart 0 name _ _ named is refl)
 only_format P name (Tables device folder nodes words) named is each = absurd (apart 2 name _ _ named is refl)
 
 only_show : (P : Task → Type 0) (name : Text) (task : Task) → name ≡ codes "show" → IsNamed name task → ((device : Bor Text) → P (Show device)) → P task
@@ -116,7 +116,7 @@ only_show P name (Resume device session) named is each = absurd (apart 2 name _ 
 only_show P name (Route device pairs words) named is each = absurd (apart 2 name _ _ named is refl)
 only_show P name (Check device words) named is each = absurd (apart 2 name _ _ named is refl)
 only_show P name (Migrate old new) named is each = absurd (apart 2 name _ _ named is refl)
-only_show P name (Serve device editors forwarders places words) named is each = absurd (apart 2 name _ _ named is refl)
+only_show P name (Serve device editors forwarders places live words) named is each = absurd (apart 2 name _ _ named is refl)
 only_show P name (Tables device folder nodes words) named is each = absurd (apart 2 name _ _ named is refl)
 
 only_edit : (P : Task → Type 0) (name : Text) (task : Task) → name ≡ codes "edit" → IsNamed name task → ((device : Bor Text) (session : ℕ) (ticket : Option ℕ) (change : List Op) → P (Edit device session ticket change)) → P task
@@ -127,7 +127,7 @@ only_edit P name (Resume device session) named is each = absurd (apart 2 name _ 
 only_edit P name (Route device pairs words) named is each = absurd (apart 2 name _ _ named is refl)
 only_edit P name (Check device words) named is each = absurd (apart 2 name _ _ named is refl)
 only_edit P name (Migrate old new) named is each = absurd (apart 2 name _ _ named is refl)
-only_edit P name (Serve device editors forwarders places words) named is each = absurd (apart 2 name _ _ named is refl)
+only_edit P name (Serve device editors forwarders places live words) named is each = absurd (apart 2 name _ _ named is refl)
 only_edit P name (Tables device folder nodes words) named is each = absurd (apart 2 name _ _ named is refl)
 
 only_resume : (P : Task → Type 0) (name : Text) (task : Task) → name ≡ codes "resume" → IsNamed name task → ((device : Bor Text) (session : ℕ) → P (Resume device session)) → P task
@@ -138,7 +138,7 @@ only_resume P name (Resume device session) named is each = each device session
 only_resume P name (Route device pairs words) named is each = absurd (apart 2 name _ _ named is refl)
 only_resume P name (Check device words) named is each = absurd (apart 2 name _ _ named is refl)
 only_resume P name (Migrate old new) named is each = absurd (apart 2 name _ _ named is refl)
-only_resume P name (Serve device editors forwarders places words) named is each = absurd (apart 2 name _ _ named is refl)
+only_resume P name (Serve device editors forwarders places live words) named is each = absurd (apart 2 name _ _ named is refl)
 only_resume P name (Tables device folder nodes words) named is each = absurd (apart 2 name _ _ named is refl)
 
 only_route : (P : Task → Type 0) (name : Text) (task : Task) → name ≡ codes "route" → IsNamed name task → ((device : Bor Text) (pairs : Vec (ℕ × ℕ)) (words : LandmarkWords) → P (Route device pairs words)) → P task
@@ -149,7 +149,7 @@ only_route P name (Resume device session) named is each = absurd (apart 2 name _
 only_route P name (Route device pairs words) named is each = each device pairs words
 only_route P name (Check device words) named is each = absurd (apart 2 name _ _ named is refl)
 only_route P name (Migrate old new) named is each = absurd (apart 2 name _ _ named is refl)
-only_route P name (Serve device editors forwarders places words) named is each = absurd (apart 2 name _ _ named is refl)
+only_route P name (Serve device editors forwarders places live words) named is each = absurd (apart 2 name _ _ named is refl)
 only_route P name (Tables device folder nodes words) named is each = absurd (apart 2 name _ _ named is refl)
 
 only_check : (P : Task → Type 0) (name : Text) (task : Task) → name ≡ codes "check" → IsNamed name task → ((device : Bor Text) (words : LandmarkWords) → P (Check device words)) → P task
@@ -160,7 +160,7 @@ only_check P name (Resume device session) named is each = absurd (apart 2 name _
 only_check P name (Route device pairs words) named is each = absurd (apart 2 name _ _ named is refl)
 only_check P name (Check device words) named is each = each device words
 only_check P name (Migrate old new) named is each = absurd (apart 2 name _ _ named is refl)
-only_check P name (Serve device editors forwarders places words) named is each = absurd (apart 2 name _ _ named is refl)
+only_check P name (Serve device editors forwarders places live words) named is each = absurd (apart 2 name _ _ named is refl)
 only_check P name (Tables device folder nodes words) named is each = absurd (apart 2 name _ _ named is refl)
 
 only_migrate : (P : Task → Type 0) (name : Text) (task : Task) → name ≡ codes "migrate" → IsNamed name task → ((old new : Bor Text) → P (Migrate old new)) → P task
@@ -171,10 +171,10 @@ only_migrate P name (Resume device session) named is each = absurd (apart 2 name
 only_migrate P name (Route device pairs words) named is each = absurd (apart 2 name _ _ named is refl)
 only_migrate P name (Check device words) named is each = absurd (apart 2 name _ _ named is refl)
 only_migrate P name (Migrate old new) named is each = each old new
-only_migrate P name (Serve device editors forwarders places words) named is each = absurd (apart 2 name _ _ named is refl)
+only_migrate P name (Serve device editors forwarders places live words) named is each = absurd (apart 2 name _ _ named is refl)
 only_migrate P name (Tables device folder nodes words) named is each = absurd (apart 2 name _ _ named is refl)
 
-only_serve : (P : Task → Type 0) (name : Text) (task : Task) → name ≡ codes "serve" → IsNamed name task → ((device : Bor Text) (editors forwarders places : ℕ) (words : LandmarkWords) → P (Serve device editors forwarders places words)) → P task
+only_serve : (P : Task → Type 0) (name : Text) (task : Task) → name ≡ codes "serve" → IsNamed name task → ((device : Bor Text) (editors forwarders places : ℕ) (live : Option ℕ) (words : LandmarkWords) → P (Serve device editors forwarders places live words)) → P task
 only_serve P name (Format device nodes) named is each = absurd (apart 0 name _ _ named is refl)
 only_serve P name (Show device) named is each = absurd (apart 2 name _ _ named is refl)
 only_serve P name (Edit device session ticket change) named is each = absurd (apart 2 name _ _ named is refl)
@@ -182,7 +182,7 @@ only_serve P name (Resume device session) named is each = absurd (apart 2 name _
 only_serve P name (Route device pairs words) named is each = absurd (apart 2 name _ _ named is refl)
 only_serve P name (Check device words) named is each = absurd (apart 2 name _ _ named is refl)
 only_serve P name (Migrate old new) named is each = absurd (apart 2 name _ _ named is refl)
-only_serve P name (Serve device editors forwarders places words) named is each = each device editors forwarders places words
+only_serve P name (Serve device editors forwarders places live words) named is each = each device editors forwarders places live words
 only_serve P name (Tables device folder nodes words) named is each = absurd (apart 2 name _ _ named is refl)
 
 only_tables : (P : Task → Type 0) (name : Text) (task : Task) → name ≡ codes "tables" → IsNamed name task → ((device folder : Bor Text) (nodes : Vec ℕ) (words : LandmarkWords) → P (Tables device folder nodes words)) → P task
@@ -193,7 +193,7 @@ only_tables P name (Resume device session) named is each = absurd (apart 2 name 
 only_tables P name (Route device pairs words) named is each = absurd (apart 2 name _ _ named is refl)
 only_tables P name (Check device words) named is each = absurd (apart 2 name _ _ named is refl)
 only_tables P name (Migrate old new) named is each = absurd (apart 2 name _ _ named is refl)
-only_tables P name (Serve device editors forwarders places words) named is each = absurd (apart 2 name _ _ named is refl)
+only_tables P name (Serve device editors forwarders places live words) named is each = absurd (apart 2 name _ _ named is refl)
 only_tables P name (Tables device folder nodes words) named is each = each device folder nodes words
 
 -- ---- the task that was read is the one that was asked for
@@ -237,13 +237,13 @@ pub same_migrate : (name : Text) (rows : List Row) (old new : Bor Text) (task : 
 same_migrate name rows old new task named gives makes is =
     only_migrate (λ t. IsTask name rows t → IsSameTask (Migrate old new) t) name task named (task_named name rows task is) (λ other made is. (one_text rows _ _ _ gives is.1, one_text rows _ _ _ makes is.2)) is
 
-pub same_serve : (name : Text) (rows : List Row) (device : Bor Text) (editors forwarders places : ℕ) (words : LandmarkWords) (task : Task) → name ≡ codes "serve" → Gives rows (codes "device") device.now
+pub same_serve : (name : Text) (rows : List Row) (device : Bor Text) (editors forwarders places : ℕ) (live : Option ℕ) (words : LandmarkWords) (task : Task) → name ≡ codes "serve" → Gives rows (codes "device") device.now
     → ((n : ℕ) → IsSeats (first_of (codes "editors") rows) usual_seats n → editors ≡ n) → ((n : ℕ) → IsSeats (first_of (codes "forwarders") rows) usual_seats n → forwarders ≡ n)
-    → ((n : ℕ) → IsSeats (first_of (codes "queue") rows) usual_places n → places ≡ n)
-    → ((asked : LandmarkWords) → IsAsked asked → Gives rows (codes "words") (words_text asked) → IsSame words asked) → IsTask name rows task → IsSameTask (Serve device editors forwarders places words) task
-same_serve name rows device editors forwarders places words task named gives seats carriers queue read is =
-    only_serve (λ t. IsTask name rows t → IsSameTask (Serve device editors forwarders places words) t) name task named (task_named name rows task is)
-    (λ other e f q asked is. (one_text rows _ _ _ gives is.1, seats e is.2, carriers f is.3, queue q is.4, read asked is.5.1 is.5.0)) is
+    → ((n : ℕ) → IsSeats (first_of (codes "queue") rows) usual_places n → places ≡ n) → ((n : Option ℕ) → IsLiveAsked rows n → live ≡ n)
+    → ((asked : LandmarkWords) → IsAsked asked → Gives rows (codes "words") (words_text asked) → IsSame words asked) → IsTask name rows task → IsSameTask (Serve device editors forwarders places live words) task
+same_serve name rows device editors forwarders places live words task named gives seats carriers queue builds read is =
+    only_serve (λ t. IsTask name rows t → IsSameTask (Serve device editors forwarders places live words) t) name task named (task_named name rows task is)
+    (λ other e f q l asked is. (one_text rows _ _ _ gives is.1, seats e is.2, carriers f is.3, queue q is.4, builds l is.5, read asked is.6.1 is.6.0)) is
 
 pub same_tables : (rows : List Row) (device folder : Bor Text) (nodes : Vec ℕ) (words : LandmarkWords) (task : Task) → Gives rows (codes "device") device.now → Gives rows (codes "folder") folder.now
     → AreNodesAsked rows nodes.items → All IsNodeInRange nodes.items
@@ -275,8 +275,8 @@ no_words : (name : Text) (rows : List Row) (shape task : Task) → IsShapedAs na
 no_words name rows (Route device pairs words) task shaped lacks is =
     only_route (λ t. IsTask name rows t → ⊥) name task shaped.0 (task_named name rows task is) (λ other pairs asked is. lacks asked is.3) is
 no_words name rows (Check device words) task shaped lacks is = only_check (λ t. IsTask name rows t → ⊥) name task shaped.0 (task_named name rows task is) (λ other asked is. lacks asked is.2) is
-no_words name rows (Serve device editors forwarders places words) task shaped lacks is =
-    only_serve (λ t. IsTask name rows t → ⊥) name task shaped.0 (task_named name rows task is) (λ other e f q asked is. lacks asked is.5) is
+no_words name rows (Serve device editors forwarders places live words) task shaped lacks is =
+    only_serve (λ t. IsTask name rows t → ⊥) name task shaped.0 (task_named name rows task is) (λ other e f q l asked is. lacks asked is.6) is
 no_words name rows (Tables device folder nodes words) task shaped lacks is =
     only_tables (λ t. IsTask name rows t → ⊥) name task shaped.0 (task_named name rows task is) (λ other place others asked is. lacks asked is.4) is
 no_words name rows _ task shaped lacks is = absurd lacks
@@ -354,17 +354,21 @@ named_nodes_refused rows refused read task is =
 pub editors_refused : (rows : List Row) (refused : WordsRefused) → ((n : ℕ) → IsSeats (first_of (codes "editors") rows) usual_seats n → refused ≡ why.Memory) → (task : Task)
     → IsShapedAs (codes "serve") rows task → refused ≡ why.Memory
 editors_refused rows refused read task is =
-    only_serve (λ t. IsShapedAs (codes "serve") rows t → refused ≡ why.Memory) (codes "serve") task refl (shape_named (codes "serve") rows task is) (λ other e f q asked is. read e is.2) is
+    only_serve (λ t. IsShapedAs (codes "serve") rows t → refused ≡ why.Memory) (codes "serve") task refl (shape_named (codes "serve") rows task is) (λ other e f q l asked is. read e is.2) is
 
 pub forwarders_refused : (rows : List Row) (refused : WordsRefused) → ((n : ℕ) → IsSeats (first_of (codes "forwarders") rows) usual_seats n → refused ≡ why.Memory) → (task : Task)
     → IsShapedAs (codes "serve") rows task → refused ≡ why.Memory
 forwarders_refused rows refused read task is =
-    only_serve (λ t. IsShapedAs (codes "serve") rows t → refused ≡ why.Memory) (codes "serve") task refl (shape_named (codes "serve") rows task is) (λ other e f q asked is. read f is.3) is
+    only_serve (λ t. IsShapedAs (codes "serve") rows t → refused ≡ why.Memory) (codes "serve") task refl (shape_named (codes "serve") rows task is) (λ other e f q l asked is. read f is.3) is
+
+pub live_refused : (rows : List Row) (refused : WordsRefused) → ((live : Option ℕ) → IsLiveAsked rows live → refused ≡ why.Memory) → (task : Task) → IsShapedAs (codes "serve") rows task → refused ≡ why.Memory
+live_refused rows refused read task is =
+    only_serve (λ t. IsShapedAs (codes "serve") rows t → refused ≡ why.Memory) (codes "serve") task refl (shape_named (codes "serve") rows task is) (λ other e f q l asked is. read l is.5) is
 
 pub places_refused : (rows : List Row) (refused : WordsRefused) → ((n : ℕ) → IsSeats (first_of (codes "queue") rows) usual_places n → refused ≡ why.Memory) → (task : Task)
     → IsShapedAs (codes "serve") rows task → refused ≡ why.Memory
 places_refused rows refused read task is =
-    only_serve (λ t. IsShapedAs (codes "serve") rows t → refused ≡ why.Memory) (codes "serve") task refl (shape_named (codes "serve") rows task is) (λ other e f q asked is. read q is.4) is
+    only_serve (λ t. IsShapedAs (codes "serve") rows t → refused ≡ why.Memory) (codes "serve") task refl (shape_named (codes "serve") rows task is) (λ other e f q l asked is. read q is.4) is
 
 -- the new device's text is there
 pub new_given : (name : Text) (rows : List Row) → name ≡ codes "migrate" → (task : Task) → IsShapedAs name rows task → (new : Text) × Gives rows (codes "new") new
@@ -394,7 +398,7 @@ check_words name rows named task is = only_check (λ t. IsShapedAs name rows t �
 
 pub serve_words : (rows : List Row) (task : Task) → IsShapedAs (codes "serve") rows task → IsGiven rows (codes "words")
 serve_words rows task is =
-    only_serve (λ t. IsShapedAs (codes "serve") rows t → IsGiven rows (codes "words")) (codes "serve") task refl (shape_named (codes "serve") rows task is) (λ other e f q asked is. is.5) is
+    only_serve (λ t. IsShapedAs (codes "serve") rows t → IsGiven rows (codes "words")) (codes "serve") task refl (shape_named (codes "serve") rows task is) (λ other e f q l asked is. is.6) is
 
 pub tables_words : (rows : List Row) (task : Task) → IsShapedAs (codes "tables") rows task → IsGiven rows (codes "words")
 tables_words rows task is =

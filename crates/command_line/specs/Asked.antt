@@ -103,11 +103,30 @@ abbrev pub IsSeats : Option Text → ℕ → ℕ → Type 0
 IsSeats None usual n = n ≡ usual
 IsSeats (Some text) usual n = (text ≡ decimal n) × (1 ≤ n) × (n ≤ 64)
 
--- `serve DEVICE --words W --editors E --forwarders F --queue Q`
-abbrev pub IsServe : Text → List Row → Text → ℕ → ℕ → ℕ → LandmarkWords → Type 0
-IsServe name rows device editors forwarders places words =
+-- after how many rounds at the latest a live service builds tables, where it isn't said
+abbrev pub usual_rounds : ℕ
+usual_rounds = 16
+
+-- a number from 1 to 65,535 in decimal, or the usual one where there is no text
+abbrev pub AreRounds : Option Text → ℕ → Type 0
+AreRounds None rounds = rounds ≡ usual_rounds
+AreRounds (Some text) rounds = (text ≡ decimal rounds) × (1 ≤ rounds) × (rounds < 2 ^ 16)
+
+-- `--live [--rounds R]`, or neither of them
+abbrev pub IsLive : Option Text → Option Text → Option ℕ → Type 0
+IsLive flag text (Some rounds) = (flag ≡ Some (codes "true")) × AreRounds text rounds
+IsLive flag text None = (flag ≢ Some (codes "true")) × (text ≡ None)
+
+-- these of the words
+abbrev pub IsLiveAsked : List Row → Option ℕ → Type 0
+IsLiveAsked rows live = IsLive (first_of (codes "live") rows) (first_of (codes "rounds") rows) live
+
+-- `serve DEVICE --words W [--editors E] [--forwarders F] [--queue Q] [--live [--rounds R]]`
+abbrev pub IsServe : Text → List Row → Text → ℕ → ℕ → ℕ → Option ℕ → LandmarkWords → Type 0
+IsServe name rows device editors forwarders places live words =
     (name ≡ codes "serve") × Gives rows (codes "device") device × IsSeats (first_of (codes "editors") rows) usual_seats editors × IsSeats (first_of (codes "forwarders") rows) usual_seats forwarders
     × IsSeats (first_of (codes "queue") rows) usual_places places
+    × IsLiveAsked rows live
     × AreWordsAsked rows words
 
 -- `[--node N]..`, with each node in decimal, in order, and no other
@@ -128,7 +147,7 @@ IsTask name rows (Resume device session) = IsResume name rows device.now session
 IsTask name rows (Route device pairs words) = IsRoute name rows device.now pairs.items words
 IsTask name rows (Check device words) = IsCheck name rows device.now words
 IsTask name rows (Migrate old new) = IsMigrate name rows old.now new.now
-IsTask name rows (Serve device editors forwarders places words) = IsServe name rows device.now editors forwarders places words
+IsTask name rows (Serve device editors forwarders places live words) = IsServe name rows device.now editors forwarders places live words
 IsTask name rows (Tables device folder nodes words) = IsTables name rows device.now folder.now nodes.items words
 
 -- the grammar takes the words, and they name this command, with these texts of its arguments
@@ -156,7 +175,7 @@ IsInRange (Resume device session) = Unit {0}
 IsInRange (Route device pairs words) = All IsPairInRange pairs.items
 IsInRange (Check device words) = Unit {0}
 IsInRange (Migrate old new) = Unit {0}
-IsInRange (Serve device editors forwarders places words) = Unit {0}
+IsInRange (Serve device editors forwarders places live words) = Unit {0}
 IsInRange (Tables device folder nodes words) = All IsNodeInRange nodes.items
 
 -- the same command, with the same texts and numbers
@@ -168,7 +187,7 @@ IsSameTask (Resume device session) (Resume other asked) = (device.now ≡ other.
 IsSameTask (Route device pairs words) (Route other others asked) = (device.now ≡ other.now) × (pairs.items ≡ others.items) × IsSame words asked
 IsSameTask (Check device words) (Check other asked) = (device.now ≡ other.now) × IsSame words asked
 IsSameTask (Migrate old new) (Migrate other made) = (old.now ≡ other.now) × (new.now ≡ made.now)
-IsSameTask (Serve device editors forwarders places words) (Serve other e f q asked) = (device.now ≡ other.now) × (editors ≡ e) × (forwarders ≡ f) × (places ≡ q) × IsSame words asked
+IsSameTask (Serve device editors forwarders places live words) (Serve other e f q l asked) = (device.now ≡ other.now) × (editors ≡ e) × (forwarders ≡ f) × (places ≡ q) × (live ≡ l) × IsSame words asked
 IsSameTask (Tables device folder nodes words) (Tables other place named asked) = (device.now ≡ other.now) × (folder.now ≡ place.now) × (nodes.items ≡ named.items) × IsSame words asked
 IsSameTask task other = ⊥
 
@@ -193,9 +212,10 @@ IsShapedAs name rows (Route device pairs words) =
     (name ≡ codes "route") × Gives rows (codes "device") device.now × ArePairsAsked rows pairs.items × IsGiven rows (codes "words") × All IsPairInRange pairs.items
 IsShapedAs name rows (Check device words) = (name ≡ codes "check") × Gives rows (codes "device") device.now × IsGiven rows (codes "words")
 IsShapedAs name rows (Migrate old new) = IsMigrate name rows old.now new.now
-IsShapedAs name rows (Serve device editors forwarders places words) =
+IsShapedAs name rows (Serve device editors forwarders places live words) =
     (name ≡ codes "serve") × Gives rows (codes "device") device.now × IsSeats (first_of (codes "editors") rows) usual_seats editors × IsSeats (first_of (codes "forwarders") rows) usual_seats forwarders
     × IsSeats (first_of (codes "queue") rows) usual_places places
+    × IsLiveAsked rows live
     × IsGiven rows (codes "words")
 IsShapedAs name rows (Tables device folder nodes words) =
     (name ≡ codes "tables") × Gives rows (codes "device") device.now × Gives rows (codes "folder") folder.now × AreNodesAsked rows nodes.items × IsGiven rows (codes "words") × All IsNodeInRange nodes.items
@@ -233,7 +253,7 @@ IsLacking rows (Edit device session ticket change) why.Op = LacksOps rows
 IsLacking rows (Edit device session ticket change) why.TooLong = HasTooManyOps rows
 IsLacking rows (Route device pairs words) why.Words = LacksWords rows
 IsLacking rows (Check device words) why.Words = LacksWords rows
-IsLacking rows (Serve device editors forwarders places words) why.Words = LacksWords rows
+IsLacking rows (Serve device editors forwarders places live words) why.Words = LacksWords rows
 IsLacking rows (Tables device folder nodes words) why.Words = LacksWords rows
 IsLacking rows task refused = ⊥
 

@@ -3,7 +3,7 @@ use Rattle.std.specs.Prelude.{Some, codes, true}
 use Rattle.clap.specs.Lexer.{usize_max}
 use Rattle.clap.specs.Walk.{Rule, Text}
 use Rattle.clap.specs.Simple.{App, new_app, new_rule, on_top, with_rule, with_subcommand}
-use Rattle.clap.specs.declared.builder.action.ArgAction.TheVariants.{Append, Set}
+use Rattle.clap.specs.declared.builder.action.ArgAction.TheVariants.{Append, Set, SetTrue}
 
 -- a text that has to be given
 abbrev pub text_rule : Text → Rule
@@ -28,6 +28,10 @@ option_rule id = record (new_rule id) { long = Some id; action = Some Set }
 -- `--ID N`, which may be left out, and be given any number of times
 abbrev pub repeated_rule : Text → Rule
 repeated_rule id = record (new_rule id) { long = Some id; action = Some Append }
+
+-- `--ID`, which may be left out
+abbrev pub flag_rule : Text → Rule
+flag_rule id = record (new_rule id) { long = Some id; action = Some SetTrue }
 
 -- a command on a device: `NAME DEVICE`
 abbrev pub on_device_app : Text → App
@@ -61,11 +65,15 @@ check_app = with_rule (on_device_app (codes "check")) words_rule
 abbrev pub migrate_app : App
 migrate_app = with_rule (on_device_app (codes "migrate")) (text_rule (codes "new"))
 
--- `serve DEVICE --words W --editors E --forwarders F --queue Q`
-abbrev pub serve_app : App
-serve_app =
+-- `serve DEVICE --words W [--editors E] [--forwarders F] [--queue Q]`
+abbrev pub seated_app : App
+seated_app =
     with_rule (with_rule (with_rule (with_rule (on_device_app (codes "serve")) words_rule) (option_rule (codes "editors"))) (option_rule (codes "forwarders")))
     (option_rule (codes "queue"))
+
+-- the same with `[--live] [--rounds R]`
+abbrev pub serve_app : App
+serve_app = with_rule (with_rule seated_app (flag_rule (codes "live"))) (option_rule (codes "rounds"))
 
 -- `tables DEVICE FOLDER --words W [--node N]..`
 abbrev pub tables_app : App

@@ -3,7 +3,7 @@ ghost use Rattle.std.specs.Prelude.{◌≡◌, IfOk, codes, false};
 ghost use Rattle.clap.specs.Walk.{rule_of};
 ghost use Rattle.clap.specs.Words.{app_of, with_rule};
 ghost use Rattle.clap.specs.declared.builder.command.Command.TheViews.{out-Command};
-ghost use Rattle.command_line.specs.Grammar.{asking_program, check_app, edit_app, more_rule, on_device_app, ops_rule, option_rule, plain_program, program, repeated_rule, route_app, serve_app, tables_app, text_rule, words_rule};
+ghost use Rattle.command_line.specs.Grammar.{asking_program, check_app, edit_app, flag_rule, more_rule, on_device_app, ops_rule, option_rule, plain_program, program, repeated_rule, route_app, seated_app, serve_app, tables_app, text_rule, words_rule};
 
 use clap::{Arg, ArgAction, Command};
 use std::alloc::{AllocError, Global};
@@ -63,14 +63,32 @@ fn with_option<'a>(
     command.arg(option(alloc, id))
 }
 
-fn serve_command<'a>(alloc: Global) -> Result<Command<'a>, AllocError>
-    ensures app { IfOk result (λ command. app_of command ≡ serve_app) }
+// A flag, which takes no value.
+fn flag<'a>(alloc: Global, id: &'a str) -> Arg<'a>
+    ensures rule { rule_of result ≡ flag_rule id.entry.now }
+    ensures local { result.global ≡ false }
+{
+    Arg::new(alloc, id).long(id).action(ArgAction::SetTrue)
+}
+
+// A service, with how many editors, forwarders and places it has.
+fn seated_command<'a>(alloc: Global) -> Result<Command<'a>, AllocError>
+    ensures app { IfOk result (λ command. app_of command ≡ seated_app) }
     ensures local { IfOk result (λ command. (out-Command command).has_globals ≡ false) }
 {
     let plain = with_words(alloc, on_device(alloc, "serve")?)?;
     let edited = with_option(alloc, plain, "editors")?;
     let forwarded = with_option(alloc, edited, "forwarders")?;
     with_option(alloc, forwarded, "queue")
+}
+
+fn serve_command<'a>(alloc: Global) -> Result<Command<'a>, AllocError>
+    ensures app { IfOk result (λ command. app_of command ≡ serve_app) }
+    ensures local { IfOk result (λ command. (out-Command command).has_globals ≡ false) }
+{
+    let seated = seated_command(alloc)?;
+    let flagged = seated.arg(flag(alloc, "live"))?;
+    with_option(alloc, flagged, "rounds")
 }
 
 fn with_words<'a>(alloc: Global, command: Command<'a>) -> Result<Command<'a>, AllocError>

@@ -1,5 +1,5 @@
 //! What the program's words ask for.
-ghost use Rattle.std.specs.Prelude.{◌≡◌, ◌≤◌, ◌<◌, ◌^◌, ◌⊎◌, ℕ, List, Option, IfOk, IfErr, IsErrOf, Some, None, [], codes, decimal, map, option_map, All, length};
+ghost use Rattle.std.specs.Prelude.{◌≡◌, ◌≤◌, ◌<◌, ◌^◌, ◌⊎◌, ℕ, List, Option, IfOk, IfErr, IsErrOf, Some, None, [], codes, decimal, map, option_map, All, length, IsTrue, ◌↔◌};
 ghost use Rattle.clap.specs.Walk.{first_of, rows_of, texts};
 ghost use Rattle.clap.specs.Words.{first_value, found_of, kind_of, matched_of, raw_values};
 ghost use Rattle.graph_edits.specs.declared.edits.Op.{Op};
@@ -7,7 +7,7 @@ ghost use Rattle.requests.specs.Tickets.{sessions};
 ghost use Rattle.written_values.specs.declared.words.LandmarkWords.{LandmarkWords};
 ghost use Rattle.written_values.specs.OpText.{Fits, op_text};
 ghost use Rattle.written_values.specs.WordsText.{IsAsked, IsSame, words_text};
-ghost use Rattle.command_line.specs.Asked.{ArePairsAsked, IsAskedFor, IsCause, IsInRange, IsNodeInRange, IsOpsCause, IsPairInRange, IsRefusedFor, IsSameTask, IsSeats, IsSessionText, IsTask, IsTicket, IsWordsCause, nodes_of, texts_in};
+ghost use Rattle.command_line.specs.Asked.{ArePairsAsked, AreRounds, IsAskedFor, IsCause, IsInRange, IsLive, IsNodeInRange, IsOpsCause, IsPairInRange, IsRefusedFor, IsSameTask, IsSeats, IsSessionText, IsTask, IsTicket, IsWordsCause, nodes_of, texts_in};
 ghost use Rattle.command_line.specs.declared.task.Task.{Task};
 
 use crate::grammar::grammar;
@@ -63,7 +63,7 @@ pub enum Task<'a> {
         old: &'a str,
         new: &'a str,
     },
-    /// Run a script in threads.
+    /// Run a script in threads, or answer lines as they come.
     Serve {
         device: &'a str,
         /// 1 to 64, and so are the next two.
@@ -71,6 +71,8 @@ pub enum Task<'a> {
         forwarders: u8,
         /// How many changes may wait in the queue.
         places: u8,
+        /// Of a service that answers lines as they come: after how many rounds at the latest it builds tables, 1 to 65,535.
+        live: Option<u16>,
         words: LandmarkWords,
     },
     /// Put the routers' tables of nodes into a folder.
@@ -91,6 +93,9 @@ const USUAL_SEATS: u8 = 2;
 
 // And how many places the queue has.
 const USUAL_PLACES: u8 = 64;
+
+// After how many rounds at the latest a live service builds tables, where it isn't said.
+const USUAL_ROUNDS: u16 = 16;
 
 // Whose changes an edit makes where it isn't said.
 const USUAL_SESSION: u8 = 0;
@@ -223,12 +228,14 @@ fn serve_of<'a>(
     let editors = seats(alloc, found, "editors", USUAL_SEATS)?;
     let forwarders = seats(alloc, found, "forwarders", USUAL_SEATS)?;
     let places = seats(alloc, found, "queue", USUAL_PLACES)?;
+    let live = live(alloc, found)?;
     let words = words_asked(alloc, found)?;
     Ok(Task::Serve {
         device,
         editors,
         forwarders,
         places,
+        live,
         words,
     })
 }
@@ -295,6 +302,48 @@ fn seats(alloc: Global, found: &ArgMatches<'_>, id: &str, usual: u8) -> Result<u
     match number(alloc, text, MOST_SEATS)? {
         Some(0) | None => Err(WordsRefused::Usage),
         Some(seats) => Ok(seats as u8),
+    }
+}
+
+// The rounds of a live service, where it is to be one. They mean nothing to another.
+fn live(alloc: Global, found: &ArgMatches<'_>) -> Result<Option<u16>, WordsRefused>
+    ensures found { IfOk result (λ live. IsLive (first_value (found_of found.entry.now) (codes "live")) (first_value (found_of found.entry.now) (codes "rounds")) live) }
+    ensures same { (asked : Option ℕ) → IsLive (first_value (found_of found.entry.now) (codes "live")) (first_value (found_of found.entry.now) (codes "rounds")) asked → IfOk result (λ live. live ≡ asked) }
+    ensures only { (asked : Option ℕ) → IsLive (first_value (found_of found.entry.now) (codes "live")) (first_value (found_of found.entry.now) (codes "rounds")) asked → IfErr result (λ refused. refused ≡ WordsRefused.Memory) }
+    ensures refusals { IfErr result (λ refused. (refused ≡ WordsRefused.Usage) ⊎ (refused ≡ WordsRefused.Memory)) }
+{
+    if is_flagged(found) {
+        return Ok(Some(rounds(alloc, found)?));
+    }
+    match found.get_str("rounds") {
+        Some(_) => Err(WordsRefused::Usage),
+        None => Ok(None),
+    }
+}
+
+// Whether the words ask for a live service.
+fn is_flagged(found: &ArgMatches<'_>) -> bool
+    ensures { IsTrue result ↔ (first_value (found_of found.entry.now) (codes "live") ≡ Some (codes "true")) }
+{
+    match found.get_str("live") {
+        Some(text) => text == "true",
+        None => false,
+    }
+}
+
+// A number of rounds from 1 to 65,535, or the usual one where none is named.
+fn rounds(alloc: Global, found: &ArgMatches<'_>) -> Result<u16, WordsRefused>
+    ensures found { IfOk result (λ n. AreRounds (first_value (found_of found.entry.now) (codes "rounds")) n) }
+    ensures same { (n : ℕ) → AreRounds (first_value (found_of found.entry.now) (codes "rounds")) n → IfOk result (λ m. m ≡ n) }
+    ensures only { (n : ℕ) → AreRounds (first_value (found_of found.entry.now) (codes "rounds")) n → IfErr result (λ refused. refused ≡ WordsRefused.Memory) }
+    ensures refusals { IfErr result (λ refused. (refused ≡ WordsRefused.Usage) ⊎ (refused ≡ WordsRefused.Memory)) }
+{
+    let Some(text) = found.get_str("rounds") else {
+        return Ok(USUAL_ROUNDS);
+    };
+    match node(alloc, text)? {
+        Some(0) | None => Err(WordsRefused::Usage),
+        Some(rounds) => Ok(rounds),
     }
 }
 

@@ -40,7 +40,7 @@ is_not_understood told.TableFile is = absurd (cc)
 
 -- a run of status 2 ends so by one of them
 pub not_understood : {D : Type 0} (model : Ghosts D) (opened : List ℕ → Access → D → Type 0) (put : List Put → Type 0) (words : List Text) (given old new told_old told_new : Option (List ℕ)) (outcome : Outcome) → IsOutcome model opened put words given old new told_old told_new outcome → status_in outcome ≡ 2
-    → (fault : Fault) × IsNotUnderstood fault × IsFaultFor model opened put words given fault × ((outcome ≡ Told fault) ⊎ (outcome ≡ Untold fault))
+    → (fault : Fault) × IsNotUnderstood fault × IsFaultFor model opened put words given old new fault × ((outcome ≡ Told fault) ⊎ (outcome ≡ Untold fault))
 not_understood model opened put words given old new told_old told_new (Answered Done) is two = absurd (cc)
 not_understood model opened put words given old new told_old told_new (Answered Refused) is two = absurd (cc)
 not_understood model opened put words given old new told_old told_new (Told fault) is two = (fault, is_not_understood fault two, is.0, inl refl)
@@ -80,7 +80,7 @@ answered model opened put words given old new told_old told_new (Untold fault) i
 
 -- one of status 1 has printed that the answer is no, or a fault ended it
 pub refused : {D : Type 0} (model : Ghosts D) (opened : List ℕ → Access → D → Type 0) (put : List Put → Type 0) (words : List Text) (given old new told_old told_new : Option (List ℕ)) (outcome : Outcome) → IsOutcome model opened put words given old new told_old told_new outcome → status_in outcome ≡ 1
-    → AnswersWords model opened put words given Refused old new ⊎ ((fault : Fault) × (status_of fault ≡ 1) × IsFaultFor model opened put words given fault × ((outcome ≡ Told fault) ⊎ (outcome ≡ Untold fault)))
+    → AnswersWords model opened put words given Refused old new ⊎ ((fault : Fault) × (status_of fault ≡ 1) × IsFaultFor model opened put words given old new fault × ((outcome ≡ Told fault) ⊎ (outcome ≡ Untold fault)))
 refused model opened put words given old new told_old told_new (Answered Done) is one = absurd (cc)
 refused model opened put words given old new told_old told_new (Answered Refused) is one = inl is.0
 refused model opened put words given old new told_old told_new (Told fault) is one = inr (fault, one, is.0, inl refl)

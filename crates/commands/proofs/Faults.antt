@@ -1,5 +1,5 @@
 -- Which faults may end a run.
-use Rattle.std.proofs.Common.{◌≡◌, ◌≢◌, ◌∙◌, ℕ, List, Option, inl, inr, refl, sym, subst, Result, Ok, Err, IfErr, IfOk, IsErrAnd, IsErrOf}
+use Rattle.std.proofs.Common.{◌≡◌, ◌≢◌, ◌∙◌, ℕ, List, Option, inl, refl, sym, subst, Result, Ok, Err, IfErr, IfOk, IsErrAnd, IsErrOf}
 use Rattle.clap.specs.Walk.{Text}
 use Rattle.disk_trait.specs.declared.disk.Disk.{Ghosts}
 use Rattle.written_values.specs.declared.words.LandmarkWords.{LandmarkWords}
@@ -15,7 +15,7 @@ use Rattle.command_line.specs.declared.task.Task.{Task}
 use Rattle.command_output.specs.Faults.{IsNotUnderstood}
 use Rattle.command_output.specs.declared.ended.Ended.{Ended}
 use Rattle.commands.specs.declared.devices.Access.{Access}
-use Rattle.commands.specs.Printed.{AnswersWords, PrintedFor}
+use Rattle.commands.specs.Printed.{PrintedFor}
 use Rattle.table_files.specs.Files.{Put}
 use Rattle.commands.specs.Endings.{IsCheckDeviceFault, IsRouteDeviceFault, IsFaultFor, IsRouteFault, IsQueryFault, IsThreadFault, IsWordsFault, MayEnd, NamesNodes, words_fault}
 
@@ -107,9 +107,9 @@ memory_alone why.Op is = absurd (cc)
 memory_alone why.TooLong is = absurd (cc)
 
 -- words that are refused are so by a fault for them
-pub refused_for : {D : Type 0} (model : Ghosts D) (opened : List ℕ → Access → D → Type 0) (put : List Put → Type 0) (words : List Text) (given : Option (List ℕ)) (refused : WordsRefused) (fault : Fault) → fault ≡ words_fault refused → IsRefusedFor words refused
-    → ((task : Task) → IsAskedFor words task → IsInRange task → refused ≡ why.Memory) → IsFaultFor model opened put words given fault
-refused_for model opened put words given refused fault is cause memory = inl (refused, is, cause, λ task asked fits. is ∙ memory_alone refused (memory task asked fits))
+pub refused_for : {D : Type 0} (model : Ghosts D) (opened : List ℕ → Access → D → Type 0) (put : List Put → Type 0) (words : List Text) (given old new : Option (List ℕ)) (refused : WordsRefused) (fault : Fault) → fault ≡ words_fault refused → IsRefusedFor words refused
+    → ((task : Task) → IsAskedFor words task → IsInRange task → refused ≡ why.Memory) → IsFaultFor model opened put words given old new fault
+refused_for model opened put words given old new refused fault is cause memory = inl (refused, is, cause, λ task asked fits. is ∙ memory_alone refused (memory task asked fits))
 
 -- a fault of a part, where it is handed up
 pub each_fault : {T : Type 0} (r : Result T Fault) (P Q : Fault → Type 0) → ((fault : Fault) → P fault → Q fault) → IfErr r P → IfErr r Q
@@ -125,18 +125,11 @@ handed_up (Err e) P fault is has = subst P (sym is) has
 pub not_told : {T : Type 0} (r : Result T Fault) (fault : Fault) (P : Fault → Type 0) → (P fault → ⊥) → IfErr r P → IsErrOf r fault → ⊥
 not_told r fault P never may is = never (subst (λ x. IfErr x P) is may)
 
--- a fault that may end the task that was understood is one for the words
-pub ends_task : {D T : Type 0} (model : Ghosts D) (opened : List ℕ → Access → D → Type 0) (put : List Put → Type 0) (r : Result T Fault) (words : List Text) (given : Option (List ℕ)) (understood task : Task) → IsAskedFor words understood → understood ≡ task
-    → IfErr r (λ fault. MayEnd model opened put task given fault) → IfErr r (λ fault. IsFaultFor model opened put words given fault)
-ends_task model opened put (Ok ended) words given understood task asked is may = tt
-ends_task model opened put (Err fault) words given understood task asked is may =
-    let there : IsFaultFor model opened put words given fault = inr (task, subst (λ (t : Task). IsAskedFor words t) is asked, may) in
-    there
+-- what ends or answers the task that was understood does so with the one that it is
+pub ends_task : {D T : Type 0} (model : Ghosts D) (opened : List ℕ → Access → D → Type 0) (put : List Put → Type 0) (r : Result T Fault) (given old new : Option (List ℕ)) (task shape : Task) → task ≡ shape
+    → IfErr r (λ fault. MayEnd model opened put shape given old new fault) → IfErr r (λ fault. MayEnd model opened put task given old new fault)
+ends_task model opened put r given old new task shape is may = subst (λ (t : Task). IfErr r (λ fault. MayEnd model opened put t given old new fault)) (sym is) may
 
--- and what is printed for it is the answer to the words
-pub answers_task : {D : Type 0} (model : Ghosts D) (opened : List ℕ → Access → D → Type 0) (put : List Put → Type 0) (r : Result Ended Fault) (words : List Text) (given old new : Option (List ℕ)) (understood task : Task) → IsAskedFor words understood → understood ≡ task
-    → IfOk r (λ ended. PrintedFor model opened put task given ended old new) → IfOk r (λ ended. AnswersWords model opened put words given ended old new)
-answers_task model opened put (Ok ended) words given old new understood task asked is printed =
-    let there : AnswersWords model opened put words given ended old new = (task, subst (λ (t : Task). IsAskedFor words t) is asked, printed) in
-    there
-answers_task model opened put (Err fault) words given old new understood task asked is printed = tt
+pub answers_task : {D : Type 0} (model : Ghosts D) (opened : List ℕ → Access → D → Type 0) (put : List Put → Type 0) (r : Result Ended Fault) (given old new : Option (List ℕ)) (task shape : Task) → task ≡ shape
+    → IfOk r (λ ended. PrintedFor model opened put shape given ended old new) → IfOk r (λ ended. PrintedFor model opened put task given ended old new)
+answers_task model opened put r given old new task shape is printed = subst (λ (t : Task). IfOk r (λ ended. PrintedFor model opened put t given ended old new)) (sym is) printed

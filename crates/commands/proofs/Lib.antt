@@ -6,3 +6,4 @@ pub mod OnDevices
 pub mod ScriptTexts
 pub mod Serving
 pub mod Tabling
+pub mod ToldRuns

@@ -1,13 +1,11 @@
 -- What was answered of a device, printed.
-use Rattle.std.proofs.Common.{◌≡◌, ◌∙◌, ◌<◌, ◌⊎◌, ap, inl, inr, refl, subst, sym, ⊎_elim, ℕ, List, Option, Result, Ok, Err, IfErr, IfOk, IsErrOf, IsTrue, OnOk}
+use Rattle.std.proofs.Common.{◌≡◌, ◌∙◌, ◌<◌, ◌⊎◌, ap, inl, inr, subst, ⊎_elim, ℕ, List, Option, Result, Ok, Err, IfErr, IfOk, IsErrOf, IsTrue, OnOk}
 use Rattle.std.proofs.lemmas.Result.{IfErr-at_err}
 use Rattle.std.specs.Prelude.{IsOkAnd}
 use Rattle.std.specs.Global.{Vec}
-use Rattle.std.specs.FinMap.{len}
 use Rattle.std.specs.Io.KnownBytes.{Appends}
 use Rattle.disk_trait.specs.declared.disk.Disk.{Ghosts}
 use Rattle.disk_trait.specs.Disk.{DiskView, OnlyRead}
-use Rattle.graph_edits.specs.Edges.{Network}
 use Rattle.graph_edits.specs.declared.edits.Op.{Op}
 use Rattle.requests.specs.Tickets.{last_of, worn_limit}
 use Rattle.layout_2.specs.State.{State}
@@ -24,7 +22,7 @@ use Rattle.command_output.specs.declared.fault.Fault.TheVariants as told
 use Rattle.command_output.specs.Lines.{line, listing_text, ticket_text}
 use Rattle.device_commands.specs.Answer.{IsNew, IsTaken, last_ticket, state_after, ticket_of, verdict_of}
 use Rattle.device_commands.specs.Openings.{IsEditFault, IsReading, IsUnwrittenFault, TellsOf}
-use Rattle.commands.specs.Devices.{EndsBy, IsFileFault, OfOpened}
+use Rattle.commands.specs.Devices.{EndsBy, OfOpened}
 use Rattle.commands.specs.Endings.{IsCheckDeviceFault, IsCheckEnd, IsEditEnd, IsReadingEnd, IsRouteDeviceFault, IsRouteEnd}
 use Rattle.commands.specs.Printed.{PrintsCheck, PrintsListing, PrintsRoutes, PrintsTicket, PrintsVerdict, ended_by, verdict_text}
 use Rattle.commands.specs.SchemeAnswers.{AreNodes, AreRoutesOf, IsCheckOf, checks_text, ended_after, ended_at, routes_text}

@@ -1,27 +1,15 @@
 -- What `route` and `check` answer of a graph.
-use Rattle.std.proofs.Common.{sym, subst, ◌≡◌, ℕ, List, Option, Result, Ok, Err, IfOk, OnOk, IsErrAnd}
-use Rattle.std.specs.Borrow.{Bor}
-use Rattle.std.specs.Global.{Vec}
-use Rattle.std.specs.Io.KnownBytes.{Appends}
-use Rattle.clap.specs.Walk.{Text}
-use Rattle.command_line.specs.Asked.{IsAskedFor}
-use Rattle.command_line.specs.declared.task.Task.{Task}
-use Rattle.command_line.specs.declared.task.Task.TheVariants.{Route as AskedRoute}
+use Rattle.std.proofs.Common.{sym, subst, ◌≡◌, ℕ, List, Result, Ok, Err, IfOk, IsErrAnd}
 use Rattle.disk_trait.specs.Disk.{OnlyRead}
-use Rattle.layout_2.specs.State.{State}
 use Rattle.checkpoint.specs.StoreWords.{disk_of, view_of}
 use Rattle.checkpoint.specs.declared.store.Store.{Store}
 use Rattle.written_values.specs.declared.words.LandmarkWords.{LandmarkWords}
 use Rattle.written_values.specs.Words.{AreWords, IsWithin}
 use Rattle.graph_edits.specs.Edges.{Network}
 use Rattle.scheme_builds.specs.declared.queries.Checked.{Checked}
-use Rattle.scheme_builds.specs.declared.queries.Route.{Route}
 use Rattle.scheme_builds.specs.Queries.{IsCheckAnswer}
 use Rattle.command_output.specs.declared.fault.Fault.{Fault}
-use Rattle.command_output.specs.declared.ended.Ended.{Ended}
-use Rattle.command_output.specs.Lines.{line}
-use Rattle.commands.specs.Printed.{AnswersWords}
-use Rattle.commands.specs.SchemeAnswers.{AreRoutesOf, IsCheckOf, checks_text, ended_after, ended_at, routes_text}
+use Rattle.commands.specs.SchemeAnswers.{IsCheckOf}
 
 -- the fault that is handed up is the one that came
 pub passed_up : {T : Type 0} (r : Result T Fault) (fault other : Fault) → IsErrAnd r (λ e. e ≡ fault) → r ≡ Err other → fault ≡ other

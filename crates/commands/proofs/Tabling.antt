@@ -1,5 +1,5 @@
 -- Tables that are put: what was answered and why it ended, of a scheme, of a device and of a run.
-use Rattle.std.proofs.Common.{◌≡◌, ◌≢◌, ◌⊎◌, ◌∙◌, ap, arith, inl, inr, refl, sym, subst, ⊎_elim, ℕ, ◌+◌, ◌<◌, ◌≤◌, ◌*◌, ◌^◌, List, [], ◌∷◌, ◌++◌, All, length, map, take, Option, Result, Ok, Err, IfErr, IfOk, IsErrOf, IsTrue}
+use Rattle.std.proofs.Common.{◌≡◌, ◌⊎◌, inl, inr, sym, subst, ⊎_elim, ℕ, List, [], Option, Some, None, Result, Ok, Err, IfErr, IfOk, IsErrOf, IsTrue}
 use Rattle.std.proofs.lemmas.List.{append-nil}
 use Rattle.std.proofs.lemmas.Result.{IfErr-at_err}
 use Rattle.std.specs.Prelude.{IsOkAnd}
@@ -15,21 +15,17 @@ use Rattle.written_values.specs.Words.{AreWords, IsWithin}
 use Rattle.written_values.specs.declared.words.LandmarkWords.{LandmarkWords}
 use Rattle.command_output.specs.declared.ended.Ended.{Ended}
 use Rattle.command_output.specs.declared.fault.Fault.{Fault}
-use Rattle.command_output.specs.declared.fault.Fault.TheVariants as told
-use Rattle.device_commands.specs.Openings.{IsReading}
 use Rattle.command_line.specs.declared.task.Task.{Task}
 use Rattle.command_line.specs.declared.task.Task.TheVariants.{Format, Show, Edit, Resume, Route, Check, Migrate, Serve, Tables}
 use Rattle.commands.specs.declared.devices.Access.{Access}
 use Rattle.commands.specs.declared.outcome.Outcome.{Outcome}
 use Rattle.commands.specs.declared.outcome.Outcome.TheVariants.{Answered, Told, Untold}
-use Rattle.commands.specs.Devices.{IsAnswerOf, IsFileFault, OfOpened}
-use Rattle.commands.specs.Endings.{EndsTables, IsCheckDeviceFault, IsCheckEnd, IsFaultFor, IsTablesEnd, MayEnd}
+use Rattle.commands.specs.Endings.{EndsTables, IsCheckEnd, IsFaultFor, IsTablesEnd, MayEnd}
 use Rattle.commands.specs.Outcomes.{AnyPut, IsOutcome}
-use Rattle.commands.specs.Printed.{AnswersWords, PrintedFor, PrintsTables}
+use Rattle.commands.specs.Printed.{PrintedFor, PrintsTables}
 use Rattle.table_files.specs.Files.{HasPut, Put}
 use Rattle.commands.specs.SchemeAnswers.{IsSchemeBy}
 use Rattle.table_files.specs.Tables.{AnswersTables, EndsPutting}
-use Rattle.commands.proofs.OnDevices.{check_end}
 
 -- nothing was put
 pub none_put : (puts : List Put) → HasPut puts puts []
@@ -123,7 +119,8 @@ printed_any model opened put (Resume device session) given ended old new is = is
 printed_any model opened put (Route device pairs words) given ended old new is = is
 printed_any model opened put (Check device words) given ended old new is = is
 printed_any model opened put (Migrate device made) given ended old new is = is
-printed_any model opened put (Serve device editors forwarders places words) given ended old new is = is
+printed_any model opened put (Serve device editors forwarders places None words) given ended old new is = is
+printed_any model opened put (Serve device editors forwarders places (Some rounds) words) given ended old new is = is
 printed_any model opened put (Tables device folder nodes words) given ended old new is = record {
   disk = is.disk;
   was = is.was;
@@ -160,27 +157,28 @@ tables_any model opened asked folder named put fault (inr is) = inr (record {
   holds = end_any asked folder named put (model.view is.disk) (model.view is.left) fault is.holds;
 })
 
-may_any : {D : Type 0} (model : Ghosts D) (opened : List ℕ → Access → D → Type 0) (put : List Put → Type 0) (task : Task) (given : Option (List ℕ)) (fault : Fault)
-    → MayEnd model opened put task given fault → MayEnd model opened AnyPut task given fault
-may_any model opened put (Format device nodes) given fault is = is
-may_any model opened put (Show device) given fault is = is
-may_any model opened put (Edit device session ticket change) given fault is = is
-may_any model opened put (Resume device session) given fault is = is
-may_any model opened put (Route device pairs words) given fault is = is
-may_any model opened put (Check device words) given fault is = is
-may_any model opened put (Migrate device made) given fault is = is
-may_any model opened put (Serve device editors forwarders places words) given fault is = is
-may_any model opened put (Tables device folder nodes words) given fault is = tables_any model _ words folder.now nodes.items put fault is
+may_any : {D : Type 0} (model : Ghosts D) (opened : List ℕ → Access → D → Type 0) (put : List Put → Type 0) (task : Task) (given old new : Option (List ℕ)) (fault : Fault)
+    → MayEnd model opened put task given old new fault → MayEnd model opened AnyPut task given old new fault
+may_any model opened put (Format device nodes) given old new fault is = is
+may_any model opened put (Show device) given old new fault is = is
+may_any model opened put (Edit device session ticket change) given old new fault is = is
+may_any model opened put (Resume device session) given old new fault is = is
+may_any model opened put (Route device pairs words) given old new fault is = is
+may_any model opened put (Check device words) given old new fault is = is
+may_any model opened put (Migrate device made) given old new fault is = is
+may_any model opened put (Serve device editors forwarders places None words) given old new fault is = is
+may_any model opened put (Serve device editors forwarders places (Some rounds) words) given old new fault is = is
+may_any model opened put (Tables device folder nodes words) given old new fault is = tables_any model _ words folder.now nodes.items put fault is
 
-fault_any : {D : Type 0} (model : Ghosts D) (opened : List ℕ → Access → D → Type 0) (put : List Put → Type 0) (words : List Text) (given : Option (List ℕ)) (fault : Fault) → IsFaultFor model opened put words given fault
-    → IsFaultFor model opened AnyPut words given fault
-fault_any model opened put words given fault (inl refused) = inl refused
-fault_any model opened put words given fault (inr is) = inr (is.0, is.1, may_any model opened put is.0 given fault is.2)
+fault_any : {D : Type 0} (model : Ghosts D) (opened : List ℕ → Access → D → Type 0) (put : List Put → Type 0) (words : List Text) (given old new : Option (List ℕ)) (fault : Fault) → IsFaultFor model opened put words given old new fault
+    → IsFaultFor model opened AnyPut words given old new fault
+fault_any model opened put words given old new fault (inl refused) = inl refused
+fault_any model opened put words given old new fault (inr is) = inr (is.0, is.1, may_any model opened put is.0 given old new fault is.2)
 
 -- a run on files of which nothing is known has the outcome of one on files of which all is
 pub outcome_any : {D : Type 0} (model : Ghosts D) (opened : List ℕ → Access → D → Type 0) (put : List Put → Type 0) (words : List Text) (given old new told_old told_new : Option (List ℕ)) (outcome : Outcome)
     → IsOutcome model opened put words given old new told_old told_new outcome → IsOutcome model opened AnyPut words given old new told_old told_new outcome
 outcome_any model opened put words given old new told_old told_new (Answered ended) is =
     ((is.0.0, is.0.1, printed_any model opened put is.0.0 given ended old new is.0.2), is.1)
-outcome_any model opened put words given old new told_old told_new (Told fault) is = (fault_any model opened put words given fault is.0, is.1)
-outcome_any model opened put words given old new told_old told_new (Untold fault) is = fault_any model opened put words given fault is
+outcome_any model opened put words given old new told_old told_new (Told fault) is = (fault_any model opened put words given old new fault is.0, is.1)
+outcome_any model opened put words given old new told_old told_new (Untold fault) is = fault_any model opened put words given old new fault is

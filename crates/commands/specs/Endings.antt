@@ -1,5 +1,5 @@
 -- Which faults may end a run.
-use Rattle.std.specs.Prelude.{◌≡◌, ◌≢◌, ◌<◌, ◌⊎◌, ℕ, List, [], Option, IsTrue, length}
+use Rattle.std.specs.Prelude.{◌≡◌, ◌≢◌, ◌<◌, ◌⊎◌, ℕ, List, [], Option, Some, None, IsTrue, length}
 use Rattle.clap.specs.Walk.{Text}
 use Rattle.disk_trait.specs.declared.disk.Disk.{Ghosts}
 use Rattle.disk_trait.specs.Disk.{DiskView, OnlyRead}
@@ -19,6 +19,8 @@ use Rattle.device_commands.specs.Openings.{IsEditFault, IsFormatFault, IsOpenFau
 use Rattle.device_commands.specs.Moves.{IsMoveFault, TellsOfOld}
 use Rattle.service_threads.specs.Kept.{IsLeftBy}
 use Rattle.service_lines.specs.ServedLines.{IsServeEnd}
+use Rattle.live_service.specs.Inputs.{Bytes}
+use Rattle.live_service.specs.Prints.{HasPrinted}
 use Rattle.command_line.specs.Asked.{IsAskedFor, IsInRange, IsRefusedFor}
 use Rattle.command_line.specs.declared.refused.WordsRefused.{WordsRefused}
 use Rattle.command_line.specs.declared.refused.WordsRefused.TheVariants as why
@@ -107,6 +109,16 @@ abbrev pub EndsServe : {D : Type 0} → Ghosts D → (D → Type 0) → Option (
 EndsServe model opened given editors words fault =
     IsScriptFault given editors fault ⊎ IsFileFault fault ⊎ OfServed opened (λ disk back. IsServeEnd model disk words back fault × IsLeftBy model disk back)
 
+-- unless the output failed, answers to the first lines that a reader gives were printed, in their order, and nothing else
+abbrev pub BeginsAnswers : Option (List ℕ) → ℕ → Option (List ℕ) → Option (List ℕ) → Fault → Type 0
+BeginsAnswers given editors old new fault = fault ≢ told.Output → (count : ℕ) × HasPrinted (Bytes given) editors old new count
+
+-- No lines are answered, since memory ran out or the device can't be had; or the live service ended by this fault.
+abbrev pub EndsLive : {D : Type 0} → Ghosts D → (D → Type 0) → Option (List ℕ) → ℕ → LandmarkWords → Option (List ℕ) → Option (List ℕ) → Fault → Type 0
+EndsLive model opened given editors words old new fault =
+    ((new ≡ old) × ((fault ≡ told.Memory) ⊎ IsFileFault fault))
+    ⊎ (BeginsAnswers given editors old new fault × OfServed opened (λ disk back. IsServeEnd model disk words back fault × IsLeftBy model disk back))
+
 -- No tables are asked of a scheme, and nothing is put; or the scheme is there, and some of them may be put by then. The device was only read.
 abbrev pub IsTablesEnd : LandmarkWords → List ℕ → List ℕ → (List Put → Type 0) → DiskView → DiskView → Fault → Type 0
 IsTablesEnd asked folder named put disk left fault =
@@ -145,22 +157,23 @@ IsRouteFault words fault = IsWordsFault words fault
 
 -- ---- why a run ends
 
--- the faults that may end a task that is under way
-abbrev pub MayEnd : {D : Type 0} → Ghosts D → (List ℕ → Access → D → Type 0) → (List Put → Type 0) → Task → Option (List ℕ) → Fault → Type 0
-MayEnd model opened put (Format device nodes) given fault = EndsBy model (opened device.now Anew) (IsFormatEnd nodes) fault
-MayEnd model opened put (Show device) given fault = EndsBy model (opened device.now ToRead) (IsReadingEnd IsOpenFault) fault
-MayEnd model opened put (Edit device session ticket change) given fault = EndsBy model (opened device.now ToChange) (IsEditEnd session ticket change) fault
-MayEnd model opened put (Resume device session) given fault = EndsBy model (opened device.now ToRead) (IsReadingEnd IsOpenFault) fault
-MayEnd model opened put (Route device pairs words) given fault = EndsBy model (opened device.now ToRead) (IsRouteEnd pairs.items words) fault
-MayEnd model opened put (Check device words) given fault = EndsBy model (opened device.now ToRead) (IsCheckEnd words) fault
-MayEnd model opened put (Migrate device made) given fault = IsFileFault fault ⊎ (fault ≡ told.Output)
+-- the faults that may end a task that is under way, and what a live service has printed by then
+abbrev pub MayEnd : {D : Type 0} → Ghosts D → (List ℕ → Access → D → Type 0) → (List Put → Type 0) → Task → Option (List ℕ) → Option (List ℕ) → Option (List ℕ) → Fault → Type 0
+MayEnd model opened put (Format device nodes) given old new fault = EndsBy model (opened device.now Anew) (IsFormatEnd nodes) fault
+MayEnd model opened put (Show device) given old new fault = EndsBy model (opened device.now ToRead) (IsReadingEnd IsOpenFault) fault
+MayEnd model opened put (Edit device session ticket change) given old new fault = EndsBy model (opened device.now ToChange) (IsEditEnd session ticket change) fault
+MayEnd model opened put (Resume device session) given old new fault = EndsBy model (opened device.now ToRead) (IsReadingEnd IsOpenFault) fault
+MayEnd model opened put (Route device pairs words) given old new fault = EndsBy model (opened device.now ToRead) (IsRouteEnd pairs.items words) fault
+MayEnd model opened put (Check device words) given old new fault = EndsBy model (opened device.now ToRead) (IsCheckEnd words) fault
+MayEnd model opened put (Migrate device made) given old new fault = IsFileFault fault ⊎ (fault ≡ told.Output)
     ⊎ OfOpened model (opened device.now ToRead) (λ from from_left. OfOpened model (opened made.now New) (λ to to_left. IsMoveEnd from from_left to to_left fault))
-MayEnd model opened put (Serve device editors forwarders places words) given fault = EndsServe model (opened device.now ToChange) given editors words fault
-MayEnd model opened put (Tables device folder nodes words) given fault = EndsTables model (opened device.now ToRead) words folder.now nodes.items put fault
+MayEnd model opened put (Serve device editors forwarders places None words) given old new fault = EndsServe model (opened device.now ToChange) given editors words fault
+MayEnd model opened put (Serve device editors forwarders places (Some rounds) words) given old new fault = EndsLive model (opened device.now ToChange) given editors words old new fault
+MayEnd model opened put (Tables device folder nodes words) given old new fault = EndsTables model (opened device.now ToRead) words folder.now nodes.items put fault
 
 -- The words are no task that is in range, and the fault is the one for what is wrong with them, or memory ran out while they were read;
 -- or they ask for a task, and the fault is one that may end it.
-abbrev pub IsFaultFor : {D : Type 0} → Ghosts D → (List ℕ → Access → D → Type 0) → (List Put → Type 0) → List Text → Option (List ℕ) → Fault → Type 0
-IsFaultFor model opened put words given fault =
+abbrev pub IsFaultFor : {D : Type 0} → Ghosts D → (List ℕ → Access → D → Type 0) → (List Put → Type 0) → List Text → Option (List ℕ) → Option (List ℕ) → Option (List ℕ) → Fault → Type 0
+IsFaultFor model opened put words given old new fault =
     ((refused : WordsRefused) × (fault ≡ words_fault refused) × IsRefusedFor words refused × ((task : Task) → IsAskedFor words task → IsInRange task → fault ≡ told.Memory))
-    ⊎ ((task : Task) × IsAskedFor words task × MayEnd model opened put task given fault)
+    ⊎ ((task : Task) × IsAskedFor words task × MayEnd model opened put task given old new fault)

@@ -1,5 +1,5 @@
 -- What a command prints.
-use Rattle.std.specs.Prelude.{◌≡◌, ℕ, List, Option, IsTrue}
+use Rattle.std.specs.Prelude.{◌≡◌, ℕ, List, Option, Some, None, IsTrue}
 use Rattle.std.specs.FinMap.{len}
 use Rattle.std.specs.Io.KnownBytes.{Appends}
 use Rattle.clap.specs.Walk.{Text}
@@ -28,6 +28,8 @@ use Rattle.written_values.specs.declared.line.ScriptLine.{ScriptLine}
 use Rattle.written_values.specs.declared.words.LandmarkWords.{LandmarkWords}
 use Rattle.service_threads.specs.Kept.{IsLeftBy}
 use Rattle.service_lines.specs.ServedLines.{IsServed}
+use Rattle.live_service.specs.Inputs.{Bytes}
+use Rattle.live_service.specs.Prints.{AreAllLines, HasPrinted}
 use Rattle.commands.specs.declared.devices.Access.{Access}
 use Rattle.commands.specs.declared.devices.Access.TheVariants.{ToRead, ToChange, Anew, New}
 use Rattle.commands.specs.Devices.{IsAnswerOf, OfOpened, OfServed}
@@ -93,6 +95,11 @@ abbrev pub PrintsServed : {D : Type 0} → Ghosts D → (D → Type 0) → Optio
 PrintsServed model opened given editors ended old new =
     (ended ≡ Done) × (lines : List ScriptLine) × IsScriptOf given editors lines × OfServed opened (λ disk back. IsServed lines old new × IsLeftBy model disk back)
 
+-- `serve --live`: a line for each line that a reader gives, an answer to it, in their order
+abbrev pub PrintsLive : {D : Type 0} → Ghosts D → (D → Type 0) → Option (List ℕ) → ℕ → Ended → Option (List ℕ) → Option (List ℕ) → Type 0
+PrintsLive model opened given editors ended old new =
+    (ended ≡ Done) × ((count : ℕ) × HasPrinted (Bytes given) editors old new count × AreAllLines (Bytes given) count) × OfServed opened (λ disk back. IsLeftBy model disk back)
+
 -- `tables`: the files of the tables that a scheme of that graph has of nodes, and their line, or that a node isn't there
 abbrev pub PrintsTables : LandmarkWords → List ℕ → List ℕ → (List Put → Type 0) → DiskView → DiskView → Ended → Option (List ℕ) → Option (List ℕ) → Type 0
 PrintsTables words folder named put disk left ended old new =
@@ -109,7 +116,8 @@ PrintedFor model opened put (Route device pairs words) given ended old new = OfO
 PrintedFor model opened put (Check device words) given ended old new = OfOpened model (opened device.now ToRead) (λ disk left. PrintsCheck words disk left ended old new)
 PrintedFor model opened put (Migrate device made) given ended old new =
     OfOpened model (opened device.now ToRead) (λ from left. OfOpened model (opened made.now New) (λ to made. PrintsMoved from to made ended old new))
-PrintedFor model opened put (Serve device editors forwarders places words) given ended old new = PrintsServed model (opened device.now ToChange) given editors ended old new
+PrintedFor model opened put (Serve device editors forwarders places None words) given ended old new = PrintsServed model (opened device.now ToChange) given editors ended old new
+PrintedFor model opened put (Serve device editors forwarders places (Some rounds) words) given ended old new = PrintsLive model (opened device.now ToChange) given editors ended old new
 PrintedFor model opened put (Tables device folder nodes words) given ended old new = OfOpened model (opened device.now ToRead) (λ disk left. PrintsTables words folder.now nodes.items put disk left ended old new)
 
 -- the answer to a task that the words ask for was printed, and nothing else

@@ -11,25 +11,28 @@
 //! | `migrate OLD NEW` | what OLD holds, a device of layout 1, is brought to a new file | `migrated count=C edges=E` |
 //! | `tables DEVICE FOLDER --words W --node N..` | the scheme is built, and the tables of these nodes, or of all, are put into the folder | `generation=G tables=K bytes=B greatest=M`, or `no node` |
 //! | `serve DEVICE --words W --editors E --forwarders F --queue Q` | the script that the reader gives is run, by E editors and F forwarders, with Q places in the queue | a line for each of its lines, as `edit` and `route` print them, or `no node` |
+//! | the same with `--live --rounds R` | each line that the reader gives is answered as it comes | a line for each of its lines, as `live_lines` spells it |
 //!
 //! An OP is `add:A:B:W`, `set:A:B:W` or `cut:A:B`. W says which nodes are landmarks: `none`, those of `at:2,5`, or those that
-//! `draw:7` draws. A line of a script is `S OP..`, a change of session S, or `route A B`. Where they aren't named, E and F are 2 and Q
-//! is 64. Of all commands `serve` alone reads what the reader gives. What ends a command is a `Fault`, told on the second writer as
-//! `tznode: TEXT`.
+//! `draw:7` draws. A line of a script is `S OP..`, a change of session S, or `route A B`. Where they aren't named, E and F are 2, Q
+//! is 64 and R is 16. Of all commands `serve` alone reads what the reader gives. What ends a command is a `Fault`, told on the second
+//! writer as `tznode: TEXT`; a live service has printed by then what it answered.
 //!
 //! Here stand where devices are, what is printed of each command's answer, the routes, the threads that build a scheme for a check and
 //! for tables, and the run. The words are read in `command_line`, the lines and faults are spelt in `command_output`, and what
 //! `format`, `show`, `edit`, `resume` and `migrate` do on a device is in `device_commands`; the files of `tables` are put in
-//! `table_files`, the threads of `serve` are in `service_threads`, and its lines in `service_lines`.
+//! `table_files`, the threads of `serve` are in `live_service`, and the lines of a script's answers in `service_lines`.
 //!
 //! A command is a call on a disk. The run opens that disk by the path of its words, at a place of [`Devices`], and drops it behind the
 //! call. The program's place is the system's files. `tables` puts its files at a place of `TableFiles`, which lists what was put.
 //!
 //! The contract that the layer above uses is that of [`run_words`]: of any run that what it printed is the answer to what its words
-//! ask for, or which fault ended it, and with which status, and that no other command reads what is meant for `serve`. [`run`] says
-//! the same of how it ended ([`Outcome`]), and [`run_on`] of devices and files of any kind, and that no other command than `tables`
-//! puts a file. Where a device keeps the disk model, the answer is that of the state for which the content of the device by that path
-//! stands, and the fault is true of that device. What a file of the system holds is tested.
+//! ask for, or which fault ended it, and with which status, and that no other command reads what is meant for `serve`.
+//! [`run_words_at`] says it of a place of `tables` that the caller brings. [`run`] says the same of how it ended ([`Outcome`]), and
+//! [`run_on`] of devices and files of any kind, and that no other command than `tables` puts a file there: what a line of a live service
+//! asks to be put is put into files of the system. Where a device keeps the disk model, the answer is that of the state for which the
+//! content of the device by that path stands, and the fault is true of that device. Of a live service it says that its lines are answers,
+//! each to the line at its place. What a file of the system holds is tested.
 //!
 //! ```text
 //! let words = ["edit", "device", "add:0:1:1"];
@@ -50,5 +53,5 @@ mod tables;
 
 pub use devices::{Access, Devices};
 pub use outcome::Outcome;
-pub use running::{run, run_on, run_words};
+pub use running::{run, run_on, run_words, run_words_at};
 pub use scheme_tasks::{check_device, route_device};

@@ -1,8 +1,9 @@
 //! How a run of the program ends.
 ghost use Rattle.std.specs.Prelude.{◌≡◌, ◌≤◌};
-ghost use Rattle.commands.specs.Outcomes.{status_in};
+ghost use Rattle.commands.specs.Outcomes.{IsToldSo, status_in};
 
-use command_output::{Ended, Fault};
+use command_output::{Ended, Fault, tell};
+use std::io::Write;
 
 /// How a run of the program ended.
 #[derive(Clone, Copy, Debug, PartialEq, Eq, Drop)]
@@ -26,5 +27,18 @@ impl Outcome {
             Outcome::Told(fault) => fault.status(),
             Outcome::Untold(fault) => fault.status(),
         }
+    }
+}
+
+/// Tells a fault, where one ended the run.
+pub(crate) fn told<E: Write>(err: &mut E, ended: Result<Ended, Fault>) -> Outcome
+    ensures { IsToldSo ended (E.contents err.old) (E.contents err.new) result }
+{
+    match ended {
+        Ok(ended) => Outcome::Answered(ended),
+        Err(fault) => match tell(err, fault) {
+            Ok(()) => Outcome::Told(fault),
+            Err(_) => Outcome::Untold(fault),
+        },
     }
 }

@@ -1,5 +1,5 @@
 //! The program, on any words, reader and writers.
-ghost use Rattle.std.specs.Prelude.{◌≡◌, ◌≢◌, ◌≤◌, ◌<◌, ◌⊎◌, ℕ, IfOk, IfErr};
+ghost use Rattle.std.specs.Prelude.{◌≡◌, ◌≢◌, ◌≤◌, ◌<◌, ◌⊎◌, ℕ, List, Option, None, IfOk, IfErr};
 ghost use Rattle.clap.specs.Walk.{texts};
 ghost use Rattle.requests.specs.Tickets.{sessions};
 ghost use Rattle.command_output.specs.Faults.{IsNotUnderstood, status_of};
@@ -9,19 +9,20 @@ ghost use Rattle.command_line.specs.Asked.{IsAskedFor, IsInRange};
 ghost use Rattle.command_line.specs.declared.task.Task.{Task};
 ghost use Rattle.commands.specs.Devices.{EndsBy, IsFileFault, IsFileOf, OfOpened};
 ghost use Rattle.commands.specs.Endings.{IsEditEnd, IsFaultFor, IsFormatEnd, IsMoveEnd, IsReadingEnd, MayEnd, words_fault};
-ghost use Rattle.commands.specs.Outcomes.{AnyPut, IsOutcome};
-ghost use Rattle.commands.specs.Printed.{AnswersWords, PrintsFormatted, PrintsListing, PrintsMoved, PrintsTicket, PrintsVerdict};
-ghost use Rattle.commands.specs.ServedScripts.{AskService, AskTables};
+ghost use Rattle.commands.specs.Outcomes.{AnyPut, IsOutcome, IsOutcomeOf, IsServiceOutcome};
+ghost use Rattle.commands.specs.Printed.{AnswersWords, PrintedFor, PrintsFormatted, PrintsListing, PrintsMoved, PrintsTicket, PrintsVerdict};
+ghost use Rattle.commands.specs.ServedScripts.{AskLive, AskService, AskTables, IsLiveService, IsOfTables, IsService, MayRun};
+ghost use Rattle.service_threads.specs.Config.{IsServiceConfig};
 ghost use Rattle.table_files.specs.Files.{HasPut};
 
 use crate::devices::{Access, Devices, FileDevices};
 use crate::on_device::{edit_on, format_on, migrate_on, resume_on, show_on};
-use crate::outcome::Outcome;
+use crate::outcome::{Outcome, told};
 use crate::scheme_tasks::{run_check, run_route};
-use crate::service::run_serve;
+use crate::service::{run_live, run_serve};
 use crate::tables::run_tables;
 use command_line::{Task, WordsRefused, understood};
-use command_output::{Ended, Fault, tell};
+use command_output::{Ended, Fault};
 use device_files::DeviceFile;
 use disk_trait::Disk;
 use graph_edits::Change;
@@ -32,44 +33,107 @@ use std::io::{Read, Write};
 use std::rt::Files;
 use std::sync::Wait;
 use std::thread::Threads;
-use table_files::{SystemTables, TableFiles};
+use table_files::{TableFiles, TablePlaces};
+use written_values::LandmarkWords;
 
 /// Does what the words ask for on files, and answers the exit status: 0 done, 1 refused, 2 not understood.
 ///
 /// What is asked for is printed on `out`, and a fault is told on `err`. The words are judged before any file is opened. `serve` alone reads `script`, and reads it to its end.
-pub fn run_words<R, S, O, E>(rt: &R, words: &[&str], script: &mut S, out: &mut O, err: &mut E) -> u8
+pub fn run_words<'a, R, S, O, E>(
+    rt: &'a R,
+    words: &[&str],
+    script: &mut S,
+    out: &mut O,
+    err: &mut E,
+) -> u8
 where
-    R: Files<File = File> + AllocGlobal + Threads + Wait + Sync,
-    S: Read,
+    R: Files<File = File> + AllocGlobal + Threads + Wait + Sync + TablePlaces<'a>,
+    S: Read + Send,
     O: Write,
     E: Write,
     ensures status { result ≤ 2 }
     ensures done { result ≡ 0 → AnswersWords ⟦<DeviceFile as Disk>⟧ IsFileOf AnyPut (texts words.now) (S.remaining script.old) Ended.Done (O.contents out.old) (O.contents out.new) }
-    // The answer is no, or one of the faults of the words' task ended the run; only where the output failed may a part be printed.
+    // The answer is no, or one of the faults of the words' task ended the run; only where the output failed may a part be printed. A
+    // live service has printed answers by then.
     ensures refused { result ≡ 1 → AnswersWords ⟦<DeviceFile as Disk>⟧ IsFileOf AnyPut (texts words.now) (S.remaining script.old) Ended.Refused (O.contents out.old) (O.contents out.new)
-        ⊎ ((fault : Fault) × (status_of fault ≡ 1) × IsFaultFor ⟦<DeviceFile as Disk>⟧ IsFileOf AnyPut (texts words.now) (S.remaining script.old) fault × (fault ≢ Fault.Output → out.new ≡ out.old)) }
+        ⊎ ((fault : Fault) × (status_of fault ≡ 1) × IsFaultFor ⟦<DeviceFile as Disk>⟧ IsFileOf AnyPut (texts words.now) (S.remaining script.old) (O.contents out.old) (O.contents out.new) fault × (¬ AskLive (texts words.now) → fault ≢ Fault.Output → out.new ≡ out.old)) }
     // Words and scripts that aren't understood print nothing, and the fault says so.
-    ensures not_understood { result ≡ 2 → (out.new ≡ out.old)
-        × ((fault : Fault) × IsNotUnderstood fault × IsFaultFor ⟦<DeviceFile as Disk>⟧ IsFileOf AnyPut (texts words.now) (S.remaining script.old) fault) }
+    ensures not_understood { result ≡ 2 → (¬ AskLive (texts words.now) → out.new ≡ out.old)
+        × ((fault : Fault) × IsNotUnderstood fault × IsFaultFor ⟦<DeviceFile as Disk>⟧ IsFileOf AnyPut (texts words.now) (S.remaining script.old) (O.contents out.old) (O.contents out.new) fault) }
     ensures unread { ¬ AskService (texts words.now) → script.new ≡ script.old }
 {
     run(rt, words, script, out, err).status()
 }
 
-/// Does what the words ask for on files, and answers how it ended.
-pub fn run<R, S, O, E>(rt: &R, words: &[&str], script: &mut S, out: &mut O, err: &mut E) -> Outcome
+/// The same with the files of `tables` put at this place.
+pub fn run_words_at<R, T, S, O, E>(
+    rt: &R,
+    tables: &mut T,
+    words: &[&str],
+    script: &mut S,
+    out: &mut O,
+    err: &mut E,
+) -> u8
 where
     R: Files<File = File> + AllocGlobal + Threads + Wait + Sync,
-    S: Read,
+    T: TableFiles + Send,
+    S: Read + Send,
+    O: Write,
+    E: Write,
+    ensures status { result ≤ 2 }
+    ensures done { result ≡ 0 → AnswersWords ⟦<DeviceFile as Disk>⟧ IsFileOf (HasPut (T.puts tables.old) (T.puts tables.new)) (texts words.now) (S.remaining script.old) Ended.Done (O.contents out.old) (O.contents out.new) }
+    ensures refused { result ≡ 1 → AnswersWords ⟦<DeviceFile as Disk>⟧ IsFileOf (HasPut (T.puts tables.old) (T.puts tables.new)) (texts words.now) (S.remaining script.old) Ended.Refused (O.contents out.old) (O.contents out.new)
+        ⊎ ((fault : Fault) × (status_of fault ≡ 1) × IsFaultFor ⟦<DeviceFile as Disk>⟧ IsFileOf (HasPut (T.puts tables.old) (T.puts tables.new)) (texts words.now) (S.remaining script.old) (O.contents out.old) (O.contents out.new) fault × (¬ AskLive (texts words.now) → fault ≢ Fault.Output → out.new ≡ out.old)) }
+    ensures not_understood { result ≡ 2 → (¬ AskLive (texts words.now) → out.new ≡ out.old)
+        × ((fault : Fault) × IsNotUnderstood fault × IsFaultFor ⟦<DeviceFile as Disk>⟧ IsFileOf (HasPut (T.puts tables.old) (T.puts tables.new)) (texts words.now) (S.remaining script.old) (O.contents out.old) (O.contents out.new) fault) }
+    ensures unread { ¬ AskService (texts words.now) → script.new ≡ script.old }
+    ensures unput { ¬ AskTables (texts words.now) → ¬ AskLive (texts words.now) → T.puts tables.new ≡ T.puts tables.old }
+{
+    run_at(rt, tables, words, script, out, err).status()
+}
+
+/// Does what the words ask for on files, and answers how it ended.
+pub fn run<'a, R, S, O, E>(
+    rt: &'a R,
+    words: &[&str],
+    script: &mut S,
+    out: &mut O,
+    err: &mut E,
+) -> Outcome
+where
+    R: Files<File = File> + AllocGlobal + Threads + Wait + Sync + TablePlaces<'a>,
+    S: Read + Send,
     O: Write,
     E: Write,
     ensures outcome { IsOutcome ⟦<DeviceFile as Disk>⟧ IsFileOf AnyPut (texts words.now) (S.remaining script.old) (O.contents out.old) (O.contents out.new) (E.contents err.old) (E.contents err.new) result }
-    ensures untouched { (fault : Fault) → fault ≢ Fault.Output → (result ≡ Outcome.Told fault) ⊎ (result ≡ Outcome.Untold fault) → out.new ≡ out.old }
+    ensures untouched { ¬ AskLive (texts words.now) → (fault : Fault) → fault ≢ Fault.Output → (result ≡ Outcome.Told fault) ⊎ (result ≡ Outcome.Untold fault) → out.new ≡ out.old }
     ensures unread { ¬ AskService (texts words.now) → script.new ≡ script.old }
 {
+    run_at(rt, &mut rt.place(), words, script, out, err)
+}
+
+// The same with the files of `tables` put at this place.
+fn run_at<R, T, S, O, E>(
+    rt: &R,
+    tables: &mut T,
+    words: &[&str],
+    script: &mut S,
+    out: &mut O,
+    err: &mut E,
+) -> Outcome
+where
+    R: Files<File = File> + AllocGlobal + Threads + Wait + Sync,
+    T: TableFiles + Send,
+    S: Read + Send,
+    O: Write,
+    E: Write,
+    ensures outcome { IsOutcome ⟦<DeviceFile as Disk>⟧ IsFileOf (HasPut (T.puts tables.old) (T.puts tables.new)) (texts words.now) (S.remaining script.old) (O.contents out.old) (O.contents out.new) (E.contents err.old) (E.contents err.new) result }
+    ensures untouched { ¬ AskLive (texts words.now) → (fault : Fault) → fault ≢ Fault.Output → (result ≡ Outcome.Told fault) ⊎ (result ≡ Outcome.Untold fault) → out.new ≡ out.old }
+    ensures unread { ¬ AskService (texts words.now) → script.new ≡ script.old }
+    ensures unput { ¬ AskTables (texts words.now) → ¬ AskLive (texts words.now) → T.puts tables.new ≡ T.puts tables.old }
+{
     let devices = FileDevices { files: rt };
-    let mut tables = SystemTables::new(rt);
-    run_on(rt, &devices, &mut tables, words, script, out, err)
+    run_on(rt, &devices, tables, words, script, out, err)
 }
 
 /// Does what the words ask for on devices of any kind, and answers how it ended.
@@ -83,94 +147,149 @@ pub fn run_on<R, F, T, S, O, E>(
     err: &mut E,
 ) -> Outcome
 where
-    R: AllocGlobal + Threads + Wait + Sync,
+    R: Files<File = File> + AllocGlobal + Threads + Wait + Sync,
     F: Devices,
-    T: TableFiles,
-    S: Read,
+    T: TableFiles + Send,
+    S: Read + Send,
     O: Write,
     E: Write,
     ensures outcome { IsOutcome F.Device.Disk (F.opened devices.now) (HasPut (T.puts tables.old) (T.puts tables.new)) (texts words.now) (S.remaining script.old) (O.contents out.old) (O.contents out.new) (E.contents err.old) (E.contents err.new) result }
-    ensures untouched { (fault : Fault) → fault ≢ Fault.Output → (result ≡ Outcome.Told fault) ⊎ (result ≡ Outcome.Untold fault) → out.new ≡ out.old }
+    ensures untouched { ¬ AskLive (texts words.now) → (fault : Fault) → fault ≢ Fault.Output → (result ≡ Outcome.Told fault) ⊎ (result ≡ Outcome.Untold fault) → out.new ≡ out.old }
     ensures unread { ¬ AskService (texts words.now) → script.new ≡ script.old }
-    ensures unput { ¬ AskTables (texts words.now) → T.puts tables.new ≡ T.puts tables.old }
+    ensures unput { ¬ AskTables (texts words.now) → ¬ AskLive (texts words.now) → T.puts tables.new ≡ T.puts tables.old }
 {
-    match run_task(rt, devices, tables, words, script, out) {
-        Ok(ended) => Outcome::Answered(ended),
-        Err(fault) => match tell(err, fault) {
-            Ok(()) => Outcome::Told(fault),
-            Err(_) => Outcome::Untold(fault),
-        },
+    match understood(rt.alloc(), words) {
+        Ok(task) => run_understood(rt, devices, tables, task, script, out, err),
+        Err(refused) => told(err, Err(fault_of(refused))),
     }
 }
 
-fn run_task<R, F, T, S, O>(
+// Does what a task asks for, and answers how it ended.
+fn run_understood<R, F, T, S, O, E>(
     rt: &R,
     devices: &F,
     tables: &mut T,
-    words: &[&str],
+    task: Task<'_>,
     script: &mut S,
+    out: &mut O,
+    err: &mut E,
+) -> Outcome
+where
+    R: Files<File = File> + AllocGlobal + Threads + Wait + Sync,
+    F: Devices,
+    T: TableFiles + Send,
+    S: Read + Send,
+    O: Write,
+    E: Write,
+    requires { MayRun task }
+    ensures outcome { IsOutcomeOf F.Device.Disk (F.opened devices.now) (HasPut (T.puts tables.old) (T.puts tables.new)) task.entry (S.remaining script.old) (O.contents out.old) (O.contents out.new) (E.contents err.old) (E.contents err.new) result }
+    ensures untouched { ¬ IsLiveService task.entry → (fault : Fault) → fault ≢ Fault.Output → (result ≡ Outcome.Told fault) ⊎ (result ≡ Outcome.Untold fault) → out.new ≡ out.old }
+    ensures unread { ¬ IsService task.entry → script.new ≡ script.old }
+    ensures unput { ¬ IsOfTables task.entry → ¬ IsLiveService task.entry → T.puts tables.new ≡ T.puts tables.old }
+{
+    match task {
+        Task::Serve {
+            device,
+            editors,
+            forwarders,
+            places,
+            live,
+            words,
+        } => {
+            let config = ServiceConfig {
+                editors,
+                forwarders,
+                places,
+            };
+            run_service(
+                rt, devices, tables, device, words, config, live, script, out, err,
+            )
+        }
+        task => told(err, run_task(rt, devices, tables, task, out)),
+    }
+}
+
+// Runs a service, over a script or over lines as they come.
+fn run_service<R, F, T, S, O, E>(
+    rt: &R,
+    devices: &F,
+    tables: &mut T,
+    device: &str,
+    words: LandmarkWords,
+    config: ServiceConfig,
+    live: Option<u16>,
+    script: &mut S,
+    out: &mut O,
+    err: &mut E,
+) -> Outcome
+where
+    R: AllocGlobal + Threads + Wait + Sync,
+    F: Devices,
+    T: TableFiles + Send,
+    S: Read + Send,
+    O: Write,
+    E: Write,
+    requires { IsServiceConfig config }
+    ensures outcome { IsServiceOutcome F.Device.Disk (F.opened devices.now device.now Access.ToChange) live (S.remaining script.old) config.editors words
+        (O.contents out.old) (O.contents out.new) (E.contents err.old) (E.contents err.new) result }
+    ensures untouched { live ≡ None → (fault : Fault) → fault ≢ Fault.Output → (result ≡ Outcome.Told fault) ⊎ (result ≡ Outcome.Untold fault) → out.new ≡ out.old }
+    ensures unput { live ≡ None → T.puts tables.new ≡ T.puts tables.old }
+{
+    match live {
+        None => told(
+            err,
+            run_serve(rt, devices, device, words, config, script, out),
+        ),
+        Some(rounds) => run_live(
+            rt, devices, tables, device, words, config, rounds, script, out, err,
+        ),
+    }
+}
+
+// Does what a task asks for that is no service.
+fn run_task<R, F, T, O>(
+    rt: &R,
+    devices: &F,
+    tables: &mut T,
+    task: Task<'_>,
     out: &mut O,
 ) -> Result<Ended, Fault>
 where
     R: AllocGlobal + Threads + Wait + Sync,
     F: Devices,
     T: TableFiles,
-    S: Read,
     O: Write,
-    ensures printed { IfOk result (λ ended. AnswersWords F.Device.Disk (F.opened devices.now) (HasPut (T.puts tables.old) (T.puts tables.new)) (texts words.now) (S.remaining script.old) ended (O.contents out.old) (O.contents out.new)) }
-    ensures fault { IfErr result (λ fault. IsFaultFor F.Device.Disk (F.opened devices.now) (HasPut (T.puts tables.old) (T.puts tables.new)) (texts words.now) (S.remaining script.old) fault) }
+    requires batch { ¬ IsService task }
+    requires numbers { MayRun task }
+    ensures printed { (given : Option (List ℕ)) → IfOk result (λ ended. PrintedFor F.Device.Disk (F.opened devices.now) (HasPut (T.puts tables.old) (T.puts tables.new)) task.entry given ended (O.contents out.old) (O.contents out.new)) }
+    ensures fault { (given : Option (List ℕ)) → IfErr result (λ fault. MayEnd F.Device.Disk (F.opened devices.now) (HasPut (T.puts tables.old) (T.puts tables.new)) task.entry given (O.contents out.old) (O.contents out.new) fault) }
     ensures untouched { IfErr result (λ fault. fault ≢ Fault.Output → out.new ≡ out.old) }
-    ensures unread { ¬ AskService (texts words.now) → script.new ≡ script.old }
-    ensures unput { ¬ AskTables (texts words.now) → T.puts tables.new ≡ T.puts tables.old }
+    ensures unput { ¬ IsOfTables task.entry → T.puts tables.new ≡ T.puts tables.old }
 {
-    match understood(rt.alloc(), words) {
-        Ok(Task::Format { device, nodes }) => run_format(devices, device, nodes, out),
-        Ok(Task::Show { device }) => run_show(rt.alloc(), devices, device, out),
-        Ok(
-            Task::Edit {
-                device,
-                session,
-                ticket,
-                change,
-            },
-        ) => run_edit(rt, devices, device, session, ticket, change, out),
-        Ok(Task::Resume { device, session }) => {
-            run_resume(rt.alloc(), devices, device, session, out)
-        }
-        Ok(
-            Task::Route {
-                device,
-                pairs,
-                words,
-            },
-        ) => run_route(rt.alloc(), devices, device, &pairs, &words, out),
-        Ok(Task::Check { device, words }) => run_check(rt, devices, device, &words, out),
-        Ok(Task::Migrate { old, new }) => run_migrate(rt.alloc(), devices, old, new, out),
-        Ok(
-            Task::Serve {
-                device,
-                editors,
-                forwarders,
-                places,
-                words,
-            },
-        ) => {
-            let config = ServiceConfig {
-                editors,
-                forwarders,
-                places,
-            };
-            run_serve(rt, devices, device, words, config, script, out)
-        }
-        Ok(
-            Task::Tables {
-                device,
-                folder,
-                nodes,
-                words,
-            },
-        ) => run_tables(rt, devices, device, tables, &words, folder, &nodes, out),
-        Err(refused) => Err(fault_of(refused)),
+    match task {
+        Task::Format { device, nodes } => run_format(devices, device, nodes, out),
+        Task::Show { device } => run_show(rt.alloc(), devices, device, out),
+        Task::Edit {
+            device,
+            session,
+            ticket,
+            change,
+        } => run_edit(rt, devices, device, session, ticket, change, out),
+        Task::Resume { device, session } => run_resume(rt.alloc(), devices, device, session, out),
+        Task::Route {
+            device,
+            pairs,
+            words,
+        } => run_route(rt.alloc(), devices, device, &pairs, &words, out),
+        Task::Check { device, words } => run_check(rt, devices, device, &words, out),
+        Task::Migrate { old, new } => run_migrate(rt.alloc(), devices, old, new, out),
+        Task::Tables {
+            device,
+            folder,
+            nodes,
+            words,
+        } => run_tables(rt, devices, device, tables, &words, folder, &nodes, out),
+        Task::Serve { .. } => unreachable!(),
     }
 }
 

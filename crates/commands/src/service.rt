@@ -1,21 +1,25 @@
-//! The command `serve`.
-ghost use Rattle.std.specs.Prelude.{◌≡◌, ◌≢◌, IfOk, IfErr};
+//! The command `serve`, over a script or over lines as they come.
+ghost use Rattle.std.specs.Prelude.{◌≡◌, ◌≢◌, ◌⊎◌, IfOk, IfErr};
 ghost use Rattle.command_output.specs.declared.fault.Fault.{Fault};
 ghost use Rattle.written_values.specs.Scripts.{AreOfSessions};
 ghost use Rattle.service_threads.specs.Config.{IsServiceConfig};
 ghost use Rattle.commands.specs.Endings.{EndsServe};
+ghost use Rattle.commands.specs.Outcomes.{IsEndOf, IsLiveOutcome};
 ghost use Rattle.commands.specs.Printed.{PrintsServed};
 ghost use Rattle.commands.specs.ServedScripts.{IsReadFault, IsScriptFault, IsScriptOf};
 
 use crate::devices::{Access, Devices};
+use crate::outcome::{Outcome, told};
 use command_output::{Ended, Fault};
-use service_lines::serve_lines;
+use live_service::{serve_lines, serve_live};
+use service_lines::Served;
 use service_threads::{NoHooks, ServiceConfig};
 use std::alloc::Global;
 use std::io;
-use std::io::{ErrorKind, Read, Write};
+use std::io::{BufReader, ErrorKind, Read, Write};
 use std::sync::Wait;
 use std::thread::Threads;
+use table_files::{LentTables, TableFiles};
 use written_values::{LandmarkWords, ScriptLine, script};
 
 // The script that a reader gives, read to its end. One that isn't understood is none for so many editors.
@@ -74,4 +78,64 @@ where
     let (answer, _) = serve_lines(rt, rt.alloc(), disk, words, config, lines, &NoHooks, out);
     answer?;
     Ok(Ended::Done)
+}
+
+// How a live service ended, as the program ends.
+fn outcome_of(served: Served) -> Outcome
+    ensures { IsEndOf served result }
+{
+    match served {
+        Served::Printed => Outcome::Answered(Ended::Done),
+        Served::Told(fault) => Outcome::Told(fault),
+        Served::Untold(fault) => Outcome::Untold(fault),
+    }
+}
+
+/// Answers the lines that a reader gives on a device, each as it comes, until the reader's end. A fault is told. The tables that lines ask
+/// for are put at this place.
+pub(crate) fn run_live<R, F, T, S, O, E>(
+    rt: &R,
+    devices: &F,
+    tables: &mut T,
+    device: &str,
+    words: LandmarkWords,
+    config: ServiceConfig,
+    rounds: u16,
+    from: &mut S,
+    out: &mut O,
+    err: &mut E,
+) -> Outcome
+where
+    R: AllocGlobal + Threads + Wait + Sync,
+    F: Devices,
+    T: TableFiles + Send,
+    S: Read + Send,
+    O: Write,
+    E: Write,
+    requires { IsServiceConfig config }
+    ensures { IsLiveOutcome F.Device.Disk (F.opened devices.now device.now Access.ToChange) (S.remaining from.old) config.editors words
+        (O.contents out.old) (O.contents out.new) (E.contents err.old) (E.contents err.new) result }
+{
+    let Ok(input) = BufReader::new(rt.alloc(), from) else {
+        return told(err, Err(Fault::Memory));
+    };
+    let disk = match devices.open(device, Access::ToChange) {
+        Ok(disk) => disk,
+        Err(fault) => return told(err, Err(fault)),
+    };
+    let rounds = u32::from(rounds);
+    let (served, _) = serve_live(
+        rt,
+        rt.alloc(),
+        disk,
+        words,
+        config,
+        rounds,
+        input,
+        &NoHooks,
+        LentTables::new(tables),
+        out,
+        err,
+    );
+    outcome_of(served)
 }

@@ -7,3 +7,4 @@ pub mod Logs
 pub mod Telling
 pub mod Rebuilding
 pub mod Crashing
+pub mod Listings

@@ -22,10 +22,10 @@ use Rattle.committer.proofs.Tying.{tied_first, tied_taken, tied_marks, tied_down
 all_bare : (o : Outgoing) → o.due ≡ [] → all_of o ≡ o.posted
 all_bare o none = ap (λ l. o.posted ++ l) none ∙ append-nil o.posted
 
-all_posted : (o : Outgoing) (p : Notice) → o.due ≡ [] → all_of (with_posted o p) ≡ all_of o ++ p ∷ []
+pub all_posted : (o : Outgoing) (p : Notice) → o.due ≡ [] → all_of (with_posted o p) ≡ all_of o ++ p ∷ []
 all_posted o p none = append-nil (o.posted ++ p ∷ []) ∙ ap (λ l. l ++ p ∷ []) (sym (all_bare o none))
 
-all_due : (o : Outgoing) (p : Notice) → o.due ≡ [] → all_of (with_due o p) ≡ all_of o ++ p ∷ []
+pub all_due : (o : Outgoing) (p : Notice) → o.due ≡ [] → all_of (with_due o p) ≡ all_of o ++ p ∷ []
 all_due o p none = ap (λ l. l ++ p ∷ []) (sym (all_bare o none))
 
 -- what is tied to a list is tied to an outbox that has it

@@ -6,3 +6,4 @@ pub mod CommitterWords
 pub mod Rounds
 pub mod Crashes
 pub mod Rebuilds
+pub mod Listed

@@ -11,7 +11,7 @@ ghost use Rattle.checkpoint.specs.StoreWords.{state_of, nodes_of, view_of, is_do
 ghost use Rattle.node_table.specs.Tables.{tables};
 ghost use Rattle.node_table.specs.Service.{Serves};
 ghost use Rattle.generations.specs.declared.posting.Notice.TheVariants.{Marked, Failed, Built};
-ghost use Rattle.intake.specs.Turns.{of, last_asked};
+ghost use Rattle.intake.specs.Turns.{of, last_asked, AreWithin};
 ghost use Rattle.intake.specs.Ends.{HasTaken};
 ghost use Rattle.scheme_builds.specs.Schemes.{IsSchemeOf};
 ghost use Rattle.group_commit.specs.DeskWords.{store_of as desk_store, held_of as desk_held, due_of as desk_due, IsPastLimits};
@@ -76,6 +76,7 @@ fn fill<D: Disk, W: Wait>(rt: &W, taker: &mut Taker, desk: &mut Desk<D>) -> usiz
     ensures fewer { result < most_held → taker.old.empties < taker.new.empties }
     ensures taken { HasTaken taker.old taker.new }
     ensures rises { Rises taker.new.starts (asked_all taker.new.got) }
+    ensures within { AreWithin (desk_held desk.new) }
 {
     let mut taken: usize = 0;
     for _ in 0..MOST_HELD {
@@ -90,6 +91,7 @@ fn fill<D: Disk, W: Wait>(rt: &W, taker: &mut Taker, desk: &mut Desk<D>) -> usiz
 
 impl<D: Disk, R: Wait + Drop> Committer<D, R> {
     ghost use Rattle.committer.specs.CommitterWords.{desk_of, store_of, held_of, taker_of, queue_of, got_of, empties_of, posts_of, newest_of, taken, asked, settled};
+    ghost use Rattle.committer.specs.Listed.{IsListedFrom, StaysListed};
 
     /// A committer of a desk, a queue and a board at their beginning.
     pub fn new(desk: Desk<D>, taker: Taker, writer: BoardWriter<R>) -> Committer<D, R>
@@ -109,6 +111,8 @@ impl<D: Disk, R: Wait + Drop> Committer<D, R> {
         ensures queue { queue_of result ≡ taker.queue }
         ensures taker { taker_of result ≡ taker }
         ensures posts { posts_of result ≡ record { opening = writer.opening; posted = []; due = [] } }
+        // From the store's state on nothing was taken or posted yet.
+        ensures listed { IsListedFrom (state_of (store_of result)) result }
     {
         let outbox = Outbox::new(writer);
         Committer {
@@ -185,6 +189,8 @@ impl<D: Disk, R: Wait + Drop> Committer<D, R> {
         ensures whole { IsTrue (view_of (store_of self.new)).keeps_model → LeavesGroupWhole (store_of self.new) (held_of self.new) }
         // No posted count is above the store's, so each image has all that was told.
         ensures tells { TellsUpTo (state_of (store_of self.new)).count (posts_of self.new).posted }
+        // What was taken stays one list, and what is posted and due goes with it, whatever the answer.
+        ensures listed { StaysListed self.old self.new }
     {
         if self.desk.store().is_down() {
             let _paid = self.outbox.pay();
@@ -238,6 +244,7 @@ impl<D: Disk, R: Wait + Drop> Committer<D, R> {
             → LeavesOnly (view_of (store_of self.old)) (view_of (store_of self.new)) (λ image. StandsFor (state_of (store_of self.old)) image ⊎ StandsFor (settle (state_of (store_of self.old)) (held_of self.old)).state image) }
         ensures refused { IsErrOf result RoundRefused.Memory ⊎ IsErrOf result RoundRefused.Worn → IsTrue (view_of (store_of self.old)).keeps_model
             → LeavesOnly (view_of (store_of self.old)) (view_of (store_of self.new)) (StandsFor (state_of (store_of self.old))) }
+        ensures listed { StaysListed self.old self.new }
     {
         match self.desk.commit(alloc) {
             Ok(accepted) => {
@@ -286,6 +293,7 @@ impl<D: Disk, R: Wait + Drop> Committer<D, R> {
         ensures memory_news { IsErrOf result RebuildRefused.Memory → ¬ (IsNumbered (state_of (store_of self.old)).count (all_of (posts_of self.old))) }
         ensures board { IsErrOf result RebuildRefused.Board → (((posts_of self.old).due ≢ []) × (posts_of self.new ≡ posts_of self.old))
             ⊎ ((posts_of self.new ≡ paid (posts_of self.old)) ⊎ IsOwed words.now (state_of (store_of self.old)) (posts_of self.old) (posts_of self.new)) }
+        ensures listed { StaysListed self.old self.new }
     {
         let Some(number) = self.generation_due()? else {
             return Ok(self.desk.store().count());
@@ -318,6 +326,7 @@ impl<D: Disk, R: Wait + Drop> Committer<D, R> {
         ensures memory { ¬ (IsErrOf result RebuildRefused.Memory) }
         ensures leaves { OnErr result (posts_of self.new ≡ posts_of self.old) }
         ensures board { IsErrOf result RebuildRefused.Board → (posts_of self.old).due ≢ [] }
+        ensures listed { StaysListed self.old self.new }
     {
         if self.desk.store().is_down() {
             return Err(RebuildRefused::Down);
@@ -354,6 +363,8 @@ impl<D: Disk, R: Wait + Drop> Committer<D, R> {
         ensures posted { OnOk result (posts_of self.new ≡ with_posted (posts_of self.old) (Built number (arc_value scheme))) }
         ensures only_board { IsErr result → IsErrOf result RebuildRefused.Board }
         ensures board { IsErrOf result RebuildRefused.Board → (posts_of self.new ≡ posts_of self.old) ⊎ (posts_of self.new ≡ with_due (posts_of self.old) (Built number (arc_value scheme))) }
+        // What was taken stays one list, where the scheme has the number too.
+        ensures listed { (arc_value scheme).generation ≡ number → StaysListed self.old self.new }
     {
         match self.outbox.offer(Posting::Generation { number, scheme }) {
             Offered::Posted => {
@@ -371,6 +382,7 @@ impl<D: Disk, R: Wait + Drop> Committer<D, R> {
 
 impl<D: Disk, R: Wait + Drop> Committer<D, R> {
     ghost use Rattle.committer.specs.CommitterWords.{store_of, held_of, taker_of, queue_of, got_of, empties_of, posts_of};
+    ghost use Rattle.committer.specs.Listed.{StaysListed};
 
     /// The store, without what is held and due.
     pub fn into_store(self) -> Store<D>
@@ -390,6 +402,7 @@ impl<D: Disk, R: Wait + Drop> Committer<D, R> {
         ensures whole { (waits : List Request) × (editor.put ≡ of editor.session (got_of self.new ++ waits)) }
         ensures store { store_of self.new ≡ store_of self.old }
         ensures same { (held_of self.new ≡ held_of self.old) × ((got_of self.new ≡ got_of self.old) × ((queue_of self.new ≡ queue_of self.old) × (posts_of self.new ≡ posts_of self.old))) }
+        ensures listed { StaysListed self.old self.new }
     {
         self.taker.end(editor)
     }

@@ -3,18 +3,18 @@
 //! # What it is
 //!
 //! A [`Committer`] owns a desk with its store, the front of an intake queue and a board's writer. [`Committer::round`] takes up to
-//! 64 requests from the queue, has the desk settle and commit them as one group, and then posts one mark for each: never before
-//! the commit answered `Ok`. [`Committer::rebuild`] builds the routing scheme of the store's graph and posts it as a generation,
-//! under the store's count. Whoever builds it elsewhere, in threads for one, asks [`Committer::generation_due`] for the number, and
-//! hands the scheme to [`Committer::announce`]; `rebuild` is these two with a build between them.
+//! 64 requests from the queue, has the desk settle and commit them as one group, and posts one mark for each, only after the
+//! commit answered `Ok`. [`Committer::rebuild`] builds the routing scheme of the store's graph and posts it as a generation, under
+//! the store's count. To build it elsewhere, as in threads, ask [`Committer::generation_due`] for the number and hand the scheme
+//! to [`Committer::announce`]. `rebuild` is these two with a build between.
 //!
-//! A post may be refused. What isn't posted yet is due, at most one posting at a time, and each later call tries it before all
-//! else; meanwhile nothing is taken. A group whose commit had no memory, or met a limit, is kept, and a later round settles it
-//! before it takes another.
+//! A post may be refused. Then the posting waits in the outbox, at most one at a time; each later call tries it first, and takes
+//! nothing until it is posted. If a commit lacks memory or meets a limit, its group is kept, and a later round settles it before
+//! it takes another.
 //!
 //! # The contract
 //!
-//! Contracts see a committer by the words of specs/CommitterWords.antt: its store, what it holds, all that it took, what is
+//! Contracts see a committer by the definitions of specs/CommitterWords.antt: its store, what it holds, all that it took, what is
 //! posted and due. What the layer above uses is [`Committer::round`]:
 //!
 //! | Answer | What it says |
@@ -29,9 +29,9 @@
 //!
 //! On a device that keeps the disk model a crash at any moment of a round leaves the state of before, or the one after the whole
 //! group (`any_moment`); and a crash between two calls leaves the store's state, or the one with the whole group that is held,
-//! also after a failure of the device (`whole`). What was posted as accepted has a count that the store has reached (`tells`), so each
-//! image has every change that was told. How what was taken, held, posted and stored go together is one record, `IsTied`
-//! ([`Committer::told`]).
+//! also after a failure of the device (`whole`). A count that was posted as accepted is one that the store has reached (`tells`),
+//! so each image has every change that was answered `accepted`. One record, `IsTied`, ties together what was taken, held, posted
+//! and stored ([`Committer::told`]).
 //!
 //! ```text
 //! let (writer, readers) = board(alloc, rt, 1, &desk.starts(), desk.store().count())?;

@@ -1,18 +1,18 @@
-//! Forwarders: what nodes do with packets, by the board that they look at.
+//! Forwarders: what nodes do with packets, according to the board.
 //!
-//! A [`Forwarder`] looks at the board by a reader of its own. What it answers is a function of the shelf that it looks
-//! at (`specs/Answers`), and a public function on a [`generations::Board`]: [`latest_on`], [`address_on`], [`launch_on`]
-//! and [`hop_on`]. An address is launched, and a packet is passed on, by the scheme of its own generation, or refused
-//! where that generation has left the shelf. A refused packet comes back as it was.
+//! A [`Forwarder`] looks at the board by a reader of its own. What it answers depends only on the shelf that it sees
+//! (`specs/Answers`). Each answer is also a public function on a [`generations::Board`]: [`latest_on`], [`address_on`],
+//! [`launch_on`] and [`hop_on`]. Addresses and packets name their generation, and its scheme decides. If that generation has left
+//! the shelf, they are refused. A refused packet comes back as it was.
 //!
-//! The contract that the layers above use: each answer is that of the board after the beginning of its list that the
-//! forwarder then knows, which goes on from all that it saw or was told; or it is [`Refused::BoardShut`].
-//! [`Forwarder::hop_bytes`] does the same with packets in bytes: what it writes is the spelling of the packet that
-//! [`Forwarder::hop`] gives. No call takes memory or waits. What a forwarder knows is lawful ([`Forwarder::known`]).
+//! The contract that the layers above use: each answer is that of the board as the forwarder then knows it, which is never older
+//! than what it saw or learnt before; or it is [`Refused::BoardShut`]. [`Forwarder::hop_bytes`] does the same with packets in
+//! bytes: what it writes is the spelling of the packet that [`Forwarder::hop`] gives. No call takes memory or waits. What a
+//! forwarder knows is lawful ([`Forwarder::known`]).
 //!
-//! What follows for a packet's whole way, whatever the board publishes between its hops, is the contract of
-//! [`forwarding_laws`]: every packet comes to an end, whatever it holds; and one that was launched is delivered over a good
-//! trip (`specs/Arrivals`), where each call that doesn't carry it on says that the board was shut or its generation is gone.
+//! [`forwarding_laws`] says what follows for a packet's whole way, whatever is posted between its hops. Every packet comes to an
+//! end, whatever it holds. One that was launched is delivered over a good trip (`specs/Arrivals`); a call that doesn't carry it on
+//! says that the board was shut or that its generation is gone.
 //!
 //! ```text
 //! let mut forwarder = Forwarder::new(reader);

@@ -2,9 +2,9 @@
 //!
 //! # What it is
 //!
-//! A [`Life`] opens the device, builds a generation of its network, runs a list of events in any order (the crate `interleave`), in
-//! which the device may fail by a plan, and crashes. [`lives`] runs some of them and reports what each was. It is a small function:
-//! what it is for is its contract, which says of all of them together what the layers below say of one call.
+//! A [`Life`] opens the device, builds a generation of its network, runs a list of events in any order (the crate `interleave`),
+//! in which the device may fail by a plan, and crashes. [`lives`] runs some of them and reports what each was. The function is
+//! small. Its point is the contract: it says of all lives together what the layers below say of one call.
 //!
 //! # The contract
 //!
@@ -19,7 +19,7 @@
 //! | `refused` | where the disk stands for anything, an opening is refused by `Device` or `Memory` alone |
 //! | `no_memory` | where there was no room for the replies, no life ran, and the disk is the one that was handed over |
 //!
-//! A life (`IsLived`) is said in three parts:
+//! `IsLived` describes a life in three parts:
 //!
 //! - **answered** (`IsAnswered`): what the rebuild and each event were answered, each by the call that it stands for; what was asked, taken
 //!   and settled is what events and replies tell; the lists are kept; each packet goes over the one trip of its own generation, at most three times as
@@ -33,8 +33,8 @@
 //! [`lives`] drops the disk at the end. [`lives_on`] gives it back at every exit, so more lives may go on where these ended: two calls are one
 //! ([`lives_law`]). On a disk in memory, [`lives_in_memory`] says besides which image each crash left: that of the life's word.
 //!
-//! Room for all replies is made before the first life, so that a life that ran is reported. Where a world or the copy of the opened
-//! network has no memory, the life is reported as one that couldn't open.
+//! Memory for all replies is taken before the first life, so that a life that ran is reported. If a world or the copy of the
+//! opened network lacks memory, the life is reported as one that couldn't open.
 //!
 //! ```text
 //! let report = lives(alloc, disk, &[first, second])?;

@@ -1,13 +1,14 @@
 -- What words ask for.
 use Rattle.std.proofs.Common.{◌≡◌, inl, inr, ◌<◌, ◌^◌, ◌∷◌, [], ℕ, List, Option, Some, None, codes, decimal, get_or, length, refl, sym, ap, subst, ◌∙◌, arith}
+use Rattle.std.specs.String.{string_bytes}
 use Rattle.std.proofs.lemmas.Fmt.{decimal_is_IsNumeral}
 use Rattle.std.proofs.lemmas.Str.Parse.{digit_at}
 use Rattle.graph_edits.specs.declared.edits.Op.{Op}
 use Rattle.live_lines.specs.declared.asked.Asked.{Asked}
-use Rattle.live_lines.specs.declared.asked.Asked.TheVariants.{Edit, Resume, Route, Address, NotUnderstood}
+use Rattle.live_lines.specs.declared.asked.Asked.TheVariants.{Edit, Resume, Route, Address, Tables, NotUnderstood}
 use Rattle.live_lines.specs.declared.words.Word.{Word}
 use Rattle.live_lines.specs.declared.words.Word.TheVariants as word
-use Rattle.live_lines.specs.Lines.{AddressAsks, AsksBehind, AsksJust, IsTicket, MayEdit, NodeAsks, RouteAsks, WordsAsk, edit_words, ticket_word, word_text}
+use Rattle.live_lines.specs.Lines.{AddressAsks, AsksBehind, AsksJust, IsFolder, IsTicket, MayEdit, NodeAsks, RouteAsks, TablesAsks, WordsAsk, edit_words, ticket_word, word_text}
 
 -- no number is written as `-`
 no_dash : (n : ℕ) → n < 2 ^ 64 → decimal n ≡ codes "-" → ⊥
@@ -62,6 +63,16 @@ node_asked Behind words node digits asked written fits one (inr none) =
 
 pub no_node : (Behind : ℕ → List ℕ → Asked → Type 0) (words : List (List ℕ)) → ((node : ℕ) (digits : List ℕ) → node < 2 ^ 16 → words ≡ decimal node ∷ digits ∷ [] → ⊥) → AsksJust (NodeAsks Behind words) NotUnderstood
 no_node Behind words none = inr (refl, λ other asks. none asks.node asks.digits asks.fits asks.written)
+
+pub tables_asked : (words : List (List ℕ)) (word : List ℕ) (folder : _) → words ≡ word ∷ [] → IsFolder word → string_bytes folder ≡ word → AsksJust (TablesAsks words) (Tables folder)
+tables_asked words word folder written is same = inl (written ∙ ap (λ (w : List ℕ). w ∷ []) (sym same), subst (λ (w : List ℕ). IsFolder w) (sym same) is)
+
+no_folder : (words : List (List ℕ)) → ((word : List ℕ) → IsFolder word → words ≡ word ∷ [] → ⊥) → (other : Asked) → TablesAsks words other → ⊥
+no_folder words none (Tables folder) asks = none (string_bytes folder) asks.1 asks.0
+no_folder words none _ asks = asks
+
+pub no_tables : (words : List (List ℕ)) → ((word : List ℕ) → IsFolder word → words ≡ word ∷ [] → ⊥) → AsksJust (TablesAsks words) NotUnderstood
+no_tables words none = inr (refl, λ other asks. no_folder words none other asks)
 
 -- a first word alone
 pub alone_asked : (words : List (List ℕ)) (something asked : Asked) → (words ≡ [] → asked ≡ something) → ((words ≡ [] → ⊥) → asked ≡ NotUnderstood) → AsksJust (λ other. (words ≡ []) × (other ≡ something)) asked

@@ -1,7 +1,9 @@
 -- What a live service answers to a line, and the text of an answer.
 use Rattle.std.specs.Prelude.{◌≡◌, ℕ, Option, Some, None, List, [], ◌∷◌, ◌++◌, codes, decimal}
+use Rattle.command_output.specs.declared.fault.Fault.TheVariants.{TableFile}
+use Rattle.command_output.specs.Faults.{fault_text}
 use Rattle.command_output.specs.Lines.{accepted_text, refused_text as refused_change, ticket_text}
-use Rattle.command_output.specs.RouteLines.{absent_text, route_text, unreachable_text}
+use Rattle.command_output.specs.RouteLines.{absent_text, route_text, tables_text, unreachable_text}
 use Rattle.generations.specs.declared.posting.Verdict.{Verdict}
 use Rattle.generations.specs.declared.posting.Verdict.TheVariants.{Accepted, Refused}
 use Rattle.hex.specs.Hex.{encode_lower}
@@ -10,7 +12,7 @@ use Rattle.router_lines.specs.Answers.{move_text, packet_line, refused_text, unr
 use Rattle.live_lines.specs.declared.asked.Asked.{Asked}
 use Rattle.live_lines.specs.declared.asked.Asked.TheVariants as asks
 use Rattle.live_lines.specs.declared.answer.Answer.{Answer}
-use Rattle.live_lines.specs.declared.answer.Answer.TheVariants.{Settled, AlreadyIn, Resumed, Along, Unreachable, NoNode, Told, Sent, Moved, NotCarried, Gone, Unread, State, Waited, NotUnderstood}
+use Rattle.live_lines.specs.declared.answer.Answer.TheVariants.{Settled, AlreadyIn, Resumed, Along, Unreachable, NoNode, Told, Sent, Moved, NotCarried, Gone, Unread, State, Waited, Tables, TablesFailed, NotUnderstood}
 
 -- ---- which answers are of a line
 
@@ -42,6 +44,9 @@ Fits (asks.Hop at packet) (NotCarried refused) = Unit {0}
 Fits (asks.Hop at packet) Gone = Unit {0}
 Fits asks.State (State count generation queue) = Unit {0}
 Fits asks.Wait (Waited generation) = Unit {0}
+Fits (asks.Tables folder) (Tables generation tables bytes greatest) = Unit {0}
+Fits (asks.Tables folder) Gone = Unit {0}
+Fits (asks.Tables folder) TablesFailed = Unit {0}
 Fits (asks.Unread why) (Unread told) = told ≡ why
 Fits asks.NotUnderstood NotUnderstood = Unit {0}
 Fits asked answer = ⊥
@@ -77,4 +82,6 @@ answer_text Gone = codes "generation gone"
 answer_text (Unread e) = unread_text e
 answer_text (State count generation queue) = state_text count generation queue
 answer_text (Waited generation) = codes "generation=" ++ decimal generation
+answer_text (Tables generation tables bytes greatest) = tables_text generation tables bytes greatest
+answer_text TablesFailed = fault_text TableFile
 answer_text NotUnderstood = codes "not understood"

@@ -1,5 +1,6 @@
 -- What lines of a live service ask for.
 use Rattle.std.specs.Prelude.{◌≡◌, ◌≢◌, ◌⊎◌, ◌*◌, ◌<◌, ◌≤◌, ◌^◌, ℕ, Ok, Option, Some, None, List, [], ◌∷◌, All, IsTrue, codes, decimal, length, map}
+use Rattle.std.specs.String.{string_bytes}
 use Rattle.hex.specs.Hex.{decode_sized, is_hex_digit}
 use Rattle.graph_edits.specs.declared.edits.Op.{Op}
 use Rattle.requests.specs.Tickets.{worn_limit}
@@ -14,7 +15,7 @@ use Rattle.written_values.specs.Scripts.{IsChange, words_of}
 use Rattle.live_lines.specs.declared.words.Word.{Word}
 use Rattle.live_lines.specs.declared.words.Word.TheVariants as word
 use Rattle.live_lines.specs.declared.asked.Asked.{Asked}
-use Rattle.live_lines.specs.declared.asked.Asked.TheVariants.{Edit, Resume, Route, Address, Launch, Hop, State, Wait, Unread, NotUnderstood}
+use Rattle.live_lines.specs.declared.asked.Asked.TheVariants.{Edit, Resume, Route, Address, Launch, Hop, State, Wait, Tables, Unread, NotUnderstood}
 
 -- the first words of lines
 abbrev pub word_text : Word → List ℕ
@@ -26,6 +27,7 @@ word_text word.Launch = codes "launch"
 word_text word.Hop = codes "hop"
 word_text word.State = codes "state"
 word_text word.Wait = codes "wait"
+word_text word.Tables = codes "tables"
 
 -- ---- edits
 
@@ -111,6 +113,15 @@ pub record AddressAsks (words : List (List ℕ)) (asked : Asked) : Type 0 where
   pub fits : node < 2 ^ 16
   pub same : asked ≡ Address node
 
+-- a folder's name has a byte or more, each above a blank
+abbrev pub IsFolder : List ℕ → Type 0
+IsFolder text = (text ≢ []) × All (λ c. 32 < c) text
+
+-- the words are a folder's name alone, as it is written
+abbrev pub TablesAsks : List (List ℕ) → Asked → Type 0
+TablesAsks words (Tables folder) = (words ≡ string_bytes folder ∷ []) × IsFolder (string_bytes folder)
+TablesAsks words asked = ⊥
+
 abbrev pub AsksBehind : ℕ → Word → List (List ℕ) → Asked → Type 0
 AsksBehind editors word.Edit words asked = EditAsks editors words asked
 AsksBehind editors word.Resume words asked = ResumeAsks editors words asked
@@ -120,6 +131,7 @@ AsksBehind editors word.Launch words asked = NodeAsks LaunchAsks words asked
 AsksBehind editors word.Hop words asked = NodeAsks HopAsks words asked
 AsksBehind editors word.State words asked = (words ≡ []) × (asked ≡ State)
 AsksBehind editors word.Wait words asked = (words ≡ []) × (asked ≡ Wait)
+AsksBehind editors word.Tables words asked = TablesAsks words asked
 
 -- the words of a line ask for something that is known, in a service of so many editors
 pub record WordsAsk (editors : ℕ) (words : List (List ℕ)) (asked : Asked) : Type 0 where

@@ -1,11 +1,12 @@
 // What is answered to a line, and the line that is printed of it.
 ghost use Rattle.std.specs.Prelude.{◌≡◌, IfOk};
 ghost use Rattle.std.specs.String.{string_bytes};
-ghost use Rattle.command_output.specs.RouteLines.{route_text};
+ghost use Rattle.command_output.specs.RouteLines.{route_text, tables_text};
 ghost use Rattle.live_lines.specs.Answers.{answer_text, of_edit, verdict_text};
 
 use command_output::{
-    AbsentLine, AcceptedLine, RefusedLine, RouteLine, TicketLine, UnreachableLine,
+    AbsentLine, AcceptedLine, Fault, RefusedLine, RouteLine, TablesLine, TicketLine,
+    UnreachableLine,
 };
 use generations::Verdict;
 use node_table::{Address, Move, Packet, Refused};
@@ -66,6 +67,15 @@ pub enum Answer {
     Waited {
         generation: u64,
     },
+    /// So many tables of a generation were put. They have so many bytes in all, and the greatest has so many.
+    Tables {
+        generation: u64,
+        tables: usize,
+        bytes: u128,
+        greatest: usize,
+    },
+    /// The file of a table can't be written.
+    TablesFailed,
     /// The line asks for nothing that is known.
     NotUnderstood,
 }
@@ -104,6 +114,25 @@ fn along_text(
         generation,
         nodes,
         length,
+    };
+    format!(in alloc; "{line}")
+}
+
+/// Tables that were put.
+fn tables_line(
+    alloc: Global,
+    generation: u64,
+    tables: usize,
+    bytes: u128,
+    greatest: usize,
+) -> Result<String, AllocError>
+    ensures { IfOk result (λ text. string_bytes text ≡ tables_text generation tables bytes greatest) }
+{
+    let line = TablesLine {
+        generation,
+        tables,
+        bytes,
+        greatest,
     };
     format!(in alloc; "{line}")
 }
@@ -153,6 +182,13 @@ impl Answer {
                 queue,
             } => format!(in alloc; "count={count} generation={generation} queue={queue}"),
             Answer::Waited { generation } => format!(in alloc; "generation={generation}"),
+            Answer::Tables {
+                generation,
+                tables,
+                bytes,
+                greatest,
+            } => tables_line(alloc, *generation, *tables, *bytes, *greatest),
+            Answer::TablesFailed => String::from_str(alloc, Fault::TableFile.text()),
             Answer::NotUnderstood => String::from_str(alloc, "not understood"),
         }
     }

@@ -3,10 +3,10 @@ ghost use Rattle.std.specs.Prelude.{◌≡◌, ◌≢◌, ◌∷◌, ◌<◌, �
 ghost use Rattle.graph_edits.specs.declared.edits.Op.{Op};
 ghost use Rattle.live_lines.specs.declared.asked.Asked.{Asked};
 ghost use Rattle.live_lines.specs.declared.words.Word.{Word};
-ghost use Rattle.live_lines.specs.Lines.{AddressAsks, AsksBehind, AsksJust, HopAsks, IsAskedIn, IsTicket, LaunchAsks, MayEdit, NodeAsks, RouteAsks, WordsAsk, edit_words, ticket_word};
+ghost use Rattle.live_lines.specs.Lines.{AddressAsks, AsksBehind, AsksJust, HopAsks, IsAskedIn, IsTicket, LaunchAsks, MayEdit, NodeAsks, RouteAsks, TablesAsks, WordsAsk, edit_words, ticket_word};
 
 use crate::digits::{hop_of, launch_of};
-use crate::words::{Word, word_in, words_in};
+use crate::words::{Word, is_folder, word_in, words_in};
 use graph_edits::Change;
 use node_table::{Address, Packet};
 use packet_bytes::WireRefused;
@@ -52,6 +52,11 @@ pub enum Asked {
     State,
     /// That what was answered is in the newest generation.
     Wait,
+    /// The tables of the newest generation, put into a folder.
+    Tables {
+        /// One byte or more, each above a blank.
+        folder: String,
+    },
     /// What is to be launched or to hop has no spelling.
     Unread(WireRefused),
     /// Nothing that is known.
@@ -216,6 +221,21 @@ fn hop_in(alloc: Global, words: &[&str]) -> Result<Asked, AllocError>
     }
 }
 
+/// What is asked for behind `tables`.
+#[tactic(auto, using(crate::proofs::Asking::tables_asked, crate::proofs::Asking::no_tables))]
+fn tables_of(alloc: Global, words: &[&str]) -> Result<Asked, AllocError>
+    ensures { IfOk result (AsksJust (TablesAsks (map (λ x. x.now) words.now))) }
+{
+    let [folder] = words else {
+        return Ok(Asked::NotUnderstood);
+    };
+    if !is_folder(folder) {
+        return Ok(Asked::NotUnderstood);
+    }
+    let folder = String::from_str(alloc, folder)?;
+    Ok(Asked::Tables { folder })
+}
+
 /// What is asked for by a first word alone.
 fn alone(words: &[&str], asked: Asked) -> Asked
     ensures empty { map (λ x. x.now) words.now ≡ [] → result ≡ asked }
@@ -242,6 +262,7 @@ fn behind(alloc: Global, first: Word, words: &[&str], editors: u8) -> Result<Ask
         Word::Hop => hop_in(alloc, words),
         Word::State => Ok(alone(words, Asked::State)),
         Word::Wait => Ok(alone(words, Asked::Wait)),
+        Word::Tables => tables_of(alloc, words),
     }
 }
 

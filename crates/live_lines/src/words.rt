@@ -1,7 +1,7 @@
 // The words of a line.
-ghost use Rattle.std.specs.Prelude.{◌≡◌, IfOk, IfSome, Some, map};
+ghost use Rattle.std.specs.Prelude.{◌≡◌, ◌↔◌, IfOk, IfSome, IsTrue, Some, map};
 ghost use Rattle.live_lines.specs.declared.words.Word.{Word};
-ghost use Rattle.live_lines.specs.Lines.{word_text};
+ghost use Rattle.live_lines.specs.Lines.{IsFolder, word_text};
 ghost use Rattle.written_values.specs.Scripts.{words_of};
 
 use std::alloc::{AllocError, Global};
@@ -17,6 +17,7 @@ pub(crate) enum Word {
     Hop,
     State,
     Wait,
+    Tables,
 }
 
 /// The first word that a text is.
@@ -40,9 +41,18 @@ pub(crate) fn word_in(text: &str) -> Option<Word>
         Some(Word::State)
     } else if text == "wait" {
         Some(Word::Wait)
+    } else if text == "tables" {
+        Some(Word::Tables)
     } else {
         None
     }
+}
+
+/// Whether a word may name a folder: it has a byte or more, and each is above a blank.
+pub(crate) fn is_folder(word: &str) -> bool
+    ensures { IsTrue result ↔ IsFolder word.now }
+{
+    !word.is_empty() && word.as_bytes().iter().all(|byte| *byte > b' ')
 }
 
 /// A line, cut at each blank.

@@ -130,3 +130,22 @@ fn words_alone(rt: HostRuntime) {
     expect_asked(&rt, rt.alloc(), "state", 1, &Asked::State);
     expect_asked(&rt, rt.alloc(), "wait", 1, &Asked::Wait);
 }
+
+/// Names of folders, as they are written.
+const FOLDERS: [&str; 6] = [
+    "out",
+    "/var/tables/new",
+    "..",
+    "-",
+    "täglich",
+    "0123:\"'\\*",
+];
+
+#[test]
+fn tables_into_a_folder(rt: HostRuntime) {
+    for name in &FOLDERS {
+        let line = got(&rt, format!(in rt.alloc(); "tables {name}"));
+        let folder = got(&rt, String::from_str(rt.alloc(), name));
+        expect_asked(&rt, rt.alloc(), line.as_str(), 1, &Asked::Tables { folder });
+    }
+}

@@ -60,3 +60,12 @@ fn writes_answers_again(rt: HostRuntime) {
         "63 9 already in",
     );
 }
+
+#[test]
+fn reads_a_folder_again(rt: HostRuntime) {
+    let folder = match String::from_str(rt.alloc(), "out") {
+        Ok(folder) => folder,
+        Err(_) => got(&rt, String::from_str(rt.alloc(), "out")),
+    };
+    expect_asked(&rt, rt.alloc(), "tables out", 1, &Asked::Tables { folder });
+}

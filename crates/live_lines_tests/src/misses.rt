@@ -225,8 +225,44 @@ fn changes_of_sixteen_ops(rt: HostRuntime) {
     );
 }
 
-/// Bytes that are no text: alone, behind a word, in the place of digits, and cut short.
-const NO_TEXTS: [&[u8]; 4] = [
+#[test]
+fn folders_of_another_form(rt: HostRuntime) {
+    expect_none(
+        &rt,
+        rt.alloc(),
+        &[
+            "tables",
+            "tables ",
+            "tables  out",
+            "tables out ",
+            " tables out",
+            "tables out in",
+            "tables  ",
+            "table out",
+            "Tables out",
+            "tables:out",
+        ],
+    );
+    expect_none(
+        &rt,
+        rt.alloc(),
+        &[
+            "tables out\r",
+            "tables \r",
+            "tables \0",
+            "tables o\0t",
+            "tables out\n",
+            "tables o\tt",
+            "tables\tout",
+            "tables \u{1f}",
+        ],
+    );
+}
+
+/// Bytes that are no text: alone, behind a word, in the place of digits, in that of a folder, and cut short.
+const NO_TEXTS: [&[u8]; 6] = [
+    b"tables \xff",
+    b"tables out\xc3",
     b"\xff",
     b"state \xff",
     b"launch 0 \xc3\x28",

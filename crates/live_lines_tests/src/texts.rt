@@ -203,3 +203,37 @@ fn states(rt: HostRuntime) {
     );
     expect_text(&rt, rt.alloc(), &Answer::NotUnderstood, "not understood");
 }
+
+#[test]
+fn tables_that_were_put(rt: HostRuntime) {
+    let put = Answer::Tables {
+        generation: 7,
+        tables: 5,
+        bytes: 689,
+        greatest: 146,
+    };
+    expect_text(
+        &rt,
+        rt.alloc(),
+        &put,
+        "generation=7 tables=5 bytes=689 greatest=146",
+    );
+    let most = Answer::Tables {
+        generation: 18_446_744_073_709_551_615,
+        tables: 65_535,
+        bytes: 18_446_744_073_709_551_616,
+        greatest: 18_446_744_073_709_551_615,
+    };
+    expect_text(
+        &rt,
+        rt.alloc(),
+        &most,
+        "generation=18446744073709551615 tables=65535 bytes=18446744073709551616 greatest=18446744073709551615",
+    );
+    expect_text(
+        &rt,
+        rt.alloc(),
+        &Answer::TablesFailed,
+        "table file cannot be written",
+    );
+}

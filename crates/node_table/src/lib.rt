@@ -1,22 +1,21 @@
 //! Schemes: the tables by which nodes carry packets over at most three times the shortest way.
 //!
-//! A scheme has two levels, landmarks and clusters (after Thorup and Zwick, Compact Routing Schemes;
-//! the tables, the limits and the order of refusals are this project's profile). From every node as root
-//! there is a tree: over all that it reaches, where it is a landmark, else over its cluster. A node keeps
-//! an entry for each tree that it is in; a node that is no landmark also keeps a directory, the labels in
-//! its own tree. An address is a node with its nearest landmark and the label that it has there.
+//! A scheme has two levels, landmarks and clusters (after Thorup and Zwick, Compact Routing Schemes; the tables, the limits and
+//! the order of refusals are this project's profile). Every node is the root of a tree. A landmark's tree has every node that it
+//! reaches; any other node's tree has its cluster. A node keeps an entry for each tree that it is in. A node that is no landmark
+//! also keeps a directory: the labels of its own tree. An address names a node, its nearest landmark, and the node's label in that
+//! landmark's tree.
 //!
-//! The contract that the layers above use is that of [`build`]: all eight rules (`IsChecked` of
-//! `specs/Checks`) hold of the scheme, so it serves the graph (`Serves` of `specs/Service`, which names
-//! no tree, landmark or label, and whose trips go by ports of the graph), with exactly the landmarks and
-//! the generation that were handed in. That the rules give good service is a law, proved once, as is what
-//! holds of a packet on its way: [`scheme_laws`].
+//! The contract that the layers above use is that of [`build`]: all eight rules (`IsChecked` of `specs/Checks`) hold of the
+//! scheme, so it serves the graph (`Serves` of `specs/Service`, which names no tree, landmark or label, and whose trips go by
+//! ports of the graph), with exactly the landmarks and the generation that were handed in. [`scheme_laws`] has the laws: the rules
+//! give good service, and what holds of a packet on its way.
 //!
-//! A build can be cut into ranges of roots: [`build_between`] gives what it has of one range, [`PartialScheme::join`] joins
-//! those of ranges that meet, and [`PartialScheme::finish`] makes the scheme of all roots, under the contract of [`build`].
+//! A build can be split by ranges of roots: [`build_between`] builds one range, [`PartialScheme::join`] joins two ranges that
+//! meet, and [`PartialScheme::finish`] makes the scheme of all roots, under the contract of [`build`].
 //!
-//! [`Scheme::assemble`] takes any tables, and takes no memory. All calls of a scheme are total for any tables and take none
-//! either, but for [`Scheme::carry`], which takes that of its trail.
+//! [`Scheme::assemble`] takes any tables, and takes no memory. All calls of a scheme are total for any tables. None takes memory
+//! but [`Scheme::carry`], for its trail.
 //!
 //! ```text
 //! let scheme = build(alloc, &graph, &landmarks, generation, &heap)?;

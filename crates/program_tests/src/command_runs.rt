@@ -11,6 +11,7 @@ use std::rt::Files;
 use std::sync::Wait;
 use std::thread::Threads;
 use std::{fs, io};
+use table_files::TablePlaces;
 
 const FIRST_PATH: &str = "format @ 5 -> 0 formatted nodes=5
 edit @ add:0:1:1 -> 0 accepted count=1
@@ -174,11 +175,10 @@ const OPENINGS: [&str; 5] = [
 ];
 
 // No command takes a device that can't be opened: each tells the same fault, and leaves the file.
-pub(crate) fn expect_no_store<R: Files<File = File> + AllocGlobal + Abort + Threads + Wait + Sync>(
-    rt: &R,
-    d: &str,
-    told: &str,
-) {
+pub(crate) fn expect_no_store<
+    'a,
+    R: Files<File = File> + AllocGlobal + Abort + Threads + Wait + Sync + TablePlaces<'a>,
+>(rt: &'a R, d: &str, told: &str) {
     let before = bytes_of(rt, d);
     for line in &OPENINGS {
         expect_run(rt, d, line, 1, told);
@@ -224,11 +224,10 @@ const CHANGED_BYTES: [(usize, u8, &str); 6] = [
 ];
 
 // Where nothing is told, it is an empty device.
-fn expect_opening<R: Files<File = File> + AllocGlobal + Abort + Threads + Wait + Sync>(
-    rt: &R,
-    d: &str,
-    told: &str,
-) {
+fn expect_opening<
+    'a,
+    R: Files<File = File> + AllocGlobal + Abort + Threads + Wait + Sync + TablePlaces<'a>,
+>(rt: &'a R, d: &str, told: &str) {
     if told.is_empty() {
         expect_run(rt, d, "show @", 0, "count=0 edges=0");
     } else {
@@ -271,10 +270,10 @@ edit @ add:0:1:1 -> 1 tznode: device failed
 resume @ 0 -> 1 tznode: device failed";
 
 // Neither opened nor made.
-fn expect_no_file<R: Files<File = File> + AllocGlobal + Abort + Threads + Wait + Sync>(
-    rt: &R,
-    d: &str,
-) {
+fn expect_no_file<
+    'a,
+    R: Files<File = File> + AllocGlobal + Abort + Threads + Wait + Sync + TablePlaces<'a>,
+>(rt: &'a R, d: &str) {
     expect_script(rt, d, NO_DEVICE);
     expect_script(rt, d, NO_FORMAT);
 }
@@ -309,12 +308,10 @@ resume @ 1 -> 0 session=1 ticket=0
 show @ -> 0 count=0 edges=0";
 
 // A number of eight bytes at this place of a fresh device at its limit, where nothing is written, and past it.
-fn expect_limit<R: Files<File = File> + AllocGlobal + Abort + Threads + Wait + Sync>(
-    rt: &R,
-    d: &str,
-    place: usize,
-    script: &str,
-) {
+fn expect_limit<
+    'a,
+    R: Files<File = File> + AllocGlobal + Abort + Threads + Wait + Sync + TablePlaces<'a>,
+>(rt: &'a R, d: &str, place: usize, script: &str) {
     expect_run(rt, d, "format @ 5", 0, "formatted nodes=5");
     let mut bytes = bytes_of(rt, d);
     put(&mut bytes, place, 0x7f);
@@ -339,13 +336,10 @@ fn numbers_at_their_limit(rt: HostRuntime) {
     remove_folder(&rt, folder.as_str());
 }
 
-fn expect_output_fault<R: Files<File = File> + AllocGlobal + Abort + Threads + Wait + Sync>(
-    rt: &R,
-    d: &str,
-    line: &str,
-    left: usize,
-    flushes: bool,
-) {
+fn expect_output_fault<
+    'a,
+    R: Files<File = File> + AllocGlobal + Abort + Threads + Wait + Sync + TablePlaces<'a>,
+>(rt: &'a R, d: &str, line: &str, left: usize, flushes: bool) {
     let mut out = Narrow { left, flushes };
     let (status, err) = run_once(rt, d, line, &mut io::empty(), &mut out);
     let want = (1, "tznode: input or output failed\n");
@@ -353,12 +347,10 @@ fn expect_output_fault<R: Files<File = File> + AllocGlobal + Abort + Threads + W
 }
 
 // A writer that takes nothing, one that takes all but the last byte, and one that takes all and can't be flushed.
-fn expect_output_faults<R: Files<File = File> + AllocGlobal + Abort + Threads + Wait + Sync>(
-    rt: &R,
-    d: &str,
-    line: &str,
-    printed: usize,
-) {
+fn expect_output_faults<
+    'a,
+    R: Files<File = File> + AllocGlobal + Abort + Threads + Wait + Sync + TablePlaces<'a>,
+>(rt: &'a R, d: &str, line: &str, printed: usize) {
     expect_output_fault(rt, d, line, 0, true);
     expect_output_fault(rt, d, line, printed.saturating_sub(1), true);
     expect_output_fault(rt, d, line, printed, false);

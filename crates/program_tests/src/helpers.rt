@@ -8,6 +8,7 @@ use std::rt::Files;
 use std::sync::Wait;
 use std::thread::Threads;
 use std::{env, fs, process, str};
+use table_files::TablePlaces;
 
 /// How many bytes a device has.
 pub(crate) const DEVICE_BYTES: usize = 3_158_016;
@@ -132,10 +133,11 @@ fn lines_of<R: AllocGlobal + Abort>(rt: &R, text: &str) -> Vec<u8> {
 
 /// Runs the program once, and answers the status and what was told.
 pub(crate) fn run_once<
-    R: Files<File = File> + AllocGlobal + Abort + Threads + Wait + Sync,
-    S: Read,
+    'a,
+    R: Files<File = File> + AllocGlobal + Abort + Threads + Wait + Sync + TablePlaces<'a>,
+    S: Read + Send,
     O: Write,
->(rt: &R, d: &str, line: &str, script: &mut S, out: &mut O) -> (u8, Vec<u8>) {
+>(rt: &'a R, d: &str, line: &str, script: &mut S, out: &mut O) -> (u8, Vec<u8>) {
     let words = words_of(rt, d, line);
     let mut err = Vec::new(rt.alloc());
     let status = run_words(rt, &words, script, out, &mut err);
@@ -144,9 +146,10 @@ pub(crate) fn run_once<
 
 /// Runs the program once with what a reader gives, and compares all that it answers.
 pub(crate) fn expect_answer<
-    R: Files<File = File> + AllocGlobal + Abort + Threads + Wait + Sync,
-    S: Read,
->(rt: &R, d: &str, line: &str, script: &mut S, want: Answer<'_>) {
+    'a,
+    R: Files<File = File> + AllocGlobal + Abort + Threads + Wait + Sync + TablePlaces<'a>,
+    S: Read + Send,
+>(rt: &'a R, d: &str, line: &str, script: &mut S, want: Answer<'_>) {
     let mut out = Vec::new(rt.alloc());
     let (status, err) = run_once(rt, d, line, script, &mut out);
     let found = (status, text_of(rt, &out), text_of(rt, &err));
@@ -155,13 +158,10 @@ pub(crate) fn expect_answer<
 
 /// Runs the program once with nothing on its reader, and compares all that it answers: the status, and the text that is printed or,
 /// where it begins so, told.
-pub(crate) fn expect_run<R: Files<File = File> + AllocGlobal + Abort + Threads + Wait + Sync>(
-    rt: &R,
-    d: &str,
-    line: &str,
-    status: u8,
-    text: &str,
-) {
+pub(crate) fn expect_run<
+    'a,
+    R: Files<File = File> + AllocGlobal + Abort + Threads + Wait + Sync + TablePlaces<'a>,
+>(rt: &'a R, d: &str, line: &str, status: u8, text: &str) {
     let lines = lines_of(rt, text);
     let lines = text_of(rt, &lines);
     let want = if text.starts_with("tznode: ") {
@@ -173,11 +173,10 @@ pub(crate) fn expect_run<R: Files<File = File> + AllocGlobal + Abort + Threads +
 }
 
 /// Runs each line of a script: the words, an arrow, the status and the text.
-pub(crate) fn expect_script<R: Files<File = File> + AllocGlobal + Abort + Threads + Wait + Sync>(
-    rt: &R,
-    d: &str,
-    script: &str,
-) {
+pub(crate) fn expect_script<
+    'a,
+    R: Files<File = File> + AllocGlobal + Abort + Threads + Wait + Sync + TablePlaces<'a>,
+>(rt: &'a R, d: &str, script: &str) {
     for step in script.split('\n') {
         let (line, answer) = got(rt, step.split_once(" -> ").ok_or("no arrow"));
         let (status, text) = got(rt, answer.split_once(' ').ok_or("no status"));
@@ -186,11 +185,10 @@ pub(crate) fn expect_script<R: Files<File = File> + AllocGlobal + Abort + Thread
 }
 
 /// Runs a script on a device in this folder, and removes the folder.
-pub(crate) fn expect_on_device<R: Files<File = File> + AllocGlobal + Abort + Threads + Wait + Sync>(
-    rt: &R,
-    folder: &str,
-    script: &str,
-) {
+pub(crate) fn expect_on_device<
+    'a,
+    R: Files<File = File> + AllocGlobal + Abort + Threads + Wait + Sync + TablePlaces<'a>,
+>(rt: &'a R, folder: &str, script: &str) {
     let path = device_in(rt, folder);
     expect_script(rt, path.as_str(), script);
     remove_folder(rt, folder);

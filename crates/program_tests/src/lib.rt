@@ -23,4 +23,6 @@ mod routes;
 #[cfg(test)]
 mod services;
 #[cfg(test)]
+mod table_readers;
+#[cfg(test)]
 mod tables;

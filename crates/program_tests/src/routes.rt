@@ -5,6 +5,7 @@ use std::process::Abort;
 use std::rt::Files;
 use std::sync::Wait;
 use std::thread::Threads;
+use table_files::TablePlaces;
 
 const LINE_OF_FIVE: &str = "format @ 5 -> 0 formatted nodes=5
 edit @ add:0:1:1 add:1:2:1 add:2:3:1 add:3:4:1 -> 0 accepted count=1
@@ -122,7 +123,10 @@ fn path_line<R: AllocGlobal + Abort>(rt: &R, from: u16, edges: u16) -> String {
 }
 
 // Edits a path of 4,096 nodes, in 256 changes.
-fn edit_path<R: Files<File = File> + AllocGlobal + Abort + Threads + Wait + Sync>(rt: &R, d: &str) {
+fn edit_path<
+    'a,
+    R: Files<File = File> + AllocGlobal + Abort + Threads + Wait + Sync + TablePlaces<'a>,
+>(rt: &'a R, d: &str) {
     for group in 0..256 {
         let edges = if group == 255 { 15 } else { 16 };
         let line = path_line(rt, group * 16, edges);

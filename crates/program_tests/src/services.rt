@@ -13,9 +13,10 @@ use std::process::Abort;
 use std::rt::Files;
 use std::sync::Wait;
 use std::thread::Threads;
+use table_files::TablePlaces;
 
 // The words, with the device in the place of `@`, what stands on standard input, and the answer.
-type Row = (&'static str, &'static [u8], Answer<'static>);
+type Row<'b> = (&'b str, &'b [u8], Answer<'b>);
 
 const USAGE: Answer<'static> = (2, "", "tznode: usage\n");
 
@@ -30,11 +31,10 @@ const FAILED: Answer<'static> = (1, "", "tznode: device failed\n");
 const INPUT: Answer<'static> = (1, "", "tznode: input or output failed\n");
 
 // Runs the program for each row, one after another.
-fn expect_rows<R: Files<File = File> + AllocGlobal + Abort + Threads + Wait + Sync>(
-    rt: &R,
-    d: &str,
-    rows: &[Row],
-) {
+fn expect_rows<
+    'a,
+    R: Files<File = File> + AllocGlobal + Abort + Threads + Wait + Sync + TablePlaces<'a>,
+>(rt: &'a R, d: &str, rows: &[Row<'_>]) {
     for (line, script, answer) in rows {
         let mut script: &[u8] = *script;
         expect_answer(rt, d, line, &mut script, *answer);
@@ -42,29 +42,27 @@ fn expect_rows<R: Files<File = File> + AllocGlobal + Abort + Threads + Wait + Sy
 }
 
 // Runs the program for each row, and sees that the device's file is as before then.
-fn expect_untouched<R: Files<File = File> + AllocGlobal + Abort + Threads + Wait + Sync>(
-    rt: &R,
-    d: &str,
-    rows: &[Row],
-) {
+fn expect_untouched<
+    'a,
+    R: Files<File = File> + AllocGlobal + Abort + Threads + Wait + Sync + TablePlaces<'a>,
+>(rt: &'a R, d: &str, rows: &[Row<'_>]) {
     let before = bytes_of(rt, d);
     expect_rows(rt, d, rows);
     expect_bytes(rt, d, &before);
 }
 
 // Runs the program for each row on a device in this folder, and removes the folder.
-fn expect_on_device<R: Files<File = File> + AllocGlobal + Abort + Threads + Wait + Sync>(
-    rt: &R,
-    folder: &str,
-    rows: &[Row],
-) {
+fn expect_on_device<
+    'a,
+    R: Files<File = File> + AllocGlobal + Abort + Threads + Wait + Sync + TablePlaces<'a>,
+>(rt: &'a R, folder: &str, rows: &[Row<'_>]) {
     let path = device_in(rt, folder);
     expect_rows(rt, path.as_str(), rows);
     remove_folder(rt, folder);
 }
 
 // One editor, one forwarder and one place; two each; the most; options in any order. A refused change's ticket isn't taken.
-const ONE_AFTER_ANOTHER: [Row; 15] = [
+const ONE_AFTER_ANOTHER: [Row<'static>; 15] = [
     ("format @ 5", b"", (0, "formatted nodes=5\n", "")),
     ("serve @ --words none", b"", (0, "", "")),
     (
@@ -132,8 +130,49 @@ fn services_one_after_another(rt: HostRuntime) {
     expect_on_device(&rt, folder.as_str(), &ONE_AFTER_ANOTHER);
 }
 
+// Lines that are answered as they come. An edit that is already in and a refused one take no ticket; the tables hold what `wait` waited for.
+const LIVE: [Row<'static>; 7] = [
+    ("format @ 5", b"", (0, "formatted nodes=5\n", "")),
+    ("serve @ --words none --live", b"", (0, "", "")),
+    (
+        "serve @ --words none --live --editors 2 --rounds 1",
+        b"edit 0 - add:0:1:5\nedit 0 - add:1:2:7\nedit 0 2 cut:0:1\nresume 0\nhello\n\nwait\nstate\nedit 1 - set:2:3:1\nresume 1\nedit 2 - add:0:3:1\n",
+        (
+            0,
+            "0 1 accepted count=1\n0 2 accepted count=2\n0 2 already in\nsession=0 ticket=2\nnot understood\nnot understood\ngeneration=2\ncount=2 generation=2 queue=0\n1 1 refused op=0 code=5\nsession=1 ticket=0\nnot understood\n",
+            "",
+        ),
+    ),
+    (
+        "serve @ --words at:1 --live",
+        b"route 0 2\naddress 9\nroute 3 0",
+        (
+            0,
+            "generation=2 route 0 1 2 length 12\nno node\ngeneration=2 unreachable\n",
+            "",
+        ),
+    ),
+    (
+        "serve @ --words at:5 --live",
+        b"state\n",
+        (2, "", "tznode: words not understood\n"),
+    ),
+    (
+        "serve @ --words none --rounds 2",
+        b"state\n",
+        (2, "", "tznode: usage\n"),
+    ),
+    ("show @", b"", (0, "count=2 edges=2\n0 1 5\n1 2 7\n", "")),
+];
+
+#[test]
+fn live_services_one_after_another(rt: HostRuntime) {
+    let folder = got(&rt, make_folder(&rt, "live_services_one_after_another"));
+    expect_on_device(&rt, folder.as_str(), &LIVE);
+}
+
 // From 2 to 1 the way over node 0 is longer: it is taken where node 0 is the landmark.
-const TRIANGLE: [Row; 4] = [
+const TRIANGLE: [Row<'static>; 4] = [
     ("format @ 3", b"", (0, "formatted nodes=3\n", "")),
     (
         "serve @ --words none",
@@ -161,7 +200,7 @@ fn service_with_the_landmarks_of_its_words(rt: HostRuntime) {
     expect_on_device(&rt, folder.as_str(), &TRIANGLE);
 }
 
-const TWO_CHANGES: [Row; 2] = [
+const TWO_CHANGES: [Row<'static>; 2] = [
     ("format @ 5", b"", (0, "formatted nodes=5\n", "")),
     (
         "serve @ --words none",
@@ -189,13 +228,13 @@ fn bytes_of_a_service(rt: HostRuntime) {
     remove_folder(&rt, folder.as_str());
 }
 
-const ONE_EDGE: [Row; 2] = [
+const ONE_EDGE: [Row<'static>; 2] = [
     ("format @ 5", b"", (0, "formatted nodes=5\n", "")),
     ("edit @ add:0:1:1", b"", (0, "accepted count=1\n", "")),
 ];
 
 // Where lines stand in front of the one that isn't understood, they aren't run. The last rows' words name a node that isn't there.
-const NOT_UNDERSTOOD: [Row; 22] = [
+const NOT_UNDERSTOOD: [Row<'static>; 22] = [
     ("serve @ --words none", b"0 cut:0:1\nmove 0 1\n", SCRIPT),
     ("serve @ --words none", b"0 cut:0:1\n2 cut:0:1\n", SCRIPT),
     (
@@ -249,7 +288,7 @@ const NOT_UNDERSTOOD: [Row; 22] = [
 ];
 
 // Where each change is refused, nothing is written either.
-const ALL_REFUSED: [Row; 2] = [
+const ALL_REFUSED: [Row<'static>; 2] = [
     (
         "serve @ --words none",
         b"0 add:0:1:1\nroute 9 9\n1 cut:3:4",
@@ -269,7 +308,7 @@ fn services_that_write_nothing(rt: HostRuntime) {
 }
 
 // The device isn't there: first the words are judged, then the script, and then it is opened. What has no sync fails.
-const JUDGED_IN_TURN: [Row; 17] = [
+const JUDGED_IN_TURN: [Row<'static>; 17] = [
     ("serve @", b"\xff", USAGE),
     ("serve @ --words none --editors 0", b"\xff", USAGE),
     ("serve @ --words none --editors 65", b"\xff", USAGE),
@@ -334,7 +373,7 @@ fn service_on_what_is_no_device(rt: HostRuntime) {
 }
 
 // The last ticket but one is taken, and then the last one. The fault is told and no line is printed, but what was accepted stays.
-const WORN_ON_THE_WAY: [Row; 7] = [
+const WORN_ON_THE_WAY: [Row<'static>; 7] = [
     ("format @ 5", b"", (0, "formatted nodes=5\n", "")),
     (
         "edit @ add:0:1:1 --ticket 9223372036854775806",
@@ -381,7 +420,7 @@ impl Read for Broken {
 }
 
 // What comes before the failure. A script is read to its end before it is judged, and no other command reads one.
-const BROKEN_INPUTS: [Row; 8] = [
+const BROKEN_INPUTS: [Row<'static>; 8] = [
     ("serve @ --words none", b"", INPUT),
     ("serve @ --words none", b"0 cut:0:1\n", INPUT),
     ("serve @ --words none", b"0 cut:0:1\n\xff\n", INPUT),
@@ -391,6 +430,17 @@ const BROKEN_INPUTS: [Row; 8] = [
     ("show @", b"", (0, "count=1 edges=1\n0 1 1\n", "")),
     ("edit @ cut:0:2", b"", (1, "refused op=0 code=5\n", "")),
 ];
+
+// Runs the program for each row, where standard input fails behind the row's text.
+fn expect_broken<
+    'a,
+    R: Files<File = File> + AllocGlobal + Abort + Threads + Wait + Sync + TablePlaces<'a>,
+>(rt: &'a R, d: &str, rows: &[Row<'_>]) {
+    for (line, script, answer) in rows {
+        let text: &[u8] = *script;
+        expect_answer(rt, d, line, &mut text.chain(Broken), *answer);
+    }
+}
 
 #[test]
 fn services_whose_script_cannot_be_read(rt: HostRuntime) {
@@ -402,10 +452,7 @@ fn services_whose_script_cannot_be_read(rt: HostRuntime) {
     let d = path.as_str();
     expect_rows(&rt, d, &ONE_EDGE);
     let before = bytes_of(&rt, d);
-    for (line, script, answer) in &BROKEN_INPUTS {
-        let text: &[u8] = *script;
-        expect_answer(&rt, d, line, &mut text.chain(Broken), *answer);
-    }
+    expect_broken(&rt, d, &BROKEN_INPUTS);
     expect_bytes(&rt, d, &before);
     remove_folder(&rt, folder.as_str());
 }

@@ -20,7 +20,7 @@ use std::rt::Files;
 use std::sync::Wait;
 use std::thread::Threads;
 use std::{fs, io};
-use table_files::{TableFile, TableFiles};
+use table_files::{TableFile, TableFiles, TablePlaces};
 
 // Devices in memory: each opening gives a disk of these bytes, whatever the path.
 #[derive(Drop)]
@@ -99,7 +99,7 @@ fn path_device<R: AllocGlobal + Abort + Threads + Wait + Sync>(rt: &R) -> Copies
 }
 
 // The scheme of the path under generation 1, with the greatest word everywhere but 0 at these nodes.
-fn path_scheme(rt: &impl Abort, alloc: Global, landmarks: &[u16]) -> Scheme {
+pub(crate) fn path_scheme(rt: &impl Abort, alloc: Global, landmarks: &[u16]) -> Scheme {
     let mut graph = got(rt, Graph::empty(alloc, 5));
     let change = got(rt, Change::new(&PATH));
     got(rt, graph.apply(&change));
@@ -278,7 +278,11 @@ fn expect_files<R: AllocGlobal + Abort>(
 }
 
 // Runs a row, and compares all that it answers and puts.
-fn expect_row<R: AllocGlobal + Abort + Threads + Wait + Sync>(rt: &R, devices: &Copies, row: &Row) {
+fn expect_row<R: Files<File = File> + AllocGlobal + Abort + Threads + Wait + Sync>(
+    rt: &R,
+    devices: &Copies,
+    row: &Row,
+) {
     let (line, room, status, printed, told, landmarks, nodes) = *row;
     let words = words_of(rt, "", line);
     let mut files = MemoryFiles {
@@ -309,13 +313,10 @@ fn tables_of_a_path(rt: HostRuntime) {
 }
 
 // Runs `tables` on the device of a folder, into a folder of it, and compares what it answers.
-fn expect_tables<R: Files<File = File> + AllocGlobal + Abort + Threads + Wait + Sync>(
-    rt: &R,
-    folder: &str,
-    nodes: &str,
-    status: u8,
-    text: &str,
-) {
+fn expect_tables<
+    'a,
+    R: Files<File = File> + AllocGlobal + Abort + Threads + Wait + Sync + TablePlaces<'a>,
+>(rt: &'a R, folder: &str, nodes: &str, status: u8, text: &str) {
     let device = device_in(rt, folder);
     let into = path_in(rt, folder, "out");
     let line = got(

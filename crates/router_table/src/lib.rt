@@ -1,14 +1,13 @@
 //! A router's own table: what one node keeps of a generation, and forwards by.
 //!
-//! A [`RouterTable`] says who the router is, which neighbour stands behind each port, in which trees it is and where in them, and
-//! its directory. It is made of a scheme ([`RouterTable::of`]) or read from bytes ([`RouterTable::read`]), and is always in order:
-//! neighbours, roots and members strictly ascend and are nodes, so that a look-up halves.
+//! A [`RouterTable`] has the router's node, the neighbour behind each port, an entry for each tree that it is in, and its
+//! directory. It is taken from a scheme ([`RouterTable::of`]) or read from bytes ([`RouterTable::read`]). It is always in order:
+//! neighbours, roots and members are nodes and strictly ascend, so look-ups are binary searches.
 //!
-//! The contract that the layers above use: a router launches the packet and hops as the scheme's tables say of its node, exactly
-//! (`IsTableOf` of `specs/Table`). That packets which are handed from table to table go over good trips, and that all handing
-//! ends, are the laws of [`table_laws`].
+//! The contract that the layers above use: a router launches and forwards exactly as the scheme's tables do at its node
+//! (`IsTableOf` of `specs/Table`). By [`table_laws`] packets go from table to table over good trips, and all forwarding ends.
 //!
-//! In bytes each number begins with its highest byte:
+//! As bytes, with big-endian numbers:
 //!
 //! ```text
 //! head:      "TZTABL01", generation u64, number of nodes u16, node u16, the node's address (42 bytes)
@@ -20,8 +19,8 @@
 //! digest:    the SHA-256 of all bytes before it
 //! ```
 //!
-//! A table has one spelling. [`RouterTable::write`] writes it, and [`RouterTable::read`] reads it, or says of any bytes what is
-//! the first thing that is wrong with them ([`ReadRefused`]).
+//! A table has one spelling. [`RouterTable::write`] writes it; [`RouterTable::read`] reads it, or names the first thing that is
+//! wrong with the bytes ([`ReadRefused`]).
 //!
 //! ```text
 //! let table = RouterTable::of(alloc, &scheme, 4)?;

@@ -23,7 +23,7 @@ use Rattle.run_laws.specs.Listed.{IsListed, all_told}
 use Rattle.run_laws.specs.OneLife.{history_of}
 use Rattle.run_laws.specs.Queues.{all_let_in, all_taken}
 use Rattle.run_laws.specs.Acknowledged.{AreAcknowledged}
-use Rattle.run_laws.proofs.Steps.{settled_on}
+use Rattle.settled_lists.proofs.Steps.{settled_on}
 use Rattle.run_laws.proofs.Listing.{run_on}
 use Rattle.run_laws.proofs.QueueLemmas.{asked_in_order, taken_in_order}
 

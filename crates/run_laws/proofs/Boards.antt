@@ -20,7 +20,8 @@ use Rattle.intake.specs.Outcomes.{by_mark, unsettled, told, is_open}
 use Rattle.run_laws.specs.LaterLives.{LifeLists, let_in, answered, IsLife}
 use Rattle.run_laws.specs.Submits.{board_at, IsLastOf, is_busy}
 use Rattle.run_laws.proofs.Turns.{asked_append, none_first}
-use Rattle.run_laws.proofs.Settled.{board_shows, marks_take, untouched, own_time, more_times}
+use Rattle.settled_lists.proofs.Posted.{marks_take}
+use Rattle.run_laws.proofs.Settled.{board_shows, untouched, own_time, more_times}
 
 -- ---- the last marks of a board
 

@@ -5,8 +5,6 @@ pub mod Settled
 pub mod Chains
 pub mod Boards
 pub mod Refusing
-pub mod Cuts
-pub mod Steps
 pub mod Sessions
 pub mod Listing
 pub mod Posted

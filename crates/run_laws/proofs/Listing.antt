@@ -24,10 +24,10 @@ use Rattle.event_runs.specs.Trips.{Trip, launch_by}
 use Rattle.event_runs.specs.Machines.{Machine, begun, held, waiting, board_at, let_in, with_posted, grouped, committed, lost}
 use Rattle.event_runs.specs.Answers.{Answer, answer, queue_by, unless_refused, submit_by, submit, further, look_by, look, take_by, take_one, post_by, post, CommitAnswers, IsBuilt, RebuildAnswers, sees, looked, launch_as, launch, hop_as, hop_by, hop, OrMemory, Answers}
 use Rattle.event_runs.specs.Runs.{Run}
-use Rattle.run_laws.specs.Lists.{AreListed}
+use Rattle.settled_lists.specs.Lists.{AreListed}
 use Rattle.run_laws.specs.Listed.{IsListed, DueFits, all_told}
 use Rattle.run_laws.proofs.Sessions.{know_looked, know_asked, know_first, stay_in_turn}
-use Rattle.run_laws.proofs.Steps.{listed_first, listed_taken, listed_asked, listed_marks, listed_down, listed_built}
+use Rattle.settled_lists.proofs.Steps.{listed_first, listed_taken, listed_asked, listed_marks, listed_down, listed_built}
 
 -- what holds before and after holds where the reply may be Memory
 or_memory : (P : Machine → Type 0) (a : Answer) (m : Machine) (reply : Reply) (n : Machine) → OrMemory a m reply n → P m → P a.after → P n

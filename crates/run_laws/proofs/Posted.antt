@@ -6,7 +6,7 @@ use Rattle.generations.specs.declared.posting.Notice.TheVariants.{Built}
 use Rattle.generations.specs.Lawful.{IsLawful}
 use Rattle.generations.proofs.Lawfulness.{lawful_first}
 use Rattle.event_runs.specs.Machines.{Machine}
-use Rattle.run_laws.specs.Durable.{AreDurable}
+use Rattle.settled_lists.specs.Durable.{AreDurable}
 use Rattle.run_laws.specs.Listed.{IsListed, all_told}
 
 pub postings_lawful : (first : State) (m : Machine) → IsListed first m → IsLawful first.tickets first.count m.postings

@@ -1,5 +1,5 @@
 -- What a settling of requests says of a session's tickets.
-use Rattle.std.proofs.Common.{◌≡◌, ◌+◌, ◌<◌, ◌==◌, ◌&&◌, cond, ℕ, zero, suc, Bool, true, false, List, [], ◌∷◌, length, take, fold, get_or, Result, Ok, Err, refl, sym, ap, ◌∙◌, arith}
+use Rattle.std.proofs.Common.{◌≡◌, ◌+◌, ◌<◌, ◌==◌, ◌&&◌, cond, ℕ, zero, suc, Bool, true, false, List, [], ◌∷◌, length, fold, get_or, Result, Ok, Err, refl, sym, ap, ◌∙◌, arith}
 use Rattle.std.proofs.lemmas.Bool.Decides.{nat_tests}
 use Rattle.graph_edits.specs.declared.edits.Code.{Code}
 use Rattle.graph_edits.specs.Edges.{Network}
@@ -24,17 +24,6 @@ board_shows s (r ∷ rs) =
       | Err at ↦ board_shows s rs
     ] in
     rw (settle_step s r rs) (by (graph_after s.graph r.change))
-
--- the first marks are those of the first requests
-pub marks_take : (s : State) (n : ℕ) (rs : List Request) → take n (settle s rs).marks ≡ (settle s (take n rs)).marks
-marks_take s zero rs = refl
-marks_take s (suc n) [] = refl
-marks_take s (suc n) (r ∷ rs) =
-    let by : (o : Result Network (ℕ × Code)) → take (suc n) (settle_by s r rs o).marks ≡ (settle_by s r (take n rs) o).marks = λ o. elim o as (λ o. take (suc n) (settle_by s r rs o).marks ≡ (settle_by s r (take n rs) o).marks) [
-      | Ok graph ↦ ap (λ (ms : List Mark). record { session = r.session; ticket = r.ticket; verdict = Accepted (s.count + 1) } ∷ ms) (marks_take (one_more s r graph) n rs)
-      | Err at ↦ ap (λ (ms : List Mark). record { session = r.session; ticket = r.ticket; verdict = Refused at.0 at.1 } ∷ ms) (marks_take s n rs)
-    ] in
-    rw (settle_step s r rs, settle_step s r (take n rs)) (by (graph_after s.graph r.change))
 
 -- a session that has none of the requests keeps its last ticket
 pub untouched : (s : ℕ) (st : State) (rs : List Request) → NoneOf s (asked rs) → last_of (settle st rs).state.tickets s ≡ last_of st.tickets s

@@ -11,7 +11,7 @@ use Rattle.generations.specs.declared.posting.Notice.{Notice}
 use Rattle.group_commit.specs.Settling.{settle}
 use Rattle.event_runs.specs.Trips.{Trip}
 use Rattle.event_runs.specs.Machines.{Machine}
-use Rattle.run_laws.specs.Durable.{IsDurable}
+use Rattle.settled_lists.specs.Durable.{IsDurable}
 use Rattle.run_laws.specs.Ways.{IsPosted}
 
 -- What the packet visited is a beginning of the one trip on which it arrives, at most three times as long as any other; the

@@ -5,8 +5,6 @@ pub mod CrashLaws
 pub mod LaterLives
 pub mod Submits
 pub mod OnceLaws
-pub mod Durable
-pub mod Lists
 pub mod Listed
 pub mod OneLife
 pub mod Queues

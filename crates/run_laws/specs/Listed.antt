@@ -8,7 +8,7 @@ use Rattle.generations.specs.declared.posting.Notice.TheVariants.{Marked, Failed
 use Rattle.intake.specs.Turns.{of, last_asked}
 use Rattle.event_runs.specs.declared.session.Session.{Session}
 use Rattle.event_runs.specs.Machines.{Machine, held}
-use Rattle.run_laws.specs.Lists.{AreListed}
+use Rattle.settled_lists.specs.Lists.{AreListed}
 
 -- what was posted, and behind it what is due
 abbrev pub all_told : Machine → List Notice

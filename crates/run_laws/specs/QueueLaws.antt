@@ -15,7 +15,7 @@ use Rattle.event_runs.specs.declared.reply.Reply.TheVariants.{NotSubmitted, NoAc
 use Rattle.event_runs.specs.Machines.{Machine, begun}
 use Rattle.event_runs.specs.Answers.{Answers, RebuildAnswers}
 use Rattle.event_runs.specs.Runs.{Run}
-use Rattle.run_laws.specs.Durable.{AreDurable}
+use Rattle.settled_lists.specs.Durable.{AreDurable}
 use Rattle.run_laws.specs.Listed.{IsListed}
 use Rattle.run_laws.specs.OneLife.{history_of, life_of}
 use Rattle.run_laws.specs.Queues.{all_let_in, all_taken}

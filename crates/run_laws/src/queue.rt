@@ -10,7 +10,7 @@
 //! `IsListed first m` (specs/Listed.antt) says what the machine `m` keeps in a life that opened to the state `first`. The requests that
 //! were let in stand in one list, in each session's order, and its tickets rise from the opened ones. The first of them are settled:
 //! the store's state is that after these, and what was told, posted or due, has just their marks. The list of all that was told is
-//! lawful, by the board's own definition. Each posted generation is durable (specs/Durable.antt): what was posted before it has the
+//! lawful, by the board's own definition. Each posted generation is durable (specs/Durable.antt of `settled_lists`): what was posted before it has the
 //! marks of just the requests of which its graph has the accepted changes, and its scheme serves that graph.
 //!
 //! | Law | What it says |

@@ -1,7 +1,7 @@
 // What the tests share: devices, and scripts that are run on them.
 use checkpoint::{DEVICE_LEN, Store, format};
 use disk_trait::{Disk, MemDisk};
-use service_lines::serve_on;
+use live_service::serve_on;
 use service_threads::{Hooks, NoHooks, ServiceConfig};
 use std::alloc::Global;
 use std::fmt::Debug;

@@ -1,6 +1,5 @@
 -- What is told of a service's fault says what the service's fault does.
-use Rattle.std.proofs.Common.{◌≡◌, refl, sym, subst, List, ℕ, Option, Result, IfErr, IsTrue}
-use Rattle.std.proofs.lemmas.Result.{IfErr-weaker}
+use Rattle.std.proofs.Common.{◌≡◌, refl, List, ℕ, Option, IsTrue}
 use Rattle.std.specs.Prelude.{IfSome}
 use Rattle.disk_trait.specs.declared.disk.Disk.{Ghosts}
 use Rattle.disk_trait.specs.Disk.{OnlyRead}
@@ -8,7 +7,6 @@ use Rattle.layout_2.specs.State.{State}
 use Rattle.layout_2.specs.Standing.{StandsFor}
 use Rattle.written_values.specs.Words.{IsWithin}
 use Rattle.written_values.specs.declared.words.LandmarkWords.{LandmarkWords}
-use Rattle.command_output.specs.declared.fault.Fault.{Fault}
 use Rattle.command_output.specs.declared.fault.Fault.TheVariants as told
 use Rattle.device_commands.specs.Openings.{TellsOf}
 use Rattle.service_threads.specs.Faults.{IsOpeningFault as IsStoppedOpening, TellsOf as StoppedTells}
@@ -98,29 +96,3 @@ told_end model disk asked back f tells not_within of_one refused device = record
   refused = λ keeps is. refused keeps (opening_told f is);
   device = λ is. device (device_told f is);
 }
-
--- want of memory tells nothing
-pub memory_end : {D : Type 0} (model : Ghosts D) (disk : D) (asked : LandmarkWords) (back : Option D) → IsServeEnd model disk asked back told.Memory
-memory_end model disk asked back = record {
-  named = tt;
-  tells = λ keeps. tt;
-  not_within = λ keeps state stands is. absurd (cc);
-  of_one = λ is. absurd (cc);
-  refused = λ keeps is. absurd is;
-  device = λ is. absurd (cc);
-}
-
--- nor does an output that fails
-output_tells : {D : Type 0} (model : Ghosts D) (disk : D) (asked : LandmarkWords) (back : Option D) → IsServeEnd model disk asked back told.Output
-output_tells model disk asked back = record {
-  named = tt;
-  tells = λ keeps. tt;
-  not_within = λ keeps state stands is. absurd (cc);
-  of_one = λ is. absurd (cc);
-  refused = λ keeps is. absurd is;
-  device = λ is. absurd (cc);
-}
-
-pub output_end : {D T : Type 0} (model : Ghosts D) (disk : D) (asked : LandmarkWords) (back : Option D) (r : Result T Fault) → IfErr r (λ fault. fault ≡ told.Output) → IfErr r (λ fault. IsServeEnd model disk asked back fault)
-output_end model disk asked back r is = IfErr-weaker r (λ fault. fault ≡ told.Output) (λ fault. IsServeEnd model disk asked back fault)
-    (λ fault same. subst (λ (f : Fault). IsServeEnd model disk asked back f) (sym same) (output_tells model disk asked back)) is

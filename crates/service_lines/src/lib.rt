@@ -1,6 +1,6 @@
-//! The service, with its answers printed.
+//! The lines of a script's answers, and what is told of a service's faults.
 //!
-//! [`serve_lines`] runs a script on a device by [`service_threads`] and prints a line for each line of the script, in its order:
+//! [`lines_of`] makes a line for each answer to a script, in their order:
 //!
 //! | Answer | Its line |
 //! |---|---|
@@ -10,23 +10,19 @@
 //! | none | `generation=G unreachable` |
 //! | a node that isn't there | `no node` |
 //!
-//! [`serve_told`] does so too, tells a fault on a second writer, and answers how it ended ([`Served`]); [`serve_on`] answers the
-//! program's exit status instead: 0 also where changes were refused.
-//!
-//! The contract that the layer above uses: where no fault comes, the lines of answers were printed of which just those are verdicts
-//! whose line is an edit; a fault but that of the printing has printed nothing; and what is told is the fault's text, or the write
-//! failed (`specs/ServedLines`).
+//! [`Served`] is how a service ended, and [`fault_of`] what is told of its fault. The service itself is `live_service`, whose
+//! contracts for a script are stated here (`specs/ServedLines`): where no fault comes, the lines of answers were printed of which just
+//! those are verdicts whose line is an edit; and what a fault says of the device.
 //!
 //! ```text
-//! let script = script(alloc, "0 add:0:1:1\nroute 0 1", 2)?;
-//! let (status, disk) = serve_on(rt, alloc, disk, words, config, script, &NoHooks, &mut out, &mut err);
+//! lines_of(alloc, &[Answer::NoNode])?      // "no node\n"
 //! ```
 #![tactic(auto)]
 
+mod fault;
 mod lines;
-mod serve;
 mod served;
 
+pub use fault::fault_of;
 pub use lines::lines_of;
-pub use serve::{fault_of, serve_lines, serve_on, serve_told};
 pub use served::Served;

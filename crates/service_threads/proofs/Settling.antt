@@ -13,8 +13,11 @@ use Rattle.checkpoint.specs.StoreWords.{state_of, view_of, is_down, stands_now}
 use Rattle.group_commit.specs.Settling.{Settled, settle}
 use Rattle.group_commit.proofs.SettlingLemmas.{settle-append}
 use Rattle.committer.specs.declared.committer.Committer.{Committer}
-use Rattle.committer.specs.CommitterWords.{store_of, held_of, got_of, taken, settled}
-use Rattle.service_threads.specs.Kept.{HasSettled, HasSettledAll, HasSettledSome, HasTurned, IsFresh, IsOnCourse, IsServedDisk, LeavesBeginnings, StandsForBeginning, StaysPut}
+use Rattle.settled_lists.specs.Posted.{ArePosted}
+use Rattle.settled_lists.proofs.Posted.{posted_first}
+use Rattle.committer.specs.CommitterWords.{store_of, held_of, got_of, posts_of, taken, settled}
+use Rattle.committer.specs.Listed.{IsListedFrom, StaysListed}
+use Rattle.service_threads.specs.Kept.{HasSettled, HasSettledAll, HasSettledSome, HasTurned, IsFresh, IsOnCourse, IsServedDisk, LeavesBeginnings, PostsAlong, StandsForBeginning, StaysPut}
 
 -- ---- beginnings of a list
 
@@ -44,6 +47,18 @@ some_settled store up = ([], none_settled store up)
 
 -- ---- turns
 
+-- one call behind another
+pub listed_twice : {D R : Type 0} {V : _} → (old mid new : Committer D R V) → StaysListed old mid → StaysListed mid new → StaysListed old new
+listed_twice old mid new first second state is = second state (first state is)
+
+-- nothing was done
+pub listed_same : {D R : Type 0} {V : _} → (c : Committer D R V) → StaysListed c c
+listed_same c state is = is
+
+-- a store that is up stands for its state
+stands_after : {D : Type 0} {V : _} → (store : Store D V) (state : State) → is_down store ≡ false → state_of store ≡ state → IsTrue (view_of store).keeps_model → KeepsThrough (view_of store) state
+stands_after store state up is model = subst (λ (s : State). KeepsThrough (view_of store) s) is (stands_now store model up)
+
 -- a turn more
 pub turned_settles : {D R : Type 0} {V : _} → (first old new : Committer D R V) → IsOnCourse first old → HasTurned old new
     → HasSettled (state_of (store_of first)) (got_of new) (view_of (store_of first)) (view_of (store_of new))
@@ -69,8 +84,8 @@ turned_settles first old new on turn =
     }
 
 -- a turn more that settled all
-pub on_course_still : {D R : Type 0} {V : _} → (first old new : Committer D R V) → IsOnCourse first old → HasTurned old new → HasSettledAll old new → IsOnCourse first new
-on_course_still first old new on turn done =
+pub on_course_still : {D R : Type 0} {V : _} → (first old new : Committer D R V) → IsOnCourse first old → HasTurned old new → HasSettledAll old new → StaysListed old new → IsOnCourse first new
+on_course_still first old new on turn done lists =
     let asked : settled old new ≡ settle (state_of (store_of old)) (taken old new) = ap (λ (l : List Request). settle (state_of (store_of old)) (l ++ taken old new)) on.held in
     let all : (settle (state_of (store_of first)) (got_of new)).state ≡ (settled old new).state =
     ap (λ (l : List Request). (settle (state_of (store_of first)) l).state) turn.front
@@ -80,7 +95,23 @@ on_course_still first old new on turn done =
       held = done.held;
       state = done.state ∙ sym all;
       settled = turned_settles first old new on turn;
+      listed = listed_twice first old new on.listed lists;
+      stands = stands_after (store_of new) (settle (state_of (store_of first)) (got_of new)).state done.up (done.state ∙ sym all);
     }
+
+-- what is on the board goes with what was taken
+board_posted : {D R : Type 0} {V : _} → (first : State) (c : Committer D R V) → IsListedFrom first c → ArePosted first (got_of c) (posts_of c).posted
+board_posted first c is = posted_first first (posts_of c).posted (posts_of c).due (got_of c) is.done (length (got_of c)) (state_of (store_of c)) (is_down (store_of c)) is.lists
+
+pub on_course_posted : {D R : Type 0} {V : _} → (first now : Committer D R V) → IsOnCourse first now → PostsAlong first now
+on_course_posted first now on state is = board_posted state now (on.listed state is)
+
+-- .. behind a turn more, whatever ends it
+pub turned_posted : {D R : Type 0} {V : _} → (first old new : Committer D R V) → IsOnCourse first old → StaysListed old new → PostsAlong first new
+turned_posted first old new on lists state is = board_posted state new (lists state (on.listed state is))
+
+pub turned_listed : {D R : Type 0} {V : _} → (first old new : Committer D R V) → IsOnCourse first old → StaysListed old new → StaysListed first new
+turned_listed first old new on lists = listed_twice first old new on.listed lists
 
 -- at the beginning
 pub on_course_first : {D R : Type 0} {V : _} → (c : Committer D R V) → IsFresh c → IsOnCourse c c
@@ -89,6 +120,8 @@ on_course_first c fresh = record {
   held = fresh.held;
   state = ap (λ (l : List Request). (settle (state_of (store_of c)) l).state) (sym fresh.got);
   settled = subst (λ (l : List Request). HasSettled (state_of (store_of c)) l (view_of (store_of c)) (view_of (store_of c))) (sym fresh.got) (none_settled (store_of c) fresh.up);
+  listed = listed_same c;
+  stands = stands_after (store_of c) (settle (state_of (store_of c)) (got_of c)).state fresh.up (ap (λ (l : List Request). (settle (state_of (store_of c)) l).state) (sym fresh.got));
 }
 
 -- ---- turns and rebuilds

@@ -1,6 +1,6 @@
 -- How many editors, forwarders and places in the queue there may be.
 use Rattle.std.specs.Prelude.{◌≤◌, ℕ}
-use Rattle.service_threads.specs.declared.serve.ServiceConfig.{ServiceConfig}
+use Rattle.service_threads.specs.declared.config.ServiceConfig.{ServiceConfig}
 
 -- from 1 to 64
 abbrev pub IsNumber : ℕ → Type 0

@@ -52,16 +52,6 @@ TellsOf BadVersion content = HasOtherVersion content × StandsForNone content
 TellsOf Damaged content = HasThisVersion content × StandsForNone content
 TellsOf fault content = Unit {0}
 
--- the faults of a service whose device was opened
-abbrev pub IsLater : Fault → Type 0
-IsLater Device = Unit {0}
-IsLater Worn = Unit {0}
-IsLater Memory = Unit {0}
-IsLater Board = Unit {0}
-IsLater NoThread = Unit {0}
-IsLater Internal = Unit {0}
-IsLater fault = ⊥
-
 -- the faults of a device that was refused, or whose nodes the words don't fit
 abbrev pub IsOpeningFault : Fault → Type 0
 IsOpeningFault NotFormatted = Unit {0}

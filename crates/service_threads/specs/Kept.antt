@@ -11,7 +11,9 @@ use Rattle.group_commit.specs.Settling.{settle}
 use Rattle.committer.specs.declared.committer.Committer.{Committer}
 use Rattle.service_workers.specs.declared.stop_cause.StopCause.{StopCause}
 use Rattle.service_workers.specs.declared.stop_cause.StopCause.TheVariants.{Device}
-use Rattle.committer.specs.CommitterWords.{store_of, held_of, got_of, taken, settled}
+use Rattle.settled_lists.specs.Posted.{ArePosted}
+use Rattle.committer.specs.CommitterWords.{store_of, held_of, got_of, posts_of, taken, settled}
+use Rattle.committer.specs.Listed.{IsListedFrom, StaysListed}
 
 -- the image stands for the state after a beginning of these requests, settled from a state on
 abbrev pub StandsForBeginning : State → List Request → List ℕ → Type 0
@@ -47,6 +49,11 @@ pub record HasSettledAll {D R : Type 0} {V : _} (old new : Committer D R V) : Ty
   pub state : state_of (store_of new) ≡ (settled old new).state
   pub up : is_down (store_of new) ≡ false
 
+-- The marks on the board are those of settling the first of all that was taken, and each generation on it serves the state that its
+-- number names, from any state on from which what was taken before was one list.
+abbrev pub PostsAlong : {D R : Type 0} {V : _} → Committer D R V → Committer D R V → Type 0
+PostsAlong old new = (first : State) → IsListedFrom first old → ArePosted first (got_of new) (posts_of new).posted
+
 -- the device failed between two views
 abbrev pub HasFailed : DiskView → DiskView → Type 0
 HasFailed old new = old.failures < new.failures
@@ -63,6 +70,10 @@ pub record IsOnCourse {D R : Type 0} {V : _} (first now : Committer D R V) : Typ
   pub held : held_of now ≡ []
   pub state : state_of (store_of now) ≡ (settle (state_of (store_of first)) (got_of now)).state
   pub settled : HasSettled (state_of (store_of first)) (got_of now) (view_of (store_of first)) (view_of (store_of now))
+  -- what is posted and due goes with all that it took, as it did at the beginning
+  pub listed : StaysListed first now
+  -- each image that a crash now may leave stands for the state after the whole list
+  pub stands : IsTrue (view_of (store_of now)).keeps_model → KeepsThrough (view_of (store_of now)) (settle (state_of (store_of first)) (got_of now)).state
 
 -- What a service's thread leaves of the disk that a store was on: requests were settled on it, and it failed where that is the cause.
 pub record IsServedDisk {D T : Type 0} {V : _} (store : Store D V) (result : Result T StopCause) (new : DiskView) : Type 0 where

@@ -5,7 +5,8 @@ ghost use Rattle.node_table.specs.Service.{Serves};
 ghost use Rattle.node_table.specs.Tables.{tables};
 ghost use Rattle.checkpoint.specs.StoreWords.{state_of, view_of, is_down};
 ghost use Rattle.committer.specs.CommitterWords.{posts_of, store_of, got_of};
-ghost use Rattle.service_threads.specs.Kept.{HasFailed, HasSettled, HasSettledAll, HasTurned, IsFresh, StaysPut};
+ghost use Rattle.committer.specs.Listed.{StaysListed};
+ghost use Rattle.service_threads.specs.Kept.{HasFailed, HasSettled, HasSettledAll, HasTurned, IsFresh, IsOnCourse, PostsAlong, StaysPut};
 
 use crate::committer_stop::CommitterStop;
 use committer::{Committer, Round};
@@ -69,6 +70,7 @@ impl Rebuilds {
         requires up { is_down (store_of committer.old) ≡ false }
         ensures opening { OnOk result ((posts_of committer.new).opening ≡ J.opening) }
         ensures stays { StaysPut committer.old committer.new }
+        ensures listed { StaysListed committer.old committer.new }
         ensures not_device { IfErr result (λ stop. stop.cause ≢ StopCause.Device) }
     {
         let Rebuilds { source, heap, .. } = self;
@@ -96,6 +98,7 @@ fn rebuild_by<D: Disk, R: Wait + Drop, S: Threads + Wait + Sync>(
     requires up { is_down (store_of committer.old) ≡ false }
     ensures opening { OnOk result ((posts_of committer.new).opening ≡ (posts_of committer.old).opening) }
     ensures stays { StaysPut committer.old committer.new }
+    ensures listed { StaysListed committer.old committer.new }
     ensures not_device { IfErr result (λ stop. stop.cause ≢ StopCause.Device) }
 {
     let workers = workers_here(rt, committer.store().nodes());
@@ -120,7 +123,8 @@ fn shared_scheme<S: Threads + Wait + Sync>(
     number: u64,
     workers: u16,
 ) -> Result<Arc<Scheme, Global>, AllocError>
-    ensures { IfOk result (λ scheme. Serves graph.now (tables (arc_value scheme))) }
+    ensures serves { IfOk result (λ scheme. Serves graph.now (tables (arc_value scheme))) }
+    ensures named { IfOk result (λ scheme. (arc_value scheme).generation ≡ number) }
 {
     let scheme = scheme_of_in_threads(rt, alloc, graph, words, number, workers)?;
     Ok(Arc::new(alloc, scheme)?)
@@ -159,6 +163,7 @@ fn turn<J: Naming, D: Disk, R: Wait + Drop, S: Threads + Wait + Sync>(
     ensures opening { OnOk result ((posts_of committer.new).opening ≡ J.opening) }
     ensures turned { HasTurned committer.old committer.new }
     ensures settled { OnOk result (HasSettledAll committer.old committer.new) }
+    ensures listed { StaysListed committer.old committer.new }
     ensures device { IfErr result (λ stop. stop.cause ≡ StopCause.Device → HasFailed (view_of (store_of committer.old)) (view_of (store_of committer.new))) }
 {
     let round = committer.round(alloc, rt)?;
@@ -176,7 +181,7 @@ fn turn<J: Naming, D: Disk, R: Wait + Drop, S: Threads + Wait + Sync>(
 }
 
 /// Commits what editors submit, until all of them have left, or all stop. An `Err` is why the committer itself stopped.
-#[tactic(auto, using(crate::proofs::Settling::on_course_first, crate::proofs::Settling::on_course_still, crate::proofs::Settling::turned_settles))]
+#[tactic(auto, using(crate::proofs::Settling::on_course_first, crate::proofs::Settling::turned_settles))]
 pub fn commit_all<J: Naming, D: Disk, R: Wait + Drop, S: Threads + Wait + Sync>(
     rt: &S,
     alloc: Global,
@@ -188,6 +193,12 @@ pub fn commit_all<J: Naming, D: Disk, R: Wait + Drop, S: Threads + Wait + Sync>(
     requires fresh { IsFresh committer.old }
     ensures settled { HasSettled (state_of (store_of committer.old)) (got_of committer.new) (view_of (store_of committer.old)) (view_of (store_of committer.new)) }
     ensures device { IsErrOf result StopCause.Device → HasFailed (view_of (store_of committer.old)) (view_of (store_of committer.new)) }
+    // What was taken stays one list, whatever ended it: what is posted and due has the marks of settling the first of it, and each
+    // generation serves the state that its number names.
+    ensures listed { StaysListed committer.old committer.new }
+    ensures posted { PostsAlong committer.old committer.new }
+    // Where nothing stopped the committer, that is the whole list, and the device stands for the state after it.
+    ensures all { OnOk result (IsOnCourse committer.old committer.new) }
 {
     for _ in rt.forever() {
         // What there is to do is read before the round, so that nothing is missed that comes behind it.
@@ -220,6 +231,7 @@ pub fn first_generation<J: Naming, D: Disk, R: Wait + Drop, S: Threads + Wait + 
     requires up { is_down (store_of committer.old) ≡ false }
     ensures opening { OnOk result ((posts_of committer.new).opening ≡ J.opening) }
     ensures stays { StaysPut committer.old committer.new }
+    ensures listed { StaysListed committer.old committer.new }
     ensures not_device { IfErr result (λ stop. stop.cause ≢ StopCause.Device) }
 {
     let mut graphs = Graphs::new();

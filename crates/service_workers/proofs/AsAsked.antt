@@ -11,7 +11,7 @@ use Rattle.intake.proofs.Refusals.{asked_push}
 use Rattle.service_workers.specs.Edited.{IsEdited, IsSameEditor}
 use Rattle.service_workers.specs.Settled.{IsMarkOf}
 use Rattle.service_workers.proofs.Outcomes.{put_under}
-use Rattle.service_workers.proofs.ChangesInOrder.{edited_then}
+use Rattle.service_workers.proofs.OneChange.{edited_then}
 
 -- the last ticket is that of the change that was put last
 last_put : (put before : List Request) (session ticket : ℕ) (change : List Op) → put ≡ before ++ record { session = session; ticket = ticket; change = change } ∷ [] → last_asked put ≡ Some ticket

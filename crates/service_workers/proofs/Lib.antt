@@ -1,5 +1,4 @@
 pub mod Outcomes
-pub mod Turned
-pub mod ChangesInOrder
+pub mod OneChange
 pub mod AsAsked
-pub mod PacketsInOrder
+pub mod PacketsOnWay

@@ -4,8 +4,6 @@ use Rattle.written_values.specs.declared.line.ScriptLine.{ScriptLine}
 use Rattle.written_values.specs.declared.line.ScriptLine.TheVariants.{Edit, Route}
 use Rattle.service_workers.specs.declared.answer.Answer.{Answer}
 use Rattle.service_workers.specs.declared.answer.Answer.TheVariants.{Settled, Along, Unreachable, NoNode}
-use Rattle.service_workers.specs.declared.shares.Turn.{Turn}
-use Rattle.service_workers.specs.declared.shares.Turn.TheVariants.{Editor, Forwarder}
 
 -- the line is a change of a session
 abbrev pub is_edit : ScriptLine → Bool
@@ -18,8 +16,3 @@ is_verdict (Settled verdict) = true
 is_verdict (Along generation nodes length) = false
 is_verdict (Unreachable generation) = false
 is_verdict NoNode = false
-
--- the turn is an editor's
-abbrev pub is_editor : Turn → Bool
-is_editor (Editor session) = true
-is_editor (Forwarder place) = false

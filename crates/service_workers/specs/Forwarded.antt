@@ -1,5 +1,5 @@
 -- What a forwarder's thread answers of packets.
-use Rattle.std.specs.Prelude.{◌≡◌, ◌<◌, [], ◌∷◌, ℕ, List, Ok, Err}
+use Rattle.std.specs.Prelude.{◌≡◌, ◌<◌, ℕ, List, Ok, Err}
 use Rattle.node_table.specs.declared.parts.Parts.{Parts}
 use Rattle.node_table.specs.declared.packet.Packet.{Packet}
 use Rattle.node_table.specs.declared.packet.Move.TheVariants.{Delivered}
@@ -48,12 +48,6 @@ HoldsOf known P = (all : Beginning) → IsLawfulList all → AreNamed all → Go
 -- what a forwarder answers of a packet that knows so much
 abbrev pub IsCarried : Beginning → Trip → Carried → Type 0
 IsCarried known trip carried = HoldsOf known (λ all. IsAnswerBy all trip carried)
-
--- of the first of these packets, in their order
-abbrev pub AreCarried : Beginning → List Trip → List Carried → Type 0
-AreCarried known trips [] = Unit {0}
-AreCarried known [] (c ∷ cs) = ⊥
-AreCarried known (t ∷ ts) (c ∷ cs) = IsCarried known t c × AreCarried known ts cs
 
 -- ---- on the way
 

@@ -1,7 +1,7 @@
-// A forwarder's thread.
+// A packet on its way.
 ghost use Rattle.std.specs.Prelude.{◌≡◌, IfSome};
 ghost use Rattle.generations.specs.Beginnings.{GoesOn};
-ghost use Rattle.service_workers.specs.Forwarded.{AreCarried, IsCarried, IsLaunched, IsSent, launched_at};
+ghost use Rattle.service_workers.specs.Forwarded.{IsCarried, IsLaunched, IsSent, launched_at};
 
 use crate::coordinator::Coordinator;
 use crate::hooks::Hooks;
@@ -12,7 +12,6 @@ use generations::BoardReader;
 use node_table::{Move, Packet};
 use scheme_builds::length_over;
 use std::alloc::Global;
-use std::collections::VecDeque;
 use std::marker::PhantomData;
 use std::sync::Wait;
 use std::thread;
@@ -204,62 +203,4 @@ pub(crate) fn forward<J: Naming, G: Hooks, R: Wait>(
         }
     }
     unreachable!()
-}
-
-// Forwards one packet after the other.
-fn forward_each<J: Naming, G: Hooks, R: Wait>(
-    rt: &R,
-    alloc: Global,
-    coordinator: &Coordinator<J>,
-    hooks: &G,
-    forwarder: &mut Forwarder,
-    trips: Vec<Trip>,
-) -> VecDeque<Carried>
-    requires { forwarder.old.opening ≡ J.opening }
-    ensures opening { forwarder.new.opening ≡ J.opening }
-    ensures carried { AreCarried forwarder.new trips.items result.items }
-{
-    let mut all = VecDeque::new(alloc);
-    for trip in trips {
-        let Some(carried) = forward(rt, alloc, coordinator, hooks, forwarder, trip) else {
-            return all;
-        };
-        if all.push_back(carried).is_err() {
-            coordinator.stop(rt, StopCause::Memory);
-            return all;
-        }
-    }
-    all
-}
-
-/// A forwarder that has done its part, and what became of each of its packets, in their order.
-#[derive(Drop)]
-pub struct Forwarded<J: Naming> {
-    pub seat: ForwarderOf<J>,
-    pub carried: VecDeque<Carried>,
-}
-
-/// Forwards one packet after the other, and answers what became of each. Where all stop, some lack.
-pub fn forward_all<J: Naming, G: Hooks, R: Wait>(
-    rt: &R,
-    alloc: Global,
-    coordinator: &Coordinator<J>,
-    hooks: &G,
-    seat: ForwarderOf<J>,
-    trips: Vec<Trip>,
-) -> Forwarded<J>
-    ensures { AreCarried result.seat.forwarder trips.items result.carried.items }
-{
-    let ForwarderOf {
-        mut forwarder,
-        of: _,
-    } = seat;
-    let carried = forward_each(rt, alloc, coordinator, hooks, &mut forwarder, trips);
-    Forwarded {
-        seat: ForwarderOf {
-            forwarder,
-            of: PhantomData,
-        },
-        carried,
-    }
 }

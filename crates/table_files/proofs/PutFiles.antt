@@ -37,7 +37,7 @@ pub all_put : (p : Parts) (folder nodes : List ℕ) (i : ℕ) (old new : List Pu
 all_put p folder nodes i old new end put = put ∙ ap (λ (ns : List ℕ). old ++ files_of p folder ns) (take_all i nodes end)
 
 -- the totals of one file more
-total_push : (totals next : Totals) (puts : List Put) (put : Put) → IsTotalOf totals puts → next.tables ≡ totals.tables + 1 → next.bytes ≡ totals.bytes + length put.bytes → next.greatest ≡ max totals.greatest (length put.bytes)
+pub total_push : (totals next : Totals) (puts : List Put) (put : Put) → IsTotalOf totals puts → next.tables ≡ totals.tables + 1 → next.bytes ≡ totals.bytes + length put.bytes → next.greatest ≡ max totals.greatest (length put.bytes)
     → IsTotalOf next (puts ++ put ∷ [])
 total_push totals next puts put is tables bytes greatest = record {
   tables = tables ∙ ap (λ n. n + 1) is.tables ∙ sym (length-append puts (put ∷ []));

@@ -50,18 +50,74 @@ impl<'a, R> SystemTables<'a, R> {
     }
 }
 
+/// A runtime whose tables can be put from any thread. Of a runtime that is known only by what it can do, that isn't known. So it names
+/// the place.
+pub trait TablePlaces<'a> {
+    /// Where the tables are put.
+    type Place: TableFiles + Send + Drop;
+
+    /// The place.
+    fn place(&'a self) -> Self::Place;
+}
+
+/// Tables that are files of the system, by the runtime of a program. They can be put from any thread.
+#[derive(Drop)]
+pub struct HostTables<'a> {
+    files: &'a HostRuntime,
+    // For contracts alone: it has no bytes.
+    put: Log<TableFile>,
+}
+
+impl<'a> HostTables<'a> {
+    /// Where nothing was put yet.
+    pub fn new(files: &'a HostRuntime) -> HostTables<'a> {
+        HostTables {
+            files,
+            put: Log::new(),
+        }
+    }
+}
+
+impl<'a> TablePlaces<'a> for HostRuntime {
+    type Place = HostTables<'a>;
+
+    fn place(&'a self) -> HostTables<'a> {
+        HostTables::new(self)
+    }
+}
+
+impl TableFiles for HostTables<'_> {
+    ghost use Rattle.table_files.specs.Files.{put_of};
+
+    ghost puts = { λ tables. map put_of tables.put.items };
+
+    fn put(&mut self, file: TableFile) -> Result<(), Fault> {
+        write_file(self.files, &file)?;
+        self.put = self.put.with_entry(&file);
+        Ok(())
+    }
+}
+
 impl<R: Files<File = File> + AllocGlobal> TableFiles for SystemTables<'_, R> {
     ghost use Rattle.table_files.specs.Files.{put_of};
 
     ghost puts = { λ tables. map put_of tables.put.items };
 
     fn put(&mut self, file: TableFile) -> Result<(), Fault> {
-        let beside = path_beside(self.files.alloc(), file.path.as_str())?;
-        if let Err(error) = replace(self.files, beside.as_str(), &file) {
-            return Err(fault_of(error));
-        }
+        write_file(self.files, &file)?;
         self.put = self.put.with_entry(&file);
         Ok(())
+    }
+}
+
+// Puts a file in the place of what stands by its path.
+fn write_file<R: Files<File = File> + AllocGlobal>(files: &R, file: &TableFile) -> Result<(), Fault>
+    ensures { IfErr result (λ fault. IsPutFault fault) }
+{
+    let beside = path_beside(files.alloc(), file.path.as_str())?;
+    match replace(files, beside.as_str(), file) {
+        Ok(()) => Ok(()),
+        Err(error) => Err(fault_of(error)),
     }
 }
 

@@ -61,8 +61,8 @@ fn bytes_of(alloc: Global, scheme: &Scheme, node: u16) -> Result<Vec<u8>, Fault>
     }
 }
 
-/// The file of a node's table.
-fn file_for(alloc: Global, scheme: &Scheme, folder: &str, node: u16) -> Result<TableFile, Fault>
+/// The file of a node's table, of a scheme. It may be put later: nothing of the scheme stays in it.
+pub fn file_for(alloc: Global, scheme: &Scheme, folder: &str, node: u16) -> Result<TableFile, Fault>
     requires { node < scheme.now.nodes }
     ensures file { IfOk result (λ file. put_of file ≡ file_of scheme.now folder.now node) }
     ensures order { IfOk result (λ _. IsTable (table_at scheme.now node)) }

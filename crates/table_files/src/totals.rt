@@ -2,16 +2,16 @@
 ghost use Rattle.std.specs.Prelude.{◌≡◌, ◌≤◌, ◌<◌, ◌+◌, ◌*◌, ◌^◌, max};
 
 /// How many tables were put, how many bytes they have in all, and how many the greatest has.
-#[derive(Clone, Copy, Drop)]
-pub(crate) struct Totals {
-    pub(crate) tables: usize,
-    pub(crate) bytes: u128,
-    pub(crate) greatest: usize,
+#[derive(Clone, Copy, Debug, PartialEq, Eq, Drop)]
+pub struct Totals {
+    pub tables: usize,
+    pub bytes: u128,
+    pub greatest: usize,
 }
 
 impl Totals {
     /// Nothing was put.
-    pub(crate) fn none() -> Totals
+    pub fn none() -> Totals
         ensures tables { result.tables ≡ 0 }
         ensures bytes { result.bytes ≡ 0 }
         ensures greatest { result.greatest ≡ 0 }
@@ -24,7 +24,7 @@ impl Totals {
     }
 
     /// One table more, of so many bytes.
-    pub(crate) fn with(self, len: usize) -> Totals
+    pub fn with(self, len: usize) -> Totals
         requires few { self.tables + 1 < 2 ^ 64 }
         requires room { self.bytes ≤ self.tables * 2 ^ 64 }
         ensures tables { result.tables ≡ self.tables + 1 }

@@ -99,6 +99,7 @@ fn tasks(rt: HostRuntime) -> io::Result<()> {
             editors,
             forwarders,
             places,
+            live: None,
             words: LandmarkWords::Greatest,
         };
         expect_task(&rt, line, serve)?;
@@ -119,6 +120,27 @@ fn expect_pairs<R: AllocGlobal + Abort>(
         words: LandmarkWords::Drawn(7),
     };
     expect_task(rt, line, route)
+}
+
+// A service that answers lines as they come: the words, and its rounds.
+#[test]
+fn live_services(rt: HostRuntime) -> io::Result<()> {
+    for (line, rounds) in [
+        ("serve|d|--words|none|--live", 16),
+        ("serve|--live|d|--words|none|--rounds|1", 1),
+        ("serve|d|--rounds=65535|--words|none|--live", 65_535),
+    ] {
+        let serve = Task::Serve {
+            device: "d",
+            editors: 2,
+            forwarders: 2,
+            places: 64,
+            live: Some(rounds),
+            words: LandmarkWords::Greatest,
+        };
+        expect_task(&rt, line, serve)?;
+    }
+    Ok(())
 }
 
 // The words of `--words` stand before the nodes, between them or behind.
@@ -277,6 +299,19 @@ serve|d|--words|none|--queue|64|--queue|64
 serve|d|--words|x|--editors|0
 serve|d|--words|x|--queue|65
 serve|d|--words|none|--ticket|1
+serve|d|--words|none|--rounds|16
+serve|d|--words|none|--rounds
+serve|d|--words|none|--live|--rounds
+serve|d|--words|none|--live|--rounds|0
+serve|d|--words|none|--live|--rounds|65536
+serve|d|--words|none|--live|--rounds|016
+serve|d|--words|none|--live|--rounds|1|--rounds|1
+serve|d|--words|none|--live|--live
+serve|d|--words|none|--live=1
+serve|d|--words|none|--live|1
+serve|d|--words|x|--live|--rounds|0
+tables|d|f|--words|none|--live
+edit|d|cut:0:1|--live
 serve|--help
 migrate
 migrate|d

@@ -1,16 +1,18 @@
 //! The program `tznode`: a compact routing node on a device file.
 //!
-//! The whole program is one call, [`run_words`] of the crate `commands`, over the words, a reader and two writers; its page says
+//! The whole program is one call, [`run_words_at`] of the crate `commands`, over the words, a reader and two writers; its page says
 //! what each command does and prints. `main` makes the call on the arguments and the standard streams, of which `serve` alone reads,
 //! and ends with the status that it answers. Words that can't be had end it with a fault, told on standard error as `tznode: TEXT`.
+//! Where standard error is a terminal, `tables` tells there now and then how many files were put.
 #![tactic(auto)]
 
 use command_output::{Fault, tell};
-use commands::run_words;
+use commands::run_words_at;
 use std::alloc::AllocError;
 use std::env;
-use std::io::{self, ErrorKind};
+use std::io::{ErrorKind, IsTerminal, Write};
 use std::process::ExitCode;
+use table_files::{HostTables, Progress, WatchedTables};
 
 fn main(rt: HostRuntime) -> ExitCode {
     let given = match arguments(&rt) {
@@ -21,13 +23,52 @@ fn main(rt: HostRuntime) -> ExitCode {
         Ok(words) => words,
         Err(error) => return ended_by(&rt, Fault::from(error)),
     };
-    ExitCode::from(run_words(
+    let mut shown = Shown {
+        rt: &rt,
+        is_terminal: rt.stderr().is_terminal(),
+        was_shown: false,
+    };
+    let mut tables = WatchedTables::new(HostTables::new(&rt), &mut shown);
+    let status = run_words_at(
         &rt,
+        &mut tables,
         &words,
         &mut rt.stdin(),
         &mut rt.stdout(),
         &mut rt.stderr(),
-    ))
+    );
+    drop(tables);
+    shown.clear();
+    ExitCode::from(status)
+}
+
+// Shows a terminal how many tables were put.
+#[derive(Drop)]
+struct Shown<'a> {
+    rt: &'a HostRuntime,
+    is_terminal: bool,
+    was_shown: bool,
+}
+
+impl Progress for Shown<'_> {
+    // The next line of the terminal is printed over this one.
+    fn came_to(&mut self, tables: usize) {
+        if self.is_terminal && tables % 64 == 0 {
+            let mut err = self.rt.stderr();
+            let _told = write!(err, "{tables} tables\r");
+            let _flushed = err.flush();
+            self.was_shown = true;
+        }
+    }
+}
+
+impl Shown<'_> {
+    // Takes away what no line was printed over.
+    fn clear(&self) {
+        if self.was_shown {
+            let _told = write!(self.rt.stderr(), "\x1b[K");
+        }
+    }
 }
 
 fn ended_by(rt: &HostRuntime, fault: Fault) -> ExitCode {

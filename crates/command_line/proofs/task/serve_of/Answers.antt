@@ -4,8 +4,8 @@ use Rattle.clap.specs.Walk.{rows_of}
 use Rattle.written_values.specs.declared.words.LandmarkWords.TheVariants.{Greatest}
 use Rattle.command_line.specs.declared.task.Task.TheVariants.{Serve}
 use Rattle.command_line.specs.Asked.{IsCause}
-use Rattle.command_line.proofs.Asking.{given, gives, seats_given, seats_of}
-use Rattle.command_line.proofs.OneTask.{editors_refused, forwarders_refused, handed_on, of_number, of_words, places_refused, same_serve, serve_words}
+use Rattle.command_line.proofs.Asking.{given, gives, live_given, live_of, seats_given, seats_of}
+use Rattle.command_line.proofs.OneTask.{editors_refused, forwarders_refused, handed_on, live_refused, of_number, of_words, places_refused, same_serve, serve_words}
 use Rattle.command_line.proofs.task.serve_of.Goals as goal
 
 pub returns-clause-asked : goal.returns-clause-asked
@@ -16,15 +16,16 @@ returns-clause-asked c device =
       seats_of f _ _ _ c.in_ok-editors.ensures.found,
       seats_of f _ _ _ c.in_ok-forwarders.ensures.found,
       seats_of f _ _ _ c.in_ok-places.ensures.found,
+      live_of f _ c.in_ok-live.ensures.found,
       (gives f _ _ c.in_ok-words.ensures.found, c.in_ok-words.ensures.fits),
     )
 
 pub returns-clause-only : goal.returns-clause-only
 returns-clause-only c device task is =
     let f = found_of c.args.found.now in
-    same_serve (codes "serve") (rows_of f) c.args.device c.in_ok-editors.editors c.in_ok-forwarders.forwarders c.in_ok-places.places c.in_ok-words.words task refl device
+    same_serve (codes "serve") (rows_of f) c.args.device c.in_ok-editors.editors c.in_ok-forwarders.forwarders c.in_ok-places.places c.in_ok-live.live c.in_ok-words.words task refl device
     (λ n there. c.in_ok-editors.ensures.same n (seats_given f _ _ n there)) (λ n there. c.in_ok-forwarders.ensures.same n (seats_given f _ _ n there))
-    (λ n there. c.in_ok-places.ensures.same n (seats_given f _ _ n there)) (λ words asked there. c.in_ok-words.ensures.same words asked (given f _ _ there)) is
+    (λ n there. c.in_ok-places.ensures.same n (seats_given f _ _ n there)) (λ asked there. c.in_ok-live.ensures.same asked (live_given f asked there)) (λ words asked there. c.in_ok-words.ensures.same words asked (given f _ _ there)) is
 
 pub returns-in_err-editors-clause-cause : goal.returns-in_err-editors-clause-cause
 returns-in_err-editors-clause-cause c device =
@@ -47,10 +48,17 @@ returns-in_err-places-clause-cause c device =
     (of_number (codes "serve") (rows_of f) c.in_err-places.field-0.0 c.in_err-places.ensures.refusals
     (places_refused (rows_of f) c.in_err-places.field-0.0 (λ n there. c.in_err-places.ensures.only n (seats_given f _ _ n there))))
 
+pub returns-in_err-live-clause-cause : goal.returns-in_err-live-clause-cause
+returns-in_err-live-clause-cause c device =
+    let f = found_of c.args.found.now in
+    handed_on c.from_residual-in_err-live.result (λ refused. IsCause (codes "serve") (rows_of f) refused) c.in_err-live.field-0.0 c.from_residual-in_err-live.ensures.1
+    (of_number (codes "serve") (rows_of f) c.in_err-live.field-0.0 c.in_err-live.ensures.refusals
+    (live_refused (rows_of f) c.in_err-live.field-0.0 (λ asked there. c.in_err-live.ensures.only asked (live_given f asked there))))
+
 pub returns-in_err-words-clause-cause : goal.returns-in_err-words-clause-cause
 returns-in_err-words-clause-cause c device =
     let f = found_of c.args.found.now in
     handed_on c.from_residual-in_err-words.result (λ refused. IsCause (codes "serve") (rows_of f) refused) c.in_err-words.field-0.0 c.from_residual-in_err-words.ensures.1
-    (of_words (codes "serve") (rows_of f) c.in_err-words.field-0.0 (Serve c.args.device c.in_ok-editors.editors c.in_ok-forwarders.forwarders c.in_ok-places.places Greatest) c.in_err-words.ensures.cause
+    (of_words (codes "serve") (rows_of f) c.in_err-words.field-0.0 (Serve c.args.device c.in_ok-editors.editors c.in_ok-forwarders.forwarders c.in_ok-places.places c.in_ok-live.live Greatest) c.in_err-words.ensures.cause
     (λ task is. serve_words (rows_of f) task is)
-    (λ words. (refl, device, seats_of f _ _ _ c.in_ok-editors.ensures.found, seats_of f _ _ _ c.in_ok-forwarders.ensures.found, seats_of f _ _ _ c.in_ok-places.ensures.found, words)) (λ lacks. lacks))
+    (λ words. (refl, device, seats_of f _ _ _ c.in_ok-editors.ensures.found, seats_of f _ _ _ c.in_ok-forwarders.ensures.found, seats_of f _ _ _ c.in_ok-places.ensures.found, live_of f _ c.in_ok-live.ensures.found, words)) (λ lacks. lacks))

@@ -1,28 +1,8 @@
-use denote.Builtin.{unit}
-use denote.Param.Send.{IsSend, sendable}
-use Rattle.std.proofs.Crossing.{crosses}
-use Rattle.disk_trait.specs.contracts.file.FileDisk as disk
-use Rattle.disk_trait.specs.contracts.log.Log as log
-use Rattle.device_files.specs.contracts.file.DeviceFile as file
 use Rattle.clap.specs.Walk.{texts}
 use Rattle.commands.specs.Devices.{IsFileOf}
 use Rattle.commands.proofs.Tabling.{outcome_any}
 use Rattle.commands.proofs.running.run.Goals as goal
 
-logged : IsSend (log.the_row unit)
-logged = search (crosses, sendable) depth 40
-
--- a disk on a file may go to another thread
-disk_send : IsSend disk.the_row
-disk_send = search (crosses, sendable, logged) depth 40
-
--- and so may one that is locked
-file_send : IsSend file.the_row
-file_send = search (crosses, sendable, disk_send) depth 40
-
-pub run_on-requires-send-F-Device : goal.run_on-requires-send-F-Device
-run_on-requires-send-F-Device g c κs within = search (crosses, sendable, file_send) depth 60
-
 pub returns-clause-outcome : goal.returns-clause-outcome
 returns-clause-outcome g c =
-    outcome_any _ IsFileOf _ (texts c.args.words.now) (g.S.Read.remaining c.args.script.now) (g.O.Write.contents c.args.out.now) (g.O.Write.contents c.run_on.new.out) (g.E.Write.contents c.args.err.now) (g.E.Write.contents c.run_on.new.err) c.run_on.result c.run_on.ensures.outcome
+    outcome_any _ IsFileOf _ (texts c.args.words.now) (g.S.Read.remaining c.args.script.now) (g.O.Write.contents c.args.out.now) (g.O.Write.contents c.run_at.new.out) (g.E.Write.contents c.args.err.now) (g.E.Write.contents c.run_at.new.err) c.run_at.result c.run_at.ensures.outcome

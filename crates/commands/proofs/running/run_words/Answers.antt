@@ -11,10 +11,10 @@ returns-clause-done g c zero =
     answered _ IsFileOf AnyPut (texts c.args.words.now) (g.S.Read.remaining c.args.script.now) (g.O.Write.contents c.args.out.now) (g.O.Write.contents c.run.new.out) (g.E.Write.contents c.args.err.now) (g.E.Write.contents c.run.new.err) c.run.result c.run.ensures.outcome (sym c.status.ensures.value ∙ zero)
 
 pub returns-clause-refused : goal.returns-clause-refused
-returns-clause-refused g c one = ⊎_elim inl (λ why. inr (why.0, why.1, why.2, λ other. c.run.ensures.untouched why.0 other why.3))
+returns-clause-refused g c one = ⊎_elim inl (λ why. inr (why.0, why.1, why.2, λ batch other. c.run.ensures.untouched batch why.0 other why.3))
     (refused _ IsFileOf AnyPut (texts c.args.words.now) (g.S.Read.remaining c.args.script.now) (g.O.Write.contents c.args.out.now) (g.O.Write.contents c.run.new.out) (g.E.Write.contents c.args.err.now) (g.E.Write.contents c.run.new.err) c.run.result c.run.ensures.outcome (sym c.status.ensures.value ∙ one))
 
 pub returns-clause-not_understood : goal.returns-clause-not_understood
 returns-clause-not_understood g c two =
     let why = not_understood _ IsFileOf AnyPut (texts c.args.words.now) (g.S.Read.remaining c.args.script.now) (g.O.Write.contents c.args.out.now) (g.O.Write.contents c.run.new.out) (g.E.Write.contents c.args.err.now) (g.E.Write.contents c.run.new.err) c.run.result c.run.ensures.outcome (sym c.status.ensures.value ∙ two) in
-    (c.run.ensures.untouched why.0 (never_output why.0 why.1) why.3, (why.0, why.1, why.2))
+    (λ batch. c.run.ensures.untouched batch why.0 (never_output why.0 why.1) why.3, (why.0, why.1, why.2))

@@ -1,4 +1,4 @@
-use Rattle.std.proofs.Common.{rules, arith, ◌≡◌, sym, subst, List, ℕ, All, IsSomeAnd}
+use Rattle.std.proofs.Common.{arith, ◌≡◌, subst, List, ℕ, All, IsSomeAnd}
 use Rattle.std.specs.Prelude.{IfSome}
 use Rattle.written_values.specs.Scripts.{IsWritten, MayStand}
 use Rattle.written_values.specs.declared.line.ScriptLine.{ScriptLine}

@@ -1,9 +1,6 @@
-use Rattle.std.proofs.Common.{inl, inr, refl}
-use Rattle.std.proofs.lemmas.Result.{IfErr-at_err, IfOk-at_ok}
-use Rattle.commands.specs.declared.devices.Access.TheVariants.{ToChange}
-use Rattle.commands.specs.Endings.{EndsServe}
-use Rattle.service_lines.specs.ServedLines.{IsServeEnd, IsServed}
-use Rattle.commands.proofs.Faults.{handed_up}
+use Rattle.std.proofs.Common.{refl}
+use Rattle.std.proofs.lemmas.Result.{IfOk-at_ok}
+use Rattle.service_lines.specs.ServedLines.{IsServed}
 use Rattle.commands.proofs.service.run_serve.Goals as goal
 
 pub returns-clause-printed : goal.returns-clause-printed

@@ -1,9 +1,7 @@
-use Rattle.std.proofs.Common.{inl}
 use Rattle.commands.specs.declared.devices.Access.TheVariants.{ToRead}
 use Rattle.commands.specs.Printed.{PrintsTables}
 use Rattle.table_files.specs.Files.{HasPut}
 use Rattle.commands.proofs.OnDevices.{opened_ok}
-use Rattle.commands.proofs.Tabling.{none_put}
 use Rattle.commands.proofs.Tabling.{tables_opened}
 use Rattle.commands.proofs.tables.run_tables.Goals as goal
 

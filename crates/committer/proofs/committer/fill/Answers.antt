@@ -3,6 +3,7 @@ use Rattle.checkpoint.specs.StoreWords.{state_of}
 use Rattle.group_commit.specs.DeskWords.{store_of as desk_store, held_of as desk_held}
 use Rattle.committer.proofs.InTurns.{next_here, holds_more}
 use Rattle.committer.proofs.Taking.{taken_none, taken_more}
+use Rattle.committer.proofs.Listings.{within_more}
 use Rattle.committer.proofs.committer.fill.Goals as goal
 
 pub give-requires-clause-next : goal.give-requires-clause-next
@@ -27,4 +28,5 @@ loop-preserved g c =
           was.no_later (ap (λ s. (state_of s).tickets) c.give.ensures.store) c.give.ensures.held c.take.ensures.same.1 c.in-Some.ensures.got;
       rises = c.take.ensures.rises;
       taken = taken_more c.args.taker.now c.loop.taker c.take.new.self was.empties was.taken c.take.ensures.taken;
+      within = within_more (desk_held c.loop.desk) (desk_held c.give.new.self) r c.give.ensures.held was.within c.in-Some.ensures.within;
     }

@@ -3,6 +3,7 @@ use Rattle.requests.specs.Tickets.{Rises}
 use Rattle.layout_2.specs.State.{asked}
 use Rattle.checkpoint.specs.StoreWords.{state_of}
 use Rattle.group_commit.specs.DeskWords.{store_of, held_of, due_of}
+use Rattle.intake.specs.Turns.{AreWithin}
 use Rattle.intake.specs.Ends.{HasTaken}
 use Rattle.committer.specs.Turns.{HoldsNoLater}
 use Rattle.committer.proofs.committer.fill.Given as goal
@@ -20,4 +21,5 @@ invariant-loop g l = record {
   no_later : HoldsNoLater (state_of (store_of l.desk)).tickets (held_of l.desk) l.taker.starts l.taker.got;
   rises : Rises l.taker.starts (asked l.taker.got);
   taken : HasTaken l.initial.taker l.taker;
+  within : AreWithin (held_of l.desk);
 }

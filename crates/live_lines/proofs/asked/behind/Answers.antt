@@ -15,3 +15,6 @@ returns-in-Launch c = subst (λ (w : Word). IfOk c.launch_in.result (AsksJust (A
 
 pub returns-in-Hop : goal.returns-in-Hop
 returns-in-Hop c = subst (λ (w : Word). IfOk c.hop_in.result (AsksJust (AsksBehind c.args.editors w (map (λ (x : Bor (List ℕ)). x.now) c.args.words.now)))) (sym c.in-Hop.is) c.hop_in.ensures
+
+pub returns-in-Tables : goal.returns-in-Tables
+returns-in-Tables c = subst (λ (w : Word). IfOk c.tables_of.result (AsksJust (AsksBehind c.args.editors w (map (λ (x : Bor (List ℕ)). x.now) c.args.words.now)))) (sym c.in-Tables.is) c.tables_of.ensures

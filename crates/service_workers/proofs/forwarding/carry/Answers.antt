@@ -3,7 +3,7 @@ use Rattle.std.specs.Prelude.{Ok, Err}
 use Rattle.node_table.specs.declared.packet.Packet.{Packet}
 use Rattle.service_workers.specs.declared.forwarding.Carried.TheVariants.{Along}
 use Rattle.service_workers.specs.Forwarded.{IsOnWay}
-use Rattle.service_workers.proofs.PacketsInOrder.{back_as_it_was, delivered_there, goes_on, goes_still, hopped_on, on_way_first, on_way_later}
+use Rattle.service_workers.proofs.PacketsOnWay.{back_as_it_was, delivered_there, goes_on, goes_still, hopped_on, on_way_first, on_way_later}
 use Rattle.service_workers.proofs.forwarding.carry.Goals as goal
 
 pub loop-init : goal.loop-init

@@ -1,7 +1,7 @@
 use Rattle.std.proofs.Common.{sym, subst, refl}
 use Rattle.std.specs.Prelude.{Ok, Err}
 use Rattle.service_workers.specs.Forwarded.{IsLaunched}
-use Rattle.service_workers.proofs.PacketsInOrder.{address_refused, launch_refused, sent_by}
+use Rattle.service_workers.proofs.PacketsOnWay.{address_refused, launch_refused, sent_by}
 use Rattle.service_workers.proofs.forwarding.launch.Goals as goal
 
 pub returns-in-Err-clause-launched : goal.returns-in-Err-clause-launched

@@ -1,7 +1,8 @@
-use Rattle.std.proofs.Common.{sym, ap, ◌∙◌}
+use Rattle.std.proofs.Common.{true, false, refl, sym, ap, ◌∙◌}
 use Rattle.std.specs.Arc.{arc_value}
 use Rattle.generations.specs.declared.posting.Notice.TheVariants.{Built}
-use Rattle.committer.specs.Outboxes.{Outgoing}
+use Rattle.committer.specs.Outboxes.{Outgoing, all_of}
+use Rattle.committer.proofs.Listings.{relisted, announced_listed}
 use Rattle.committer.proofs.Logs.{generation_tied, lawful_behind, tied_posted, tied_due}
 use Rattle.committer.proofs.committer.Committer.announce.Goals as goal
 
@@ -29,3 +30,15 @@ invariant_of-self-in-Due g c =
       tied = tied_due _ _ _ _ _ c.args.self.now.outbox c.offer.new.self (Built c.args.number (arc_value c.args.scheme)) c.requires.nothing_due c.in-Due.ensures tied;
       whole = c.args.self.now.whole;
     }
+
+pub returns-in-Posted-clause-listed : goal.returns-in-Posted-clause-listed
+returns-in-Posted-clause-listed g c named first is =
+    announced_listed first c.args.self.now.outbox c.offer.new.self true c.args.number (arc_value c.args.scheme) _ _ _ _ is c.requires.up c.requires.nothing_due c.requires.number c.requires.news named c.requires.serves c.in-Posted.ensures
+
+pub returns-in-Due-clause-listed : goal.returns-in-Due-clause-listed
+returns-in-Due-clause-listed g c named first is =
+    announced_listed first c.args.self.now.outbox c.offer.new.self false c.args.number (arc_value c.args.scheme) _ _ _ _ is c.requires.up c.requires.nothing_due c.requires.number c.requires.news named c.requires.serves c.in-Due.ensures
+
+pub returns-in-Dropped-clause-listed : goal.returns-in-Dropped-clause-listed
+returns-in-Dropped-clause-listed g c named first is =
+    relisted first c.args.self.now.outbox c.offer.new.self _ _ _ _ _ _ _ _ (ap (λ (o : Outgoing). o.opening) c.in-Dropped.ensures) (ap all_of c.in-Dropped.ensures) refl refl refl refl is

@@ -1,4 +1,4 @@
-use Rattle.std.proofs.Common.{length, Err, ap, ◌∙◌}
+use Rattle.std.proofs.Common.{length, Err, refl, ap, sym, ◌∙◌}
 use Rattle.std.specs.Prelude.{is_some}
 use Rattle.checkpoint.specs.StoreWords.{state_of, is_down}
 use Rattle.generations.specs.Notices.{notice_of}
@@ -7,6 +7,7 @@ use Rattle.group_commit.specs.DeskWords.{store_of as desk_store, held_of as desk
 use Rattle.committer.proofs.Settles.{settles, marks_said, down_said}
 use Rattle.committer.proofs.Logs.{same_starts, marks_lawful, told_marks, down_lawful, told_down}
 use Rattle.committer.proofs.Crashing.{moved, kept_model, up_leaves, down_leaves}
+use Rattle.committer.proofs.Listings.{relisted, committed_listed, failed_listed}
 use Rattle.committer.proofs.committer.Committer.commit.Goals as goal
 
 pub tell-requires-clause-lawful : goal.tell-requires-clause-lawful
@@ -60,3 +61,40 @@ returns-else-tell-clause-any_moment g c model = moved (desk_store c.args.self.no
 
 pub returns-in-Some-paid-clause-any_moment : goal.returns-in-Some-paid-clause-any_moment
 returns-in-Some-paid-clause-any_moment g c model = moved (desk_store c.args.self.now.desk) (desk_store c.commit.new.self) (desk_store c.paid-in-Err-Device.new.self) _ c.paid-in-Err-Device.ensures.store (c.commit.ensures.any_moment model c.requires.up)
+
+pub returns-then-tell-clause-listed : goal.returns-then-tell-clause-listed
+returns-then-tell-clause-listed g c first is =
+    let old = c.args.self.now in
+    let s = state_of (desk_store old.desk) in
+    let rs = desk_held old.desk in
+    let said = marks_said _ c.in-Some.marks (settle s rs).marks c.in-Some.ensures.given c.in-Ok.ensures.marks in
+    committed_listed first old.outbox c.tell.new.self (notice_of c.in-Some.marks) c.tell.result rs _ old.taker.got _ s _ _ _ is c.requires.up c.requires.nothing_due said c.tell.ensures
+    (c.paid.ensures.held ∙ c.in-Ok.ensures.none_held) refl (ap state_of c.paid.ensures.store ∙ c.in-Ok.ensures.ok) (ap is_down c.paid.ensures.store ∙ c.in-Ok.ensures.stays_up c.requires.up (λ e. cc))
+
+pub returns-else-tell-clause-listed : goal.returns-else-tell-clause-listed
+returns-else-tell-clause-listed g c first is =
+    let old = c.args.self.now in
+    let s = state_of (desk_store old.desk) in
+    let rs = desk_held old.desk in
+    let said = marks_said _ c.in-Some.marks (settle s rs).marks c.in-Some.ensures.given c.in-Ok.ensures.marks in
+    committed_listed first old.outbox c.tell.new.self (notice_of c.in-Some.marks) c.tell.result rs _ old.taker.got _ s _ _ _ is c.requires.up c.requires.nothing_due said c.tell.ensures
+    (c.paid.ensures.held ∙ c.in-Ok.ensures.none_held) refl (ap state_of c.paid.ensures.store ∙ c.in-Ok.ensures.ok) (ap is_down c.paid.ensures.store ∙ c.in-Ok.ensures.stays_up c.requires.up (λ e. cc))
+
+pub returns-in-Some-paid-clause-listed : goal.returns-in-Some-paid-clause-listed
+returns-in-Some-paid-clause-listed g c first is =
+    let old = c.args.self.now in
+    let said = down_said _ c.in-Some-paid.down c.in-Some-paid.ensures.given (c.in-Err-Device.ensures.down_due (ap Err c.in-Err-Device.field-0-is)) in
+    failed_listed first old.outbox c.tell-posted.new.self (notice_of c.in-Some-paid.down) c.tell-posted.result (desk_held old.desk) _ old.taker.got _ (state_of (desk_store old.desk)) _ _ _ is c.requires.up c.requires.nothing_due said c.tell-posted.ensures
+    (c.paid-in-Err-Device.ensures.held ∙ c.in-Err-Device.ensures.still_held) refl (ap state_of c.paid-in-Err-Device.ensures.store ∙ c.in-Err-Device.ensures.err) (ap is_down c.paid-in-Err-Device.ensures.store ∙ c.in-Err-Device.ensures.lost (ap Err c.in-Err-Device.field-0-is))
+
+pub returns-in-Err-Memory-clause-listed : goal.returns-in-Err-Memory-clause-listed
+returns-in-Err-Memory-clause-listed g c first is =
+    let old = c.args.self.now in
+    relisted first old.outbox old.outbox (desk_held old.desk) _ old.taker.got old.taker.got (state_of (desk_store old.desk)) _ (is_down (desk_store old.desk)) _ refl refl
+    c.in-Err-Memory.ensures.still_held refl c.in-Err-Memory.ensures.err (c.in-Err-Memory.ensures.stays_up c.requires.up (λ e. cc) ∙ sym c.requires.up) is
+
+pub returns-in-Err-Worn-clause-listed : goal.returns-in-Err-Worn-clause-listed
+returns-in-Err-Worn-clause-listed g c first is =
+    let old = c.args.self.now in
+    relisted first old.outbox old.outbox (desk_held old.desk) _ old.taker.got old.taker.got (state_of (desk_store old.desk)) _ (is_down (desk_store old.desk)) _ refl refl
+    c.in-Err-Worn.ensures.still_held refl c.in-Err-Worn.ensures.err (c.in-Err-Worn.ensures.stays_up c.requires.up (λ e. cc) ∙ sym c.requires.up) is

@@ -2,6 +2,7 @@ use Rattle.std.proofs.Common.{rules, ◌≡◌, Some, ap, ◌∙◌}
 use Rattle.checkpoint.specs.StoreWords.{state_of}
 use Rattle.group_commit.specs.DeskWords.{store_of as desk_store}
 use Rattle.committer.specs.Outboxes.{Outgoing, paid}
+use Rattle.committer.proofs.Listings.{paid_listed}
 use Rattle.committer.proofs.Rebuilding.{newest_serves}
 use Rattle.committer.proofs.committer.Committer.generation_due.Goals as goal
 
@@ -12,3 +13,12 @@ returns-then-eq-clause-serves g c _ =
     let same : c.count-number.result ≡ (state_of (desk_store old.desk)).count = c.count-number.ensures.same ∙ ap (λ s. (state_of s).count) c.store-2.ensures in
     let pays : c.pay.new.self ≡ paid old.outbox = c.if-not-pay.ensures in
     newest_serves _ _ _ _ _ _ _ c.count-number.result c.pay.new.self.posted old.tied is same (ap (λ (o : Outgoing). o.posted) pays)
+
+pub returns-then-not-pay-clause-listed : goal.returns-then-not-pay-clause-listed
+returns-then-not-pay-clause-listed g c first is = paid_listed first c.args.self.now.outbox c.pay.new.self c.pay.result _ _ _ _ c.pay.ensures is
+
+pub returns-then-eq-clause-listed : goal.returns-then-eq-clause-listed
+returns-then-eq-clause-listed g c first is = paid_listed first c.args.self.now.outbox c.pay.new.self c.pay.result _ _ _ _ c.pay.ensures is
+
+pub returns-clause-listed : goal.returns-clause-listed
+returns-clause-listed g c first is = paid_listed first c.args.self.now.outbox c.pay.new.self c.pay.result _ _ _ _ c.pay.ensures is

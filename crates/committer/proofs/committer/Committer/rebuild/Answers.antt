@@ -35,3 +35,6 @@ returns-clause-board g c e =
     let graph : c.graph.result.now ≡ s.graph = c.graph.ensures ∙ ap (λ s. (state_of s).graph) (c.store-2.ensures ∙ c.in_ok-number.ensures.store) in
     let good = scheme_is c.args.words.now _ s (arc_value c.in-Ok.scheme) c.in-Some.number graph same c.in-Ok.ensures in
     inr (owed_is c.args.words.now s old.outbox c.generation_due.new.self.outbox c.announce.new.self.outbox (arc_value c.in-Ok.scheme) c.in-Some.number c.in_ok-number.ensures.paid same good (c.announce.ensures.board e))
+
+pub returns-clause-listed : goal.returns-clause-listed
+returns-clause-listed g c first is = c.announce.ensures.listed c.in-Ok.ensures.given first (c.generation_due.ensures.listed first is)

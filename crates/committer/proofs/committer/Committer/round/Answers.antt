@@ -1,4 +1,4 @@
-use Rattle.std.proofs.Common.{rules, ◌≡◌, ◌++◌, [], List, false, length, drop, ap, sym, ◌∙◌, inl, inr, ⊎_elim, arith}
+use Rattle.std.proofs.Common.{rules, ◌≡◌, ◌++◌, [], List, false, length, drop, ap, sym, ◌∙◌, subst, inl, inr, ⊎_elim, arith}
 use Rattle.std.specs.Prelude.{is_some}
 use Rattle.requests.specs.declared.request.Request.{Request}
 use Rattle.checkpoint.specs.StoreWords.{state_of, is_down}
@@ -7,6 +7,8 @@ use Rattle.committer.proofs.Tying.{tied_no_later, tied_rises}
 use Rattle.committer.proofs.Logs.{tied_paid, tied_filled, paid_starts}
 use Rattle.committer.proofs.Telling.{tied_tells}
 use Rattle.committer.proofs.Crashing.{stays, through, through_alone, idle_through, up_leaves, taken_first, held_first, err_same, none_of}
+use Rattle.committer.specs.Listed.{IsListedFrom}
+use Rattle.committer.proofs.Listings.{paid_listed, filled_listed}
 use Rattle.committer.proofs.committer.Committer.round.Goals.{then-held-eq0, else-held-eq0}
 use Rattle.committer.proofs.committer.Committer.round.Goals as goal
 
@@ -117,3 +119,54 @@ returns-in-Ok-clause-idle g c =
       | else-held-eq0 w ↦ held_first was got (desk_held c.if-held-eq0.self.desk) c.commit.new.self.taker.got (ap (λ s. desk_held s.desk) w.self-is) (c.commit.ensures.taker.0 ∙ ap (λ s. s.taker.got) w.self-is)
     ] in
     idle_through (desk_store c.args.self.now.desk) (desk_store c.if-held-eq0.self.desk) (desk_store c.commit.new.self.desk) (desk_held c.if-held-eq0.self.desk) _ same all c.commit.ensures.idle
+
+pub returns-then-is_down-clause-listed : goal.returns-then-is_down-clause-listed
+returns-then-is_down-clause-listed g c first is = paid_listed first c.args.self.now.outbox c.pay-paid.new.self c.pay-paid.result _ _ _ _ c.pay-paid.ensures is
+
+pub returns-then-not-pay-clause-listed : goal.returns-then-not-pay-clause-listed
+returns-then-not-pay-clause-listed g c first is = paid_listed first c.args.self.now.outbox c.pay.new.self c.pay.result _ _ _ _ c.pay.ensures is
+
+pub returns-then-held-eq0-2-clause-listed : goal.returns-then-held-eq0-2-clause-listed
+returns-then-held-eq0-2-clause-listed g c first is =
+    let old = c.args.self.now in
+    let was : List Request = desk_held old.desk in
+    let here : IsListedFrom first c.if-held-eq0.self = elim c.if-held-eq0.branch [
+      | then-held-eq0 w ↦
+          let none : was ≡ [] = none_of was c.held.result c.held.ensures.same w.if-held-eq0.true in
+          let same = w.fill-taken.ensures.same.0 ∙ paid_starts old.taker.starts old.outbox c.pay.new.self c.pay.result old.same_starts c.pay.ensures in
+          subst (λ s. IsListedFrom first s) (sym w.self-is)
+          (filled_listed first old.outbox c.pay.new.self c.pay.result was (desk_held w.fill-taken.new.desk) old.taker.got w.fill-taken.new.taker.got _ _ _ _ w.fill-taken.new.taker.starts is c.pay.ensures none
+          w.fill-taken.ensures.front w.fill-taken.ensures.rises same w.fill-taken.ensures.within (ap state_of w.fill-taken.ensures.store) (ap is_down w.fill-taken.ensures.store))
+      | else-held-eq0 w ↦ subst (λ s. IsListedFrom first s) (sym w.self-is) (paid_listed first old.outbox c.pay.new.self c.pay.result _ _ _ _ c.pay.ensures is)
+    ] in
+    here
+
+pub returns-in-Ok-clause-listed : goal.returns-in-Ok-clause-listed
+returns-in-Ok-clause-listed g c first is =
+    let old = c.args.self.now in
+    let was : List Request = desk_held old.desk in
+    let here : IsListedFrom first c.if-held-eq0.self = elim c.if-held-eq0.branch [
+      | then-held-eq0 w ↦
+          let none : was ≡ [] = none_of was c.held.result c.held.ensures.same w.if-held-eq0.true in
+          let same = w.fill-taken.ensures.same.0 ∙ paid_starts old.taker.starts old.outbox c.pay.new.self c.pay.result old.same_starts c.pay.ensures in
+          subst (λ s. IsListedFrom first s) (sym w.self-is)
+          (filled_listed first old.outbox c.pay.new.self c.pay.result was (desk_held w.fill-taken.new.desk) old.taker.got w.fill-taken.new.taker.got _ _ _ _ w.fill-taken.new.taker.starts is c.pay.ensures none
+          w.fill-taken.ensures.front w.fill-taken.ensures.rises same w.fill-taken.ensures.within (ap state_of w.fill-taken.ensures.store) (ap is_down w.fill-taken.ensures.store))
+      | else-held-eq0 w ↦ subst (λ s. IsListedFrom first s) (sym w.self-is) (paid_listed first old.outbox c.pay.new.self c.pay.result _ _ _ _ c.pay.ensures is)
+    ] in
+    c.commit.ensures.listed first here
+
+pub returns-in-Err-clause-listed : goal.returns-in-Err-clause-listed
+returns-in-Err-clause-listed g c first is =
+    let old = c.args.self.now in
+    let was : List Request = desk_held old.desk in
+    let here : IsListedFrom first c.if-held-eq0.self = elim c.if-held-eq0.branch [
+      | then-held-eq0 w ↦
+          let none : was ≡ [] = none_of was c.held.result c.held.ensures.same w.if-held-eq0.true in
+          let same = w.fill-taken.ensures.same.0 ∙ paid_starts old.taker.starts old.outbox c.pay.new.self c.pay.result old.same_starts c.pay.ensures in
+          subst (λ s. IsListedFrom first s) (sym w.self-is)
+          (filled_listed first old.outbox c.pay.new.self c.pay.result was (desk_held w.fill-taken.new.desk) old.taker.got w.fill-taken.new.taker.got _ _ _ _ w.fill-taken.new.taker.starts is c.pay.ensures none
+          w.fill-taken.ensures.front w.fill-taken.ensures.rises same w.fill-taken.ensures.within (ap state_of w.fill-taken.ensures.store) (ap is_down w.fill-taken.ensures.store))
+      | else-held-eq0 w ↦ subst (λ s. IsListedFrom first s) (sym w.self-is) (paid_listed first old.outbox c.pay.new.self c.pay.result _ _ _ _ c.pay.ensures is)
+    ] in
+    c.commit.ensures.listed first here

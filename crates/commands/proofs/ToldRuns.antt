@@ -1,0 +1,159 @@
+-- How runs end whose faults are told, and those of live services.
+use Rattle.std.proofs.Common.{◌≡◌, ◌≢◌, ◌∙◌, ◌⊎◌, ◌==◌, if◌then◌else◌, ap, inl, inr, refl, sym, subst, ℕ, List, [], Option, Some, None, Result, Ok, Err, IfErr, IfOk, IfSome}
+use Rattle.std.specs.Borrow.{Bor}
+use Rattle.std.specs.Io.KnownBytes.{prepend_known}
+use Rattle.std.specs.Io.Buffered.{reader_buffer, reader_capacity, reader_inner, reader_remaining}
+use Rattle.std.specs.declared.io.buffered.BufReader.{BufReader}
+use Rattle.clap.specs.Walk.{Text}
+use Rattle.disk_trait.specs.declared.disk.Disk.{Ghosts}
+use Rattle.command_line.specs.Asked.{IsAskedFor}
+use Rattle.command_line.specs.declared.task.Task.{Task}
+use Rattle.command_line.specs.declared.task.Task.TheVariants.{Serve}
+use Rattle.command_output.specs.declared.ended.Ended.{Ended}
+use Rattle.command_output.specs.declared.fault.Fault.{Fault}
+use Rattle.command_output.specs.declared.fault.Fault.TheVariants as told
+use Rattle.written_values.specs.declared.words.LandmarkWords.{LandmarkWords}
+use Rattle.service_lines.specs.ServedLines.{IsServeEnd}
+use Rattle.service_lines.specs.declared.served.Served.{Served}
+use Rattle.service_lines.specs.declared.served.Served.TheVariants as served
+use Rattle.service_threads.specs.Kept.{IsLeftBy}
+use Rattle.live_service.specs.Ends.{HasToldSo, fault_of}
+use Rattle.live_service.specs.Inputs.{Bytes}
+use Rattle.live_service.specs.Runs.{PrintsTo}
+use Rattle.table_files.specs.Files.{Put}
+use Rattle.commands.specs.declared.devices.Access.{Access}
+use Rattle.commands.specs.declared.devices.Access.TheVariants.{ToChange}
+use Rattle.commands.specs.declared.outcome.Outcome.{Outcome}
+use Rattle.commands.specs.declared.outcome.Outcome.TheVariants.{Answered, Told, Untold}
+use Rattle.commands.specs.Devices.{IsFileFault}
+use Rattle.commands.specs.Endings.{EndsServe, IsFaultFor, MayEnd}
+use Rattle.commands.specs.Outcomes.{IsEndOf, IsLiveOutcome, IsOutcome, IsOutcomeOf, IsServiceOutcome, IsToldSo}
+use Rattle.commands.specs.Printed.{PrintedFor, PrintsServed}
+use Rattle.commands.specs.ServedScripts.{IsLiveService}
+
+-- what was answered for a task, or may end it, is its outcome
+pub told_so : {D : Type 0} (model : Ghosts D) (opened : List ℕ → Access → D → Type 0) (put : List Put → Type 0) (task : Task) (given old new told_old told_new : Option (List ℕ)) (r : Result Ended Fault) (outcome : Outcome)
+    → IsToldSo r told_old told_new outcome → IfOk r (λ ended. PrintedFor model opened put task given ended old new) → IfErr r (λ fault. MayEnd model opened put task given old new fault)
+    → IsOutcomeOf model opened put task given old new told_old told_new outcome
+told_so model opened put task given old new told_old told_new (Ok ended) (Answered answered) is printed ends = (subst (λ (e : Ended). PrintedFor model opened put task given e old new) (sym is.0) printed, is.1)
+told_so model opened put task given old new told_old told_new (Ok ended) (Told fault) is printed ends = absurd is
+told_so model opened put task given old new told_old told_new (Ok ended) (Untold fault) is printed ends = absurd is
+told_so model opened put task given old new told_old told_new (Err fault) (Answered answered) is printed ends = absurd is
+told_so model opened put task given old new told_old told_new (Err fault) (Told came) is printed ends = (subst (λ (e : Fault). MayEnd model opened put task given old new e) (sym is.0) ends, is.1)
+told_so model opened put task given old new told_old told_new (Err fault) (Untold came) is printed ends = subst (λ (e : Fault). MayEnd model opened put task given old new e) (sym is) ends
+
+-- and so for a service over a script
+pub served_so : {D : Type 0} (model : Ghosts D) (opened : D → Type 0) (given : Option (List ℕ)) (editors : ℕ) (words : LandmarkWords) (old new told_old told_new : Option (List ℕ)) (r : Result Ended Fault) (outcome : Outcome)
+    → IsToldSo r told_old told_new outcome → IfOk r (λ ended. PrintsServed model opened given editors ended old new) → IfErr r (λ fault. EndsServe model opened given editors words fault)
+    → IsServiceOutcome model opened None given editors words old new told_old told_new outcome
+served_so model opened given editors words old new told_old told_new (Ok ended) (Answered answered) is printed ends = (subst (λ (e : Ended). PrintsServed model opened given editors e old new) (sym is.0) printed, is.1)
+served_so model opened given editors words old new told_old told_new (Ok ended) (Told fault) is printed ends = absurd is
+served_so model opened given editors words old new told_old told_new (Ok ended) (Untold fault) is printed ends = absurd is
+served_so model opened given editors words old new told_old told_new (Err fault) (Answered answered) is printed ends = absurd is
+served_so model opened given editors words old new told_old told_new (Err fault) (Told came) is printed ends = (subst (λ (e : Fault). EndsServe model opened given editors words e) (sym is.0) ends, is.1)
+served_so model opened given editors words old new told_old told_new (Err fault) (Untold came) is printed ends = subst (λ (e : Fault). EndsServe model opened given editors words e) (sym is) ends
+
+-- the outcome of a service is one of the task
+pub service_so : {D : Type 0} (model : Ghosts D) (opened : List ℕ → Access → D → Type 0) (put : List Put → Type 0) (device : Bor Text) (editors forwarders places : ℕ) (live : Option ℕ) (words : LandmarkWords) (given old new told_old told_new : Option (List ℕ)) (outcome : Outcome)
+    → IsServiceOutcome model (opened device.now ToChange) live given editors words old new told_old told_new outcome
+    → IsOutcomeOf model opened put (Serve device editors forwarders places live words) given old new told_old told_new outcome
+service_so model opened put device editors forwarders places None words given old new told_old told_new (Answered ended) is = is
+service_so model opened put device editors forwarders places None words given old new told_old told_new (Told fault) is = is
+service_so model opened put device editors forwarders places None words given old new told_old told_new (Untold fault) is = is
+service_so model opened put device editors forwarders places (Some rounds) words given old new told_old told_new (Answered ended) is = is
+service_so model opened put device editors forwarders places (Some rounds) words given old new told_old told_new (Told fault) is = is
+service_so model opened put device editors forwarders places (Some rounds) words given old new told_old told_new (Untold fault) is = is
+
+-- a service that isn't live has no rounds
+pub not_live : (device : Bor Text) (editors forwarders places : ℕ) (live : Option ℕ) (words : LandmarkWords) → ¬ IsLiveService (Serve device editors forwarders places live words) → live ≡ None
+not_live device editors forwarders places None words other = refl
+not_live device editors forwarders places (Some rounds) words other = absurd (other tt)
+
+-- the outcome of a task that is asked for is one of the words
+pub asked_so : {D : Type 0} (model : Ghosts D) (opened : List ℕ → Access → D → Type 0) (put : List Put → Type 0) (words : List Text) (task : Task) (given old new told_old told_new : Option (List ℕ)) (outcome : Outcome) → IsAskedFor words task
+    → IsOutcomeOf model opened put task given old new told_old told_new outcome → IsOutcome model opened put words given old new told_old told_new outcome
+asked_so model opened put words task given old new told_old told_new (Answered ended) asked is = ((task, asked, is.0), is.1)
+asked_so model opened put words task given old new told_old told_new (Told fault) asked is = (inr (task, asked, is.0), is.1)
+asked_so model opened put words task given old new told_old told_new (Untold fault) asked is = inr (task, asked, is)
+
+-- and so is a fault of theirs
+pub refused_so : {D : Type 0} (model : Ghosts D) (opened : List ℕ → Access → D → Type 0) (put : List Put → Type 0) (words : List Text) (given old new told_old told_new : Option (List ℕ)) (fault : Fault) (outcome : Outcome)
+    → (let r : Result Ended Fault = Err fault in IsToldSo r told_old told_new outcome) → IsFaultFor model opened put words given old new fault → IsOutcome model opened put words given old new told_old told_new outcome
+refused_so model opened put words given old new told_old told_new fault (Answered ended) is why = absurd is
+refused_so model opened put words given old new told_old told_new fault (Told came) is why = (subst (λ (e : Fault). IsFaultFor model opened put words given old new e) (sym is.0) why, is.1)
+refused_so model opened put words given old new told_old told_new fault (Untold came) is why = subst (λ (e : Fault). IsFaultFor model opened put words given old new e) (sym is) why
+
+-- what holds behind each fault but the output's holds behind the one that was told
+pub told_behind : (P : Type 0) (told_old told_new : Option (List ℕ)) (r : Result Ended Fault) (outcome : Outcome) → IsToldSo r told_old told_new outcome → IfErr r (λ fault. fault ≢ told.Output → P)
+    → (fault : Fault) → fault ≢ told.Output → (outcome ≡ Told fault) ⊎ (outcome ≡ Untold fault) → P
+told_behind P told_old told_new (Ok ended) (Answered answered) is behind fault other (inl same) = absurd (cc)
+told_behind P told_old told_new (Ok ended) (Answered answered) is behind fault other (inr same) = absurd (cc)
+told_behind P told_old told_new (Ok ended) (Told came) is behind fault other which = absurd is
+told_behind P told_old told_new (Ok ended) (Untold came) is behind fault other which = absurd is
+told_behind P told_old told_new (Err first) (Answered answered) is behind fault other which = absurd is
+told_behind P told_old told_new (Err first) (Told came) is behind fault other (inl same) =
+    let one : fault ≡ came = cc in
+    behind (λ out. other (one ∙ is.0 ∙ out))
+told_behind P told_old told_new (Err first) (Told came) is behind fault other (inr same) = absurd (cc)
+told_behind P told_old told_new (Err first) (Untold came) is behind fault other (inl same) = absurd (cc)
+told_behind P told_old told_new (Err first) (Untold came) is behind fault other (inr same) =
+    let one : fault ≡ came = cc in
+    behind (λ out. other (one ∙ is ∙ out))
+
+-- ---- a live service
+
+-- a fault before any line is answered
+pub early_so : {D : Type 0} (model : Ghosts D) (opened : D → Type 0) (given : Option (List ℕ)) (editors : ℕ) (words : LandmarkWords) (old told_old told_new : Option (List ℕ)) (fault : Fault) (outcome : Outcome)
+    → (let r : Result Ended Fault = Err fault in IsToldSo r told_old told_new outcome) → (fault ≡ told.Memory) ⊎ IsFileFault fault → IsLiveOutcome model opened given editors words old old told_old told_new outcome
+early_so model opened given editors words old told_old told_new fault (Answered ended) is why = absurd is
+early_so model opened given editors words old told_old told_new fault (Told came) is why =
+    let early : (came ≡ told.Memory) ⊎ IsFileFault came = subst (λ (e : Fault). (e ≡ told.Memory) ⊎ IsFileFault e) (sym is.0) why in (inl (refl, early), is.1)
+early_so model opened given editors words old told_old told_new fault (Untold came) is why =
+    let early : (came ≡ told.Memory) ⊎ IsFileFault came = subst (λ (e : Fault). (e ≡ told.Memory) ⊎ IsFileFault e) (sym is) why in
+    inl (refl, early)
+
+-- the end of one that ran
+live_end : {D : Type 0} (model : Ghosts D) (opened : D → Type 0) (given : Option (List ℕ)) (editors : ℕ) (words : LandmarkWords) (old new told_old told_new : Option (List ℕ)) (disk : D) (back : Option D) (ended : Served) (outcome : Outcome)
+    → IsEndOf ended outcome → opened disk → PrintsTo (Bytes given) editors old new ended → HasToldSo told_old told_new ended → IfSome (fault_of ended) (λ fault. IsServeEnd model disk words back fault) → IsLeftBy model disk back
+    → IsLiveOutcome model opened given editors words old new told_old told_new outcome
+live_end model opened given editors words old new told_old told_new disk back served.Printed outcome is was prints tells ends left =
+    let all = prints.answers (λ same. absurd (cc)) in
+    subst (λ (o : Outcome). IsLiveOutcome model opened given editors words old new told_old told_new o) (sym is)
+    ((refl, (all.0, all.1, all.2 refl), record { disk = disk; was = was; back = back; holds = left }), tells)
+live_end model opened given editors words old new told_old told_new disk back (served.Told fault) outcome is was prints tells ends left =
+    subst (λ (o : Outcome). IsLiveOutcome model opened given editors words old new told_old told_new o) (sym is) (
+      inr (
+        λ other.
+            let some = prints.answers (λ same. other (cc)) in
+            (some.0, some.1),
+        record { disk = disk; was = was; back = back; holds = (ends, left) },
+      ),
+      tells,
+    )
+live_end model opened given editors words old new told_old told_new disk back (served.Untold fault) outcome is was prints tells ends left =
+    subst (λ (o : Outcome). IsLiveOutcome model opened given editors words old new told_old told_new o) (sym is)
+    (inr (
+      λ other.
+          let some = prints.answers (λ same. other (cc)) in
+          (some.0, some.1),
+      record { disk = disk; was = was; back = back; holds = (ends, left) },
+    ))
+
+pub live_so : {D : Type 0} (model : Ghosts D) (opened : D → Type 0) (given read : Option (List ℕ)) (editors : ℕ) (words : LandmarkWords) (old new told_old told_new : Option (List ℕ)) (disk : D) (back : Option D) (ended : Served) (outcome : Outcome)
+    → read ≡ given → IsEndOf ended outcome → opened disk → PrintsTo (Bytes read) editors old new ended → HasToldSo told_old told_new ended → IfSome (fault_of ended) (λ fault. IsServeEnd model disk words back fault) → IsLeftBy model disk back
+    → IsLiveOutcome model opened given editors words old new told_old told_new outcome
+live_so model opened given read editors words old new told_old told_new disk back ended outcome same is was prints tells ends left =
+    live_end model opened given editors words old new told_old told_new disk back ended outcome is was (subst (λ (g : Option (List ℕ)). PrintsTo (Bytes g) editors old new ended) same prints) tells ends left
+
+nothing_before : (known : Option (List ℕ)) → prepend_known [] known ≡ known
+nothing_before None = refl
+nothing_before (Some xs) = refl
+
+-- a reader in front of another one, from which nothing was read yet, gives what that one does
+pub fresh_reader : {T A : Type 0} (remaining : T → Option (List ℕ)) (r : BufReader T A) (from : T) → reader_inner r ≡ from → reader_buffer r ≡ [] → reader_capacity r ≡ 8192
+    → reader_remaining remaining r ≡ remaining from
+fresh_reader {T} remaining r from inner empty capacity =
+    ap (λ (n : ℕ). if n == 0 then None else prepend_known (reader_buffer r) (remaining (reader_inner r))) capacity
+    ∙ ap (λ (bs : List ℕ). prepend_known bs (remaining (reader_inner r))) empty
+    ∙ ap (λ (t : T). prepend_known [] (remaining t)) inner
+    ∙ nothing_before (remaining from)

@@ -1,0 +1,152 @@
+-- How a live service ends.
+use Rattle.std.proofs.Common.{◌≡◌, refl, sym, subst, List, ℕ, Option, Some, None, Result, Ok, Err, IfErr, IsErrOf, false, arith}
+use Rattle.std.specs.Prelude.{IfSome}
+use Rattle.disk_trait.specs.declared.disk.Disk.{Ghosts}
+use Rattle.disk_trait.specs.Disk.{DiskView, IsSameDevice}
+use Rattle.checkpoint.specs.StoreWords.{state_of, view_of, is_down}
+use Rattle.checkpoint.specs.declared.store.Store.{Store}
+use Rattle.written_values.specs.declared.words.LandmarkWords.{LandmarkWords}
+use Rattle.command_output.specs.declared.fault.Fault.{Fault}
+use Rattle.command_output.specs.declared.fault.Fault.TheVariants as told
+use Rattle.service_threads.specs.Faults.{stop_fault}
+use Rattle.service_threads.specs.Kept.{HasFailed, HasSettledSome, IsServedDisk}
+use Rattle.service_threads.proofs.Settling.{some_settled}
+use Rattle.service_lines.specs.ServedLines.{IsServeEnd, told_fault}
+use Rattle.service_lines.specs.declared.served.Served.{Served}
+use Rattle.service_lines.specs.declared.served.Served.TheVariants as served
+use Rattle.service_workers.specs.declared.stop_cause.StopCause.{StopCause}
+use Rattle.service_workers.specs.declared.stop_cause.StopCause.TheVariants as cause
+use Rattle.live_service.specs.Inputs.{Input}
+use Rattle.live_service.specs.Ends.{IsLater, fault_of}
+use Rattle.live_service.specs.Runs.{HasEnded, IsFaultOf, IsPrintEnd, PrintsSo, PrintsTo}
+use Rattle.live_service.specs.declared.printed.Printed.{Printed}
+
+-- the fault that is told of threads that stopped
+pub cause_later : (c : StopCause) → IsLater (told_fault (stop_fault c))
+cause_later cause.Device = tt
+cause_later cause.Worn = tt
+cause_later cause.Memory = tt
+cause_later cause.Board = tt
+cause_later cause.NoThread = tt
+cause_later cause.Internal = tt
+
+-- is the device's only where the device was the cause
+pub cause_device : (c : StopCause) → told_fault (stop_fault c) ≡ told.Device → c ≡ cause.Device
+cause_device cause.Device is = refl
+cause_device cause.Worn is = absurd (cc)
+cause_device cause.Memory is = absurd (cc)
+cause_device cause.Board is = absurd (cc)
+cause_device cause.NoThread is = absurd (cc)
+cause_device cause.Internal is = absurd (cc)
+
+-- the device of a service that ended so
+pub later_end : {D : Type 0} (model : Ghosts D) (disk : D) (asked : LandmarkWords) (back : Option D) (f : Fault) → IsLater f
+    → (f ≡ told.Device → IfSome back (λ d. HasFailed (model.view disk) (model.view d))) → IsServeEnd model disk asked back f
+later_end model disk asked back told.Device is device = record {
+  named = tt;
+  tells = λ keeps. tt;
+  not_within = λ keeps state stands same. absurd (cc);
+  of_one = λ same. absurd (cc);
+  refused = λ keeps opening. absurd opening;
+  device = device;
+}
+later_end model disk asked back told.Worn is device = record {
+  named = tt;
+  tells = λ keeps. tt;
+  not_within = λ keeps state stands same. absurd (cc);
+  of_one = λ same. absurd (cc);
+  refused = λ keeps opening. absurd opening;
+  device = device;
+}
+later_end model disk asked back told.Memory is device = record {
+  named = tt;
+  tells = λ keeps. tt;
+  not_within = λ keeps state stands same. absurd (cc);
+  of_one = λ same. absurd (cc);
+  refused = λ keeps opening. absurd opening;
+  device = device;
+}
+later_end model disk asked back told.NoThread is device = record {
+  named = tt;
+  tells = λ keeps. tt;
+  not_within = λ keeps state stands same. absurd (cc);
+  of_one = λ same. absurd (cc);
+  refused = λ keeps opening. absurd opening;
+  device = device;
+}
+later_end model disk asked back told.Internal is device = record {
+  named = tt;
+  tells = λ keeps. tt;
+  not_within = λ keeps state stands same. absurd (cc);
+  of_one = λ same. absurd (cc);
+  refused = λ keeps opening. absurd opening;
+  device = device;
+}
+later_end model disk asked back told.Output is device = record {
+  named = tt;
+  tells = λ keeps. tt;
+  not_within = λ keeps state stands same. absurd (cc);
+  of_one = λ same. absurd (cc);
+  refused = λ keeps opening. absurd opening;
+  device = device;
+}
+later_end model disk asked back _ is device = absurd is
+
+-- a service that a fault ended isn't one that printed all
+pub not_printed : (ended : Served) (f : Fault) → fault_of ended ≡ Some f → ended ≡ served.Printed → ⊥
+not_printed served.Printed f is same = absurd (cc)
+not_printed (served.Told g) f is same = cc
+not_printed (served.Untold g) f is same = cc
+
+no_cause : (a b : Result (Unit {0}) StopCause) → a ≡ Err cause.Memory → a ≡ Err cause.Device → ⊥
+no_cause a b is same = cc
+
+no_fault : told.Memory ≡ told.Device → ⊥
+no_fault same = cc
+
+-- what a service prints that printed so much
+pub prints_to : (input : Input) (editors : ℕ) (old new : Option (List ℕ)) (printed : Printed) (ended : Served) → PrintsSo input editors old new printed → IsPrintEnd input printed ended
+    → PrintsTo input editors old new ended
+prints_to input editors old new printed ended so end =
+    record { answers = λ unfailed. (printed.count, so.answers (λ is. unfailed (end.output is)), end.whole) }
+
+-- no engine was started
+pub memory_ended : {D : Type 0} {V : _} → (store : Store D V) (ended : Served) (disk : D) → is_down store ≡ false → V.view disk ≡ view_of store → fault_of ended ≡ Some told.Memory → HasEnded store ended (Some disk)
+memory_ended {V = V} store ended disk up is fault = (
+  Err cause.Memory,
+  record {
+    disk = record {
+      settled = subst (λ (v : DiskView). HasSettledSome (state_of store) (view_of store) v) (sym is) (some_settled store up);
+      device = λ same. absurd (no_cause (Err cause.Memory) (Err cause.Memory) refl same);
+    };
+    fault = subst (λ (o : Option Fault). IfSome o (λ f. IsFaultOf {T = Unit {0}} (Err cause.Memory) f)) (sym fault) (tt, λ same. absurd (no_fault same));
+  },
+)
+
+failed_since : (old mid new : DiskView) → IsSameDevice old mid → HasFailed mid new → HasFailed old new
+failed_since old mid new same failed = omega (arith, same.no_fewer, failed)
+
+back_failed : {D : Type 0} (model : Ghosts D) (old mid : DiskView) (back : Option D) → IsSameDevice old mid → IfSome back (λ d. HasFailed mid (model.view d)) → IfSome back (λ d. HasFailed old (model.view d))
+back_failed model old mid (Some d) same failed = failed_since old mid (model.view d) same failed
+back_failed model old mid None same failed = tt
+
+served_failed : {D T : Type 0} {V : _} → (store : Store D V) (engine : Result T StopCause) (back : Option D) → IfSome back (λ d. IsServedDisk store engine (V.view d)) → IsErrOf engine cause.Device
+    → IfSome back (λ d. HasFailed (view_of store) (V.view d))
+served_failed store engine (Some d) left is = left.device is
+served_failed store engine None left is = tt
+
+one_end : {D T : Type 0} {V : _} → (disk : D) (asked : LandmarkWords) (store : Store D V) (engine : Result T StopCause) (back : Option D) (f : Fault) → IsSameDevice (V.view disk) (view_of store)
+    → IfSome back (λ d. IsServedDisk store engine (V.view d)) → IsFaultOf engine f → IsServeEnd V disk asked back f
+one_end {V = V} disk asked store engine back f same left is =
+    later_end V disk asked back f is.0 (λ device. back_failed V (V.view disk) (view_of store) back same (served_failed store engine back left (is.1 device)))
+
+-- the device of a service whose engine ended so
+pub engine_ends : {D T : Type 0} {V : _} → (disk : D) (asked : LandmarkWords) (store : Store D V) (engine : Result T StopCause) (back : Option D) (fault : Option Fault) → IsSameDevice (V.view disk) (view_of store)
+    → IfSome back (λ d. IsServedDisk store engine (V.view d)) → IfSome fault (λ f. IsFaultOf engine f) → IfSome fault (λ f. IsServeEnd V disk asked back f)
+engine_ends disk asked store engine back (Some f) same left is = one_end disk asked store engine back f same left is
+engine_ends disk asked store engine back None same left is = tt
+
+-- a fault that ended a service, as an error
+pub err_of : {T : Type 0} (r : Result T Fault) (fault : Option Fault) (P : Fault → Type 0) → IfErr r (λ f. fault ≡ Some f) → IfSome fault P → IfErr r P
+err_of (Ok u) fault P is has = tt
+err_of (Err f) fault P is has = subst (λ (o : Option Fault). IfSome o P) is has

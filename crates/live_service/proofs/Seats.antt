@@ -1,0 +1,29 @@
+-- Editors at the board of their readers, which have submitted nothing.
+use Rattle.std.specs.Prelude.{ℕ, ◌≡◌, ◌+◌, List, [], ◌∷◌, All}
+use Rattle.std.proofs.Common.{refl}
+use Rattle.std.proofs.lemmas.List.Elements.{All-nil, All-cons, All-head, All-tail, All-same}
+use Rattle.atomic_table.specs.Seated.{TableId}
+use Rattle.requests.specs.Tickets.{last_of}
+use Rattle.generations.specs.Beginnings.{Opening}
+use Rattle.generations.specs.Knowledges.{Knowledge}
+use Rattle.intake.specs.Editors.{Editing, editors_from}
+
+-- editors are at the board of their readers
+editors_of : (opening : Opening) (q : TableId) (starts : List ℕ) (n : ℕ) (rs : List Knowledge) → All (λ r. r.all.opening ≡ opening) rs → All (λ e. e.known.opening ≡ opening) (editors_from q starts n rs)
+editors_of opening q starts n [] all = All-nil (λ (e : Editing). e.known.opening ≡ opening)
+editors_of opening q starts n (r ∷ rs) all =
+    All-cons (λ (e : Editing). e.known.opening ≡ opening) (record { queue = q; session = n; start = last_of starts n; put = []; fulls = 0; known = r.all }) (editors_from q starts (n + 1) rs)
+    (All-head (λ (k : Knowledge). k.all.opening ≡ opening) r rs all)
+    (editors_of opening q starts (n + 1) rs (All-tail (λ (k : Knowledge). k.all.opening ≡ opening) r rs all))
+
+pub seated : (opening : Opening) (q : TableId) (starts : List ℕ) (rs : List Knowledge) (es : List Editing) → es ≡ editors_from q starts 0 rs
+    → All (λ r. r.all.opening ≡ opening) rs → All (λ e. e.known.opening ≡ opening) es
+seated opening q starts rs es is all = All-same (λ (e : Editing). e.known.opening ≡ opening) es (editors_from q starts 0 rs) is (editors_of opening q starts 0 rs all)
+
+none_put : (q : TableId) (starts : List ℕ) (n : ℕ) (rs : List Knowledge) → All (λ e. e.put ≡ []) (editors_from q starts n rs)
+none_put q starts n [] = All-nil (λ (e : Editing). e.put ≡ [])
+none_put q starts n (r ∷ rs) =
+    All-cons (λ (e : Editing). e.put ≡ []) (record { queue = q; session = n; start = last_of starts n; put = []; fulls = 0; known = r.all }) (editors_from q starts (n + 1) rs) refl (none_put q starts (n + 1) rs)
+
+pub fresh_seats : (q : TableId) (starts : List ℕ) (rs : List Knowledge) (es : List Editing) → es ≡ editors_from q starts 0 rs → All (λ e. e.put ≡ []) es
+fresh_seats q starts rs es is = All-same (λ (e : Editing). e.put ≡ []) es (editors_from q starts 0 rs) is (none_put q starts 0 rs)

@@ -1,0 +1,9 @@
+use Rattle.live_service.proofs.Seats.{fresh_seats, seated}
+use Rattle.live_service.proofs.engine.seat_all.Goals as goal
+
+pub named-requires-clause-named : goal.named-requires-clause-named
+named-requires-clause-named g c =
+    seated g.B.Naming.opening c.in_ok-taker.taker.queue c.args.starts.now c.forwarders.new.readers.items c.in_ok-taker.editors.items c.in_ok-taker.ensures.editors c.in_ok-forwarders.ensures.named
+
+pub named-requires-clause-fresh : goal.named-requires-clause-fresh
+named-requires-clause-fresh g c = fresh_seats c.in_ok-taker.taker.queue c.args.starts.now c.forwarders.new.readers.items c.in_ok-taker.editors.items c.in_ok-taker.ensures.editors

@@ -1,0 +1,6 @@
+use Rattle.live_service.specs.Gathers.{HasGathered}
+use Rattle.live_service.proofs.gathering.gather_each.Given as goal
+
+abbrev pub invariant-loop : goal.invariant-loop
+invariant-loop g l =
+    (goal.iterator-loop g).can_next l.iterator' × ((goal.iterator-loop g).is_finite l.iterator' × HasGathered g.J.Stream.input l.count l.answers.items)

@@ -1,0 +1,45 @@
+use Rattle.std.proofs.Common.{◌≡◌, ◌∙◌, ap, sym, subst, IsTrue, Some}
+use Rattle.std.specs.Prelude.{IfSome}
+use Rattle.checkpoint.specs.StoreWords.{state_of, view_of}
+use Rattle.service_threads.proofs.Settling.{read_leaves, served_leaves, served_same}
+use Rattle.service_lines.specs.ServedLines.{IsServeEnd}
+use Rattle.service_lines.proofs.Telling.{told_end}
+use Rattle.live_service.specs.Ends.{fault_of}
+use Rattle.live_service.specs.Inputs.{Bytes}
+use Rattle.live_service.proofs.Ended.{engine_ends, not_printed}
+use Rattle.live_service.proofs.PrintedLines.{none_printed}
+use Rattle.live_service.proofs.serve.serve_live.Goals as goal
+
+pub returns-in-Err-clause-printed : goal.returns-in-Err-clause-printed
+returns-in-Err-clause-printed g c =
+    record { answers = λ unfailed. (0, none_printed (Bytes (g.S.Read.remaining c.args.input)) c.args.config.editors (g.O.Write.contents c.args.out.now), λ is. absurd (not_printed c.told.result _ c.told.ensures.fault is)) }
+
+pub returns-in-Err-clause-ended : goal.returns-in-Err-clause-ended
+returns-in-Err-clause-ended g c =
+    subst (λ o. IfSome o (λ f. IsServeEnd g.D.Disk c.args.disk c.args.words (Some c.in-Err.disk) f)) (sym (c.told.ensures.fault ∙ ap Some c.fault_of.ensures))
+    (told_end g.D.Disk c.args.disk c.args.words (Some c.in-Err.disk) c.in-Err.fault c.in-Err.ensures.tells c.in-Err.ensures.words c.in-Err.ensures.of_one (λ keeps is. c.in-Err.ensures.reads_err keeps)
+    c.in-Err.ensures.device)
+
+pub returns-in-Err-clause-left : goal.returns-in-Err-clause-left
+returns-in-Err-clause-left g c = record {
+  ran = c.in-Err.ensures.ran_err;
+  any_moment = λ model state stands keeps. read_leaves state (g.D.Disk.view c.args.disk) (g.D.Disk.view c.in-Err.disk) (c.in-Err.ensures.reads_err model) keeps;
+}
+
+pub returns-clause-ended : goal.returns-clause-ended
+returns-clause-ended g c =
+    let store = c.in-Ok.opened.0 in
+    let ended = c.serve_stream.ensures.ended in
+    engine_ends c.args.disk c.args.words store ended.0 c.serve_stream.result.1 (fault_of c.serve_stream.result.0) c.in-Ok.ensures.ran ended.1.disk ended.1.fault
+
+pub returns-clause-left : goal.returns-clause-left
+returns-clause-left g c =
+    let store = c.in-Ok.opened.0 in
+    let ended = c.serve_stream.ensures.ended in
+    record {
+      ran = served_same c.args.disk store ended.0 c.serve_stream.result.1 c.in-Ok.ensures.ran ended.1.disk;
+      any_moment = λ model state stands keeps.
+          let same : state_of store ≡ state = c.standing_law.ensures (state_of store) state _ (c.in-Ok.ensures.stands model) stands in
+          let still : IsTrue (view_of store).keeps_model = subst IsTrue (sym c.in-Ok.ensures.ran.model) model in
+          served_leaves state c.args.disk store ended.0 c.serve_stream.result.1 same (c.in-Ok.ensures.reads model) keeps still ended.1.disk;
+    }

@@ -1,0 +1,34 @@
+-- How a live service ends.
+use Rattle.std.specs.Prelude.{◌≡◌, ◌⊎◌, ℕ, List, Option, Some, None}
+use Rattle.std.specs.Io.KnownBytes.{Appends}
+use Rattle.command_output.specs.Faults.{told_text}
+use Rattle.command_output.specs.declared.fault.Fault.{Fault}
+use Rattle.command_output.specs.declared.fault.Fault.TheVariants as told
+use Rattle.service_lines.specs.declared.served.Served.{Served}
+use Rattle.service_lines.specs.declared.served.Served.TheVariants.{Printed, Told, Untold}
+
+-- the fault that ended it
+abbrev pub fault_of : Served → Option Fault
+fault_of Printed = None
+fault_of (Told fault) = Some fault
+fault_of (Untold fault) = Some fault
+
+-- what was told of that
+abbrev pub HasToldSo : Option (List ℕ) → Option (List ℕ) → Served → Type 0
+HasToldSo old new Printed = new ≡ old
+HasToldSo old new (Told fault) = Appends old new (told_text fault)
+HasToldSo old new (Untold fault) = Unit {0}
+
+-- the faults of a service whose device was opened
+abbrev pub IsLater : Fault → Type 0
+IsLater told.Device = Unit {0}
+IsLater told.Worn = Unit {0}
+IsLater told.Memory = Unit {0}
+IsLater told.NoThread = Unit {0}
+IsLater told.Internal = Unit {0}
+IsLater told.Output = Unit {0}
+IsLater fault = ⊥
+
+-- a service that had this fault, if one, ended so: without a fault its output may still have failed
+abbrev pub IsFinish : Option Fault → Served → Type 0
+IsFinish fault ended = (fault_of ended ≡ fault) ⊎ ((fault ≡ None) × (fault_of ended ≡ Some told.Output))

@@ -1,0 +1,10 @@
+pub mod Inputs
+pub mod Scripts
+pub mod Streams
+pub mod Prints
+pub mod Gathers
+pub mod Reads
+pub mod Ends
+pub mod Runs
+pub mod Seated
+pub mod Tables

@@ -1,0 +1,53 @@
+-- How the threads of a live service end, and what it prints.
+use Rattle.std.specs.Prelude.{◌≡◌, ◌≢◌, ℕ, List, Option, Result, Some, IfSome, IsErrOf}
+use Rattle.command_output.specs.declared.fault.Fault.{Fault}
+use Rattle.command_output.specs.declared.fault.Fault.TheVariants as told
+use Rattle.checkpoint.specs.declared.store.Store.{Store}
+use Rattle.service_lines.specs.declared.served.Served.{Served}
+use Rattle.service_lines.specs.declared.served.Served.TheVariants as served
+use Rattle.service_threads.specs.Kept.{IsServedDisk}
+use Rattle.service_workers.specs.declared.stop_cause.StopCause.{StopCause}
+use Rattle.service_workers.specs.declared.stop_cause.StopCause.TheVariants as cause
+use Rattle.live_service.specs.declared.printed.Printed.{Printed}
+use Rattle.live_service.specs.declared.printed.PrintEnd.TheVariants.{Output, Whole}
+use Rattle.live_service.specs.Inputs.{Input}
+use Rattle.live_service.specs.Ends.{IsLater, fault_of}
+use Rattle.live_service.specs.Prints.{AreAllLines, HasPrinted}
+
+-- a fault of a service whose engine ended so: it says that the device failed only where the engine does
+abbrev pub IsFaultOf : {T : Type 0} → Result T StopCause → Fault → Type 0
+IsFaultOf engine fault = IsLater fault × (fault ≡ told.Device → IsErrOf engine cause.Device)
+
+-- how the engine of a service ended, and what it left of the disk that a store was on
+pub record IsEngineEnd {D T : Type 0} {V : _} (store : Store D V) (engine : Result T StopCause) (ended : Served) (back : Option D) : Type 0 where
+  pub disk : IfSome back (λ d. IsServedDisk store engine (V.view d))
+  pub fault : IfSome (fault_of ended) (λ fault. IsFaultOf engine fault)
+
+-- some engine ended so
+abbrev pub HasEnded : {D : Type 0} {V : _} → Store D V → Served → Option D → Type 0
+HasEnded store ended back = (engine : Result (Unit {0}) StopCause) × IsEngineEnd store engine ended back
+
+-- how a service ended that printed so much
+pub record IsPrintEnd (input : Input) (printed : Printed) (ended : Served) : Type 0 where
+  pub output : printed.end ≡ Output → fault_of ended ≡ Some told.Output
+  pub done : ended ≡ served.Printed → printed.end ≡ Whole
+  pub whole : ended ≡ served.Printed → AreAllLines input printed.count
+
+-- what was printed, unless the output failed: answers to so many lines
+pub record PrintsSo (input : Input) (editors : ℕ) (old new : Option (List ℕ)) (printed : Printed) : Type 0 where
+  pub answers : printed.end ≢ Output → HasPrinted input editors old new printed.count
+
+-- What a service prints that ended so: unless its output failed, answers to its first lines, and to all of them where
+-- no fault ended it.
+pub record PrintsTo (input : Input) (editors : ℕ) (old new : Option (List ℕ)) (ended : Served) : Type 0 where
+  pub answers : fault_of ended ≢ Some told.Output → (count : ℕ) × HasPrinted input editors old new count × (ended ≡ served.Printed → AreAllLines input count)
+
+-- A service ran: it printed on a console and told its end there, between two values of that, and ended as its engine and its printing did.
+pub record IsRun {C D : Type 0} {V : _} (prints : C → C → Printed → Type 0) (finishes : C → C → Served → Type 0) (input : Input) (store : Store D V) (old new : C) (ended : Served) (back : Option D) : Type 0 where
+  pub mid : C
+  pub printed : Printed
+  pub engine : Result (Unit {0}) StopCause
+  pub printing : prints old mid printed
+  pub finishing : finishes mid new ended
+  pub engine_end : IsEngineEnd store engine ended back
+  pub print_end : IsPrintEnd input printed ended

@@ -1,0 +1,108 @@
+// The caller's end: it prints, and tells how the service ended.
+ghost use Rattle.std.specs.Prelude.{◌≡◌, ◌≢◌};
+ghost use Rattle.live_service.specs.Ends.{HasToldSo, fault_of};
+
+use crate::exchange::Exchange;
+use crate::messages::Stream;
+use crate::printed::Printed;
+use crate::printing::print_all;
+use command_output::{Fault, tell};
+use service_lines::Served;
+use std::alloc::Global;
+use std::io::Write;
+use std::sync::Wait;
+
+/// What takes the answers, prints them, and tells the end. The contract of a scope says nothing of a `&mut` that its closure holds, so the
+/// closure holds a value of such a type, and hands it back.
+pub trait Console {
+    ghost use Rattle.live_service.specs.Ends.{IsFinish};
+    ghost use Rattle.live_service.specs.declared.printed.Printed.{Printed};
+    ghost use Rattle.service_lines.specs.declared.served.Served.{Served};
+
+    ghost prints: { Self → Self → Printed → Type 0 };
+
+    ghost finishes: { Self → Self → Served → Type 0 };
+
+    /// Takes the answers in the order of their lines, until none comes any more.
+    fn print(self) -> (Self, Printed)
+        ensures { prints self result.0 result.1 };
+
+    /// Tells the fault, where there is one. Without one it may still meet that its output fails.
+    fn finish(self, fault: Option<Fault>) -> (Self, Served)
+        ensures finishes { finishes self result.0 result.1 }
+        ensures fault { IsFinish fault result.1 };
+}
+
+/// Two writers, each lent for a time of its own: so what each holds is known once it comes back.
+#[derive(Drop)]
+pub struct Terminal<'a, 'b, J: Stream, R, O, E> {
+    pub rt: &'a R,
+    pub alloc: Global,
+    pub exchange: &'a Exchange<J>,
+    pub out: &'a mut O,
+    pub err: &'b mut E,
+}
+
+/// Tells a fault, where there is one.
+pub fn told<E: Write>(err: &mut E, fault: Option<Fault>) -> Served
+    ensures told { HasToldSo (E.contents err.old) (E.contents err.new) result }
+    ensures fault { fault_of result ≡ fault }
+{
+    match fault {
+        Some(fault) => match tell(err, fault) {
+            Ok(()) => Served::Told(fault),
+            Err(_) => Served::Untold(fault),
+        },
+        None => Served::Printed,
+    }
+}
+
+impl<'a, 'b, J: Stream, R: Wait, O: Write, E: Write> Console for Terminal<'a, 'b, J, R, O, E> {
+    ghost use Rattle.std.specs.Prelude.{◌≡◌};
+    ghost use Rattle.live_service.specs.Runs.{PrintsSo};
+    ghost use Rattle.live_service.specs.Ends.{HasToldSo};
+
+    ghost prints = { λ c d p. (d.out.ghost_name ≡ c.out.ghost_name) × (d.err.ghost_name ≡ c.err.ghost_name) × (d.err.now ≡ c.err.now)
+        × PrintsSo J.input J.editors (O.contents c.out.now) (O.contents d.out.now) p };
+
+    ghost finishes = { λ c d s. (d.out.ghost_name ≡ c.out.ghost_name) × (d.err.ghost_name ≡ c.err.ghost_name) × (d.out.now ≡ c.out.now)
+        × HasToldSo (E.contents c.err.now) (E.contents d.err.now) s };
+
+    fn print(self) -> (Self, Printed) {
+        let Terminal {
+            rt,
+            alloc,
+            exchange,
+            out,
+            err,
+        } = self;
+        let printed = print_all(rt, alloc, exchange, out);
+        let terminal = Terminal {
+            rt,
+            alloc,
+            exchange,
+            out,
+            err,
+        };
+        (terminal, printed)
+    }
+
+    fn finish(self, fault: Option<Fault>) -> (Self, Served) {
+        let Terminal {
+            rt,
+            alloc,
+            exchange,
+            out,
+            err,
+        } = self;
+        let served = told(err, fault);
+        let terminal = Terminal {
+            rt,
+            alloc,
+            exchange,
+            out,
+            err,
+        };
+        (terminal, served)
+    }
+}

@@ -1,0 +1,169 @@
+// The caller's end of a script's service: it gathers the answers, and prints them at the end.
+ghost use Rattle.std.specs.Prelude.{◌≡◌, ◌≢◌, [], IfSome};
+ghost use Rattle.std.specs.String.{string_bytes};
+ghost use Rattle.live_service.specs.Ends.{IsFinish, fault_of};
+ghost use Rattle.live_service.specs.Gathers.{HasGathered, HasText, PrintsAtEnd};
+ghost use Rattle.live_service.specs.Scripts.{answer_of_line};
+
+use crate::console::Console;
+use crate::exchange::Exchange;
+use crate::messages::Stream;
+use crate::printed::{PrintEnd, Printed};
+use command_output::{Fault, print_text};
+use live_lines::Answer;
+use service_lines::{Served, lines_of};
+use std::alloc::Global;
+use std::io::Write;
+use std::sync::Wait;
+
+/// What gathers the answers to a script, and prints them at its end. No fault is told: who has the gatherer back knows it.
+#[derive(Drop)]
+pub struct Gatherer<'a, J: Stream, R, O> {
+    pub rt: &'a R,
+    pub alloc: Global,
+    pub exchange: &'a Exchange<J>,
+    // The lines of the answers.
+    pub text: String,
+    pub out: &'a mut O,
+}
+
+// The answer as a script's line has it. None where it is no answer to one.
+fn answer_of(answer: Answer) -> Option<service_workers::Answer>
+    ensures { result ≡ answer_of_line answer }
+{
+    match answer {
+        Answer::Settled { verdict, .. } => Some(service_workers::Answer::Settled(verdict)),
+        Answer::Along {
+            generation,
+            nodes,
+            length,
+        } => Some(service_workers::Answer::Along {
+            generation,
+            nodes,
+            length,
+        }),
+        Answer::Unreachable { generation } => {
+            Some(service_workers::Answer::Unreachable { generation })
+        }
+        Answer::NoNode => Some(service_workers::Answer::NoNode),
+        _ => None,
+    }
+}
+
+// Takes the answers in the order of their lines, until none comes any more, or one can't be kept.
+fn gather_each<J: Stream, R: Wait>(
+    rt: &R,
+    exchange: &Exchange<J>,
+    answers: &mut Vec<service_workers::Answer>,
+) -> Printed
+    requires { answers.old.items ≡ [] }
+    ensures { result.end ≡ PrintEnd.Whole → HasGathered J.input result.count answers.new.items }
+{
+    let mut count: u64 = 0;
+    for _ in rt.forever() {
+        let Some(answered) = exchange.answers.take(rt, count) else {
+            return Printed::new(count, PrintEnd::Whole);
+        };
+        let Some(answer) = answer_of(answered.answer) else {
+            return Printed::new(count, PrintEnd::Internal);
+        };
+        let Some(more) = count.checked_add(1) else {
+            return Printed::new(count, PrintEnd::Whole);
+        };
+        if answers.push(answer).is_err() {
+            return Printed::new(count, PrintEnd::Memory);
+        }
+        count = more;
+    }
+    Printed::new(count, PrintEnd::Whole)
+}
+
+// Takes the answers in the order of their lines, until none comes any more, and makes their lines.
+fn gather_all<J: Stream, R: Wait>(
+    rt: &R,
+    alloc: Global,
+    exchange: &Exchange<J>,
+) -> (Printed, String)
+    ensures { result.0.end ≡ PrintEnd.Whole → HasText J.input result.0.count (string_bytes result.1) }
+{
+    let mut answers = Vec::new(alloc);
+    let printed = gather_each(rt, exchange, &mut answers);
+    exchange.shut(rt);
+    exchange.end(rt);
+    match lines_of(alloc, &answers) {
+        Ok(text) => (printed, text),
+        Err(_) => {
+            let printed = Printed::new(printed.count, PrintEnd::Memory);
+            (printed, String::new(alloc))
+        }
+    }
+}
+
+// Prints the text, unless there is a fault.
+fn printed_or<O: Write>(out: &mut O, text: &str, fault: Option<Fault>) -> Served
+    ensures printed { PrintsAtEnd text.now (O.contents out.old) (O.contents out.new) result }
+    ensures untouched { IfSome (fault_of result) (λ fault. fault ≢ Fault.Output → out.new ≡ out.old) }
+    ensures fault { IsFinish fault result }
+{
+    match fault {
+        Some(fault) => Served::Untold(fault),
+        None => match print_text(out, text) {
+            Ok(()) => Served::Printed,
+            Err(fault) => Served::Untold(fault),
+        },
+    }
+}
+
+impl<'a, J: Stream, R: Wait, O: Write> Console for Gatherer<'a, J, R, O> {
+    ghost use Rattle.std.specs.Prelude.{◌≡◌, ◌≢◌, IfSome};
+    ghost use Rattle.std.specs.String.{string_bytes};
+    ghost use Rattle.command_output.specs.declared.fault.Fault.TheVariants.{Output};
+    ghost use Rattle.live_service.specs.Ends.{fault_of};
+    ghost use Rattle.live_service.specs.Gathers.{HasText, PrintsAtEnd};
+    ghost use Rattle.live_service.specs.declared.printed.PrintEnd.TheVariants.{Whole};
+
+    ghost prints = { λ c d p. (d.out.ghost_name ≡ c.out.ghost_name) × (d.out.now ≡ c.out.now)
+        × (p.end ≡ Whole → HasText J.input p.count (string_bytes d.text)) };
+
+    ghost finishes = { λ c d s. (d.out.ghost_name ≡ c.out.ghost_name)
+        × PrintsAtEnd (string_bytes c.text) (O.contents c.out.now) (O.contents d.out.now) s
+        × IfSome (fault_of s) (λ fault. fault ≢ Output → d.out.now ≡ c.out.now) };
+
+    fn print(self) -> (Self, Printed) {
+        let Gatherer {
+            rt,
+            alloc,
+            exchange,
+            text: _,
+            out,
+        } = self;
+        let (printed, text) = gather_all(rt, alloc, exchange);
+        let gatherer = Gatherer {
+            rt,
+            alloc,
+            exchange,
+            text,
+            out,
+        };
+        (gatherer, printed)
+    }
+
+    fn finish(self, fault: Option<Fault>) -> (Self, Served) {
+        let Gatherer {
+            rt,
+            alloc,
+            exchange,
+            text,
+            out,
+        } = self;
+        let served = printed_or(out, text.as_str(), fault);
+        let gatherer = Gatherer {
+            rt,
+            alloc,
+            exchange,
+            text,
+            out,
+        };
+        (gatherer, served)
+    }
+}

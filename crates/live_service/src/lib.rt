@@ -1,0 +1,55 @@
+//! A service that answers lines: those of an input as they come, with edits, routes, addresses and packets, or those of a script.
+//!
+//! [`serve_live`] opens a device and starts the threads of an engine: a committer, an editor for each session, forwarders, and a
+//! waiter, which answers `state` and `wait`. One more thread reads lines and hands each to the thread that answers it. The caller's
+//! thread prints the answers in the order of their lines, each as soon as it and all before it are there, and flushes its output
+//! before it sleeps. A line that waits for a commit holds up the printing of later answers, not the work on them.
+//!
+//! Memory doesn't grow with the input: at most 1,024 lines have been read and not answered. A burst of edits costs one build of
+//! tables: they are built when no edit waits, or at the latest `rounds` rounds after the first edit that they lack.
+//!
+//! [`serve_lines`] runs a script by the same engine. Its answers are gathered, and printed once all are there; tables are built behind
+//! each round that changed the graph. [`serve_told`] does so too, tells a fault on a second writer, and answers how it ended
+//! ([`Served`]); [`serve_on`] answers the program's exit status instead: 0 also where changes were refused. Where no fault comes, the
+//! lines of answers were printed of which just those are verdicts whose line is an edit; a fault but that of the printing has printed
+//! nothing (`IsServed` and `IsServedSo` of `service_lines`).
+//!
+//! The contract of [`serve_live`] says more of each line. Unless input or output failed, what is printed is lines of
+//! answers and nothing else: the k-th fits what the k-th line of the input asks for (`PrintsTo` of `specs/Runs`), and if no fault
+//! ended the service each line has one. The lines are those of an input whose bytes are known. If the disk comes back, it is the very
+//! device, and a crash at any moment leaves the state after a beginning of the requests that were taken (`IsLeftBy`). A fault is
+//! told, and is true of the device (`IsServeEnd`). No clause says which of the answers that fit a line it gets; the contracts of
+//! `service_workers` say what an editor and a forwarder answer.
+//!
+//! ```text
+//! let (served, disk) = serve_live(&rt, alloc, disk, words, config, 16, input, &NoHooks, &mut out, &mut err);
+//! // edit 0 - add:0:1:1    0 1 accepted count=1
+//! // wait                  generation=1
+//! // route 0 1             generation=1 route 0 1 length 1     (sent once the answer to `wait` was read)
+//! ```
+#![tactic(auto)]
+
+mod console;
+mod editing;
+mod engine;
+mod exchange;
+mod forwarding;
+mod gathering;
+mod input_source;
+mod line_source;
+mod messages;
+mod printed;
+mod printing;
+mod read_fault;
+mod reading;
+mod running;
+mod script;
+mod script_source;
+mod serve;
+mod tabling;
+mod waiting;
+
+pub use script::{serve_lines, serve_on, serve_told};
+pub use serve::serve_live;
+pub use service_lines::Served;
+pub use service_threads::{Hooks, NoHooks, ServiceConfig};

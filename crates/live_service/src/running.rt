@@ -1,0 +1,277 @@
+// The threads of a service: the engine's, the reader's, and the caller's, which prints.
+ghost use Rattle.std.specs.Prelude.{◌≡◌, ◌≢◌, IfSome, IsErrOf, None, Some, false};
+ghost use Rattle.checkpoint.specs.StoreWords.{is_down};
+ghost use Rattle.command_output.specs.declared.fault.Fault.{Fault};
+ghost use Rattle.service_threads.specs.Config.{IsServiceConfig};
+ghost use Rattle.service_threads.specs.Faults.{stop_fault};
+ghost use Rattle.service_threads.specs.Kept.{IsServedDisk};
+ghost use Rattle.service_lines.specs.ServedLines.{told_fault};
+ghost use Rattle.live_service.specs.Ends.{IsLater, fault_of};
+ghost use Rattle.live_service.specs.Reads.{IsReadEnd};
+ghost use Rattle.live_service.specs.Runs.{IsFaultOf, IsPrintEnd, IsRun};
+ghost use Rattle.live_service.specs.Seated.{IsSeated};
+
+use crate::console::Console;
+use crate::engine::{EngineConfig, engine};
+use crate::exchange::Exchange;
+use crate::line_source::LineSource;
+use crate::messages::Stream;
+use crate::printed::{PrintEnd, Printed};
+use crate::read_fault::ReadFault;
+use crate::reading::read_lines;
+use checkpoint::Store;
+use command_output::Fault;
+use core::thread::Stack;
+use disk_trait::Disk;
+use generations::MOST_READERS;
+use service_lines::{Served, fault_of as told_fault};
+use service_threads::{STACK_LEN, ServiceConfig};
+use service_workers::{Hooks, StopCause, WordSource};
+use std::alloc::Global;
+use std::marker::PhantomData;
+use std::snapshot::Snapshot;
+use std::sync::Wait;
+use std::thread;
+use std::thread::{Promise, PromisedHandle, Scope, Threads};
+use table_files::TableFiles;
+
+// What the engine's thread answers of the disk that the store was on.
+#[derive(Drop)]
+struct EnginePromise<D: Disk> {
+    store: Snapshot<Store<D>>,
+}
+
+impl<D: Disk> Promise<(Result<(), StopCause>, D)> for EnginePromise<D> {
+    ghost use Rattle.service_threads.specs.Kept.{IsServedDisk};
+
+    ghost kept_by = { λ p r. IsServedDisk p.store.value r.0 (D.view r.1) };
+}
+
+// What the reader's thread answers of its input.
+#[derive(Drop)]
+struct ReaderPromise<J: Stream> {
+    of: PhantomData<J>,
+}
+
+impl<J: Stream> Promise<Result<Option<u64>, ReadFault>> for ReaderPromise<J> {
+    ghost use Rattle.live_service.specs.Reads.{IsReadEnd};
+
+    ghost kept_by = { λ p r. IsReadEnd J.input r };
+}
+
+// What is told of threads that stopped.
+fn told_cause(cause: StopCause) -> Fault
+    ensures { result ≡ told_fault (stop_fault cause) }
+{
+    told_fault(service_threads::Fault::from(cause))
+}
+
+// The fault that is known once the answers are printed and the engine has ended: that the output failed goes before all others.
+#[tactic(auto, using(crate::proofs::Ended::cause_later, crate::proofs::Ended::cause_device))]
+fn early_fault(printed: &Printed, engine: &Result<(), StopCause>) -> Option<Fault>
+    ensures fault { IfSome result (λ fault. IsFaultOf engine.now fault) }
+    ensures output { printed.now.end ≡ PrintEnd.Output → result ≡ Some Fault.Output }
+    ensures none { result ≡ None → printed.now.end ≡ PrintEnd.Whole }
+{
+    match (printed.end, engine) {
+        (PrintEnd::Output, _) => Some(Fault::Output),
+        (_, Err(cause)) => Some(told_cause(*cause)),
+        (PrintEnd::Memory, Ok(())) => Some(Fault::Memory),
+        (PrintEnd::Internal, Ok(())) => Some(Fault::Internal),
+        (PrintEnd::Whole, Ok(())) => None,
+    }
+}
+
+// The fault that is known once the reader has ended too: it failed, or not all its lines have answers.
+fn late_fault(printed: &Printed, read: &Result<Option<u64>, ReadFault>) -> Option<Fault>
+    ensures fault { IfSome result (λ fault. IsLater fault × (fault ≢ Fault.Device)) }
+    ensures none { result ≡ None → read.now ≡ Ok (Some printed.now.count) }
+{
+    match read {
+        Ok(Some(lines)) if *lines == printed.count => None,
+        Ok(_) => Some(Fault::Internal),
+        Err(ReadFault::Input) => Some(Fault::Output),
+        Err(ReadFault::Memory) => Some(Fault::Memory),
+        Err(ReadFault::NoThread) => Some(Fault::NoThread),
+        Err(ReadFault::Internal) => Some(Fault::Internal),
+    }
+}
+
+// Waits for the reader.
+fn join_reader<J: Stream, R: Threads>(
+    rt: &R,
+    reader: Option<PromisedHandle<Result<Option<u64>, ReadFault>, ReaderPromise<J>>>,
+) -> Result<Option<u64>, ReadFault>
+    ensures { IsReadEnd J.input result }
+{
+    match reader {
+        Some(reader) => reader.join(rt),
+        None => Err(ReadFault::NoThread),
+    }
+}
+
+// Tells how the service ended, and waits for the reader: a fault that is known before is told first, since a read may take long.
+fn conclude<J: Stream, C: Console, R: Threads>(
+    rt: &R,
+    console: C,
+    printed: Printed,
+    engine: &Result<(), StopCause>,
+    reader: Option<PromisedHandle<Result<Option<u64>, ReadFault>, ReaderPromise<J>>>,
+) -> (C, Served)
+    ensures finishes { C.finishes console result.0 result.1 }
+    ensures fault { IfSome (fault_of result.1) (λ fault. IsFaultOf engine.now fault) }
+    ensures printed { IsPrintEnd J.input printed result.1 }
+{
+    match early_fault(&printed, engine) {
+        Some(fault) => {
+            let (console, served) = console.finish(Some(fault));
+            let _read = join_reader(rt, reader);
+            (console, served)
+        }
+        None => {
+            let read = join_reader(rt, reader);
+            console.finish(late_fault(&printed, &read))
+        }
+    }
+}
+
+// Waits for the engine. The disk comes back, unless it had no thread.
+fn join_engine<D: Disk, R: Threads>(
+    rt: &R,
+    engine: Option<PromisedHandle<(Result<(), StopCause>, D), EnginePromise<D>>>,
+) -> (Result<(), StopCause>, Option<D>)
+    ensures { (store : Store D D.Disk) → IfSome engine (λ handle. handle.promise.store.value ≡ store) → IfSome result.1 (λ d. IsServedDisk store result.0 (D.view d)) }
+{
+    match engine {
+        Some(engine) => {
+            let (result, disk) = engine.join(rt);
+            (result, Some(disk))
+        }
+        None => (Err(StopCause::NoThread), None),
+    }
+}
+
+// Starts the engine in a thread of its own, with a stack for deep trees. None where it can't be made.
+fn start_engine<
+    's,
+    E,
+    J: Stream + Send + Sync,
+    D: Disk + Drop + Send + 's,
+    G: Hooks + Sync,
+    T: TableFiles + Drop + Send + 's,
+    R: Threads + Wait + Sync,
+>(
+    scope: &Scope<'s, E>,
+    rt: &'s R,
+    alloc: Global,
+    config: EngineConfig,
+    store: Store<D>,
+    source: WordSource,
+    hooks: &'s G,
+    tables: T,
+    exchange: &'s Exchange<J>,
+) -> Option<PromisedHandle<(Result<(), StopCause>, D), EnginePromise<D>>>
+    requires config { IsSeated config.service }
+    requires up { is_down store ≡ false }
+    ensures { IfSome result (λ handle. handle.promise.store.value ≡ store) }
+{
+    let promise = EnginePromise {
+        store: Snapshot::of(&store),
+    };
+    let job = move || -> (Result<(), StopCause>, D)
+        requires config { IsSeated config.service }
+        requires up { is_down store ≡ false }
+        ensures served { IsServedDisk store result.0 (D.view result.1) }
+    { engine(rt, alloc, config, store, source, hooks, tables, exchange) };
+    match Stack::new()
+        .stack_size(STACK_LEN)
+        .spawn_scoped_with(scope, promise, job)
+    {
+        Ok(handle) => Some(handle),
+        Err(_) => None,
+    }
+}
+
+/// All threads: the engine's, the reader's, and the caller's, which prints. The disk comes back, unless no thread could be made for the
+/// engine.
+pub(crate) fn threads<
+    'a,
+    J: Stream + Send + Sync,
+    D: Disk + Drop + Send,
+    G: Hooks + Sync,
+    T: TableFiles + Drop + Send,
+    R: Threads + Wait + Sync,
+    L: LineSource<J> + Send + Drop,
+    C: Console + Drop,
+>(
+    rt: &'a R,
+    alloc: Global,
+    config: EngineConfig,
+    store: Store<D>,
+    source: WordSource,
+    hooks: &'a G,
+    tables: T,
+    exchange: &'a Exchange<J>,
+    lines: L,
+    console: C,
+) -> (C, Served, Option<D>)
+    requires config { IsSeated config.service }
+    requires up { is_down store ≡ false }
+    requires given { L.has_given lines 0 }
+    ensures { IsRun C.prints C.finishes J.input store console result.0 result.1 result.2 }
+{
+    thread::scope(
+        thread::scope_env(),
+        rt,
+        |scope| -> (C, Served, Option<D>)
+            requires config { IsSeated config.service }
+            requires up { is_down store ≡ false }
+            requires given { L.has_given lines 0 }
+            ensures { IsRun C.prints C.finishes J.input store console result.0 result.1 result.2 }
+        {
+            let engine_thread = start_engine(
+                scope, rt, alloc, config, store, source, hooks, tables, exchange,
+            );
+            if engine_thread.is_none() {
+                exchange.shut(rt);
+                exchange.end(rt);
+            }
+            let reader_promise: ReaderPromise<J> = ReaderPromise { of: PhantomData };
+            let reader_job = move || -> Result<Option<u64>, ReadFault>
+                requires given { L.has_given lines 0 }
+                ensures { IsReadEnd J.input result }
+            { read_lines(rt, exchange, lines) };
+            let reader = match scope.spawn_with(reader_promise, reader_job) {
+                Ok(reader) => Some(reader),
+                Err(_) => {
+                    exchange.close(rt);
+                    None
+                }
+            };
+            let (console, printed) = console.print();
+            let (ended, disk) = join_engine(rt, engine_thread);
+            let (console, served) = conclude(rt, console, printed, &ended, reader);
+            (console, served, disk)
+        },
+    )
+}
+
+/// Does nothing, but by this use of a reference that came back the caller knows what it left.
+pub(crate) fn take_back<T>(x: &mut T)
+    ensures { x.new ≡ x.old }
+{}
+
+/// The numbers of a service at whose board one reader is for tables.
+pub(crate) fn seated(config: ServiceConfig) -> ServiceConfig
+    requires { IsServiceConfig config }
+    ensures seated { IsSeated result }
+    ensures editors { result.editors ≡ config.editors }
+{
+    let most = MOST_READERS - 1 - config.editors as usize;
+    let forwarders = config.forwarders.min(most as u8);
+    ServiceConfig {
+        editors: config.editors,
+        forwarders,
+        places: config.places,
+    }
+}

@@ -1,0 +1,197 @@
+// Inputs that end while edits wait.
+use crate::helpers::{Setup, count_lines, fresh, got, reopened, run, same, text_of};
+use disk_trait::{DeviceFault, Disk, MemDisk};
+use service_lines::Served;
+use service_threads::NoHooks;
+use std::alloc::Global;
+use std::io::{self, BufReader, Read};
+use std::process::Abort;
+use std::sync::atomic::{AtomicBool, AtomicU64, Ordering};
+use std::sync::{Arc, Wait};
+use std::thread;
+use std::thread::Threads;
+
+/// Whether the input has ended, and how often it was waited for in vain.
+#[derive(Drop)]
+struct Ended {
+    has_ended: AtomicBool,
+    late: AtomicU64,
+}
+
+const TURNS: usize = 4_000_000;
+
+impl Ended {
+    fn wait(&self) {
+        for _ in 0..TURNS {
+            if self.has_ended.load(Ordering::SeqCst) {
+                return;
+            }
+            thread::yield_now();
+        }
+        let _before = self.late.fetch_add(1, Ordering::SeqCst);
+    }
+}
+
+/// A disk that has no byte settled before the input has ended.
+#[derive(Drop)]
+struct PatientDisk {
+    disk: MemDisk,
+    ended: Arc<Ended, Global>,
+    syncs: u64,
+}
+
+impl Disk for PatientDisk {
+    ghost use Rattle.disk_trait.specs.Memory.{mem_view, mem_present};
+
+    ghost view = { λ d. mem_view d.disk };
+
+    ghost present = { λ d. mem_present d.disk };
+
+    fn len(&self) -> usize {
+        self.disk.len()
+    }
+
+    fn read(&mut self, at: usize, bytes: &mut [u8]) -> Result<(), DeviceFault> {
+        self.disk.read(at, bytes)
+    }
+
+    fn write_at(&mut self, at: usize, bytes: &[u8]) -> Result<(), DeviceFault> {
+        self.disk.write_at(at, bytes)
+    }
+
+    // Opening syncs once.
+    fn sync(&mut self) -> Result<(), DeviceFault> {
+        self.syncs = self.syncs.wrapping_add(1);
+        if self.syncs > 1 {
+            self.ended.wait();
+        }
+        self.disk.sync()
+    }
+}
+
+/// An input that tells where it ends.
+#[derive(Drop)]
+struct EndingInput<'a> {
+    rest: &'a [u8],
+    ended: Arc<Ended, Global>,
+}
+
+impl Read for EndingInput<'_> {
+    fn read(&mut self, buf: &mut [u8]) -> io::Result<usize> {
+        let count = self.rest.len().min(buf.len());
+        let (front, rest) = self.rest.split_at(count);
+        buf[..count].copy_from_slice(front);
+        self.rest = rest;
+        if count == 0 {
+            self.ended.has_ended.store(true, Ordering::SeqCst);
+        }
+        Ok(count)
+    }
+}
+
+const SETUP: Setup = Setup {
+    words: "at:0",
+    numbers: (8, 2, 2),
+    rounds: 16,
+};
+
+// Ten edits of each of eight sessions, the first of which adds an edge, and each other one sets it; and three lines behind them.
+fn input_of(rt: &impl Abort, alloc: Global) -> String {
+    let mut text = String::new(alloc);
+    for turn in 1..11u64 {
+        for session in 0..8u64 {
+            let op = if turn == 1 { "add" } else { "set" };
+            got(
+                rt,
+                writeln!(text, "edit {session} - {op}:{session}:8:{turn}"),
+            );
+        }
+    }
+    got(rt, text.push_str("wait\nroute 0 7\nresume 7"));
+    text
+}
+
+// The answers but for the counts, and for the route.
+fn expect_answers(rt: &impl Abort, alloc: Global, printed: &str) {
+    let mut lines = printed.split('\n');
+    for turn in 1..11u64 {
+        for session in 0..8u64 {
+            let front = got(rt, format!(in alloc; "{session} {turn} accepted count="));
+            let line = lines.next().unwrap_or("");
+            same(rt, line.starts_with(front.as_str()), true, line);
+        }
+    }
+    same(rt, lines.next(), Some("generation=80"), "all are in it");
+    let route = lines.next().unwrap_or("");
+    same(rt, route.starts_with("generation="), true, route);
+    same(
+        rt,
+        lines.next(),
+        Some("session=7 ticket=10"),
+        "the last ticket",
+    );
+    same(
+        rt,
+        (lines.next(), lines.next()),
+        (Some(""), None),
+        "the end",
+    );
+}
+
+#[test]
+fn edits_that_wait_at_the_end(rt: HostRuntime) {
+    let alloc = rt.alloc();
+    let ended = got(
+        &rt,
+        Arc::new(
+            alloc,
+            Ended {
+                has_ended: AtomicBool::new(false),
+                late: AtomicU64::new(0),
+            },
+        ),
+    );
+    let disk = PatientDisk {
+        disk: fresh(&rt, alloc, 9),
+        ended: got(&rt, Arc::try_clone(&ended)),
+        syncs: 0,
+    };
+    let text = input_of(&rt, alloc);
+    let ending = EndingInput {
+        rest: text.as_bytes(),
+        ended: got(&rt, Arc::try_clone(&ended)),
+    };
+    let input = got(&rt, BufReader::with_capacity(alloc, 64, ending));
+    let (mut out, mut err) = (Vec::new(alloc), Vec::new(alloc));
+    let (served, disk) = run(
+        &rt, alloc, disk, &SETUP, input, &NoHooks, &mut out, &mut err,
+    );
+    same(
+        &rt,
+        (served, text_of(&rt, &err)),
+        (Served::Printed, ""),
+        "the end",
+    );
+    same(
+        &rt,
+        ended.late.load(Ordering::SeqCst),
+        0,
+        "turns that ran out",
+    );
+    same(&rt, count_lines(&out), 83, "lines");
+    expect_answers(&rt, alloc, text_of(&rt, &out));
+    let store = reopened(&rt, alloc, got(&rt, disk.ok_or("no thread")));
+    same(
+        &rt,
+        (store.count(), store.graph().edges()),
+        (80, 8),
+        "what is left",
+    );
+    for session in 0..8u8 {
+        let found = (
+            store.resume(session),
+            store.graph().weight(session as u16, 8),
+        );
+        same(&rt, found, (10, Some(10)), "a session");
+    }
+}

@@ -1,0 +1,186 @@
+// What the tests share: devices, and services that are run on them.
+use crate::places::NoFiles;
+use checkpoint::{DEVICE_LEN, Store, format};
+use disk_trait::{Disk, MemDisk};
+use live_service::serve_live;
+use service_lines::Served;
+use service_threads::{Hooks, NoHooks, ServiceConfig};
+use std::alloc::Global;
+use std::fmt::Debug;
+use std::io::{BufRead, Write};
+use std::process::Abort;
+use std::str;
+use std::sync::Wait;
+use std::thread::Threads;
+use table_files::TableFiles;
+use written_values::landmark_words;
+
+/// The value of an answer that has to have one.
+pub(crate) fn got<T, E: Drop>(rt: &impl Abort, answer: Result<T, E>) -> T {
+    match answer {
+        Ok(value) => value,
+        Err(_) => panic!(rt; "no value"),
+    }
+}
+
+/// Sees that two values are the same.
+pub(crate) fn same<T: Copy + PartialEq + Debug>(rt: &impl Abort, found: T, want: T, name: &str) {
+    assert_eq!(rt; found, want, "{name}");
+}
+
+/// A disk of so many zeros, asked for again where memory was short.
+pub(crate) fn blank(rt: &impl Abort, alloc: Global, len: usize) -> MemDisk {
+    match MemDisk::new(alloc, len) {
+        Ok(disk) => disk,
+        Err(_) => got(rt, MemDisk::new(alloc, len)),
+    }
+}
+
+/// A fresh device.
+pub(crate) fn fresh(rt: &impl Abort, alloc: Global, nodes: u16) -> MemDisk {
+    let mut disk = blank(rt, alloc, DEVICE_LEN);
+    got(rt, format(&mut disk, nodes));
+    disk
+}
+
+/// The store of a disk, opened again where memory was short.
+pub(crate) fn reopened<D: Disk + Drop>(rt: &impl Abort, alloc: Global, disk: D) -> Store<D> {
+    match Store::open(alloc, disk) {
+        Ok(store) => store,
+        Err((_, disk)) => got(rt, Store::open(alloc, disk)),
+    }
+}
+
+/// Bytes as text.
+pub(crate) fn text_of<'a>(rt: &impl Abort, bytes: &'a [u8]) -> &'a str {
+    got(rt, str::from_utf8(bytes))
+}
+
+/// How many editors, forwarders and places in the queue there are.
+pub(crate) type Numbers = (u8, u8, u8);
+
+/// The landmark words and the numbers of a service, and after how many rounds a change is in a generation at the latest.
+#[derive(Clone, Copy)]
+pub(crate) struct Setup {
+    pub(crate) words: &'static str,
+    pub(crate) numbers: Numbers,
+    pub(crate) rounds: u32,
+}
+
+// So many editors, forwarders and places.
+fn config_of(numbers: Numbers) -> ServiceConfig {
+    let (editors, forwarders, places) = numbers;
+    ServiceConfig {
+        editors,
+        forwarders,
+        places,
+    }
+}
+
+/// Runs a service on a disk, with a place for tables. The disk lacks where no thread was made for it.
+pub(crate) fn run_at<D, G, T, R, S, O, E>(
+    rt: &R,
+    alloc: Global,
+    disk: D,
+    setup: &Setup,
+    input: S,
+    hooks: &G,
+    tables: T,
+    out: &mut O,
+    err: &mut E,
+) -> (Served, Option<D>)
+where
+    D: Disk + Drop + Send,
+    G: Hooks + Sync,
+    T: TableFiles + Drop + Send,
+    R: Threads + Wait + Abort + Sync,
+    S: BufRead + Send + Drop,
+    O: Write,
+    E: Write,
+{
+    let config = config_of(setup.numbers);
+    assert!(rt; 1 <= config.editors && config.editors <= 64);
+    assert!(rt; 1 <= config.forwarders && config.forwarders <= 64);
+    assert!(rt; 1 <= config.places && config.places <= 64);
+    let words = match landmark_words(alloc, setup.words) {
+        Ok(words) => words.expect(rt, "words"),
+        Err(_) => landmark_words(alloc, setup.words)
+            .expect(rt, "memory")
+            .expect(rt, "words"),
+    };
+    serve_live(
+        rt,
+        alloc,
+        disk,
+        words,
+        config,
+        setup.rounds,
+        input,
+        hooks,
+        tables,
+        out,
+        err,
+    )
+}
+
+/// Runs a service on a disk, with no place for tables.
+pub(crate) fn run<D, G, R, S, O, E>(
+    rt: &R,
+    alloc: Global,
+    disk: D,
+    setup: &Setup,
+    input: S,
+    hooks: &G,
+    out: &mut O,
+    err: &mut E,
+) -> (Served, Option<D>)
+where
+    D: Disk + Drop + Send,
+    G: Hooks + Sync,
+    R: Threads + Wait + Abort + Sync,
+    S: BufRead + Send + Drop,
+    O: Write,
+    E: Write,
+{
+    run_at(rt, alloc, disk, setup, input, hooks, NoFiles, out, err)
+}
+
+/// Runs a service on a disk in memory, with all lines at once and no hooks.
+pub(crate) fn run_plain<R: Threads + Wait + Abort + Sync, O: Write, E: Write>(
+    rt: &R,
+    alloc: Global,
+    disk: MemDisk,
+    setup: &Setup,
+    input: &[u8],
+    out: &mut O,
+    err: &mut E,
+) -> (Served, Option<MemDisk>) {
+    run(rt, alloc, disk, setup, input, &NoHooks, out, err)
+}
+
+/// Runs a service with all lines at once, sees how it ended and all that is printed and told, and gives the disk back.
+pub(crate) fn expect_run<R: Threads + Wait + Abort + Sync>(
+    rt: &R,
+    alloc: Global,
+    disk: MemDisk,
+    setup: &Setup,
+    input: &[u8],
+    want: (Served, &str, &str),
+) -> MemDisk {
+    let (mut out, mut err) = (Vec::new(alloc), Vec::new(alloc));
+    let (served, disk) = run_plain(rt, alloc, disk, setup, input, &mut out, &mut err);
+    let found = (served, text_of(rt, &out), text_of(rt, &err));
+    same(rt, found, want, "the service");
+    got(rt, disk.ok_or("no thread"))
+}
+
+/// Sees the count of a store, its edges, and the last ticket of its first session.
+pub(crate) fn holds<D: Disk>(rt: &impl Abort, store: &Store<D>, want: (u64, usize, u64)) {
+    let found = (store.count(), store.graph().edges(), store.resume(0));
+    same(rt, found, want, "count, edges, last ticket");
+}
+
+/// How many lines a text has. Each ends with a line feed.
+pub(crate) fn count_lines(text: &[u8]) -> usize {
+    text.iter().filter(|byte| **byte == b'\n').count()
+}

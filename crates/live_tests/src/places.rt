@@ -1,0 +1,53 @@
+// Places for the files of tables.
+ghost use Rattle.std.specs.Prelude.{[], map};
+
+use command_output::Fault;
+use disk_trait::Log;
+use std::alloc::Global;
+use std::sync::{Arc, Mutex, Wait};
+use table_files::{TableFile, TableFiles};
+
+/// A place that takes no file.
+#[derive(Clone, Copy, Drop)]
+pub(crate) struct NoFiles;
+
+impl TableFiles for NoFiles {
+    ghost use Rattle.std.specs.Prelude.{[]};
+
+    ghost puts = { λ _. [] };
+
+    fn put(&mut self, _file: TableFile) -> Result<(), Fault> {
+        Err(Fault::TableFile)
+    }
+}
+
+/// Files in memory.
+pub(crate) type Kept = Arc<Mutex<Vec<TableFile>>, Global>;
+
+/// A place in memory, whose files others see. There is room for so many, and the next one is refused.
+#[derive(Drop)]
+pub(crate) struct KeptFiles<'a, R> {
+    pub(crate) rt: &'a R,
+    pub(crate) files: Kept,
+    pub(crate) room: usize,
+    // For contracts alone.
+    pub(crate) put: Log<TableFile>,
+}
+
+impl<R: Wait> TableFiles for KeptFiles<'_, R> {
+    ghost use Rattle.std.specs.Prelude.{map};
+    ghost use Rattle.table_files.specs.Files.{put_of};
+
+    ghost puts = { λ kept. map put_of kept.put.items };
+
+    fn put(&mut self, file: TableFile) -> Result<(), Fault> {
+        let put = self.put.with_entry(&file);
+        let mut files = self.files.lock(self.rt);
+        if files.len() >= self.room {
+            return Err(Fault::TableFile);
+        }
+        files.push(file)?;
+        self.put = put;
+        Ok(())
+    }
+}

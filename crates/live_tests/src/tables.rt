@@ -1,0 +1,407 @@
+// `tables FOLDER`, with files in memory, which are compared with the tables of schemes that are built here.
+ghost use Rattle.std.specs.Prelude.{map};
+
+use crate::helpers::{Setup, fresh, got, run_at, same, text_of};
+use crate::places::{Kept, KeptFiles};
+use crate::talk::{Row, expect_talk_at};
+use command_output::Fault;
+use disk_trait::Log;
+use graph_edits::{Change, Graph, Op};
+use node_table::Scheme;
+use router_table::RouterTable;
+use scheme_builds::scheme_of;
+use service_lines::Served;
+use service_threads::Hooks;
+use std::alloc::Global;
+use std::io::{self, BufReader, Read};
+use std::process::Abort;
+use std::sync::atomic::{AtomicBool, AtomicU64, Ordering};
+use std::sync::{Arc, Mutex, Wait};
+use std::thread;
+use std::thread::Threads;
+use table_files::{TableFile, TableFiles};
+
+const SETUP: Setup = Setup {
+    words: "at:2",
+    numbers: (2, 2, 4),
+    rounds: 1,
+};
+
+// The edges of the path 0, 1, 2, 3, 4.
+const PATH: [Op; 4] = [
+    Op::Add(0, 1, 1),
+    Op::Add(1, 2, 1),
+    Op::Add(2, 3, 1),
+    Op::Add(3, 4, 1),
+];
+
+// The scheme of the first so many edges of the path, with the landmark 2.
+fn scheme_after(rt: &impl Abort, alloc: Global, edges: usize, generation: u64) -> Scheme {
+    let mut graph = got(rt, Graph::empty(alloc, 5));
+    if edges > 0 {
+        let change = got(rt, Change::new(PATH.get(..edges).unwrap_or(&[])));
+        got(rt, graph.apply(&change));
+    }
+    let mut words = Vec::new(alloc);
+    for node in 0..5u16 {
+        got(rt, words.push(if node == 2 { 0u64 } else { u64::MAX }));
+    }
+    got(rt, scheme_of(alloc, &graph, &words, generation, &alloc))
+}
+
+// The bytes of a node's table.
+fn table_of(rt: &impl Abort, alloc: Global, scheme: &Scheme, node: u16) -> Vec<u8> {
+    let table = got(rt, RouterTable::of(alloc, scheme, node));
+    got(rt, table.write(alloc))
+}
+
+// The line that tells of the tables of all nodes.
+fn line_of(rt: &impl Abort, alloc: Global, scheme: &Scheme, generation: u64) -> String {
+    let (mut bytes, mut greatest) = (0usize, 0usize);
+    for node in 0..5u16 {
+        let len = table_of(rt, alloc, scheme, node).len();
+        bytes = bytes.wrapping_add(len);
+        greatest = greatest.max(len);
+    }
+    got(
+        rt,
+        format!(in alloc; "generation={generation} tables=5 bytes={bytes} greatest={greatest}"),
+    )
+}
+
+// Sees that files are those of the tables that a scheme has of the first nodes.
+fn expect_files(
+    rt: &impl Abort,
+    alloc: Global,
+    files: &[TableFile],
+    folder: &str,
+    scheme: &Scheme,
+    count: usize,
+) {
+    same(rt, files.len(), count, folder);
+    let mut node: u16 = 0;
+    for file in files {
+        let path = got(rt, format!(in alloc; "{folder}/{node}.table"));
+        same(rt, file.path.as_str(), path.as_str(), "the path");
+        let want = table_of(rt, alloc, scheme, node);
+        let is_same = file.bytes.as_slice() == want.as_slice();
+        same(rt, is_same, true, path.as_str());
+        node = node.wrapping_add(1);
+    }
+}
+
+// The files from this one on, at most so many.
+fn part_of(files: &[TableFile], from: usize, count: usize) -> &[TableFile] {
+    let rest = files.get(from..).unwrap_or(&[]);
+    rest.get(..count).unwrap_or(rest)
+}
+
+// No files so far.
+fn no_files(rt: &impl Abort, alloc: Global) -> Kept {
+    got(rt, Arc::new(alloc, Mutex::new(Vec::new(alloc))))
+}
+
+// A place with room for so many files, which are kept here.
+fn place<'a, R: Abort>(rt: &'a R, files: &Kept, room: usize) -> KeptFiles<'a, R> {
+    KeptFiles {
+        rt,
+        files: got(rt, Arc::try_clone(files)),
+        room,
+        put: Log::new(),
+    }
+}
+
+// Gives rows to a service on a fresh device of five nodes, with room for so many files, and answers those that were put.
+fn files_of<R: Threads + Wait + Abort + Sync>(
+    rt: &R,
+    alloc: Global,
+    rows: &[Row<'_>],
+    room: usize,
+) -> Kept {
+    let kept = no_files(rt, alloc);
+    let tables = place(rt, &kept, room);
+    let _disk = expect_talk_at(rt, alloc, fresh(rt, alloc, 5), &SETUP, rows, tables);
+    kept
+}
+
+// Each time the tables are those of the network that there is then.
+#[test]
+fn tables_between_edits(rt: HostRuntime) {
+    let alloc = rt.alloc();
+    let none = scheme_after(&rt, alloc, 0, 0);
+    let half = scheme_after(&rt, alloc, 2, 1);
+    let whole = scheme_after(&rt, alloc, 4, 2);
+    let first = line_of(&rt, alloc, &none, 0);
+    let second = line_of(&rt, alloc, &half, 1);
+    let third = line_of(&rt, alloc, &whole, 2);
+    let rows: [Row<'_>; 6] = [
+        (b"tables none", first.as_str()),
+        (
+            b"edit 0 - add:0:1:1 add:1:2:1\nwait",
+            "0 1 accepted count=1\ngeneration=1",
+        ),
+        (b"tables /half", second.as_str()),
+        (
+            b"edit 1 - add:2:3:1 add:3:4:1\nwait",
+            "1 1 accepted count=2\ngeneration=2",
+        ),
+        (b"tables whole/of/it", third.as_str()),
+        (b"route 0 4", "generation=2 route 0 1 2 3 4 length 4"),
+    ];
+    let kept = files_of(&rt, alloc, &rows, 99);
+    let files = kept.lock(&rt);
+    same(&rt, files.len(), 15, "files");
+    expect_files(&rt, alloc, part_of(&files, 0, 5), "none", &none, 5);
+    expect_files(&rt, alloc, part_of(&files, 5, 5), "/half", &half, 5);
+    expect_files(&rt, alloc, part_of(&files, 10, 5), "whole/of/it", &whole, 5);
+}
+
+// Lines at once are worked on one after the other.
+#[test]
+fn tables_three_times(rt: HostRuntime) {
+    let alloc = rt.alloc();
+    let whole = scheme_after(&rt, alloc, 4, 1);
+    let line = line_of(&rt, alloc, &whole, 1);
+    same(
+        &rt,
+        line.as_str(),
+        "generation=1 tables=5 bytes=689 greatest=146",
+        "by hand",
+    );
+    let lines = got(&rt, format!(in alloc; "{line}\n{line}\n{line}"));
+    let rows: [Row<'_>; 3] = [
+        (
+            b"edit 0 - add:0:1:1 add:1:2:1 add:2:3:1 add:3:4:1\nwait",
+            "0 1 accepted count=1\ngeneration=1",
+        ),
+        (b"tables a\ntables b\ntables a", lines.as_str()),
+        (b"state", "count=1 generation=1 queue=0"),
+    ];
+    let kept = files_of(&rt, alloc, &rows, 99);
+    let files = kept.lock(&rt);
+    same(&rt, files.len(), 15, "files");
+    for (turn, folder) in ["a", "b", "a"].iter().enumerate() {
+        let from = turn.wrapping_mul(5);
+        expect_files(&rt, alloc, part_of(&files, from, 5), folder, &whole, 5);
+    }
+}
+
+// The files before the one that is refused stay, and the service goes on.
+#[test]
+fn files_that_are_refused(rt: HostRuntime) {
+    let alloc = rt.alloc();
+    let whole = scheme_after(&rt, alloc, 4, 1);
+    let line = line_of(&rt, alloc, &whole, 1);
+    let refused = "table file cannot be written";
+    for room in 0..6usize {
+        let first = if room < 5 { refused } else { line.as_str() };
+        let rows: [Row<'_>; 5] = [
+            (
+                b"edit 0 - add:0:1:1 add:1:2:1 add:2:3:1 add:3:4:1\nwait",
+                "0 1 accepted count=1\ngeneration=1",
+            ),
+            (b"tables out", first),
+            (b"route 0 4", "generation=1 route 0 1 2 3 4 length 4"),
+            (b"tables more", refused),
+            (b"edit 0 - set:0:1:2", "0 2 accepted count=2"),
+        ];
+        let kept = files_of(&rt, alloc, &rows, room);
+        let files = kept.lock(&rt);
+        expect_files(&rt, alloc, &files, "out", &whole, room);
+    }
+}
+
+/// What a place for files, hooks and an input tell one another.
+#[derive(Drop)]
+struct Signs {
+    // Whether a file has come to its place.
+    is_held: AtomicBool,
+    // The newest generation in which a hop was answered.
+    newest: AtomicU64,
+    is_late: AtomicBool,
+}
+
+const TURNS: usize = 4_000_000;
+
+impl Signs {
+    fn new() -> Signs {
+        Signs {
+            is_held: AtomicBool::new(false),
+            newest: AtomicU64::new(0),
+            is_late: AtomicBool::new(false),
+        }
+    }
+
+    fn has_hopped(&self, least: u64) -> bool {
+        self.newest.load(Ordering::SeqCst) >= least
+    }
+
+    // Waits for a hop in this generation or a later one, or until the turns run out.
+    fn await_hop(&self, least: u64) {
+        for _ in 0..TURNS {
+            if self.has_hopped(least) {
+                return;
+            }
+            thread::yield_now();
+        }
+        self.is_late.store(true, Ordering::SeqCst);
+    }
+
+    // Waits until a file has come, or the turns run out.
+    fn await_file(&self) {
+        for _ in 0..TURNS {
+            if self.is_held.load(Ordering::SeqCst) {
+                return;
+            }
+            thread::yield_now();
+        }
+        self.is_late.store(true, Ordering::SeqCst);
+    }
+}
+
+#[derive(Drop)]
+struct HeldHooks<'a>(&'a Signs);
+
+impl<'a> Hooks for HeldHooks<'a> {
+    fn before_launch(&self) {}
+
+    fn after_hop(&self, generation: u64) {
+        if !self.0.has_hopped(generation) {
+            self.0.newest.store(generation, Ordering::SeqCst);
+        }
+    }
+}
+
+/// A place whose first file waits for a hop in this generation.
+#[derive(Drop)]
+struct HeldFiles<'a, R> {
+    place: KeptFiles<'a, R>,
+    signs: Arc<Signs, Global>,
+    generation: u64,
+}
+
+impl<R: Wait> TableFiles for HeldFiles<'_, R> {
+    ghost use Rattle.std.specs.Prelude.{map};
+    ghost use Rattle.table_files.specs.Files.{put_of};
+
+    ghost puts = { λ held. map put_of held.place.put.items };
+
+    fn put(&mut self, file: TableFile) -> Result<(), Fault> {
+        if !self.signs.is_held.load(Ordering::SeqCst) {
+            self.signs.is_held.store(true, Ordering::SeqCst);
+            self.signs.await_hop(self.generation);
+        }
+        self.place.put(file)
+    }
+}
+
+const EDITS: [&[u8]; 4] = [
+    b"edit 0 - add:0:1:1\n",
+    b"edit 0 - set:0:1:2\n",
+    b"edit 0 - set:0:1:3\n",
+    b"edit 0 - set:0:1:4\n",
+];
+
+// So many lines at most: the window has 1,024.
+const MOST_LINES: usize = 900;
+
+/// An input that asks for tables, and once the first file has come makes so many edits; then it asks for routes until one was in the
+/// last generation. A line a call.
+#[derive(Drop)]
+struct Pressing {
+    signs: Arc<Signs, Global>,
+    edits: usize,
+    lines: usize,
+}
+
+impl Read for Pressing {
+    fn read(&mut self, buf: &mut [u8]) -> io::Result<usize> {
+        let edits = EDITS.get(..self.edits).unwrap_or(&[]);
+        let line: &[u8] = if self.lines == 0 {
+            b"tables out\n"
+        } else {
+            self.signs.await_file();
+            match edits.get(self.lines.wrapping_sub(1)) {
+                Some(edit) => *edit,
+                None => b"route 0 1\n",
+            }
+        };
+        for _ in 0..2_000 {
+            thread::yield_now();
+        }
+        let is_done = self.lines > self.edits && self.signs.has_hopped(self.edits as u64);
+        if is_done || self.lines >= MOST_LINES || buf.len() < line.len() {
+            return Ok(0);
+        }
+        self.lines = self.lines.wrapping_add(1);
+        buf[..line.len()].copy_from_slice(line);
+        Ok(line.len())
+    }
+}
+
+// Sees that edits and hops go on while the first file is written, until the newest generation is this many edits old; and how the
+// line of tables is answered then, and how many files of generation 0 are there.
+fn expect_held<R: Threads + Wait + Abort + Sync>(
+    rt: &R,
+    alloc: Global,
+    edits: usize,
+    want: &str,
+    count: usize,
+) {
+    let signs = got(rt, Arc::new(alloc, Signs::new()));
+    let kept = no_files(rt, alloc);
+    let tables = HeldFiles {
+        place: place(rt, &kept, 99),
+        signs: got(rt, Arc::try_clone(&signs)),
+        generation: edits as u64,
+    };
+    let lines = Pressing {
+        signs: got(rt, Arc::try_clone(&signs)),
+        edits,
+        lines: 0,
+    };
+    let input = got(rt, BufReader::with_capacity(alloc, 4096, lines));
+    let setup = Setup {
+        words: "at:2",
+        numbers: (1, 1, 4),
+        rounds: 1,
+    };
+    let (mut out, mut err) = (Vec::new(alloc), Vec::new(alloc));
+    let disk = fresh(rt, alloc, 5);
+    let (served, _disk) = run_at(
+        rt,
+        alloc,
+        disk,
+        &setup,
+        input,
+        &HeldHooks(&signs),
+        tables,
+        &mut out,
+        &mut err,
+    );
+    same(
+        rt,
+        (served, text_of(rt, &err)),
+        (Served::Printed, ""),
+        "the end",
+    );
+    same(rt, signs.is_late.load(Ordering::SeqCst), false, "is late");
+    let mut printed = text_of(rt, &out).split('\n');
+    same(rt, printed.next(), Some(want), "the tables");
+    for number in 1..edits.wrapping_add(1) {
+        let accepted = got(rt, format!(in alloc; "0 {number} accepted count={number}"));
+        same(rt, printed.next(), Some(accepted.as_str()), "an edit");
+    }
+    let scheme = scheme_after(rt, alloc, 0, 0);
+    expect_files(rt, alloc, &kept.lock(rt), "out", &scheme, count);
+}
+
+// The shelf has four generations: with the third edit the first generation is the oldest of them, and with the fourth it is gone.
+#[test]
+fn tables_while_edits_go_on(rt: HostRuntime) {
+    let alloc = rt.alloc();
+    let line = line_of(&rt, alloc, &scheme_after(&rt, alloc, 0, 0), 0);
+    expect_held(&rt, alloc, 1, line.as_str(), 5);
+    expect_held(&rt, alloc, 3, line.as_str(), 5);
+    expect_held(&rt, alloc, 4, "generation gone", 1);
+}

@@ -1,0 +1,7 @@
+use denote.Param.Send.{sendable}
+use Rattle.std.proofs.Crossing.{crosses}
+use Rattle.program_tests.proofs.Sends.{place_send}
+use Rattle.program_tests.proofs.locks.device_that_is_held_alone.Goals as goal
+
+pub expect_script-requires-2 : goal.expect_script-requires-2
+expect_script-requires-2 g c κs = search (crosses, sendable, place_send) depth 60

@@ -1,4 +1,0 @@
-use Rattle.service_threads.proofs.serve.serve_store.Given as goal
-
-abbrev pub ghosts-seat : goal.ghosts-seat
-ghosts-seat g a = record { opening = a.writer.opening }

@@ -1,0 +1,4 @@
+pub mod Durable
+pub mod Lists
+pub mod Posted
+pub mod Laws
