@@ -84,7 +84,7 @@ left_next s f ls cs i next listed more wanted c l h e g =
       small = l.small;
     }
 
-at_most_lights : (k j : ℕ) → 2 * 2 ^ j < 2 ^ (k + 2) → j ≤ k
+pub at_most_lights : (k j : ℕ) → 2 * 2 ^ j < 2 ^ (k + 2) → j ≤ k
 at_most_lights k j h = by_order (split j k)
   where
     split : (j k : ℕ) → (j ≤ k) ⊎ (k + 1 ≤ j)

@@ -1,6 +1,17 @@
+pub mod AheadSteps
+pub mod BehindThem
 pub mod Bound
 pub mod Briefs
+pub mod FlatForms
+pub mod FlatLists
+pub mod FlatSteps
+pub mod HeavySteps
+pub mod KidSteps
+pub mod KidsByNode
 pub mod Left
+pub mod OneMore
+pub mod SizeSteps
+pub mod Spots
 pub mod Steps
 pub mod Trips
 pub mod Walks

@@ -1,4 +1,4 @@
-ghost use Rattle.std.specs.Prelude.{◌≡◌, ◌≤◌, length};
+ghost use Rattle.std.specs.Prelude.{◌≡◌, ◌<◌, ◌≤◌, ◌++◌, ◌∷◌, [], length};
 ghost use Rattle.heavy_labels.specs.Padded.{padded};
 
 use arrayvec::ArrayVec;
@@ -83,6 +83,33 @@ impl Label {
             first: self.first,
             count: self.count,
             ports: self.ports,
+        }
+    }
+}
+
+impl Label {
+    /// The label with another number.
+    pub(crate) fn renumbered(&self, first: u16) -> Label
+        ensures { result ≡ record { first = first; lights = self.now.lights } }
+    {
+        Label {
+            first,
+            count: self.count,
+            ports: self.ports,
+        }
+    }
+
+    /// The label with another number, and with a light port more.
+    pub(crate) fn with_light(&self, first: u16, port: u16) -> Label
+        requires { length self.now.lights < MOST_LIGHTS }
+        ensures { result ≡ record { first = first; lights = self.now.lights ++ port ∷ [] } }
+    {
+        let mut ports = self.ports;
+        ports[self.count as usize] = port;
+        Label {
+            first,
+            count: self.count + 1,
+            ports,
         }
     }
 }

@@ -10,7 +10,9 @@
 //!
 //! The contract that the layers above use is that of [`number`]: the records and labels are those of
 //! the definition, and from any member the steps by any member's label follow the tree path between
-//! the two, visit no member twice, and end with [`TreeStep::Arrived`].
+//! the two, visit no member twice, and end with [`TreeStep::Arrived`]. [`number_members`] gives each
+//! member the same record and label, in the order of the members, and makes no tree: it goes over a few
+//! lists of numbers, by which member is whose parent and by ascending node, and nothing calls itself.
 //!
 //! ```text
 //! let all = number(alloc, &tree)?;
@@ -23,12 +25,18 @@
 //! ```
 #![tactic(auto)]
 
+mod ahead;
+mod by_node;
+mod flat;
+mod heavy_kids;
 mod label;
 mod numbered_member;
 mod preorder;
+mod sizes;
 mod tree_record;
 mod tree_step;
 
+pub use flat::number_members;
 pub use label::{Label, MOST_LIGHTS};
 pub use numbered_member::{Numbered, NumberedMember};
 pub use preorder::number;

@@ -1,10 +1,10 @@
 // The tree of one root, as numbered members, and the entry of each.
-ghost use Rattle.std.specs.Prelude.{◌≡◌, ◌<◌, ◌≤◌, ℕ, Option, true, IfOk, IsPermutation, length, map, nat_eq, slice_index, slice_index_or};
+ghost use Rattle.std.specs.Prelude.{◌≡◌, ◌<◌, ◌≤◌, ℕ, Option, true, IfOk, length, map, nat_eq, slice_index};
 ghost use Rattle.std.specs.List.{All, IsDistinct};
 ghost use Rattle.distances.specs.Reach.{IsTree};
 ghost use Rattle.distances.specs.Search.{is_below};
 ghost use Rattle.distances.specs.Workspace.{reached_of, AreLinked};
-ghost use Rattle.heavy_labels.specs.Numbered.{seen, head_brief};
+ghost use Rattle.heavy_labels.specs.Numbered.{Brief, IsListed, seen, head_brief};
 ghost use Rattle.heavy_labels.specs.Numbering.{tree_lines};
 ghost use Rattle.route_tree.specs.Growth.{subtrees, first_or};
 ghost use Rattle.route_tree.specs.Members.{AreMembers};
@@ -17,8 +17,8 @@ use crate::parts::Entry;
 use bumpalo::Bump;
 use distances::Linked;
 use graph_edits::{Graph, MOST_NODES};
-use heavy_labels::{Numbered, NumberedMember, number};
-use route_tree::{MOST_MEMBERS, Member, RouteTree};
+use heavy_labels::{Numbered, NumberedMember, number_members};
+use route_tree::{MOST_MEMBERS, Member};
 use std::alloc::{AllocError, Allocator, Global};
 
 const _: () = prove!(MOST_NODES as usize <= MOST_MEMBERS);
@@ -47,25 +47,21 @@ fn members(alloc: Global, reached: &[Linked]) -> Result<Vec<Member>, AllocError>
     Ok(all)
 }
 
-/// The records and labels of the members. Their tree lies in an arena of its own over the scratch, and both are dropped
-/// here.
+/// The records and labels of the members, in their order. What this takes lies in an arena of its own over the scratch, and both
+/// are dropped here.
 fn numbered<A: Allocator>(
     alloc: Global,
-    root: u16,
     members: &[Member],
     places: &[u16],
     scratch: A,
 ) -> Result<Numbered, AllocError>
     requires members { AreMembers members.now }
-    requires root { (d : Member) → (slice_index_or members.now 0 d).node ≡ root }
     requires places { HasPlaces members.now places.now }
-    ensures lines { IfOk result (λ all. (d : Tree) → map seen all.items ≡ map head_brief (tree_lines (first_or d (subtrees members.now)))) }
-    ensures each { IfOk result (λ all. length all.items ≡ length members.now) }
-    ensures nodes { IfOk result (λ all. IsPermutation (map (λ a. a.node) members.now) (map (λ n. n.node) all.items)) }
+    ensures lines { IfOk result (λ all. (d : Tree) (b : Brief) → IsListed b (map head_brief (tree_lines (first_or d (subtrees members.now)))) → IsListed b (map seen all.items)) }
+    ensures nodes { IfOk result (λ all. map (λ n. n.node) all.items ≡ map (λ a. a.node) members.now) }
 {
     let arena = Bump::new(scratch);
-    let tree = RouteTree::grow_by(&arena, root, members, places)?;
-    number(alloc, &tree)
+    number_members(alloc, members, places, &arena)
 }
 
 /// Notes for each node that is reached its place in the list. What the table has for other nodes stays.
@@ -125,6 +121,6 @@ pub(crate) fn number_reached<A: Allocator>(
     let _sound = graph.nodes();
     let members = members(alloc, reached)?;
     note_places(reached, places);
-    let numbered = numbered(alloc, root, &members, places, scratch)?;
+    let numbered = numbered(alloc, &members, places, scratch)?;
     Ok(numbered)
 }

@@ -46,8 +46,8 @@ fn close<A: Allocator>(member: Member, children: Vec<Twig<A>, A>) -> Twig<A>
     Twig::new(member.node, member.up, member.down, in_order(children))
 }
 
-/// Where the parent of the member at `at` stands.
-fn parent_place(places: &[u16], members: &[Member], at: usize) -> usize
+/// Where the parent of the member at `at` stands, by the table of places.
+pub fn parent_place(places: &[u16], members: &[Member], at: usize) -> usize
     requires below_root { 0 < at }
     requires there { at < length members.now }
     requires members { AreMembers members.now }

@@ -47,6 +47,8 @@ mod places;
 mod route_tree;
 mod twig;
 
+pub use growth::parent_place;
 pub use member::{MOST_MEMBERS, Member, are_members};
+pub use places::table_of;
 pub use route_tree::RouteTree;
 pub use twig::Twig;

@@ -1,9 +1,9 @@
 -- Rows are the tree of their root: from what was reached and what was numbered to all that is known of the tree.
-use Rattle.std.proofs.Common.{◌≡◌, ℕ, ◌+◌, ◌≤◌, ◌<◌, ◌==◌, inl, inr, Bool, true, false, cond, sym, refl, ap, subst, ◌∙◌, arith, List, [], ◌∷◌, ◌++◌, length, map, get_or, IsPermutation}
+use Rattle.std.proofs.Common.{◌≡◌, ℕ, ◌+◌, ◌≤◌, ◌<◌, ◌==◌, inl, inr, Bool, true, false, cond, sym, refl, ap, subst, ◌∙◌, arith, List, [], ◌∷◌, length, map, get_or, IsPermutation}
 use Rattle.std.specs.Prelude.{Option, Some, None, IsSome, ◌↔◌, nat_eq}
 use Rattle.std.specs.Option.{option_map}
 use Rattle.std.specs.List.{All, AllByRecursion, Contains, IsDistinct}
-use Rattle.std.proofs.lemmas.List.Sorted.{Contains-permutation, IsPermutation-map, IsPermutation-sym}
+use Rattle.std.proofs.lemmas.List.Sorted.{Contains-permutation, IsPermutation-sym}
 use Rattle.std.proofs.lemmas.Map.Keys.{IsDistinct-IsPermutation, IsDistinct-head, IsDistinct-tail}
 use Rattle.std.proofs.lemmas.Bool.{eqb-true, eq-eqb}
 use Rattle.graph_edits.specs.Edges.{Network, IsSound}
@@ -12,12 +12,12 @@ use Rattle.distances.specs.Search.{is_below}
 use Rattle.distances.specs.Reach.{IsTree, IsParent, IsTight}
 use Rattle.distances.specs.declared.reach.Reached.{Reached}
 use Rattle.route_tree.specs.declared.member.TheConstants.{MOST_MEMBERS}
-use Rattle.route_tree.specs.Rose.{Forest, no_trees, twig, count, Tree}
+use Rattle.route_tree.specs.Rose.{Tree}
 use Rattle.route_tree.specs.Growth.{subtrees, first_or}
-use Rattle.route_tree.specs.Members.{listed, members_of, AreMembers}
+use Rattle.route_tree.specs.Members.{AreMembers}
 use Rattle.route_tree.specs.declared.member.Member.{Member}
-use Rattle.heavy_labels.specs.Numbered.{Brief, seen, head_brief}
-use Rattle.heavy_labels.specs.Numbering.{Line, Place, place, lights_at, lines, tree_lines, Among}
+use Rattle.heavy_labels.specs.Numbered.{Brief, IsListed, seen, head_brief}
+use Rattle.heavy_labels.specs.Numbering.{Line, Place, tree_lines, Among}
 use Rattle.heavy_labels.specs.Stepped.{record_of}
 use Rattle.heavy_labels.specs.declared.numbered_member.NumberedMember.{NumberedMember}
 use Rattle.node_table.specs.declared.parts.Entry.{Entry}
@@ -30,45 +30,6 @@ use Rattle.node_table.proofs.Basics.Options.{some_is, same_value}
 
 none_some : {X : Type 0} {x : X} {o : Option X} → o ≡ None → o ≡ Some x → ⊥
 none_some e f = cc
-
--- ---- the nodes of a tree, in preorder
-
-abbrev node_in : Line → ℕ
-node_in l = (head_brief l).0
-
-map_append : {X : Type 0} (f : X → ℕ) (xs ys : List X) → map f (xs ++ ys) ≡ map f xs ++ map f ys
-map_append f [] ys = refl
-map_append f (x ∷ xs) ys = ap (λ z. f x ∷ z) (map_append f xs ys)
-
-lines_nodes : (fo : Forest) (h : Bool) (f : ℕ) (ls : List ℕ) (above : Line) (p : Option ℕ) → map node_in (lines fo h f ls above) ≡ map (λ (a : Member). a.node) (listed p fo)
-lines_nodes no_trees h f ls above p = refl
-lines_nodes (twig n u d below beside) h f ls above p =
-    let ls1 = lights_at h ls d in
-    let here = place n u d below f ls1 above ∷ above in
-    ap (λ z. n ∷ z)
-    (map_append node_in (lines below true (f + 1) ls1 here) (lines beside false (f + 1 + count below) ls above)
-    ∙ ap (λ z. z ++ map node_in (lines beside false (f + 1 + count below) ls above)) (lines_nodes below true (f + 1) ls1 here (Some n))
-    ∙ ap (λ z. map (λ (a : Member). a.node) (listed (Some n) below) ++ z) (lines_nodes beside false (f + 1 + count below) ls above p)
-    ∙ sym (map_append (λ (a : Member). a.node) (listed (Some n) below) (listed p beside)))
-
-tree_nodes : (t : Tree) → map node_in (tree_lines t) ≡ map (λ (a : Member). a.node) (members_of t)
-tree_nodes t = ap (λ z. t.node ∷ z) (lines_nodes t.below true 1 [] (place t.node None None t.below 0 [] [] ∷ []) (Some t.node))
-
-seen_nodes : (ns : List NumberedMember) → map (λ (n : NumberedMember). n.node) ns ≡ map (λ (b : Brief). b.0) (map seen ns)
-seen_nodes [] = refl
-seen_nodes (n ∷ ns) = ap (λ z. n.node ∷ z) (seen_nodes ns)
-
-head_nodes : (ls : List Line) → map (λ (b : Brief). b.0) (map head_brief ls) ≡ map node_in ls
-head_nodes [] = refl
-head_nodes (l ∷ ls) = ap (λ z. node_in l ∷ z) (head_nodes ls)
-
--- what is numbered are the members, in another order
-pub numbered_members : (ms : List Member) (t : Tree) (ns : List NumberedMember) → IsPermutation ms (members_of t) → map seen ns ≡ map head_brief (tree_lines t)
-    → IsPermutation (map (λ (a : Member). a.node) ms) (map (λ (n : NumberedMember). n.node) ns)
-numbered_members ms t ns p e =
-    subst (IsPermutation (map (λ (a : Member). a.node) ms))
-    (sym (seen_nodes ns ∙ ap (λ z. map (λ (b : Brief). b.0) z) e ∙ head_nodes (tree_lines t) ∙ tree_nodes t))
-    (IsPermutation-map (λ (a : Member). a.node) ms (members_of t) p)
 
 -- ---- lists of nodes
 
@@ -160,18 +121,18 @@ down_is : (m : Network) (x : ℕ) (e : Entry) (o : Option ℕ) → e.parent ≡ 
 down_is m x e None h = rw h refl
 down_is m x e (Some y) h = rw h refl
 
-head_among : (p : Place) (above : Line) (all : List Line) → Among (p ∷ above) all → IsIn (head_brief (p ∷ above)) (map head_brief all)
+head_among : (p : Place) (above : Line) (all : List Line) → Among (p ∷ above) all → IsListed (head_brief (p ∷ above)) (map head_brief all)
 head_among p above [] a = absurd a
 head_among p above (l ∷ all) (inl e) = inl (ap head_brief e)
 head_among p above (l ∷ all) (inr a) = inr (head_among p above all a)
 
-seen_in : (ns : List NumberedMember) (b : Brief) → IsIn b (map seen ns) → (n : NumberedMember) × (IsIn n ns × (b ≡ seen n))
+seen_in : (ns : List NumberedMember) (b : Brief) → IsListed b (map seen ns) → (n : NumberedMember) × (IsIn n ns × (b ≡ seen n))
 seen_in [] b i = absurd i
 seen_in (n ∷ ns) b (inl e) = (n, (inl refl, e))
 seen_in (n ∷ ns) b (inr i) = (let k = seen_in ns b i in (k.0, (inr k.1.0, k.1.1)))
 
 module _ (m : Network) (sound : IsSound m) (r : ℕ) (r_in : r < m.nodes) (limit : ℕ → Option ℕ) (ks : List Reached) (h : IsTree m.edges r limit ks) (root_within : is_below 0 (limit r) ≡ true)
-    (ns : List NumberedMember) (named : (d : Tree) → map seen ns ≡ map head_brief (tree_lines (first_or d (subtrees (map (member_of m) ks)))))
+    (ns : List NumberedMember) (named : (d : Tree) (b : Brief) → IsListed b (map head_brief (tree_lines (first_or d (subtrees (map (member_of m) ks))))) → IsListed b (map seen ns))
     (same : IsPermutation (map (λ (a : Member). a.node) (map (member_of m) ks)) (map (λ (n : NumberedMember). n.node) ns))
     (ws : List Row) (rows : IsRowList r ks ns ws) where
   same_reached : (a b : Reached) → IsIn a ks → IsIn b ks → a.node ≡ b.node → a ≡ b
@@ -280,7 +241,7 @@ module _ (m : Network) (sound : IsSound m) (r : ℕ) (r_in : r < m.nodes) (limit
   line_entry : (d : Tree) (p : Place) (above : Line) → Among (p ∷ above) (tree_lines (first_or d (subtrees (map (member_of m) ks))))
       → (e : Entry) × ((entry_in ws p.node ≡ Some e) × ((record_of e.tree_record ≡ p.tree_record) × (label_in ws p.node ≡ Some p.label)))
   line_entry d p above a =
-      let listed = subst (IsIn (head_brief (p ∷ above))) (sym (named d)) (head_among p above (tree_lines (first_or d (subtrees (map (member_of m) ks)))) a) in
+      let listed = named d (head_brief (p ∷ above)) (head_among p above (tree_lines (first_or d (subtrees (map (member_of m) ks)))) a) in
       let n = seen_in ns (head_brief (p ∷ above)) listed in
       let node_is : n.0.node ≡ p.node = ap (λ (b : Brief). b.0) (sym n.1.1) in
       let k = numbered_reached n.0 n.1.0 in
@@ -317,10 +278,10 @@ module _ (m : Network) (sound : IsSound m) (r : ℕ) (r_in : r < m.nodes) (limit
 -- the same, where members and numbered members stand in lists that are equal to these
 pub column_of : (m : Network) → IsSound m → (r : ℕ) → r < m.nodes → (limit : ℕ → Option ℕ) (ks : List Reached) → IsTree m.edges r limit ks → is_below 0 (limit r) ≡ true
     → (all : List Member) → all ≡ map (λ k. member_of m k) ks → (nm ns : List NumberedMember) → ns ≡ nm
-    → ((d : Tree) → map seen nm ≡ map head_brief (tree_lines (first_or d (subtrees all)))) → IsPermutation (map (λ (a : Member). a.node) all) (map (λ (n : NumberedMember). n.node) nm)
+    → ((d : Tree) (b : Brief) → IsListed b (map head_brief (tree_lines (first_or d (subtrees all)))) → IsListed b (map seen nm)) → IsPermutation (map (λ (a : Member). a.node) all) (map (λ (n : NumberedMember). n.node) nm)
     → (ws : List Row) → IsRowList r ks ns ws → IsColumn m limit r (entry_in ws) (label_in ws)
 column_of m s r i limit ks tree below all e nm ns q lines perm ws rows =
-    rows_column m s r i limit ks tree below nm (λ d. lines d ∙ ap (λ z. map head_brief (tree_lines (first_or d (subtrees z)))) e)
+    rows_column m s r i limit ks tree below nm (λ d b i. lines d b (subst (λ z. IsListed b (map head_brief (tree_lines (first_or d (subtrees z))))) (sym e) i))
     (subst (λ z. IsPermutation (map (λ (a : Member). a.node) z) (map (λ (n : NumberedMember). n.node) nm)) e perm) ws (subst (λ z. IsRowList r ks z ws) q rows)
 
 module _ (m : Network) (sound : IsSound m) (r : ℕ) (r_in : r < m.nodes) (ks : List Reached) (h : (limit : ℕ → Option ℕ) × (IsTree m.edges r limit ks × (is_below 0 (limit r) ≡ true))) where

@@ -1,5 +1,6 @@
-use Rattle.std.proofs.Common.{◌≡◌, ◌<◌, refl, sym, ap, ◌∙◌, subst, arith, map, get_or, List, IsPermutation}
+use Rattle.std.proofs.Common.{◌≡◌, ◌<◌, refl, sym, ap, ◌∙◌, subst, arith, map, List, IsPermutation}
 use Rattle.std.specs.List.{All, Contains}
+use Rattle.std.proofs.lemmas.List.Sorted.{IsPermutation-refl}
 use Rattle.distances.specs.Workspace.{reached_of}
 use Rattle.route_tree.specs.Members.{AreMembers}
 use Rattle.route_tree.specs.Growth.{IsEachOnce}
@@ -9,16 +10,12 @@ use Rattle.heavy_labels.specs.declared.numbered_member.NumberedMember.{NumberedM
 use Rattle.node_table.specs.Columns.{member_of}
 use Rattle.node_table.specs.RowLists.{nodes_linked, nodes_numbered, rows_by}
 use Rattle.node_table.proofs.Builds.RowSteps.{has_places, members_are, members_have, members_reached, nodes_are, reached_length, rows_list}
-use Rattle.node_table.proofs.Builds.RowColumns.{are_members, root_first, few_members, nodes_inside, numbers_apart, numbers_inside, numbers_reached, column_of}
+use Rattle.node_table.proofs.Builds.RowColumns.{are_members, few_members, nodes_inside, numbers_apart, numbers_inside, numbers_reached, column_of}
 use Rattle.node_table.proofs.columns.number_reached.Goals as goal
 
 pub numbered-requires-clause-members : goal.numbered-requires-clause-members
 numbered-requires-clause-members g c =
     subst AreMembers (sym (c.deref.ensures.value ∙ c.in_ok-members.ensures ∙ members_are c.args.graph.now c.args.reached.now c.requires.ports)) (are_members c.args.graph.now c.nodes-sound.ensures.sound c.args.root c.requires.inside (reached_of c.args.reached.now) c.requires.tree)
-
-pub numbered-requires-clause-root : goal.numbered-requires-clause-root
-numbered-requires-clause-root g c d =
-    ap (λ ms. (get_or ms 0 d).node) (c.deref.ensures.value ∙ c.in_ok-members.ensures ∙ members_are c.args.graph.now c.args.reached.now c.requires.ports) ∙ root_first c.args.graph.now c.nodes-sound.ensures.sound c.args.root c.requires.inside (reached_of c.args.reached.now) c.requires.tree d
 
 pub note_places-requires-clause-few : goal.note_places-requires-clause-few
 note_places-requires-clause-few g c = (let n = reached_length c.args.reached.now in let f = few_members c.args.graph.now c.nodes-sound.ensures.sound c.args.root c.requires.inside (reached_of c.args.reached.now) c.requires.tree in omega (arith, n, f))
@@ -36,8 +33,8 @@ numbered-requires-clause-places g c =
     (subst (All (λ x. x < c.args.graph.now.nodes)) (sym (nodes_are c.args.reached.now)) (nodes_inside c.args.graph.now c.nodes-sound.ensures.sound c.args.root c.requires.inside (reached_of c.args.reached.now) c.requires.tree)))
     (subst IsEachOnce (sym (members_are c.args.graph.now c.args.reached.now c.requires.ports)) (are_members c.args.graph.now c.nodes-sound.ensures.sound c.args.root c.requires.inside (reached_of c.args.reached.now) c.requires.tree).once))
 
-same_nodes : (ms all : List Member) (ns : List NumberedMember) → all ≡ ms → IsPermutation (map (λ a. a.node) all) (map (λ n. n.node) ns) → IsPermutation (map (λ a. a.node) ms) (map (λ n. n.node) ns)
-same_nodes ms all ns e p = subst (λ z. IsPermutation (map (λ (a : Member). a.node) z) (map (λ (n : NumberedMember). n.node) ns)) e p
+same_nodes : (ms all : List Member) (ns : List NumberedMember) → all ≡ ms → map (λ n. n.node) ns ≡ map (λ a. a.node) all → IsPermutation (map (λ a. a.node) ms) (map (λ n. n.node) ns)
+same_nodes ms all ns e p = subst (IsPermutation (map (λ (a : Member). a.node) ms)) (sym (p ∙ ap (λ z. map (λ (a : Member). a.node) z) e)) (IsPermutation-refl (map (λ (a : Member). a.node) ms))
 
 pub returns-clause-apart : goal.returns-clause-apart
 returns-clause-apart g c =
@@ -72,7 +69,8 @@ pub returns-clause-column : goal.returns-clause-column
 returns-clause-column g c limit tree below =
     column_of c.args.graph.now c.nodes-sound.ensures.sound c.args.root c.requires.inside limit (reached_of c.args.reached.now) tree below
     c.deref.result.now (c.deref.ensures.value ∙ c.in_ok-members.ensures ∙ members_are c.args.graph.now c.args.reached.now c.requires.ports)
-    c.in_ok-numbered.numbered.items c.in_ok-numbered.numbered.items refl c.in_ok-numbered.ensures.lines c.in_ok-numbered.ensures.nodes
+    c.in_ok-numbered.numbered.items c.in_ok-numbered.numbered.items refl c.in_ok-numbered.ensures.lines
+    (same_nodes c.deref.result.now c.deref.result.now c.in_ok-numbered.numbered.items refl c.in_ok-numbered.ensures.nodes)
     (rows_by c.args.root c.args.reached.now c.note_places.new.places c.in_ok-numbered.numbered.items)
     (rows_list c.args.root c.args.reached.now c.note_places.new.places c.in_ok-numbered.numbered.items c.note_places.ensures.places
     (subst (λ xs. All (λ x. Contains xs x) (nodes_numbered c.in_ok-numbered.numbered.items)) (sym (nodes_are c.args.reached.now))
