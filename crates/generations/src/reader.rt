@@ -56,6 +56,13 @@ impl Told {
         Told { history }
     }
 
+    /// What was told, as a history, which can be compared with others.
+    pub fn history(&self) -> History
+        ensures { result ≡ self.now }
+    {
+        self.history.again()
+    }
+
     /// The same again: it takes no memory.
     pub fn again(&self) -> Told
         ensures { result ≡ self.now }

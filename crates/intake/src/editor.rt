@@ -10,7 +10,7 @@ ghost use Rattle.intake.specs.declared.outcome.SubmitRefused.TheVariants.{QueueF
 use crate::outcome::{Outcome, SubmitRefused};
 use crate::queue::{Sender, Taker};
 use crate::watcher::Watcher;
-use generations::{BoardReader, Shut, Told};
+use generations::{BoardReader, History, Shut, Told};
 use graph_edits::Change;
 use requests::Request;
 use std::marker::Model;
@@ -58,6 +58,13 @@ impl Editor {
         ensures { result ≡ self.now.start }
     {
         self.sender.start()
+    }
+
+    /// The postings that it saw or was told of.
+    pub fn known(&self) -> History
+        ensures { result ≡ self.now.known }
+    {
+        self.watcher.known()
     }
 
     /// From now on it sees no less than what was told. It takes no memory and waits for nobody.

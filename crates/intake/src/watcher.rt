@@ -43,6 +43,13 @@ impl Watcher {
         }
     }
 
+    /// The postings that it saw or was told of.
+    pub fn known(&self) -> History
+        ensures { result ≡ self.now.known }
+    {
+        self.known.again()
+    }
+
     // A ticket was submitted.
     pub(crate) fn note(&mut self, ticket: u64)
         ensures { self.new ≡ record { session = self.old.session; last = Some ticket; known = self.old.known } }

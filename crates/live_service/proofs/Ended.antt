@@ -1,5 +1,5 @@
 -- How a live service ends.
-use Rattle.std.proofs.Common.{◌≡◌, refl, sym, subst, List, ℕ, Option, Some, None, Result, Ok, Err, IfErr, IsErrOf, false, arith}
+use Rattle.std.proofs.Common.{◌≡◌, refl, sym, subst, List, ℕ, Option, Some, None, Result, Ok, Err, IfErr, IfOk, OnOk, IsErrOf, false, arith}
 use Rattle.std.specs.Prelude.{IfSome}
 use Rattle.disk_trait.specs.declared.disk.Disk.{Ghosts}
 use Rattle.disk_trait.specs.Disk.{DiskView, IsSameDevice}
@@ -16,10 +16,13 @@ use Rattle.service_lines.specs.declared.served.Served.{Served}
 use Rattle.service_lines.specs.declared.served.Served.TheVariants as served
 use Rattle.service_workers.specs.declared.stop_cause.StopCause.{StopCause}
 use Rattle.service_workers.specs.declared.stop_cause.StopCause.TheVariants as cause
+use Rattle.generations.specs.Beginnings.{Beginning}
 use Rattle.live_service.specs.Inputs.{Input}
 use Rattle.live_service.specs.Ends.{IsLater, fault_of}
 use Rattle.live_service.specs.Runs.{HasEnded, IsFaultOf, IsPrintEnd, PrintsSo, PrintsTo}
+use Rattle.live_service.specs.ServedList.{HasPrintedOn, HasServedOn}
 use Rattle.live_service.specs.declared.printed.Printed.{Printed}
+use Rattle.live_service.proofs.SaidLines.{printed_of}
 
 -- the fault that is told of threads that stopped
 pub cause_later : (c : StopCause) → IsLater (told_fault (stop_fault c))
@@ -98,7 +101,7 @@ not_printed served.Printed f is same = absurd (cc)
 not_printed (served.Told g) f is same = cc
 not_printed (served.Untold g) f is same = cc
 
-no_cause : (a b : Result (Unit {0}) StopCause) → a ≡ Err cause.Memory → a ≡ Err cause.Device → ⊥
+no_cause : (a b : Result Beginning StopCause) → a ≡ Err cause.Memory → a ≡ Err cause.Device → ⊥
 no_cause a b is same = cc
 
 no_fault : told.Memory ≡ told.Device → ⊥
@@ -108,7 +111,21 @@ no_fault same = cc
 pub prints_to : (input : Input) (editors : ℕ) (old new : Option (List ℕ)) (printed : Printed) (ended : Served) → PrintsSo input editors old new printed → IsPrintEnd input printed ended
     → PrintsTo input editors old new ended
 prints_to input editors old new printed ended so end =
-    record { answers = λ unfailed. (printed.count, so.answers (λ is. unfailed (end.output is)), end.whole) }
+    record {
+      answers = λ unfailed.
+          (printed.count, printed_of printed.known input editors old new printed.count (so.answers (λ is. unfailed (end.output is))), end.whole);
+    }
+
+-- .. and by what is known of the list, where no fault ended it
+pub prints_on : {D : Type 0} {V : _} → (store : Store D V) (input : Input) (editors : ℕ) (old new : Option (List ℕ)) (printed : Printed) (ended : Served) (back : Option D) → PrintsSo input editors old new printed → IsPrintEnd input printed ended
+    → (ended ≡ served.Printed → HasServedOn store printed.known back) → ended ≡ served.Printed → HasPrintedOn store input editors old new back
+prints_on store input editors old new printed ended back so end on is = record {
+  known = printed.known;
+  count = printed.count;
+  printed = so.answers (λ failed. not_printed ended told.Output (end.output failed) is);
+  whole = end.whole is;
+  on = on is;
+}
 
 -- no engine was started
 pub memory_ended : {D : Type 0} {V : _} → (store : Store D V) (ended : Served) (disk : D) → is_down store ≡ false → V.view disk ≡ view_of store → fault_of ended ≡ Some told.Memory → HasEnded store ended (Some disk)
@@ -119,7 +136,7 @@ memory_ended {V = V} store ended disk up is fault = (
       settled = subst (λ (v : DiskView). HasSettledSome (state_of store) (view_of store) v) (sym is) (some_settled store up);
       device = λ same. absurd (no_cause (Err cause.Memory) (Err cause.Memory) refl same);
     };
-    fault = subst (λ (o : Option Fault). IfSome o (λ f. IsFaultOf {T = Unit {0}} (Err cause.Memory) f)) (sym fault) (tt, λ same. absurd (no_fault same));
+    fault = subst (λ (o : Option Fault). IfSome o (λ f. IsFaultOf {T = Beginning} (Err cause.Memory) f)) (sym fault) (tt, λ same. absurd (no_fault same));
   },
 )
 
@@ -150,3 +167,8 @@ engine_ends disk asked store engine back None same left is = tt
 pub err_of : {T : Type 0} (r : Result T Fault) (fault : Option Fault) (P : Fault → Type 0) → IfErr r (λ f. fault ≡ Some f) → IfSome fault P → IfErr r P
 err_of (Ok u) fault P is has = tt
 err_of (Err f) fault P is has = subst (λ (o : Option Fault). IfSome o P) is has
+
+-- what holds where no fault ended it
+pub ok_of : {T : Type 0} (r : Result T Fault) (ended : Served) (P : Type 0) → IfOk r (λ u. ended ≡ served.Printed) → (ended ≡ served.Printed → P) → OnOk r P
+ok_of (Ok u) ended P is has = has is
+ok_of (Err f) ended P is has = tt

@@ -21,6 +21,9 @@ use Rattle.live_service.specs.Scripts.{IsLineAnswer, answer_of_line, line_asked}
 use Rattle.live_service.specs.Streams.{IsAnswerAt}
 use Rattle.live_service.specs.Gathers.{HasGathered, HasText, PrintsAtEnd}
 use Rattle.live_service.specs.Runs.{IsPrintEnd}
+use Rattle.live_service.specs.ServedList.{HasGatheredOn, HasServedOn}
+use Rattle.checkpoint.specs.declared.store.Store.{Store}
+use Rattle.generations.specs.Beginnings.{Beginning}
 use Rattle.live_service.specs.declared.printed.Printed.{Printed}
 use Rattle.live_service.specs.declared.printed.PrintEnd.TheVariants.{Whole}
 
@@ -61,17 +64,31 @@ more_gathered (Bytes bytes) editors count answers answer a has is same = tt
 more_gathered (Script script) editors count answers answer a has is same =
     ∥∥₁_elim is (Coded-set (coded_list coded_bool) _ _) (λ at. more_of_script script count answers answer a has (sym same) at)
 
-all_served : (script : List ScriptLine) (count : ℕ) (text : List ℕ) (old new : Option (List ℕ)) → HasText (Script script) count text → count ≡ length script → Appends old new text → IsServed script old new
-all_served script count text old new has all appends = (
-  has.0,
-  has.1 ∙ ap (map is_edit) (ap (λ (n : ℕ). take n script) all ∙ take-length script),
-  subst (λ (t : List ℕ). Appends old new t) has.2 appends,
+all_served : (known : Beginning) (script : List ScriptLine) (editors count : ℕ) (text : List ℕ) (old new : Option (List ℕ)) → HasText known (Script script) editors count text → count ≡ length script → Appends old new text → IsServed script old new
+all_served known script editors count text old new has all appends = (
+  has.lines,
+  has.gathered ∙ ap (map is_edit) (ap (λ (n : ℕ). take n script) all ∙ take-length script),
+  subst (λ (t : List ℕ). Appends old new t) has.is appends,
 )
 
 -- a service that ended without a fault has printed the answers to a whole script
-pub script_served : (input : Input) (script : List ScriptLine) (printed : Printed) (ended : Served) (text : List ℕ) (old new : Option (List ℕ)) → input ≡ Script script
-    → (printed.end ≡ Whole → HasText input printed.count text) → PrintsAtEnd text old new ended → IsPrintEnd input printed ended → ended ≡ served.Printed → IsServed script old new
-script_served input script printed ended text old new names has prints end is =
-    let has_all : HasText (Script script) printed.count text = subst (λ (i : Input). HasText i printed.count text) names (has (end.done is)) in
+pub script_served : (input : Input) (script : List ScriptLine) (editors : ℕ) (printed : Printed) (ended : Served) (text : List ℕ) (old new : Option (List ℕ)) → input ≡ Script script
+    → (printed.end ≡ Whole → HasText printed.known input editors printed.count text) → PrintsAtEnd text old new ended → IsPrintEnd input printed ended → ended ≡ served.Printed → IsServed script old new
+script_served input script editors printed ended text old new names has prints end is =
+    let has_all : HasText printed.known (Script script) editors printed.count text = subst (λ (i : Input). HasText printed.known i editors printed.count text) names (has (end.done is)) in
     let all : printed.count ≡ length script = (subst (λ (i : Input). IsPrintEnd i printed ended) names end).whole is in
-    all_served script printed.count text old new has_all all (subst (λ (s : Served). PrintsAtEnd text old new s) is prints)
+    all_served printed.known script editors printed.count text old new has_all all (subst (λ (s : Served). PrintsAtEnd text old new s) is prints)
+
+-- and its answers are by what is known
+pub script_gathered : {D : Type 0} {V : _} → (store : Store D V) (input : Input) (editors : ℕ) (printed : Printed) (ended : Served) (text : List ℕ) (old new : Option (List ℕ)) (back : Option D)
+    → (printed.end ≡ Whole → HasText printed.known input editors printed.count text) → PrintsAtEnd text old new ended → IsPrintEnd input printed ended → (ended ≡ served.Printed → HasServedOn store printed.known back)
+    → ended ≡ served.Printed → HasGatheredOn store input editors old new back
+script_gathered store input editors printed ended text old new back has prints end on is = record {
+  known = printed.known;
+  count = printed.count;
+  text = text;
+  gathered = has (end.done is);
+  printed = subst (λ (s : Served). PrintsAtEnd text old new s) is prints;
+  whole = end.whole is;
+  on = on is;
+}

@@ -1,8 +1,13 @@
 pub mod Answering
 pub mod Ended
+pub mod Further
 pub mod GatheredLines
+pub mod OldTickets
+pub mod OneListed
 pub mod PrintedLines
 pub mod ReadLines
+pub mod SaidLines
+pub mod SaidPackets
 pub mod Seats
 pub mod Sending
 pub mod TablesPut

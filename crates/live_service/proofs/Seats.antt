@@ -1,6 +1,6 @@
 -- Editors at the board of their readers, which have submitted nothing.
 use Rattle.std.specs.Prelude.{ℕ, ◌≡◌, ◌+◌, List, [], ◌∷◌, All}
-use Rattle.std.proofs.Common.{refl}
+use Rattle.std.proofs.Common.{refl, subst}
 use Rattle.std.proofs.lemmas.List.Elements.{All-nil, All-cons, All-head, All-tail, All-same}
 use Rattle.atomic_table.specs.Seated.{TableId}
 use Rattle.requests.specs.Tickets.{last_of}
@@ -27,3 +27,15 @@ none_put q starts n (r ∷ rs) =
 
 pub fresh_seats : (q : TableId) (starts : List ℕ) (rs : List Knowledge) (es : List Editing) → es ≡ editors_from q starts 0 rs → All (λ e. e.put ≡ []) es
 fresh_seats q starts rs es is = All-same (λ (e : Editing). e.put ≡ []) es (editors_from q starts 0 rs) is (none_put q starts 0 rs)
+
+from_starts : (q : TableId) (starts : List ℕ) (n : ℕ) (rs : List Knowledge) → All (λ e. e.start ≡ last_of starts e.session) (editors_from q starts n rs)
+from_starts q starts n [] = All-nil (λ (e : Editing). e.start ≡ last_of starts e.session)
+from_starts q starts n (r ∷ rs) =
+    All-cons (λ (e : Editing). e.start ≡ last_of starts e.session) (record { queue = q; session = n; start = last_of starts n; put = []; fulls = 0; known = r.all }) (editors_from q starts (n + 1) rs) refl
+    (from_starts q starts (n + 1) rs)
+
+-- editors start where the board says
+pub started : (begins : List ℕ) (q : TableId) (starts : List ℕ) (rs : List Knowledge) (es : List Editing) → starts ≡ begins → es ≡ editors_from q starts 0 rs → All (λ e. e.start ≡ last_of begins e.session) es
+started begins q starts rs es same is =
+    subst (λ (ts : List ℕ). All (λ (e : Editing). e.start ≡ last_of ts e.session) es) same
+    (All-same (λ (e : Editing). e.start ≡ last_of starts e.session) es (editors_from q starts 0 rs) is (from_starts q starts 0 rs))

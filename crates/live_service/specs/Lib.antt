@@ -1,10 +1,12 @@
 pub mod Inputs
 pub mod Scripts
 pub mod Streams
+pub mod OneList
 pub mod Prints
 pub mod Gathers
 pub mod Reads
 pub mod Ends
+pub mod ServedList
 pub mod Runs
 pub mod Seated
 pub mod Tables

@@ -8,6 +8,8 @@ use Rattle.live_lines.specs.declared.answer.Answer.{Answer}
 use Rattle.live_lines.specs.Answers.{answer_text}
 use Rattle.live_service.specs.Inputs.{Input, Bytes, Script}
 use Rattle.live_service.specs.Streams.{IsAnswerAt}
+use Rattle.live_service.specs.OneList.{AreSaid}
+use Rattle.generations.specs.Beginnings.{Beginning}
 
 -- the lines of answers
 abbrev pub answers_text : List Answer → List ℕ
@@ -22,6 +24,13 @@ pub record HasPrinted (input : Input) (editors : ℕ) (old new : Option (List �
   pub answers : List Answer
   pub many : length answers ≡ count
   pub are : AreAnswers input editors answers
+  pub printed : Appends old new (answers_text answers)
+
+-- So many answers were printed, a line each, and nothing else: the k-th is to the k-th line, and each list that goes on from here says it.
+pub record HasPrintedBy (known : Beginning) (input : Input) (editors : ℕ) (old new : Option (List ℕ)) (count : ℕ) : Type 0 where
+  pub answers : List Answer
+  pub many : length answers ≡ count
+  pub said : AreSaid known input editors answers
   pub printed : Appends old new (answers_text answers)
 
 -- these are all lines, where that is known

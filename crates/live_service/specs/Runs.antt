@@ -1,5 +1,6 @@
 -- How the threads of a live service end, and what it prints.
 use Rattle.std.specs.Prelude.{◌≡◌, ◌≢◌, ℕ, List, Option, Result, Some, IfSome, IsErrOf}
+use Rattle.generations.specs.Beginnings.{Beginning}
 use Rattle.command_output.specs.declared.fault.Fault.{Fault}
 use Rattle.command_output.specs.declared.fault.Fault.TheVariants as told
 use Rattle.checkpoint.specs.declared.store.Store.{Store}
@@ -12,7 +13,8 @@ use Rattle.live_service.specs.declared.printed.Printed.{Printed}
 use Rattle.live_service.specs.declared.printed.PrintEnd.TheVariants.{Output, Whole}
 use Rattle.live_service.specs.Inputs.{Input}
 use Rattle.live_service.specs.Ends.{IsLater, fault_of}
-use Rattle.live_service.specs.Prints.{AreAllLines, HasPrinted}
+use Rattle.live_service.specs.Prints.{AreAllLines, HasPrinted, HasPrintedBy}
+use Rattle.live_service.specs.ServedList.{HasServedOn}
 
 -- a fault of a service whose engine ended so: it says that the device failed only where the engine does
 abbrev pub IsFaultOf : {T : Type 0} → Result T StopCause → Fault → Type 0
@@ -25,7 +27,7 @@ pub record IsEngineEnd {D T : Type 0} {V : _} (store : Store D V) (engine : Resu
 
 -- some engine ended so
 abbrev pub HasEnded : {D : Type 0} {V : _} → Store D V → Served → Option D → Type 0
-HasEnded store ended back = (engine : Result (Unit {0}) StopCause) × IsEngineEnd store engine ended back
+HasEnded store ended back = (engine : Result Beginning StopCause) × IsEngineEnd store engine ended back
 
 -- how a service ended that printed so much
 pub record IsPrintEnd (input : Input) (printed : Printed) (ended : Served) : Type 0 where
@@ -33,9 +35,9 @@ pub record IsPrintEnd (input : Input) (printed : Printed) (ended : Served) : Typ
   pub done : ended ≡ served.Printed → printed.end ≡ Whole
   pub whole : ended ≡ served.Printed → AreAllLines input printed.count
 
--- what was printed, unless the output failed: answers to so many lines
+-- what was printed, unless the output failed: answers to so many lines, by what is known of the list of postings
 pub record PrintsSo (input : Input) (editors : ℕ) (old new : Option (List ℕ)) (printed : Printed) : Type 0 where
-  pub answers : printed.end ≢ Output → HasPrinted input editors old new printed.count
+  pub answers : printed.end ≢ Output → HasPrintedBy printed.known input editors old new printed.count
 
 -- What a service prints that ended so: unless its output failed, answers to its first lines, and to all of them where
 -- no fault ended it.
@@ -46,8 +48,9 @@ pub record PrintsTo (input : Input) (editors : ℕ) (old new : Option (List ℕ)
 pub record IsRun {C D : Type 0} {V : _} (prints : C → C → Printed → Type 0) (finishes : C → C → Served → Type 0) (input : Input) (store : Store D V) (old new : C) (ended : Served) (back : Option D) : Type 0 where
   pub mid : C
   pub printed : Printed
-  pub engine : Result (Unit {0}) StopCause
+  pub engine : Result Beginning StopCause
   pub printing : prints old mid printed
   pub finishing : finishes mid new ended
   pub engine_end : IsEngineEnd store engine ended back
   pub print_end : IsPrintEnd input printed ended
+  pub one_list : ended ≡ served.Printed → HasServedOn store printed.known back

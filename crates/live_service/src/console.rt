@@ -8,13 +8,15 @@ use crate::printed::Printed;
 use crate::printing::print_all;
 use command_output::{Fault, tell};
 use service_lines::Served;
+use service_workers::Naming;
 use std::alloc::Global;
 use std::io::Write;
 use std::sync::Wait;
 
 /// What takes the answers, prints them, and tells the end. The contract of a scope says nothing of a `&mut` that its closure holds, so the
-/// closure holds a value of such a type, and hands it back.
-pub trait Console {
+/// closure holds a value of such a type, and hands it back. `B` names the board at which the answers were given.
+pub trait Console<B: Naming> {
+    ghost use Rattle.std.specs.Prelude.{◌≡◌};
     ghost use Rattle.live_service.specs.Ends.{IsFinish};
     ghost use Rattle.live_service.specs.declared.printed.Printed.{Printed};
     ghost use Rattle.service_lines.specs.declared.served.Served.{Served};
@@ -25,7 +27,8 @@ pub trait Console {
 
     /// Takes the answers in the order of their lines, until none comes any more.
     fn print(self) -> (Self, Printed)
-        ensures { prints self result.0 result.1 };
+        ensures prints { prints self result.0 result.1 }
+        ensures opening { result.1.known.opening ≡ B.opening };
 
     /// Tells the fault, where there is one. Without one it may still meet that its output fails.
     fn finish(self, fault: Option<Fault>) -> (Self, Served)
@@ -35,10 +38,10 @@ pub trait Console {
 
 /// Two writers, each lent for a time of its own: so what each holds is known once it comes back.
 #[derive(Drop)]
-pub struct Terminal<'a, 'b, J: Stream, R, O, E> {
+pub struct Terminal<'a, 'b, J: Stream, B: Naming, R, O, E> {
     pub rt: &'a R,
     pub alloc: Global,
-    pub exchange: &'a Exchange<J>,
+    pub exchange: &'a Exchange<J, B>,
     pub out: &'a mut O,
     pub err: &'b mut E,
 }
@@ -57,7 +60,8 @@ pub fn told<E: Write>(err: &mut E, fault: Option<Fault>) -> Served
     }
 }
 
-impl<'a, 'b, J: Stream, R: Wait, O: Write, E: Write> Console for Terminal<'a, 'b, J, R, O, E> {
+impl<'a, 'b, J: Stream, B: Naming, R: Wait, O: Write, E: Write> Console<B>
+    for Terminal<'a, 'b, J, B, R, O, E> {
     ghost use Rattle.std.specs.Prelude.{◌≡◌};
     ghost use Rattle.live_service.specs.Runs.{PrintsSo};
     ghost use Rattle.live_service.specs.Ends.{HasToldSo};

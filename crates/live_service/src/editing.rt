@@ -1,6 +1,7 @@
 // An editor's thread.
 ghost use Rattle.std.specs.Prelude.{IfSome};
 ghost use Rattle.live_lines.specs.Answers.{Fits};
+ghost use Rattle.live_service.specs.OneList.{IsSaidBy};
 
 use crate::exchange::Exchange;
 use crate::messages::{Answered, Ask, Stream};
@@ -8,6 +9,7 @@ use generations::{Mark, Verdict};
 use graph_edits::Change;
 use live_lines::{Answer, Asked};
 use service_workers::{Coordinator, EditEnd, Naming, SessionEditor, StopCause};
+use std::marker::PhantomData;
 use std::sync::Wait;
 
 // The answer to a mark. Whoever asks from now on how many changes are accepted finds this one counted.
@@ -27,7 +29,8 @@ fn edited<B: Naming, R: Wait>(
     ticket: Option<u64>,
     change: Change,
 ) -> Option<(SessionEditor<B>, Answer)>
-    ensures { IfSome result (λ r. Fits (Asked.Edit session ticket change) r.1) }
+    ensures fits { IfSome result (λ r. Fits (Asked.Edit session ticket change) r.1) }
+    ensures said { IfSome result (λ r. IsSaidBy r.0.editor.known (Asked.Edit session ticket change) r.1) }
 {
     if session != editor.session() {
         coordinator.stop(rt, StopCause::Internal);
@@ -59,7 +62,8 @@ fn answer_of<B: Naming, R: Wait>(
     editor: SessionEditor<B>,
     asked: Asked,
 ) -> Option<(SessionEditor<B>, Answer)>
-    ensures { IfSome result (λ r. Fits asked r.1) }
+    ensures fits { IfSome result (λ r. Fits asked r.1) }
+    ensures said { IfSome result (λ r. IsSaidBy r.0.editor.known asked r.1) }
 {
     match asked {
         Asked::Edit {
@@ -79,23 +83,29 @@ fn answer_of<B: Naming, R: Wait>(
 }
 
 // A line, answered. Without an answer all stop.
-#[tactic(auto, using(crate::proofs::Answering::answers))]
 fn answered<J: Stream, B: Naming, R: Wait>(
     rt: &R,
     coordinator: &Coordinator<B>,
     editor: SessionEditor<B>,
     ask: Ask<J>,
-) -> Option<(SessionEditor<B>, Answered<J>)> {
+) -> Option<(SessionEditor<B>, Answered<J, B>)> {
     let Ask { place, asked, of } = ask;
     let (editor, answer) = answer_of(rt, coordinator, editor, asked)?;
-    Some((editor, Answered { place, answer, of }))
+    let answered = Answered {
+        place,
+        answer,
+        known: editor.known(),
+        of,
+        at: PhantomData,
+    };
+    Some((editor, answered))
 }
 
 // Answers one line after the other.
 fn answer_each<J: Stream, B: Naming, R: Wait>(
     rt: &R,
     coordinator: &Coordinator<B>,
-    exchange: &Exchange<J>,
+    exchange: &Exchange<J, B>,
     editor: SessionEditor<B>,
 ) {
     let Some(mailbox) = exchange.sessions.get(editor.session() as usize) else {
@@ -119,7 +129,7 @@ fn answer_each<J: Stream, B: Naming, R: Wait>(
 pub fn edit_lines<J: Stream, B: Naming, R: Wait>(
     rt: &R,
     coordinator: &Coordinator<B>,
-    exchange: &Exchange<J>,
+    exchange: &Exchange<J, B>,
     editor: SessionEditor<B>,
 ) {
     answer_each(rt, coordinator, exchange, editor);

@@ -1,10 +1,13 @@
 // The engine's threads: the committer in the caller's, and one for each editor, each forwarder, the waiter and tables.
-ghost use Rattle.std.specs.Prelude.{◌≡◌, [], All, IfOk, IfSome, IsErrOf, vec_len, ◌<◌, ◌≤◌, false};
+ghost use Rattle.std.specs.Prelude.{◌≡◌, [], All, IfOk, IfSome, IsErrOf, IsOk, OnOk, vec_len, ◌<◌, ◌≤◌, false};
+ghost use Rattle.requests.specs.Tickets.{last_of};
 ghost use Rattle.intake.specs.Editors.{Editing};
 ghost use Rattle.checkpoint.specs.StoreWords.{state_of, view_of, is_down};
 ghost use Rattle.committer.specs.CommitterWords.{posts_of, store_of};
+ghost use Rattle.committer.specs.Listed.{IsListedFrom};
 ghost use Rattle.service_threads.specs.Kept.{HasFailed, HasSettledSome, IsFresh, IsServedDisk};
 ghost use Rattle.live_service.specs.Seated.{IsSeated};
+ghost use Rattle.live_service.specs.ServedList.{HasServedAll, IsBoardOf};
 
 use crate::editing::edit_lines;
 use crate::exchange::Exchange;
@@ -15,7 +18,7 @@ use crate::waiting::wait_lines;
 use checkpoint::Store;
 use committer::Committer;
 use disk_trait::Disk;
-use generations::{BoardReader, BoardWriter, board};
+use generations::{BoardReader, BoardWriter, History};
 use group_commit::Desk;
 use intake::{Editor, Taker, open_intake};
 use requests::SESSIONS;
@@ -24,7 +27,6 @@ use service_workers::{
     Coordinator, ForwarderOf, Hooks, Naming, SessionEditor, StopCause, WordSource,
 };
 use std::alloc::{AllocError, Global};
-use std::marker::Brand;
 use std::sync::Wait;
 use std::thread;
 use std::thread::{JoinHandle, Scope, Threads};
@@ -51,7 +53,7 @@ fn start_editors<'s, E, J: Stream + Send + Sync, B: Naming + Send + Sync, R: Wai
     scope: &Scope<'s, E>,
     rt: &'s R,
     coordinator: &'s Coordinator<B>,
-    exchange: &'s Exchange<J>,
+    exchange: &'s Exchange<J, B>,
     editors: Vec<SessionEditor<B>>,
     handles: &mut Vec<JoinHandle<()>>,
 ) {
@@ -83,7 +85,7 @@ fn start_forwarders<
     alloc: Global,
     coordinator: &'s Coordinator<B>,
     hooks: &'s G,
-    exchange: &'s Exchange<J>,
+    exchange: &'s Exchange<J, B>,
     forwarders: Vec<ForwarderOf<B>>,
     handles: &mut Vec<JoinHandle<()>>,
 ) {
@@ -117,7 +119,7 @@ fn start_tables<
     rt: &'s R,
     alloc: Global,
     coordinator: &'s Coordinator<B>,
-    exchange: &'s Exchange<J>,
+    exchange: &'s Exchange<J, B>,
     tables: T,
     reader: TablesReader<B>,
     handles: &mut Vec<JoinHandle<()>>,
@@ -137,7 +139,7 @@ fn start_waiter<'s, E, J: Stream + Send + Sync, B: Naming + Send + Sync, R: Wait
     scope: &Scope<'s, E>,
     rt: &'s R,
     coordinator: &'s Coordinator<B>,
-    exchange: &'s Exchange<J>,
+    exchange: &'s Exchange<J, B>,
 ) -> Option<JoinHandle<()>> {
     match scope.spawn(move || wait_lines(rt, coordinator, exchange)) {
         Ok(handle) => Some(handle),
@@ -152,7 +154,7 @@ fn start_waiter<'s, E, J: Stream + Send + Sync, B: Naming + Send + Sync, R: Wait
 fn joined<J: Stream, B: Naming, R: Threads + Wait>(
     rt: &R,
     coordinator: &Coordinator<B>,
-    exchange: &Exchange<J>,
+    exchange: &Exchange<J, B>,
     handles: Vec<JoinHandle<()>>,
     waiter: Option<JoinHandle<()>>,
 ) {
@@ -170,16 +172,22 @@ fn joined<J: Stream, B: Naming, R: Threads + Wait>(
     }
 }
 
-// Why the threads stopped, if they did. What the committer itself met goes before what another thread met; of the device it alone
-// knows.
-fn ended(own: Result<(), StopCause>, cause: Option<StopCause>) -> Result<(), StopCause>
-    ensures { IsErrOf result StopCause.Device → IsErrOf own StopCause.Device }
+// Why the threads stopped, if they did, and else what was posted. What the committer itself met goes before what another thread met; of
+// the device it alone knows.
+fn ended(
+    own: Result<(), StopCause>,
+    cause: Option<StopCause>,
+    board: History,
+) -> Result<History, StopCause>
+    ensures device { IsErrOf result StopCause.Device → IsErrOf own StopCause.Device }
+    ensures board { IfOk result (λ b. b ≡ board) }
+    ensures own { OnOk result (IsOk own) }
 {
     match (own, cause) {
         (Err(cause), _) => Err(cause),
         (Ok(()), Some(StopCause::Device)) => Err(StopCause::Internal),
         (Ok(()), Some(cause)) => Err(cause),
-        (Ok(()), None) => Ok(()),
+        (Ok(()), None) => Ok(board),
     }
 }
 
@@ -199,24 +207,28 @@ fn threads<
     coordinator: &'a Coordinator<B>,
     hooks: &'a G,
     tables: T,
-    exchange: &'a Exchange<J>,
+    exchange: &'a Exchange<J, B>,
     committer: Committer<D, Q>,
     seats: Seats<B>,
     rebuilds: Rebuilds,
-) -> (Result<(), StopCause>, Store<D>)
+) -> (Result<History, StopCause>, Store<D>)
     requires opening { (posts_of committer).opening ≡ B.opening }
     requires fresh { IsFresh committer }
+    requires listed { IsListedFrom (state_of (store_of committer)) committer }
     ensures settled { HasSettledSome (state_of (store_of committer)) (view_of (store_of committer)) (view_of result.1) }
     ensures device { IsErrOf result.0 StopCause.Device → HasFailed (view_of (store_of committer)) (view_of result.1) }
+    ensures all { IfOk result.0 (λ board. (board.opening ≡ B.opening) × HasServedAll (store_of committer) board (view_of result.1)) }
 {
     thread::scope(
         thread::scope_env(),
         rt,
-        |scope| -> (Result<(), StopCause>, Store<D>)
+        |scope| -> (Result<History, StopCause>, Store<D>)
             requires opening { (posts_of committer).opening ≡ B.opening }
             requires fresh { IsFresh committer }
+            requires listed { IsListedFrom (state_of (store_of committer)) committer }
             ensures settled { HasSettledSome (state_of (store_of committer)) (view_of (store_of committer)) (view_of result.1) }
             ensures device { IsErrOf result.0 StopCause.Device → HasFailed (view_of (store_of committer)) (view_of result.1) }
+            ensures all { IfOk result.0 (λ board. (board.opening ≡ B.opening) × HasServedAll (store_of committer) board (view_of result.1)) }
         {
             let mut committer = committer;
             let mut rebuilds = rebuilds;
@@ -263,7 +275,11 @@ fn threads<
                 &mut rebuilds,
             );
             joined(rt, coordinator, exchange, handles, waiter);
-            (ended(own, coordinator.cause(rt)), committer.into_store())
+            let board = committer.told().history();
+            (
+                ended(own, coordinator.cause(rt), board),
+                committer.into_store(),
+            )
         },
     )
 }
@@ -286,12 +302,14 @@ fn run<
     source: WordSource,
     hooks: &G,
     tables: T,
-    exchange: &Exchange<J>,
-) -> (Result<(), StopCause>, Store<D>)
+    exchange: &Exchange<J, B>,
+) -> (Result<History, StopCause>, Store<D>)
     requires opening { (posts_of committer).opening ≡ B.opening }
     requires fresh { IsFresh committer }
+    requires listed { IsListedFrom (state_of (store_of committer)) committer }
     ensures settled { HasSettledSome (state_of (store_of committer)) (view_of (store_of committer)) (view_of result.1) }
     ensures device { IsErrOf result.0 StopCause.Device → HasFailed (view_of (store_of committer)) (view_of result.1) }
+    ensures all { IfOk result.0 (λ board. (board.opening ≡ B.opening) × HasServedAll (store_of committer) board (view_of result.1)) }
 {
     let mut committer = committer;
     let Ok(mut rebuilds) = Rebuilds::new(alloc, source, rounds) else {
@@ -321,6 +339,7 @@ fn named<B: Naming>(
 ) -> Result<Vec<SessionEditor<B>>, AllocError>
     requires named { All (λ e. e.known.opening ≡ B.opening) editors.items }
     requires fresh { All (λ e. e.put ≡ []) editors.items }
+    requires start { All (λ e. e.start ≡ last_of B.opening.starts e.session) editors.items }
 {
     let mut all = Vec::new(alloc);
     for editor in editors {
@@ -371,6 +390,7 @@ fn seat_all<B: Naming>(
     requires config { IsSeated config }
     requires some { 0 < vec_len readers }
     requires readers { All (λ r. r.all.opening ≡ B.opening) readers.items }
+    requires begins { starts.now ≡ B.opening.starts }
     ensures starts { IfOk result (λ r. r.0.starts ≡ starts.now) }
     ensures got { IfOk result (λ r. r.0.got ≡ []) }
 {
@@ -406,19 +426,14 @@ fn seat<
     source: WordSource,
     hooks: &G,
     tables: T,
-    exchange: &Exchange<J>,
-) -> (Result<(), StopCause>, Store<D>)
+    exchange: &Exchange<J, B>,
+) -> (Result<History, StopCause>, Store<D>)
     requires config { IsSeated config.service }
-    requires named { writer.opening ≡ B.opening }
-    requires starts { writer.opening.starts ≡ (state_of store).tickets }
-    requires count { writer.opening.count ≡ (state_of store).count }
-    requires posted { writer.posted ≡ [] }
-    requires kept { writer.kept ≡ [] }
+    requires board { IsBoardOf B.opening (state_of store) writer readers.items }
     requires up { is_down store ≡ false }
-    requires some { 0 < vec_len readers }
-    requires readers { All (λ r. r.all.opening ≡ B.opening) readers.items }
     ensures settled { HasSettledSome (state_of store) (view_of store) (view_of result.1) }
     ensures device { IsErrOf result.0 StopCause.Device → HasFailed (view_of store) (view_of result.1) }
+    ensures all { IfOk result.0 (λ board. (board.opening ≡ B.opening) × HasServedAll store board (view_of result.1)) }
 {
     match seat_all::<B>(alloc, config.service, readers, &store.starts()) {
         Ok((taker, seats)) => {
@@ -439,63 +454,38 @@ fn seat<
     }
 }
 
-// The engine on a store, with a board of its own.
-fn serve_store<
-    J: Stream + Send + Sync,
-    D: Disk + Drop,
-    G: Hooks + Sync,
-    T: TableFiles + Drop + Send,
-    R: Threads + Wait + Sync,
->(
-    rt: &R,
-    alloc: Global,
-    config: EngineConfig,
-    store: Store<D>,
-    source: WordSource,
-    hooks: &G,
-    tables: T,
-    exchange: &Exchange<J>,
-) -> (Result<(), StopCause>, Store<D>)
-    requires config { IsSeated config.service }
-    requires up { is_down store ≡ false }
-    ensures settled { HasSettledSome (state_of store) (view_of store) (view_of result.1) }
-    ensures device { IsErrOf result.0 StopCause.Device → HasFailed (view_of store) (view_of result.1) }
-{
-    // One more is for tables.
-    let readers = config.service.editors as usize + config.service.forwarders as usize + 1;
-    let (starts, count) = (store.starts(), store.count());
-    match board::<&R>(alloc, rt, readers, &starts, count) {
-        Ok((writer, readers)) => seat::<J, Brand, D, G, T, &R, R>(
-            rt, alloc, config, store, writer, readers, source, hooks, tables, exchange,
-        ),
-        Err(_) => (Err(StopCause::Memory), store),
-    }
-}
-
 /// Answers the lines that come to the exchange, until no more come or all stop, in the thread that calls and others. Then no answer
-/// comes any more. The disk comes back.
+/// comes any more. The disk comes back, and what was posted on the board that `B` names.
 pub fn engine<
     J: Stream + Send + Sync,
+    B: Naming + Send + Sync,
     D: Disk + Drop,
     G: Hooks + Sync,
     T: TableFiles + Drop + Send,
+    Q: Wait + Drop,
     R: Threads + Wait + Sync,
 >(
     rt: &R,
     alloc: Global,
     config: EngineConfig,
     store: Store<D>,
+    writer: BoardWriter<Q>,
+    readers: Vec<BoardReader>,
     source: WordSource,
     hooks: &G,
     tables: T,
-    exchange: &Exchange<J>,
-) -> (Result<(), StopCause>, D)
+    exchange: &Exchange<J, B>,
+) -> (Result<History, StopCause>, D)
     requires config { IsSeated config.service }
+    requires board { IsBoardOf B.opening (state_of store) writer readers.items }
     requires up { is_down store ≡ false }
     ensures settled { HasSettledSome (state_of store) (view_of store) (D.view result.1) }
     ensures device { IsErrOf result.0 StopCause.Device → HasFailed (view_of store) (D.view result.1) }
+    ensures all { IfOk result.0 (λ board. (board.opening ≡ B.opening) × HasServedAll store board (D.view result.1)) }
 {
-    let (result, store) = serve_store(rt, alloc, config, store, source, hooks, tables, exchange);
+    let (result, store) = seat::<J, B, D, G, T, Q, R>(
+        rt, alloc, config, store, writer, readers, source, hooks, tables, exchange,
+    );
     exchange.shut(rt);
     exchange.end(rt);
     (result, store.into_disk())

@@ -1,20 +1,27 @@
 // Where threads find the lines that are theirs, and the printer the answers.
+ghost use Rattle.std.specs.Prelude.{◌≡◌};
+
 use crate::messages::{Answered, Ask, Stream};
+use generations::History;
 use mailboxes::{Mailbox, ReorderBuffer};
+use service_workers::Naming;
 use std::alloc::{AllocError, Global};
 use std::sync::Wait;
 
 /// How many lines there are at most between the one that is read and the one that is printed.
 pub const WINDOW: usize = 1_024;
 
-/// A mailbox for each editor, for each forwarder, for the waiter and for tables, and the answers.
+/// A mailbox for each editor, for each forwarder, for the waiter and for tables, and the answers. It begins with the board that `B` names.
 #[derive(Drop)]
-pub struct Exchange<J: Stream> {
+pub struct Exchange<J: Stream, B: Naming> {
     pub sessions: Vec<Mailbox<Ask<J>>>,
     pub forwarders: Vec<Mailbox<Ask<J>>>,
     pub waiter: Mailbox<Ask<J>>,
     pub tables: Mailbox<Ask<J>>,
-    pub answers: ReorderBuffer<Answered<J>>,
+    pub answers: ReorderBuffer<Answered<J, B>>,
+    // What was posted then.
+    pub known: History,
+    ghost named: { known.opening ≡ B.opening },
 }
 
 // So many mailboxes.
@@ -26,9 +33,16 @@ fn mailboxes<J: Stream>(alloc: Global, count: u8) -> Result<Vec<Mailbox<Ask<J>>>
     Ok(all)
 }
 
-impl<J: Stream> Exchange<J> {
+impl<J: Stream, B: Naming> Exchange<J, B> {
     /// One of so many editors and forwarders, empty.
-    pub fn new(alloc: Global, editors: u8, forwarders: u8) -> Result<Exchange<J>, AllocError> {
+    pub fn new(
+        alloc: Global,
+        editors: u8,
+        forwarders: u8,
+        known: History,
+    ) -> Result<Exchange<J, B>, AllocError>
+        requires { known.opening ≡ B.opening }
+    {
         let sessions = mailboxes(alloc, editors)?;
         let forwarders = mailboxes(alloc, forwarders)?;
         let answers = ReorderBuffer::new(alloc, WINDOW)?;
@@ -38,6 +52,7 @@ impl<J: Stream> Exchange<J> {
             waiter: Mailbox::new(alloc),
             tables: Mailbox::new(alloc),
             answers,
+            known,
         })
     }
 

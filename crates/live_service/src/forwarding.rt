@@ -1,6 +1,7 @@
 // A forwarder's thread.
 ghost use Rattle.std.specs.Prelude.{◌≡◌, ℕ, None, IfSome, IsTrue};
 ghost use Rattle.live_lines.specs.Answers.{Fits, Join};
+ghost use Rattle.live_service.specs.OneList.{IsRefusal, IsSaidBy};
 
 use crate::exchange::Exchange;
 use crate::messages::{Answered, Ask, Stream};
@@ -9,6 +10,7 @@ use live_lines::{Answer, Asked};
 use node_table::{Address, Packet};
 use service_workers::{Carried, Coordinator, ForwarderOf, Hooks, Naming, StopCause, Trip};
 use std::alloc::Global;
+use std::marker::PhantomData;
 use std::sync::Wait;
 
 // All stop: two parts of the service disagree.
@@ -30,6 +32,7 @@ fn join(nodes: &[u16], from: u16, to: u16) -> bool
 }
 
 // The answer to a route. Without one all stop.
+#[tactic(auto, using(crate::proofs::SaidPackets::route_said))]
 fn route<B: Naming, G: Hooks, R: Wait>(
     rt: &R,
     alloc: Global,
@@ -39,7 +42,8 @@ fn route<B: Naming, G: Hooks, R: Wait>(
     from: u16,
     to: u16,
 ) -> Option<Answer>
-    ensures { IfSome result (λ answer. Fits (Asked.Route from to) answer) }
+    ensures fits { IfSome result (λ answer. Fits (Asked.Route from to) answer) }
+    ensures said { IfSome result (λ answer. IsSaidBy forwarder.new.forwarder (Asked.Route from to) answer) }
 {
     let trip = Trip { from, to };
     match forwarder.route(rt, alloc, coordinator, hooks, trip)? {
@@ -73,7 +77,8 @@ fn address<B: Naming, R: Wait>(
     forwarder: &mut ForwarderOf<B>,
     node: u16,
 ) -> Option<Answer>
-    ensures { IfSome result (λ answer. Fits (Asked.Address node) answer) }
+    ensures fits { IfSome result (λ answer. Fits (Asked.Address node) answer) }
+    ensures said { IfSome result (λ answer. IsSaidBy forwarder.new.forwarder (Asked.Address node) answer) }
 {
     match forwarder.address(rt, coordinator, node)? {
         (generation, Ok(address)) if address.node == node => {
@@ -89,6 +94,7 @@ fn address<B: Naming, R: Wait>(
 fn named(refused: Refused) -> Option<Answer>
     ensures launch { IfSome result (λ answer. (from : ℕ) (to : Address) → Fits (Asked.Launch from to) answer) }
     ensures hop { IfSome result (λ answer. (at : ℕ) (packet : Packet) → Fits (Asked.Hop at packet) answer) }
+    ensures is { IfSome result (λ answer. IsRefusal refused answer) }
 {
     match refused {
         Refused::GenerationGone => Some(Answer::Gone),
@@ -108,7 +114,8 @@ fn launch<B: Naming, R: Wait>(
     from: u16,
     to: Address,
 ) -> Option<Answer>
-    ensures { IfSome result (λ answer. Fits (Asked.Launch from to) answer) }
+    ensures fits { IfSome result (λ answer. Fits (Asked.Launch from to) answer) }
+    ensures said { IfSome result (λ answer. IsSaidBy forwarder.new.forwarder (Asked.Launch from to) answer) }
 {
     match forwarder.launch(rt, coordinator, from, &to)? {
         Ok(packet) => Some(Answer::Sent(packet)),
@@ -125,7 +132,8 @@ fn hop<B: Naming, G: Hooks, R: Wait>(
     at: u16,
     packet: Packet,
 ) -> Option<Answer>
-    ensures { IfSome result (λ answer. Fits (Asked.Hop at packet) answer) }
+    ensures fits { IfSome result (λ answer. Fits (Asked.Hop at packet) answer) }
+    ensures said { IfSome result (λ answer. IsSaidBy forwarder.new.forwarder (Asked.Hop at packet) answer) }
 {
     let generation = packet.generation;
     match forwarder.hop(rt, coordinator, at, packet)? {
@@ -146,7 +154,8 @@ fn answer_of<B: Naming, G: Hooks, R: Wait>(
     forwarder: &mut ForwarderOf<B>,
     asked: Asked,
 ) -> Option<Answer>
-    ensures { IfSome result (λ answer. Fits asked answer) }
+    ensures fits { IfSome result (λ answer. Fits asked answer) }
+    ensures said { IfSome result (λ answer. IsSaidBy forwarder.new.forwarder asked answer) }
 {
     match asked {
         Asked::Route { from, to } => route(rt, alloc, coordinator, hooks, forwarder, from, to),
@@ -158,7 +167,6 @@ fn answer_of<B: Naming, G: Hooks, R: Wait>(
 }
 
 // A line, answered. Without an answer all stop.
-#[tactic(auto, using(crate::proofs::Answering::answers))]
 fn answered<J: Stream, B: Naming, G: Hooks, R: Wait>(
     rt: &R,
     alloc: Global,
@@ -166,10 +174,16 @@ fn answered<J: Stream, B: Naming, G: Hooks, R: Wait>(
     hooks: &G,
     forwarder: &mut ForwarderOf<B>,
     ask: Ask<J>,
-) -> Option<Answered<J>> {
+) -> Option<Answered<J, B>> {
     let Ask { place, asked, of } = ask;
     let answer = answer_of(rt, alloc, coordinator, hooks, forwarder, asked)?;
-    Some(Answered { place, answer, of })
+    Some(Answered {
+        place,
+        answer,
+        known: forwarder.known(),
+        of,
+        at: PhantomData,
+    })
 }
 
 /// Answers the lines that are a forwarder's, one after the other, until no more comes or all stop.
@@ -178,7 +192,7 @@ pub fn forward_lines<J: Stream, B: Naming, G: Hooks, R: Wait>(
     alloc: Global,
     coordinator: &Coordinator<B>,
     hooks: &G,
-    exchange: &Exchange<J>,
+    exchange: &Exchange<J, B>,
     forwarder: ForwarderOf<B>,
     place: usize,
 ) {

@@ -2,26 +2,27 @@
 ghost use Rattle.std.specs.Prelude.{◌≡◌, ◌≢◌, [], IfSome};
 ghost use Rattle.std.specs.String.{string_bytes};
 ghost use Rattle.live_service.specs.Ends.{IsFinish, fault_of};
-ghost use Rattle.live_service.specs.Gathers.{HasGathered, HasText, PrintsAtEnd};
+ghost use Rattle.live_service.specs.Gathers.{AreGatheredBy, HasGathered, HasText, PrintsAtEnd};
 ghost use Rattle.live_service.specs.Scripts.{answer_of_line};
 
 use crate::console::Console;
 use crate::exchange::Exchange;
 use crate::messages::Stream;
-use crate::printed::{PrintEnd, Printed};
+use crate::printed::{PrintEnd, Printed, furthest};
 use command_output::{Fault, print_text};
 use live_lines::Answer;
 use service_lines::{Served, lines_of};
+use service_workers::Naming;
 use std::alloc::Global;
 use std::io::Write;
 use std::sync::Wait;
 
 /// What gathers the answers to a script, and prints them at its end. No fault is told: who has the gatherer back knows it.
 #[derive(Drop)]
-pub struct Gatherer<'a, J: Stream, R, O> {
+pub struct Gatherer<'a, J: Stream, B: Naming, R, O> {
     pub rt: &'a R,
     pub alloc: Global,
-    pub exchange: &'a Exchange<J>,
+    pub exchange: &'a Exchange<J, B>,
     // The lines of the answers.
     pub text: String,
     pub out: &'a mut O,
@@ -51,40 +52,45 @@ fn answer_of(answer: Answer) -> Option<service_workers::Answer>
 }
 
 // Takes the answers in the order of their lines, until none comes any more, or one can't be kept.
-fn gather_each<J: Stream, R: Wait>(
+fn gather_each<J: Stream, B: Naming, R: Wait>(
     rt: &R,
-    exchange: &Exchange<J>,
+    exchange: &Exchange<J, B>,
     answers: &mut Vec<service_workers::Answer>,
 ) -> Printed
     requires { answers.old.items ≡ [] }
-    ensures { result.end ≡ PrintEnd.Whole → HasGathered J.input result.count answers.new.items }
+    ensures gathered { result.end ≡ PrintEnd.Whole → HasGathered J.input result.count answers.new.items }
+    ensures said { result.end ≡ PrintEnd.Whole → AreGatheredBy result.known J.input J.editors result.count answers.new.items }
+    ensures opening { result.known.opening ≡ B.opening }
 {
     let mut count: u64 = 0;
+    let mut known = exchange.known.again();
     for _ in rt.forever() {
         let Some(answered) = exchange.answers.take(rt, count) else {
-            return Printed::new(count, PrintEnd::Whole);
-        };
-        let Some(answer) = answer_of(answered.answer) else {
-            return Printed::new(count, PrintEnd::Internal);
+            return Printed::new(count, PrintEnd::Whole, known);
         };
         let Some(more) = count.checked_add(1) else {
-            return Printed::new(count, PrintEnd::Whole);
+            return Printed::new(count, PrintEnd::Whole, known);
+        };
+        known = furthest(known, &answered.known);
+        let Some(answer) = answer_of(answered.answer) else {
+            return Printed::new(count, PrintEnd::Internal, known);
         };
         if answers.push(answer).is_err() {
-            return Printed::new(count, PrintEnd::Memory);
+            return Printed::new(count, PrintEnd::Memory, known);
         }
         count = more;
     }
-    Printed::new(count, PrintEnd::Whole)
+    Printed::new(count, PrintEnd::Whole, known)
 }
 
 // Takes the answers in the order of their lines, until none comes any more, and makes their lines.
-fn gather_all<J: Stream, R: Wait>(
+fn gather_all<J: Stream, B: Naming, R: Wait>(
     rt: &R,
     alloc: Global,
-    exchange: &Exchange<J>,
+    exchange: &Exchange<J, B>,
 ) -> (Printed, String)
-    ensures { result.0.end ≡ PrintEnd.Whole → HasText J.input result.0.count (string_bytes result.1) }
+    ensures text { result.0.end ≡ PrintEnd.Whole → HasText result.0.known J.input J.editors result.0.count (string_bytes result.1) }
+    ensures opening { result.0.known.opening ≡ B.opening }
 {
     let mut answers = Vec::new(alloc);
     let printed = gather_each(rt, exchange, &mut answers);
@@ -93,7 +99,7 @@ fn gather_all<J: Stream, R: Wait>(
     match lines_of(alloc, &answers) {
         Ok(text) => (printed, text),
         Err(_) => {
-            let printed = Printed::new(printed.count, PrintEnd::Memory);
+            let printed = Printed::new(printed.count, PrintEnd::Memory, printed.known);
             (printed, String::new(alloc))
         }
     }
@@ -114,7 +120,7 @@ fn printed_or<O: Write>(out: &mut O, text: &str, fault: Option<Fault>) -> Served
     }
 }
 
-impl<'a, J: Stream, R: Wait, O: Write> Console for Gatherer<'a, J, R, O> {
+impl<'a, J: Stream, B: Naming, R: Wait, O: Write> Console<B> for Gatherer<'a, J, B, R, O> {
     ghost use Rattle.std.specs.Prelude.{◌≡◌, ◌≢◌, IfSome};
     ghost use Rattle.std.specs.String.{string_bytes};
     ghost use Rattle.command_output.specs.declared.fault.Fault.TheVariants.{Output};
@@ -123,7 +129,7 @@ impl<'a, J: Stream, R: Wait, O: Write> Console for Gatherer<'a, J, R, O> {
     ghost use Rattle.live_service.specs.declared.printed.PrintEnd.TheVariants.{Whole};
 
     ghost prints = { λ c d p. (d.out.ghost_name ≡ c.out.ghost_name) × (d.out.now ≡ c.out.now)
-        × (p.end ≡ Whole → HasText J.input p.count (string_bytes d.text)) };
+        × (p.end ≡ Whole → HasText p.known J.input J.editors p.count (string_bytes d.text)) };
 
     ghost finishes = { λ c d s. (d.out.ghost_name ≡ c.out.ghost_name)
         × PrintsAtEnd (string_bytes c.text) (O.contents c.out.now) (O.contents d.out.now) s

@@ -1,8 +1,12 @@
 // What threads send to one another of the lines of a service.
-ghost use Rattle.live_service.specs.Streams.{IsAnswerAt, IsAskedAt};
+ghost use Rattle.std.specs.Prelude.{◌≡◌};
+ghost use Rattle.live_service.specs.Streams.{IsAskedAt};
+ghost use Rattle.live_service.specs.OneList.{IsSaidAt};
 
+use generations::History;
 use live_lines::{Answer, Asked};
 use mailboxes::Placed;
+use service_workers::Naming;
 use std::marker::{Brand, PhantomData};
 
 /// Which lines there are, and how many editors answer them. Each call of the service picks both.
@@ -34,16 +38,20 @@ pub struct Ask<J: Stream> {
     ghost is_line: { ∥ IsAskedAt J.input J.editors place asked ∥₁ },
 }
 
-/// An answer to the line at a place.
+/// An answer to the line at a place, and what was known of the list of postings when it was given: each list that goes on from there
+/// says it.
 #[derive(Drop)]
-pub struct Answered<J: Stream> {
+pub struct Answered<J: Stream, B: Naming> {
     pub place: u64,
     pub answer: Answer,
+    pub known: History,
     pub of: PhantomData<J>,
-    ghost is_answer: { ∥ IsAnswerAt J.input J.editors place answer ∥₁ },
+    pub at: PhantomData<B>,
+    ghost named: { known.opening ≡ B.opening },
+    ghost is_answer: { ∥ IsSaidAt known J.input J.editors place answer ∥₁ },
 }
 
-impl<J: Stream> Placed for Answered<J> {
+impl<J: Stream, B: Naming> Placed for Answered<J, B> {
     ghost place_of = { λ a. a.place };
 
     fn place(&self) -> u64 {

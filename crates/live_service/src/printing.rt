@@ -4,12 +4,13 @@ ghost use Rattle.std.specs.String.{string_bytes};
 ghost use Rattle.std.specs.Io.KnownBytes.{Appends, Keeps};
 ghost use Rattle.command_output.specs.Lines.{line};
 ghost use Rattle.live_lines.specs.Answers.{answer_text};
-ghost use Rattle.live_service.specs.Prints.{HasPrinted};
+ghost use Rattle.live_service.specs.Prints.{HasPrintedBy};
 
 use crate::exchange::Exchange;
 use crate::messages::{Answered, Stream};
-use crate::printed::{PrintEnd, Printed};
+use crate::printed::{PrintEnd, Printed, furthest};
 use live_lines::Answer;
+use service_workers::Naming;
 use std::alloc::{AllocError, Global};
 use std::io::Write;
 use std::sync::Wait;
@@ -39,12 +40,12 @@ fn print_one<O: Write>(alloc: Global, answer: &Answer, out: &mut O) -> Result<()
 }
 
 // The answer to a line. While it isn't there, what was printed is flushed. None where no answer comes any more.
-fn next<J: Stream, O: Write, R: Wait>(
+fn next<J: Stream, B: Naming, O: Write, R: Wait>(
     rt: &R,
-    exchange: &Exchange<J>,
+    exchange: &Exchange<J, B>,
     place: u64,
     out: &mut O,
-) -> Result<Option<Answered<J>>, PrintEnd>
+) -> Result<Option<Answered<J, B>>, PrintEnd>
     ensures place { IfOk result (λ o. IfSome o (λ answered. answered.place ≡ place)) }
     ensures keeps { Keeps (O.contents out.old) (O.contents out.new) }
     ensures err { IfErr result (λ end. end ≡ PrintEnd.Output) }
@@ -59,42 +60,48 @@ fn next<J: Stream, O: Write, R: Wait>(
 }
 
 // Prints the answers in the order of their lines, until none comes any more, or one can't be printed.
-#[tactic(auto, using(crate::proofs::PrintedLines::none_printed, crate::proofs::PrintedLines::still_printed, crate::proofs::PrintedLines::one_printed))]
-fn print_each<J: Stream, O: Write, R: Wait>(
+#[tactic(auto, using(crate::proofs::SaidLines::none_printed_by, crate::proofs::SaidLines::still_printed_by, crate::proofs::SaidLines::one_printed_by))]
+fn print_each<J: Stream, B: Naming, O: Write, R: Wait>(
     rt: &R,
     alloc: Global,
-    exchange: &Exchange<J>,
+    exchange: &Exchange<J, B>,
     out: &mut O,
 ) -> Printed
-    ensures { result.end ≢ PrintEnd.Output → HasPrinted J.input J.editors (O.contents out.old) (O.contents out.new) result.count }
+    ensures printed { result.end ≢ PrintEnd.Output → HasPrintedBy result.known J.input J.editors (O.contents out.old) (O.contents out.new) result.count }
+    ensures opening { result.known.opening ≡ B.opening }
 {
     let mut count: u64 = 0;
+    let mut known = exchange.known.again();
     for _ in rt.forever() {
         let answered = match next(rt, exchange, count, out) {
             Ok(Some(answered)) => answered,
-            Ok(None) => return Printed::new(count, PrintEnd::Whole),
-            Err(end) => return Printed::new(count, end),
+            Ok(None) => return Printed::new(count, PrintEnd::Whole, known),
+            Err(end) => return Printed::new(count, end, known),
         };
         let Some(more) = count.checked_add(1) else {
-            return Printed::new(count, PrintEnd::Whole);
+            return Printed::new(count, PrintEnd::Whole, known);
         };
         match print_one(alloc, &answered.answer, out) {
-            Ok(()) => count = more,
-            Err(end) => return Printed::new(count, end),
+            Ok(()) => {
+                known = furthest(known, &answered.known);
+                count = more;
+            }
+            Err(end) => return Printed::new(count, end, known),
         }
     }
-    Printed::new(count, PrintEnd::Whole)
+    Printed::new(count, PrintEnd::Whole, known)
 }
 
 /// Prints the answers in the order of their lines, each as soon as it is there, until none comes any more. Where one can't be printed
 /// no more lines are answered.
-pub fn print_all<J: Stream, O: Write, R: Wait>(
+pub fn print_all<J: Stream, B: Naming, O: Write, R: Wait>(
     rt: &R,
     alloc: Global,
-    exchange: &Exchange<J>,
+    exchange: &Exchange<J, B>,
     out: &mut O,
 ) -> Printed
-    ensures { result.end ≢ PrintEnd.Output → HasPrinted J.input J.editors (O.contents out.old) (O.contents out.new) result.count }
+    ensures printed { result.end ≢ PrintEnd.Output → HasPrintedBy result.known J.input J.editors (O.contents out.old) (O.contents out.new) result.count }
+    ensures opening { result.known.opening ≡ B.opening }
 {
     let printed = print_each(rt, alloc, exchange, out);
     exchange.shut(rt);

@@ -1,13 +1,18 @@
 // The reader's thread.
-ghost use Rattle.std.specs.Prelude.{IfSome};
+ghost use Rattle.std.specs.Prelude.{◌≡◌, IfSome};
+ghost use Rattle.generations.specs.Beginnings.{Beginning};
 ghost use Rattle.live_lines.specs.Answers.{Fits};
+ghost use Rattle.live_service.specs.OneList.{IsSaidBy};
 ghost use Rattle.live_service.specs.Reads.{IsReadEnd};
 
 use crate::exchange::Exchange;
 use crate::line_source::LineSource;
 use crate::messages::{Answered, Ask, Stream};
 use crate::read_fault::ReadFault;
+use generations::History;
 use live_lines::{Answer, Asked};
+use service_workers::Naming;
+use std::marker::PhantomData;
 use std::sync::Wait;
 
 // Who answers a line.
@@ -34,7 +39,8 @@ fn owned_by(asked: &Asked) -> Owner {
 
 // The answer to a line that is the reader's own.
 fn answer_of(asked: Asked) -> Option<Answer>
-    ensures { IfSome result (λ answer. Fits asked answer) }
+    ensures fits { IfSome result (λ answer. Fits asked answer) }
+    ensures said { IfSome result (λ answer. (known : Beginning) → IsSaidBy known asked answer) }
 {
     match asked {
         Asked::Unread(refused) => Some(Answer::Unread(refused)),
@@ -44,17 +50,24 @@ fn answer_of(asked: Asked) -> Option<Answer>
 }
 
 // A line that is the reader's own, answered.
-#[tactic(auto, using(crate::proofs::Answering::answers))]
-fn answered<J: Stream>(ask: Ask<J>) -> Option<Answered<J>> {
+fn answered<J: Stream, B: Naming>(ask: Ask<J>, known: History) -> Option<Answered<J, B>>
+    requires { known.opening ≡ B.opening }
+{
     let Ask { place, asked, of } = ask;
     let answer = answer_of(asked)?;
-    Some(Answered { place, answer, of })
+    Some(Answered {
+        place,
+        answer,
+        known,
+        of,
+        at: PhantomData,
+    })
 }
 
 // Hands a line to whoever answers it: those that are forwarders' in turn.
-fn deal<J: Stream, R: Wait>(
+fn deal<J: Stream, B: Naming, R: Wait>(
     rt: &R,
-    exchange: &Exchange<J>,
+    exchange: &Exchange<J, B>,
     ask: Ask<J>,
     turn: &mut usize,
 ) -> Result<(), ReadFault> {
@@ -72,7 +85,7 @@ fn deal<J: Stream, R: Wait>(
         },
         Owner::Waiter => exchange.waiter.put(rt, ask),
         Owner::Tables => exchange.tables.put(rt, ask),
-        Owner::Reader => match answered(ask) {
+        Owner::Reader => match answered(ask, exchange.known.again()) {
             Some(answered) => {
                 let _put = exchange.answers.put(rt, answered);
                 return Ok(());
@@ -96,9 +109,9 @@ fn next_turn(turn: usize, count: usize) -> usize {
 
 // Reads one line after the other, and hands each to whoever answers it. How many lines there were, or none where no answers are
 // taken any more.
-fn read_each<J: Stream, L: LineSource<J> + Drop, R: Wait>(
+fn read_each<J: Stream, B: Naming, L: LineSource<J> + Drop, R: Wait>(
     rt: &R,
-    exchange: &Exchange<J>,
+    exchange: &Exchange<J, B>,
     source: L,
 ) -> Result<Option<u64>, ReadFault>
     requires { L.has_given source 0 }
@@ -125,9 +138,9 @@ fn read_each<J: Stream, L: LineSource<J> + Drop, R: Wait>(
 
 /// Reads one line after the other, and hands each to whoever answers it, until no line is left or no answers are taken any more.
 /// Then no more lines come. How many there were, or none where no answers were taken any more.
-pub fn read_lines<J: Stream, L: LineSource<J> + Drop, R: Wait>(
+pub fn read_lines<J: Stream, B: Naming, L: LineSource<J> + Drop, R: Wait>(
     rt: &R,
-    exchange: &Exchange<J>,
+    exchange: &Exchange<J, B>,
     source: L,
 ) -> Result<Option<u64>, ReadFault>
     requires { L.has_given source 0 }

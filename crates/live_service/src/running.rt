@@ -1,15 +1,18 @@
 // The threads of a service: the engine's, the reader's, and the caller's, which prints.
-ghost use Rattle.std.specs.Prelude.{◌≡◌, ◌≢◌, IfSome, IsErrOf, None, Some, false};
-ghost use Rattle.checkpoint.specs.StoreWords.{is_down};
+ghost use Rattle.std.specs.Prelude.{◌≡◌, ◌≢◌, IfOk, IfSome, IsErrOf, IsOkAnd, IsSomeAnd, None, Some, false};
+ghost use Rattle.checkpoint.specs.StoreWords.{is_down, state_of};
 ghost use Rattle.command_output.specs.declared.fault.Fault.{Fault};
+ghost use Rattle.generations.specs.Beginnings.{GoesOn};
 ghost use Rattle.service_threads.specs.Config.{IsServiceConfig};
 ghost use Rattle.service_threads.specs.Faults.{stop_fault};
 ghost use Rattle.service_threads.specs.Kept.{IsServedDisk};
 ghost use Rattle.service_lines.specs.ServedLines.{told_fault};
+ghost use Rattle.service_lines.specs.declared.served.Served.{Served};
 ghost use Rattle.live_service.specs.Ends.{IsLater, fault_of};
 ghost use Rattle.live_service.specs.Reads.{IsReadEnd};
 ghost use Rattle.live_service.specs.Runs.{IsFaultOf, IsPrintEnd, IsRun};
 ghost use Rattle.live_service.specs.Seated.{IsSeated};
+ghost use Rattle.live_service.specs.ServedList.{HasServedAll, IsBoardOf};
 
 use crate::console::Console;
 use crate::engine::{EngineConfig, engine};
@@ -23,11 +26,11 @@ use checkpoint::Store;
 use command_output::Fault;
 use core::thread::Stack;
 use disk_trait::Disk;
-use generations::MOST_READERS;
+use generations::{BoardReader, BoardWriter, History, MOST_READERS, board};
 use service_lines::{Served, fault_of as told_fault};
 use service_threads::{STACK_LEN, ServiceConfig};
-use service_workers::{Hooks, StopCause, WordSource};
-use std::alloc::Global;
+use service_workers::{Hooks, Naming, StopCause, WordSource};
+use std::alloc::{AllocError, Global};
 use std::marker::PhantomData;
 use std::snapshot::Snapshot;
 use std::sync::Wait;
@@ -35,16 +38,20 @@ use std::thread;
 use std::thread::{Promise, PromisedHandle, Scope, Threads};
 use table_files::TableFiles;
 
-// What the engine's thread answers of the disk that the store was on.
+// What the engine's thread answers of the disk that the store was on, and of the board that `B` names.
 #[derive(Drop)]
-struct EnginePromise<D: Disk> {
+struct EnginePromise<B: Naming, D: Disk> {
     store: Snapshot<Store<D>>,
+    of: PhantomData<B>,
 }
 
-impl<D: Disk> Promise<(Result<(), StopCause>, D)> for EnginePromise<D> {
+impl<B: Naming, D: Disk> Promise<(Result<History, StopCause>, D)> for EnginePromise<B, D> {
+    ghost use Rattle.std.specs.Prelude.{◌≡◌, IfOk};
     ghost use Rattle.service_threads.specs.Kept.{IsServedDisk};
+    ghost use Rattle.live_service.specs.ServedList.{HasServedAll};
 
-    ghost kept_by = { λ p r. IsServedDisk p.store.value r.0 (D.view r.1) };
+    ghost kept_by = { λ p r. IsServedDisk p.store.value r.0 (D.view r.1)
+        × IfOk r.0 (λ board. (board.opening ≡ B.opening) × HasServedAll p.store.value board (D.view r.1)) };
 }
 
 // What the reader's thread answers of its input.
@@ -66,19 +73,28 @@ fn told_cause(cause: StopCause) -> Fault
     told_fault(service_threads::Fault::from(cause))
 }
 
-// The fault that is known once the answers are printed and the engine has ended: that the output failed goes before all others.
+// The fault that is known once the answers are printed and the engine has ended: that the output failed goes before all others. The
+// board has all that the answers know, or two parts disagree.
 #[tactic(auto, using(crate::proofs::Ended::cause_later, crate::proofs::Ended::cause_device))]
-fn early_fault(printed: &Printed, engine: &Result<(), StopCause>) -> Option<Fault>
+fn early_fault(printed: &Printed, engine: &Result<History, StopCause>) -> Option<Fault>
+    requires { IfOk engine.now (λ board. printed.now.known.opening ≡ board.opening) }
     ensures fault { IfSome result (λ fault. IsFaultOf engine.now fault) }
     ensures output { printed.now.end ≡ PrintEnd.Output → result ≡ Some Fault.Output }
     ensures none { result ≡ None → printed.now.end ≡ PrintEnd.Whole }
+    ensures on { result ≡ None → IsOkAnd engine.now (λ board. GoesOn printed.now.known board) }
 {
     match (printed.end, engine) {
         (PrintEnd::Output, _) => Some(Fault::Output),
         (_, Err(cause)) => Some(told_cause(*cause)),
-        (PrintEnd::Memory, Ok(())) => Some(Fault::Memory),
-        (PrintEnd::Internal, Ok(())) => Some(Fault::Internal),
-        (PrintEnd::Whole, Ok(())) => None,
+        (PrintEnd::Memory, Ok(_)) => Some(Fault::Memory),
+        (PrintEnd::Internal, Ok(_)) => Some(Fault::Internal),
+        (PrintEnd::Whole, Ok(board)) => {
+            if board.covers(&printed.known) {
+                None
+            } else {
+                Some(Fault::Internal)
+            }
+        }
     }
 }
 
@@ -111,16 +127,18 @@ fn join_reader<J: Stream, R: Threads>(
 }
 
 // Tells how the service ended, and waits for the reader: a fault that is known before is told first, since a read may take long.
-fn conclude<J: Stream, C: Console, R: Threads>(
+fn conclude<J: Stream, B: Naming, C: Console<B>, R: Threads>(
     rt: &R,
     console: C,
     printed: Printed,
-    engine: &Result<(), StopCause>,
+    engine: &Result<History, StopCause>,
     reader: Option<PromisedHandle<Result<Option<u64>, ReadFault>, ReaderPromise<J>>>,
 ) -> (C, Served)
+    requires { IfOk engine.now (λ board. printed.known.opening ≡ board.opening) }
     ensures finishes { C.finishes console result.0 result.1 }
     ensures fault { IfSome (fault_of result.1) (λ fault. IsFaultOf engine.now fault) }
     ensures printed { IsPrintEnd J.input printed result.1 }
+    ensures on { result.1 ≡ Served.Printed → IsOkAnd engine.now (λ board. GoesOn printed.known board) }
 {
     match early_fault(&printed, engine) {
         Some(fault) => {
@@ -136,11 +154,13 @@ fn conclude<J: Stream, C: Console, R: Threads>(
 }
 
 // Waits for the engine. The disk comes back, unless it had no thread.
-fn join_engine<D: Disk, R: Threads>(
+fn join_engine<B: Naming, D: Disk, R: Threads>(
     rt: &R,
-    engine: Option<PromisedHandle<(Result<(), StopCause>, D), EnginePromise<D>>>,
-) -> (Result<(), StopCause>, Option<D>)
-    ensures { (store : Store D D.Disk) → IfSome engine (λ handle. handle.promise.store.value ≡ store) → IfSome result.1 (λ d. IsServedDisk store result.0 (D.view d)) }
+    engine: Option<PromisedHandle<(Result<History, StopCause>, D), EnginePromise<B, D>>>,
+) -> (Result<History, StopCause>, Option<D>)
+    ensures disk { (store : Store D D.Disk) → IfSome engine (λ handle. handle.promise.store.value ≡ store) → IfSome result.1 (λ d. IsServedDisk store result.0 (D.view d)) }
+    ensures opening { IfOk result.0 (λ board. board.opening ≡ B.opening) }
+    ensures all { (store : Store D D.Disk) → IfSome engine (λ handle. handle.promise.store.value ≡ store) → IfOk result.0 (λ board. IsSomeAnd result.1 (λ d. HasServedAll store board (D.view d))) }
 {
     match engine {
         Some(engine) => {
@@ -156,9 +176,11 @@ fn start_engine<
     's,
     E,
     J: Stream + Send + Sync,
+    B: Naming + Send + Sync,
     D: Disk + Drop + Send + 's,
     G: Hooks + Sync,
     T: TableFiles + Drop + Send + 's,
+    Q: Wait + Drop + Send + 's,
     R: Threads + Wait + Sync,
 >(
     scope: &Scope<'s, E>,
@@ -166,23 +188,33 @@ fn start_engine<
     alloc: Global,
     config: EngineConfig,
     store: Store<D>,
+    writer: BoardWriter<Q>,
+    readers: Vec<BoardReader>,
     source: WordSource,
     hooks: &'s G,
     tables: T,
-    exchange: &'s Exchange<J>,
-) -> Option<PromisedHandle<(Result<(), StopCause>, D), EnginePromise<D>>>
+    exchange: &'s Exchange<J, B>,
+) -> Option<PromisedHandle<(Result<History, StopCause>, D), EnginePromise<B, D>>>
     requires config { IsSeated config.service }
+    requires board { IsBoardOf B.opening (state_of store) writer readers.items }
     requires up { is_down store ≡ false }
     ensures { IfSome result (λ handle. handle.promise.store.value ≡ store) }
 {
-    let promise = EnginePromise {
+    let promise: EnginePromise<B, D> = EnginePromise {
         store: Snapshot::of(&store),
+        of: PhantomData,
     };
-    let job = move || -> (Result<(), StopCause>, D)
+    let job = move || -> (Result<History, StopCause>, D)
         requires config { IsSeated config.service }
+        requires board { IsBoardOf B.opening (state_of store) writer readers.items }
         requires up { is_down store ≡ false }
         ensures served { IsServedDisk store result.0 (D.view result.1) }
-    { engine(rt, alloc, config, store, source, hooks, tables, exchange) };
+        ensures all { IfOk result.0 (λ board. (board.opening ≡ B.opening) × HasServedAll store board (D.view result.1)) }
+    {
+        engine(
+            rt, alloc, config, store, writer, readers, source, hooks, tables, exchange,
+        )
+    };
     match Stack::new()
         .stack_size(STACK_LEN)
         .spawn_scoped_with(scope, promise, job)
@@ -197,25 +229,30 @@ fn start_engine<
 pub(crate) fn threads<
     'a,
     J: Stream + Send + Sync,
+    B: Naming + Send + Sync,
     D: Disk + Drop + Send,
     G: Hooks + Sync,
     T: TableFiles + Drop + Send,
+    Q: Wait + Drop + Send,
     R: Threads + Wait + Sync,
     L: LineSource<J> + Send + Drop,
-    C: Console + Drop,
+    C: Console<B> + Drop,
 >(
     rt: &'a R,
     alloc: Global,
     config: EngineConfig,
     store: Store<D>,
+    writer: BoardWriter<Q>,
+    readers: Vec<BoardReader>,
     source: WordSource,
     hooks: &'a G,
     tables: T,
-    exchange: &'a Exchange<J>,
+    exchange: &'a Exchange<J, B>,
     lines: L,
     console: C,
 ) -> (C, Served, Option<D>)
     requires config { IsSeated config.service }
+    requires board { IsBoardOf B.opening (state_of store) writer readers.items }
     requires up { is_down store ≡ false }
     requires given { L.has_given lines 0 }
     ensures { IsRun C.prints C.finishes J.input store console result.0 result.1 result.2 }
@@ -225,12 +262,13 @@ pub(crate) fn threads<
         rt,
         |scope| -> (C, Served, Option<D>)
             requires config { IsSeated config.service }
+            requires board { IsBoardOf B.opening (state_of store) writer readers.items }
             requires up { is_down store ≡ false }
             requires given { L.has_given lines 0 }
             ensures { IsRun C.prints C.finishes J.input store console result.0 result.1 result.2 }
         {
             let engine_thread = start_engine(
-                scope, rt, alloc, config, store, source, hooks, tables, exchange,
+                scope, rt, alloc, config, store, writer, readers, source, hooks, tables, exchange,
             );
             if engine_thread.is_none() {
                 exchange.shut(rt);
@@ -250,7 +288,7 @@ pub(crate) fn threads<
             };
             let (console, printed) = console.print();
             let (ended, disk) = join_engine(rt, engine_thread);
-            let (console, served) = conclude(rt, console, printed, &ended, reader);
+            let (console, served) = conclude::<J, B, C, R>(rt, console, printed, &ended, reader);
             (console, served, disk)
         },
     )
@@ -274,4 +312,20 @@ pub(crate) fn seated(config: ServiceConfig) -> ServiceConfig
         forwarders,
         places: config.places,
     }
+}
+
+/// A board for a store, to which nothing was posted, with readers for all editors and forwarders and one for tables.
+pub(crate) fn board_of<'a, D: Disk, R: Wait>(
+    rt: &'a R,
+    alloc: Global,
+    config: &EngineConfig,
+    store: &Store<D>,
+) -> Result<(BoardWriter<&'a R>, Vec<BoardReader>), AllocError>
+    requires { IsSeated config.now.service }
+    ensures { IfOk result (λ r. IsBoardOf r.0.opening (state_of store.now) r.0 r.1.items) }
+{
+    let config = &config.service;
+    let readers = config.editors as usize + config.forwarders as usize + 1;
+    let (starts, count) = (store.starts(), store.count());
+    board::<&R>(alloc, rt, readers, &starts, count)
 }

@@ -1,17 +1,18 @@
 // The thread that puts tables.
 ghost use Rattle.std.specs.Prelude.{◌≡◌, ◌<◌, ◌∷◌, ◌++◌, [], ℕ, IfSome, MatchOption, None, Some, map};
 ghost use Rattle.node_table.specs.declared.parts.Parts.{Parts};
-ghost use Rattle.generations.specs.Beginnings.{GoesOn, board_after};
+ghost use Rattle.generations.specs.Beginnings.{Beginning, GoesOn, board_after};
 ghost use Rattle.generations.specs.Boards.{scheme_of};
 ghost use Rattle.generations.specs.Shelves.{plain};
 ghost use Rattle.live_lines.specs.Answers.{Fits};
+ghost use Rattle.live_service.specs.OneList.{IsSaidBy};
 ghost use Rattle.live_service.specs.Tables.{HasGeneration, HasNode, IsLookedBy, IsLookedOn, IsNewestOn, IsPutStep, IsTabled, IsTablesAnswer};
 
 use crate::exchange::Exchange;
 use crate::messages::{Answered, Ask, Stream};
 use command_output::Fault;
 use forwarders::latest_on;
-use generations::{Board, BoardReader, Shelved};
+use generations::{Board, BoardReader, History, Shelved};
 use live_lines::{Answer, Asked};
 use node_table::Scheme;
 use service_workers::{Coordinator, Naming, StopCause};
@@ -38,6 +39,13 @@ impl<B: Naming> TablesReader<B> {
             reader,
             of: PhantomData,
         }
+    }
+
+    // The postings that it saw or was told of.
+    fn known(&self) -> History
+        ensures { result.opening ≡ B.opening }
+    {
+        self.reader.known()
     }
 }
 
@@ -310,7 +318,8 @@ fn answer_of<T: TableFiles, B: Naming, R: Wait>(
     reader: TablesReader<B>,
     asked: Asked,
 ) -> Option<(TablesReader<B>, Answer)>
-    ensures { IfSome result (λ r. Fits asked r.1) }
+    ensures fits { IfSome result (λ r. Fits asked r.1) }
+    ensures said { IfSome result (λ r. (known : Beginning) → IsSaidBy known asked r.1) }
 {
     match asked {
         Asked::Tables { folder } => {
@@ -325,7 +334,6 @@ fn answer_of<T: TableFiles, B: Naming, R: Wait>(
 }
 
 // A line, answered. Without an answer all stop.
-#[tactic(auto, using(crate::proofs::Answering::answers))]
 fn answered<J: Stream, T: TableFiles, B: Naming, R: Wait>(
     rt: &R,
     alloc: Global,
@@ -333,10 +341,17 @@ fn answered<J: Stream, T: TableFiles, B: Naming, R: Wait>(
     tables: &mut T,
     reader: TablesReader<B>,
     ask: Ask<J>,
-) -> Option<(TablesReader<B>, Answered<J>)> {
+) -> Option<(TablesReader<B>, Answered<J, B>)> {
     let Ask { place, asked, of } = ask;
     let (reader, answer) = answer_of(rt, alloc, coordinator, tables, reader, asked)?;
-    Some((reader, Answered { place, answer, of }))
+    let answered = Answered {
+        place,
+        answer,
+        known: reader.known(),
+        of,
+        at: PhantomData,
+    };
+    Some((reader, answered))
 }
 
 /// Answers the lines that are of tables, one after the other, until no more comes or all stop.
@@ -344,7 +359,7 @@ pub fn table_lines<J: Stream, T: TableFiles + Drop, B: Naming, R: Wait>(
     rt: &R,
     alloc: Global,
     coordinator: &Coordinator<B>,
-    exchange: &Exchange<J>,
+    exchange: &Exchange<J, B>,
     tables: T,
     reader: TablesReader<B>,
 ) {

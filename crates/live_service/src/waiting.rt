@@ -1,11 +1,15 @@
 // The thread that answers how a service stands.
-ghost use Rattle.std.specs.Prelude.{IfSome};
+ghost use Rattle.std.specs.Prelude.{◌≡◌, IfSome};
+ghost use Rattle.generations.specs.Beginnings.{Beginning};
 ghost use Rattle.live_lines.specs.Answers.{Fits};
+ghost use Rattle.live_service.specs.OneList.{IsSaidBy};
 
 use crate::exchange::Exchange;
 use crate::messages::{Answered, Ask, Stream};
+use generations::History;
 use live_lines::{Answer, Asked};
 use service_workers::{Coordinator, Naming, StopCause};
+use std::marker::PhantomData;
 use std::sync::Wait;
 
 // The newest generation, once all changes are in it that are accepted now. None where all stop.
@@ -30,7 +34,8 @@ fn answer_of<B: Naming, R: Wait>(
     coordinator: &Coordinator<B>,
     asked: Asked,
 ) -> Option<Answer>
-    ensures { IfSome result (λ answer. Fits asked answer) }
+    ensures fits { IfSome result (λ answer. Fits asked answer) }
+    ensures said { IfSome result (λ answer. (known : Beginning) → IsSaidBy known asked answer) }
 {
     match asked {
         Asked::State => {
@@ -53,15 +58,23 @@ fn answer_of<B: Naming, R: Wait>(
 }
 
 // A line, answered. Without an answer all stop.
-#[tactic(auto, using(crate::proofs::Answering::answers))]
 fn answered<J: Stream, B: Naming, R: Wait>(
     rt: &R,
     coordinator: &Coordinator<B>,
     ask: Ask<J>,
-) -> Option<Answered<J>> {
+    known: History,
+) -> Option<Answered<J, B>>
+    requires { known.opening ≡ B.opening }
+{
     let Ask { place, asked, of } = ask;
     let answer = answer_of(rt, coordinator, asked)?;
-    Some(Answered { place, answer, of })
+    Some(Answered {
+        place,
+        answer,
+        known,
+        of,
+        at: PhantomData,
+    })
 }
 
 /// Answers the lines that ask how the service stands, each once all lines before it are taken to be printed, until no more comes or
@@ -69,7 +82,7 @@ fn answered<J: Stream, B: Naming, R: Wait>(
 pub fn wait_lines<J: Stream, B: Naming, R: Wait>(
     rt: &R,
     coordinator: &Coordinator<B>,
-    exchange: &Exchange<J>,
+    exchange: &Exchange<J, B>,
 ) {
     for _ in rt.forever() {
         let Some(ask) = exchange.waiter.take(rt) else {
@@ -78,7 +91,8 @@ pub fn wait_lines<J: Stream, B: Naming, R: Wait>(
         if !exchange.answers.await_turn(rt, ask.place) {
             return;
         }
-        let Some(answered) = answered(rt, coordinator, ask) else {
+        let known = exchange.known.again();
+        let Some(answered) = answered(rt, coordinator, ask, known) else {
             return;
         };
         let _put = exchange.answers.put(rt, answered);

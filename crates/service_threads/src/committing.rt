@@ -199,6 +199,7 @@ pub fn commit_all<J: Naming, D: Disk, R: Wait + Drop, S: Threads + Wait + Sync>(
     ensures posted { PostsAlong committer.old committer.new }
     // Where nothing stopped the committer, that is the whole list, and the device stands for the state after it.
     ensures all { OnOk result (IsOnCourse committer.old committer.new) }
+    ensures opening { OnOk result ((posts_of committer.new).opening ≡ J.opening) }
 {
     for _ in rt.forever() {
         // What there is to do is read before the round, so that nothing is missed that comes behind it.

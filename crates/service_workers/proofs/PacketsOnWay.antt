@@ -46,7 +46,7 @@ ok_by_name : {A : Type 0} (r : Result A scheme.Refused) (a : A) → by_name r �
 ok_by_name (Ok b) a is = cc
 ok_by_name (Err e) a is = absurd (cc)
 
-ok_by : {A : Type 0} (answer : Tables → Result A scheme.Refused) (found : Option Parts) (a : A) → by answer found ≡ Ok a → (q : Parts) × (found ≡ Some q) × (answer (tables q) ≡ Ok a)
+pub ok_by : {A : Type 0} (answer : Tables → Result A scheme.Refused) (found : Option Parts) (a : A) → by answer found ≡ Ok a → (q : Parts) × (found ≡ Some q) × (answer (tables q) ≡ Ok a)
 ok_by answer None a is = absurd (cc)
 ok_by answer (Some q) a is = (q, refl, ok_by_name (answer (tables q)) a is)
 
@@ -64,7 +64,7 @@ unreachable_by_name (Err by_scheme.Unreachable) is = refl
 unreachable_by_name (Err by_scheme.Stray) is = absurd (cc)
 unreachable_by_name (Err by_scheme.Spent) is = absurd (cc)
 
-no_node_by : {A : Type 0} (answer : Tables → Result A scheme.Refused) (found : Option Parts) → by answer found ≡ Err NoNode → (q : Parts) × (found ≡ Some q) × (answer (tables q) ≡ Err by_scheme.NoNode)
+pub no_node_by : {A : Type 0} (answer : Tables → Result A scheme.Refused) (found : Option Parts) → by answer found ≡ Err NoNode → (q : Parts) × (found ≡ Some q) × (answer (tables q) ≡ Err by_scheme.NoNode)
 no_node_by answer None is = absurd (cc)
 no_node_by answer (Some q) is = (q, refl, no_node_by_name (answer (tables q)) is)
 
@@ -75,11 +75,11 @@ unreachable_by answer (Some q) is = (q, refl, unreachable_by_name (answer (table
 -- ---- addresses
 
 -- an address that is given is the tables' own
-record IsGiven (t : Tables) (v : ℕ) (a : Address) : Type 0 where
-  own : a ≡ address t v
-  inside : v < t.nodes
+pub record IsGiven (t : Tables) (v : ℕ) (a : Address) : Type 0 where
+  pub own : a ≡ address t v
+  pub inside : v < t.nodes
 
-address_is : (t : Tables) (v : ℕ) (a : Address) → address_given t v ≡ Ok a → IsGiven t v a
+pub address_is : (t : Tables) (v : ℕ) (a : Address) → address_given t v ≡ Ok a → IsGiven t v a
 address_is t v a is = by_test (nat_lt v t.nodes) refl is
   where
     by_test : (b : Bool) → nat_lt v t.nodes ≡ b → cond b (Ok (address t v)) (Err by_scheme.NoNode) ≡ Ok a → IsGiven t v a
@@ -87,7 +87,7 @@ address_is t v a is = by_test (nat_lt v t.nodes) refl is
     by_test false less given = absurd (cc)
 
 -- where none is given, it isn't a node
-address_none : (t : Tables) (v : ℕ) → address_given t v ≡ Err by_scheme.NoNode → v < t.nodes → ⊥
+pub address_none : (t : Tables) (v : ℕ) → address_given t v ≡ Err by_scheme.NoNode → v < t.nodes → ⊥
 address_none t v is inside = by_test (nat_lt v t.nodes) refl is
   where
     by_test : (b : Bool) → nat_lt v t.nodes ≡ b → cond b (Ok (address t v)) (Err by_scheme.NoNode) ≡ Err by_scheme.NoNode → ⊥

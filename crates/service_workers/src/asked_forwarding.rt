@@ -9,6 +9,7 @@ use crate::forwarding::{Carried, ForwarderOf, Trip, forward};
 use crate::hooks::Hooks;
 use crate::told::Naming;
 use forwarders::{Forwarder, Refused};
+use generations::History;
 use node_table::{Address, Move, Packet};
 use std::alloc::Global;
 use std::sync::Wait;
@@ -103,6 +104,14 @@ fn hop_now<J: Naming, R: Wait>(
 }
 
 impl<J: Naming> ForwarderOf<J> {
+    /// The postings that it saw or was told of.
+    pub fn known(&self) -> History
+        ensures same { result ≡ self.now.forwarder }
+        ensures named { result.opening ≡ J.opening }
+    {
+        self.forwarder.known()
+    }
+
     /// Carries a packet from a node to a node in the newest generation. None where all stop.
     pub fn route<G: Hooks, R: Wait>(
         &mut self,

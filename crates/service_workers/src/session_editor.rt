@@ -1,5 +1,6 @@
 // An editor that takes its changes one at a time, as they are asked for.
 ghost use Rattle.std.specs.Prelude.{◌≡◌, [], IfSome};
+ghost use Rattle.requests.specs.Tickets.{last_of};
 ghost use Rattle.intake.specs.Turns.{last_or_start};
 ghost use Rattle.service_workers.specs.Edited.{IsSameEditor};
 ghost use Rattle.service_workers.specs.EditedAsAsked.{HasPut, IsEditEnd, asked_ticket};
@@ -7,7 +8,7 @@ ghost use Rattle.service_workers.specs.EditedAsAsked.{HasPut, IsEditEnd, asked_t
 use crate::coordinator::Coordinator;
 use crate::editing::settled;
 use crate::told::Naming;
-use generations::{Mark, Verdict};
+use generations::{History, Mark, Verdict};
 use graph_edits::Change;
 use intake::{Editor, SubmitRefused};
 use std::marker::PhantomData;
@@ -44,6 +45,7 @@ pub struct SessionEditor<J: Naming> {
     of: PhantomData<J>,
     ghost named: { editor.known.opening ≡ J.opening },
     ghost last_is: { last ≡ last_or_start editor.start editor.put },
+    ghost start_is: { editor.start ≡ last_of J.opening.starts editor.session },
 }
 
 // Puts a change into the queue, under this ticket, unless that is refused. Without an answer all stop.
@@ -112,6 +114,7 @@ impl<J: Naming> SessionEditor<J> {
     pub fn new(editor: Editor) -> SessionEditor<J>
         requires named { editor.known.opening ≡ J.opening }
         requires fresh { editor.put ≡ [] }
+        requires start { editor.start ≡ last_of J.opening.starts editor.session }
         ensures { result.editor ≡ editor }
     {
         let start = editor.resume();
@@ -126,6 +129,14 @@ impl<J: Naming> SessionEditor<J> {
     /// The last ticket of the session that was accepted, or where its tickets start.
     pub fn accepted(&self) -> u64 {
         self.accepted
+    }
+
+    /// The postings that it saw or was told of.
+    pub fn known(&self) -> History
+        ensures same { result ≡ self.now.editor.known }
+        ensures named { result.opening ≡ J.opening }
+    {
+        self.editor.known()
     }
 
     /// Its session.

@@ -1,6 +1,7 @@
 use Rattle.std.specs.Prelude.{◌≡◌, []}
 use Rattle.std.proofs.lemmas.List.Elements.{All-rest}
 use Rattle.std.specs.Vec.Iter.{into_iter_items}
+use Rattle.requests.specs.Tickets.{last_of}
 use Rattle.intake.specs.Editors.{Editing}
 use Rattle.live_service.proofs.engine.named.Goals as goal
 
@@ -8,5 +9,9 @@ pub loop-editor-preserved : goal.loop-editor-preserved
 loop-editor-preserved g c = (
   All-rest (λ (e : Editing). e.known.opening ≡ g.B.Naming.opening) c.in-Some.editor (into_iter_items c.next.new.self) (into_iter_items c.loop-editor.editor-iterator)
       c.in-Some.ensures.steps.0 c.loop-editor.invariant.0,
-  All-rest (λ (e : Editing). e.put ≡ []) c.in-Some.editor (into_iter_items c.next.new.self) (into_iter_items c.loop-editor.editor-iterator) c.in-Some.ensures.steps.0 c.loop-editor.invariant.1,
+  (
+    All-rest (λ (e : Editing). e.put ≡ []) c.in-Some.editor (into_iter_items c.next.new.self) (into_iter_items c.loop-editor.editor-iterator) c.in-Some.ensures.steps.0 c.loop-editor.invariant.1.0,
+    All-rest (λ (e : Editing). e.start ≡ last_of g.B.Naming.opening.starts e.session) c.in-Some.editor (into_iter_items c.next.new.self) (into_iter_items c.loop-editor.editor-iterator) c.in-Some.ensures.steps.0
+        c.loop-editor.invariant.1.1,
+  ),
 )

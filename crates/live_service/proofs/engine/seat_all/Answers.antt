@@ -1,4 +1,4 @@
-use Rattle.live_service.proofs.Seats.{fresh_seats, seated}
+use Rattle.live_service.proofs.Seats.{fresh_seats, seated, started}
 use Rattle.live_service.proofs.engine.seat_all.Goals as goal
 
 pub named-requires-clause-named : goal.named-requires-clause-named
@@ -7,3 +7,7 @@ named-requires-clause-named g c =
 
 pub named-requires-clause-fresh : goal.named-requires-clause-fresh
 named-requires-clause-fresh g c = fresh_seats c.in_ok-taker.taker.queue c.args.starts.now c.forwarders.new.readers.items c.in_ok-taker.editors.items c.in_ok-taker.ensures.editors
+
+pub named-requires-clause-start : goal.named-requires-clause-start
+named-requires-clause-start g c =
+    started g.B.Naming.opening.starts c.in_ok-taker.taker.queue c.args.starts.now c.forwarders.new.readers.items c.in_ok-taker.editors.items c.requires.begins c.in_ok-taker.ensures.editors

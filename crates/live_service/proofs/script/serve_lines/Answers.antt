@@ -1,4 +1,5 @@
-use Rattle.std.proofs.Common.{◌≡◌, ◌≢◌, sym, subst, IsTrue, Some}
+use Rattle.std.proofs.Common.{◌≡◌, ◌≢◌, ℕ, sym, subst, IsTrue, Some}
+use Rattle.std.specs.Prelude.{IsSomeAnd}
 use Rattle.checkpoint.specs.StoreWords.{state_of, view_of}
 use Rattle.command_output.specs.declared.fault.Fault.{Fault}
 use Rattle.command_output.specs.declared.fault.Fault.TheVariants.{Output}
@@ -6,7 +7,10 @@ use Rattle.service_threads.proofs.Settling.{read_leaves, served_leaves, served_s
 use Rattle.service_lines.specs.ServedLines.{IsServeEnd}
 use Rattle.service_lines.proofs.Telling.{told_end}
 use Rattle.live_service.specs.Ends.{fault_of}
-use Rattle.live_service.proofs.Ended.{engine_ends, err_of}
+use Rattle.live_service.specs.Inputs.{Script}
+use Rattle.live_service.specs.ServedList.{HasAnsweredScript}
+use Rattle.live_service.proofs.Ended.{engine_ends, err_of, ok_of}
+use Rattle.live_service.proofs.OneListed.{script_answered}
 use Rattle.live_service.proofs.script.serve_lines.Goals as goal
 
 pub returns-in-Err-clause-ended : goal.returns-in-Err-clause-ended
@@ -44,3 +48,13 @@ returns-clause-left g c =
           let still : IsTrue (view_of store).keeps_model = subst IsTrue (sym c.in-Ok.ensures.ran.model) model in
           served_leaves state c.args.disk store ended.0 c.serve_script-served.result.1 same (c.in-Ok.ensures.reads model) keeps still ended.1.disk;
     }
+
+pub returns-clause-one_list : goal.returns-clause-one_list
+returns-clause-one_list g c =
+    let store = c.in-Ok.opened.0 in
+    let back = c.serve_script-served.result.1 in
+    let new = g.O.Write.contents c.serve_script-served.new.out in
+    ok_of c.result_of.result (c.serve_script-served.result.0) _ c.result_of.ensures.printed
+    (λ is. subst (λ (n : ℕ). IsSomeAnd back (λ d. HasAnsweredScript g.D.Disk c.args.disk d (Script c.args.script.items) n (g.O.Write.contents c.args.out.now) new)) c.seated.ensures.editors
+    (script_answered c.args.disk store (Script c.args.script.items) c.seated.result.editors (g.O.Write.contents c.args.out.now) new back
+    (record { held = c.in-Ok.ensures.stands; reads = c.in-Ok.ensures.reads; ran = c.in-Ok.ensures.ran }) (c.serve_script-served.ensures.one_list is)))

@@ -1,5 +1,5 @@
-use Rattle.std.proofs.Common.{◌≡◌, ◌∙◌, ap, sym, subst, IsTrue, Some}
-use Rattle.std.specs.Prelude.{IfSome}
+use Rattle.std.proofs.Common.{◌≡◌, ◌∙◌, ℕ, ap, sym, subst, IsTrue, Some}
+use Rattle.std.specs.Prelude.{IfSome, IsSomeAnd}
 use Rattle.checkpoint.specs.StoreWords.{state_of, view_of}
 use Rattle.service_threads.proofs.Settling.{read_leaves, served_leaves, served_same}
 use Rattle.service_lines.specs.ServedLines.{IsServeEnd}
@@ -7,6 +7,8 @@ use Rattle.service_lines.proofs.Telling.{told_end}
 use Rattle.live_service.specs.Ends.{fault_of}
 use Rattle.live_service.specs.Inputs.{Bytes}
 use Rattle.live_service.proofs.Ended.{engine_ends, not_printed}
+use Rattle.live_service.specs.ServedList.{HasAnswered}
+use Rattle.live_service.proofs.OneListed.{answered}
 use Rattle.live_service.proofs.PrintedLines.{none_printed}
 use Rattle.live_service.proofs.serve.serve_live.Goals as goal
 
@@ -43,3 +45,14 @@ returns-clause-left g c =
           let still : IsTrue (view_of store).keeps_model = subst IsTrue (sym c.in-Ok.ensures.ran.model) model in
           served_leaves state c.args.disk store ended.0 c.serve_stream.result.1 same (c.in-Ok.ensures.reads model) keeps still ended.1.disk;
     }
+
+pub returns-in-Err-clause-one_list : goal.returns-in-Err-clause-one_list
+returns-in-Err-clause-one_list g c is = absurd (not_printed c.told.result _ c.told.ensures.fault is)
+
+pub returns-clause-one_list : goal.returns-clause-one_list
+returns-clause-one_list g c is =
+    let store = c.in-Ok.opened.0 in
+    let back = c.serve_stream.result.1 in
+    subst (λ (n : ℕ). IsSomeAnd back (λ d. HasAnswered g.D.Disk c.args.disk d (Bytes (g.S.Read.remaining c.args.input)) n (g.O.Write.contents c.args.out.now) (g.O.Write.contents c.serve_stream.new.out))) c.seated.ensures.editors
+    (answered c.args.disk store (Bytes (g.S.Read.remaining c.args.input)) c.seated.result.editors (g.O.Write.contents c.args.out.now) (g.O.Write.contents c.serve_stream.new.out) back
+    (record { held = c.in-Ok.ensures.stands; reads = c.in-Ok.ensures.reads; ran = c.in-Ok.ensures.ran }) (c.serve_stream.ensures.one_list is))

@@ -8,3 +8,6 @@ returns-in-Err-clause-printed g c = record { answers = λ unfailed. (0, none_pri
 
 pub returns-in-Err-clause-ended : goal.returns-in-Err-clause-ended
 returns-in-Err-clause-ended g c = memory_ended c.args.store c.told.result c.into_disk.result c.requires.up (search rules) c.told.ensures.fault
+
+pub returns-in-Err-clause-one_list : goal.returns-in-Err-clause-one_list
+returns-in-Err-clause-one_list g c is = absurd (not_printed c.told.result _ c.told.ensures.fault is)

@@ -1,12 +1,20 @@
+use Rattle.live_service.proofs.OneListed.{same_board, served_on}
 use Rattle.live_service.proofs.running.fn.threads.scope.Goals as goal
 
 pub returns : goal.returns
-returns g c = record {
-  mid = c.print-console.result.0;
-  printed = c.print-console.result.1;
-  engine = c.join_engine-ended.result.0;
-  printing = c.print-console.ensures;
-  finishing = c.conclude-console.ensures.finishes;
-  engine_end = record { disk = c.join_engine-ended.ensures c.captures.store c.start_engine-engine_thread.ensures; fault = c.conclude-console.ensures.fault };
-  print_end = c.conclude-console.ensures.printed;
-}
+returns g c =
+    let started = c.start_engine-engine_thread.ensures in
+    let printed = c.print-console.result.1 in
+    record {
+      mid = c.print-console.result.0;
+      printed = printed;
+      engine = c.join_engine-ended.result.0;
+      printing = c.print-console.ensures.prints;
+      finishing = c.conclude-console.ensures.finishes;
+      engine_end = record { disk = c.join_engine-ended.ensures.disk c.captures.store started; fault = c.conclude-console.ensures.fault };
+      print_end = c.conclude-console.ensures.printed;
+      one_list = λ is. served_on c.captures.store c.join_engine-ended.result.0 printed.known c.join_engine-ended.result.1 (c.conclude-console.ensures.on is) (c.join_engine-ended.ensures.all c.captures.store started);
+    }
+
+pub conclude-console-requires : goal.conclude-console-requires
+conclude-console-requires g c = same_board c.join_engine-ended.result.0 c.print-console.result.1.known.opening g.B.Naming.opening c.print-console.ensures.opening c.join_engine-ended.ensures.opening

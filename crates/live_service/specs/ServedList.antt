@@ -1,0 +1,108 @@
+-- The one list of requests that a service took, and what it posted of it and left of its disk.
+use Rattle.std.specs.Prelude.{◌≡◌, ℕ, IsSomeAnd, IsTrue, List, Option, [], All, ◌<◌, length, map, Some}
+use Rattle.std.specs.Io.KnownBytes.{Appends}
+use Rattle.disk_trait.specs.declared.disk.Disk.{Ghosts}
+use Rattle.disk_trait.specs.Disk.{DiskView, LeavesOnly}
+use Rattle.requests.specs.declared.request.Request.{Request}
+use Rattle.layout_2.specs.State.{State}
+use Rattle.layout_2.specs.Standing.{KeepsThrough, StandsFor}
+use Rattle.checkpoint.specs.declared.store.Store.{Store}
+use Rattle.checkpoint.specs.StoreWords.{state_of, view_of}
+use Rattle.group_commit.specs.Settling.{settle}
+use Rattle.generations.specs.Beginnings.{Beginning, GoesOn, Opening}
+use Rattle.generations.specs.Knowledges.{Knowledge}
+use Rattle.generations.specs.Posts.{Posts}
+use Rattle.settled_lists.specs.Posted.{ArePosted}
+use Rattle.service_threads.specs.Kept.{HasSettled, StandsForBeginning}
+use Rattle.service_workers.specs.declared.answer.Answer.{Answer as ScriptAnswer}
+use Rattle.service_lines.specs.ServedLines.{answers_text as script_text}
+use Rattle.live_lines.specs.declared.answer.Answer.{Answer}
+use Rattle.live_service.specs.Inputs.{Input}
+use Rattle.live_service.specs.Scripts.{answer_of_line}
+use Rattle.live_service.specs.OneList.{AreAnswersIn}
+use Rattle.live_service.specs.Prints.{AreAllLines, HasPrintedBy, answers_text}
+use Rattle.live_service.specs.Gathers.{HasText}
+
+-- ---- a board at its beginning
+
+-- A board of this name to which nothing was posted, with tickets and a count as a state has them; there are readers of it.
+pub record IsBoardOf (opening : Opening) (state : State) (writer : Posts) (readers : List Knowledge) : Type 0 where
+  pub named : writer.opening ≡ opening
+  pub starts : writer.opening.starts ≡ state.tickets
+  pub count : writer.opening.count ≡ state.count
+  pub posted : writer.posted ≡ []
+  pub kept : writer.kept ≡ []
+  pub some : 0 < length readers
+  pub seats : All (λ r. r.all.opening ≡ opening) readers
+
+-- ---- an engine that nothing stopped
+
+-- From the state of a store on requests were taken and all settled: what is on the board has the marks of the first of them, and each
+-- generation there serves the state that its number names. A crash at any moment left the state after a beginning of them, and one now
+-- leaves the state after all.
+pub record HasServedAll {D : Type 0} {V : _} (store : Store D V) (board : Beginning) (new : DiskView) : Type 0 where
+  pub taken : List Request
+  pub begins : (board.opening.starts ≡ (state_of store).tickets) × (board.opening.count ≡ (state_of store).count)
+  pub posted : ArePosted (state_of store) taken board.log
+  pub settled : HasSettled (state_of store) taken (view_of store) new
+  pub stands : IsTrue new.keeps_model → KeepsThrough new (settle (state_of store) taken).state
+
+-- The board has all that was known, and the disk came back behind it.
+pub record HasServedOn {D : Type 0} {V : _} (store : Store D V) (known : Beginning) (back : Option D) : Type 0 where
+  pub board : Beginning
+  pub on : GoesOn known board
+  pub all : IsSomeAnd back (λ d. HasServedAll store board (V.view d))
+
+-- An input was answered over a store: so much was printed by what was known, and the board has it.
+pub record HasPrintedOn {D : Type 0} {V : _} (store : Store D V) (input : Input) (editors : ℕ) (old new : Option (List ℕ)) (back : Option D) : Type 0 where
+  pub known : Beginning
+  pub count : ℕ
+  pub printed : HasPrintedBy known input editors old new count
+  pub whole : AreAllLines input count
+  pub on : HasServedOn store known back
+
+-- a script was answered over a store
+pub record HasGatheredOn {D : Type 0} {V : _} (store : Store D V) (input : Input) (editors : ℕ) (old new : Option (List ℕ)) (back : Option D) : Type 0 where
+  pub known : Beginning
+  pub count : ℕ
+  pub text : List ℕ
+  pub gathered : HasText known input editors count text
+  pub printed : Appends old new text
+  pub whole : AreAllLines input count
+  pub on : HasServedOn store known back
+
+-- ---- a service that no fault ended
+
+-- These answers are of one list of requests, which the service took from the state of its device on:
+pub record AreOfOneList {D : Type 0} (model : Ghosts D) (disk back : D) (input : Input) (editors : ℕ) (answers : List Answer) : Type 0 where
+  -- the state that the device held
+  pub first : State
+  pub held : IsTrue (model.view disk).keeps_model → StandsFor first (model.view disk).content
+  -- the requests, and the postings of the board
+  pub taken : List Request
+  pub board : Beginning
+  pub begins : (board.opening.starts ≡ first.tickets) × (board.opening.count ≡ first.count)
+  -- the marks on the board are those of settling the first of the requests, and each generation there serves the state that its number names
+  pub posted : ArePosted first taken board.log
+  -- each answer is to the line at its place, and the board says it
+  pub said : AreAnswersIn board input editors answers
+  -- a crash at any moment left the state after a beginning of the requests
+  pub any_moment : IsTrue (model.view disk).keeps_model → KeepsThrough (model.view disk) first → LeavesOnly (model.view disk) (model.view back) (StandsForBeginning first taken)
+  -- and one now leaves the state after all of them
+  pub left : IsTrue (model.view disk).keeps_model → KeepsThrough (model.view back) (settle first taken).state
+
+-- An input was answered: a line was printed for each of its lines, of answers of one list.
+pub record HasAnswered {D : Type 0} (model : Ghosts D) (disk back : D) (input : Input) (editors : ℕ) (old new : Option (List ℕ)) : Type 0 where
+  pub answers : List Answer
+  pub all : AreAllLines input (length answers)
+  pub printed : Appends old new (answers_text answers)
+  pub one_list : AreOfOneList model disk back input editors answers
+
+-- A script was answered: the same of its lines, which tell no session and no ticket.
+pub record HasAnsweredScript {D : Type 0} (model : Ghosts D) (disk back : D) (input : Input) (editors : ℕ) (old new : Option (List ℕ)) : Type 0 where
+  pub answers : List Answer
+  pub lines : List ScriptAnswer
+  pub all : AreAllLines input (length answers)
+  pub shown : map answer_of_line answers ≡ map (λ a. Some a) lines
+  pub printed : Appends old new (script_text lines)
+  pub one_list : AreOfOneList model disk back input editors answers
