@@ -1,5 +1,5 @@
 -- How a live service ends.
-use Rattle.std.proofs.Common.{◌≡◌, refl, sym, subst, List, ℕ, Option, Some, None, Result, Ok, Err, IfErr, IfOk, OnOk, IsErrOf, false, arith}
+use Rattle.std.proofs.Common.{◌≡◌, ⊎_elim, refl, sym, subst, List, ℕ, Option, Some, None, Result, Ok, Err, IfErr, IfOk, OnOk, IsErrOf, false, arith}
 use Rattle.std.specs.Prelude.{IfSome}
 use Rattle.disk_trait.specs.declared.disk.Disk.{Ghosts}
 use Rattle.disk_trait.specs.Disk.{DiskView, IsSameDevice}
@@ -11,17 +11,20 @@ use Rattle.command_output.specs.declared.fault.Fault.TheVariants as told
 use Rattle.service_threads.specs.Faults.{stop_fault}
 use Rattle.service_threads.specs.Kept.{HasFailed, HasSettledSome, IsServedDisk}
 use Rattle.service_threads.proofs.Settling.{some_settled}
-use Rattle.service_lines.specs.ServedLines.{IsServeEnd, told_fault}
+use Rattle.device_commands.specs.Openings.{TellsOf}
+use Rattle.service_lines.specs.ServedLines.{IsOpeningFault, IsServeEnd, IsServeFault, told_fault}
 use Rattle.service_lines.specs.declared.served.Served.{Served}
 use Rattle.service_lines.specs.declared.served.Served.TheVariants as served
 use Rattle.service_workers.specs.declared.stop_cause.StopCause.{StopCause}
 use Rattle.service_workers.specs.declared.stop_cause.StopCause.TheVariants as cause
 use Rattle.generations.specs.Beginnings.{Beginning}
 use Rattle.live_service.specs.Inputs.{Input}
-use Rattle.live_service.specs.Ends.{IsLater, fault_of}
-use Rattle.live_service.specs.Runs.{HasEnded, IsFaultOf, IsPrintEnd, PrintsSo, PrintsTo}
+use Rattle.live_service.specs.Ends.{IsFinish, IsLater, fault_of}
+use Rattle.live_service.specs.Prints.{HasPrinted}
+use Rattle.live_service.specs.Runs.{HasEnded, HasRun, IsFaultOf, IsPrintEnd, IsRun, PrintsSo, PrintsTo}
 use Rattle.live_service.specs.ServedList.{HasPrintedOn, HasServedOn}
 use Rattle.live_service.specs.declared.printed.Printed.{Printed}
+use Rattle.live_service.proofs.PrintedLines.{none_printed}
 use Rattle.live_service.proofs.SaidLines.{printed_of}
 
 -- the fault that is told of threads that stopped
@@ -42,64 +45,47 @@ cause_device cause.Board is = absurd (cc)
 cause_device cause.NoThread is = absurd (cc)
 cause_device cause.Internal is = absurd (cc)
 
+-- what holds of each fault of a service whose device was opened
+later_each : (P : Fault → Type 0) (f : Fault) → IsLater f → P told.Device → P told.Worn → P told.Memory → P told.NoThread → P told.Internal → P told.Output → P f
+later_each P told.Device is device worn memory thread internal output = device
+later_each P told.Worn is device worn memory thread internal output = worn
+later_each P told.Memory is device worn memory thread internal output = memory
+later_each P told.NoThread is device worn memory thread internal output = thread
+later_each P told.Internal is device worn memory thread internal output = internal
+later_each P told.Output is device worn memory thread internal output = output
+later_each P _ is device worn memory thread internal output = absurd is
+
+-- it is none of an opening
+no_opening : (f : Fault) → IsLater f → IsOpeningFault f → ⊥
+no_opening f is = later_each (λ (e : Fault). IsOpeningFault e → ⊥) f is (λ o. o) (λ o. o) (λ o. o) (λ o. o) (λ o. o) (λ o. o)
+
+no_words : (f : Fault) → IsLater f → f ≡ told.Words → ⊥
+no_words f is = later_each (λ (e : Fault). e ≡ told.Words → ⊥) f is (λ same. cc) (λ same. cc) (λ same. cc) (λ same. cc) (λ same. cc) (λ same. cc)
+
 -- the device of a service that ended so
 pub later_end : {D : Type 0} (model : Ghosts D) (disk : D) (asked : LandmarkWords) (back : Option D) (f : Fault) → IsLater f
     → (f ≡ told.Device → IfSome back (λ d. HasFailed (model.view disk) (model.view d))) → IsServeEnd model disk asked back f
-later_end model disk asked back told.Device is device = record {
-  named = tt;
-  tells = λ keeps. tt;
-  not_within = λ keeps state stands same. absurd (cc);
-  of_one = λ same. absurd (cc);
-  refused = λ keeps opening. absurd opening;
+later_end model disk asked back f is device = record {
+  named = later_each (λ (e : Fault). IsServeFault e) f is tt tt tt tt tt tt;
+  tells = λ keeps. later_each (λ (e : Fault). TellsOf e (model.view disk).content) f is tt tt tt tt tt tt;
+  not_within = λ keeps state stands same. absurd (no_words f is same);
+  of_one = λ same. absurd (no_words f is same);
+  refused = λ keeps opening. absurd (no_opening f is opening);
   device = device;
 }
-later_end model disk asked back told.Worn is device = record {
-  named = tt;
-  tells = λ keeps. tt;
-  not_within = λ keeps state stands same. absurd (cc);
-  of_one = λ same. absurd (cc);
-  refused = λ keeps opening. absurd opening;
-  device = device;
-}
-later_end model disk asked back told.Memory is device = record {
-  named = tt;
-  tells = λ keeps. tt;
-  not_within = λ keeps state stands same. absurd (cc);
-  of_one = λ same. absurd (cc);
-  refused = λ keeps opening. absurd opening;
-  device = device;
-}
-later_end model disk asked back told.NoThread is device = record {
-  named = tt;
-  tells = λ keeps. tt;
-  not_within = λ keeps state stands same. absurd (cc);
-  of_one = λ same. absurd (cc);
-  refused = λ keeps opening. absurd opening;
-  device = device;
-}
-later_end model disk asked back told.Internal is device = record {
-  named = tt;
-  tells = λ keeps. tt;
-  not_within = λ keeps state stands same. absurd (cc);
-  of_one = λ same. absurd (cc);
-  refused = λ keeps opening. absurd opening;
-  device = device;
-}
-later_end model disk asked back told.Output is device = record {
-  named = tt;
-  tells = λ keeps. tt;
-  not_within = λ keeps state stands same. absurd (cc);
-  of_one = λ same. absurd (cc);
-  refused = λ keeps opening. absurd opening;
-  device = device;
-}
-later_end model disk asked back _ is device = absurd is
 
 -- a service that a fault ended isn't one that printed all
 pub not_printed : (ended : Served) (f : Fault) → fault_of ended ≡ Some f → ended ≡ served.Printed → ⊥
 not_printed served.Printed f is same = absurd (cc)
 not_printed (served.Told g) f is same = cc
 not_printed (served.Untold g) f is same = cc
+
+-- a fault that is told is the fault that ended it
+no_some : (f : Fault) → Some f ≡ None → ⊥
+no_some f same = cc
+
+pub finished_so : (f : Fault) (ended : Served) → IsFinish (Some f) ended → fault_of ended ≡ Some f
+finished_so f ended is = ⊎_elim (λ so. so) (λ none. absurd (no_some f none.0)) is
 
 no_cause : (a b : Result Beginning StopCause) → a ≡ Err cause.Memory → a ≡ Err cause.Device → ⊥
 no_cause a b is same = cc
@@ -126,6 +112,25 @@ prints_on store input editors old new printed ended back so end on is = record {
   whole = end.whole is;
   on = on is;
 }
+
+-- .. and of one that a fault ended before anything was printed
+pub none_to : (input : Input) (editors : ℕ) (old new : Option (List ℕ)) (ended : Served) (f : Fault) → new ≡ old → fault_of ended ≡ Some f → PrintsTo input editors old new ended
+none_to input editors old new ended f same fault =
+    record { answers = λ unfailed. (0, subst (λ (o : Option (List ℕ)). HasPrinted input editors old o 0) (sym same) (none_printed input editors old), λ is. absurd (not_printed ended f fault is)) }
+
+-- of both, on a console of whose values this word reads what is printed
+pub run_prints : {C D : Type 0} {V : _} {prints : C → C → Printed → Type 0} {finishes : C → C → Served → Type 0} {input : Input} {store : Store D V} {old new : C} {ended : Served} {back : Option D}
+    → HasRun prints finishes input store old new ended back → (editors : ℕ) (text : C → Option (List ℕ))
+    → ((mid : C) (printed : Printed) → prints old mid printed → finishes mid new ended → PrintsSo input editors (text old) (text new) printed) → (finishes old new ended → text new ≡ text old)
+    → PrintsTo input editors (text old) (text new) ended
+run_prints {input = input} {old = old} {new = new} {ended = ended} run editors text so same =
+    ⊎_elim (λ ran. prints_to input editors (text old) (text new) ran.printed ended (so ran.mid ran.printed ran.printing ran.finishing) ran.print_end)
+    (λ none. none_to input editors (text old) (text new) ended told.Memory (same none.finishing) none.memory) run.console
+
+-- the threads of a service ran that no fault ended
+pub ran_of : {C D : Type 0} {V : _} {prints : C → C → Printed → Type 0} {finishes : C → C → Served → Type 0} {input : Input} {store : Store D V} {old new : C} {ended : Served} {back : Option D}
+    → HasRun prints finishes input store old new ended back → ended ≡ served.Printed → IsRun prints finishes input store old new ended back
+ran_of {ended = ended} run is = ⊎_elim (λ ran. ran) (λ none. absurd (not_printed ended told.Memory none.memory is)) run.console
 
 -- no engine was started
 pub memory_ended : {D : Type 0} {V : _} → (store : Store D V) (ended : Served) (disk : D) → is_down store ≡ false → V.view disk ≡ view_of store → fault_of ended ≡ Some told.Memory → HasEnded store ended (Some disk)

@@ -1,12 +1,13 @@
 -- The one list of a service that no fault ended.
 use Rattle.std.proofs.Common.{◌≡◌, inl, inr, ◌<◌, ◌++◌, ◌∷◌, [], ℕ, zero, suc, List, Option, Some, None, Result, Ok, Err, IfOk, OnOk, IsTrue, length, sym, ap, subst, ◌∙◌, arith}
-use Rattle.std.specs.Prelude.{IsOk, IsOkAnd, IsSomeAnd, slice_index_or}
+use Rattle.std.specs.Prelude.{IfSome, IsOk, IsOkAnd, IsSomeAnd, slice_index_or}
 use Rattle.std.specs.Io.KnownBytes.{Appends}
 use mathlib.Core.Logic.{∥∥₁_map}
+use Rattle.disk_trait.specs.declared.disk.Disk.{Ghosts}
 use Rattle.disk_trait.specs.Disk.{DiskView, IsSameDevice, LeavesOnly, OnlyRead, joined, reading_leaves}
 use Rattle.requests.specs.declared.request.Request.{Request}
 use Rattle.layout_2.specs.State.{State}
-use Rattle.layout_2.specs.Standing.{KeepsThrough, StandsFor}
+use Rattle.layout_2.specs.Standing.{KeepsThrough, OneState, StandsFor}
 use Rattle.checkpoint.specs.declared.store.Store.{Store}
 use Rattle.checkpoint.specs.StoreWords.{state_of, view_of}
 use Rattle.node_table.specs.declared.parts.Parts.{Parts}
@@ -23,8 +24,8 @@ use Rattle.committer.specs.Listed.{IsListedFrom, StaysListed}
 use Rattle.settled_lists.specs.Posted.{ArePosted}
 use Rattle.service_workers.specs.declared.stop_cause.StopCause.{StopCause}
 use Rattle.service_workers.specs.Forwarded.{AreNamed, HoldsOf}
-use Rattle.service_threads.specs.Kept.{HasSettled, IsOnCourse, StandsForBeginning}
-use Rattle.service_threads.proofs.Settling.{on_course_posted}
+use Rattle.service_threads.specs.Kept.{HasSettled, IsLeftBy, IsOnCourse, IsServedDisk, StandsForBeginning}
+use Rattle.service_threads.proofs.Settling.{on_course_posted, read_leaves, served_leaves, served_same}
 use Rattle.live_lines.specs.declared.answer.Answer.{Answer}
 use Rattle.live_service.specs.Inputs.{Input}
 use Rattle.live_service.specs.OneList.{AreAnswersIn, AreSaid, IsSaidIn}
@@ -124,6 +125,18 @@ pub record IsOpened {D : Type 0} {V : _} (disk : D) (store : Store D V) : Type 0
   pub held : IsTrue (V.view disk).keeps_model → StandsFor (state_of store) (V.view disk).content
   pub reads : IsTrue (V.view disk).keeps_model → OnlyRead (V.view disk) (view_of store)
   pub ran : IsSameDevice (V.view disk) (view_of store)
+
+-- what is left of it
+pub opened_left : {D T : Type 0} {V : _} → (disk : D) (store : Store D V) (engine : Result T StopCause) (back : Option D) → OneState → IsOpened disk store → IfSome back (λ d. IsServedDisk store engine (V.view d)) → IsLeftBy V disk back
+opened_left {V = V} disk store engine back one opened left = record {
+  ran = served_same disk store engine back opened.ran left;
+  any_moment = λ model state stands keeps.
+      served_leaves state disk store engine back (one (state_of store) state (V.view disk).content (opened.held model) stands) (opened.reads model) keeps (subst IsTrue (sym opened.ran.model) model) left;
+}
+
+-- .. and of one that was only read
+pub read_left : {D : Type 0} (model : Ghosts D) (disk back : D) → IsSameDevice (model.view disk) (model.view back) → (IsTrue (model.view disk).keeps_model → OnlyRead (model.view disk) (model.view back)) → IsLeftBy model disk (Some back)
+read_left model disk back same reads = record { ran = same; any_moment = λ keeps_model state stands keeps. read_leaves state (model.view disk) (model.view back) (reads keeps_model) keeps }
 
 of_one_list : {D : Type 0} {V : _} → (disk back : D) (store : Store D V) (known board : Beginning) (input : Input) (editors : ℕ) (answers : List Answer) → IsOpened disk store → HasServedAll store board (V.view back)
     → GoesOn known board → AreSaid known input editors answers → AreOfOneList V disk back input editors answers

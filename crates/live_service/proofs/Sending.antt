@@ -9,7 +9,7 @@ use Rattle.journal.specs.contracts.journal.Journal as journal
 use Rattle.journal.specs.contracts.request_entry.RequestEntry.TheImpl as entry
 use Rattle.checkpoint.specs.contracts.store.Store as store
 use Rattle.service_workers.specs.contracts.word_source.WordSource as source
-use Rattle.live_service.specs.contracts.engine.EngineConfig as config
+use Rattle.live_service.specs.contracts.opened.EngineConfig as config
 
 graph_send : IsSend graph.the_row
 graph_send = search (crosses, sendable) depth 40

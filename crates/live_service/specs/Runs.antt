@@ -1,9 +1,11 @@
 -- How the threads of a live service end, and what it prints.
-use Rattle.std.specs.Prelude.{◌≡◌, ◌≢◌, ℕ, List, Option, Result, Some, IfSome, IsErrOf}
+use Rattle.std.specs.Prelude.{◌≡◌, ◌≢◌, ◌⊎◌, ℕ, List, Option, Result, Some, IfSome, IsErrOf}
 use Rattle.generations.specs.Beginnings.{Beginning}
 use Rattle.command_output.specs.declared.fault.Fault.{Fault}
 use Rattle.command_output.specs.declared.fault.Fault.TheVariants as told
 use Rattle.checkpoint.specs.declared.store.Store.{Store}
+use Rattle.written_values.specs.declared.line.ScriptLine.{ScriptLine}
+use Rattle.service_lines.specs.ServedLines.{IsServed}
 use Rattle.service_lines.specs.declared.served.Served.{Served}
 use Rattle.service_lines.specs.declared.served.Served.TheVariants as served
 use Rattle.service_threads.specs.Kept.{IsServedDisk}
@@ -14,7 +16,7 @@ use Rattle.live_service.specs.declared.printed.PrintEnd.TheVariants.{Output, Who
 use Rattle.live_service.specs.Inputs.{Input}
 use Rattle.live_service.specs.Ends.{IsLater, fault_of}
 use Rattle.live_service.specs.Prints.{AreAllLines, HasPrinted, HasPrintedBy}
-use Rattle.live_service.specs.ServedList.{HasServedOn}
+use Rattle.live_service.specs.ServedList.{HasGatheredOn, HasServedOn}
 
 -- a fault of a service whose engine ended so: it says that the device failed only where the engine does
 abbrev pub IsFaultOf : {T : Type 0} → Result T StopCause → Fault → Type 0
@@ -44,13 +46,29 @@ pub record PrintsSo (input : Input) (editors : ℕ) (old new : Option (List ℕ)
 pub record PrintsTo (input : Input) (editors : ℕ) (old new : Option (List ℕ)) (ended : Served) : Type 0 where
   pub answers : fault_of ended ≢ Some told.Output → (count : ℕ) × HasPrinted input editors old new count × (ended ≡ served.Printed → AreAllLines input count)
 
--- A service ran: it printed on a console and told its end there, between two values of that, and ended as its engine and its printing did.
+-- The threads of a service ran: it printed on a console and told its end there, between two values of that, and ended as its printing did.
 pub record IsRun {C D : Type 0} {V : _} (prints : C → C → Printed → Type 0) (finishes : C → C → Served → Type 0) (input : Input) (store : Store D V) (old new : C) (ended : Served) (back : Option D) : Type 0 where
   pub mid : C
   pub printed : Printed
-  pub engine : Result Beginning StopCause
   pub printing : prints old mid printed
   pub finishing : finishes mid new ended
-  pub engine_end : IsEngineEnd store engine ended back
   pub print_end : IsPrintEnd input printed ended
   pub one_list : ended ≡ served.Printed → HasServedOn store printed.known back
+
+-- No thread was started, since memory ran out: that was told.
+pub record IsUnstarted {C : Type 0} (finishes : C → C → Served → Type 0) (old new : C) (ended : Served) : Type 0 where
+  pub finishing : finishes old new ended
+  pub memory : fault_of ended ≡ Some told.Memory
+
+-- a service on a store that was opened ended so, between two values of its console
+pub record HasRun {C D : Type 0} {V : _} (prints : C → C → Printed → Type 0) (finishes : C → C → Served → Type 0) (input : Input) (store : Store D V) (old new : C) (ended : Served) (back : Option D) : Type 0 where
+  pub engine_end : HasEnded store ended back
+  pub console : IsRun prints finishes input store old new ended back ⊎ IsUnstarted finishes old new ended
+
+-- A service of a script ended so, between two values of its writer, whose contents are read so: without a fault it printed all answers, and
+-- a fault but that of the printing left the writer as it was.
+pub record HasServedScript {W D : Type 0} {V : _} (contents : W → Option (List ℕ)) (script : List ScriptLine) (input : Input) (editors : ℕ) (store : Store D V) (old new : W) (ended : Served) (back : Option D) : Type 0 where
+  pub printed : ended ≡ served.Printed → IsServed script (contents old) (contents new)
+  pub untouched : IfSome (fault_of ended) (λ fault. fault ≢ told.Output → new ≡ old)
+  pub engine_end : HasEnded store ended back
+  pub one_list : ended ≡ served.Printed → HasGatheredOn store input editors (contents old) (contents new) back

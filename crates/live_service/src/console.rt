@@ -14,8 +14,8 @@ use std::io::Write;
 use std::sync::Wait;
 
 /// What takes the answers, prints them, and tells the end. The contract of a scope says nothing of a `&mut` that its closure holds, so the
-/// closure holds a value of such a type, and hands it back. `B` names the board at which the answers were given.
-pub trait Console<B: Naming> {
+/// closure holds a value of such a type, and hands it back. `J` names the lines that are answered.
+pub trait Console<J: Stream> {
     ghost use Rattle.std.specs.Prelude.{◌≡◌};
     ghost use Rattle.live_service.specs.Ends.{IsFinish};
     ghost use Rattle.live_service.specs.declared.printed.Printed.{Printed};
@@ -25,8 +25,8 @@ pub trait Console<B: Naming> {
 
     ghost finishes: { Self → Self → Served → Type 0 };
 
-    /// Takes the answers in the order of their lines, until none comes any more.
-    fn print(self) -> (Self, Printed)
+    /// Takes the answers in the order of their lines, until none comes any more. `B` names the board at which they were given.
+    fn print<B: Naming, R: Wait>(self, rt: &R, exchange: &Exchange<J, B>) -> (Self, Printed)
         ensures prints { prints self result.0 result.1 }
         ensures opening { result.1.known.opening ≡ B.opening };
 
@@ -38,10 +38,8 @@ pub trait Console<B: Naming> {
 
 /// Two writers, each lent for a time of its own: so what each holds is known once it comes back.
 #[derive(Drop)]
-pub struct Terminal<'a, 'b, J: Stream, B: Naming, R, O, E> {
-    pub rt: &'a R,
+pub struct Terminal<'a, 'b, O, E> {
     pub alloc: Global,
-    pub exchange: &'a Exchange<J, B>,
     pub out: &'a mut O,
     pub err: &'b mut E,
 }
@@ -60,8 +58,7 @@ pub fn told<E: Write>(err: &mut E, fault: Option<Fault>) -> Served
     }
 }
 
-impl<'a, 'b, J: Stream, B: Naming, R: Wait, O: Write, E: Write> Console<B>
-    for Terminal<'a, 'b, J, B, R, O, E> {
+impl<'a, 'b, J: Stream, O: Write, E: Write> Console<J> for Terminal<'a, 'b, O, E> {
     ghost use Rattle.std.specs.Prelude.{◌≡◌};
     ghost use Rattle.live_service.specs.Runs.{PrintsSo};
     ghost use Rattle.live_service.specs.Ends.{HasToldSo};
@@ -72,41 +69,15 @@ impl<'a, 'b, J: Stream, B: Naming, R: Wait, O: Write, E: Write> Console<B>
     ghost finishes = { λ c d s. (d.out.ghost_name ≡ c.out.ghost_name) × (d.err.ghost_name ≡ c.err.ghost_name) × (d.out.now ≡ c.out.now)
         × HasToldSo (E.contents c.err.now) (E.contents d.err.now) s };
 
-    fn print(self) -> (Self, Printed) {
-        let Terminal {
-            rt,
-            alloc,
-            exchange,
-            out,
-            err,
-        } = self;
+    fn print<B: Naming, R: Wait>(self, rt: &R, exchange: &Exchange<J, B>) -> (Self, Printed) {
+        let Terminal { alloc, out, err } = self;
         let printed = print_all(rt, alloc, exchange, out);
-        let terminal = Terminal {
-            rt,
-            alloc,
-            exchange,
-            out,
-            err,
-        };
-        (terminal, printed)
+        (Terminal { alloc, out, err }, printed)
     }
 
     fn finish(self, fault: Option<Fault>) -> (Self, Served) {
-        let Terminal {
-            rt,
-            alloc,
-            exchange,
-            out,
-            err,
-        } = self;
+        let Terminal { alloc, out, err } = self;
         let served = told(err, fault);
-        let terminal = Terminal {
-            rt,
-            alloc,
-            exchange,
-            out,
-            err,
-        };
-        (terminal, served)
+        (Terminal { alloc, out, err }, served)
     }
 }

@@ -1,24 +1,25 @@
 // The engine's threads: the committer in the caller's, and one for each editor, each forwarder, the waiter and tables.
-ghost use Rattle.std.specs.Prelude.{◌≡◌, [], All, IfOk, IfSome, IsErrOf, IsOk, OnOk, vec_len, ◌<◌, ◌≤◌, false};
+ghost use Rattle.std.specs.Prelude.{◌≡◌, [], All, IfOk, IfSome, IsErrOf, IsOk, OnOk, vec_len, ◌<◌, ◌≤◌};
 ghost use Rattle.requests.specs.Tickets.{last_of};
 ghost use Rattle.intake.specs.Editors.{Editing};
-ghost use Rattle.checkpoint.specs.StoreWords.{state_of, view_of, is_down};
+ghost use Rattle.checkpoint.specs.StoreWords.{state_of, view_of};
 ghost use Rattle.committer.specs.CommitterWords.{posts_of, store_of};
 ghost use Rattle.committer.specs.Listed.{IsListedFrom};
 ghost use Rattle.service_threads.specs.Kept.{HasFailed, HasSettledSome, IsFresh, IsServedDisk};
 ghost use Rattle.live_service.specs.Seated.{IsSeated};
-ghost use Rattle.live_service.specs.ServedList.{HasServedAll, IsBoardOf};
+ghost use Rattle.live_service.specs.ServedList.{HasServedAll};
 
 use crate::editing::edit_lines;
 use crate::exchange::Exchange;
 use crate::forwarding::forward_lines;
 use crate::messages::Stream;
+use crate::opened::{EngineParts, Opened};
 use crate::tabling::{TablesReader, table_lines};
 use crate::waiting::wait_lines;
 use checkpoint::Store;
 use committer::Committer;
 use disk_trait::Disk;
-use generations::{BoardReader, BoardWriter, History};
+use generations::{BoardReader, History};
 use group_commit::Desk;
 use intake::{Editor, Taker, open_intake};
 use requests::SESSIONS;
@@ -38,14 +39,6 @@ pub struct Seats<B: Naming> {
     pub editors: Vec<SessionEditor<B>>,
     pub forwarders: Vec<ForwarderOf<B>>,
     pub tables: TablesReader<B>,
-}
-
-/// What the engine works by.
-#[derive(Clone, Copy, Drop)]
-pub struct EngineConfig {
-    pub service: ServiceConfig,
-    /// After so many rounds a change that was accepted is in a generation.
-    pub rounds: u32,
 }
 
 // Starts the editors' threads. Where one can't be made all stop.
@@ -419,22 +412,26 @@ fn seat<
 >(
     rt: &R,
     alloc: Global,
-    config: EngineConfig,
-    store: Store<D>,
-    writer: BoardWriter<Q>,
-    readers: Vec<BoardReader>,
-    source: WordSource,
+    parts: EngineParts<B, D, T, Q>,
     hooks: &G,
-    tables: T,
     exchange: &Exchange<J, B>,
 ) -> (Result<History, StopCause>, Store<D>)
-    requires config { IsSeated config.service }
-    requires board { IsBoardOf B.opening (state_of store) writer readers.items }
-    requires up { is_down store ≡ false }
-    ensures settled { HasSettledSome (state_of store) (view_of store) (view_of result.1) }
-    ensures device { IsErrOf result.0 StopCause.Device → HasFailed (view_of store) (view_of result.1) }
-    ensures all { IfOk result.0 (λ board. (board.opening ≡ B.opening) × HasServedAll store board (view_of result.1)) }
+    ensures settled { HasSettledSome (state_of parts.opened.store) (view_of parts.opened.store) (view_of result.1) }
+    ensures device { IsErrOf result.0 StopCause.Device → HasFailed (view_of parts.opened.store) (view_of result.1) }
+    ensures all { IfOk result.0 (λ board. (board.opening ≡ B.opening) × HasServedAll parts.opened.store board (view_of result.1)) }
 {
+    let EngineParts {
+        opened,
+        writer,
+        readers,
+        of: _,
+    } = parts;
+    let Opened {
+        config,
+        store,
+        source,
+        tables,
+    } = opened;
     match seat_all::<B>(alloc, config.service, readers, &store.starts()) {
         Ok((taker, seats)) => {
             let committer = Committer::new(Desk::new(store), taker, writer);
@@ -467,25 +464,15 @@ pub fn engine<
 >(
     rt: &R,
     alloc: Global,
-    config: EngineConfig,
-    store: Store<D>,
-    writer: BoardWriter<Q>,
-    readers: Vec<BoardReader>,
-    source: WordSource,
+    parts: EngineParts<B, D, T, Q>,
     hooks: &G,
-    tables: T,
     exchange: &Exchange<J, B>,
 ) -> (Result<History, StopCause>, D)
-    requires config { IsSeated config.service }
-    requires board { IsBoardOf B.opening (state_of store) writer readers.items }
-    requires up { is_down store ≡ false }
-    ensures settled { HasSettledSome (state_of store) (view_of store) (D.view result.1) }
-    ensures device { IsErrOf result.0 StopCause.Device → HasFailed (view_of store) (D.view result.1) }
-    ensures all { IfOk result.0 (λ board. (board.opening ≡ B.opening) × HasServedAll store board (D.view result.1)) }
+    ensures settled { HasSettledSome (state_of parts.opened.store) (view_of parts.opened.store) (D.view result.1) }
+    ensures device { IsErrOf result.0 StopCause.Device → HasFailed (view_of parts.opened.store) (D.view result.1) }
+    ensures all { IfOk result.0 (λ board. (board.opening ≡ B.opening) × HasServedAll parts.opened.store board (D.view result.1)) }
 {
-    let (result, store) = seat::<J, B, D, G, T, Q, R>(
-        rt, alloc, config, store, writer, readers, source, hooks, tables, exchange,
-    );
+    let (result, store) = seat::<J, B, D, G, T, Q, R>(rt, alloc, parts, hooks, exchange);
     exchange.shut(rt);
     exchange.end(rt);
     (result, store.into_disk())

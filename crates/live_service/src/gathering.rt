@@ -7,7 +7,7 @@ ghost use Rattle.live_service.specs.Scripts.{answer_of_line};
 
 use crate::console::Console;
 use crate::exchange::Exchange;
-use crate::messages::Stream;
+use crate::messages::{Answered, Stream};
 use crate::printed::{PrintEnd, Printed, furthest};
 use command_output::{Fault, print_text};
 use live_lines::Answer;
@@ -19,10 +19,8 @@ use std::sync::Wait;
 
 /// What gathers the answers to a script, and prints them at its end. No fault is told: who has the gatherer back knows it.
 #[derive(Drop)]
-pub struct Gatherer<'a, J: Stream, B: Naming, R, O> {
-    pub rt: &'a R,
+pub struct Gatherer<'a, O> {
     pub alloc: Global,
-    pub exchange: &'a Exchange<J, B>,
     // The lines of the answers.
     pub text: String,
     pub out: &'a mut O,
@@ -51,6 +49,22 @@ fn answer_of(answer: Answer) -> Option<service_workers::Answer>
     }
 }
 
+// The answer to a line. While it isn't there, a lot of answers is awaited: nobody reads them before the end. None where no answer comes any
+// more.
+fn next<J: Stream, B: Naming, R: Wait>(
+    rt: &R,
+    exchange: &Exchange<J, B>,
+    place: u64,
+) -> Option<Answered<J, B>>
+    ensures { IfSome result (λ answered. answered.place ≡ place) }
+{
+    if let Some(answered) = exchange.answers.try_take(rt, place) {
+        return Some(answered);
+    }
+    exchange.answers.await_lot(rt);
+    exchange.answers.take(rt, place)
+}
+
 // Takes the answers in the order of their lines, until none comes any more, or one can't be kept.
 fn gather_each<J: Stream, B: Naming, R: Wait>(
     rt: &R,
@@ -65,7 +79,7 @@ fn gather_each<J: Stream, B: Naming, R: Wait>(
     let mut count: u64 = 0;
     let mut known = exchange.known.again();
     for _ in rt.forever() {
-        let Some(answered) = exchange.answers.take(rt, count) else {
+        let Some(answered) = next(rt, exchange, count) else {
             return Printed::new(count, PrintEnd::Whole, known);
         };
         let Some(more) = count.checked_add(1) else {
@@ -120,7 +134,7 @@ fn printed_or<O: Write>(out: &mut O, text: &str, fault: Option<Fault>) -> Served
     }
 }
 
-impl<'a, J: Stream, B: Naming, R: Wait, O: Write> Console<B> for Gatherer<'a, J, B, R, O> {
+impl<'a, J: Stream, O: Write> Console<J> for Gatherer<'a, O> {
     ghost use Rattle.std.specs.Prelude.{◌≡◌, ◌≢◌, IfSome};
     ghost use Rattle.std.specs.String.{string_bytes};
     ghost use Rattle.command_output.specs.declared.fault.Fault.TheVariants.{Output};
@@ -135,41 +149,19 @@ impl<'a, J: Stream, B: Naming, R: Wait, O: Write> Console<B> for Gatherer<'a, J,
         × PrintsAtEnd (string_bytes c.text) (O.contents c.out.now) (O.contents d.out.now) s
         × IfSome (fault_of s) (λ fault. fault ≢ Output → d.out.now ≡ c.out.now) };
 
-    fn print(self) -> (Self, Printed) {
+    fn print<B: Naming, R: Wait>(self, rt: &R, exchange: &Exchange<J, B>) -> (Self, Printed) {
         let Gatherer {
-            rt,
             alloc,
-            exchange,
             text: _,
             out,
         } = self;
         let (printed, text) = gather_all(rt, alloc, exchange);
-        let gatherer = Gatherer {
-            rt,
-            alloc,
-            exchange,
-            text,
-            out,
-        };
-        (gatherer, printed)
+        (Gatherer { alloc, text, out }, printed)
     }
 
     fn finish(self, fault: Option<Fault>) -> (Self, Served) {
-        let Gatherer {
-            rt,
-            alloc,
-            exchange,
-            text,
-            out,
-        } = self;
+        let Gatherer { alloc, text, out } = self;
         let served = printed_or(out, text.as_str(), fault);
-        let gatherer = Gatherer {
-            rt,
-            alloc,
-            exchange,
-            text,
-            out,
-        };
-        (gatherer, served)
+        (Gatherer { alloc, text, out }, served)
     }
 }

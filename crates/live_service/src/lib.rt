@@ -44,6 +44,7 @@ mod gathering;
 mod input_source;
 mod line_source;
 mod messages;
+mod opened;
 mod printed;
 mod printing;
 mod read_fault;
@@ -52,6 +53,7 @@ mod running;
 mod script;
 mod script_source;
 mod serve;
+mod serving;
 mod tabling;
 mod waiting;
 

@@ -3,22 +3,22 @@ ghost use Rattle.std.specs.Prelude.{◌≡◌, ◌≢◌, IfOk, IfSome, IsErrOf,
 ghost use Rattle.checkpoint.specs.StoreWords.{is_down, state_of};
 ghost use Rattle.command_output.specs.declared.fault.Fault.{Fault};
 ghost use Rattle.generations.specs.Beginnings.{GoesOn};
-ghost use Rattle.service_threads.specs.Config.{IsServiceConfig};
 ghost use Rattle.service_threads.specs.Faults.{stop_fault};
 ghost use Rattle.service_threads.specs.Kept.{IsServedDisk};
 ghost use Rattle.service_lines.specs.ServedLines.{told_fault};
 ghost use Rattle.service_lines.specs.declared.served.Served.{Served};
 ghost use Rattle.live_service.specs.Ends.{IsLater, fault_of};
 ghost use Rattle.live_service.specs.Reads.{IsReadEnd};
-ghost use Rattle.live_service.specs.Runs.{IsFaultOf, IsPrintEnd, IsRun};
+ghost use Rattle.live_service.specs.Runs.{HasRun, IsFaultOf, IsPrintEnd};
 ghost use Rattle.live_service.specs.Seated.{IsSeated};
 ghost use Rattle.live_service.specs.ServedList.{HasServedAll, IsBoardOf};
 
 use crate::console::Console;
-use crate::engine::{EngineConfig, engine};
+use crate::engine::engine;
 use crate::exchange::Exchange;
 use crate::line_source::LineSource;
 use crate::messages::Stream;
+use crate::opened::{EngineParts, Opened};
 use crate::printed::{PrintEnd, Printed};
 use crate::read_fault::ReadFault;
 use crate::reading::read_lines;
@@ -26,11 +26,11 @@ use checkpoint::Store;
 use command_output::Fault;
 use core::thread::Stack;
 use disk_trait::Disk;
-use generations::{BoardReader, BoardWriter, History, MOST_READERS, board};
+use generations::History;
 use service_lines::{Served, fault_of as told_fault};
-use service_threads::{STACK_LEN, ServiceConfig};
-use service_workers::{Hooks, Naming, StopCause, WordSource};
-use std::alloc::{AllocError, Global};
+use service_threads::STACK_LEN;
+use service_workers::{Hooks, Naming, StopCause};
+use std::alloc::Global;
 use std::marker::PhantomData;
 use std::snapshot::Snapshot;
 use std::sync::Wait;
@@ -127,7 +127,7 @@ fn join_reader<J: Stream, R: Threads>(
 }
 
 // Tells how the service ended, and waits for the reader: a fault that is known before is told first, since a read may take long.
-fn conclude<J: Stream, B: Naming, C: Console<B>, R: Threads>(
+fn conclude<J: Stream, C: Console<J>, R: Threads>(
     rt: &R,
     console: C,
     printed: Printed,
@@ -186,24 +186,29 @@ fn start_engine<
     scope: &Scope<'s, E>,
     rt: &'s R,
     alloc: Global,
-    config: EngineConfig,
-    store: Store<D>,
-    writer: BoardWriter<Q>,
-    readers: Vec<BoardReader>,
-    source: WordSource,
+    parts: EngineParts<B, D, T, Q>,
     hooks: &'s G,
-    tables: T,
     exchange: &'s Exchange<J, B>,
 ) -> Option<PromisedHandle<(Result<History, StopCause>, D), EnginePromise<B, D>>>
-    requires config { IsSeated config.service }
-    requires board { IsBoardOf B.opening (state_of store) writer readers.items }
-    requires up { is_down store ≡ false }
-    ensures { IfSome result (λ handle. handle.promise.store.value ≡ store) }
+    ensures { IfSome result (λ handle. handle.promise.store.value ≡ parts.opened.store) }
 {
     let promise: EnginePromise<B, D> = EnginePromise {
-        store: Snapshot::of(&store),
+        store: Snapshot::of(&parts.opened.store),
         of: PhantomData,
     };
+    // The closure takes each part by itself: so the proof that it may go to another thread finds the rule for each.
+    let EngineParts {
+        opened,
+        writer,
+        readers,
+        of: _,
+    } = parts;
+    let Opened {
+        config,
+        store,
+        source,
+        tables,
+    } = opened;
     let job = move || -> (Result<History, StopCause>, D)
         requires config { IsSeated config.service }
         requires board { IsBoardOf B.opening (state_of store) writer readers.items }
@@ -211,9 +216,19 @@ fn start_engine<
         ensures served { IsServedDisk store result.0 (D.view result.1) }
         ensures all { IfOk result.0 (λ board. (board.opening ≡ B.opening) × HasServedAll store board (D.view result.1)) }
     {
-        engine(
-            rt, alloc, config, store, writer, readers, source, hooks, tables, exchange,
-        )
+        let opened = Opened {
+            config,
+            store,
+            source,
+            tables,
+        };
+        let parts = EngineParts {
+            opened,
+            writer,
+            readers,
+            of: PhantomData,
+        };
+        engine(rt, alloc, parts, hooks, exchange)
     };
     match Stack::new()
         .stack_size(STACK_LEN)
@@ -236,40 +251,27 @@ pub(crate) fn threads<
     Q: Wait + Drop + Send,
     R: Threads + Wait + Sync,
     L: LineSource<J> + Send + Drop,
-    C: Console<B> + Drop,
+    C: Console<J> + Drop,
 >(
     rt: &'a R,
     alloc: Global,
-    config: EngineConfig,
-    store: Store<D>,
-    writer: BoardWriter<Q>,
-    readers: Vec<BoardReader>,
-    source: WordSource,
+    parts: EngineParts<B, D, T, Q>,
     hooks: &'a G,
-    tables: T,
     exchange: &'a Exchange<J, B>,
     lines: L,
     console: C,
 ) -> (C, Served, Option<D>)
-    requires config { IsSeated config.service }
-    requires board { IsBoardOf B.opening (state_of store) writer readers.items }
-    requires up { is_down store ≡ false }
     requires given { L.has_given lines 0 }
-    ensures { IsRun C.prints C.finishes J.input store console result.0 result.1 result.2 }
+    ensures { HasRun C.prints C.finishes J.input parts.opened.store console result.0 result.1 result.2 }
 {
     thread::scope(
         thread::scope_env(),
         rt,
         |scope| -> (C, Served, Option<D>)
-            requires config { IsSeated config.service }
-            requires board { IsBoardOf B.opening (state_of store) writer readers.items }
-            requires up { is_down store ≡ false }
             requires given { L.has_given lines 0 }
-            ensures { IsRun C.prints C.finishes J.input store console result.0 result.1 result.2 }
+            ensures { HasRun C.prints C.finishes J.input parts.opened.store console result.0 result.1 result.2 }
         {
-            let engine_thread = start_engine(
-                scope, rt, alloc, config, store, writer, readers, source, hooks, tables, exchange,
-            );
+            let engine_thread = start_engine(scope, rt, alloc, parts, hooks, exchange);
             if engine_thread.is_none() {
                 exchange.shut(rt);
                 exchange.end(rt);
@@ -286,46 +288,10 @@ pub(crate) fn threads<
                     None
                 }
             };
-            let (console, printed) = console.print();
+            let (console, printed) = console.print(rt, exchange);
             let (ended, disk) = join_engine(rt, engine_thread);
-            let (console, served) = conclude::<J, B, C, R>(rt, console, printed, &ended, reader);
+            let (console, served) = conclude::<J, C, R>(rt, console, printed, &ended, reader);
             (console, served, disk)
         },
     )
-}
-
-/// Does nothing, but by this use of a reference that came back the caller knows what it left.
-pub(crate) fn take_back<T>(x: &mut T)
-    ensures { x.new ≡ x.old }
-{}
-
-/// The numbers of a service at whose board one reader is for tables.
-pub(crate) fn seated(config: ServiceConfig) -> ServiceConfig
-    requires { IsServiceConfig config }
-    ensures seated { IsSeated result }
-    ensures editors { result.editors ≡ config.editors }
-{
-    let most = MOST_READERS - 1 - config.editors as usize;
-    let forwarders = config.forwarders.min(most as u8);
-    ServiceConfig {
-        editors: config.editors,
-        forwarders,
-        places: config.places,
-    }
-}
-
-/// A board for a store, to which nothing was posted, with readers for all editors and forwarders and one for tables.
-pub(crate) fn board_of<'a, D: Disk, R: Wait>(
-    rt: &'a R,
-    alloc: Global,
-    config: &EngineConfig,
-    store: &Store<D>,
-) -> Result<(BoardWriter<&'a R>, Vec<BoardReader>), AllocError>
-    requires { IsSeated config.now.service }
-    ensures { IfOk result (λ r. IsBoardOf r.0.opening (state_of store.now) r.0 r.1.items) }
-{
-    let config = &config.service;
-    let readers = config.editors as usize + config.forwarders as usize + 1;
-    let (starts, count) = (store.starts(), store.count());
-    board::<&R>(alloc, rt, readers, &starts, count)
 }

@@ -1,6 +1,5 @@
 // A script on a device: the live service's engine runs it, and its answers are printed at the end.
-ghost use Rattle.std.specs.Prelude.{◌≡◌, ◌≢◌, ◌≤◌, ◌⊎◌, IfErr, IfOk, IfSome, IsSomeAnd, OnOk, Some, false};
-ghost use Rattle.checkpoint.specs.StoreWords.{is_down, state_of};
+ghost use Rattle.std.specs.Prelude.{◌≡◌, ◌≢◌, ◌≤◌, ◌⊎◌, IfErr, IfOk, IsSomeAnd, OnOk, Some};
 ghost use Rattle.command_output.specs.declared.fault.Fault.{Fault};
 ghost use Rattle.command_output.specs.Faults.{status_of};
 ghost use Rattle.written_values.specs.Scripts.{AreOfSessions};
@@ -10,23 +9,20 @@ ghost use Rattle.service_lines.specs.ServedLines.{IsServed, IsServedSo, IsServeE
 ghost use Rattle.service_lines.specs.declared.served.Served.{Served};
 ghost use Rattle.live_service.specs.Ends.{fault_of};
 ghost use Rattle.live_service.specs.Inputs.{Script};
-ghost use Rattle.live_service.specs.Runs.{HasEnded};
-ghost use Rattle.live_service.specs.Seated.{IsSeated};
-ghost use Rattle.live_service.specs.ServedList.{HasAnsweredScript, HasGatheredOn, IsBoardOf};
+ghost use Rattle.live_service.specs.Runs.{HasServedScript};
+ghost use Rattle.live_service.specs.ServedList.{HasAnsweredScript};
 
-use crate::engine::EngineConfig;
-use crate::exchange::Exchange;
 use crate::gathering::Gatherer;
 use crate::messages::Stream;
-use crate::running::{board_of, seated, take_back, threads};
+use crate::opened::{EngineConfig, Opened};
 use crate::script_source::ScriptSource;
-use checkpoint::{Store, standing_law};
+use crate::serving::{seated, serve_opened, take_back};
+use checkpoint::standing_law;
 use command_output::{Fault, tell};
 use disk_trait::Disk;
-use generations::{BoardReader, BoardWriter};
 use service_lines::{Served, fault_of as told_fault};
 use service_threads::{ServiceConfig, open_device};
-use service_workers::{Hooks, Naming, WordSource};
+use service_workers::Hooks;
 use std::alloc::Global;
 use std::io::Write;
 use std::marker::Brand;
@@ -49,146 +45,50 @@ impl TableFiles for NoTables {
     }
 }
 
-// All threads, over a gatherer, whose writer comes back.
-fn run_gatherer<'a, 'b, J, B, D, G, Q, R, O>(
+// The service of a device that was opened, for the script that `J` names, over a gatherer, whose writer comes back.
+fn run_gatherer<'a, 'b, J, D, G, R, O>(
     rt: &'a R,
     alloc: Global,
-    config: EngineConfig,
-    store: Store<D>,
-    writer: BoardWriter<Q>,
-    readers: Vec<BoardReader>,
-    source: WordSource,
+    opened: Opened<D, NoTables>,
     hooks: &'a G,
-    exchange: &'a Exchange<J, B>,
     script: Vec<ScriptLine>,
-    gatherer: Gatherer<'b, J, B, R, O>,
+    gatherer: Gatherer<'b, O>,
 ) -> (&'b mut O, Served, Option<D>)
 where
     J: Stream + Send + Sync,
-    B: Naming + Send + Sync,
     D: Disk + Drop + Send,
     G: Hooks + Sync,
-    Q: Wait + Drop + Send,
     R: Threads + Wait + Sync,
     O: Write,
-    requires config { IsSeated config.service }
-    requires board { IsBoardOf B.opening (state_of store) writer readers.items }
-    requires up { is_down store ≡ false }
-    requires input { J.input ≡ Script script.items }
+    requires { J.input ≡ Script script.items }
     ensures same_out { result.0.ghost_name ≡ gatherer.entry.out.ghost_name }
-    ensures printed { result.1 ≡ Served.Printed → IsServed script.items (O.contents gatherer.entry.out.now) (O.contents result.0.now) }
-    ensures untouched { IfSome (fault_of result.1) (λ fault. fault ≢ Fault.Output → result.0.now ≡ gatherer.entry.out.now) }
-    ensures ended { HasEnded store result.1 result.2 }
-    ensures one_list { result.1 ≡ Served.Printed → HasGatheredOn store J.input J.editors (O.contents gatherer.entry.out.now) (O.contents result.0.now) result.2 }
+    ensures served { HasServedScript O.contents script.items J.input J.editors opened.store gatherer.entry.out.now result.0.now result.1 result.2 }
 {
     let lines = ScriptSource {
         lines: script.into_iter(),
     };
-    let (gatherer, served, disk) = threads(
-        rt, alloc, config, store, writer, readers, source, hooks, NoTables, exchange, lines,
-        gatherer,
-    );
+    let (gatherer, served, disk) = serve_opened::<
+        J,
+        D,
+        G,
+        NoTables,
+        R,
+        ScriptSource,
+        Gatherer<'b, O>,
+    >(rt, alloc, opened, hooks, lines, gatherer);
     let Gatherer {
-        rt: _,
         alloc: _,
-        exchange: _,
         text: _,
         out,
     } = gatherer;
     (out, served, disk)
 }
 
-// All threads, over a writer.
-fn serve_gathered<'a, J, B, D, G, Q, R, O>(
-    rt: &'a R,
-    alloc: Global,
-    config: EngineConfig,
-    store: Store<D>,
-    writer: BoardWriter<Q>,
-    readers: Vec<BoardReader>,
-    source: WordSource,
-    hooks: &'a G,
-    exchange: &'a Exchange<J, B>,
-    script: Vec<ScriptLine>,
-    out: &mut O,
-) -> (Served, Option<D>)
-where
-    J: Stream + Send + Sync,
-    B: Naming + Send + Sync,
-    D: Disk + Drop + Send,
-    G: Hooks + Sync,
-    Q: Wait + Drop + Send,
-    R: Threads + Wait + Sync,
-    O: Write,
-    requires config { IsSeated config.service }
-    requires board { IsBoardOf B.opening (state_of store) writer readers.items }
-    requires up { is_down store ≡ false }
-    requires input { J.input ≡ Script script.items }
-    ensures printed { result.0 ≡ Served.Printed → IsServed script.items (O.contents out.old) (O.contents out.new) }
-    ensures untouched { IfSome (fault_of result.0) (λ fault. fault ≢ Fault.Output → out.new ≡ out.old) }
-    ensures ended { HasEnded store result.0 result.1 }
-    ensures one_list { result.0 ≡ Served.Printed → HasGatheredOn store J.input J.editors (O.contents out.old) (O.contents out.new) result.1 }
-{
-    let gatherer = Gatherer {
-        rt,
-        alloc,
-        exchange,
-        text: String::new(alloc),
-        out,
-    };
-    let (printed_on, served, disk) = run_gatherer(
-        rt, alloc, config, store, writer, readers, source, hooks, exchange, script, gatherer,
-    );
-    take_back(printed_on);
-    (served, disk)
-}
-
-// The service at the board that `B` names, for the script that `J` names.
-fn serve_board<'a, J, B, D, G, Q, R, O>(
-    rt: &'a R,
-    alloc: Global,
-    config: EngineConfig,
-    store: Store<D>,
-    writer: BoardWriter<Q>,
-    readers: Vec<BoardReader>,
-    source: WordSource,
-    hooks: &'a G,
-    script: Vec<ScriptLine>,
-    out: &mut O,
-) -> (Served, Option<D>)
-where
-    J: Stream + Send + Sync,
-    B: Naming + Send + Sync,
-    D: Disk + Drop + Send,
-    G: Hooks + Sync,
-    Q: Wait + Drop + Send,
-    R: Threads + Wait + Sync,
-    O: Write,
-    requires config { IsSeated config.service }
-    requires board { IsBoardOf B.opening (state_of store) writer readers.items }
-    requires up { is_down store ≡ false }
-    requires input { J.input ≡ Script script.items }
-    ensures printed { result.0 ≡ Served.Printed → IsServed script.items (O.contents out.old) (O.contents out.new) }
-    ensures untouched { IfSome (fault_of result.0) (λ fault. fault ≢ Fault.Output → out.new ≡ out.old) }
-    ensures ended { HasEnded store result.0 result.1 }
-    ensures one_list { result.0 ≡ Served.Printed → HasGatheredOn store J.input J.editors (O.contents out.old) (O.contents out.new) result.1 }
-{
-    let (editors, forwarders) = (config.service.editors, config.service.forwarders);
-    match Exchange::<J, B>::new(alloc, editors, forwarders, writer.tell().history()) {
-        Ok(exchange) => serve_gathered(
-            rt, alloc, config, store, writer, readers, source, hooks, &exchange, script, out,
-        ),
-        Err(_) => (Served::Untold(Fault::Memory), Some(store.into_disk())),
-    }
-}
-
-// The service on a store that was opened, for the script that `J` names.
+// The same over a writer.
 fn serve_script<'a, J, D, G, R, O>(
     rt: &'a R,
     alloc: Global,
-    config: EngineConfig,
-    store: Store<D>,
-    source: WordSource,
+    opened: Opened<D, NoTables>,
     hooks: &'a G,
     script: Vec<ScriptLine>,
     out: &mut O,
@@ -199,20 +99,19 @@ where
     G: Hooks + Sync,
     R: Threads + Wait + Sync,
     O: Write,
-    requires config { IsSeated config.service }
-    requires up { is_down store ≡ false }
-    requires input { J.input ≡ Script script.items }
-    ensures printed { result.0 ≡ Served.Printed → IsServed script.items (O.contents out.old) (O.contents out.new) }
-    ensures untouched { IfSome (fault_of result.0) (λ fault. fault ≢ Fault.Output → out.new ≡ out.old) }
-    ensures ended { HasEnded store result.0 result.1 }
-    ensures one_list { result.0 ≡ Served.Printed → HasGatheredOn store J.input J.editors (O.contents out.old) (O.contents out.new) result.1 }
+    requires { J.input ≡ Script script.items }
+    ensures { HasServedScript O.contents script.items J.input J.editors opened.store out.old out.new result.0 result.1 }
 {
-    match board_of(rt, alloc, &config, &store) {
-        Ok((writer, readers)) => serve_board::<J, Brand, D, G, &R, R, O>(
-            rt, alloc, config, store, writer, readers, source, hooks, script, out,
-        ),
-        Err(_) => (Served::Untold(Fault::Memory), Some(store.into_disk())),
-    }
+    let gatherer = Gatherer {
+        alloc,
+        text: String::new(alloc),
+        out,
+    };
+    let (out, served, disk) = run_gatherer::<J, D, G, R, O>(
+        rt, alloc, opened, hooks, script, gatherer,
+    );
+    take_back(out);
+    (served, disk)
 }
 
 // How a service ended whose fault isn't told yet.
@@ -263,13 +162,16 @@ where
         Ok(opened) => opened,
         Err((fault, disk)) => return (Err(told_fault(fault)), Some(disk)),
     };
-    let config = EngineConfig {
-        service: seated(config),
-        rounds: 1,
+    let opened = Opened {
+        config: EngineConfig {
+            service: seated(config),
+            rounds: 1,
+        },
+        store,
+        source,
+        tables: NoTables,
     };
-    let (served, disk) = serve_script::<Brand, D, G, R, O>(
-        rt, alloc, config, store, source, hooks, script, out,
-    );
+    let (served, disk) = serve_script::<Brand, D, G, R, O>(rt, alloc, opened, hooks, script, out);
     (result_of(served), disk)
 }
 

@@ -1,8 +1,5 @@
 // The live service on a device.
-ghost use Rattle.std.specs.Prelude.{◌≡◌, ◌≢◌, IfSome, IsSomeAnd, IsTrue, None, Some, false};
-ghost use Rattle.disk_trait.specs.Disk.{IsSameDevice, OnlyRead};
-ghost use Rattle.checkpoint.specs.StoreWords.{state_of, view_of, is_down};
-ghost use Rattle.command_output.specs.declared.fault.Fault.{Fault};
+ghost use Rattle.std.specs.Prelude.{◌≡◌, IfSome, IsSomeAnd};
 ghost use Rattle.service_threads.specs.Config.{IsServiceConfig};
 ghost use Rattle.service_threads.specs.Kept.{IsLeftBy};
 ghost use Rattle.service_lines.specs.ServedLines.{IsServeEnd};
@@ -10,23 +7,18 @@ ghost use Rattle.service_lines.specs.declared.served.Served.{Served};
 ghost use Rattle.live_service.specs.Ends.{HasToldSo, fault_of};
 ghost use Rattle.live_service.specs.Inputs.{Bytes};
 ghost use Rattle.live_service.specs.Runs.{HasEnded, PrintsTo};
-ghost use Rattle.live_service.specs.Seated.{IsSeated};
-ghost use Rattle.live_service.specs.ServedList.{HasAnswered, HasPrintedOn, IsBoardOf};
+ghost use Rattle.live_service.specs.ServedList.{HasAnswered, HasPrintedOn};
 
 use crate::console::{Terminal, told};
-use crate::engine::EngineConfig;
-use crate::exchange::Exchange;
 use crate::input_source::InputSource;
-use crate::line_source::LineSource;
 use crate::messages::Stream;
-use crate::running::{board_of, seated, take_back, threads};
-use checkpoint::{Store, standing_law};
-use command_output::Fault;
+use crate::opened::{EngineConfig, Opened};
+use crate::serving::{seated, serve_opened, take_back};
+use checkpoint::standing_law;
 use disk_trait::Disk;
-use generations::{BoardReader, BoardWriter};
 use service_lines::{Served, fault_of as told_fault};
 use service_threads::{ServiceConfig, open_device};
-use service_workers::{Hooks, Naming, WordSource};
+use service_workers::Hooks;
 use std::alloc::Global;
 use std::io::{BufRead, Write};
 use std::marker::Brand;
@@ -35,165 +27,12 @@ use std::thread::Threads;
 use table_files::TableFiles;
 use written_values::LandmarkWords;
 
-// All threads, over two writers, which come back.
-fn run_terminal<'a, 'b, 'c, J, B, D, G, T, Q, R, L, O, E>(
-    rt: &'a R,
-    alloc: Global,
-    config: EngineConfig,
-    store: Store<D>,
-    writer: BoardWriter<Q>,
-    readers: Vec<BoardReader>,
-    source: WordSource,
-    hooks: &'a G,
-    tables: T,
-    exchange: &'a Exchange<J, B>,
-    lines: L,
-    terminal: Terminal<'b, 'c, J, B, R, O, E>,
-) -> ((&'b mut O, &'c mut E), Served, Option<D>)
-where
-    J: Stream + Send + Sync,
-    B: Naming + Send + Sync,
-    D: Disk + Drop + Send,
-    G: Hooks + Sync,
-    T: TableFiles + Drop + Send,
-    Q: Wait + Drop + Send,
-    R: Threads + Wait + Sync,
-    L: LineSource<J> + Send + Drop,
-    O: Write,
-    E: Write,
-    requires config { IsSeated config.service }
-    requires board { IsBoardOf B.opening (state_of store) writer readers.items }
-    requires up { is_down store ≡ false }
-    requires given { L.has_given lines 0 }
-    ensures same_out { result.0.0.ghost_name ≡ terminal.entry.out.ghost_name }
-    ensures same_err { result.0.1.ghost_name ≡ terminal.entry.err.ghost_name }
-    ensures printed { PrintsTo J.input J.editors (O.contents terminal.entry.out.now) (O.contents result.0.0.now) result.1 }
-    ensures told { HasToldSo (E.contents terminal.entry.err.now) (E.contents result.0.1.now) result.1 }
-    ensures ended { HasEnded store result.1 result.2 }
-    ensures one_list { result.1 ≡ Served.Printed → HasPrintedOn store J.input J.editors (O.contents terminal.entry.out.now) (O.contents result.0.0.now) result.2 }
-{
-    let (terminal, served, disk) = threads(
-        rt, alloc, config, store, writer, readers, source, hooks, tables, exchange, lines, terminal,
-    );
-    let Terminal {
-        rt: _,
-        alloc: _,
-        exchange: _,
-        out,
-        err,
-    } = terminal;
-    ((out, err), served, disk)
-}
-
-// All threads, over two writers.
-fn serve_exchange<'a, J, B, D, G, T, Q, R, L, O, E>(
-    rt: &'a R,
-    alloc: Global,
-    config: EngineConfig,
-    store: Store<D>,
-    writer: BoardWriter<Q>,
-    readers: Vec<BoardReader>,
-    source: WordSource,
-    hooks: &'a G,
-    tables: T,
-    exchange: &'a Exchange<J, B>,
-    lines: L,
-    out: &mut O,
-    err: &mut E,
-) -> (Served, Option<D>)
-where
-    J: Stream + Send + Sync,
-    B: Naming + Send + Sync,
-    D: Disk + Drop + Send,
-    G: Hooks + Sync,
-    T: TableFiles + Drop + Send,
-    Q: Wait + Drop + Send,
-    R: Threads + Wait + Sync,
-    L: LineSource<J> + Send + Drop,
-    O: Write,
-    E: Write,
-    requires config { IsSeated config.service }
-    requires board { IsBoardOf B.opening (state_of store) writer readers.items }
-    requires up { is_down store ≡ false }
-    requires given { L.has_given lines 0 }
-    ensures printed { PrintsTo J.input J.editors (O.contents out.old) (O.contents out.new) result.0 }
-    ensures told { HasToldSo (E.contents err.old) (E.contents err.new) result.0 }
-    ensures ended { HasEnded store result.0 result.1 }
-    ensures one_list { result.0 ≡ Served.Printed → HasPrintedOn store J.input J.editors (O.contents out.old) (O.contents out.new) result.1 }
-{
-    let terminal = Terminal {
-        rt,
-        alloc,
-        exchange,
-        out,
-        err,
-    };
-    let ((printed_on, told_on), served, disk) = run_terminal(
-        rt, alloc, config, store, writer, readers, source, hooks, tables, exchange, lines, terminal,
-    );
-    take_back(printed_on);
-    take_back(told_on);
-    (served, disk)
-}
-
-// The service at the board that `B` names, for the input that `J` names.
-fn serve_board<'a, J, B, D, G, T, Q, R, S, O, E>(
-    rt: &'a R,
-    alloc: Global,
-    config: EngineConfig,
-    store: Store<D>,
-    writer: BoardWriter<Q>,
-    readers: Vec<BoardReader>,
-    source: WordSource,
-    hooks: &'a G,
-    tables: T,
-    input: S,
-    out: &mut O,
-    err: &mut E,
-) -> (Served, Option<D>)
-where
-    J: Stream + Send + Sync,
-    B: Naming + Send + Sync,
-    D: Disk + Drop + Send,
-    G: Hooks + Sync,
-    T: TableFiles + Drop + Send,
-    Q: Wait + Drop + Send,
-    R: Threads + Wait + Sync,
-    S: BufRead + Send + Drop,
-    O: Write,
-    E: Write,
-    requires config { IsSeated config.service }
-    requires board { IsBoardOf B.opening (state_of store) writer readers.items }
-    requires up { is_down store ≡ false }
-    requires editors { config.service.editors ≡ J.editors }
-    requires input { J.input ≡ Bytes (S.remaining input) }
-    ensures printed { PrintsTo J.input J.editors (O.contents out.old) (O.contents out.new) result.0 }
-    ensures told { HasToldSo (E.contents err.old) (E.contents err.new) result.0 }
-    ensures ended { HasEnded store result.0 result.1 }
-    ensures one_list { result.0 ≡ Served.Printed → HasPrintedOn store J.input J.editors (O.contents out.old) (O.contents out.new) result.1 }
-{
-    let (editors, forwarders) = (config.service.editors, config.service.forwarders);
-    match Exchange::<J, B>::new(alloc, editors, forwarders, writer.tell().history()) {
-        Ok(exchange) => {
-            let lines = InputSource::new(alloc, editors, input);
-            serve_exchange(
-                rt, alloc, config, store, writer, readers, source, hooks, tables, &exchange, lines,
-                out, err,
-            )
-        }
-        Err(_) => (told(err, Some(Fault::Memory)), Some(store.into_disk())),
-    }
-}
-
-// The service on a store that was opened, for the input that `J` names.
+// The service of a device that was opened, for the input that `J` names.
 fn serve_stream<'a, J, D, G, T, R, S, O, E>(
     rt: &'a R,
     alloc: Global,
-    config: EngineConfig,
-    store: Store<D>,
-    source: WordSource,
+    opened: Opened<D, T>,
     hooks: &'a G,
-    tables: T,
     input: S,
     out: &mut O,
     err: &mut E,
@@ -207,21 +46,22 @@ where
     S: BufRead + Send + Drop,
     O: Write,
     E: Write,
-    requires config { IsSeated config.service }
-    requires up { is_down store ≡ false }
-    requires editors { config.service.editors ≡ J.editors }
+    requires editors { opened.config.service.editors ≡ J.editors }
     requires input { J.input ≡ Bytes (S.remaining input) }
     ensures printed { PrintsTo J.input J.editors (O.contents out.old) (O.contents out.new) result.0 }
     ensures told { HasToldSo (E.contents err.old) (E.contents err.new) result.0 }
-    ensures ended { HasEnded store result.0 result.1 }
-    ensures one_list { result.0 ≡ Served.Printed → HasPrintedOn store J.input J.editors (O.contents out.old) (O.contents out.new) result.1 }
+    ensures ended { HasEnded opened.store result.0 result.1 }
+    ensures one_list { result.0 ≡ Served.Printed → HasPrintedOn opened.store J.input J.editors (O.contents out.old) (O.contents out.new) result.1 }
 {
-    match board_of(rt, alloc, &config, &store) {
-        Ok((writer, readers)) => serve_board::<J, Brand, D, G, T, &R, R, S, O, E>(
-            rt, alloc, config, store, writer, readers, source, hooks, tables, input, out, err,
-        ),
-        Err(_) => (told(err, Some(Fault::Memory)), Some(store.into_disk())),
-    }
+    let lines = InputSource::new(alloc, opened.config.service.editors, input);
+    let terminal = Terminal { alloc, out, err };
+    let (terminal, served, disk) = serve_opened::<J, D, G, T, R, InputSource<S>, Terminal<O, E>>(
+        rt, alloc, opened, hooks, lines, terminal,
+    );
+    let Terminal { alloc: _, out, err } = terminal;
+    take_back(out);
+    take_back(err);
+    (served, disk)
 }
 
 /// Answers the lines of an input on a device: each line as it comes, in the order of the lines, until the input's end.
@@ -272,11 +112,14 @@ where
         Ok(opened) => opened,
         Err((fault, disk)) => return (told(err, Some(told_fault(fault))), Some(disk)),
     };
-    let config = EngineConfig {
-        service: seated(config),
-        rounds,
+    let opened = Opened {
+        config: EngineConfig {
+            service: seated(config),
+            rounds,
+        },
+        store,
+        source,
+        tables,
     };
-    serve_stream::<Brand, D, G, T, R, S, O, E>(
-        rt, alloc, config, store, source, hooks, tables, input, out, err,
-    )
+    serve_stream::<Brand, D, G, T, R, S, O, E>(rt, alloc, opened, hooks, input, out, err)
 }

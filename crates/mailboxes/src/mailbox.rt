@@ -18,12 +18,14 @@ pub struct Mailbox<T: Drop> {
 }
 
 impl<T: Drop> Inbox<T> {
-    fn put(&mut self, item: T) -> Result<(), AllocError> {
+    // Whether the item is the only one: then somebody may sleep for it.
+    fn put(&mut self, item: T) -> Result<bool, AllocError> {
         if self.closed {
-            return Ok(());
+            return Ok(false);
         }
+        let first = self.items.is_empty();
         self.items.push_back(item)?;
-        Ok(())
+        Ok(first)
     }
 }
 
@@ -42,8 +44,10 @@ impl<T: Drop> Mailbox<T> {
     /// Puts an item behind all others. Where the mailbox is closed, the item is dropped.
     pub fn put<R: Wait>(&self, rt: &R, item: T) -> Result<(), AllocError> {
         let put = self.inbox.lock(rt).put(item);
-        self.news.notify_all();
-        put
+        if put? {
+            self.news.notify_all();
+        }
+        Ok(())
     }
 
     /// Takes the first item, and sleeps until there is one. None once the mailbox is closed and empty.

@@ -19,6 +19,8 @@ pub trait Placed {
 pub(crate) struct Ring<T: Placed + Drop> {
     slots: Vec<Option<T>>,
     taken: u64,
+    // How many items are there.
+    held: u64,
     pub(crate) ended: bool,
 }
 
@@ -32,6 +34,7 @@ impl<T: Placed + Drop> Ring<T> {
         Ok(Ring {
             slots,
             taken: 0,
+            held: 0,
             ended: false,
         })
     }
@@ -46,10 +49,25 @@ impl<T: Placed + Drop> Ring<T> {
         place.saturating_sub(self.taken) < self.slots.len() as u64
     }
 
+    /// The first place behind the window.
+    pub(crate) fn room(&self) -> u64 {
+        self.taken.saturating_add(self.slots.len() as u64)
+    }
+
+    // A quarter of the window.
+    fn quarter(&self) -> u64 {
+        self.slots.len() as u64 / 4
+    }
+
     /// Whether a quarter of the window got free with the last item: of each so many places one is such.
     pub(crate) fn is_at_quarter(&self) -> bool {
-        let quarter = self.slots.len() as u64 / 4;
+        let quarter = self.quarter();
         quarter == 0 || self.taken % quarter == 0
+    }
+
+    /// Whether the next item is there, and with it a quarter of the window.
+    pub(crate) fn has_lot(&self) -> bool {
+        self.quarter() <= self.held && self.has_next()
     }
 
     // The slot of a place, where there is any slot.
@@ -82,6 +100,7 @@ impl<T: Placed + Drop> Ring<T> {
         match self.slot(place) {
             Some(slot) if slot.is_none() => {
                 *slot = Some(item);
+                self.held = self.held.saturating_add(1);
                 true
             }
             _ => false,
@@ -96,6 +115,7 @@ impl<T: Placed + Drop> Ring<T> {
             return None;
         }
         let item = self.slot(place)?.take()?;
+        self.held = self.held.saturating_sub(1);
         if item.place() != place {
             return None;
         }

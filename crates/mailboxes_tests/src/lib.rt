@@ -8,3 +8,5 @@
 mod boxes;
 #[cfg(test)]
 mod orders;
+#[cfg(test)]
+mod threads;

@@ -4,9 +4,9 @@ use std::alloc::{AllocError, Global};
 
 /// A card with its place.
 #[derive(Clone, Copy, Drop)]
-struct Card {
-    place: u64,
-    face: u8,
+pub(crate) struct Card {
+    pub(crate) place: u64,
+    pub(crate) face: u8,
 }
 
 impl Placed for Card {
@@ -18,7 +18,7 @@ impl Placed for Card {
 }
 
 /// A buffer with a window of so many places.
-fn buffer(alloc: Global, window: usize) -> Result<ReorderBuffer<Card>, AllocError> {
+pub(crate) fn buffer(alloc: Global, window: usize) -> Result<ReorderBuffer<Card>, AllocError> {
     ReorderBuffer::new(alloc, window)
 }
 
@@ -85,4 +85,39 @@ fn gives_what_is_there_once_it_is_ended(rt: HostRuntime) {
     assert!(rt; !cards.await_turn(&rt, 1));
     assert!(rt; face(cards.take(&rt, 0)) == Some(10));
     assert!(rt; face(cards.take(&rt, 1)).is_none());
+}
+
+#[test]
+fn gives_lots(rt: HostRuntime) {
+    let Ok(cards) = buffer(rt.alloc(), 8) else {
+        assert!(rt; false, "no memory");
+        return;
+    };
+    assert!(rt; cards.put(&rt, Card { place: 1, face: 11 }));
+    assert!(rt; cards.put(&rt, Card { place: 0, face: 10 }));
+    // Two are a quarter of the window, and the next one is there: this doesn't sleep.
+    cards.await_lot(&rt);
+    assert!(rt; face(cards.try_take(&rt, 0)) == Some(10));
+    // One is too few, but nothing comes behind the end.
+    cards.end(&rt);
+    cards.await_lot(&rt);
+    assert!(rt; face(cards.take(&rt, 1)) == Some(11));
+    cards.await_lot(&rt);
+    assert!(rt; face(cards.take(&rt, 2)).is_none());
+}
+
+#[test]
+fn has_room_up_to_the_end_of_the_window(rt: HostRuntime) {
+    let Ok(cards) = buffer(rt.alloc(), 4) else {
+        assert!(rt; false, "no memory");
+        return;
+    };
+    assert!(rt; cards.await_room(&rt, 3));
+    assert!(rt; cards.put(&rt, Card { place: 0, face: 10 }));
+    assert!(rt; face(cards.take(&rt, 0)) == Some(10));
+    assert!(rt; cards.await_room(&rt, 4), "a place got free");
+    assert!(rt; cards.await_room(&rt, 4), "and it stays so");
+    cards.end(&rt);
+    assert!(rt; !cards.await_room(&rt, 4));
+    assert!(rt; !cards.await_room(&rt, 0));
 }

@@ -1,20 +1,18 @@
-use Rattle.std.proofs.Common.{◌≡◌, ◌∙◌, ℕ, ap, sym, subst, IsTrue, Some}
+use Rattle.std.proofs.Common.{◌∙◌, ℕ, ap, refl, sym, subst, Some}
 use Rattle.std.specs.Prelude.{IfSome, IsSomeAnd}
-use Rattle.checkpoint.specs.StoreWords.{state_of, view_of}
-use Rattle.service_threads.proofs.Settling.{read_leaves, served_leaves, served_same}
 use Rattle.service_lines.specs.ServedLines.{IsServeEnd}
 use Rattle.service_lines.proofs.Telling.{told_end}
 use Rattle.live_service.specs.Ends.{fault_of}
 use Rattle.live_service.specs.Inputs.{Bytes}
-use Rattle.live_service.proofs.Ended.{engine_ends, not_printed}
 use Rattle.live_service.specs.ServedList.{HasAnswered}
-use Rattle.live_service.proofs.OneListed.{answered}
-use Rattle.live_service.proofs.PrintedLines.{none_printed}
+use Rattle.live_service.proofs.Ended.{engine_ends, none_to, not_printed}
+use Rattle.live_service.proofs.OneListed.{answered, opened_left, read_left}
 use Rattle.live_service.proofs.serve.serve_live.Goals as goal
 
 pub returns-in-Err-clause-printed : goal.returns-in-Err-clause-printed
 returns-in-Err-clause-printed g c =
-    record { answers = λ unfailed. (0, none_printed (Bytes (g.S.Read.remaining c.args.input)) c.args.config.editors (g.O.Write.contents c.args.out.now), λ is. absurd (not_printed c.told.result _ c.told.ensures.fault is)) }
+    let old = g.O.Write.contents c.args.out.now in
+    none_to (Bytes (g.S.Read.remaining c.args.input)) c.args.config.editors old old c.told.result _ refl c.told.ensures.fault
 
 pub returns-in-Err-clause-ended : goal.returns-in-Err-clause-ended
 returns-in-Err-clause-ended g c =
@@ -23,10 +21,7 @@ returns-in-Err-clause-ended g c =
     c.in-Err.ensures.device)
 
 pub returns-in-Err-clause-left : goal.returns-in-Err-clause-left
-returns-in-Err-clause-left g c = record {
-  ran = c.in-Err.ensures.ran_err;
-  any_moment = λ model state stands keeps. read_leaves state (g.D.Disk.view c.args.disk) (g.D.Disk.view c.in-Err.disk) (c.in-Err.ensures.reads_err model) keeps;
-}
+returns-in-Err-clause-left g c = read_left g.D.Disk c.args.disk c.in-Err.disk c.in-Err.ensures.ran_err c.in-Err.ensures.reads_err
 
 pub returns-clause-ended : goal.returns-clause-ended
 returns-clause-ended g c =
@@ -36,15 +31,9 @@ returns-clause-ended g c =
 
 pub returns-clause-left : goal.returns-clause-left
 returns-clause-left g c =
-    let store = c.in-Ok.opened.0 in
     let ended = c.serve_stream.ensures.ended in
-    record {
-      ran = served_same c.args.disk store ended.0 c.serve_stream.result.1 c.in-Ok.ensures.ran ended.1.disk;
-      any_moment = λ model state stands keeps.
-          let same : state_of store ≡ state = c.standing_law.ensures (state_of store) state _ (c.in-Ok.ensures.stands model) stands in
-          let still : IsTrue (view_of store).keeps_model = subst IsTrue (sym c.in-Ok.ensures.ran.model) model in
-          served_leaves state c.args.disk store ended.0 c.serve_stream.result.1 same (c.in-Ok.ensures.reads model) keeps still ended.1.disk;
-    }
+    opened_left c.args.disk c.in-Ok.opened.0 ended.0 c.serve_stream.result.1 c.standing_law.ensures
+    (record { held = c.in-Ok.ensures.stands; reads = c.in-Ok.ensures.reads; ran = c.in-Ok.ensures.ran }) ended.1.disk
 
 pub returns-in-Err-clause-one_list : goal.returns-in-Err-clause-one_list
 returns-in-Err-clause-one_list g c is = absurd (not_printed c.told.result _ c.told.ensures.fault is)

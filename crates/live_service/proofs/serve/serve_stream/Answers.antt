@@ -1,13 +1,38 @@
-use Rattle.std.proofs.Common.{rules}
-use Rattle.live_service.proofs.Ended.{memory_ended, not_printed}
-use Rattle.live_service.proofs.PrintedLines.{none_printed}
+use Rattle.std.proofs.Common.{rules, ⊎_elim, ap, sym, subst}
+use Rattle.live_service.specs.Ends.{HasToldSo}
+use Rattle.live_service.specs.Runs.{PrintsSo, PrintsTo}
+use Rattle.live_service.specs.ServedList.{HasPrintedOn}
+use Rattle.live_service.proofs.Ended.{prints_on, ran_of, run_prints}
 use Rattle.live_service.proofs.serve.serve_stream.Goals as goal
 
-pub returns-in-Err-clause-printed : goal.returns-in-Err-clause-printed
-returns-in-Err-clause-printed g c = record { answers = λ unfailed. (0, none_printed g.J.Stream.input g.J.Stream.editors (g.O.Write.contents c.args.out.now), λ is. absurd (not_printed c.told.result _ c.told.ensures.fault is)) }
+pub returns-clause-printed : goal.returns-clause-printed
+returns-clause-printed g c =
+    let text = g.O.Write.contents in
+    let now = text c.serve_opened-terminal.result.0.out.now in
+    let printed : PrintsTo g.J.Stream.input g.J.Stream.editors (text c.args.out.now) now c.serve_opened-terminal.result.1 =
+    run_prints c.serve_opened-terminal.ensures g.J.Stream.editors (λ t. text t.out.now)
+    (λ mid printed printing finishing. subst (λ o. PrintsSo g.J.Stream.input g.J.Stream.editors (text c.args.out.now) (text o) printed) (sym finishing.2) printing.3) (λ finishing. ap text finishing.2) in
+    search rules
 
-pub returns-in-Err-clause-ended : goal.returns-in-Err-clause-ended
-returns-in-Err-clause-ended g c = memory_ended c.args.store c.told.result c.into_disk.result c.requires.up (search rules) c.told.ensures.fault
+pub returns-clause-told : goal.returns-clause-told
+returns-clause-told g c =
+    let text = g.E.Write.contents in
+    let ended = c.serve_opened-terminal.result.1 in
+    let now = text c.serve_opened-terminal.result.0.err.now in
+    let told : HasToldSo (text c.args.err.now) now ended =
+    ⊎_elim (λ ran. subst (λ e. HasToldSo (text e) now ended) ran.printing.2 ran.finishing.3) (λ none. none.finishing.3) c.serve_opened-terminal.ensures.console in
+    search rules
 
-pub returns-in-Err-clause-one_list : goal.returns-in-Err-clause-one_list
-returns-in-Err-clause-one_list g c is = absurd (not_printed c.told.result _ c.told.ensures.fault is)
+pub returns-clause-one_list : goal.returns-clause-one_list
+returns-clause-one_list g c is =
+    let ran = ran_of c.serve_opened-terminal.ensures is in
+    let store = c.args.opened.store in
+    let input = g.J.Stream.input in
+    let editors = g.J.Stream.editors in
+    let text = g.O.Write.contents in
+    let old = text c.args.out.now in
+    let back = c.serve_opened-terminal.result.2 in
+    let all : HasPrintedOn store input editors old (text c.serve_opened-terminal.result.0.out.now) back =
+    subst (λ o. HasPrintedOn store input editors old (text o) back) (sym ran.finishing.2)
+    (prints_on store input editors old (text ran.mid.out.now) ran.printed c.serve_opened-terminal.result.1 back ran.printing.3 ran.print_end ran.one_list is) in
+    search rules

@@ -1,19 +1,23 @@
+use Rattle.std.proofs.Common.{inl}
 use Rattle.live_service.proofs.OneListed.{same_board, served_on}
 use Rattle.live_service.proofs.running.fn.threads.scope.Goals as goal
 
 pub returns : goal.returns
 returns g c =
+    let store = c.captures.parts.opened.store in
     let started = c.start_engine-engine_thread.ensures in
     let printed = c.print-console.result.1 in
+    let engine = c.join_engine-ended.result.0 in
     record {
-      mid = c.print-console.result.0;
-      printed = printed;
-      engine = c.join_engine-ended.result.0;
-      printing = c.print-console.ensures.prints;
-      finishing = c.conclude-console.ensures.finishes;
-      engine_end = record { disk = c.join_engine-ended.ensures.disk c.captures.store started; fault = c.conclude-console.ensures.fault };
-      print_end = c.conclude-console.ensures.printed;
-      one_list = λ is. served_on c.captures.store c.join_engine-ended.result.0 printed.known c.join_engine-ended.result.1 (c.conclude-console.ensures.on is) (c.join_engine-ended.ensures.all c.captures.store started);
+      engine_end = (engine, record { disk = c.join_engine-ended.ensures.disk store started; fault = c.conclude-console.ensures.fault });
+      console = inl (record {
+        mid = c.print-console.result.0;
+        printed = printed;
+        printing = c.print-console.ensures.prints;
+        finishing = c.conclude-console.ensures.finishes;
+        print_end = c.conclude-console.ensures.printed;
+        one_list = λ is. served_on store engine printed.known c.join_engine-ended.result.1 (c.conclude-console.ensures.on is) (c.join_engine-ended.ensures.all store started);
+      });
     }
 
 pub conclude-console-requires : goal.conclude-console-requires

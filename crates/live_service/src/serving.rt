@@ -1,0 +1,149 @@
+// The service of an opened device, whatever its lines come from and whoever prints the answers.
+ghost use Rattle.std.specs.Prelude.{◌≡◌, IfOk};
+ghost use Rattle.checkpoint.specs.StoreWords.{state_of};
+ghost use Rattle.service_threads.specs.Config.{IsServiceConfig};
+ghost use Rattle.live_service.specs.Runs.{HasRun};
+ghost use Rattle.live_service.specs.Seated.{IsSeated};
+ghost use Rattle.live_service.specs.ServedList.{IsBoardOf};
+
+use crate::console::Console;
+use crate::exchange::Exchange;
+use crate::line_source::LineSource;
+use crate::messages::Stream;
+use crate::opened::{EngineConfig, EngineParts, Opened};
+use crate::running::threads;
+use checkpoint::Store;
+use command_output::Fault;
+use disk_trait::Disk;
+use generations::{BoardReader, BoardWriter, MOST_READERS, board};
+use service_lines::Served;
+use service_threads::ServiceConfig;
+use service_workers::{Hooks, Naming};
+use std::alloc::{AllocError, Global};
+use std::marker::{Brand, PhantomData};
+use std::sync::Wait;
+use std::thread::Threads;
+use table_files::TableFiles;
+
+/// Does nothing, but by this use of a reference that came back the caller knows what it left.
+pub fn take_back<T>(x: &mut T)
+    ensures { x.new ≡ x.old }
+{}
+
+/// The numbers of a service at whose board one reader is for tables.
+pub fn seated(config: ServiceConfig) -> ServiceConfig
+    requires { IsServiceConfig config }
+    ensures seated { IsSeated result }
+    ensures editors { result.editors ≡ config.editors }
+{
+    let most = MOST_READERS - 1 - config.editors as usize;
+    let forwarders = config.forwarders.min(most as u8);
+    ServiceConfig {
+        editors: config.editors,
+        forwarders,
+        places: config.places,
+    }
+}
+
+// A board for a store, to which nothing was posted, with readers for all editors and forwarders and one for tables.
+fn board_of<'a, D: Disk, R: Wait>(
+    rt: &'a R,
+    alloc: Global,
+    config: &EngineConfig,
+    store: &Store<D>,
+) -> Result<(BoardWriter<&'a R>, Vec<BoardReader>), AllocError>
+    requires { IsSeated config.now.service }
+    ensures { IfOk result (λ r. IsBoardOf r.0.opening (state_of store.now) r.0 r.1.items) }
+{
+    let config = &config.service;
+    let readers = config.editors as usize + config.forwarders as usize + 1;
+    let (starts, count) = (store.starts(), store.count());
+    board::<&R>(alloc, rt, readers, &starts, count)
+}
+
+// Memory ran out before the threads were started: that is told, and the device comes back.
+fn unstarted<J: Stream, D: Disk + Drop, T: Drop, C: Console<J>>(
+    opened: Opened<D, T>,
+    console: C,
+) -> (C, Served, Option<D>)
+    ensures { HasRun C.prints C.finishes J.input opened.store console result.0 result.1 result.2 }
+{
+    let (console, served) = console.finish(Some(Fault::Memory));
+    let Opened {
+        config: _,
+        store,
+        source: _,
+        tables: _,
+    } = opened;
+    (console, served, Some(store.into_disk()))
+}
+
+// The service at the board that `B` names.
+fn serve_at_board<'a, J, B, D, G, T, Q, R, L, C>(
+    rt: &'a R,
+    alloc: Global,
+    opened: Opened<D, T>,
+    writer: BoardWriter<Q>,
+    readers: Vec<BoardReader>,
+    hooks: &'a G,
+    lines: L,
+    console: C,
+) -> (C, Served, Option<D>)
+where
+    J: Stream + Send + Sync,
+    B: Naming + Send + Sync,
+    D: Disk + Drop + Send,
+    G: Hooks + Sync,
+    T: TableFiles + Drop + Send,
+    Q: Wait + Drop + Send,
+    R: Threads + Wait + Sync,
+    L: LineSource<J> + Send + Drop,
+    C: Console<J> + Drop,
+    requires board { IsBoardOf B.opening (state_of opened.store) writer readers.items }
+    requires given { L.has_given lines 0 }
+    ensures { HasRun C.prints C.finishes J.input opened.store console result.0 result.1 result.2 }
+{
+    let service = opened.config.service;
+    let known = writer.tell().history();
+    match Exchange::<J, B>::new(alloc, service.editors, service.forwarders, known) {
+        Ok(exchange) => {
+            let parts = EngineParts {
+                opened,
+                writer,
+                readers,
+                of: PhantomData,
+            };
+            threads(rt, alloc, parts, hooks, &exchange, lines, console)
+        }
+        Err(_) => unstarted::<J, D, T, C>(opened, console),
+    }
+}
+
+/// The service of a device that was opened, for the lines that `J` names: all threads, from these lines to this console. The disk
+/// comes back, unless no thread could be made for the engine.
+pub fn serve_opened<'a, J, D, G, T, R, L, C>(
+    rt: &'a R,
+    alloc: Global,
+    opened: Opened<D, T>,
+    hooks: &'a G,
+    lines: L,
+    console: C,
+) -> (C, Served, Option<D>)
+where
+    J: Stream + Send + Sync,
+    D: Disk + Drop + Send,
+    G: Hooks + Sync,
+    T: TableFiles + Drop + Send,
+    R: Threads + Wait + Sync,
+    L: LineSource<J> + Send + Drop,
+    C: Console<J> + Drop,
+    requires given { L.has_given lines 0 }
+    ensures { HasRun C.prints C.finishes J.input opened.store console result.0 result.1 result.2 }
+{
+    match board_of(rt, alloc, &opened.config, &opened.store) {
+        Ok((writer, readers)) => serve_at_board::<J, Brand, D, G, T, &R, R, L, C>(
+            rt, alloc, opened, writer, readers, hooks, lines, console,
+        ),
+        Err(_) => unstarted::<J, D, T, C>(opened, console),
+    }
+}

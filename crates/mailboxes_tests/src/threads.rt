@@ -1,0 +1,110 @@
+// A buffer between threads: two put, one takes, and nobody sleeps for ever.
+use crate::orders::{Card, buffer};
+use mailboxes::{Mailbox, ReorderBuffer};
+use std::alloc::Global;
+use std::sync::{Arc, Wait};
+use std::thread;
+use std::thread::Threads;
+
+// How many cards there are, and how many places the window has.
+const CARDS: u64 = 20_000;
+
+const WINDOW: usize = 64;
+
+// Puts every second card, as there is room for it. Whether all were put.
+fn puts<R: Wait>(rt: &R, cards: &ReorderBuffer<Card>, first: u64) -> bool {
+    let mut place = first;
+    for _ in rt.forever() {
+        if place >= CARDS {
+            return true;
+        }
+        let face = (place % 251) as u8;
+        if !cards.await_room(rt, place) || !cards.put(rt, Card { place, face }) {
+            return false;
+        }
+        place = place.wrapping_add(2);
+    }
+    true
+}
+
+// Takes cards until none comes any more: how many had the face of their place, each in its turn.
+fn takes<R: Wait>(rt: &R, cards: &ReorderBuffer<Card>, in_lots: bool) -> u64 {
+    let mut count: u64 = 0;
+    for _ in rt.forever() {
+        let card = match cards.try_take(rt, count) {
+            Some(card) => Some(card),
+            None => {
+                if in_lots {
+                    cards.await_lot(rt);
+                }
+                cards.take(rt, count)
+            }
+        };
+        match card {
+            Some(card) if card.face == (count % 251) as u8 => count = count.wrapping_add(1),
+            _ => return count,
+        }
+    }
+    count
+}
+
+// How many cards come out where two threads put them and a third one takes them.
+fn handed<R: Threads + Wait + Copy + Send + 'static>(
+    rt: R,
+    alloc: Global,
+    in_lots: bool,
+) -> Option<u64> {
+    let cards = Arc::new(alloc, buffer(alloc, WINDOW).ok()?).ok()?;
+    let (even, odd) = (Arc::try_clone(&cards).ok()?, Arc::try_clone(&cards).ok()?);
+    let taker = Arc::try_clone(&cards).ok()?;
+    let even = thread::spawn(&rt, move || puts(&rt, &even, 0)).ok()?;
+    let odd = thread::spawn(&rt, move || puts(&rt, &odd, 1)).ok()?;
+    let taker = thread::spawn(&rt, move || takes(&rt, &taker, in_lots)).ok()?;
+    let put = (even.join(&rt), odd.join(&rt));
+    cards.end(&rt);
+    let taken = taker.join(&rt);
+    if put == (true, true) {
+        Some(taken)
+    } else {
+        None
+    }
+}
+
+#[test]
+fn hands_each_card_over_at_once(rt: HostRuntime) {
+    assert!(rt; handed(rt, rt.alloc(), false) == Some(CARDS));
+}
+
+#[test]
+fn hands_cards_over_in_lots(rt: HostRuntime) {
+    assert!(rt; handed(rt, rt.alloc(), true) == Some(CARDS));
+}
+
+// Takes numbers until none comes any more, and adds them.
+fn adds<R: Wait>(rt: &R, numbers: &Mailbox<u32>) -> u64 {
+    let mut sum: u64 = 0;
+    for _ in rt.forever() {
+        match numbers.take(rt) {
+            Some(number) => sum = sum.wrapping_add(number as u64),
+            None => return sum,
+        }
+    }
+    sum
+}
+
+// The sum of the numbers below 10,000, put by one thread and taken by another.
+fn summed<R: Threads + Wait + Copy + Send + 'static>(rt: R, alloc: Global) -> Option<u64> {
+    let numbers = Arc::new(alloc, Mailbox::new(alloc)).ok()?;
+    let taker = Arc::try_clone(&numbers).ok()?;
+    let taker = thread::spawn(&rt, move || adds(&rt, &taker)).ok()?;
+    for number in 0..10_000u32 {
+        numbers.put(&rt, number).ok()?;
+    }
+    numbers.close(&rt);
+    Some(taker.join(&rt))
+}
+
+#[test]
+fn mails_each_number(rt: HostRuntime) {
+    assert!(rt; summed(rt, rt.alloc()) == Some(49_995_000));
+}
