@@ -1,3 +1,4 @@
 pub mod Asking
 pub mod Pairing
 pub mod OneTask
+pub mod OldForms

@@ -16,6 +16,7 @@ use Rattle.command_line.specs.declared.refused.WordsRefused.TheVariants as why
 use Rattle.command_line.specs.declared.task.Task.{Task}
 use Rattle.command_line.specs.declared.task.Task.TheVariants.{Format, Show, Edit, Resume, Route, Check, Migrate, Serve, Tables}
 use Rattle.command_line.specs.Asked.{AreNodesAsked, AreOpsGiven, ArePairsAsked, Gives, IsCause, IsGiven, IsInRange, IsLacking, IsLiveAsked, IsNodeInRange, IsOpsCause, IsPairInRange, IsSameTask, IsSeats, IsSessionAsked, IsSessionText, IsShapedAs, IsTask, IsTicket, IsTicketAsked, IsWordsCause, LacksOps, LacksWords, usual_places, usual_seats}
+use Rattle.command_line.specs.Readings.{IsNumberRefusal, IsUnderstood, ReadsAll}
 use Rattle.command_line.proofs.Pairing.{one_nodes, one_pairs}
 
 -- one name has one letter at a place
@@ -452,3 +453,43 @@ pub of_texts : (rows : List Row) (given : List Text) (refused : WordsRefused) �
     → (refused ≡ why.Memory) ⊎ ((refused ≡ why.Op) × ((ops : List Op) → All Fits ops → map op_text ops ≡ given → ⊥)) → IsOpsCause rows refused
 of_texts rows given refused there (inl memory) = subst (λ (r : WordsRefused). IsOpsCause rows r) (sym memory) tt
 of_texts rows given refused there (inr op) = subst (λ (r : WordsRefused). IsOpsCause rows r) (sym op.0) (not_ops_given rows given there op.1)
+
+-- ---- whole answers
+
+-- the task that is asked for is the answer
+pub answered_as : (name : Text) (rows : List Row) (read : Task) → IsTask name rows read → ((task : Task) → IsTask name rows task → IsInRange task → IsSameTask read task)
+    → (let r : Result Task WordsRefused = Ok read in IsUnderstood name rows r)
+answered_as name rows read asked only = record {
+  asked = asked;
+  only = only;
+  refused = λ task is fits. tt;
+  cause = tt;
+}
+
+-- what has a cause is refused
+pub refused_by : (name : Text) (rows : List Row) (refused : WordsRefused) → IsCause name rows refused → (let r : Result Task WordsRefused = Err refused in IsUnderstood name rows r)
+refused_by name rows refused cause = record {
+  asked = tt;
+  only = λ task is fits. tt;
+  refused = λ task is fits. cause_is_memory name rows refused task is fits cause;
+  cause = cause;
+}
+
+-- and so where it is handed on
+pub refused_as : (name : Text) (rows : List Row) (r : Result Task WordsRefused) (refused : WordsRefused) → IsErrAnd r (λ e. e ≡ refused) → IsCause name rows refused → IsUnderstood name rows r
+refused_as name rows (Ok read) refused is cause = absurd is
+refused_as name rows (Err e) refused is cause = refused_by name rows e (subst (λ (w : WordsRefused). IsCause name rows w) (sym is) cause)
+
+-- values in a row that are refused, as one of them is
+pub all_refused : {T : Type 0} (Given : List T → Type 0) (r : Result (Vec T) WordsRefused) (refused : WordsRefused) → IsErrAnd r (λ e. e ≡ refused) → IsNumberRefusal refused
+    → ((xs : List T) → Given xs → refused ≡ why.Memory) → ReadsAll Given r
+all_refused Given (Ok xs) refused is number only = absurd is
+all_refused Given (Err e) refused is number only = record {
+  found = tt;
+  only = λ xs given. subst (λ (w : WordsRefused). w ≡ why.Memory) (sym is) (only xs given);
+  refusals = subst (λ (w : WordsRefused). IsNumberRefusal w) (sym is) number;
+}
+
+-- the numbers of a service are in range wherever it is asked for
+pub serve_in_range : (rows : List Row) (task : Task) → IsTask (codes "serve") rows task → IsInRange task
+serve_in_range rows task is = only_serve (λ t. IsInRange t) (codes "serve") task refl (task_named (codes "serve") rows task is) (λ other e f q l asked. tt)

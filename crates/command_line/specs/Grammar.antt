@@ -1,9 +1,12 @@
 -- The program's grammar, as clap takes it.
-use Rattle.std.specs.Prelude.{Some, codes, true}
+use Rattle.std.specs.Prelude.{◌≡◌, Some, codes, false, true}
 use Rattle.clap.specs.Lexer.{usize_max}
-use Rattle.clap.specs.Walk.{Rule, Text}
-use Rattle.clap.specs.Simple.{App, new_app, new_rule, on_top, with_rule, with_subcommand}
+use Rattle.clap.specs.Walk.{Rule, Text, rule_of}
+use Rattle.clap.specs.Simple.{App, app_of, new_app, new_rule, on_top, with_rule, with_subcommand}
 use Rattle.clap.specs.declared.builder.action.ArgAction.TheVariants.{Append, Set, SetTrue}
+use Rattle.clap.specs.declared.builder.arg.Arg.{Arg}
+use Rattle.clap.specs.declared.builder.command.Command.{Command}
+use Rattle.clap.specs.declared.builder.command.Command.TheViews.{out-Command}
 
 -- a text that has to be given
 abbrev pub text_rule : Text → Rule
@@ -37,17 +40,25 @@ flag_rule id = record (new_rule id) { long = Some id; action = Some SetTrue }
 abbrev pub on_device_app : Text → App
 on_device_app name = with_rule (new_app name) (text_rule (codes "device"))
 
+-- the same with one text more: `NAME DEVICE TEXT`
+abbrev pub on_device_with_app : Text → Text → App
+on_device_with_app name id = with_rule (on_device_app name) (text_rule id)
+
 -- `format DEVICE N`
 abbrev pub format_app : App
-format_app = with_rule (on_device_app (codes "format")) (text_rule (codes "nodes"))
+format_app = on_device_with_app (codes "format") (codes "nodes")
 
 -- `show DEVICE`
 abbrev pub show_app : App
 show_app = on_device_app (codes "show")
 
+-- `edit DEVICE OP..`
+abbrev pub ops_app : App
+ops_app = with_rule (on_device_app (codes "edit")) ops_rule
+
 -- `edit DEVICE OP.. --session S --ticket T`
 abbrev pub edit_app : App
-edit_app = with_rule (with_rule (with_rule (on_device_app (codes "edit")) ops_rule) (option_rule (codes "session"))) (option_rule (codes "ticket"))
+edit_app = with_rule (with_rule ops_app (option_rule (codes "session"))) (option_rule (codes "ticket"))
 
 -- `resume DEVICE S`
 abbrev pub resume_app : App
@@ -94,3 +105,20 @@ asking_program = with_subcommand (with_subcommand (with_subcommand plain_program
 -- the program's grammar
 unfoldable pub program : App
 program = with_subcommand (with_subcommand asking_program migrate_app.top) serve_app.top
+
+-- ---- what is built of it
+
+-- The argument has this rule, and no subcommand shares it.
+pub record IsArgOf (arg : Arg) (wanted : Rule) : Type 0 where
+  pub rule : rule_of arg ≡ wanted
+  pub local : arg.global ≡ false
+
+-- The command is this one of the grammar, and shares no argument with subcommands.
+pub record IsCommandOf (command : Command) (wanted : App) : Type 0 where
+  pub app : app_of command ≡ wanted
+  pub local : (out-Command command).has_globals ≡ false
+
+-- The command has this rule more. It shares no argument with subcommands where it shared none before.
+pub record AddsRule (before after : Command) (rule : Rule) : Type 0 where
+  pub app : app_of after ≡ with_rule (app_of before) rule
+  pub local : (out-Command before).has_globals ≡ false → (out-Command after).has_globals ≡ false

@@ -1,53 +1,45 @@
 //! The program's grammar.
-ghost use Rattle.std.specs.Prelude.{◌≡◌, IfOk, codes, false};
-ghost use Rattle.clap.specs.Walk.{rule_of};
-ghost use Rattle.clap.specs.Words.{app_of, with_rule};
-ghost use Rattle.clap.specs.declared.builder.command.Command.TheViews.{out-Command};
-ghost use Rattle.command_line.specs.Grammar.{asking_program, check_app, edit_app, flag_rule, more_rule, on_device_app, ops_rule, option_rule, plain_program, program, repeated_rule, route_app, seated_app, serve_app, tables_app, text_rule, words_rule};
+ghost use Rattle.std.specs.Prelude.{◌≡◌, IfOk};
+ghost use Rattle.clap.specs.Words.{app_of};
+ghost use Rattle.command_line.specs.Grammar.{AddsRule, IsArgOf, IsCommandOf, asking_program, check_app, edit_app, flag_rule, more_rule, on_device_app, on_device_with_app, ops_app, option_rule, plain_program, program, repeated_rule, route_app, seated_app, serve_app, tables_app, text_rule, words_rule};
 
 use clap::{Arg, ArgAction, Command};
 use std::alloc::{AllocError, Global};
 
 fn text<'a>(alloc: Global, id: &'a str) -> Arg<'a>
-    ensures rule { rule_of result ≡ text_rule id.entry.now }
-    ensures local { result.global ≡ false }
+    ensures { IsArgOf result (text_rule id.entry.now) }
 {
     Arg::new(alloc, id).required(true).action(ArgAction::Set)
 }
 
 fn on_device<'a>(alloc: Global, name: &'a str) -> Result<Command<'a>, AllocError>
-    ensures app { IfOk result (λ command. app_of command ≡ on_device_app name.entry.now) }
-    ensures local { IfOk result (λ command. (out-Command command).has_globals ≡ false) }
+    ensures { IfOk result (λ command. IsCommandOf command (on_device_app name.entry.now)) }
 {
     Command::new(alloc, name).arg(text(alloc, "device"))
 }
 
 fn on_device_with<'a>(alloc: Global, name: &'a str, id: &'a str) -> Result<Command<'a>, AllocError>
-    ensures app { IfOk result (λ command. app_of command ≡ with_rule (on_device_app name.entry.now) (text_rule id.entry.now)) }
-    ensures local { IfOk result (λ command. (out-Command command).has_globals ≡ false) }
+    ensures { IfOk result (λ command. IsCommandOf command (on_device_with_app name.entry.now id.entry.now)) }
 {
     on_device(alloc, name)?.arg(text(alloc, id))
 }
 
 fn ops_command<'a>(alloc: Global) -> Result<Command<'a>, AllocError>
-    ensures app { IfOk result (λ command. app_of command ≡ with_rule (on_device_app (codes "edit")) ops_rule) }
-    ensures local { IfOk result (λ command. (out-Command command).has_globals ≡ false) }
+    ensures { IfOk result (λ command. IsCommandOf command ops_app) }
 {
     let ops = text(alloc, "ops").num_args(1..);
     on_device(alloc, "edit")?.arg(ops)
 }
 
 fn edit_command<'a>(alloc: Global) -> Result<Command<'a>, AllocError>
-    ensures app { IfOk result (λ command. app_of command ≡ edit_app) }
-    ensures local { IfOk result (λ command. (out-Command command).has_globals ≡ false) }
+    ensures { IfOk result (λ command. IsCommandOf command edit_app) }
 {
     let named = with_option(alloc, ops_command(alloc)?, "session")?;
     with_option(alloc, named, "ticket")
 }
 
 fn option<'a>(alloc: Global, id: &'a str) -> Arg<'a>
-    ensures rule { rule_of result ≡ option_rule id.entry.now }
-    ensures local { result.global ≡ false }
+    ensures { IsArgOf result (option_rule id.entry.now) }
 {
     Arg::new(alloc, id).long(id).action(ArgAction::Set)
 }
@@ -57,24 +49,21 @@ fn with_option<'a>(
     command: Command<'a>,
     id: &'a str,
 ) -> Result<Command<'a>, AllocError>
-    ensures app { IfOk result (λ whole. app_of whole ≡ with_rule (app_of command.entry) (option_rule id.entry.now)) }
-    ensures local { (out-Command command.entry).has_globals ≡ false → IfOk result (λ whole. (out-Command whole).has_globals ≡ false) }
+    ensures { IfOk result (λ whole. AddsRule command.entry whole (option_rule id.entry.now)) }
 {
     command.arg(option(alloc, id))
 }
 
 // A flag, which takes no value.
 fn flag<'a>(alloc: Global, id: &'a str) -> Arg<'a>
-    ensures rule { rule_of result ≡ flag_rule id.entry.now }
-    ensures local { result.global ≡ false }
+    ensures { IsArgOf result (flag_rule id.entry.now) }
 {
     Arg::new(alloc, id).long(id).action(ArgAction::SetTrue)
 }
 
 // A service, with how many editors, forwarders and places it has.
 fn seated_command<'a>(alloc: Global) -> Result<Command<'a>, AllocError>
-    ensures app { IfOk result (λ command. app_of command ≡ seated_app) }
-    ensures local { IfOk result (λ command. (out-Command command).has_globals ≡ false) }
+    ensures { IfOk result (λ command. IsCommandOf command seated_app) }
 {
     let plain = with_words(alloc, on_device(alloc, "serve")?)?;
     let edited = with_option(alloc, plain, "editors")?;
@@ -83,8 +72,7 @@ fn seated_command<'a>(alloc: Global) -> Result<Command<'a>, AllocError>
 }
 
 fn serve_command<'a>(alloc: Global) -> Result<Command<'a>, AllocError>
-    ensures app { IfOk result (λ command. app_of command ≡ serve_app) }
-    ensures local { IfOk result (λ command. (out-Command command).has_globals ≡ false) }
+    ensures { IfOk result (λ command. IsCommandOf command serve_app) }
 {
     let seated = seated_command(alloc)?;
     let flagged = seated.arg(flag(alloc, "live"))?;
@@ -92,16 +80,14 @@ fn serve_command<'a>(alloc: Global) -> Result<Command<'a>, AllocError>
 }
 
 fn with_words<'a>(alloc: Global, command: Command<'a>) -> Result<Command<'a>, AllocError>
-    ensures app { IfOk result (λ whole. app_of whole ≡ with_rule (app_of command.entry) words_rule) }
-    ensures local { (out-Command command.entry).has_globals ≡ false → IfOk result (λ whole. (out-Command whole).has_globals ≡ false) }
+    ensures { IfOk result (λ whole. AddsRule command.entry whole words_rule) }
 {
     command.arg(text(alloc, "words").long("words"))
 }
 
 // Nodes behind the first two, if there are any.
 fn more_nodes<'a>(alloc: Global) -> Arg<'a>
-    ensures rule { rule_of result ≡ more_rule }
-    ensures local { result.global ≡ false }
+    ensures { IsArgOf result more_rule }
 {
     Arg::new(alloc, "more")
         .action(ArgAction::Append)
@@ -109,31 +95,27 @@ fn more_nodes<'a>(alloc: Global) -> Arg<'a>
 }
 
 fn route_command<'a>(alloc: Global) -> Result<Command<'a>, AllocError>
-    ensures app { IfOk result (λ command. app_of command ≡ route_app) }
-    ensures local { IfOk result (λ command. (out-Command command).has_globals ≡ false) }
+    ensures { IfOk result (λ command. IsCommandOf command route_app) }
 {
     let ends = on_device_with(alloc, "route", "from")?.arg(text(alloc, "to"))?;
     with_words(alloc, ends.arg(more_nodes(alloc))?)
 }
 
 fn check_command<'a>(alloc: Global) -> Result<Command<'a>, AllocError>
-    ensures app { IfOk result (λ command. app_of command ≡ check_app) }
-    ensures local { IfOk result (λ command. (out-Command command).has_globals ≡ false) }
+    ensures { IfOk result (λ command. IsCommandOf command check_app) }
 {
     with_words(alloc, on_device(alloc, "check")?)
 }
 
 // An option that may be given any number of times.
 fn repeated<'a>(alloc: Global, id: &'a str) -> Arg<'a>
-    ensures rule { rule_of result ≡ repeated_rule id.entry.now }
-    ensures local { result.global ≡ false }
+    ensures { IsArgOf result (repeated_rule id.entry.now) }
 {
     Arg::new(alloc, id).long(id).action(ArgAction::Append)
 }
 
 fn tables_command<'a>(alloc: Global) -> Result<Command<'a>, AllocError>
-    ensures app { IfOk result (λ command. app_of command ≡ tables_app) }
-    ensures local { IfOk result (λ command. (out-Command command).has_globals ≡ false) }
+    ensures { IfOk result (λ command. IsCommandOf command tables_app) }
 {
     let folder = on_device_with(alloc, "tables", "folder")?;
     let worded = with_words(alloc, folder)?;

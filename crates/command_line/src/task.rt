@@ -1,14 +1,14 @@
 //! What the program's words ask for.
-ghost use Rattle.std.specs.Prelude.{◌≡◌, ◌≤◌, ◌<◌, ◌^◌, ◌⊎◌, ℕ, List, Option, IfOk, IfErr, IsErrOf, Some, None, [], codes, decimal, map, option_map, All, length, IsTrue, ◌↔◌};
-ghost use Rattle.clap.specs.Walk.{first_of, rows_of, texts};
-ghost use Rattle.clap.specs.Words.{first_value, found_of, kind_of, matched_of, raw_values};
+ghost use Rattle.std.specs.Prelude.{◌≡◌, ◌<◌, ◌^◌, ◌⊎◌, List, IfOk, IfErr, Some, None, codes, decimal, map, All, IsTrue, ◌↔◌};
+ghost use Rattle.clap.specs.Walk.{texts};
+ghost use Rattle.clap.specs.Words.{kind_of};
 ghost use Rattle.graph_edits.specs.declared.edits.Op.{Op};
 ghost use Rattle.requests.specs.Tickets.{sessions};
 ghost use Rattle.written_values.specs.declared.words.LandmarkWords.{LandmarkWords};
 ghost use Rattle.written_values.specs.OpText.{Fits, op_text};
-ghost use Rattle.written_values.specs.WordsText.{IsAsked, IsSame, words_text};
-ghost use Rattle.command_line.specs.Asked.{ArePairsAsked, AreRounds, IsAskedFor, IsCause, IsInRange, IsLive, IsNodeInRange, IsOpsCause, IsPairInRange, IsRefusedFor, IsSameTask, IsSeats, IsSessionText, IsTask, IsTicket, IsWordsCause, nodes_of, texts_in};
-ghost use Rattle.command_line.specs.declared.task.Task.{Task};
+ghost use Rattle.written_values.specs.WordsText.{IsAsked, IsSame};
+ghost use Rattle.command_line.specs.Asked.{ArePairsAsked, AreRounds, IsAskedFor, IsOpsCause, IsPairInRange, IsRefusedFor, IsSeats, IsSessionText, IsWordsCause};
+ghost use Rattle.command_line.specs.Readings.{AreNodeTexts, ArePairTexts, AreTextsOfOps, IsLiveIn, IsNumberBelow, IsOpRefusal, IsTextOfWords, IsTicketText, IsUnderstood, IsUnderstoodOn, Reads, ReadsAll, Understands, all_texts_of, rows_in, text_of, texts_of};
 
 use crate::grammar::grammar;
 use crate::refused::WordsRefused;
@@ -102,12 +102,7 @@ const USUAL_SESSION: u8 = 0;
 
 /// What the words ask for, or why they are no task.
 pub fn understood<'a>(alloc: Global, words: &'a [&'a str]) -> Result<Task<'a>, WordsRefused>
-    ensures asked { IfOk result (λ task. IsAskedFor (texts words.entry.now) task) }
-    // Where the words ask for a task whose numbers are in range, it is the answer, or memory ran out.
-    ensures only { (task : Task) → IsAskedFor (texts words.entry.now) task → IsInRange task → IfOk result (λ read. IsSameTask read task) }
-    ensures refused { (task : Task) → IsAskedFor (texts words.entry.now) task → IsInRange task → IfErr result (λ refused. refused ≡ WordsRefused.Memory) }
-    // And each refusal has its cause in the words, the first one in the order of the tests.
-    ensures cause { IfErr result (λ refused. IsRefusedFor (texts words.entry.now) refused) }
+    ensures { Understands (IsAskedFor (texts words.entry.now)) (IsRefusedFor (texts words.entry.now)) result }
 {
     let matches = match grammar(alloc)?.try_get_matches_from(words) {
         Ok(matches) => matches,
@@ -132,10 +127,7 @@ fn refused_for(error: Error) -> WordsRefused
 
 // What a command asks for, of these matches.
 fn task_of<'a>(alloc: Global, name: &str, found: &ArgMatches<'a>) -> Result<Task<'a>, WordsRefused>
-    ensures asked { IfOk result (λ task. IsTask name.now (rows_of (found_of found.entry.now)) task) }
-    ensures only { (task : Task) → IsTask name.now (rows_of (found_of found.entry.now)) task → IsInRange task → IfOk result (λ read. IsSameTask read task) }
-    ensures refused { (task : Task) → IsTask name.now (rows_of (found_of found.entry.now)) task → IsInRange task → IfErr result (λ refused. refused ≡ WordsRefused.Memory) }
-    ensures cause { IfErr result (λ refused. IsCause name.now (rows_of (found_of found.entry.now)) refused) }
+    ensures { IsUnderstood name.now (rows_in found.entry.now) result }
 {
     let Some(device) = found.get_str("device") else {
         return Err(WordsRefused::Usage);
@@ -181,9 +173,7 @@ fn edit_of<'a>(
     device: &'a str,
     found: &ArgMatches<'a>,
 ) -> Result<Task<'a>, WordsRefused>
-    ensures asked { first_of (codes "device") (rows_of (found_of found.entry.now)) ≡ Some device.entry.now → IfOk result (λ task. IsTask (codes "edit") (rows_of (found_of found.entry.now)) task) }
-    ensures only { first_of (codes "device") (rows_of (found_of found.entry.now)) ≡ Some device.entry.now → (task : Task) → IsTask (codes "edit") (rows_of (found_of found.entry.now)) task → IsInRange task → IfOk result (λ read. IsSameTask read task) }
-    ensures cause { first_of (codes "device") (rows_of (found_of found.entry.now)) ≡ Some device.entry.now → IfErr result (λ refused. IsCause (codes "edit") (rows_of (found_of found.entry.now)) refused) }
+    ensures { IsUnderstoodOn (codes "edit") (rows_in found.entry.now) device.entry.now result }
 {
     let session = named_session(alloc, found)?;
     let ticket = ticket(alloc, found)?;
@@ -202,9 +192,7 @@ fn route_of<'a>(
     device: &'a str,
     found: &ArgMatches<'a>,
 ) -> Result<Task<'a>, WordsRefused>
-    ensures asked { first_of (codes "device") (rows_of (found_of found.entry.now)) ≡ Some device.entry.now → IfOk result (λ task. IsTask (codes "route") (rows_of (found_of found.entry.now)) task) }
-    ensures only { first_of (codes "device") (rows_of (found_of found.entry.now)) ≡ Some device.entry.now → (task : Task) → IsTask (codes "route") (rows_of (found_of found.entry.now)) task → IsInRange task → IfOk result (λ read. IsSameTask read task) }
-    ensures cause { first_of (codes "device") (rows_of (found_of found.entry.now)) ≡ Some device.entry.now → IfErr result (λ refused. IsCause (codes "route") (rows_of (found_of found.entry.now)) refused) }
+    ensures { IsUnderstoodOn (codes "route") (rows_in found.entry.now) device.entry.now result }
 {
     let pairs = pairs(alloc, found)?;
     let words = words_asked(alloc, found)?;
@@ -221,9 +209,7 @@ fn serve_of<'a>(
     device: &'a str,
     found: &ArgMatches<'a>,
 ) -> Result<Task<'a>, WordsRefused>
-    ensures asked { first_of (codes "device") (rows_of (found_of found.entry.now)) ≡ Some device.entry.now → IfOk result (λ task. IsTask (codes "serve") (rows_of (found_of found.entry.now)) task) }
-    ensures only { first_of (codes "device") (rows_of (found_of found.entry.now)) ≡ Some device.entry.now → (task : Task) → IsTask (codes "serve") (rows_of (found_of found.entry.now)) task → IfOk result (λ read. IsSameTask read task) }
-    ensures cause { first_of (codes "device") (rows_of (found_of found.entry.now)) ≡ Some device.entry.now → IfErr result (λ refused. IsCause (codes "serve") (rows_of (found_of found.entry.now)) refused) }
+    ensures { IsUnderstoodOn (codes "serve") (rows_in found.entry.now) device.entry.now result }
 {
     let editors = seats(alloc, found, "editors", USUAL_SEATS)?;
     let forwarders = seats(alloc, found, "forwarders", USUAL_SEATS)?;
@@ -246,9 +232,7 @@ fn tables_of<'a>(
     device: &'a str,
     found: &ArgMatches<'a>,
 ) -> Result<Task<'a>, WordsRefused>
-    ensures asked { first_of (codes "device") (rows_of (found_of found.entry.now)) ≡ Some device.entry.now → IfOk result (λ task. IsTask (codes "tables") (rows_of (found_of found.entry.now)) task) }
-    ensures only { first_of (codes "device") (rows_of (found_of found.entry.now)) ≡ Some device.entry.now → (task : Task) → IsTask (codes "tables") (rows_of (found_of found.entry.now)) task → IsInRange task → IfOk result (λ read. IsSameTask read task) }
-    ensures cause { first_of (codes "device") (rows_of (found_of found.entry.now)) ≡ Some device.entry.now → IfErr result (λ refused. IsCause (codes "tables") (rows_of (found_of found.entry.now)) refused) }
+    ensures { IsUnderstoodOn (codes "tables") (rows_in found.entry.now) device.entry.now result }
 {
     let folder = text(found, "folder")?;
     let nodes = named_nodes(alloc, found)?;
@@ -263,10 +247,7 @@ fn tables_of<'a>(
 
 // The nodes that are named, in order.
 fn named_nodes(alloc: Global, found: &ArgMatches<'_>) -> Result<Vec<u16>, WordsRefused>
-    ensures found { IfOk result (λ nodes. texts_in (option_map raw_values (matched_of (found_of found.entry.now) (codes "node"))) ≡ map decimal nodes.items) }
-    ensures fits { IfOk result (λ nodes. All IsNodeInRange nodes.items) }
-    ensures only { (nodes : List ℕ) → All IsNodeInRange nodes → texts_in (option_map raw_values (matched_of (found_of found.entry.now) (codes "node"))) ≡ map decimal nodes → IfErr result (λ refused. refused ≡ WordsRefused.Memory) }
-    ensures refusals { IfErr result (λ refused. (refused ≡ WordsRefused.Usage) ⊎ (refused ≡ WordsRefused.Memory)) }
+    ensures { ReadsAll (AreNodeTexts (texts_of found.entry.now (codes "node"))) result }
 {
     match found.get_strs("node") {
         Some(texts) => nodes_in(alloc, texts),
@@ -276,10 +257,7 @@ fn named_nodes(alloc: Global, found: &ArgMatches<'_>) -> Result<Vec<u16>, WordsR
 
 // Each text as a node.
 fn nodes_in(alloc: Global, given: &[&str]) -> Result<Vec<u16>, WordsRefused>
-    ensures found { IfOk result (λ nodes. texts given.now ≡ map decimal nodes.items) }
-    ensures fits { IfOk result (λ nodes. All IsNodeInRange nodes.items) }
-    ensures only { (nodes : List ℕ) → All IsNodeInRange nodes → texts given.now ≡ map decimal nodes → IfErr result (λ refused. refused ≡ WordsRefused.Memory) }
-    ensures refusals { IfErr result (λ refused. (refused ≡ WordsRefused.Usage) ⊎ (refused ≡ WordsRefused.Memory)) }
+    ensures { ReadsAll (AreNodeTexts (texts given.now)) result }
 {
     let mut nodes = Vec::new(alloc);
     for text in given {
@@ -291,10 +269,7 @@ fn nodes_in(alloc: Global, given: &[&str]) -> Result<Vec<u16>, WordsRefused>
 
 // A number from 1 to 64, or the usual one where none is named.
 fn seats(alloc: Global, found: &ArgMatches<'_>, id: &str, usual: u8) -> Result<u8, WordsRefused>
-    ensures found { IfOk result (λ n. IsSeats (first_value (found_of found.entry.now) id.now) usual n) }
-    ensures same { (n : ℕ) → IsSeats (first_value (found_of found.entry.now) id.now) usual n → IfOk result (λ m. m ≡ n) }
-    ensures only { (n : ℕ) → IsSeats (first_value (found_of found.entry.now) id.now) usual n → IfErr result (λ refused. refused ≡ WordsRefused.Memory) }
-    ensures refusals { IfErr result (λ refused. (refused ≡ WordsRefused.Usage) ⊎ (refused ≡ WordsRefused.Memory)) }
+    ensures { Reads (IsSeats (text_of found.entry.now id.now) usual) result }
 {
     let Some(text) = found.get_str(id) else {
         return Ok(usual);
@@ -307,10 +282,7 @@ fn seats(alloc: Global, found: &ArgMatches<'_>, id: &str, usual: u8) -> Result<u
 
 // The rounds of a live service, where it is to be one. They mean nothing to another.
 fn live(alloc: Global, found: &ArgMatches<'_>) -> Result<Option<u16>, WordsRefused>
-    ensures found { IfOk result (λ live. IsLive (first_value (found_of found.entry.now) (codes "live")) (first_value (found_of found.entry.now) (codes "rounds")) live) }
-    ensures same { (asked : Option ℕ) → IsLive (first_value (found_of found.entry.now) (codes "live")) (first_value (found_of found.entry.now) (codes "rounds")) asked → IfOk result (λ live. live ≡ asked) }
-    ensures only { (asked : Option ℕ) → IsLive (first_value (found_of found.entry.now) (codes "live")) (first_value (found_of found.entry.now) (codes "rounds")) asked → IfErr result (λ refused. refused ≡ WordsRefused.Memory) }
-    ensures refusals { IfErr result (λ refused. (refused ≡ WordsRefused.Usage) ⊎ (refused ≡ WordsRefused.Memory)) }
+    ensures { Reads (IsLiveIn found.entry.now) result }
 {
     if is_flagged(found) {
         return Ok(Some(rounds(alloc, found)?));
@@ -323,7 +295,7 @@ fn live(alloc: Global, found: &ArgMatches<'_>) -> Result<Option<u16>, WordsRefus
 
 // Whether the words ask for a live service.
 fn is_flagged(found: &ArgMatches<'_>) -> bool
-    ensures { IsTrue result ↔ (first_value (found_of found.entry.now) (codes "live") ≡ Some (codes "true")) }
+    ensures { IsTrue result ↔ (text_of found.entry.now (codes "live") ≡ Some (codes "true")) }
 {
     match found.get_str("live") {
         Some(text) => text == "true",
@@ -333,10 +305,7 @@ fn is_flagged(found: &ArgMatches<'_>) -> bool
 
 // A number of rounds from 1 to 65,535, or the usual one where none is named.
 fn rounds(alloc: Global, found: &ArgMatches<'_>) -> Result<u16, WordsRefused>
-    ensures found { IfOk result (λ n. AreRounds (first_value (found_of found.entry.now) (codes "rounds")) n) }
-    ensures same { (n : ℕ) → AreRounds (first_value (found_of found.entry.now) (codes "rounds")) n → IfOk result (λ m. m ≡ n) }
-    ensures only { (n : ℕ) → AreRounds (first_value (found_of found.entry.now) (codes "rounds")) n → IfErr result (λ refused. refused ≡ WordsRefused.Memory) }
-    ensures refusals { IfErr result (λ refused. (refused ≡ WordsRefused.Usage) ⊎ (refused ≡ WordsRefused.Memory)) }
+    ensures { Reads (AreRounds (text_of found.entry.now (codes "rounds"))) result }
 {
     let Some(text) = found.get_str("rounds") else {
         return Ok(USUAL_ROUNDS);
@@ -349,8 +318,9 @@ fn rounds(alloc: Global, found: &ArgMatches<'_>) -> Result<u16, WordsRefused>
 
 // The text of an argument.
 fn text<'a>(found: &ArgMatches<'a>, id: &str) -> Result<&'a str, WordsRefused>
-    ensures found { IfOk result (λ text. first_value (found_of found.entry.now) id.now ≡ Some text.now) }
-    ensures none { IfErr result (λ _. first_value (found_of found.entry.now) id.now ≡ None) }
+    ensures found { IfOk result (λ text. text_of found.entry.now id.now ≡ Some text.now) }
+
+    ensures none { IfErr result (λ _. text_of found.entry.now id.now ≡ None) }
     ensures refusal { IfErr result (λ refused. refused ≡ WordsRefused.Usage) }
 {
     match found.get_str(id) {
@@ -361,10 +331,7 @@ fn text<'a>(found: &ArgMatches<'a>, id: &str) -> Result<&'a str, WordsRefused>
 
 // A whole number from 0 to 65,535.
 fn whole(alloc: Global, found: &ArgMatches<'_>, id: &str) -> Result<u16, WordsRefused>
-    ensures found { IfOk result (λ n. first_value (found_of found.entry.now) id.now ≡ Some (decimal n)) }
-    ensures same { (n : ℕ) → n < 2 ^ 16 → first_value (found_of found.entry.now) id.now ≡ Some (decimal n) → IfOk result (λ m. m ≡ n) }
-    ensures only { (n : ℕ) → n < 2 ^ 16 → first_value (found_of found.entry.now) id.now ≡ Some (decimal n) → IfErr result (λ refused. refused ≡ WordsRefused.Memory) }
-    ensures refusals { IfErr result (λ refused. (refused ≡ WordsRefused.Usage) ⊎ (refused ≡ WordsRefused.Memory)) }
+    ensures { Reads (IsNumberBelow (2 ^ 16) (text_of found.entry.now id.now)) result }
 {
     let Some(text) = found.get_str(id) else {
         return Err(WordsRefused::Usage);
@@ -374,10 +341,7 @@ fn whole(alloc: Global, found: &ArgMatches<'_>, id: &str) -> Result<u16, WordsRe
 
 // The whole number from 0 to 65,535 that a text is.
 fn whole_in(alloc: Global, text: &str) -> Result<u16, WordsRefused>
-    ensures found { IfOk result (λ n. text.now ≡ decimal n) }
-    ensures same { (n : ℕ) → n < 2 ^ 16 → text.now ≡ decimal n → IfOk result (λ m. m ≡ n) }
-    ensures only { (n : ℕ) → n < 2 ^ 16 → text.now ≡ decimal n → IfErr result (λ refused. refused ≡ WordsRefused.Memory) }
-    ensures refusals { IfErr result (λ refused. (refused ≡ WordsRefused.Usage) ⊎ (refused ≡ WordsRefused.Memory)) }
+    ensures { Reads (λ n. (text.now ≡ decimal n) × (n < 2 ^ 16)) result }
 {
     match node(alloc, text)? {
         Some(number) => Ok(number),
@@ -387,10 +351,7 @@ fn whole_in(alloc: Global, text: &str) -> Result<u16, WordsRefused>
 
 // The ends of all routes: the first two nodes, and by twos those behind them.
 fn pairs(alloc: Global, found: &ArgMatches<'_>) -> Result<Vec<(u16, u16)>, WordsRefused>
-    ensures found { IfOk result (λ pairs. ArePairsAsked (rows_of (found_of found.entry.now)) pairs.items) }
-    ensures fits { IfOk result (λ pairs. All IsPairInRange pairs.items) }
-    ensures only { (pairs : List (ℕ × ℕ)) → All IsPairInRange pairs → ArePairsAsked (rows_of (found_of found.entry.now)) pairs → IfErr result (λ refused. refused ≡ WordsRefused.Memory) }
-    ensures refusals { IfErr result (λ refused. (refused ≡ WordsRefused.Usage) ⊎ (refused ≡ WordsRefused.Memory)) }
+    ensures { ReadsAll (λ pairs. ArePairsAsked (rows_in found.entry.now) pairs × All IsPairInRange pairs) result }
 {
     let from = whole(alloc, found, "from")?;
     let to = whole(alloc, found, "to")?;
@@ -401,10 +362,7 @@ fn pairs(alloc: Global, found: &ArgMatches<'_>) -> Result<Vec<(u16, u16)>, Words
 
 // The pairs of nodes behind the first two.
 fn more_pairs(alloc: Global, found: &ArgMatches<'_>) -> Result<Vec<(u16, u16)>, WordsRefused>
-    ensures found { IfOk result (λ pairs. texts_in (option_map raw_values (matched_of (found_of found.entry.now) (codes "more"))) ≡ map decimal (nodes_of pairs.items)) }
-    ensures fits { IfOk result (λ pairs. All IsPairInRange pairs.items) }
-    ensures only { (pairs : List (ℕ × ℕ)) → All IsPairInRange pairs → texts_in (option_map raw_values (matched_of (found_of found.entry.now) (codes "more"))) ≡ map decimal (nodes_of pairs) → IfErr result (λ refused. refused ≡ WordsRefused.Memory) }
-    ensures refusals { IfErr result (λ refused. (refused ≡ WordsRefused.Usage) ⊎ (refused ≡ WordsRefused.Memory)) }
+    ensures { ReadsAll (ArePairTexts (texts_of found.entry.now (codes "more"))) result }
 {
     match found.get_strs("more") {
         Some(texts) => pairs_in(alloc, texts),
@@ -414,10 +372,7 @@ fn more_pairs(alloc: Global, found: &ArgMatches<'_>) -> Result<Vec<(u16, u16)>, 
 
 // Texts as nodes, by twos.
 fn pairs_in(alloc: Global, given: &[&str]) -> Result<Vec<(u16, u16)>, WordsRefused>
-    ensures found { IfOk result (λ pairs. texts given.now ≡ map decimal (nodes_of pairs.items)) }
-    ensures fits { IfOk result (λ pairs. All IsPairInRange pairs.items) }
-    ensures only { (pairs : List (ℕ × ℕ)) → All IsPairInRange pairs → texts given.now ≡ map decimal (nodes_of pairs) → IfErr result (λ refused. refused ≡ WordsRefused.Memory) }
-    ensures refusals { IfErr result (λ refused. (refused ≡ WordsRefused.Usage) ⊎ (refused ≡ WordsRefused.Memory)) }
+    ensures { ReadsAll (ArePairTexts (texts given.now)) result }
 {
     let mut pairs = Vec::new(alloc);
     let mut waits = None;
@@ -439,10 +394,7 @@ fn pairs_in(alloc: Global, given: &[&str]) -> Result<Vec<(u16, u16)>, WordsRefus
 
 // A session's number.
 fn session(alloc: Global, found: &ArgMatches<'_>) -> Result<u8, WordsRefused>
-    ensures found { IfOk result (λ n. (first_value (found_of found.entry.now) (codes "session") ≡ Some (decimal n)) × (n < sessions)) }
-    ensures same { (n : ℕ) → n < sessions → first_value (found_of found.entry.now) (codes "session") ≡ Some (decimal n) → IfOk result (λ m. m ≡ n) }
-    ensures only { (n : ℕ) → n < sessions → first_value (found_of found.entry.now) (codes "session") ≡ Some (decimal n) → IfErr result (λ refused. refused ≡ WordsRefused.Memory) }
-    ensures refusals { IfErr result (λ refused. (refused ≡ WordsRefused.Usage) ⊎ (refused ≡ WordsRefused.Memory)) }
+    ensures { Reads (IsNumberBelow sessions (text_of found.entry.now (codes "session"))) result }
 {
     let Some(text) = found.get_str("session") else {
         return Err(WordsRefused::Usage);
@@ -455,11 +407,7 @@ fn session(alloc: Global, found: &ArgMatches<'_>) -> Result<u8, WordsRefused>
 
 // The session of an edit: the one that is named, or else the usual one.
 fn named_session(alloc: Global, found: &ArgMatches<'_>) -> Result<u8, WordsRefused>
-    ensures found { IfOk result (λ n. IsSessionText (first_value (found_of found.entry.now) (codes "session")) n) }
-    ensures fits { IfOk result (λ n. n < sessions) }
-    ensures same { (n : ℕ) → n < sessions → IsSessionText (first_value (found_of found.entry.now) (codes "session")) n → IfOk result (λ m. m ≡ n) }
-    ensures only { (n : ℕ) → n < sessions → IsSessionText (first_value (found_of found.entry.now) (codes "session")) n → IfErr result (λ refused. refused ≡ WordsRefused.Memory) }
-    ensures refusals { IfErr result (λ refused. (refused ≡ WordsRefused.Usage) ⊎ (refused ≡ WordsRefused.Memory)) }
+    ensures { Reads (λ n. IsSessionText (text_of found.entry.now (codes "session")) n × (n < sessions)) result }
 {
     let Some(text) = found.get_str("session") else {
         return Ok(USUAL_SESSION);
@@ -472,11 +420,7 @@ fn named_session(alloc: Global, found: &ArgMatches<'_>) -> Result<u8, WordsRefus
 
 // A ticket, where one is named.
 fn ticket(alloc: Global, found: &ArgMatches<'_>) -> Result<Option<u64>, WordsRefused>
-    ensures found { IfOk result (λ ticket. first_value (found_of found.entry.now) (codes "ticket") ≡ option_map decimal ticket) }
-    ensures fits { IfOk result IsTicket }
-    ensures same { (ticket : Option ℕ) → IsTicket ticket → first_value (found_of found.entry.now) (codes "ticket") ≡ option_map decimal ticket → IfOk result (λ read. read ≡ ticket) }
-    ensures only { (ticket : Option ℕ) → IsTicket ticket → first_value (found_of found.entry.now) (codes "ticket") ≡ option_map decimal ticket → IfErr result (λ refused. refused ≡ WordsRefused.Memory) }
-    ensures refusals { IfErr result (λ refused. (refused ≡ WordsRefused.Usage) ⊎ (refused ≡ WordsRefused.Memory)) }
+    ensures { Reads (IsTicketText (text_of found.entry.now (codes "ticket"))) result }
 {
     let Some(text) = found.get_str("ticket") else {
         return Ok(None);
@@ -488,10 +432,13 @@ fn ticket(alloc: Global, found: &ArgMatches<'_>) -> Result<Option<u64>, WordsRef
 }
 
 fn words_asked(alloc: Global, found: &ArgMatches<'_>) -> Result<LandmarkWords, WordsRefused>
-    ensures found { IfOk result (λ words. first_value (found_of found.entry.now) (codes "words") ≡ Some (words_text words)) }
+    ensures found { IfOk result (IsTextOfWords (text_of found.entry.now (codes "words"))) }
     ensures fits { IfOk result IsAsked }
-    ensures same { (words : LandmarkWords) → IsAsked words → first_value (found_of found.entry.now) (codes "words") ≡ Some (words_text words) → IfOk result (λ read. IsSame read words) }
-    ensures cause { IfErr result (λ refused. IsWordsCause (rows_of (found_of found.entry.now)) refused) }
+
+    ensures same { (words : LandmarkWords) → IsAsked words
+        → IsTextOfWords (text_of found.entry.now (codes "words")) words → IfOk result (λ read. IsSame read words) }
+
+    ensures cause { IfErr result (λ refused. IsWordsCause (rows_in found.entry.now) refused) }
 {
     let Some(text) = found.get_str("words") else {
         return Err(WordsRefused::Usage);
@@ -503,9 +450,12 @@ fn words_asked(alloc: Global, found: &ArgMatches<'_>) -> Result<LandmarkWords, W
 }
 
 fn change(alloc: Global, found: &ArgMatches<'_>) -> Result<Change, WordsRefused>
-    ensures found { IfOk result (λ change. option_map raw_values (matched_of (found_of found.entry.now) (codes "ops")) ≡ Some (map op_text change)) }
-    ensures same { (ops : List Op) → All Fits ops → option_map raw_values (matched_of (found_of found.entry.now) (codes "ops")) ≡ Some (map op_text ops) → IfOk result (λ change. change ≡ ops) }
-    ensures cause { IfErr result (λ refused. IsOpsCause (rows_of (found_of found.entry.now)) refused) }
+    ensures found { IfOk result (λ change. AreTextsOfOps (all_texts_of found.entry.now (codes "ops")) change) }
+
+    ensures same { (ops : List Op) → All Fits ops
+        → AreTextsOfOps (all_texts_of found.entry.now (codes "ops")) ops → IfOk result (λ change. change ≡ ops) }
+
+    ensures cause { IfErr result (λ refused. IsOpsCause (rows_in found.entry.now) refused) }
 {
     let Some(texts) = found.get_strs("ops") else {
         return Err(WordsRefused::Usage);
@@ -521,8 +471,11 @@ fn change(alloc: Global, found: &ArgMatches<'_>) -> Result<Change, WordsRefused>
 // Each text as an op.
 fn ops_of(alloc: Global, given: &[&str]) -> Result<Vec<Op>, WordsRefused>
     ensures ops { IfOk result (λ ops. map op_text ops.items ≡ texts given.now) }
-    ensures same { (ops : List Op) → All Fits ops → map op_text ops ≡ texts given.now → IfOk result (λ read. read.items ≡ ops) }
-    ensures cause { IfErr result (λ refused. (refused ≡ WordsRefused.Memory) ⊎ ((refused ≡ WordsRefused.Op) × ((ops : List Op) → All Fits ops → map op_text ops ≡ texts given.now → ⊥))) }
+
+    ensures same { (ops : List Op) → All Fits ops
+        → map op_text ops ≡ texts given.now → IfOk result (λ read. read.items ≡ ops) }
+
+    ensures cause { IfErr result (λ refused. IsOpRefusal (texts given.now) refused) }
 {
     let mut ops = Vec::new(alloc);
     for text in given {

@@ -1,5 +1,5 @@
 -- How runs end.
-use Rattle.std.proofs.Common.{◌≡◌, ◌⊎◌, inl, inr, refl, ℕ, List, Option}
+use Rattle.std.proofs.Common.{◌≡◌, ◌≤◌, ◌∙◌, ◌⊎◌, ⊎_elim, inl, inr, refl, sym, ℕ, List, Option}
 use Rattle.clap.specs.Walk.{Text}
 use Rattle.disk_trait.specs.declared.disk.Disk.{Ghosts}
 use Rattle.command_output.specs.declared.ended.Ended.TheVariants.{Done, Refused}
@@ -12,7 +12,9 @@ use Rattle.commands.specs.declared.outcome.Outcome.TheVariants.{Answered, Told, 
 use Rattle.commands.specs.Endings.{IsFaultFor}
 use Rattle.commands.specs.Outcomes.{IsOutcome, status_in}
 use Rattle.commands.specs.Printed.{AnswersWords}
+use Rattle.commands.specs.Runs.{RunsWords, Says}
 use Rattle.table_files.specs.Files.{Put}
+use Rattle.commands.proofs.Faults.{never_output}
 
 -- the faults of status 2 are those by which words are not understood
 is_not_understood : (fault : Fault) → status_of fault ≡ 2 → IsNotUnderstood fault
@@ -85,3 +87,16 @@ refused model opened put words given old new told_old told_new (Answered Done) i
 refused model opened put words given old new told_old told_new (Answered Refused) is one = inl is.0
 refused model opened put words given old new told_old told_new (Told fault) is one = inr (fault, one, is.0, inl refl)
 refused model opened put words given old new told_old told_new (Untold fault) is one = inr (fault, one, is, inr refl)
+
+-- what the status of a run says
+pub says : {D R W E : Type 0} (model : Ghosts D) (opened : List ℕ → Access → D → Type 0) (put : List Put → Type 0) (words : List Text) (remaining : R → Option (List ℕ)) (script rest : R) (contents : W → Option (List ℕ)) (old new : W) (shown : E → Option (List ℕ)) (err_old err_new : E) (outcome : Outcome) (code : ℕ)
+    → RunsWords model opened put words remaining script rest contents old new shown err_old err_new outcome → code ≡ status_in outcome → code ≤ 2 → Says model opened put words (remaining script) contents old new code
+says model opened put words remaining script rest contents old new shown err_old err_new outcome code runs is few = record {
+  status = few;
+  done = λ zero. answered model opened put words (remaining script) (contents old) (contents new) (shown err_old) (shown err_new) outcome runs.outcome (sym is ∙ zero);
+  refused = λ one. ⊎_elim inl (λ why. inr (why.0, why.1, why.2, λ batch other. runs.untouched batch why.0 other why.3))
+      (refused model opened put words (remaining script) (contents old) (contents new) (shown err_old) (shown err_new) outcome runs.outcome (sym is ∙ one));
+  not_understood = λ two.
+      let why = not_understood model opened put words (remaining script) (contents old) (contents new) (shown err_old) (shown err_new) outcome runs.outcome (sym is ∙ two) in
+      (λ batch. runs.untouched batch why.0 (never_output why.0 why.1) why.3, (why.0, why.1, why.2));
+}

@@ -1,5 +1,5 @@
 -- Which faults may end a run.
-use Rattle.std.proofs.Common.{◌≡◌, ◌≢◌, ◌∙◌, ℕ, List, Option, inl, refl, sym, subst, Result, Ok, Err, IfErr, IfOk, IsErrAnd, IsErrOf}
+use Rattle.std.proofs.Common.{◌≡◌, ◌≢◌, ◌∙◌, ℕ, List, Option, inl, refl, sym, subst, Result, Ok, Err, IfErr, IsErrAnd, IsErrOf}
 use Rattle.clap.specs.Walk.{Text}
 use Rattle.disk_trait.specs.declared.disk.Disk.{Ghosts}
 use Rattle.written_values.specs.declared.words.LandmarkWords.{LandmarkWords}
@@ -15,9 +15,9 @@ use Rattle.command_line.specs.declared.task.Task.{Task}
 use Rattle.command_output.specs.Faults.{IsNotUnderstood}
 use Rattle.command_output.specs.declared.ended.Ended.{Ended}
 use Rattle.commands.specs.declared.devices.Access.{Access}
-use Rattle.commands.specs.Printed.{PrintedFor}
+use Rattle.commands.specs.Runs.{EndsTask}
 use Rattle.table_files.specs.Files.{Put}
-use Rattle.commands.specs.Endings.{IsCheckDeviceFault, IsRouteDeviceFault, IsFaultFor, IsRouteFault, IsQueryFault, IsThreadFault, IsWordsFault, MayEnd, NamesNodes, words_fault}
+use Rattle.commands.specs.Endings.{IsCheckDeviceFault, IsRouteDeviceFault, IsFaultFor, IsRouteFault, IsQueryFault, IsThreadFault, IsWordsFault, NamesNodes, words_fault}
 
 -- words of which a graph lacks a node name nodes
 pub names_nodes : (words : LandmarkWords) (nodes : ℕ) → ¬ IsWithin words nodes → NamesNodes words
@@ -125,11 +125,7 @@ handed_up (Err e) P fault is has = subst P (sym is) has
 pub not_told : {T : Type 0} (r : Result T Fault) (fault : Fault) (P : Fault → Type 0) → (P fault → ⊥) → IfErr r P → IsErrOf r fault → ⊥
 not_told r fault P never may is = never (subst (λ x. IfErr x P) is may)
 
--- what ends or answers the task that was understood does so with the one that it is
-pub ends_task : {D T : Type 0} (model : Ghosts D) (opened : List ℕ → Access → D → Type 0) (put : List Put → Type 0) (r : Result T Fault) (given old new : Option (List ℕ)) (task shape : Task) → task ≡ shape
-    → IfErr r (λ fault. MayEnd model opened put shape given old new fault) → IfErr r (λ fault. MayEnd model opened put task given old new fault)
-ends_task model opened put r given old new task shape is may = subst (λ (t : Task). IfErr r (λ fault. MayEnd model opened put t given old new fault)) (sym is) may
-
-pub answers_task : {D : Type 0} (model : Ghosts D) (opened : List ℕ → Access → D → Type 0) (put : List Put → Type 0) (r : Result Ended Fault) (given old new : Option (List ℕ)) (task shape : Task) → task ≡ shape
-    → IfOk r (λ ended. PrintedFor model opened put shape given ended old new) → IfOk r (λ ended. PrintedFor model opened put task given ended old new)
-answers_task model opened put r given old new task shape is printed = subst (λ (t : Task). IfOk r (λ ended. PrintedFor model opened put t given ended old new)) (sym is) printed
+-- a task that was understood ends as the one that it is
+pub ends_task : {D W : Type 0} (model : Ghosts D) (opened : List ℕ → Access → D → Type 0) (put : List Put → Type 0) (r : Result Ended Fault) (given : Option (List ℕ)) (contents : W → Option (List ℕ)) (old new : W) (task shape : Task) → task ≡ shape
+    → EndsTask model opened put shape given contents old new r → EndsTask model opened put task given contents old new r
+ends_task model opened put r given contents old new task shape is ends = subst (λ (t : Task). EndsTask model opened put t given contents old new r) (sym is) ends

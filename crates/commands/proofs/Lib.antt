@@ -7,3 +7,4 @@ pub mod ScriptTexts
 pub mod Serving
 pub mod Tabling
 pub mod ToldRuns
+pub mod OldForms

@@ -1,5 +1,5 @@
 -- What was answered of a device, printed.
-use Rattle.std.proofs.Common.{◌≡◌, ◌∙◌, ◌<◌, ◌⊎◌, ap, inl, inr, subst, ⊎_elim, ℕ, List, Option, Result, Ok, Err, IfErr, IfOk, IsErrOf, IsTrue, OnOk}
+use Rattle.std.proofs.Common.{◌≡◌, ◌∙◌, ◌<◌, ◌⊎◌, ap, inl, inr, refl, subst, sym, ⊎_elim, ℕ, List, Option, Result, Ok, Err, IfErr, IfOk, IsErrAnd, IsErrOf, IsTrue, OnOk}
 use Rattle.std.proofs.lemmas.Result.{IfErr-at_err}
 use Rattle.std.specs.Prelude.{IsOkAnd}
 use Rattle.std.specs.Global.{Vec}
@@ -22,9 +22,10 @@ use Rattle.command_output.specs.declared.fault.Fault.TheVariants as told
 use Rattle.command_output.specs.Lines.{line, listing_text, ticket_text}
 use Rattle.device_commands.specs.Answer.{IsNew, IsTaken, last_ticket, state_after, ticket_of, verdict_of}
 use Rattle.device_commands.specs.Openings.{IsEditFault, IsReading, IsUnwrittenFault, TellsOf}
-use Rattle.commands.specs.Devices.{EndsBy, OfOpened}
+use Rattle.commands.specs.Devices.{EndsBy, IsFileFault, OfOpened}
 use Rattle.commands.specs.Endings.{IsCheckDeviceFault, IsCheckEnd, IsEditEnd, IsReadingEnd, IsRouteDeviceFault, IsRouteEnd}
 use Rattle.commands.specs.Printed.{PrintsCheck, PrintsListing, PrintsRoutes, PrintsTicket, PrintsVerdict, ended_by, verdict_text}
+use Rattle.commands.specs.Runs.{EndsAt, EndsOn}
 use Rattle.commands.specs.SchemeAnswers.{AreNodes, AreRoutesOf, IsCheckOf, checks_text, ended_after, ended_at, routes_text}
 
 -- ---- what was printed
@@ -34,7 +35,7 @@ pub listing_printed : {X : Type 0} (bytes : X → List ℕ) (r : Result Ended Fa
     → IfOk answer (λ text. (state : State) × (bytes text ≡ listing_text state.count state.graph))
     → (IsTrue disk.keeps_model → (state : State) → StandsFor state disk.content → IfOk answer (λ text. bytes text ≡ listing_text state.count state.graph))
     → (IsTrue disk.keeps_model → OnlyRead disk left)
-    → IfOk r (λ ended. (ended ≡ Done) × IsOkAnd answer (λ text. Appends old new (bytes text))) → IfOk r (λ ended. PrintsListing disk left ended old new)
+    → IfOk r (λ ended. IsOkAnd answer (λ text. (ended ≡ Done) × Appends old new (bytes text))) → IfOk r (λ ended. PrintsListing disk left ended old new)
 listing_printed bytes (Ok ended) (Ok text) disk left old new one this reads printed = (
   record {
     of_one = (one.0, (printed.0, subst (λ (shown : List ℕ). Appends old new shown) one.1 printed.1));
@@ -42,7 +43,7 @@ listing_printed bytes (Ok ended) (Ok text) disk left old new one this reads prin
   },
   reads,
 )
-listing_printed bytes (Ok ended) (Err fault) disk left old new one this reads printed = absurd printed.1
+listing_printed bytes (Ok ended) (Err fault) disk left old new one this reads printed = absurd printed
 listing_printed bytes (Err fault) answer disk left old new one this reads printed = tt
 
 -- of a ticket
@@ -50,7 +51,7 @@ pub ticket_printed : (r : Result Ended Fault) (answer : Result ℕ Fault) (sessi
     → IfOk answer (λ ticket. (state : State) × (ticket ≡ last_of state.tickets session))
     → (IsTrue disk.keeps_model → (state : State) → StandsFor state disk.content → IfOk answer (λ ticket. ticket ≡ last_of state.tickets session))
     → (IsTrue disk.keeps_model → OnlyRead disk left)
-    → IfOk r (λ ended. (ended ≡ Done) × IsOkAnd answer (λ ticket. Appends old new (line (ticket_text session ticket)))) → IfOk r (λ ended. PrintsTicket session disk left ended old new)
+    → IfOk r (λ ended. IsOkAnd answer (λ ticket. (ended ≡ Done) × Appends old new (line (ticket_text session ticket)))) → IfOk r (λ ended. PrintsTicket session disk left ended old new)
 ticket_printed (Ok ended) (Ok ticket) session disk left old new one this reads printed = (
   record {
     of_one = (one.0, (printed.0, subst (λ (t : ℕ). Appends old new (line (ticket_text session t))) one.1 printed.1));
@@ -58,7 +59,7 @@ ticket_printed (Ok ended) (Ok ticket) session disk left old new one this reads p
   },
   reads,
 )
-ticket_printed (Ok ended) (Err fault) session disk left old new one this reads printed = absurd printed.1
+ticket_printed (Ok ended) (Err fault) session disk left old new one this reads printed = absurd printed
 ticket_printed (Err fault) answer session disk left old new one this reads printed = tt
 
 -- of a verdict
@@ -188,3 +189,22 @@ pub opened_err : {D : Type 0} (model : Ghosts D) (opened : D → Type 0) (disk l
 opened_err model opened disk left (Ok ended) Ends was ends = tt
 opened_err model opened disk left (Err fault) Ends was ends =
     ⊎_elim (λ is. inr (inl is)) (λ why. inr (inr (record { disk = disk; was = was; left = left; holds = why }))) ends
+
+-- a command that ends so on the device that was opened ends so on the device by its path
+pub ends_at : {D W : Type 0} (model : Ghosts D) (opened : D → Type 0) (Prints : DiskView → DiskView → Ended → Option (List ℕ) → Option (List ℕ) → Type 0) (MayFail : DiskView → DiskView → Fault → Type 0) (contents : W → Option (List ℕ)) (old new : W) (disk left : D) (r : Result Ended Fault)
+    → opened disk → EndsOn Prints MayFail (λ d. model.view d) disk left contents old new r → EndsAt model opened Prints MayFail contents old new r
+ends_at model opened Prints MayFail contents old new disk left r was ends = record {
+  printed = opened_ok model opened disk left r (λ ended before after. Prints before after ended (contents old) (contents new)) was ends.printed;
+  fault = opened_err model opened disk left r MayFail was ends.fault;
+  untouched = ends.untouched;
+}
+
+-- and one whose device can't be had tells that
+pub not_had : {D W : Type 0} (model : Ghosts D) (opened : D → Type 0) (Prints : DiskView → DiskView → Ended → Option (List ℕ) → Option (List ℕ) → Type 0) (MayFail : DiskView → DiskView → Fault → Type 0) (contents : W → Option (List ℕ)) (old : W) (r : Result Ended Fault) (fault : Fault)
+    → IsErrAnd r (λ e. e ≡ fault) → IsFileFault fault → EndsAt model opened Prints MayFail contents old old r
+not_had model opened Prints MayFail contents old (Ok ended) fault is why = absurd is
+not_had model opened Prints MayFail contents old (Err e) fault is why = record {
+  printed = tt;
+  fault = inl (subst (λ (f : Fault). IsFileFault f) (sym is) why);
+  untouched = λ other. refl;
+}

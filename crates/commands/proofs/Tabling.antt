@@ -1,5 +1,5 @@
 -- Tables that are put: what was answered and why it ended, of a scheme, of a device and of a run.
-use Rattle.std.proofs.Common.{◌≡◌, ◌⊎◌, inl, inr, sym, subst, ⊎_elim, ℕ, List, [], Option, Some, None, Result, Ok, Err, IfErr, IfOk, IsErrOf, IsTrue}
+use Rattle.std.proofs.Common.{◌≡◌, ◌≢◌, ◌⊎◌, inl, inr, sym, subst, ⊎_elim, ℕ, List, [], Option, Some, None, Result, Ok, Err, IfErr, IfOk, IsErrOf, IsTrue}
 use Rattle.std.proofs.lemmas.List.{append-nil}
 use Rattle.std.proofs.lemmas.Result.{IfErr-at_err}
 use Rattle.std.specs.Prelude.{IsOkAnd}
@@ -15,6 +15,7 @@ use Rattle.written_values.specs.Words.{AreWords, IsWithin}
 use Rattle.written_values.specs.declared.words.LandmarkWords.{LandmarkWords}
 use Rattle.command_output.specs.declared.ended.Ended.{Ended}
 use Rattle.command_output.specs.declared.fault.Fault.{Fault}
+use Rattle.command_output.specs.declared.fault.Fault.TheVariants as told
 use Rattle.command_line.specs.declared.task.Task.{Task}
 use Rattle.command_line.specs.declared.task.Task.TheVariants.{Format, Show, Edit, Resume, Route, Check, Migrate, Serve, Tables}
 use Rattle.commands.specs.declared.devices.Access.{Access}
@@ -23,6 +24,8 @@ use Rattle.commands.specs.declared.outcome.Outcome.TheVariants.{Answered, Told, 
 use Rattle.commands.specs.Endings.{EndsTables, IsCheckEnd, IsFaultFor, IsTablesEnd, MayEnd}
 use Rattle.commands.specs.Outcomes.{AnyPut, IsOutcome}
 use Rattle.commands.specs.Printed.{PrintedFor, PrintsTables}
+use Rattle.commands.specs.Runs.{EndsPutFound}
+use Rattle.commands.proofs.Faults.{each_fault}
 use Rattle.table_files.specs.Files.{HasPut, Put}
 use Rattle.commands.specs.SchemeAnswers.{IsSchemeBy}
 use Rattle.table_files.specs.Tables.{AnswersTables, EndsPutting}
@@ -37,6 +40,14 @@ pub scheme_by : (graph : Network) (generation : ℕ) (asked : LandmarkWords) (wo
     → IfOk answer (λ p. IsSchemeOf graph words generation p) → IfOk answer (λ p. IsSchemeBy graph generation asked p)
 scheme_by graph generation asked words (Ok p) within are is = record { within = within; words = words; are = are; scheme = is }
 scheme_by graph generation asked words (Err e) within are is = tt
+
+-- tables of a scheme that was found are put so
+pub found_put : {W : Type 0} (answer : Result (ℕ × Parts) Fault) (found : ℕ × Parts) (folder named : List ℕ) (put : List Put → Type 0) (contents : W → Option (List ℕ)) (old new : W) (r : Result Ended Fault) → answer ≡ Ok found
+    → IfOk r (λ ended. AnswersTables found.1 found.0 folder named put ended (contents old) (contents new)) → IfErr r (λ fault. EndsPutting found.1 folder named put fault) → IfErr r (λ fault. fault ≢ told.Output → new ≡ old)
+    → EndsPutFound answer folder named put contents old new r
+found_put answer found folder named put contents old new r is prints ends kept =
+    subst (λ (a : Result (ℕ × Parts) Fault). EndsPutFound a folder named put contents old new r) (sym is)
+    (record { printed = prints; fault = each_fault r (λ fault. EndsPutting found.1 folder named put fault) _ (λ fault why. inr why) ends; untouched = kept })
 
 -- ---- on a device
 

@@ -1,5 +1,5 @@
 -- How runs end whose faults are told, and those of live services.
-use Rattle.std.proofs.Common.{◌≡◌, ◌≢◌, ◌∙◌, ◌⊎◌, ◌==◌, if◌then◌else◌, ap, inl, inr, refl, sym, subst, ℕ, List, [], Option, Some, None, Result, Ok, Err, IfErr, IfOk, IfSome}
+use Rattle.std.proofs.Common.{◌≡◌, ◌≢◌, ◌∙◌, ◌⊎◌, ◌==◌, if◌then◌else◌, ap, inl, inr, refl, sym, subst, ℕ, List, [], Option, Some, None, Result, Ok, Err, IfErr, IfOk, IfSome, IsErrAnd}
 use Rattle.std.specs.Borrow.{Bor}
 use Rattle.std.specs.Io.KnownBytes.{prepend_known}
 use Rattle.std.specs.Io.Buffered.{reader_buffer, reader_capacity, reader_inner, reader_remaining}
@@ -29,6 +29,7 @@ use Rattle.commands.specs.Devices.{IsFileFault}
 use Rattle.commands.specs.Endings.{EndsServe, IsFaultFor, MayEnd}
 use Rattle.commands.specs.Outcomes.{IsEndOf, IsLiveOutcome, IsOutcome, IsOutcomeOf, IsServiceOutcome, IsToldSo}
 use Rattle.commands.specs.Printed.{PrintedFor, PrintsServed}
+use Rattle.commands.specs.Runs.{EndsScript}
 use Rattle.commands.specs.ServedScripts.{IsLiveService}
 
 -- what was answered for a task, or may end it, is its outcome
@@ -157,3 +158,15 @@ fresh_reader {T} remaining r from inner empty capacity =
     ∙ ap (λ (bs : List ℕ). prepend_known bs (remaining (reader_inner r))) empty
     ∙ ap (λ (t : T). prepend_known [] (remaining t)) inner
     ∙ nothing_before (remaining from)
+
+-- ---- a service over a script
+
+-- a fault that is handed on ends it
+pub script_ends : {D W : Type 0} (model : Ghosts D) (opened : D → Type 0) (given : Option (List ℕ)) (editors : ℕ) (words : LandmarkWords) (contents : W → Option (List ℕ)) (old new : W) (r : Result Ended Fault) (fault : Fault)
+    → IsErrAnd r (λ e. e ≡ fault) → EndsServe model opened given editors words fault → (fault ≢ told.Output → new ≡ old) → EndsScript model opened given editors words contents old new r
+script_ends model opened given editors words contents old new (Ok ended) fault is why kept = absurd is
+script_ends model opened given editors words contents old new (Err e) fault is why kept = record {
+  printed = tt;
+  fault = subst (λ (f : Fault). EndsServe model opened given editors words f) (sym is) why;
+  untouched = subst (λ (f : Fault). f ≢ told.Output → new ≡ old) (sym is) kept;
+}

@@ -4,3 +4,5 @@ pub mod ServedScripts
 pub mod Printed
 pub mod Endings
 pub mod Outcomes
+pub mod Queries
+pub mod Runs

@@ -38,7 +38,8 @@ pub(crate) fn scheme_in_thread<R: Threads + Wait + Sync>(
     words: &Vec<u64>,
     generation: u64,
 ) -> Result<Scheme, Fault>
-    ensures scheme { IfOk result (λ scheme. IsSchemeOf graph.now words.now.items generation scheme) }
+    ensures scheme { IfOk result (IsSchemeOf graph.now words.now.items generation) }
+
     ensures fault { IfErr result (λ fault. IsThreadFault fault) }
 {
     let workers = workers_here(rt, graph.nodes());
@@ -46,7 +47,7 @@ pub(crate) fn scheme_in_thread<R: Threads + Wait + Sync>(
         thread::scope_env(),
         rt,
         |scope| -> Result<Scheme, Fault>
-            ensures scheme { IfOk result (λ scheme. IsSchemeOf graph.entry.now words.entry.now.items generation scheme) }
+            ensures scheme { IfOk result (IsSchemeOf graph.entry.now words.entry.now.items generation) }
             ensures fault { IfErr result (λ fault. IsThreadFault fault) }
         {
             let promise = SchemePromise {
@@ -55,7 +56,7 @@ pub(crate) fn scheme_in_thread<R: Threads + Wait + Sync>(
                 generation,
             };
             let job = || -> Result<Scheme, AllocError>
-                ensures { IfOk result (λ scheme. IsSchemeOf graph.entry.now words.entry.now.items generation scheme) }
+                ensures { IfOk result (IsSchemeOf graph.entry.now words.entry.now.items generation) }
             { scheme_of_in_threads(rt, alloc, graph, words, generation, workers) };
             match Stack::new()
                 .stack_size(STACK_LEN)

@@ -1,6 +1,7 @@
 //! What the checks say of a graph under landmark words, in a thread of its own: trees are as deep as a graph has nodes.
-ghost use Rattle.std.specs.Prelude.{◌≡◌, length, IfOk, IfErr, Ok};
+ghost use Rattle.std.specs.Prelude.{◌≡◌, length, IfOk, IfErr};
 ghost use Rattle.commands.specs.Endings.{IsThreadFault};
+ghost use Rattle.commands.specs.Queries.{IsCheckedBy};
 ghost use Rattle.scheme_builds.specs.Queries.{IsCheckAnswer};
 
 use command_output::Fault;
@@ -38,7 +39,8 @@ pub(crate) fn check_in_thread<R: Threads + Wait + Sync>(
     words: &Vec<u64>,
     generation: u64,
 ) -> Result<Checked, Fault>
-    ensures checked { IfOk result (λ checked. IsCheckAnswer graph.now words.now.items generation (Ok checked)) }
+    ensures checked { IfOk result (IsCheckedBy graph.now words.now.items generation) }
+
     ensures fault { IfErr result (λ fault. IsThreadFault fault) }
 {
     let workers = workers_here(rt, graph.nodes());
@@ -46,7 +48,7 @@ pub(crate) fn check_in_thread<R: Threads + Wait + Sync>(
         thread::scope_env(),
         rt,
         |scope| -> Result<Checked, Fault>
-            ensures checked { IfOk result (λ checked. IsCheckAnswer graph.entry.now words.entry.now.items generation (Ok checked)) }
+            ensures checked { IfOk result (IsCheckedBy graph.entry.now words.entry.now.items generation) }
             ensures fault { IfErr result (λ fault. IsThreadFault fault) }
         {
             let promise = CheckPromise {

@@ -1,16 +1,12 @@
 //! What `format`, `show`, `edit`, `resume` and `migrate` do on a device that is open, and print.
-ghost use Rattle.std.specs.Prelude.{◌≡◌, ◌≢◌, ◌<◌, ◌⊎◌, IfOk, IfErr, IsErrOf, IsOkAnd, IsTrue};
+ghost use Rattle.std.specs.Prelude.{◌≡◌, ◌<◌, IfErr, OnOk};
 ghost use Rattle.std.specs.String.{string_bytes};
-ghost use Rattle.std.specs.Io.KnownBytes.{Appends};
 ghost use Rattle.requests.specs.Tickets.{sessions};
-ghost use Rattle.layout_2.specs.State.{State};
-ghost use Rattle.layout_2.specs.Standing.{KeepsThrough, StandsFor};
-ghost use Rattle.disk_trait.specs.Disk.{LeavesOnly};
 ghost use Rattle.command_output.specs.Lines.{line, migrated_text, ticket_text};
-ghost use Rattle.device_commands.specs.Answer.{state_after};
 ghost use Rattle.device_commands.specs.Openings.{IsOpenFault};
-ghost use Rattle.commands.specs.Endings.{IsEditEnd, IsFormatEnd, IsMoveEnd, IsReadingEnd};
-ghost use Rattle.commands.specs.Printed.{PrintsFormatted, PrintsListing, PrintsMoved, PrintsTicket, PrintsVerdict, ended_by, verdict_text};
+ghost use Rattle.commands.specs.Endings.{IsEditEnd, IsFormatEnd, IsReadingEnd};
+ghost use Rattle.commands.specs.Printed.{PrintsFormatted, PrintsListing, PrintsTicket, PrintsVerdict, ended_by, verdict_text};
+ghost use Rattle.commands.specs.Runs.{ChangesWholly, EndsAfter, EndsMoveOn, EndsOn, PrintsText};
 
 use command_output::{
     AcceptedLine, Ended, Fault, Formatted, MigratedLine, RefusedLine, TicketLine, print_line,
@@ -31,9 +27,8 @@ pub(crate) fn format_on<D: Disk, O: Write>(
     nodes: u16,
     out: &mut O,
 ) -> Result<Ended, Fault>
-    ensures printed { IfOk result (λ ended. PrintsFormatted nodes (D.view disk.old) (D.view disk.new) ended (O.contents out.old) (O.contents out.new)) }
-    ensures fault { IfErr result (λ fault. (fault ≡ Fault.Output) ⊎ IsFormatEnd nodes (D.view disk.old) (D.view disk.new) fault) }
-    ensures untouched { IfErr result (λ fault. fault ≢ Fault.Output → out.new ≡ out.old) }
+    ensures { EndsOn (PrintsFormatted nodes) (IsFormatEnd nodes) D.view disk.old disk.new
+        O.contents out.old out.new result }
 {
     device_commands::format(disk, nodes)?;
     print_line(out, Formatted { nodes })?;
@@ -46,18 +41,14 @@ pub(crate) fn show_on<D: Disk, O: Write>(
     disk: D,
     out: &mut O,
 ) -> (Result<Ended, Fault>, D)
-    ensures printed { IfOk result.0 (λ ended. PrintsListing (D.view disk) (D.view result.1) ended (O.contents out.old) (O.contents out.new)) }
-    ensures fault { IfErr result.0 (λ fault. (fault ≡ Fault.Output) ⊎ IsReadingEnd IsOpenFault (D.view disk) (D.view result.1) fault) }
-    ensures untouched { IfErr result.0 (λ fault. fault ≢ Fault.Output → out.new ≡ out.old) }
+    ensures { EndsOn PrintsListing (IsReadingEnd IsOpenFault) D.view disk result.1 O.contents out.old out.new result.0 }
 {
     let (answer, disk) = device_commands::listing(alloc, disk);
     (print_listing(out, answer), disk)
 }
 
 fn print_listing<O: Write>(out: &mut O, answer: Result<String, Fault>) -> Result<Ended, Fault>
-    ensures printed { IfOk result (λ ended. (ended ≡ Ended.Done) × IsOkAnd answer (λ text. Appends (O.contents out.old) (O.contents out.new) (string_bytes text))) }
-    ensures fault { IfErr result (λ fault. (fault ≡ Fault.Output) ⊎ IsErrOf answer fault) }
-    ensures untouched { IfErr result (λ fault. fault ≢ Fault.Output → out.new ≡ out.old) }
+    ensures { EndsAfter answer (λ _. Ended.Done) string_bytes O.contents out.old out.new result }
 {
     let text = answer?;
     print_text(out, text.as_str())?;
@@ -74,21 +65,18 @@ pub(crate) fn edit_on<D: Disk, R: Threads + Wait + Sync + AllocGlobal, O: Write>
     out: &mut O,
 ) -> (Result<Ended, Fault>, D)
     requires { session < sessions }
-    ensures printed { IfOk result.0 (λ ended. PrintsVerdict session ticket change (D.view disk) (D.view result.1) ended (O.contents out.old) (O.contents out.new)) }
-    ensures fault { IfErr result.0 (λ fault. (fault ≡ Fault.Output) ⊎ IsEditEnd session ticket change (D.view disk) (D.view result.1) fault) }
-    ensures untouched { IfErr result.0 (λ fault. fault ≢ Fault.Output → out.new ≡ out.old) }
+    ensures ends { EndsOn (PrintsVerdict session ticket change) (IsEditEnd session ticket change)
+        D.view disk result.1 O.contents out.old out.new result.0 }
+
     // Whatever ends it, and at any moment of it: a crash leaves the state before the change or the one after it.
-    ensures any_moment { IsTrue (D.view disk).keeps_model → (state : State) → StandsFor state (D.view disk).content → KeepsThrough (D.view disk) state
-        → LeavesOnly (D.view disk) (D.view result.1) (λ image. StandsFor state image ⊎ StandsFor (state_after state session ticket change) image) }
+    ensures any_moment { ChangesWholly session ticket change (D.view disk) (D.view result.1) }
 {
     let (answer, disk) = device_commands::edit(rt, rt.alloc(), disk, session, ticket, change);
     (print_verdict(out, answer), disk)
 }
 
 fn print_verdict<O: Write>(out: &mut O, answer: Result<Verdict, Fault>) -> Result<Ended, Fault>
-    ensures printed { IfOk result (λ ended. IsOkAnd answer (λ verdict. (ended ≡ ended_by verdict) × Appends (O.contents out.old) (O.contents out.new) (line (verdict_text verdict)))) }
-    ensures fault { IfErr result (λ fault. (fault ≡ Fault.Output) ⊎ IsErrOf answer fault) }
-    ensures untouched { IfErr result (λ fault. fault ≢ Fault.Output → out.new ≡ out.old) }
+    ensures { EndsAfter answer ended_by (λ verdict. line (verdict_text verdict)) O.contents out.old out.new result }
 {
     match answer? {
         Verdict::Accepted { count } => {
@@ -110,9 +98,8 @@ pub(crate) fn resume_on<D: Disk, O: Write>(
     out: &mut O,
 ) -> (Result<Ended, Fault>, D)
     requires { session < sessions }
-    ensures printed { IfOk result.0 (λ ended. PrintsTicket session (D.view disk) (D.view result.1) ended (O.contents out.old) (O.contents out.new)) }
-    ensures fault { IfErr result.0 (λ fault. (fault ≡ Fault.Output) ⊎ IsReadingEnd IsOpenFault (D.view disk) (D.view result.1) fault) }
-    ensures untouched { IfErr result.0 (λ fault. fault ≢ Fault.Output → out.new ≡ out.old) }
+    ensures { EndsOn (PrintsTicket session) (IsReadingEnd IsOpenFault) D.view disk result.1
+        O.contents out.old out.new result.0 }
 {
     let (answer, disk) = device_commands::resume(alloc, disk, session);
     (print_ticket(out, session, answer), disk)
@@ -123,9 +110,8 @@ fn print_ticket<O: Write>(
     session: u8,
     answer: Result<u64, Fault>,
 ) -> Result<Ended, Fault>
-    ensures printed { IfOk result (λ ended. (ended ≡ Ended.Done) × IsOkAnd answer (λ ticket. Appends (O.contents out.old) (O.contents out.new) (line (ticket_text session ticket)))) }
-    ensures fault { IfErr result (λ fault. (fault ≡ Fault.Output) ⊎ IsErrOf answer fault) }
-    ensures untouched { IfErr result (λ fault. fault ≢ Fault.Output → out.new ≡ out.old) }
+    ensures { EndsAfter answer (λ _. Ended.Done) (λ ticket. line (ticket_text session ticket))
+        O.contents out.old out.new result }
 {
     let ticket = answer?;
     print_line(out, TicketLine { session, ticket })?;
@@ -139,9 +125,7 @@ pub(crate) fn migrate_on<D: Disk, N: Disk, O: Write>(
     new: &mut N,
     out: &mut O,
 ) -> Result<Ended, Fault>
-    ensures printed { IfOk result (λ ended. PrintsMoved (D.view old.old) (N.view new.old) (N.view new.new) ended (O.contents out.old) (O.contents out.new)) }
-    ensures fault { IfErr result (λ fault. (fault ≡ Fault.Output) ⊎ IsMoveEnd (D.view old.old) (D.view old.new) (N.view new.old) (N.view new.new) fault) }
-    ensures untouched { IfErr result (λ fault. fault ≢ Fault.Output → out.new ≡ out.old) }
+    ensures { EndsMoveOn D.view old.old old.new N.view new.old new.new O.contents out.old out.new result }
 {
     let moved = device_commands::migrate(alloc, old, new)?;
     print_moved(out, moved)?;
@@ -149,7 +133,9 @@ pub(crate) fn migrate_on<D: Disk, N: Disk, O: Write>(
 }
 
 fn print_moved<O: Write>(out: &mut O, moved: Moved) -> Result<(), Fault>
-    ensures printed { IfOk result (λ _. Appends (O.contents out.old) (O.contents out.new) (line (migrated_text moved.count moved.edges))) }
+    ensures printed { OnOk result
+        (PrintsText O.contents out.old out.new (line (migrated_text moved.count moved.edges))) }
+
     ensures fault { IfErr result (λ fault. fault ≡ Fault.Output) }
 {
     print_line(

@@ -1,7 +1,8 @@
 //! The routes of packets in a graph under landmark words.
-ghost use Rattle.std.specs.Prelude.{◌≡◌, ◌<◌, ◌↔◌, Bool, List, IfOk, IsTrue, length};
+ghost use Rattle.std.specs.Prelude.{◌≡◌, ◌<◌, ◌↔◌, IfOk, IsTrue, length};
 ghost use Rattle.graph_edits.specs.Edges.{IsSound};
-ghost use Rattle.commands.specs.SchemeAnswers.{AreChosenBy, AreNodes, AreRoutesUnder, IsRouteUnder};
+ghost use Rattle.commands.specs.Queries.{AreRoutesBy};
+ghost use Rattle.commands.specs.SchemeAnswers.{AreNodes, AreRoutesUnder, IsRouteUnder};
 
 use graph_edits::Graph;
 use landmarks::Landmarks;
@@ -25,7 +26,7 @@ pub(crate) fn routes_by(
 ) -> Result<Vec<Route>, AllocError>
     requires words { length words.now ≡ graph.now.nodes }
     requires nodes { AreNodes graph.now.nodes pairs.now }
-    ensures { IfOk result (λ routes. (flags : List Bool) × AreChosenBy graph.now.nodes words.now flags × AreRoutesUnder graph.now flags pairs.now routes.items) }
+    ensures { IfOk result (AreRoutesBy graph.now words.now pairs.now) }
 {
     let nodes = graph.nodes();
     let landmarks = Landmarks::choose(alloc, nodes as usize, words)?;
@@ -55,6 +56,7 @@ fn route_between(routes: &mut Routes<'_>, from: u16, to: u16) -> Result<Route, A
     requires from { from < routes.old.graph.nodes }
     requires to { to < routes.old.graph.nodes }
     ensures route { IfOk result (λ route. IsRouteUnder routes.old.graph routes.old.flags from to route) }
+
     ensures kept { routes.new ≡ routes.old }
 {
     trail_laws();

@@ -1,19 +1,15 @@
 //! The program, on any words, reader and writers.
-ghost use Rattle.std.specs.Prelude.{◌≡◌, ◌≢◌, ◌≤◌, ◌<◌, ◌⊎◌, ℕ, List, Option, None, IfOk, IfErr};
+ghost use Rattle.std.specs.Prelude.{◌≡◌, ◌<◌, ℕ, List, Option, None};
 ghost use Rattle.clap.specs.Walk.{texts};
 ghost use Rattle.requests.specs.Tickets.{sessions};
-ghost use Rattle.command_output.specs.Faults.{IsNotUnderstood, status_of};
-ghost use Rattle.command_output.specs.declared.fault.Fault.{Fault};
 ghost use Rattle.device_commands.specs.Openings.{IsOpenFault};
-ghost use Rattle.command_line.specs.Asked.{IsAskedFor, IsInRange};
-ghost use Rattle.command_line.specs.declared.task.Task.{Task};
-ghost use Rattle.commands.specs.Devices.{EndsBy, IsFileFault, IsFileOf, OfOpened};
-ghost use Rattle.commands.specs.Endings.{IsEditEnd, IsFaultFor, IsFormatEnd, IsMoveEnd, IsReadingEnd, MayEnd, words_fault};
-ghost use Rattle.commands.specs.Outcomes.{AnyPut, IsOutcome, IsOutcomeOf, IsServiceOutcome};
-ghost use Rattle.commands.specs.Printed.{AnswersWords, PrintedFor, PrintsFormatted, PrintsListing, PrintsMoved, PrintsTicket, PrintsVerdict};
-ghost use Rattle.commands.specs.ServedScripts.{AskLive, AskService, AskTables, IsLiveService, IsOfTables, IsService, MayRun};
+ghost use Rattle.commands.specs.Devices.{IsFileOf};
+ghost use Rattle.commands.specs.Endings.{IsEditEnd, IsFormatEnd, IsReadingEnd, words_fault};
+ghost use Rattle.commands.specs.Outcomes.{AnyPut};
+ghost use Rattle.commands.specs.Printed.{PrintsFormatted, PrintsListing, PrintsTicket, PrintsVerdict};
+ghost use Rattle.commands.specs.Runs.{EndsAt, EndsMoveAt, EndsTask, PutBy, PutsOnlyAsked, RunsService, RunsTask, RunsWords, Says, UnlessOutput};
+ghost use Rattle.commands.specs.ServedScripts.{AskService, IsLiveService, IsOfTables, IsService, MayRun};
 ghost use Rattle.service_threads.specs.Config.{IsServiceConfig};
-ghost use Rattle.table_files.specs.Files.{HasPut};
 
 use crate::devices::{Access, Devices, FileDevices};
 use crate::on_device::{edit_on, format_on, migrate_on, resume_on, show_on};
@@ -51,15 +47,9 @@ where
     S: Read + Send,
     O: Write,
     E: Write,
-    ensures status { result ≤ 2 }
-    ensures done { result ≡ 0 → AnswersWords ⟦<DeviceFile as Disk>⟧ IsFileOf AnyPut (texts words.now) (S.remaining script.old) Ended.Done (O.contents out.old) (O.contents out.new) }
-    // The answer is no, or one of the faults of the words' task ended the run; only where the output failed may a part be printed. A
-    // live service has printed answers by then.
-    ensures refused { result ≡ 1 → AnswersWords ⟦<DeviceFile as Disk>⟧ IsFileOf AnyPut (texts words.now) (S.remaining script.old) Ended.Refused (O.contents out.old) (O.contents out.new)
-        ⊎ ((fault : Fault) × (status_of fault ≡ 1) × IsFaultFor ⟦<DeviceFile as Disk>⟧ IsFileOf AnyPut (texts words.now) (S.remaining script.old) (O.contents out.old) (O.contents out.new) fault × (¬ AskLive (texts words.now) → fault ≢ Fault.Output → out.new ≡ out.old)) }
-    // Words and scripts that aren't understood print nothing, and the fault says so.
-    ensures not_understood { result ≡ 2 → (¬ AskLive (texts words.now) → out.new ≡ out.old)
-        × ((fault : Fault) × IsNotUnderstood fault × IsFaultFor ⟦<DeviceFile as Disk>⟧ IsFileOf AnyPut (texts words.now) (S.remaining script.old) (O.contents out.old) (O.contents out.new) fault) }
+    ensures says { Says ⟦<DeviceFile as Disk>⟧ IsFileOf AnyPut (texts words.now)
+        (S.remaining script.old) O.contents out.old out.new result }
+
     ensures unread { ¬ AskService (texts words.now) → script.new ≡ script.old }
 {
     run(rt, words, script, out, err).status()
@@ -80,14 +70,12 @@ where
     S: Read + Send,
     O: Write,
     E: Write,
-    ensures status { result ≤ 2 }
-    ensures done { result ≡ 0 → AnswersWords ⟦<DeviceFile as Disk>⟧ IsFileOf (HasPut (T.puts tables.old) (T.puts tables.new)) (texts words.now) (S.remaining script.old) Ended.Done (O.contents out.old) (O.contents out.new) }
-    ensures refused { result ≡ 1 → AnswersWords ⟦<DeviceFile as Disk>⟧ IsFileOf (HasPut (T.puts tables.old) (T.puts tables.new)) (texts words.now) (S.remaining script.old) Ended.Refused (O.contents out.old) (O.contents out.new)
-        ⊎ ((fault : Fault) × (status_of fault ≡ 1) × IsFaultFor ⟦<DeviceFile as Disk>⟧ IsFileOf (HasPut (T.puts tables.old) (T.puts tables.new)) (texts words.now) (S.remaining script.old) (O.contents out.old) (O.contents out.new) fault × (¬ AskLive (texts words.now) → fault ≢ Fault.Output → out.new ≡ out.old)) }
-    ensures not_understood { result ≡ 2 → (¬ AskLive (texts words.now) → out.new ≡ out.old)
-        × ((fault : Fault) × IsNotUnderstood fault × IsFaultFor ⟦<DeviceFile as Disk>⟧ IsFileOf (HasPut (T.puts tables.old) (T.puts tables.new)) (texts words.now) (S.remaining script.old) (O.contents out.old) (O.contents out.new) fault) }
+    ensures says { Says ⟦<DeviceFile as Disk>⟧ IsFileOf (PutBy T.puts tables.old tables.new) (texts words.now)
+        (S.remaining script.old) O.contents out.old out.new result }
+
     ensures unread { ¬ AskService (texts words.now) → script.new ≡ script.old }
-    ensures unput { ¬ AskTables (texts words.now) → ¬ AskLive (texts words.now) → T.puts tables.new ≡ T.puts tables.old }
+
+    ensures unput { PutsOnlyAsked (texts words.now) T.puts tables.old tables.new }
 {
     run_at(rt, tables, words, script, out, err).status()
 }
@@ -105,9 +93,8 @@ where
     S: Read + Send,
     O: Write,
     E: Write,
-    ensures outcome { IsOutcome ⟦<DeviceFile as Disk>⟧ IsFileOf AnyPut (texts words.now) (S.remaining script.old) (O.contents out.old) (O.contents out.new) (E.contents err.old) (E.contents err.new) result }
-    ensures untouched { ¬ AskLive (texts words.now) → (fault : Fault) → fault ≢ Fault.Output → (result ≡ Outcome.Told fault) ⊎ (result ≡ Outcome.Untold fault) → out.new ≡ out.old }
-    ensures unread { ¬ AskService (texts words.now) → script.new ≡ script.old }
+    ensures { RunsWords ⟦<DeviceFile as Disk>⟧ IsFileOf AnyPut (texts words.now)
+        S.remaining script.old script.new O.contents out.old out.new E.contents err.old err.new result }
 {
     run_at(rt, &mut rt.place(), words, script, out, err)
 }
@@ -127,10 +114,10 @@ where
     S: Read + Send,
     O: Write,
     E: Write,
-    ensures outcome { IsOutcome ⟦<DeviceFile as Disk>⟧ IsFileOf (HasPut (T.puts tables.old) (T.puts tables.new)) (texts words.now) (S.remaining script.old) (O.contents out.old) (O.contents out.new) (E.contents err.old) (E.contents err.new) result }
-    ensures untouched { ¬ AskLive (texts words.now) → (fault : Fault) → fault ≢ Fault.Output → (result ≡ Outcome.Told fault) ⊎ (result ≡ Outcome.Untold fault) → out.new ≡ out.old }
-    ensures unread { ¬ AskService (texts words.now) → script.new ≡ script.old }
-    ensures unput { ¬ AskTables (texts words.now) → ¬ AskLive (texts words.now) → T.puts tables.new ≡ T.puts tables.old }
+    ensures runs { RunsWords ⟦<DeviceFile as Disk>⟧ IsFileOf (PutBy T.puts tables.old tables.new) (texts words.now)
+        S.remaining script.old script.new O.contents out.old out.new E.contents err.old err.new result }
+
+    ensures unput { PutsOnlyAsked (texts words.now) T.puts tables.old tables.new }
 {
     let devices = FileDevices { files: rt };
     run_on(rt, &devices, tables, words, script, out, err)
@@ -153,10 +140,10 @@ where
     S: Read + Send,
     O: Write,
     E: Write,
-    ensures outcome { IsOutcome F.Device.Disk (F.opened devices.now) (HasPut (T.puts tables.old) (T.puts tables.new)) (texts words.now) (S.remaining script.old) (O.contents out.old) (O.contents out.new) (E.contents err.old) (E.contents err.new) result }
-    ensures untouched { ¬ AskLive (texts words.now) → (fault : Fault) → fault ≢ Fault.Output → (result ≡ Outcome.Told fault) ⊎ (result ≡ Outcome.Untold fault) → out.new ≡ out.old }
-    ensures unread { ¬ AskService (texts words.now) → script.new ≡ script.old }
-    ensures unput { ¬ AskTables (texts words.now) → ¬ AskLive (texts words.now) → T.puts tables.new ≡ T.puts tables.old }
+    ensures runs { RunsWords F.Device.Disk (F.opened devices.now) (PutBy T.puts tables.old tables.new) (texts words.now)
+        S.remaining script.old script.new O.contents out.old out.new E.contents err.old err.new result }
+
+    ensures unput { PutsOnlyAsked (texts words.now) T.puts tables.old tables.new }
 {
     match understood(rt.alloc(), words) {
         Ok(task) => run_understood(rt, devices, tables, task, script, out, err),
@@ -182,9 +169,9 @@ where
     O: Write,
     E: Write,
     requires { MayRun task }
-    ensures outcome { IsOutcomeOf F.Device.Disk (F.opened devices.now) (HasPut (T.puts tables.old) (T.puts tables.new)) task.entry (S.remaining script.old) (O.contents out.old) (O.contents out.new) (E.contents err.old) (E.contents err.new) result }
-    ensures untouched { ¬ IsLiveService task.entry → (fault : Fault) → fault ≢ Fault.Output → (result ≡ Outcome.Told fault) ⊎ (result ≡ Outcome.Untold fault) → out.new ≡ out.old }
-    ensures unread { ¬ IsService task.entry → script.new ≡ script.old }
+    ensures runs { RunsTask F.Device.Disk (F.opened devices.now) (PutBy T.puts tables.old tables.new) task.entry
+        S.remaining script.old script.new O.contents out.old out.new E.contents err.old err.new result }
+
     ensures unput { ¬ IsOfTables task.entry → ¬ IsLiveService task.entry → T.puts tables.new ≡ T.puts tables.old }
 {
     match task {
@@ -230,9 +217,11 @@ where
     O: Write,
     E: Write,
     requires { IsServiceConfig config }
-    ensures outcome { IsServiceOutcome F.Device.Disk (F.opened devices.now device.now Access.ToChange) live (S.remaining script.old) config.editors words
-        (O.contents out.old) (O.contents out.new) (E.contents err.old) (E.contents err.new) result }
-    ensures untouched { live ≡ None → (fault : Fault) → fault ≢ Fault.Output → (result ≡ Outcome.Told fault) ⊎ (result ≡ Outcome.Untold fault) → out.new ≡ out.old }
+    ensures outcome { RunsService F.Device.Disk (F.opened devices.now device.now Access.ToChange) live
+        (S.remaining script.old) config.editors words O.contents out.old out.new E.contents err.old err.new result }
+
+    ensures untouched { live ≡ None → UnlessOutput result (out.new ≡ out.old) }
+
     ensures unput { live ≡ None → T.puts tables.new ≡ T.puts tables.old }
 {
     match live {
@@ -261,9 +250,9 @@ where
     O: Write,
     requires batch { ¬ IsService task }
     requires numbers { MayRun task }
-    ensures printed { (given : Option (List ℕ)) → IfOk result (λ ended. PrintedFor F.Device.Disk (F.opened devices.now) (HasPut (T.puts tables.old) (T.puts tables.new)) task.entry given ended (O.contents out.old) (O.contents out.new)) }
-    ensures fault { (given : Option (List ℕ)) → IfErr result (λ fault. MayEnd F.Device.Disk (F.opened devices.now) (HasPut (T.puts tables.old) (T.puts tables.new)) task.entry given (O.contents out.old) (O.contents out.new) fault) }
-    ensures untouched { IfErr result (λ fault. fault ≢ Fault.Output → out.new ≡ out.old) }
+    ensures ends { (given : Option (List ℕ)) → EndsTask F.Device.Disk (F.opened devices.now)
+        (PutBy T.puts tables.old tables.new) task.entry given O.contents out.old out.new result }
+
     ensures unput { ¬ IsOfTables task.entry → T.puts tables.new ≡ T.puts tables.old }
 {
     match task {
@@ -312,10 +301,8 @@ fn run_format<F: Devices, O: Write>(
     nodes: u16,
     out: &mut O,
 ) -> Result<Ended, Fault>
-    ensures printed { IfOk result (λ ended. OfOpened F.Device.Disk (F.opened devices.now device.now Access.Anew)
-        (λ disk left. PrintsFormatted nodes disk left ended (O.contents out.old) (O.contents out.new))) }
-    ensures fault { IfErr result (λ fault. EndsBy F.Device.Disk (F.opened devices.now device.now Access.Anew) (IsFormatEnd nodes) fault) }
-    ensures untouched { IfErr result (λ fault. fault ≢ Fault.Output → out.new ≡ out.old) }
+    ensures { EndsAt F.Device.Disk (F.opened devices.now device.now Access.Anew)
+        (PrintsFormatted nodes) (IsFormatEnd nodes) O.contents out.old out.new result }
 {
     let mut disk = devices.open(device, Access::Anew)?;
     format_on(&mut disk, nodes, out)
@@ -327,10 +314,8 @@ fn run_show<F: Devices, O: Write>(
     device: &str,
     out: &mut O,
 ) -> Result<Ended, Fault>
-    ensures printed { IfOk result (λ ended. OfOpened F.Device.Disk (F.opened devices.now device.now Access.ToRead)
-        (λ disk left. PrintsListing disk left ended (O.contents out.old) (O.contents out.new))) }
-    ensures fault { IfErr result (λ fault. EndsBy F.Device.Disk (F.opened devices.now device.now Access.ToRead) (IsReadingEnd IsOpenFault) fault) }
-    ensures untouched { IfErr result (λ fault. fault ≢ Fault.Output → out.new ≡ out.old) }
+    ensures { EndsAt F.Device.Disk (F.opened devices.now device.now Access.ToRead)
+        PrintsListing (IsReadingEnd IsOpenFault) O.contents out.old out.new result }
 {
     let disk = devices.open(device, Access::ToRead)?;
     show_on(alloc, disk, out).0
@@ -350,10 +335,8 @@ where
     F: Devices,
     O: Write,
     requires { session < sessions }
-    ensures printed { IfOk result (λ ended. OfOpened F.Device.Disk (F.opened devices.now device.now Access.ToChange)
-        (λ disk left. PrintsVerdict session ticket change disk left ended (O.contents out.old) (O.contents out.new))) }
-    ensures fault { IfErr result (λ fault. EndsBy F.Device.Disk (F.opened devices.now device.now Access.ToChange) (IsEditEnd session ticket change) fault) }
-    ensures untouched { IfErr result (λ fault. fault ≢ Fault.Output → out.new ≡ out.old) }
+    ensures { EndsAt F.Device.Disk (F.opened devices.now device.now Access.ToChange)
+        (PrintsVerdict session ticket change) (IsEditEnd session ticket change) O.contents out.old out.new result }
 {
     let disk = devices.open(device, Access::ToChange)?;
     edit_on(rt, disk, session, ticket, change, out).0
@@ -367,10 +350,8 @@ fn run_resume<F: Devices, O: Write>(
     out: &mut O,
 ) -> Result<Ended, Fault>
     requires { session < sessions }
-    ensures printed { IfOk result (λ ended. OfOpened F.Device.Disk (F.opened devices.now device.now Access.ToRead)
-        (λ disk left. PrintsTicket session disk left ended (O.contents out.old) (O.contents out.new))) }
-    ensures fault { IfErr result (λ fault. EndsBy F.Device.Disk (F.opened devices.now device.now Access.ToRead) (IsReadingEnd IsOpenFault) fault) }
-    ensures untouched { IfErr result (λ fault. fault ≢ Fault.Output → out.new ≡ out.old) }
+    ensures { EndsAt F.Device.Disk (F.opened devices.now device.now Access.ToRead)
+        (PrintsTicket session) (IsReadingEnd IsOpenFault) O.contents out.old out.new result }
 {
     let disk = devices.open(device, Access::ToRead)?;
     resume_on(alloc, disk, session, out).0
@@ -384,11 +365,8 @@ fn run_migrate<F: Devices, O: Write>(
     new: &str,
     out: &mut O,
 ) -> Result<Ended, Fault>
-    ensures printed { IfOk result (λ ended. OfOpened F.Device.Disk (F.opened devices.now old.now Access.ToRead)
-        (λ from left. OfOpened F.Device.Disk (F.opened devices.now new.now Access.New) (λ to made. PrintsMoved from to made ended (O.contents out.old) (O.contents out.new)))) }
-    ensures fault { IfErr result (λ fault. IsFileFault fault ⊎ (fault ≡ Fault.Output) ⊎ OfOpened F.Device.Disk (F.opened devices.now old.now Access.ToRead)
-        (λ from from_left. OfOpened F.Device.Disk (F.opened devices.now new.now Access.New) (λ to to_left. IsMoveEnd from from_left to to_left fault))) }
-    ensures untouched { IfErr result (λ fault. fault ≢ Fault.Output → out.new ≡ out.old) }
+    ensures { EndsMoveAt F.Device.Disk (F.opened devices.now old.now Access.ToRead)
+        (F.opened devices.now new.now Access.New) O.contents out.old out.new result }
 {
     let mut from = devices.open(old, Access::ToRead)?;
     let mut to = devices.open(new, Access::New)?;

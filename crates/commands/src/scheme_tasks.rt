@@ -1,16 +1,13 @@
 //! The commands `route` and `check`.
-ghost use Rattle.std.specs.Prelude.{◌≡◌, ◌≢◌, ◌<◌, ◌⊎◌, List, ℕ, length, IsTrue, IfOk, IfErr, IsErrOf, IsOkAnd, OnOk};
-ghost use Rattle.std.specs.Io.KnownBytes.{Appends};
-ghost use Rattle.layout_2.specs.State.{State};
-ghost use Rattle.layout_2.specs.Standing.{StandsFor};
+ghost use Rattle.std.specs.Prelude.{◌≡◌, length, IfOk, IfErr, IsErrOf, OnOk};
 ghost use Rattle.checkpoint.specs.StoreWords.{state_of};
 ghost use Rattle.written_values.specs.Words.{AreWords, IsWithin};
 ghost use Rattle.command_output.specs.Lines.{line};
-ghost use Rattle.device_commands.specs.Openings.{IsReading};
 ghost use Rattle.commands.specs.Endings.{IsCheckDeviceFault, IsCheckEnd, IsRouteDeviceFault, IsRouteEnd, IsRouteFault, IsQueryFault, IsWordsFault};
-ghost use Rattle.commands.specs.Devices.{EndsBy, OfOpened};
 ghost use Rattle.commands.specs.Printed.{PrintsCheck, PrintsRoutes};
-ghost use Rattle.commands.specs.SchemeAnswers.{AreNodes, AreRoutesOf, IsCheckOf, answered_text, checks_text, ended_after, ended_at, is_along, routes_text};
+ghost use Rattle.commands.specs.Queries.{AnswersIn, AnswersOf, AreRoutesIn, IsCheckIn, IsOfState, LacksNode, LacksNodeOf};
+ghost use Rattle.commands.specs.Runs.{EndsAfter, EndsAt, EndsOn, PrintsText};
+ghost use Rattle.commands.specs.SchemeAnswers.{AreRoutesOf, IsCheckOf, answered_text, checks_text, ended_after, ended_at, is_along, routes_text};
 
 use crate::checking::check_in_thread;
 use crate::devices::{Access, Devices};
@@ -38,6 +35,7 @@ pub(crate) fn words_of(
     ensures within { IfOk result (λ _. IsWithin asked.now graph.now.nodes) }
     ensures words { IfOk result (λ words. AreWords asked.now graph.now.nodes words.items) }
     ensures count { IfOk result (λ words. length words.items ≡ graph.now.nodes) }
+
     ensures not_within { IsErrOf result Fault.Words → ¬ IsWithin asked.now graph.now.nodes }
     ensures fault { IfErr result (λ fault. IsWordsFault asked.now fault) }
 {
@@ -55,10 +53,10 @@ fn routes_in_graph(
     asked: &LandmarkWords,
     pairs: &[(u16, u16)],
 ) -> Result<Vec<Route>, Fault>
-    ensures routes { IfOk result (λ routes. AreRoutesOf graph.now asked.now pairs.now routes.items) }
-    ensures no_node { IsErrOf result Fault.NoNode → IsWithin asked.now graph.now.nodes × ¬ AreNodes graph.now.nodes pairs.now }
-    ensures not_within { IsErrOf result Fault.Words → ¬ IsWithin asked.now graph.now.nodes }
-    ensures fault { IfErr result (λ fault. IsRouteFault asked.now fault) }
+    ensures routes { AnswersIn graph.now asked.now (λ routes. AreRoutesOf graph.now asked.now pairs.now routes.items)
+        (IsRouteFault asked.now) result }
+
+    ensures no_node { IsErrOf result Fault.NoNode → LacksNode asked.now pairs.now graph.now.nodes }
 {
     let words = words_of(alloc, graph, asked)?;
     if !are_nodes(pairs, graph.nodes()) {
@@ -74,9 +72,7 @@ fn check_in_graph<R: Threads + Wait + Sync + AllocGlobal>(
     generation: u64,
     asked: &LandmarkWords,
 ) -> Result<Checked, Fault>
-    ensures check { IfOk result (λ checked. IsCheckOf graph.now generation asked.now checked) }
-    ensures not_within { IsErrOf result Fault.Words → ¬ IsWithin asked.now graph.now.nodes }
-    ensures fault { IfErr result (λ fault. IsQueryFault asked.now fault) }
+    ensures { AnswersIn graph.now asked.now (IsCheckOf graph.now generation asked.now) (IsQueryFault asked.now) result }
 {
     let alloc = rt.alloc();
     let words = words_of(alloc, graph, asked)?;
@@ -90,10 +86,10 @@ fn routes_in_store<D: Disk>(
     asked: &LandmarkWords,
     pairs: &[(u16, u16)],
 ) -> Result<(u64, Vec<Route>), Fault>
-    ensures answer { IfOk result (λ answer. (answer.0 ≡ (state_of store.now).count) × AreRoutesOf (state_of store.now).graph asked.now pairs.now answer.1.items) }
-    ensures no_node { IsErrOf result Fault.NoNode → IsWithin asked.now (state_of store.now).graph.nodes × ¬ AreNodes (state_of store.now).graph.nodes pairs.now }
-    ensures not_within { IsErrOf result Fault.Words → ¬ IsWithin asked.now (state_of store.now).graph.nodes }
-    ensures fault { IfErr result (λ fault. IsRouteFault asked.now fault) }
+    ensures routes { AnswersIn (state_of store.now).graph asked.now
+        (IsOfState (AreRoutesIn pairs.now) asked.now (state_of store.now)) (IsRouteFault asked.now) result }
+
+    ensures no_node { IsErrOf result Fault.NoNode → LacksNode asked.now pairs.now (state_of store.now).graph.nodes }
 {
     let generation = store.count();
     let routes = routes_in_graph(alloc, store.graph(), asked, pairs)?;
@@ -109,14 +105,10 @@ pub fn route_device<D: Disk>(
     asked: &LandmarkWords,
     pairs: &[(u16, u16)],
 ) -> (Result<(u64, Vec<Route>), Fault>, D)
-    ensures generation { IsTrue (D.view disk).keeps_model → (state : State) → StandsFor state (D.view disk).content → IfOk result.0 (λ answer. answer.0 ≡ state.count) }
-    ensures routes { IsTrue (D.view disk).keeps_model → (state : State) → StandsFor state (D.view disk).content → IfOk result.0 (λ answer. AreRoutesOf state.graph asked.now pairs.now answer.1.items) }
-    ensures no_node { IsTrue (D.view disk).keeps_model → (state : State) → StandsFor state (D.view disk).content → IsErrOf result.0 Fault.NoNode → IsWithin asked.now state.graph.nodes × ¬ AreNodes state.graph.nodes pairs.now }
-    ensures not_within { IsTrue (D.view disk).keeps_model → (state : State) → StandsFor state (D.view disk).content → IsErrOf result.0 Fault.Words → ¬ IsWithin asked.now state.graph.nodes }
-    // Also of a disk that doesn't keep the model the answer is that of a state.
-    ensures of_one { IfOk result.0 (λ answer. (state : State) × (answer.0 ≡ state.count) × AreRoutesOf state.graph asked.now pairs.now answer.1.items) }
-    ensures fault { IfErr result.0 (λ fault. IsRouteDeviceFault asked.now fault) }
-    ensures reading { IsReading (D.view disk) (D.view result.1) result.0 }
+    ensures routes { AnswersOf asked.now (AreRoutesIn pairs.now) IsRouteDeviceFault
+        (D.view disk) (D.view result.1) result.0 }
+
+    ensures no_node { LacksNodeOf asked.now pairs.now (D.view disk) result.0 }
 {
     standing_law();
     match open(alloc, disk) {
@@ -134,9 +126,8 @@ fn check_in_store<R: Threads + Wait + Sync + AllocGlobal, D: Disk>(
     store: &Store<D>,
     asked: &LandmarkWords,
 ) -> Result<(u64, Checked), Fault>
-    ensures answer { IfOk result (λ answer. (answer.0 ≡ (state_of store.now).count) × IsCheckOf (state_of store.now).graph (state_of store.now).count asked.now answer.1) }
-    ensures not_within { IsErrOf result Fault.Words → ¬ IsWithin asked.now (state_of store.now).graph.nodes }
-    ensures fault { IfErr result (λ fault. IsQueryFault asked.now fault) }
+    ensures { AnswersIn (state_of store.now).graph asked.now
+        (IsOfState IsCheckIn asked.now (state_of store.now)) (IsQueryFault asked.now) result }
 {
     let generation = store.count();
     let checked = check_in_graph(rt, store.graph(), generation, asked)?;
@@ -150,13 +141,7 @@ pub fn check_device<R: Threads + Wait + Sync + AllocGlobal, D: Disk>(
     disk: D,
     asked: &LandmarkWords,
 ) -> (Result<(u64, Checked), Fault>, D)
-    ensures generation { IsTrue (D.view disk).keeps_model → (state : State) → StandsFor state (D.view disk).content → IfOk result.0 (λ answer. answer.0 ≡ state.count) }
-    ensures check { IsTrue (D.view disk).keeps_model → (state : State) → StandsFor state (D.view disk).content → IfOk result.0 (λ answer. IsCheckOf state.graph state.count asked.now answer.1) }
-    ensures not_within { IsTrue (D.view disk).keeps_model → (state : State) → StandsFor state (D.view disk).content → IsErrOf result.0 Fault.Words → ¬ IsWithin asked.now state.graph.nodes }
-    // Also of a disk that doesn't keep the model the answer is that of a state.
-    ensures of_one { IfOk result.0 (λ answer. (state : State) × (answer.0 ≡ state.count) × IsCheckOf state.graph state.count asked.now answer.1) }
-    ensures fault { IfErr result.0 (λ fault. IsCheckDeviceFault asked.now fault) }
-    ensures reading { IsReading (D.view disk) (D.view result.1) result.0 }
+    ensures { AnswersOf asked.now IsCheckIn IsCheckDeviceFault (D.view disk) (D.view result.1) result.0 }
 {
     standing_law();
     match open(rt.alloc(), disk) {
@@ -174,9 +159,8 @@ fn route_on<D: Disk, O: Write>(
     asked: &LandmarkWords,
     out: &mut O,
 ) -> (Result<Ended, Fault>, D)
-    ensures printed { IfOk result.0 (λ ended. PrintsRoutes pairs.now asked.now (D.view disk) (D.view result.1) ended (O.contents out.old) (O.contents out.new)) }
-    ensures fault { IfErr result.0 (λ fault. (fault ≡ Fault.Output) ⊎ IsRouteEnd pairs.now asked.now (D.view disk) (D.view result.1) fault) }
-    ensures untouched { IfErr result.0 (λ fault. fault ≢ Fault.Output → out.new ≡ out.old) }
+    ensures { EndsOn (PrintsRoutes pairs.now asked.now) (IsRouteEnd pairs.now asked.now)
+        D.view disk result.1 O.contents out.old out.new result.0 }
 {
     let (answer, disk) = route_device(alloc, disk, asked, pairs);
     (print_found(out, answer), disk)
@@ -191,10 +175,8 @@ pub(crate) fn run_route<F: Devices, O: Write>(
     asked: &LandmarkWords,
     out: &mut O,
 ) -> Result<Ended, Fault>
-    ensures printed { IfOk result (λ ended. OfOpened F.Device.Disk (F.opened devices.now device.now Access.ToRead)
-        (λ disk left. PrintsRoutes pairs.now asked.now disk left ended (O.contents out.old) (O.contents out.new))) }
-    ensures fault { IfErr result (λ fault. EndsBy F.Device.Disk (F.opened devices.now device.now Access.ToRead) (IsRouteEnd pairs.now asked.now) fault) }
-    ensures untouched { IfErr result (λ fault. fault ≢ Fault.Output → out.new ≡ out.old) }
+    ensures { EndsAt F.Device.Disk (F.opened devices.now device.now Access.ToRead)
+        (PrintsRoutes pairs.now asked.now) (IsRouteEnd pairs.now asked.now) O.contents out.old out.new result }
 {
     let disk = devices.open(device, Access::ToRead)?;
     route_on(alloc, disk, pairs, asked, out).0
@@ -204,9 +186,8 @@ fn print_found<O: Write>(
     out: &mut O,
     answer: Result<(u64, Vec<Route>), Fault>,
 ) -> Result<Ended, Fault>
-    ensures printed { IfOk result (λ ended. IsOkAnd answer (λ found. (ended ≡ ended_after found.1.items) × Appends (O.contents out.old) (O.contents out.new) (routes_text found.0 found.1.items))) }
-    ensures fault { IfErr result (λ fault. (fault ≡ Fault.Output) ⊎ IsErrOf answer fault) }
-    ensures untouched { IfErr result (λ fault. fault ≢ Fault.Output → out.new ≡ out.old) }
+    ensures { EndsAfter answer (λ found. ended_after found.1.items) (λ found. routes_text found.0 found.1.items)
+        O.contents out.old out.new result }
 {
     let (generation, routes) = answer?;
     print_routes(out, generation, &routes)
@@ -214,7 +195,8 @@ fn print_found<O: Write>(
 
 fn print_routes<O: Write>(out: &mut O, generation: u64, routes: &[Route]) -> Result<Ended, Fault>
     ensures ended { IfOk result (λ ended. ended ≡ ended_after routes.now) }
-    ensures printed { OnOk result (Appends (O.contents out.old) (O.contents out.new) (routes_text generation routes.now)) }
+    ensures printed { OnOk result (PrintsText O.contents out.old out.new (routes_text generation routes.now)) }
+
     ensures fault { IfErr result (λ fault. fault ≡ Fault.Output) }
 {
     for route in routes {
@@ -244,7 +226,9 @@ fn is_along(route: &Route) -> bool
 }
 
 fn print_route<O: Write>(out: &mut O, generation: u64, route: &Route) -> Result<(), Fault>
-    ensures printed { OnOk result (Appends (O.contents out.old) (O.contents out.new) (line (answered_text generation route.now))) }
+    ensures printed { OnOk result
+        (PrintsText O.contents out.old out.new (line (answered_text generation route.now))) }
+
     ensures fault { IfErr result (λ fault. fault ≡ Fault.Output) }
 {
     match route {
@@ -267,9 +251,8 @@ fn check_on<R: Threads + Wait + Sync + AllocGlobal, D: Disk, O: Write>(
     asked: &LandmarkWords,
     out: &mut O,
 ) -> (Result<Ended, Fault>, D)
-    ensures printed { IfOk result.0 (λ ended. PrintsCheck asked.now (D.view disk) (D.view result.1) ended (O.contents out.old) (O.contents out.new)) }
-    ensures fault { IfErr result.0 (λ fault. (fault ≡ Fault.Output) ⊎ IsCheckEnd asked.now (D.view disk) (D.view result.1) fault) }
-    ensures untouched { IfErr result.0 (λ fault. fault ≢ Fault.Output → out.new ≡ out.old) }
+    ensures { EndsOn (PrintsCheck asked.now) (IsCheckEnd asked.now) D.view disk result.1
+        O.contents out.old out.new result.0 }
 {
     let (answer, disk) = check_device(rt, disk, asked);
     (print_checked(out, answer), disk)
@@ -287,10 +270,8 @@ where
     R: AllocGlobal + Threads + Wait + Sync,
     F: Devices,
     O: Write,
-    ensures printed { IfOk result (λ ended. OfOpened F.Device.Disk (F.opened devices.now device.now Access.ToRead)
-        (λ disk left. PrintsCheck asked.now disk left ended (O.contents out.old) (O.contents out.new))) }
-    ensures fault { IfErr result (λ fault. EndsBy F.Device.Disk (F.opened devices.now device.now Access.ToRead) (IsCheckEnd asked.now) fault) }
-    ensures untouched { IfErr result (λ fault. fault ≢ Fault.Output → out.new ≡ out.old) }
+    ensures { EndsAt F.Device.Disk (F.opened devices.now device.now Access.ToRead)
+        (PrintsCheck asked.now) (IsCheckEnd asked.now) O.contents out.old out.new result }
 {
     let disk = devices.open(device, Access::ToRead)?;
     check_on(rt, disk, asked, out).0
@@ -300,10 +281,8 @@ fn print_checked<O: Write>(
     out: &mut O,
     answer: Result<(u64, Checked), Fault>,
 ) -> Result<Ended, Fault>
-    ensures printed { IfOk result (λ ended. IsOkAnd answer (λ found. (ended ≡ ended_at found.1.fault)
-        × Appends (O.contents out.old) (O.contents out.new) (line (checks_text found.0 found.1.landmarks found.1.fault)))) }
-    ensures fault { IfErr result (λ fault. (fault ≡ Fault.Output) ⊎ IsErrOf answer fault) }
-    ensures untouched { IfErr result (λ fault. fault ≢ Fault.Output → out.new ≡ out.old) }
+    ensures { EndsAfter answer (λ found. ended_at found.1.fault)
+        (λ found. line (checks_text found.0 found.1.landmarks found.1.fault)) O.contents out.old out.new result }
 {
     let (generation, checked) = answer?;
     print_check(out, generation, checked.landmarks, checked.fault)
@@ -316,7 +295,9 @@ fn print_check<O: Write>(
     fault: Option<certificate::Fault>,
 ) -> Result<Ended, Fault>
     ensures ended { IfOk result (λ ended. ended ≡ ended_at fault) }
-    ensures printed { OnOk result (Appends (O.contents out.old) (O.contents out.new) (line (checks_text generation landmarks fault))) }
+    ensures printed { OnOk result
+        (PrintsText O.contents out.old out.new (line (checks_text generation landmarks fault))) }
+
     ensures fault { IfErr result (λ fault. fault ≡ Fault.Output) }
 {
     match fault {

@@ -1,11 +1,9 @@
 //! The command `serve`, over a script or over lines as they come.
-ghost use Rattle.std.specs.Prelude.{◌≡◌, ◌≢◌, ◌⊎◌, IfOk, IfErr};
-ghost use Rattle.command_output.specs.declared.fault.Fault.{Fault};
+ghost use Rattle.std.specs.Prelude.{◌≡◌, IfOk, IfErr};
 ghost use Rattle.written_values.specs.Scripts.{AreOfSessions};
 ghost use Rattle.service_threads.specs.Config.{IsServiceConfig};
-ghost use Rattle.commands.specs.Endings.{EndsServe};
-ghost use Rattle.commands.specs.Outcomes.{IsEndOf, IsLiveOutcome};
-ghost use Rattle.commands.specs.Printed.{PrintsServed};
+ghost use Rattle.commands.specs.Outcomes.{IsEndOf};
+ghost use Rattle.commands.specs.Runs.{EndsScript, RunsLive};
 ghost use Rattle.commands.specs.ServedScripts.{IsReadFault, IsScriptFault, IsScriptOf};
 
 use crate::devices::{Access, Devices};
@@ -26,6 +24,7 @@ use written_values::{LandmarkWords, ScriptLine, script};
 fn read_script<S: Read>(alloc: Global, from: &mut S, editors: u8) -> Result<Vec<ScriptLine>, Fault>
     ensures found { IfOk result (λ lines. IsScriptOf (S.remaining from.old) editors lines.items) }
     ensures sessions { IfOk result (λ lines. AreOfSessions editors lines.items) }
+
     ensures fault { IfErr result (λ fault. IsScriptFault (S.remaining from.old) editors fault) }
 {
     let mut bytes = Vec::new(alloc);
@@ -68,10 +67,8 @@ where
     S: Read,
     O: Write,
     requires { IsServiceConfig config }
-    ensures printed { IfOk result (λ ended. PrintsServed F.Device.Disk (F.opened devices.now device.now Access.ToChange) (S.remaining script.old) config.editors ended
-        (O.contents out.old) (O.contents out.new)) }
-    ensures fault { IfErr result (λ fault. EndsServe F.Device.Disk (F.opened devices.now device.now Access.ToChange) (S.remaining script.old) config.editors words fault) }
-    ensures untouched { IfErr result (λ fault. fault ≢ Fault.Output → out.new ≡ out.old) }
+    ensures { EndsScript F.Device.Disk (F.opened devices.now device.now Access.ToChange)
+        (S.remaining script.old) config.editors words O.contents out.old out.new result }
 {
     let lines = read_script(rt.alloc(), script, config.editors)?;
     let disk = devices.open(device, Access::ToChange)?;
@@ -113,8 +110,8 @@ where
     O: Write,
     E: Write,
     requires { IsServiceConfig config }
-    ensures { IsLiveOutcome F.Device.Disk (F.opened devices.now device.now Access.ToChange) (S.remaining from.old) config.editors words
-        (O.contents out.old) (O.contents out.new) (E.contents err.old) (E.contents err.new) result }
+    ensures { RunsLive F.Device.Disk (F.opened devices.now device.now Access.ToChange)
+        (S.remaining from.old) config.editors words O.contents out.old out.new E.contents err.old err.new result }
 {
     let Ok(input) = BufReader::new(rt.alloc(), from) else {
         return told(err, Err(Fault::Memory));

@@ -1,16 +1,9 @@
 //! The command `tables`.
-ghost use Rattle.std.specs.Prelude.{◌≡◌, ◌≢◌, ◌⊎◌, [], IfErr, IfOk, IsErrOf, IsOkAnd, IsTrue};
-ghost use Rattle.layout_2.specs.State.{State};
-ghost use Rattle.layout_2.specs.Standing.{StandsFor};
 ghost use Rattle.checkpoint.specs.StoreWords.{state_of};
-ghost use Rattle.written_values.specs.Words.{IsWithin};
-ghost use Rattle.device_commands.specs.Openings.{IsReading};
-ghost use Rattle.commands.specs.Endings.{EndsTables, IsCheckDeviceFault, IsQueryFault, IsTablesEnd};
-ghost use Rattle.commands.specs.Devices.{OfOpened};
-ghost use Rattle.commands.specs.Printed.{PrintsTables};
-ghost use Rattle.table_files.specs.Files.{HasPut};
+ghost use Rattle.commands.specs.Endings.{IsCheckDeviceFault, IsQueryFault};
+ghost use Rattle.commands.specs.Queries.{AnswersIn, AnswersOf, IsOfState, IsSchemeIn};
+ghost use Rattle.commands.specs.Runs.{EndsPutFound, EndsTablesAt, EndsTablesOn, PutBy};
 ghost use Rattle.commands.specs.SchemeAnswers.{IsSchemeBy};
-ghost use Rattle.table_files.specs.Tables.{AnswersTables, EndsPutting};
 
 use crate::building::scheme_in_thread;
 use crate::devices::{Access, Devices};
@@ -35,9 +28,8 @@ fn scheme_in_graph<R: Threads + Wait + Sync + AllocGlobal>(
     generation: u64,
     asked: &LandmarkWords,
 ) -> Result<Scheme, Fault>
-    ensures scheme { IfOk result (λ scheme. IsSchemeBy graph.now generation asked.now scheme) }
-    ensures not_within { IsErrOf result Fault.Words → ¬ IsWithin asked.now graph.now.nodes }
-    ensures fault { IfErr result (λ fault. IsQueryFault asked.now fault) }
+    ensures { AnswersIn graph.now asked.now (IsSchemeBy graph.now generation asked.now)
+        (IsQueryFault asked.now) result }
 {
     let alloc = rt.alloc();
     let words = words_of(alloc, graph, asked)?;
@@ -50,9 +42,8 @@ fn scheme_in_store<R: Threads + Wait + Sync + AllocGlobal, D: Disk>(
     store: &Store<D>,
     asked: &LandmarkWords,
 ) -> Result<(u64, Scheme), Fault>
-    ensures answer { IfOk result (λ answer. (answer.0 ≡ (state_of store.now).count) × IsSchemeBy (state_of store.now).graph (state_of store.now).count asked.now answer.1) }
-    ensures not_within { IsErrOf result Fault.Words → ¬ IsWithin asked.now (state_of store.now).graph.nodes }
-    ensures fault { IfErr result (λ fault. IsQueryFault asked.now fault) }
+    ensures { AnswersIn (state_of store.now).graph asked.now
+        (IsOfState IsSchemeIn asked.now (state_of store.now)) (IsQueryFault asked.now) result }
 {
     let generation = store.count();
     let scheme = scheme_in_graph(rt, store.graph(), generation, asked)?;
@@ -66,13 +57,7 @@ fn scheme_of_device<R: Threads + Wait + Sync + AllocGlobal, D: Disk>(
     disk: D,
     asked: &LandmarkWords,
 ) -> (Result<(u64, Scheme), Fault>, D)
-    ensures generation { IsTrue (D.view disk).keeps_model → (state : State) → StandsFor state (D.view disk).content → IfOk result.0 (λ answer. answer.0 ≡ state.count) }
-    ensures scheme { IsTrue (D.view disk).keeps_model → (state : State) → StandsFor state (D.view disk).content → IfOk result.0 (λ answer. IsSchemeBy state.graph state.count asked.now answer.1) }
-    ensures not_within { IsTrue (D.view disk).keeps_model → (state : State) → StandsFor state (D.view disk).content → IsErrOf result.0 Fault.Words → ¬ IsWithin asked.now state.graph.nodes }
-    // Also of a disk that doesn't keep the model the answer is that of a state.
-    ensures of_one { IfOk result.0 (λ answer. (state : State) × (answer.0 ≡ state.count) × IsSchemeBy state.graph state.count asked.now answer.1) }
-    ensures fault { IfErr result.0 (λ fault. IsCheckDeviceFault asked.now fault) }
-    ensures reading { IsReading (D.view disk) (D.view result.1) result.0 }
+    ensures { AnswersOf asked.now IsSchemeIn IsCheckDeviceFault (D.view disk) (D.view result.1) result.0 }
 {
     standing_law();
     match open(rt.alloc(), disk) {
@@ -91,10 +76,8 @@ fn put_found<T: TableFiles, O: Write>(
     named: &[u16],
     out: &mut O,
 ) -> Result<Ended, Fault>
-    ensures answer { IfOk result (λ ended. IsOkAnd answer (λ found. AnswersTables found.1 found.0 folder.now named.now (HasPut (T.puts tables.old) (T.puts tables.new)) ended (O.contents out.old) (O.contents out.new))) }
-    ensures fault { IfErr result (λ fault. (IsErrOf answer fault × HasPut (T.puts tables.old) (T.puts tables.new) [])
-        ⊎ IsOkAnd answer (λ found. EndsPutting found.1 folder.now named.now (HasPut (T.puts tables.old) (T.puts tables.new)) fault)) }
-    ensures untouched { IfErr result (λ fault. fault ≢ Fault.Output → out.new ≡ out.old) }
+    ensures { EndsPutFound answer folder.now named.now (PutBy T.puts tables.old tables.new)
+        O.contents out.old out.new result }
 {
     let (generation, scheme) = answer?;
     put_asked(alloc, tables, generation, &scheme, folder, named, out)
@@ -110,9 +93,8 @@ fn tables_on<R: Threads + Wait + Sync + AllocGlobal, D: Disk, T: TableFiles, O: 
     named: &[u16],
     out: &mut O,
 ) -> (Result<Ended, Fault>, D)
-    ensures printed { IfOk result.0 (λ ended. PrintsTables asked.now folder.now named.now (HasPut (T.puts tables.old) (T.puts tables.new)) (D.view disk) (D.view result.1) ended (O.contents out.old) (O.contents out.new)) }
-    ensures fault { IfErr result.0 (λ fault. IsTablesEnd asked.now folder.now named.now (HasPut (T.puts tables.old) (T.puts tables.new)) (D.view disk) (D.view result.1) fault) }
-    ensures untouched { IfErr result.0 (λ fault. fault ≢ Fault.Output → out.new ≡ out.old) }
+    ensures { EndsTablesOn asked.now folder.now named.now (PutBy T.puts tables.old tables.new)
+        (D.view disk) (D.view result.1) O.contents out.old out.new result.0 }
 {
     let (answer, disk) = scheme_of_device(rt, disk, asked);
     (
@@ -138,10 +120,8 @@ where
     F: Devices,
     T: TableFiles,
     O: Write,
-    ensures printed { IfOk result (λ ended. OfOpened F.Device.Disk (F.opened devices.now device.now Access.ToRead)
-        (λ disk left. PrintsTables asked.now folder.now named.now (HasPut (T.puts tables.old) (T.puts tables.new)) disk left ended (O.contents out.old) (O.contents out.new))) }
-    ensures fault { IfErr result (λ fault. EndsTables F.Device.Disk (F.opened devices.now device.now Access.ToRead) asked.now folder.now named.now (HasPut (T.puts tables.old) (T.puts tables.new)) fault) }
-    ensures untouched { IfErr result (λ fault. fault ≢ Fault.Output → out.new ≡ out.old) }
+    ensures { EndsTablesAt F.Device.Disk (F.opened devices.now device.now Access.ToRead)
+        asked.now folder.now named.now (PutBy T.puts tables.old tables.new) O.contents out.old out.new result }
 {
     let disk = devices.open(device, Access::ToRead)?;
     tables_on(rt, disk, tables, asked, folder, named, out).0

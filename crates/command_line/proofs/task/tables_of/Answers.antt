@@ -4,48 +4,40 @@ use Rattle.clap.specs.Walk.{rows_of}
 use Rattle.clap.proofs.WalkLemmas.{raw_values-rows}
 use Rattle.written_values.specs.declared.words.LandmarkWords.TheVariants.{Greatest}
 use Rattle.command_line.specs.declared.task.Task.TheVariants.{Tables}
-use Rattle.command_line.specs.Asked.{IsCause, texts_in}
+use Rattle.command_line.specs.Asked.{texts_in}
 use Rattle.command_line.proofs.Asking.{given, gives}
-use Rattle.command_line.proofs.OneTask.{folder_given, handed_on, named_nodes_refused, none_missing, of_number, of_words, same_tables, tables_words}
+use Rattle.command_line.proofs.OneTask.{answered_as, folder_given, named_nodes_refused, none_missing, of_number, of_words, refused_as, same_tables, tables_words}
 use Rattle.command_line.proofs.task.tables_of.Goals as goal
 
-pub returns-clause-asked : goal.returns-clause-asked
-returns-clause-asked c device =
-    let f = found_of c.args.found.now in (
-      refl,
-      device,
-      gives f _ _ c.in_ok-folder.ensures.found,
-      ap texts_in (sym (raw_values-rows f (codes "node"))) ∙ c.in_ok-nodes.ensures.found,
-      (gives f _ _ c.in_ok-words.ensures.found, c.in_ok-words.ensures.fits),
-    )
-
-pub returns-clause-only : goal.returns-clause-only
-returns-clause-only c device task is fits =
+pub returns : goal.returns
+returns c device =
     let f = found_of c.args.found.now in
-    same_tables (rows_of f) c.args.device c.in_ok-folder.folder c.in_ok-nodes.nodes c.in_ok-words.words task device (gives f _ _ c.in_ok-folder.ensures.found)
-    (ap texts_in (sym (raw_values-rows f (codes "node"))) ∙ c.in_ok-nodes.ensures.found) c.in_ok-nodes.ensures.fits
-    (λ words asked there. c.in_ok-words.ensures.same words asked (given f _ _ there)) is fits
+    let nodes = ap texts_in (sym (raw_values-rows f (codes "node"))) ∙ c.in_ok-nodes.ensures.found.0 in
+    answered_as (codes "tables") (rows_of f) (Tables c.args.device c.in_ok-folder.folder c.in_ok-nodes.nodes c.in_ok-words.words)
+    (refl, device, gives f _ _ c.in_ok-folder.ensures.found, nodes, (gives f _ _ c.in_ok-words.ensures.found, c.in_ok-words.ensures.fits))
+    (λ task is fits. same_tables (rows_of f) c.args.device c.in_ok-folder.folder c.in_ok-nodes.nodes c.in_ok-words.words task device (gives f _ _ c.in_ok-folder.ensures.found)
+    nodes c.in_ok-nodes.ensures.found.1 (λ words asked there. c.in_ok-words.ensures.same words asked (given f _ _ there)) is fits)
 
-pub returns-in_err-folder-clause-cause : goal.returns-in_err-folder-clause-cause
-returns-in_err-folder-clause-cause c device =
+pub returns-in_err-folder : goal.returns-in_err-folder
+returns-in_err-folder c device =
     let f = found_of c.args.found.now in
-    handed_on c.from_residual.result (λ refused. IsCause (codes "tables") (rows_of f) refused) c.in_err-folder.field-0.0 c.from_residual.ensures.1
+    refused_as (codes "tables") (rows_of f) c.from_residual.result c.in_err-folder.field-0.0 c.from_residual.ensures.1
     (of_number (codes "tables") (rows_of f) c.in_err-folder.field-0.0 (inl c.in_err-folder.ensures.refusal)
     (λ task is.
     let folder = folder_given (rows_of f) task is in
     absurd (none_missing _ folder.0 (given f _ _ folder.1) c.in_err-folder.ensures.none)))
 
-pub returns-in_err-nodes-clause-cause : goal.returns-in_err-nodes-clause-cause
-returns-in_err-nodes-clause-cause c device =
+pub returns-in_err-nodes : goal.returns-in_err-nodes
+returns-in_err-nodes c device =
     let f = found_of c.args.found.now in
-    handed_on c.from_residual-in_err-nodes.result (λ refused. IsCause (codes "tables") (rows_of f) refused) c.in_err-nodes.field-0.0 c.from_residual-in_err-nodes.ensures.1
+    refused_as (codes "tables") (rows_of f) c.from_residual-in_err-nodes.result c.in_err-nodes.field-0.0 c.from_residual-in_err-nodes.ensures.1
     (of_number (codes "tables") (rows_of f) c.in_err-nodes.field-0.0 c.in_err-nodes.ensures.refusals
-    (named_nodes_refused (rows_of f) c.in_err-nodes.field-0.0 (λ nodes fits asked. c.in_err-nodes.ensures.only nodes fits (ap texts_in (raw_values-rows f (codes "node")) ∙ asked))))
+    (named_nodes_refused (rows_of f) c.in_err-nodes.field-0.0 (λ nodes fits asked. c.in_err-nodes.ensures.only nodes (ap texts_in (raw_values-rows f (codes "node")) ∙ asked, fits))))
 
-pub returns-in_err-words-clause-cause : goal.returns-in_err-words-clause-cause
-returns-in_err-words-clause-cause c device =
+pub returns-in_err-words : goal.returns-in_err-words
+returns-in_err-words c device =
     let f = found_of c.args.found.now in
-    handed_on c.from_residual-in_err-words.result (λ refused. IsCause (codes "tables") (rows_of f) refused) c.in_err-words.field-0.0 c.from_residual-in_err-words.ensures.1
+    refused_as (codes "tables") (rows_of f) c.from_residual-in_err-words.result c.in_err-words.field-0.0 c.from_residual-in_err-words.ensures.1
     (of_words (codes "tables") (rows_of f) c.in_err-words.field-0.0 (Tables c.args.device c.in_ok-folder.folder c.in_ok-nodes.nodes Greatest) c.in_err-words.ensures.cause
     (λ task is. tables_words (rows_of f) task is)
-    (λ words. (refl, device, gives f _ _ c.in_ok-folder.ensures.found, ap texts_in (sym (raw_values-rows f (codes "node"))) ∙ c.in_ok-nodes.ensures.found, words, c.in_ok-nodes.ensures.fits)) (λ lacks. lacks))
+    (λ words. (refl, device, gives f _ _ c.in_ok-folder.ensures.found, ap texts_in (sym (raw_values-rows f (codes "node"))) ∙ c.in_ok-nodes.ensures.found.0, words, c.in_ok-nodes.ensures.found.1)) (λ lacks. lacks))

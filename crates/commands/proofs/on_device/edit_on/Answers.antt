@@ -2,16 +2,15 @@ use Rattle.commands.specs.Endings.{IsEditEnd}
 use Rattle.commands.proofs.OnDevices.{edit_end, told_of, verdict_printed}
 use Rattle.commands.proofs.on_device.edit_on.Goals as goal
 
-pub returns-clause-printed : goal.returns-clause-printed
-returns-clause-printed g c =
-    let by = c.edit-answer.ensures in
-    verdict_printed c.print_verdict.result c.edit-answer.result.0 c.args.session c.args.ticket c.args.change (g.D.Disk.view c.args.disk) (g.D.Disk.view c.edit-answer.result.1) (g.O.Write.contents c.args.out.now) (g.O.Write.contents c.print_verdict.new.out)
-    by.of_one by.new by.verdict by.left c.print_verdict.ensures.printed
-
-pub returns-clause-fault : goal.returns-clause-fault
-returns-clause-fault g c =
+pub returns-clause-ends : goal.returns-clause-ends
+returns-clause-ends g c =
     let by = c.edit-answer.ensures in
     let disk = g.D.Disk.view c.args.disk in
     let left = g.D.Disk.view c.edit-answer.result.1 in
-    told_of c.print_verdict.result c.edit-answer.result.0 (λ fault. IsEditEnd c.args.session c.args.ticket c.args.change disk left fault) c.print_verdict.ensures.fault
-    (edit_end c.edit-answer.result.0 c.args.session c.args.ticket c.args.change disk left by.faults by.tells by.already_in by.worn by.device by.unwritten)
+    record {
+      printed = verdict_printed c.print_verdict.result c.edit-answer.result.0 c.args.session c.args.ticket c.args.change disk left (g.O.Write.contents c.args.out.now) (g.O.Write.contents c.print_verdict.new.out)
+          by.of_one by.new by.verdict by.left c.print_verdict.ensures.printed;
+      fault = told_of c.print_verdict.result c.edit-answer.result.0 (λ fault. IsEditEnd c.args.session c.args.ticket c.args.change disk left fault) c.print_verdict.ensures.fault
+          (edit_end c.edit-answer.result.0 c.args.session c.args.ticket c.args.change disk left by.faults by.tells by.already_in by.worn by.device by.unwritten);
+      untouched = c.print_verdict.ensures.untouched;
+    }

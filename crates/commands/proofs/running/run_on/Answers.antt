@@ -1,15 +1,38 @@
+use Rattle.std.proofs.Common.{refl}
 use Rattle.clap.specs.Walk.{texts}
+use Rattle.commands.specs.Runs.{PutBy}
+use Rattle.commands.proofs.Faults.{refused_for}
 use Rattle.commands.proofs.Serving.{may_run}
+use Rattle.commands.proofs.ToldRuns.{asked_so, refused_so}
 use Rattle.commands.proofs.running.run_on.Goals as goal
 
 pub run_understood-requires-after_bounds : goal.run_understood-requires-after_bounds
 run_understood-requires-after_bounds g c κs within = may_run (texts c.args.words.now) c.in-Ok.task c.in-Ok.ensures.asked
 
-pub returns-in-Ok-clause-untouched : goal.returns-in-Ok-clause-untouched
-returns-in-Ok-clause-untouched g c other = c.run_understood.ensures.untouched (λ live. other (c.in-Ok.task, c.in-Ok.ensures.asked, live))
-
-pub returns-in-Ok-clause-unread : goal.returns-in-Ok-clause-unread
-returns-in-Ok-clause-unread g c other = c.run_understood.ensures.unread (λ service. other (c.in-Ok.task, c.in-Ok.ensures.asked, service))
+pub returns-in-Ok-clause-runs : goal.returns-in-Ok-clause-runs
+returns-in-Ok-clause-runs g c =
+    let by = c.run_understood.ensures.runs in
+    let asked = c.in-Ok.ensures.asked in
+    record {
+      outcome = asked_so g.F.Device.Disk (g.F.Devices.opened c.args.devices.now) (PutBy g.T.TableFiles.puts c.args.tables.now c.run_understood.new.tables) (texts c.args.words.now) c.in-Ok.task (g.S.Read.remaining c.args.script.now)
+          (g.O.Write.contents c.args.out.now) (g.O.Write.contents c.run_understood.new.out) (g.E.Write.contents c.args.err.now) (g.E.Write.contents c.run_understood.new.err) c.run_understood.result asked by.outcome;
+      untouched = λ other. by.untouched (λ live. other (c.in-Ok.task, asked, live));
+      unread = λ other. by.unread (λ service. other (c.in-Ok.task, asked, service));
+    }
 
 pub returns-in-Ok-clause-unput : goal.returns-in-Ok-clause-unput
 returns-in-Ok-clause-unput g c other batch = c.run_understood.ensures.unput (λ tables. other (c.in-Ok.task, c.in-Ok.ensures.asked, tables)) (λ live. batch (c.in-Ok.task, c.in-Ok.ensures.asked, live))
+
+pub returns-in-Err-clause-runs : goal.returns-in-Err-clause-runs
+returns-in-Err-clause-runs g c =
+    let there = g.F.Devices.opened c.args.devices.now in
+    let put = PutBy g.T.TableFiles.puts c.args.tables.now c.args.tables.now in
+    let given = g.S.Read.remaining c.args.script.now in
+    let old = g.O.Write.contents c.args.out.now in
+    let why = c.in-Err.ensures in
+    record {
+      outcome = refused_so g.F.Device.Disk there put (texts c.args.words.now) given old old (g.E.Write.contents c.args.err.now) (g.E.Write.contents c.told.new.err) c.fault_of.result c.told.result c.told.ensures
+          (refused_for g.F.Device.Disk there put (texts c.args.words.now) given old old c.in-Err.refused c.fault_of.result c.fault_of.ensures why.cause (λ task asked fits. why.refused task asked fits));
+      untouched = λ batch fault other which. refl {a = c.args.out.now};
+      unread = λ other. refl {a = c.args.script.now};
+    }

@@ -1,41 +1,41 @@
-use Rattle.std.proofs.Common.{◌≡◌, sym, subst}
+use Rattle.std.proofs.Common.{◌≡◌, refl, sym, subst}
 use Rattle.command_line.specs.declared.task.Task.{Task}
 use Rattle.commands.specs.Outcomes.{IsOutcomeOf}
-use Rattle.commands.specs.ServedScripts.{IsLiveService}
-use Rattle.table_files.specs.Files.{HasPut}
+use Rattle.commands.specs.Runs.{PutBy}
+use Rattle.commands.specs.ServedScripts.{IsLiveService, IsService}
 use Rattle.commands.proofs.ToldRuns.{not_live, service_so, told_behind, told_so}
 use Rattle.commands.proofs.running.run_understood.Goals as goal
 
-pub returns-in-Serve-clause-outcome : goal.returns-in-Serve-clause-outcome
-returns-in-Serve-clause-outcome g c =
+pub returns-in-Serve-clause-runs : goal.returns-in-Serve-clause-runs
+returns-in-Serve-clause-runs g c =
     let there = g.F.Devices.opened c.args.devices.now in
-    let put = HasPut (g.T.TableFiles.puts c.args.tables.now) (g.T.TableFiles.puts c.run_service.new.tables) in
+    let put = PutBy g.T.TableFiles.puts c.args.tables.now c.run_service.new.tables in
     let given = g.S.Read.remaining c.args.script.now in
     let old = g.O.Write.contents c.args.out.now in
     let new = g.O.Write.contents c.run_service.new.out in
     let told_old = g.E.Write.contents c.args.err.now in
     let told_new = g.E.Write.contents c.run_service.new.err in
     let w = c.in-Serve in
-    subst (λ (t : Task). IsOutcomeOf g.F.Device.Disk there put t given old new told_old told_new c.run_service.result) (sym w.is)
-    (service_so g.F.Device.Disk there put w.device w.editors w.forwarders w.places w.live w.words given old new told_old told_new c.run_service.result c.run_service.ensures.outcome)
-
-pub returns-in-Serve-clause-untouched : goal.returns-in-Serve-clause-untouched
-returns-in-Serve-clause-untouched g c other =
-    let w = c.in-Serve in
-    c.run_service.ensures.untouched (not_live w.device w.editors w.forwarders w.places w.live w.words (subst (λ (t : Task). ¬ IsLiveService t) w.is other))
+    record {
+      outcome = subst (λ (t : Task). IsOutcomeOf g.F.Device.Disk there put t given old new told_old told_new c.run_service.result) (sym w.is)
+          (service_so g.F.Device.Disk there put w.device w.editors w.forwarders w.places w.live w.words given old new told_old told_new c.run_service.result c.run_service.ensures.outcome);
+      untouched = λ other. c.run_service.ensures.untouched (not_live w.device w.editors w.forwarders w.places w.live w.words (subst (λ (t : Task). ¬ IsLiveService t) w.is other));
+      unread = λ other. absurd (other (subst IsService (sym w.is) tt));
+    }
 
 pub returns-in-Serve-clause-unput : goal.returns-in-Serve-clause-unput
 returns-in-Serve-clause-unput g c other batch =
     let w = c.in-Serve in
     c.run_service.ensures.unput (not_live w.device w.editors w.forwarders w.places w.live w.words (subst (λ (t : Task). ¬ IsLiveService t) w.is batch))
 
-pub returns-in_default-clause-outcome : goal.returns-in_default-clause-outcome
-returns-in_default-clause-outcome g c =
+pub returns-in_default-clause-runs : goal.returns-in_default-clause-runs
+returns-in_default-clause-runs g c =
     let given = g.S.Read.remaining c.args.script.now in
-    told_so g.F.Device.Disk (g.F.Devices.opened c.args.devices.now) (HasPut (g.T.TableFiles.puts c.args.tables.now) (g.T.TableFiles.puts c.run_task.new.tables)) c.args.task given
-    (g.O.Write.contents c.args.out.now) (g.O.Write.contents c.run_task.new.out) (g.E.Write.contents c.args.err.now) (g.E.Write.contents c.told.new.err)
-    c.run_task.result c.told.result c.told.ensures (c.run_task.ensures.printed given) (c.run_task.ensures.fault given)
-
-pub returns-in_default-clause-untouched : goal.returns-in_default-clause-untouched
-returns-in_default-clause-untouched g c other =
-    told_behind (c.run_task.new.out ≡ c.args.out.now) (g.E.Write.contents c.args.err.now) (g.E.Write.contents c.told.new.err) c.run_task.result c.told.result c.told.ensures c.run_task.ensures.untouched
+    let ends = c.run_task.ensures.ends given in
+    record {
+      outcome = told_so g.F.Device.Disk (g.F.Devices.opened c.args.devices.now) (PutBy g.T.TableFiles.puts c.args.tables.now c.run_task.new.tables) c.args.task given
+          (g.O.Write.contents c.args.out.now) (g.O.Write.contents c.run_task.new.out) (g.E.Write.contents c.args.err.now) (g.E.Write.contents c.told.new.err)
+          c.run_task.result c.told.result c.told.ensures ends.printed ends.fault;
+      untouched = λ other. told_behind (c.run_task.new.out ≡ c.args.out.now) (g.E.Write.contents c.args.err.now) (g.E.Write.contents c.told.new.err) c.run_task.result c.told.result c.told.ensures ends.untouched;
+      unread = λ other. refl {a = c.args.script.now};
+    }

@@ -2,16 +2,15 @@ use Rattle.commands.specs.Endings.{IsRouteEnd}
 use Rattle.commands.proofs.OnDevices.{route_end, routes_printed, told_of}
 use Rattle.commands.proofs.scheme_tasks.route_on.Goals as goal
 
-pub returns-clause-printed : goal.returns-clause-printed
-returns-clause-printed g c =
-    let by = c.route_device-answer.ensures in
-    routes_printed c.print_found.result c.route_device-answer.result.0 c.args.pairs.now c.args.asked.now (g.D.Disk.view c.args.disk) (g.D.Disk.view c.route_device-answer.result.1) (g.O.Write.contents c.args.out.now) (g.O.Write.contents c.print_found.new.out)
-    by.of_one by.generation by.routes by.reading.reads c.print_found.ensures.printed
-
-pub returns-clause-fault : goal.returns-clause-fault
-returns-clause-fault g c =
-    let by = c.route_device-answer.ensures in
+pub returns : goal.returns
+returns g c =
+    let by = c.route_device-answer.ensures.routes in
     let disk = g.D.Disk.view c.args.disk in
     let left = g.D.Disk.view c.route_device-answer.result.1 in
-    told_of c.print_found.result c.route_device-answer.result.0 (λ fault. IsRouteEnd c.args.pairs.now c.args.asked.now disk left fault) c.print_found.ensures.fault
-    (route_end c.route_device-answer.result.0 c.args.pairs.now c.args.asked.now disk left by.fault by.reading by.no_node by.not_within)
+    record {
+      printed = routes_printed c.print_found.result c.route_device-answer.result.0 c.args.pairs.now c.args.asked.now disk left (g.O.Write.contents c.args.out.now) (g.O.Write.contents c.print_found.new.out)
+          by.of_one by.generation by.answer by.reading.reads c.print_found.ensures.printed;
+      fault = told_of c.print_found.result c.route_device-answer.result.0 (λ fault. IsRouteEnd c.args.pairs.now c.args.asked.now disk left fault) c.print_found.ensures.fault
+          (route_end c.route_device-answer.result.0 c.args.pairs.now c.args.asked.now disk left by.fault by.reading c.route_device-answer.ensures.no_node by.not_within);
+      untouched = c.print_found.ensures.untouched;
+    }
