@@ -70,7 +70,7 @@ all_front P [] ys h k d within = absurd (omega (arith, within))
 all_front P (x ∷ xs) ys h zero d within = h 0 d (omega arith)
 all_front P (x ∷ xs) ys h (suc k) d within = all_front P xs ys (λ j e w. h (suc j) e (omega (arith, w))) k d (omega (arith, within))
 
-all_last : (P : Editing → Type 0) (xs : List Editing) (x : Editing) → All P (xs ++ x ∷ []) → P x
+pub all_last : (P : Editing → Type 0) (xs : List Editing) (x : Editing) → All P (xs ++ x ∷ []) → P x
 all_last P [] x h = h 0 x (omega arith)
 all_last P (y ∷ xs) x h = all_last P xs x (λ j e w. h (suc j) e (omega (arith, w)))
 

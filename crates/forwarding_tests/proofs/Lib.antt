@@ -1,3 +1,4 @@
 pub mod Posting
 mod Answering
+mod Knowing
 pub mod Missing

@@ -1,2 +1,3 @@
 pub mod InARow
 pub mod Answered
+pub mod Known

@@ -2,7 +2,8 @@
 //!
 //! There is nothing here but tests. Schemes are posted on a board, which readers look at beside the writer and where an
 //! allocation is refused; editors submit changes, which are answered by hand, alone and in threads; and forwarders pass on
-//! packets that were launched, made by hand, changed by a byte or drawn, alone and while a writer posts.
+//! packets that were launched, made by hand, changed by a byte or drawn, alone and while a writer posts. Each knows of a board's
+//! list what it was told.
 #![tactic(auto)]
 
 #[cfg(test)]
@@ -13,6 +14,8 @@ mod boards;
 mod drawn;
 #[cfg(test)]
 mod judged;
+#[cfg(test)]
+mod known;
 #[cfg(test)]
 mod posted;
 #[cfg(test)]

@@ -274,6 +274,10 @@ pub knows : (pass : ℕ) (v : View) → v.takes ≡ true → Learns Holds pass v
 knows pass v may items views h at =
     let f = (h.4 pass v at).1 may in ((λ sends. compares pass v sends may items views h at), λ s le. ap (λ l. of s (l ++ items)) f.1 ∙ (f.3 s le).1)
 
+-- an editor's requests are among what was taken and what waits
+pub waits : (pass : ℕ) (v : View) → v.sends ≡ true → Learns Holds pass v (λ items. (got : List Request) × (v.put ≡ of v.session (got ++ items)))
+waits pass v sends items views h at = (h.3, ((h.4 pass v at).0 sends).1)
+
 -- a pass notes that it found the queue full, or empty
 pub notes : (pass : ℕ) (v : View) → Forks Holds pass v (missed v) idle
 notes pass v items views h at =

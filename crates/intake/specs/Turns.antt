@@ -54,6 +54,13 @@ both v w = record { sends = true; session = w.session; start = w.start; put = w.
 abbrev pub AreOfEditors : ℕ → List Request → Type 0
 AreOfEditors made all = (s : ℕ) → made ≤ s → of s all ≡ []
 
+-- At some moment requests waited. What had been taken by then, followed by what waited, has of this session just what its editor had put.
+pub record HasWaited (session : ℕ) (put : List Request) : Type 0 where
+  pub got : List Request
+  pub waits : List Request
+  pub some : 0 < length waits
+  pub own : put ≡ of session (got ++ waits)
+
 -- what the taker knows of all that was put: of the editor that it took in, just what that one put, and of a session without an editor nothing
 abbrev pub KnowsAll : View → List Request → Type 0
 KnowsAll v all = (v.sends ≡ true → v.put ≡ of v.session all) × AreOfEditors v.made all

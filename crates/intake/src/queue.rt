@@ -1,11 +1,11 @@
 // The two ends of the intake queue.
-ghost use Rattle.std.specs.Prelude.{◌≡◌, List, ◌+◌, ◌<◌, ◌≤◌, ◌++◌, ◌∷◌, [], map, length, Some, MatchResult, MatchOption, IsNone, IfOk, IfSome, OnOk};
+ghost use Rattle.std.specs.Prelude.{◌≡◌, List, ◌+◌, ◌<◌, ◌≤◌, ◌++◌, ◌∷◌, [], map, length, Some, MatchResult, MatchOption, IsNone, IfOk, IfSome, OnErr, OnOk};
 ghost use Rattle.std.specs.Arc.{arc_value};
 ghost use Rattle.crossbeam_queue.specs.Passes.{view, IsPassOf};
 ghost use Rattle.requests.specs.Tickets.{worn_limit, last_of, Rises};
 ghost use Rattle.requests.specs.Requests.{asked_by};
 ghost use Rattle.requests.specs.declared.request.Request.{Request};
-ghost use Rattle.intake.specs.Turns.{opener, of, last_or_start};
+ghost use Rattle.intake.specs.Turns.{HasWaited, opener, of, last_or_start};
 ghost use Rattle.intake.specs.Ends.{HasAll, AreAll, HasTaken};
 
 use crossbeam_queue::protocol::{Join, Lesson, Outcome, Protocol, Split};
@@ -54,8 +54,13 @@ impl Outcome<Request, View> for Puts {
     ghost then = { λ v r w. w ≡ editor v.session v.start (v.put ++ r ∷ []) v.misses };
 }
 
+// At a full queue the editor's requests are among what was taken and what waits.
 impl Lesson<Request, View> for Puts {
-    ghost fact = { λ v items. Unit {0} };
+    ghost use Rattle.std.specs.Prelude.{◌≡◌, ◌++◌, List};
+    ghost use Rattle.requests.specs.declared.request.Request.{Request as Asked};
+    ghost use Rattle.intake.specs.Turns.{of};
+
+    ghost fact = { λ v items. (got : List Asked) × (v.put ≡ of v.session (got ++ items)) };
 }
 
 struct Takes;
@@ -200,6 +205,7 @@ impl Sender {
         ensures same { (self.new.queue ≡ self.old.queue) × ((self.new.session ≡ self.old.session) × (self.new.start ≡ self.old.start)) }
         ensures put { MatchResult result (λ _. self.new.put ≡ self.old.put ++ request ∷ []) (λ r. (r ≡ request) × (self.new.put ≡ self.old.put)) }
         ensures full { MatchResult result (λ _. self.new.fulls ≡ self.old.fulls) (λ _. self.new.fulls ≡ self.old.fulls + 1) }
+        ensures waited { OnErr result (HasWaited self.old.session self.old.put) }
     {
         let put = self.queue.push_as::<Puts, R>(rt, &mut self.pass, request);
         if put.is_err() {

@@ -22,6 +22,7 @@ use Rattle.node_table.specs.Service.{packet_by}
 use Rattle.node_table.proofs.Basics.Options.{is_there, some_is, same_value}
 use Rattle.node_table.proofs.Serving.StepsAsMoves.{IsAtPlace, AreAtPlaces, Ports, EndsAt, carry, Passes, index_get}
 use Rattle.node_table.proofs.Serving.TripLengths.{Chained, head_or}
+use Rattle.node_table.proofs.Serving.TripsInTrees.{placed_left, placed_right, placed_append, placed_reverse, ends_after, ends_turned, head_is}
 use Rattle.node_table.proofs.Serving.Exact.{Distances}
 use Rattle.node_table.proofs.Serving.CheckedLaw.{distances_of}
 use Rattle.node_table.proofs.Serving.SchemeLaws.{exact_law, trees_law}
@@ -129,44 +130,6 @@ module _ (m : Network) (p : Parts) (sound : IsSound m) (checked : IsChecked m p)
       }
 
 -- ---- places
-
-placed_left : (m : Network) (t : Tables) (r : ℕ) (xs ys : List Place) → AreAtPlaces m t r (xs ++ ys) → AreAtPlaces m t r xs
-placed_left m t r [] ys s = tt
-placed_left m t r (a ∷ xs) ys s = (s.0, placed_left m t r xs ys s.1)
-
-placed_right : (m : Network) (t : Tables) (r : ℕ) (xs ys : List Place) → AreAtPlaces m t r (xs ++ ys) → AreAtPlaces m t r ys
-placed_right m t r [] ys s = s
-placed_right m t r (a ∷ xs) ys s = placed_right m t r xs ys s.1
-
-placed_append : (m : Network) (t : Tables) (r : ℕ) (xs ys : List Place) → AreAtPlaces m t r xs → AreAtPlaces m t r ys → AreAtPlaces m t r (xs ++ ys)
-placed_append m t r [] ys a b = b
-placed_append m t r (x ∷ xs) ys a b = (a.0, placed_append m t r xs ys a.1 b)
-
-placed_reverse : (m : Network) (t : Tables) (r : ℕ) (xs : List Place) → AreAtPlaces m t r xs → AreAtPlaces m t r (reverse xs)
-placed_reverse m t r [] s = tt
-placed_reverse m t r (x ∷ xs) s =
-    let turned : reverse (x ∷ xs) ≡ reverse xs ++ x ∷ [] = reverse-append (x ∷ []) xs in
-    subst (AreAtPlaces m t r) (sym turned) (placed_append m t r (reverse xs) (x ∷ []) (placed_reverse m t r xs s.1) (s.0, tt))
-
-ends_last : (xs : List Place) (a : Place) (v : ℕ) → a.node ≡ v → EndsAt (xs ++ a ∷ []) v
-ends_last [] a v e = e
-ends_last (x ∷ []) a v e = e
-ends_last (x ∷ y ∷ xs) a v e = ends_last (y ∷ xs) a v e
-
-ends_after : (xs : List Place) (a : Place) (ys : List Place) (v : ℕ) → EndsAt (a ∷ ys) v → EndsAt (xs ++ a ∷ ys) v
-ends_after [] a ys v e = e
-ends_after (x ∷ []) a ys v e = e
-ends_after (x ∷ y ∷ xs) a ys v e = ends_after (y ∷ xs) a ys v e
-
-ends_turned : (down : List Place) (at : Place) (v : ℕ) → (head_or down at).node ≡ v → EndsAt (at ∷ reverse down) v
-ends_turned [] at v e = e
-ends_turned (a ∷ down) at v e =
-    let turned : reverse (a ∷ down) ≡ reverse down ++ a ∷ [] = reverse-append (a ∷ []) down in
-    subst (λ z. EndsAt (at ∷ z) v) (sym turned) (ends_last (at ∷ reverse down) a v e)
-
-head_is : (p : Place) (q : Line) (up : List Place) (at : Place) (above : Line) → p ∷ q ≡ up ++ at ∷ above → head_or up at ≡ p
-head_is p q [] at above e = cc
-head_is p q (a ∷ up) at above e = cc
 
 abbrev after_head : List Place → Place → List Place → List Place
 after_head [] at down = reverse down

@@ -19,19 +19,19 @@ use Rattle.node_table.proofs.Serving.TripLengths.{Chained, head_or, nodes_of, di
 use Rattle.node_table.proofs.Serving.Exact.{Distances}
 use Rattle.node_table.proofs.LocalForms.TreeOfTables.{IsPlacedLine, node_inside, entry_has_place, few_members, placed_tree, tree_to_depth-node, tree_to_depth-fits, children_ports}
 
-placed_left : (m : Network) (t : Tables) (r : ℕ) (xs ys : List Place) → AreAtPlaces m t r (xs ++ ys) → AreAtPlaces m t r xs
+pub placed_left : (m : Network) (t : Tables) (r : ℕ) (xs ys : List Place) → AreAtPlaces m t r (xs ++ ys) → AreAtPlaces m t r xs
 placed_left m t r [] ys s = tt
 placed_left m t r (a ∷ xs) ys s = (s.0, placed_left m t r xs ys s.1)
 
-placed_right : (m : Network) (t : Tables) (r : ℕ) (xs ys : List Place) → AreAtPlaces m t r (xs ++ ys) → AreAtPlaces m t r ys
+pub placed_right : (m : Network) (t : Tables) (r : ℕ) (xs ys : List Place) → AreAtPlaces m t r (xs ++ ys) → AreAtPlaces m t r ys
 placed_right m t r [] ys s = s
 placed_right m t r (a ∷ xs) ys s = placed_right m t r xs ys s.1
 
-placed_append : (m : Network) (t : Tables) (r : ℕ) (xs ys : List Place) → AreAtPlaces m t r xs → AreAtPlaces m t r ys → AreAtPlaces m t r (xs ++ ys)
+pub placed_append : (m : Network) (t : Tables) (r : ℕ) (xs ys : List Place) → AreAtPlaces m t r xs → AreAtPlaces m t r ys → AreAtPlaces m t r (xs ++ ys)
 placed_append m t r [] ys a b = b
 placed_append m t r (x ∷ xs) ys a b = (a.0, placed_append m t r xs ys a.1 b)
 
-placed_reverse : (m : Network) (t : Tables) (r : ℕ) (xs : List Place) → AreAtPlaces m t r xs → AreAtPlaces m t r (reverse xs)
+pub placed_reverse : (m : Network) (t : Tables) (r : ℕ) (xs : List Place) → AreAtPlaces m t r xs → AreAtPlaces m t r (reverse xs)
 placed_reverse m t r [] s = tt
 placed_reverse m t r (x ∷ xs) s =
     let turned : reverse (x ∷ xs) ≡ reverse xs ++ x ∷ [] = reverse-append (x ∷ []) xs in
@@ -42,23 +42,23 @@ chained_cut [] a ys c = tt
 chained_cut (x ∷ []) a ys c = (c.0, tt)
 chained_cut (x ∷ y ∷ xs) a ys c = (c.0, chained_cut (y ∷ xs) a ys c.1)
 
-ends_last : (xs : List Place) (a : Place) (v : ℕ) → a.node ≡ v → EndsAt (xs ++ a ∷ []) v
+pub ends_last : (xs : List Place) (a : Place) (v : ℕ) → a.node ≡ v → EndsAt (xs ++ a ∷ []) v
 ends_last [] a v e = e
 ends_last (x ∷ []) a v e = e
 ends_last (x ∷ y ∷ xs) a v e = ends_last (y ∷ xs) a v e
 
-ends_after : (xs : List Place) (a : Place) (ys : List Place) (v : ℕ) → EndsAt (a ∷ ys) v → EndsAt (xs ++ a ∷ ys) v
+pub ends_after : (xs : List Place) (a : Place) (ys : List Place) (v : ℕ) → EndsAt (a ∷ ys) v → EndsAt (xs ++ a ∷ ys) v
 ends_after [] a ys v e = e
 ends_after (x ∷ []) a ys v e = e
 ends_after (x ∷ y ∷ xs) a ys v e = ends_after (y ∷ xs) a ys v e
 
-ends_turned : (down : List Place) (at : Place) (v : ℕ) → (head_or down at).node ≡ v → EndsAt (at ∷ reverse down) v
+pub ends_turned : (down : List Place) (at : Place) (v : ℕ) → (head_or down at).node ≡ v → EndsAt (at ∷ reverse down) v
 ends_turned [] at v e = e
 ends_turned (a ∷ down) at v e =
     let turned : reverse (a ∷ down) ≡ reverse down ++ a ∷ [] = reverse-append (a ∷ []) down in
     subst (λ z. EndsAt (at ∷ z) v) (sym turned) (ends_last (at ∷ reverse down) a v e)
 
-head_is : (p : Place) (q : Line) (up : List Place) (at : Place) (above : Line) → p ∷ q ≡ up ++ at ∷ above → head_or up at ≡ p
+pub head_is : (p : Place) (q : Line) (up : List Place) (at : Place) (above : Line) → p ∷ q ≡ up ++ at ∷ above → head_or up at ≡ p
 head_is p q [] at above e = cc
 head_is p q (a ∷ up) at above e = cc
 
