@@ -1,7 +1,9 @@
 // The example `examples/backbone`: its list is read, imported, exported, measured and routed in. What the landmark words
 // `draw:7` choose, the figures and the way were found by another program, written from docs/FORMATS.md; all ways are
 // measured beside the slow count.
-use crate::helpers::{Edge as Joined, got, graph_of, measured_at, scheme_at};
+use crate::helpers::{
+    Edge as Joined, got, graph_of, measured_at, same, same_number, same_text, scheme_at,
+};
 use crate::slow::{Distances, distance, distances_of, expect_sizes, expect_ways};
 use checkpoint::{DEVICE_LEN, Store, format};
 use disk_trait::MemDisk;
@@ -13,6 +15,7 @@ use figure_lines::{
 use graph_edits::{Code, Graph};
 use landmarks::Landmarks;
 use network_import::{ImportRefused, Progress, import};
+use node_table::Scheme;
 use scheme_builds::carry_in;
 use scheme_figures::drawn_pairs;
 use std::alloc::Global;
@@ -209,74 +212,125 @@ fn joined(rt: &impl Abort, alloc: Global) -> Vec<Joined> {
     all
 }
 
+/// The edges of the list.
+fn listed(rt: &impl Abort, alloc: Global) -> Vec<Edge> {
+    edges_in(rt, alloc, &mut Names::new(alloc), LIST)
+}
+
+/// Sees that the list names the cities.
+fn expect_cities(rt: &impl Abort, alloc: Global) {
+    let mut names = Names::new(alloc);
+    let _edges = edges_in(rt, alloc, &mut names, LIST);
+    let written = got(rt, names.written(alloc));
+    same_text(rt, written.as_str(), CITIES, "names");
+}
+
+/// Sees that a network has these edges.
+fn expect_edges(rt: &impl Abort, graph: &Graph, edges: &[Edge]) {
+    for edge in edges {
+        let found = (edge.line, graph.weight(edge.a, edge.b));
+        same(rt, found, (edge.line, Some(edge.weight)), "a line");
+    }
+}
+
+/// Imports the edges into a new store.
+fn imports(rt: &impl Abort, alloc: Global, store: &mut Store<MemDisk>, edges: &[Edge]) {
+    same(rt, imported(rt, alloc, store, edges), Ok(()), "imported");
+    let found = (store.count(), store.graph().edges(), store.nodes());
+    same(rt, found, (4, 64, 46), "imported");
+    same_number(rt, store.resume(0), 4, "imported");
+    expect_edges(rt, store.graph(), edges);
+}
+
+/// The same list again is refused at its first edge, which stands in line 5.
+fn imports_no_more(rt: &impl Abort, alloc: Global, store: &mut Store<MemDisk>, edges: &[Edge]) {
+    let refused = ImportRefused::Op {
+        place: 0,
+        code: Code::EdgeThere,
+    };
+    same(rt, imported(rt, alloc, store, edges), Err(refused), "again");
+    let Some(first) = edges.first() else {
+        panic!(rt; "no edge");
+    };
+    same(rt, first.line, 5, "the first edge");
+    let found = (store.count(), store.graph().edges());
+    same(rt, found, (4, 64), "again");
+}
+
 #[test]
 fn backbone_is_imported_once(rt: HostRuntime) {
     let alloc = rt.alloc();
-    let mut names = Names::new(alloc);
-    let edges = edges_in(&rt, alloc, &mut names, LIST);
-    assert_eq!(rt; got(&rt, names.written(alloc)).as_str(), CITIES, "names");
-    let mut store = new_store(&rt, alloc);
-    let answer = imported(&rt, alloc, &mut store, &edges);
-    assert_eq!(rt; answer, Ok(()));
-    let found = (store.count(), store.graph().edges(), store.nodes());
-    assert_eq!(rt; found, (4, 64, 46));
-    assert_eq!(rt; store.resume(0), 4);
-    for edge in &edges {
-        assert_eq!(rt;
-            store.graph().weight(edge.a, edge.b),
-            Some(edge.weight),
-            "line {}",
-            edge.line
-        );
-    }
-
-    // The same list again is refused at its first edge, which stands in line 5.
-    let answer = imported(&rt, alloc, &mut store, &edges);
-    assert_eq!(rt;
-        answer,
-        Err(ImportRefused::Op {
-            place: 0,
-            code: Code::EdgeThere,
-        },)
-    );
-    assert_eq!(rt; edges.first().map(|edge| edge.line), Some(5));
-    assert_eq!(rt; (store.count(), store.graph().edges()), (4, 64));
+    let rt = &rt;
+    expect_cities(rt, alloc);
+    let edges = listed(rt, alloc);
+    let mut store = new_store(rt, alloc);
+    imports(rt, alloc, &mut store, &edges);
+    imports_no_more(rt, alloc, &mut store, &edges);
 }
 
 /// Sees that a list says the edges of a network.
 fn expect_list(rt: &impl Abort, alloc: Global, graph: &Graph, text: &str) {
     let mut names = names_in(rt, alloc, CITIES);
     let edges = edges_in(rt, alloc, &mut names, text);
-    assert_eq!(rt; edges.len(), 64, "edges");
-    for edge in &edges {
-        assert_eq!(rt;
-            graph.weight(edge.a, edge.b),
-            Some(edge.weight),
-            "line {}",
-            edge.line
-        );
-    }
+    same(rt, edges.len(), 64, "edges");
+    expect_edges(rt, graph, &edges);
+}
+
+/// The network of the list, its edges as they are exported, and the cities.
+#[derive(Drop)]
+struct Exported<'a> {
+    graph: &'a Graph,
+    edges: &'a [Edge],
+    names: &'a [&'a str],
+}
+
+fn expect_as_list(rt: &impl Abort, alloc: Global, exported: &Exported<'_>) {
+    let text = got(rt, edge_list(alloc, exported.edges, exported.names));
+    expect_list(rt, alloc, exported.graph, text.as_str());
+}
+
+fn expect_as_rows(rt: &impl Abort, alloc: Global, exported: &Exported<'_>) {
+    let text = got(rt, network_csv(alloc, exported.edges, exported.names));
+    let text = got(rt, str::from_utf8(&text));
+    let front = "a,b,weight\nLisboa,Porto,313\nLisboa,Madrid,625\n";
+    same(rt, text.starts_with(front), true, "the front of the rows");
+    expect_list(rt, alloc, exported.graph, text);
+}
+
+const JSON_FRONT: &str = "{\"edges\":[[0,1,313],[0,2,625],[0,3,402],[1,4,690],";
+
+const JSON_MIDDLE: &str = "],\"names\":[\"Lisboa\",\"Porto\",\"Madrid\",";
+
+const JSON_END: &str = ",\"Roma\",\"Napoli\"],\"nodes\":46}\n";
+
+fn expect_as_json(rt: &impl Abort, alloc: Global, exported: &Exported<'_>) {
+    let text = got(rt, network_json(alloc, 46, exported.edges, exported.names));
+    let text = text.as_str();
+    same(rt, text.starts_with(JSON_FRONT), true, "the front of JSON");
+    same(rt, text.contains(JSON_MIDDLE), true, "the middle of JSON");
+    same(rt, text.ends_with(JSON_END), true, "the end of JSON");
+}
+
+/// The network of the list.
+fn backbone(rt: &impl Abort, alloc: Global) -> Graph {
+    graph_of(rt, alloc, 46, &joined(rt, alloc))
 }
 
 #[test]
 fn backbone_is_exported(rt: HostRuntime) {
     let alloc = rt.alloc();
-    let all = joined(&rt, alloc);
-    let graph = graph_of(&rt, alloc, 46, &all);
-    let names = names_in(&rt, alloc, CITIES);
-    let names = names.list();
-    let edges = got(&rt, edges_of(alloc, &graph));
-    let text = got(&rt, edge_list(alloc, &edges, names));
-    expect_list(&rt, alloc, &graph, text.as_str());
-    let text = got(&rt, network_csv(alloc, &edges, names));
-    let text = got(&rt, str::from_utf8(&text));
-    assert!(rt; text.starts_with("a,b,weight\nLisboa,Porto,313\nLisboa,Madrid,625\n"));
-    expect_list(&rt, alloc, &graph, text);
-    let text = got(&rt, network_json(alloc, 46, &edges, names));
-    let text = text.as_str();
-    assert!(rt; text.starts_with("{\"edges\":[[0,1,313],[0,2,625],[0,3,402],[1,4,690],"));
-    assert!(rt; text.contains("],\"names\":[\"Lisboa\",\"Porto\",\"Madrid\","));
-    assert!(rt; text.ends_with(",\"Roma\",\"Napoli\"],\"nodes\":46}\n"));
+    let rt = &rt;
+    let graph = backbone(rt, alloc);
+    let names = names_in(rt, alloc, CITIES);
+    let edges = got(rt, edges_of(alloc, &graph));
+    let exported = Exported {
+        graph: &graph,
+        edges: &edges,
+        names: names.list(),
+    };
+    expect_as_list(rt, alloc, &exported);
+    expect_as_rows(rt, alloc, &exported);
+    expect_as_json(rt, alloc, &exported);
 }
 
 /// The nearest landmark of a node by the slow count, the smaller one of two that are as near.
@@ -306,33 +360,63 @@ fn drawn_landmarks(rt: &impl Abort, alloc: Global) -> Landmarks {
     got(rt, Landmarks::choose(alloc, 46, words))
 }
 
-#[test]
-fn backbone_is_marked(rt: HostRuntime) {
-    let alloc = rt.alloc();
-    let all = joined(&rt, alloc);
-    let graph = graph_of(&rt, alloc, 46, &all);
-    let landmarks = drawn_landmarks(&rt, alloc);
+/// Sees that the drawn landmarks are those.
+fn expect_landmarks(rt: &impl Abort, landmarks: &Landmarks) {
+    for (node, flag) in (0..46u16).zip(landmarks.flags().iter()) {
+        let want = LANDMARKS.contains(&node);
+        same(rt, (node, *flag), (node, want), "a landmark");
+    }
+}
+
+/// The landmark of a node's mark.
+fn landmark_in(mark: &Option<Mark>) -> Option<u16> {
+    match mark {
+        Some(mark) => Some(mark.landmark),
+        None => None,
+    }
+}
+
+/// Sees that each node is marked by its nearest landmark.
+fn expect_marks(rt: &impl Abort, distances: &Distances, marks: &[Option<Mark>]) {
+    same(rt, marks.len(), 46, "marks");
+    for (node, mark) in (0..46u16).zip(marks.iter()) {
+        let found = (node, landmark_in(mark));
+        same(rt, found, (node, nearest_of(distances, node)), "a mark");
+    }
+}
+
+/// The marks of the network, with the landmarks that are drawn.
+fn marks_in(rt: &impl Abort, alloc: Global, graph: &Graph) -> Vec<Option<Mark>> {
+    let landmarks = drawn_landmarks(rt, alloc);
     let nodes = graph.nodes() as usize;
     let marked = landmarks.flags().len();
     assert!(rt; marked == nodes && nodes == 46);
-    for (node, flag) in landmarks.flags().iter().enumerate() {
-        assert_eq!(rt; *flag, LANDMARKS.contains(&(node as u16)), "{node}");
-    }
-    let marks = got(&rt, marks_of(alloc, &graph, &landmarks));
-    let distances = distances_of(&all);
-    assert_eq!(rt; marks.len(), 46, "marks");
-    for (node, mark) in marks.iter().enumerate() {
-        let nearest = nearest_of(&distances, node as u16);
-        assert_eq!(rt; mark.map(|mark| mark.landmark), nearest, "{node}");
-    }
-    let names = names_in(&rt, alloc, CITIES);
-    let edges = got(&rt, edges_of(alloc, &graph));
-    let text = got(&rt, network_dot(alloc, &edges, names.list(), &marks));
-    let text = got(&rt, str::from_utf8(&text));
-    let front =
-        "graph network {\n    \"Lisboa\" [shape=doublecircle, style=filled, fillcolor=\"/set312/1\", landmark=\"Lisboa\"];\n    \"Porto\" [style=filled, fillcolor=\"/set312/1\", landmark=\"Lisboa\"];\n";
-    assert!(rt; text.starts_with(front));
-    assert_eq!(rt; text.lines().count(), 1 + 46 + 64 + 1, "lines");
+    expect_landmarks(rt, &landmarks);
+    got(rt, marks_of(alloc, graph, &landmarks))
+}
+
+const DRAWN_FRONT: &str =
+    "graph network {\n    \"Lisboa\" [shape=doublecircle, style=filled, fillcolor=\"/set312/1\", landmark=\"Lisboa\"];\n    \"Porto\" [style=filled, fillcolor=\"/set312/1\", landmark=\"Lisboa\"];\n";
+
+/// Sees that the network is drawn with its marks.
+fn expect_drawn(rt: &impl Abort, alloc: Global, graph: &Graph, marks: &[Option<Mark>]) {
+    let names = names_in(rt, alloc, CITIES);
+    let edges = got(rt, edges_of(alloc, graph));
+    let text = got(rt, network_dot(alloc, &edges, names.list(), marks));
+    let text = got(rt, str::from_utf8(&text));
+    same(rt, text.starts_with(DRAWN_FRONT), true, "the front");
+    same(rt, text.lines().count(), 1 + 46 + 64 + 1, "lines");
+}
+
+#[test]
+fn backbone_is_marked(rt: HostRuntime) {
+    let alloc = rt.alloc();
+    let rt = &rt;
+    let all = joined(rt, alloc);
+    let graph = graph_of(rt, alloc, 46, &all);
+    let marks = marks_in(rt, alloc, &graph);
+    expect_marks(rt, &distances_of(&all), &marks);
+    expect_drawn(rt, alloc, &graph, &marks);
 }
 
 const FIGURES: &str = "nodes=46 unit=nodes
@@ -368,27 +452,39 @@ stretch_greatest=2.641 unit=times
 exact_share=0.714 unit=share
 ";
 
+/// Sees that the scheme has these figures.
+fn expect_figures(rt: &impl Abort, alloc: Global, scheme: &Scheme) {
+    let figures = got(rt, scheme_figures_of(alloc, scheme));
+    let text = got(rt, figures_text(alloc, &figures));
+    same_text(rt, text.as_str(), FIGURES, "the scheme's");
+}
+
+/// Sees that the drawn ways have these figures.
+fn expect_way_figures(rt: &impl Abort, alloc: Global, graph: &Graph) {
+    let pairs = got(rt, drawn_pairs(alloc, 46, 1000, 0));
+    let measured = measured_at(rt, alloc, graph, &LANDMARKS, &pairs);
+    let figures = got(rt, way_figures_of(alloc, &measured));
+    let text = got(rt, figures_text(alloc, &figures));
+    same_text(rt, text.as_str(), WAYS, "the ways'");
+}
+
 #[test]
 fn backbone_has_these_figures(rt: HostRuntime) {
     let alloc = rt.alloc();
-    let all = joined(&rt, alloc);
-    let graph = graph_of(&rt, alloc, 46, &all);
-    let scheme = scheme_at(&rt, alloc, &graph, &LANDMARKS);
-    let figures = got(&rt, scheme_figures_of(alloc, &scheme));
-    let text = got(&rt, figures_text(alloc, &figures));
-    assert_eq!(rt; text.as_str(), FIGURES, "the scheme's");
-    let pairs = got(&rt, drawn_pairs(alloc, 46, 1000, 0));
-    let measured = measured_at(&rt, alloc, &graph, &LANDMARKS, &pairs);
-    let figures = got(&rt, way_figures_of(alloc, &measured));
-    let text = got(&rt, figures_text(alloc, &figures));
-    assert_eq!(rt; text.as_str(), WAYS, "the ways'");
+    let rt = &rt;
+    let graph = backbone(rt, alloc);
+    let scheme = scheme_at(rt, alloc, &graph, &LANDMARKS);
+    expect_figures(rt, alloc, &scheme);
+    expect_way_figures(rt, alloc, &graph);
 }
 
 #[test]
 fn backbone_beside_the_slow_count(rt: HostRuntime) {
-    let all = joined(&rt, rt.alloc());
-    expect_sizes(&rt, rt.alloc(), 46, &all, &LANDMARKS);
-    expect_ways(&rt, rt.alloc(), 46, &all, &LANDMARKS);
+    let alloc = rt.alloc();
+    let rt = &rt;
+    let all = joined(rt, alloc);
+    expect_sizes(rt, alloc, 46, &all, &LANDMARKS);
+    expect_ways(rt, alloc, 46, &all, &LANDMARKS);
 }
 
 /// The way from Bilbao to Krakow.
@@ -398,19 +494,26 @@ const WAY: [u16; 11] = [4, 7, 8, 12, 14, 15, 16, 26, 28, 42, 39];
 #[test]
 fn backbone_routes_from_bilbao_to_krakow(rt: HostRuntime) {
     let alloc = rt.alloc();
-    let all = joined(&rt, alloc);
-    let names = names_in(&rt, alloc, CITIES);
-    assert_eq!(rt; names.list().get(4).copied(), Some("Bilbao"));
-    assert_eq!(rt; names.list().get(39).copied(), Some("Krakow"));
-    let graph = graph_of(&rt, alloc, 46, &all);
-    let scheme = scheme_at(&rt, alloc, &graph, &LANDMARKS);
+    let rt = &rt;
+    expect_names(rt, alloc);
+    let all = joined(rt, alloc);
+    expect_trail(rt, alloc, &graph_of(rt, alloc, 46, &all));
+    let least = distance(&distances_of(&all), 4, 39);
+    same(rt, least, Some(2808), "the shortest");
+}
+
+/// Sees that the nodes 4 and 39 are Bilbao and Krakow.
+fn expect_names(rt: &impl Abort, alloc: Global) {
+    let names = names_in(rt, alloc, CITIES);
+    let found = (names.list().get(4).copied(), names.list().get(39).copied());
+    same(rt, found, (Some("Bilbao"), Some("Krakow")), "names");
+}
+
+/// Sees which way a packet is carried, and how long it is.
+fn expect_trail(rt: &impl Abort, alloc: Global, graph: &Graph) {
+    let scheme = scheme_at(rt, alloc, graph, &LANDMARKS);
     assert!(rt; graph.nodes() == 46);
-    let trail = got(&rt, carry_in(alloc, &graph, &scheme, 4, 39));
-    assert_eq!(rt; trail.nodes.as_slice(), WAY.as_slice(), "the way");
-    assert_eq!(rt; trail.length, 2935, "its length");
-    assert_eq!(rt;
-        distance(&distances_of(&all), 4, 39),
-        Some(2808),
-        "the shortest"
-    );
+    let trail = got(rt, carry_in(alloc, graph, &scheme, 4, 39));
+    same(rt, trail.nodes.as_slice(), WAY.as_slice(), "the way");
+    same_number(rt, trail.length, 2935, "its length");
 }

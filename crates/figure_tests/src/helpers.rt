@@ -1,27 +1,20 @@
 // What the tests of this crate share: each call is made again where memory was refused.
-ghost use Rattle.std.specs.Prelude.{◌≤◌, IfOk};
 ghost use Rattle.node_table.specs.Checks.{IsChecked};
 
-use graph_edits::{Change, EditRefused, Graph, MOST_NODES, Op};
+use graph_edits::Graph;
 use node_table::Scheme;
+pub(crate) use sample_networks::{Edge, PAIRS, PATH};
 use scheme_builds::scheme_of;
-use scheme_figures::{Measured, are_pairs, measure_all};
+use scheme_figures::{Measured, Stretches, are_pairs, measure_all, stretches_of};
 use std::alloc::{AllocError, Global};
+use std::fmt::Debug;
 use std::process::Abort;
-
-pub(crate) type Edge = (u16, u16, u32);
-
-/// A path of five nodes.
-pub(crate) const PATH: [Edge; 4] = [(0, 1, 1), (1, 2, 1), (2, 3, 1), (3, 4, 1)];
 
 /// Three nodes round a fourth.
 pub(crate) const STAR: [Edge; 3] = [(0, 1, 1), (0, 2, 1), (0, 3, 1)];
 
 /// A square.
 pub(crate) const SQUARE: [Edge; 4] = [(0, 1, 1), (1, 2, 1), (2, 3, 1), (0, 3, 1)];
-
-/// Two pairs of nodes, apart.
-pub(crate) const PAIRS: [Edge; 2] = [(0, 1, 5), (2, 3, 5)];
 
 /// The value of an answer that has to have one.
 pub(crate) fn got<T, E: Drop>(rt: &impl Abort, answer: Result<T, E>) -> T {
@@ -31,51 +24,42 @@ pub(crate) fn got<T, E: Drop>(rt: &impl Abort, answer: Result<T, E>) -> T {
     }
 }
 
-fn graph_once(alloc: Global, nodes: u16, edges: &[Edge]) -> Result<Graph, AllocError>
-    requires some { 1 ≤ nodes }
-    requires few { nodes ≤ MOST_NODES }
-{
-    let mut graph = Graph::empty(alloc, nodes)?;
-    for (a, b, weight) in edges {
-        let Ok(change) = Change::new(&[Op::Add(*a, *b, *weight)]) else {
-            continue;
-        };
-        if let Err(EditRefused::Memory) = graph.apply(&change) {
-            return Err(AllocError);
-        }
-    }
-    Ok(graph)
+/// Sees that two values are the same.
+pub(crate) fn same<T: Copy + PartialEq + Debug>(rt: &impl Abort, found: T, want: T, name: &str) {
+    assert_eq!(rt; found, want, "{name}");
 }
 
-/// The graph of these edges, but for those that it refuses.
+/// Sees that two texts are the same.
+pub(crate) fn same_text(rt: &impl Abort, found: &str, want: &str, name: &str) {
+    same(rt, found, want, name);
+}
+
+/// Sees that two numbers are the same.
+pub(crate) fn same_number(rt: &impl Abort, found: u64, want: u64, name: &str) {
+    same(rt, found, want, name);
+}
+
+/// The graph of a table.
 pub(crate) fn graph_of(rt: &impl Abort, alloc: Global, nodes: u16, edges: &[Edge]) -> Graph {
-    assert!(rt; 1 <= nodes && nodes <= MOST_NODES);
-    match graph_once(alloc, nodes, edges) {
+    match sample_networks::graph_of(alloc, nodes, edges) {
         Ok(graph) => graph,
-        Err(_) => got(rt, graph_once(alloc, nodes, edges)),
+        Err(refused) => panic!(rt; "{refused}"),
     }
 }
 
-fn scheme_once(alloc: Global, graph: &Graph, at: &[u16]) -> Result<Scheme, AllocError>
-    ensures { IfOk result (λ scheme. IsChecked graph.now scheme) }
-{
-    let mut words = Vec::with_capacity(alloc, graph.nodes() as usize)?;
-    for v in 0..graph.nodes() {
-        words.push(if at.contains(&v) { 0u64 } else { u64::MAX })?;
-    }
-    scheme_of(alloc, graph, &words, 7, alloc)
+/// The words that make landmarks of these nodes alone.
+fn words_at(rt: &impl Abort, alloc: Global, nodes: u16, at: &[u16]) -> Vec<u64> {
+    got(rt, sample_networks::words_at(alloc, nodes, at))
 }
 
 /// The scheme of a graph with landmarks at these nodes.
 pub(crate) fn scheme_at(rt: &impl Abort, alloc: Global, graph: &Graph, at: &[u16]) -> Scheme
     ensures { IsChecked graph.now result }
 {
-    match scheme_once(alloc, graph, at) {
+    let words = words_at(rt, alloc, graph.nodes(), at);
+    match scheme_of(alloc, graph, &words, 7, alloc) {
         Ok(scheme) => scheme,
-        Err(_) => match scheme_once(alloc, graph, at) {
-            Ok(scheme) => scheme,
-            Err(_) => panic!(rt; "no scheme"),
-        },
+        Err(_) => scheme_of(alloc, graph, &words, 7, alloc).expect(rt, "memory"),
     }
 }
 
@@ -110,4 +94,20 @@ pub(crate) fn measured_at(
         Some(all) => all,
         None => panic!(rt; "no pairs of nodes"),
     }
+}
+
+/// The stretches of these ways, of which so many are apart and so many exact.
+pub(crate) fn stretches_in(
+    rt: &impl Abort,
+    alloc: Global,
+    measured: &[Measured],
+    want: (usize, usize),
+    name: &str,
+) -> Stretches {
+    let found = match stretches_of(alloc, measured) {
+        Ok(found) => found,
+        Err(_) => got(rt, stretches_of(alloc, measured)),
+    };
+    same(rt, (found.apart, found.exact), want, name);
+    found
 }

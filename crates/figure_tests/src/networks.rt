@@ -1,7 +1,8 @@
 // Small networks as they are exported, and their marks, worked out by hand.
 ghost use Rattle.std.specs.Prelude.{◌≡◌, length};
 
-use crate::helpers::{Edge, PATH, got, graph_of};
+use crate::helpers::{Edge, PATH, got, graph_of, same, same_text};
+use edge_lists::Edge as Row;
 use figure_lines::{Mark, edges_of, marks_of, network_csv, network_dot, network_json};
 use graph_edits::Graph;
 use landmarks::Landmarks;
@@ -22,8 +23,34 @@ fn landmarks_at(rt: &impl Abort, alloc: Global, graph: &Graph, at: &[u16]) -> La
 /// The marks of a network with landmarks at these nodes.
 fn marks_at(rt: &impl Abort, alloc: Global, graph: &Graph, at: &[u16]) -> Vec<Option<Mark>> {
     let landmarks = landmarks_at(rt, alloc, graph, at);
-    let marks = marks_of(alloc, graph, &landmarks);
-    got(rt, marks.or_else(|_| marks_of(alloc, graph, &landmarks)))
+    match marks_of(alloc, graph, &landmarks) {
+        Ok(marks) => marks,
+        Err(_) => got(rt, marks_of(alloc, graph, &landmarks)),
+    }
+}
+
+/// The edges of a network, as they are exported.
+fn rows_of(rt: &impl Abort, alloc: Global, graph: &Graph) -> Vec<Row> {
+    match edges_of(alloc, graph) {
+        Ok(rows) => rows,
+        Err(_) => got(rt, edges_of(alloc, graph)),
+    }
+}
+
+/// Sees that edges are drawn so.
+fn is_drawn(
+    rt: &impl Abort,
+    alloc: Global,
+    rows: &[Row],
+    names: &[&str],
+    marks: &[Option<Mark>],
+    want: &str,
+) {
+    let text = match network_dot(alloc, rows, names, marks) {
+        Ok(text) => text,
+        Err(_) => got(rt, network_dot(alloc, rows, names, marks)),
+    };
+    same(rt, text.as_slice(), want.as_bytes(), "dot");
 }
 
 /// Sees that a network is drawn so, with landmarks at these nodes, or unmarked.
@@ -35,18 +62,12 @@ fn expect_dot(
     at: Option<&[u16]>,
     want: &str,
 ) {
-    let edges = edges_of(alloc, graph).or_else(|_| edges_of(alloc, graph));
-    let edges = got(rt, edges);
     let marks = match at {
         Some(at) => marks_at(rt, alloc, graph, at),
         None => Vec::new(alloc),
     };
-    let text = network_dot(alloc, &edges, names, &marks);
-    let text = got(
-        rt,
-        text.or_else(|_| network_dot(alloc, &edges, names, &marks)),
-    );
-    assert_eq!(rt; text.as_slice(), want.as_bytes(), "dot");
+    let rows = rows_of(rt, alloc, graph);
+    is_drawn(rt, alloc, &rows, names, &marks, want);
 }
 
 // Six nodes, of which the last one is alone. Between the landmarks 0 and 4 node 2 is as near to both: the smaller one counts.
@@ -72,66 +93,87 @@ const UNMARKED: &str = "graph network {
 }
 ";
 
+const NAMES: [&str; 3] = ["Bern", "a\"b", "c\\d"];
+
+const ALONE: &str = "graph network {\n    \"0\";\n}\n";
+
 #[test]
 fn pictures_of_a_path(rt: HostRuntime) {
-    let graph = graph_of(&rt, rt.alloc(), 6, &PATH);
-    let names = ["Bern", "a\"b", "c\\d"];
-    expect_dot(&rt, rt.alloc(), &graph, &names, Some(&[0, 4]), MARKED);
-    expect_dot(&rt, rt.alloc(), &graph, &[], None, UNMARKED);
-    let alone = graph_of(&rt, rt.alloc(), 1, &[]);
-    let none = "graph network {\n    \"0\";\n}\n";
-    expect_dot(&rt, rt.alloc(), &alone, &[], Some(&[]), none);
-    expect_dot(&rt, rt.alloc(), &alone, &[], None, "graph network {\n}\n");
+    let alloc = rt.alloc();
+    let rt = &rt;
+    let graph = graph_of(rt, alloc, 6, &PATH);
+    expect_dot(rt, alloc, &graph, &NAMES, Some(&[0, 4]), MARKED);
+    expect_dot(rt, alloc, &graph, &[], None, UNMARKED);
+    let alone = graph_of(rt, alloc, 1, &[]);
+    expect_dot(rt, alloc, &alone, &[], Some(&[]), ALONE);
+    expect_dot(rt, alloc, &alone, &[], None, "graph network {\n}\n");
+}
+
+/// The landmark and the colour of a node's mark.
+fn told(mark: &Option<Mark>) -> Option<(u16, u8)> {
+    match mark {
+        Some(mark) => Some((mark.landmark, mark.colour)),
+        None => None,
+    }
+}
+
+/// The landmark and the colour of a node of the fourteen below.
+fn in_turn(node: u16) -> Option<(u16, u8)> {
+    match node {
+        0..=11 => Some((node, node as u8 + 1)),
+        12 => Some((12, 1)),
+        _ => None,
+    }
 }
 
 // Thirteen landmarks and a node that none reaches: the thirteenth landmark has the colour of the first.
 #[test]
 fn colours_take_turns(rt: HostRuntime) {
-    let graph = graph_of(&rt, rt.alloc(), 14, &[]);
+    let alloc = rt.alloc();
+    let rt = &rt;
+    let graph = graph_of(rt, alloc, 14, &[]);
     let at = [0u16, 1, 2, 3, 4, 5, 6, 7, 8, 9, 10, 11, 12];
-    let marks = marks_at(&rt, rt.alloc(), &graph, &at);
-    assert_eq!(rt; marks.len(), 14, "marks");
-    for (node, mark) in marks.iter().enumerate() {
-        let want = match node {
-            0..=11 => Some((node as u16, node as u8 + 1)),
-            12 => Some((12, 1)),
-            _ => None,
-        };
-        assert_eq!(rt;
-            mark.map(|mark| (mark.landmark, mark.colour)),
-            want,
-            "{node}"
-        );
+    let marks = marks_at(rt, alloc, &graph, &at);
+    same(rt, marks.len(), 14, "marks");
+    for (node, mark) in (0..14u16).zip(marks.iter()) {
+        same(rt, (node, told(mark)), (node, in_turn(node)), "a mark");
     }
 }
 
 /// Edges that come in another order, with a name that wants quotation marks in CSV, and one that wants a backslash in JSON.
 const MIXED: [Edge; 3] = [(2, 1, 7), (3, 0, 1_000_000), (0, 1, 5)];
 
+const MIXED_NAMES: [&str; 3] = ["Bern", "a,b", "c\"d"];
+
+const MIXED_ROWS: &str = "a,b,weight\nBern,\"a,b\",5\nBern,3,1000000\n\"a,b\",\"c\"\"d\",7\n";
+
+const MIXED_JSON: &str =
+    "{\"edges\":[[0,1,5],[0,3,1000000],[1,2,7]],\"names\":[\"Bern\",\"a,b\",\"c\\\"d\"],\"nodes\":5}\n";
+
+/// Sees that the edges are so as rows.
+fn as_rows(rt: &impl Abort, alloc: Global, rows: &[Row]) {
+    let text = match network_csv(alloc, rows, &MIXED_NAMES) {
+        Ok(text) => text,
+        Err(_) => got(rt, network_csv(alloc, rows, &MIXED_NAMES)),
+    };
+    same(rt, text.as_slice(), MIXED_ROWS.as_bytes(), "rows");
+}
+
+/// The same as JSON.
+fn as_json(rt: &impl Abort, alloc: Global, rows: &[Row]) {
+    let text = match network_json(alloc, 5, rows, &MIXED_NAMES) {
+        Ok(text) => text,
+        Err(_) => got(rt, network_json(alloc, 5, rows, &MIXED_NAMES)),
+    };
+    same_text(rt, text.as_str(), MIXED_JSON, "JSON");
+}
+
 #[test]
 fn a_network_as_rows_and_as_json(rt: HostRuntime) {
-    let graph = graph_of(&rt, rt.alloc(), 5, &MIXED);
-    let names = ["Bern", "a,b", "c\"d"];
-    let edges = edges_of(rt.alloc(), &graph).or_else(|_| edges_of(rt.alloc(), &graph));
-    let edges = got(&rt, edges);
-    let text = network_csv(rt.alloc(), &edges, &names);
-    let text = got(
-        &rt,
-        text.or_else(|_| network_csv(rt.alloc(), &edges, &names)),
-    );
-    assert_eq!(rt;
-        text.as_slice(),
-        b"a,b,weight\nBern,\"a,b\",5\nBern,3,1000000\n\"a,b\",\"c\"\"d\",7\n".as_slice(),
-        "rows"
-    );
-    let text = network_json(rt.alloc(), 5, &edges, &names);
-    let text = got(
-        &rt,
-        text.or_else(|_| network_json(rt.alloc(), 5, &edges, &names)),
-    );
-    assert_eq!(rt;
-        text.as_str(),
-        "{\"edges\":[[0,1,5],[0,3,1000000],[1,2,7]],\"names\":[\"Bern\",\"a,b\",\"c\\\"d\"],\"nodes\":5}\n",
-        "JSON"
-    );
+    let alloc = rt.alloc();
+    let rt = &rt;
+    let graph = graph_of(rt, alloc, 5, &MIXED);
+    let rows = rows_of(rt, alloc, &graph);
+    as_rows(rt, alloc, &rows);
+    as_json(rt, alloc, &rows);
 }

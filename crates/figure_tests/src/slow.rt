@@ -1,7 +1,9 @@
 // A slow count: distances by relaxing all edges again and again, and the sizes of tables and the lengths of ways by them.
-use crate::helpers::{Edge, got, graph_of, measured_at, scheme_at};
-use scheme_figures::{Measured, directory_lengths, entry_counts, landmark_count, stretches_of};
-use std::alloc::Global;
+use crate::helpers::{Edge, got, graph_of, measured_at, same, scheme_at};
+use scheme_figures::{
+    Measured, Stretches, directory_lengths, entry_counts, landmark_count, stretches_of,
+};
+use std::alloc::{AllocError, Global};
 use std::process::Abort;
 
 /// The most nodes of a network that is counted here.
@@ -82,68 +84,109 @@ fn members_of(all: &Distances, at: &[u16], nodes: u16, root: u16) -> u32 {
 pub(crate) fn expect_sizes(rt: &impl Abort, alloc: Global, nodes: u16, edges: &[Edge], at: &[u16]) {
     let graph = graph_of(rt, alloc, nodes, edges);
     let scheme = scheme_at(rt, alloc, &graph, at);
+    same(rt, landmark_count(&scheme), at.len(), "landmarks");
     let all = distances_of(edges);
-    assert_eq!(rt; landmark_count(&scheme), at.len(), "landmarks");
-    let entries = got(rt, entry_counts(alloc, &scheme));
-    let members = got(rt, directory_lengths(alloc, &scheme));
-    assert_eq!(rt;
-        (entries.len(), members.len()),
-        (nodes as usize, nodes as usize),
-        "nodes"
-    );
-    for (x, (found, listed)) in entries.iter().zip(members.iter()).enumerate() {
-        assert_eq!(rt;
-            *found,
-            entries_of(&all, at, nodes, x as u16),
-            "entries of {x}"
-        );
-        assert_eq!(rt;
-            *listed,
-            members_of(&all, at, nodes, x as u16),
-            "members of {x}"
-        );
+    let counted = Counted {
+        nodes,
+        at,
+        all: &all,
+    };
+    expect_entries(rt, &counted, &got(rt, entry_counts(alloc, &scheme)));
+    expect_members(rt, &counted, &got(rt, directory_lengths(alloc, &scheme)));
+}
+
+/// A network's nodes, its landmarks and its distances.
+#[derive(Drop)]
+struct Counted<'a> {
+    nodes: u16,
+    at: &'a [u16],
+    all: &'a Distances,
+}
+
+fn expect_entries(rt: &impl Abort, counted: &Counted<'_>, entries: &[u32]) {
+    same(rt, entries.len(), counted.nodes as usize, "nodes");
+    for (x, found) in (0..counted.nodes).zip(entries.iter()) {
+        let want = entries_of(counted.all, counted.at, counted.nodes, x);
+        same(rt, (x, *found), (x, want), "entries");
+    }
+}
+
+fn expect_members(rt: &impl Abort, counted: &Counted<'_>, members: &[u32]) {
+    same(rt, members.len(), counted.nodes as usize, "nodes");
+    for (x, listed) in (0..counted.nodes).zip(members.iter()) {
+        let want = members_of(counted.all, counted.at, counted.nodes, x);
+        same(rt, (x, *listed), (x, want), "members");
     }
 }
 
 /// Sees that each way is measured beside the slow distance, and at most three times as long.
 pub(crate) fn expect_ways(rt: &impl Abort, alloc: Global, nodes: u16, edges: &[Edge], at: &[u16]) {
     let graph = graph_of(rt, alloc, nodes, edges);
-    let all = distances_of(edges);
+    let pairs = got(rt, all_pairs(alloc, nodes));
+    let measured = measured_at(rt, alloc, &graph, at, &pairs);
+    same(rt, measured.len(), pairs.len(), "a way for each pair");
+    let want = expect_each(rt, &distances_of(edges), &pairs, &measured);
+    expect_stretches(rt, &got(rt, stretches_of(alloc, &measured)), want);
+}
+
+/// All pairs of nodes.
+fn all_pairs(alloc: Global, nodes: u16) -> Result<Vec<(u16, u16)>, AllocError> {
     let mut pairs = Vec::new(alloc);
     for from in 0..nodes {
         for to in 0..nodes {
-            got(rt, pairs.push((from, to)));
+            pairs.push((from, to))?;
         }
     }
-    let measured = measured_at(rt, alloc, &graph, at, &pairs);
-    assert_eq!(rt; measured.len(), pairs.len(), "a way for each pair");
+    Ok(pairs)
+}
+
+/// Sees that a way from one node to another is measured beside the slow distance: whether it leads nowhere, and whether it is exact.
+fn expect_way(rt: &impl Abort, all: &Distances, pair: (u16, u16), one: Measured) -> (bool, bool) {
+    match (one, distance(all, pair.0, pair.1)) {
+        (Measured::Along { length, distance }, Some(least)) => {
+            same(
+                rt,
+                (pair, distance),
+                (pair, least),
+                "the distance of a pair",
+            );
+            let is_between = least <= length && length <= least.saturating_mul(3);
+            same(
+                rt,
+                (pair, is_between),
+                (pair, true),
+                "the stretch of a pair",
+            );
+            (false, length == least)
+        }
+        (Measured::Apart, None) => (true, false),
+        _ => panic!(rt; "what is measured of {pair:?}"),
+    }
+}
+
+/// Sees so of each way: how many lead nowhere, and how many are exact.
+fn expect_each(
+    rt: &impl Abort,
+    all: &Distances,
+    pairs: &[(u16, u16)],
+    measured: &[Measured],
+) -> (usize, usize) {
     let mut apart: usize = 0;
     let mut exact: usize = 0;
     for (pair, one) in pairs.iter().zip(measured.iter()) {
-        match (*one, distance(&all, pair.0, pair.1)) {
-            (Measured::Along { length, distance }, Some(least)) => {
-                assert!(rt;
-                    distance == least && least <= length,
-                    "the distance of {pair:?}"
-                );
-                assert!(rt;
-                    length <= least.saturating_mul(3),
-                    "the stretch of {pair:?}"
-                );
-                exact = exact.saturating_add((length == least) as usize);
-            }
-            (Measured::Apart, None) => apart = apart.saturating_add(1),
-            _ => panic!(rt; "what is measured of {pair:?}"),
-        }
+        let (is_apart, is_exact) = expect_way(rt, all, *pair, *one);
+        apart = apart.saturating_add(is_apart as usize);
+        exact = exact.saturating_add(is_exact as usize);
     }
-    let found = got(rt, stretches_of(alloc, &measured));
-    assert_eq!(rt; (found.apart, found.exact), (apart, exact), "counts");
-    assert!(rt; found.sorted.is_sorted(), "ascending stretches");
-    assert!(rt;
-        found
-            .sorted
-            .iter()
-            .all(|stretch| 1000 <= *stretch && *stretch <= 3000),
-        "stretches"
-    );
+    (apart, exact)
+}
+
+/// Sees that the stretches ascend from one to three, and that so many ways lead nowhere and so many are exact.
+fn expect_stretches(rt: &impl Abort, found: &Stretches, want: (usize, usize)) {
+    same(rt, (found.apart, found.exact), want, "counts");
+    same(rt, found.sorted.is_sorted(), true, "ascending stretches");
+    for stretch in found.sorted.iter() {
+        let is_between = 1000 <= *stretch && *stretch <= 3000;
+        same(rt, (*stretch, is_between), (*stretch, true), "stretches");
+    }
 }

@@ -194,9 +194,11 @@ fn settles<R: Wait + Abort>(rt: &R, alloc: Global) -> Result<(), AllocError> {
 /// Run with each allocation refused in turn too (`./refuse-memory`): what was refused is whole when it is made again.
 #[test]
 fn settles_two_editors_over_one_place(rt: HostRuntime) -> Result<(), Fail> {
-    match settles(&rt, rt.alloc()) {
+    let alloc = rt.alloc();
+    let rt = &rt;
+    match settles(rt, alloc) {
         Ok(()) => Ok(()),
-        Err(_) => Ok(settles(&rt, rt.alloc())?),
+        Err(_) => Ok(settles(rt, alloc)?),
     }
 }
 
@@ -277,7 +279,9 @@ fn relay<R: Threads + Wait + Abort + Sync>(
 
 #[test]
 fn four_editors_beside_one_taker(rt: HostRuntime) -> Result<(), Fail> {
-    same(&rt, relay(&rt, rt.alloc(), 1)?, true, "over one place");
-    same(&rt, relay(&rt, rt.alloc(), 64)?, true, "over 64 places");
+    let alloc = rt.alloc();
+    let rt = &rt;
+    same(rt, relay(rt, alloc, 1)?, true, "over one place");
+    same(rt, relay(rt, alloc, 64)?, true, "over 64 places");
     Ok(())
 }

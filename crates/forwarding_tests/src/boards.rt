@@ -89,11 +89,13 @@ fn folds_five(rt: &impl Abort, alloc: Global, board: &mut Board) {
 
 #[test]
 fn folds_marks_generations_and_the_failure(rt: HostRuntime) {
+    let alloc = rt.alloc();
+    let rt = &rt;
     let mut board = Board::new(&[10; SESSIONS], 5);
-    folds_marks(&rt, rt.alloc(), &mut board);
-    folds_five(&rt, rt.alloc(), &mut board);
-    folds(&rt, &mut board, &Posting::Down);
-    same(&rt, board.is_down(), true, "down");
+    folds_marks(rt, alloc, &mut board);
+    folds_five(rt, alloc, &mut board);
+    folds(rt, &mut board, &Posting::Down);
+    same(rt, board.is_down(), true, "down");
 }
 
 // Looks many times: how often there was no board, or one that is older than what was told or seen.
@@ -119,19 +121,15 @@ fn looks(mut reader: BoardReader, told: u64) -> usize {
 #[test]
 fn readers_beside_a_writer_see_all_that_they_were_told(rt: HostRuntime) -> Result<(), Fail> {
     let alloc = rt.alloc();
-    let (mut writer, (mut one, mut two)) = two_readers(&rt, alloc)?;
-    post_next(&rt, alloc, &mut writer, 0);
+    let rt = &rt;
+    let (mut writer, (mut one, mut two)) = two_readers(rt, alloc)?;
+    post_next(rt, alloc, &mut writer, 0);
     one.learn(&writer.tell());
     two.learn(&writer.tell());
-    let first = got(&rt, thread::spawn(&rt, move || looks(one, 1)));
-    let second = got(&rt, thread::spawn(&rt, move || looks(two, 1)));
-    post_up_to(&rt, alloc, &mut writer, 1, 300);
-    same(
-        &rt,
-        (first.join(&rt), second.join(&rt)),
-        (0, 0),
-        "wrong looks",
-    );
+    let first = got(rt, thread::spawn(rt, move || looks(one, 1)));
+    let second = got(rt, thread::spawn(rt, move || looks(two, 1)));
+    post_up_to(rt, alloc, &mut writer, 1, 300);
+    same(rt, (first.join(rt), second.join(rt)), (0, 0), "wrong looks");
     Ok(())
 }
 
@@ -246,8 +244,10 @@ fn posts_five<R: Wait + Abort>(rt: &R, alloc: Global) -> Result<(), AllocError> 
 /// Run with each allocation refused in turn too (`./refuse-memory`): what was refused is whole when it is made again.
 #[test]
 fn shows_what_is_kept_once_it_is_retried(rt: HostRuntime) -> Result<(), Fail> {
-    match posts_five(&rt, rt.alloc()) {
+    let alloc = rt.alloc();
+    let rt = &rt;
+    match posts_five(rt, alloc) {
         Ok(()) => Ok(()),
-        Err(_) => Ok(posts_five(&rt, rt.alloc())?),
+        Err(_) => Ok(posts_five(rt, alloc)?),
     }
 }

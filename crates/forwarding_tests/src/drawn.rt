@@ -74,11 +74,13 @@ fn counted(rt: &impl Abort, forwarder: &mut Forwarder, turns: u32) -> (u32, u32)
 
 #[test]
 fn a_hundred_thousand_lists_of_bytes(rt: HostRuntime) -> Result<(), Fail> {
-    let (mut writer, mut forwarder) = one_forwarder(&rt, rt.alloc())?;
-    post_next(&rt, rt.alloc(), &mut writer, 0);
-    let (spelled, delivered) = counted(&rt, &mut forwarder, 100_000);
+    let alloc = rt.alloc();
+    let rt = &rt;
+    let (mut writer, mut forwarder) = one_forwarder(rt, alloc)?;
+    post_next(rt, alloc, &mut writer, 0);
+    let (spelled, delivered) = counted(rt, &mut forwarder, 100_000);
     same(
-        &rt,
+        rt,
         (10_000 < spelled, 100 < delivered),
         (true, true),
         "enough of each",

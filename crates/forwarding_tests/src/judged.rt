@@ -74,19 +74,21 @@ fn expect_outcome(rt: &impl Abort, board: &Board, last: Option<u64>, want: Outco
 
 #[test]
 fn refuses_by_the_first_test_that_holds(rt: HostRuntime) -> Result<(), Fail> {
+    let alloc = rt.alloc();
+    let rt = &rt;
     let code = Code::Loop;
     let marks = [
         mark(0, 12, Verdict::Accepted { count: 1 }),
         mark(0, 15, Verdict::Refused { op: 2, code }),
     ];
-    let marks = marks.to_vec(rt.alloc())?;
+    let marks = marks.to_vec(alloc)?;
     let mut board = Board::new(&[10; SESSIONS], 0);
-    folds(&rt, &mut board, &Posting::Marks(marks));
-    expect_refusals(&rt, &board);
+    folds(rt, &mut board, &Posting::Marks(marks));
+    expect_refusals(rt, &board);
     for (last, want) in &OUTCOMES {
-        expect_outcome(&rt, &board, *last, *want);
+        expect_outcome(rt, &board, *last, *want);
     }
-    folds(&rt, &mut board, &Posting::Down);
-    expect_outcome(&rt, &board, Some(16), Outcome::Down);
+    folds(rt, &mut board, &Posting::Down);
+    expect_outcome(rt, &board, Some(16), Outcome::Down);
     Ok(())
 }

@@ -91,7 +91,9 @@ fn served<R: Wait + Abort>(rt: &R, alloc: Global) -> Result<(), AllocError> {
 
 #[test]
 fn each_knows_what_it_was_told(rt: HostRuntime) -> Result<(), Fail> {
-    watched(&rt, rt.alloc())?;
-    served(&rt, rt.alloc())?;
+    let alloc = rt.alloc();
+    let rt = &rt;
+    watched(rt, alloc)?;
+    served(rt, alloc)?;
     Ok(())
 }

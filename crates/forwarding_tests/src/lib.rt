@@ -3,7 +3,8 @@
 //! There is nothing here but tests. Schemes are posted on a board, which readers look at beside the writer and where an
 //! allocation is refused; editors submit changes, which are answered by hand, alone and in threads; and forwarders pass on
 //! packets that were launched, made by hand, changed by a byte or drawn, alone and while a writer posts. Each knows of a board's
-//! list what it was told.
+//! list what it was told. Packets of drawn bytes are passed from node to node over drawn schemes until they end, and each answer on
+//! the way is judged by the bytes, the neighbours and the number of nodes alone.
 #![tactic(auto)]
 
 #[cfg(test)]
@@ -12,6 +13,8 @@ mod answered;
 mod boards;
 #[cfg(test)]
 mod drawn;
+#[cfg(test)]
+mod forged;
 #[cfg(test)]
 mod judged;
 #[cfg(test)]

@@ -147,6 +147,25 @@ pub(crate) fn post_now<R: Wait + Drop>(
     }
 }
 
+/// Posts a scheme as the next generation.
+pub(crate) fn post_scheme<R: Wait + Drop>(
+    rt: &impl Abort,
+    alloc: Global,
+    writer: &mut BoardWriter<R>,
+    posted: u64,
+    scheme: Scheme,
+)
+    requires row { IsInARow writer.old posted }
+    requires few { posted < 1000 }
+    ensures opening { writer.new.opening ≡ writer.old.opening }
+    ensures row { IsInARow writer.new (posted + 1) }
+{
+    let number = posted + 1;
+    let scheme = Arc::new(alloc, scheme).expect(rt, "memory");
+    let _kept = writer.kept();
+    post_now(rt, writer, Posting::Generation { number, scheme });
+}
+
 /// Posts the next generation of the path of five nodes.
 pub(crate) fn post_next<R: Wait + Drop>(
     rt: &impl Abort,
@@ -159,11 +178,8 @@ pub(crate) fn post_next<R: Wait + Drop>(
     ensures opening { writer.new.opening ≡ writer.old.opening }
     ensures row { IsInARow writer.new (posted + 1) }
 {
-    let number = posted + 1;
-    let scheme = scheme_of(rt, alloc, 5, &PATH, 2, number);
-    let scheme = Arc::new(alloc, scheme).expect(rt, "memory");
-    let _kept = writer.kept();
-    post_now(rt, writer, Posting::Generation { number, scheme });
+    let scheme = scheme_of(rt, alloc, 5, &PATH, 2, posted + 1);
+    post_scheme(rt, alloc, writer, posted, scheme);
 }
 
 // Posts one posting. Where the writer has to keep it, the reader sees this newest generation still, until it is retried.

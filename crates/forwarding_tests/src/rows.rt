@@ -41,14 +41,15 @@ fn with<const N: usize>(head: &[u8], at: usize, value: u8) -> [u8; N] {
 #[test]
 fn spells_the_path(rt: HostRuntime) {
     let alloc = rt.alloc();
-    let scheme = scheme_of(&rt, alloc, 5, &PATH, 2, 1);
-    let address = got(&rt, scheme.address(4));
-    assert!(&rt; address.to_bytes() == padded::<ADDRESS_SIZE>(&ADDRESS));
-    let packet = got(&rt, scheme.decide(0, &address));
-    assert!(&rt; packet.to_bytes() == padded::<PACKET_SIZE>(&LAUNCHED));
-    let apart = scheme_of(&rt, alloc, 4, &PAIRS, 0, 1);
-    let homeless = got(&rt, apart.address(3));
-    assert!(&rt; homeless.to_bytes() == padded::<ADDRESS_SIZE>(&[0, 0, 0, 0, 0, 0, 0, 1, 0, 3]));
+    let rt = &rt;
+    let scheme = scheme_of(rt, alloc, 5, &PATH, 2, 1);
+    let address = got(rt, scheme.address(4));
+    assert!(rt; address.to_bytes() == padded::<ADDRESS_SIZE>(&ADDRESS));
+    let packet = got(rt, scheme.decide(0, &address));
+    assert!(rt; packet.to_bytes() == padded::<PACKET_SIZE>(&LAUNCHED));
+    let apart = scheme_of(rt, alloc, 4, &PAIRS, 0, 1);
+    let homeless = got(rt, apart.address(3));
+    assert!(rt; homeless.to_bytes() == padded::<ADDRESS_SIZE>(&[0, 0, 0, 0, 0, 0, 0, 1, 0, 3]));
 }
 
 /// What reading says, where it reads what was written.
@@ -95,25 +96,26 @@ fn front_of_address(rt: &impl Abort, bytes: &[u8], size: usize) -> Option<WireRe
 
 #[test]
 fn reads_a_changed_byte(rt: HostRuntime) {
+    let rt = &rt;
     for (at, value, refused) in &CHANGED_PACKETS {
         let bytes = with::<PACKET_SIZE>(&LAUNCHED, *at, *value);
         let found = (*at, *value, read::<Packet>(&bytes));
-        same(&rt, found, (*at, *value, *refused), "a packet");
+        same(rt, found, (*at, *value, *refused), "a packet");
     }
     for (at, value, refused) in &CHANGED_ADDRESSES {
         let bytes = with::<ADDRESS_SIZE>(&ADDRESS, *at, *value);
         let found = (*at, *value, read::<Address>(&bytes));
-        same(&rt, found, (*at, *value, *refused), "an address");
+        same(rt, found, (*at, *value, *refused), "an address");
     }
     let long = padded::<44>(&LAUNCHED);
     let refused = Some(WireRefused::BadLength);
     for size in &[0usize, 38, 39, 42, 44] {
-        same(&rt, front(&rt, &long, *size), refused, "a packet's length");
+        same(rt, front(rt, &long, *size), refused, "a packet's length");
     }
     for size in &[38usize, 41, 43] {
         same(
-            &rt,
-            front_of_address(&rt, &long, *size),
+            rt,
+            front_of_address(rt, &long, *size),
             refused,
             "an address's length",
         );
@@ -167,9 +169,11 @@ fn expect_changed_ways(rt: &impl Abort, forwarder: &mut Forwarder) {
 
 #[test]
 fn hops_of_changed_packets(rt: HostRuntime) -> Result<(), Fail> {
-    let (mut writer, mut forwarder) = one_forwarder(&rt, rt.alloc())?;
-    post_next(&rt, rt.alloc(), &mut writer, 0);
-    expect_changed_ways(&rt, &mut forwarder);
+    let alloc = rt.alloc();
+    let rt = &rt;
+    let (mut writer, mut forwarder) = one_forwarder(rt, alloc)?;
+    post_next(rt, alloc, &mut writer, 0);
+    expect_changed_ways(rt, &mut forwarder);
     Ok(())
 }
 
@@ -253,12 +257,14 @@ fn expect_known(rt: &impl Abort, forwarder: &mut Forwarder, notices: u64, latest
 
 #[test]
 fn launches_by_address(rt: HostRuntime) -> Result<(), Fail> {
-    let (mut writer, mut forwarder) = one_forwarder(&rt, rt.alloc())?;
-    expect_known(&rt, &mut forwarder, 0, None);
-    post_next(&rt, rt.alloc(), &mut writer, 0);
+    let alloc = rt.alloc();
+    let rt = &rt;
+    let (mut writer, mut forwarder) = one_forwarder(rt, alloc)?;
+    expect_known(rt, &mut forwarder, 0, None);
+    post_next(rt, alloc, &mut writer, 0);
     forwarder.learn(&writer.tell());
-    expect_known(&rt, &mut forwarder, 1, Some(1));
-    expect_launches(&rt, &mut forwarder);
+    expect_known(rt, &mut forwarder, 1, Some(1));
+    expect_launches(rt, &mut forwarder);
     Ok(())
 }
 
@@ -309,7 +315,9 @@ fn expect_four<W: Wait + Drop>(
 
 #[test]
 fn four_generations_stay(rt: HostRuntime) -> Result<(), Fail> {
-    let (mut writer, mut forwarder) = one_forwarder(&rt, rt.alloc())?;
-    expect_four(&rt, rt.alloc(), &mut writer, &mut forwarder);
+    let alloc = rt.alloc();
+    let rt = &rt;
+    let (mut writer, mut forwarder) = one_forwarder(rt, alloc)?;
+    expect_four(rt, alloc, &mut writer, &mut forwarder);
     Ok(())
 }

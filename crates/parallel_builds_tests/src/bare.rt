@@ -29,10 +29,11 @@ fn expect_all<R: Abort + Threads + Wait + Sync>(
 #[test]
 fn builds_where_there_is_no_edge(rt: HostRuntime) {
     let alloc = rt.alloc();
+    let rt = &rt;
     for nodes in 1..7u16 {
-        expect_all(&rt, alloc, nodes, &[], &[]);
-        expect_all(&rt, alloc, nodes, &[], &[0]);
-        expect_all(&rt, alloc, nodes, &[], &[0, 1, 2, 3, 4, 5]);
+        expect_all(rt, alloc, nodes, &[], &[]);
+        expect_all(rt, alloc, nodes, &[], &[0]);
+        expect_all(rt, alloc, nodes, &[], &[0, 1, 2, 3, 4, 5]);
     }
 }
 
@@ -40,12 +41,13 @@ fn builds_where_there_is_no_edge(rt: HostRuntime) {
 #[test]
 fn builds_with_more_workers_than_nodes(rt: HostRuntime) {
     let alloc = rt.alloc();
+    let rt = &rt;
     let whole = PATH;
     for nodes in 2..6u16 {
         let path = &whole[..nodes as usize - 1];
-        expect_all(&rt, alloc, nodes, path, &[]);
-        expect_all(&rt, alloc, nodes, path, &[1]);
-        expect_all(&rt, alloc, nodes, path, &[0, 4]);
+        expect_all(rt, alloc, nodes, path, &[]);
+        expect_all(rt, alloc, nodes, path, &[1]);
+        expect_all(rt, alloc, nodes, path, &[0, 4]);
     }
 }
 
@@ -81,9 +83,10 @@ fn says_how_many_workers_pay(rt: HostRuntime) {
 #[test]
 fn builds_by_landmark_words(rt: HostRuntime) {
     let alloc = rt.alloc();
+    let rt = &rt;
     let words = [u64::MAX, 0];
-    let graph = graph_of(&rt, alloc, 5, &PATH);
-    let want = got(&rt, scheme_of(alloc, &graph, &words, 7, alloc));
-    let found = got(&rt, scheme_of_in_threads(&rt, alloc, &graph, &words, 7, 3));
-    assert!(&rt; found.parts() == want.parts());
+    let graph = graph_of(rt, alloc, 5, &PATH);
+    let want = got(rt, scheme_of(alloc, &graph, &words, 7, alloc));
+    let found = got(rt, scheme_of_in_threads(rt, alloc, &graph, &words, 7, 3));
+    assert!(rt; found.parts() == want.parts());
 }

@@ -1,50 +1,15 @@
 // Drawn graphs: the scheme of each number of workers against that of one build.
-use crate::helpers::{Edge, built, expect_same, got, graph_of, landmarks_at};
+use crate::helpers::{built, expect_same, got, graph_of, landmarks_at};
 use rand_core::{Rng, SeedableRng};
 use rand_xoshiro::Xoshiro256PlusPlus;
+use sample_networks::{drawn_edges, drawn_nodes};
 use std::alloc::Global;
 use std::process::Abort;
 use std::sync::Wait;
 use std::thread::Threads;
 
-/// Edges from each node to some of those before it: to each with so many chances of a hundred.
-fn drawn_edges(
-    rt: &impl Abort,
-    alloc: Global,
-    rng: &mut Xoshiro256PlusPlus,
-    nodes: u16,
-    chances: u64,
-) -> Vec<Edge> {
-    let mut edges = Vec::new(alloc);
-    for a in 0..nodes {
-        for b in 0..a {
-            let weight = 1 + (rng.next_u64() % 9) as u32;
-            if rng.next_u64() % 100 < chances {
-                got(rt, edges.push((a, b, weight)));
-            }
-        }
-    }
-    edges
-}
-
-/// Each node with a chance of one in so many.
-fn drawn_nodes(
-    rt: &impl Abort,
-    alloc: Global,
-    rng: &mut Xoshiro256PlusPlus,
-    nodes: u16,
-    one_of: u64,
-) -> Vec<u16> {
-    let mut at = Vec::new(alloc);
-    for node in 0..nodes {
-        if rng.next_u64() % one_of.max(1) == 0 {
-            got(rt, at.push(node));
-        }
-    }
-    at
-}
-
-/// Compares the schemes of a drawn graph under one to eight workers with that of one build.
+/// Compares the schemes of a drawn graph under one to eight workers with that of one build. Each two nodes have an edge by so many
+/// chances of a hundred, and one node of so many is a landmark.
 fn compare<R: Abort + Threads + Wait + Sync>(
     rt: &R,
     alloc: Global,
@@ -53,9 +18,9 @@ fn compare<R: Abort + Threads + Wait + Sync>(
     chances: u64,
     one_of: u64,
 ) {
-    let edges = drawn_edges(rt, alloc, rng, nodes, chances);
+    let edges = got(rt, drawn_edges(alloc, rng, nodes, 9, (chances, 100)));
     let graph = graph_of(rt, alloc, nodes, &edges);
-    let at = drawn_nodes(rt, alloc, rng, nodes, one_of);
+    let at = got(rt, drawn_nodes(alloc, rng, nodes, (1, one_of)));
     let landmarks = landmarks_at(rt, alloc, nodes, &at);
     let want = built(rt, alloc, &graph, &landmarks);
     for workers in 1..9u16 {

@@ -21,10 +21,11 @@ const RING: [Edge; 11] = [
 #[test]
 fn builds_in_threads_after_a_want_of_memory(rt: HostRuntime) {
     let alloc = rt.alloc();
-    let graph = graph_of(&rt, alloc, 9, &RING);
-    let landmarks = landmarks_at(&rt, alloc, 9, &[2, 6]);
-    let want = built(&rt, alloc, &graph, &landmarks);
+    let rt = &rt;
+    let graph = graph_of(rt, alloc, 9, &RING);
+    let landmarks = landmarks_at(rt, alloc, 9, &[2, 6]);
+    let want = built(rt, alloc, &graph, &landmarks);
     for workers in &[1u16, 3, 4] {
-        expect_same(&rt, alloc, &graph, &landmarks, &want, *workers);
+        expect_same(rt, alloc, &graph, &landmarks, &want, *workers);
     }
 }

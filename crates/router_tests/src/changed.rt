@@ -84,12 +84,13 @@ fn expect_refused_changed(rt: &impl Abort, alloc: Global, bytes: &mut [u8], chan
 #[test]
 fn refuses_each_byte_changed(rt: HostRuntime) {
     let alloc = rt.alloc();
+    let rt = &rt;
     for node in 0..9u16 {
-        let mut bytes = ring_bytes(&rt, alloc, node);
-        expect_refused_changed(&rt, alloc, bytes.as_mut_slice(), 1);
-        expect_refused_changed(&rt, alloc, bytes.as_mut_slice(), 128);
-        expect_refused_changed(&rt, alloc, bytes.as_mut_slice(), 255);
-        same(&rt, refusal_of(alloc, bytes.as_slice()), None, "as it was");
+        let mut bytes = ring_bytes(rt, alloc, node);
+        expect_refused_changed(rt, alloc, bytes.as_mut_slice(), 1);
+        expect_refused_changed(rt, alloc, bytes.as_mut_slice(), 128);
+        expect_refused_changed(rt, alloc, bytes.as_mut_slice(), 255);
+        same(rt, refusal_of(alloc, bytes.as_slice()), None, "as it was");
     }
 }
 
@@ -113,17 +114,13 @@ fn expect_refused_cut(rt: &impl Abort, alloc: Global, bytes: &[u8]) {
 #[test]
 fn refuses_each_length_cut(rt: HostRuntime) {
     let alloc = rt.alloc();
+    let rt = &rt;
     for node in 0..9u16 {
-        let mut bytes = ring_bytes(&rt, alloc, node);
-        expect_refused_cut(&rt, alloc, bytes.as_slice());
-        got(&rt, bytes.push(0));
+        let mut bytes = ring_bytes(rt, alloc, node);
+        expect_refused_cut(rt, alloc, bytes.as_slice());
+        got(rt, bytes.push(0));
         let want = Some(ReadRefused::TooLong);
-        same(
-            &rt,
-            refusal_of(alloc, bytes.as_slice()),
-            want,
-            "a byte more",
-        );
+        same(rt, refusal_of(alloc, bytes.as_slice()), want, "a byte more");
     }
 }
 
@@ -213,11 +210,12 @@ fn read_of_drawn(
 #[test]
 fn writes_what_it_reads_of_drawn_tables(rt: HostRuntime) {
     let alloc = rt.alloc();
+    let rt = &rt;
     let mut rng = Xoshiro256PlusPlus::seed_from_u64(51);
     let mut read = 0u32;
     for node in 0..9u16 {
-        let bytes = ring_bytes(&rt, alloc, node);
-        read = read.saturating_add(read_of_drawn(&rt, alloc, &mut rng, bytes.as_slice()));
+        let bytes = ring_bytes(rt, alloc, node);
+        read = read.saturating_add(read_of_drawn(rt, alloc, &mut rng, bytes.as_slice()));
     }
-    assert!(&rt; 0 < read && read < 2700);
+    assert!(rt; 0 < read && read < 2700);
 }

@@ -4,6 +4,7 @@ use node_table::{CarryRefused, Move, Packet, Refused, Scheme, Trail};
 use rand_core::{Rng, SeedableRng};
 use rand_xoshiro::Xoshiro256PlusPlus;
 use router_table::RouterTable;
+use sample_networks::{drawn_edges, drawn_nodes};
 use std::alloc::Global;
 use std::process::Abort;
 
@@ -122,49 +123,11 @@ fn compare(rt: &impl Abort, alloc: Global, nodes: u16, edges: &[Edge], at: &[u16
     apart
 }
 
-/// Drawn edges between so many nodes, each pair with an edge by so many chances of ten.
-fn drawn_edges(
-    rt: &impl Abort,
-    alloc: Global,
-    rng: &mut Xoshiro256PlusPlus,
-    nodes: u16,
-    chances: u64,
-) -> Vec<Edge> {
-    let mut edges = Vec::new(alloc);
-    for a in 0..nodes {
-        for b in 0..a {
-            let weight = 1 + (rng.next_u64() % 9) as u32;
-            if rng.next_u64() % 10 < chances {
-                got(rt, edges.push((a, b, weight)));
-            }
-        }
-    }
-    edges
-}
-
-/// Some of the nodes below a number, about one of three or one of eight.
-fn drawn_nodes(
-    rt: &impl Abort,
-    alloc: Global,
-    rng: &mut Xoshiro256PlusPlus,
-    nodes: u16,
-    few: bool,
-) -> Vec<u16> {
-    let mut at = Vec::new(alloc);
-    for node in 0..nodes {
-        let drawn = rng.next_u64() % 24;
-        if drawn < if few { 3 } else { 8 } {
-            got(rt, at.push(node));
-        }
-    }
-    at
-}
-
 /// Compares all pairs of a drawn network without a landmark, with some, and where each node is one. Answers how many are apart.
 fn compare_drawn(rt: &impl Abort, alloc: Global, rng: &mut Xoshiro256PlusPlus) -> u32 {
     let nodes = 1 + (rng.next_u64() % 12) as u16;
-    let edges = drawn_edges(rt, alloc, rng, nodes, 3);
-    let some = drawn_nodes(rt, alloc, rng, nodes, false);
+    let edges = got(rt, drawn_edges(alloc, rng, nodes, 9, (3, 10)));
+    let some = got(rt, drawn_nodes(alloc, rng, nodes, (8, 24)));
     let all = [0u16, 1, 2, 3, 4, 5, 6, 7, 8, 9, 10, 11];
     let apart = compare(rt, alloc, nodes, edges.as_slice(), &[]);
     let with_some = compare(rt, alloc, nodes, edges.as_slice(), some.as_slice());
@@ -189,8 +152,9 @@ fn packets_go_from_table_to_table_as_the_scheme_carries_them(rt: HostRuntime) {
 #[test]
 fn packets_go_from_table_to_table_in_a_larger_network(rt: HostRuntime) {
     let alloc = rt.alloc();
+    let rt = &rt;
     let mut rng = Xoshiro256PlusPlus::seed_from_u64(96);
-    let edges = drawn_edges(&rt, alloc, &mut rng, 60, 1);
-    let at = drawn_nodes(&rt, alloc, &mut rng, 60, true);
-    let _apart = compare(&rt, alloc, 60, edges.as_slice(), at.as_slice());
+    let edges = got(rt, drawn_edges(alloc, &mut rng, 60, 9, (1, 10)));
+    let at = got(rt, drawn_nodes(alloc, &mut rng, 60, (3, 24)));
+    let _apart = compare(rt, alloc, 60, edges.as_slice(), at.as_slice());
 }

@@ -1,15 +1,12 @@
 // Graphs, schemes and tables that the tests share.
-ghost use Rattle.std.specs.Prelude.{◌≤◌};
-
-use graph_edits::{Change, EditRefused, Graph, MOST_NODES, Op};
 use node_table::Scheme;
 use router_table::{ReadRefused, RouterTable};
+pub(crate) use sample_networks::{Edge, PATH};
+use sample_networks::{graph_of, words_at};
 use scheme_builds::scheme_of;
-use std::alloc::{AllocError, Global};
+use std::alloc::Global;
 use std::fmt::Debug;
 use std::process::Abort;
-
-pub(crate) type Edge = (u16, u16, u32);
 
 /// The generation of all schemes here.
 const GENERATION: u64 = 7;
@@ -42,27 +39,7 @@ pub(crate) fn is_written_so(rt: &impl Abort, alloc: Global, bytes: &[u8]) -> boo
     again.as_slice() == bytes
 }
 
-fn scheme_once(alloc: Global, nodes: u16, edges: &[Edge], at: &[u16]) -> Result<Scheme, AllocError>
-    requires some { 1 ≤ nodes }
-    requires few { nodes ≤ MOST_NODES }
-{
-    let mut graph = Graph::empty(alloc, nodes)?;
-    for (a, b, weight) in edges {
-        let Ok(change) = Change::new(&[Op::Add(*a, *b, *weight)]) else {
-            continue;
-        };
-        if let Err(EditRefused::Memory) = graph.apply(&change) {
-            return Err(AllocError);
-        }
-    }
-    let mut words = Vec::with_capacity(alloc, nodes as usize)?;
-    for v in 0..nodes {
-        words.push(if at.contains(&v) { 0u64 } else { u64::MAX })?;
-    }
-    scheme_of(alloc, &graph, words.as_slice(), GENERATION, alloc)
-}
-
-/// The scheme of these edges, but for those that a graph refuses, with these landmarks. It is asked for again where memory is refused.
+/// The scheme of these edges with these landmarks. It is asked for again where memory is refused.
 pub(crate) fn scheme_at(
     rt: &impl Abort,
     alloc: Global,
@@ -70,10 +47,11 @@ pub(crate) fn scheme_at(
     edges: &[Edge],
     at: &[u16],
 ) -> Scheme {
-    assert!(rt; 1 <= nodes && nodes <= MOST_NODES);
-    match scheme_once(alloc, nodes, edges, at) {
+    let graph = got(rt, graph_of(alloc, nodes, edges));
+    let words = got(rt, words_at(alloc, nodes, at));
+    match scheme_of(alloc, &graph, &words, GENERATION, alloc) {
         Ok(scheme) => scheme,
-        Err(_) => got(rt, scheme_once(alloc, nodes, edges, at)),
+        Err(_) => got(rt, scheme_of(alloc, &graph, &words, GENERATION, alloc)),
     }
 }
 
@@ -97,9 +75,6 @@ pub(crate) fn tables_of(rt: &impl Abort, alloc: Global, scheme: &Scheme) -> Vec<
     }
     tables
 }
-
-/// The path 0, 1, 2, 3, 4 of edges of weight 1.
-pub(crate) const PATH: [Edge; 4] = [(0, 1, 1), (1, 2, 1), (2, 3, 1), (3, 4, 1)];
 
 /// A ring of nine nodes with two chords.
 pub(crate) const RING: [Edge; 11] = [

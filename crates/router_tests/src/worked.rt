@@ -25,9 +25,10 @@ const BYTES: [u8; 146] = [
 #[test]
 fn writes_the_table_of_the_last_node_of_a_path(rt: HostRuntime) {
     let alloc = rt.alloc();
-    let scheme = scheme_at(&rt, alloc, 5, &PATH, &[2]);
-    let bytes = bytes_at(&rt, alloc, &scheme, 4);
-    assert_eq!(&rt; bytes.as_slice(), BYTES.as_slice());
+    let rt = &rt;
+    let scheme = scheme_at(rt, alloc, 5, &PATH, &[2]);
+    let bytes = bytes_at(rt, alloc, &scheme, 4);
+    assert_eq!(rt; bytes.as_slice(), BYTES.as_slice());
 }
 
 /// Sees who the router is.
@@ -49,10 +50,11 @@ fn expect_as_scheme(rt: &impl Abort, scheme: &Scheme, table: &RouterTable) {
 #[test]
 fn reads_the_table_of_the_last_node_of_a_path(rt: HostRuntime) {
     let alloc = rt.alloc();
-    let scheme = scheme_at(&rt, alloc, 5, &PATH, &[2]);
-    let table = got(&rt, RouterTable::read(alloc, &BYTES));
-    expect_head(&rt, &table);
-    expect_as_scheme(&rt, &scheme, &table);
+    let rt = &rt;
+    let scheme = scheme_at(rt, alloc, 5, &PATH, &[2]);
+    let table = got(rt, RouterTable::read(alloc, &BYTES));
+    expect_head(rt, &table);
+    expect_as_scheme(rt, &scheme, &table);
 }
 
 /// Sees why the table is refused once its byte at this place is another.
@@ -67,38 +69,39 @@ fn expect_refused(rt: &impl Abort, alloc: Global, at: usize, byte: u8, want: Rea
 #[test]
 fn names_what_is_wrong(rt: HostRuntime) {
     let alloc = rt.alloc();
+    let rt = &rt;
     same(
-        &rt,
+        rt,
         refusal_of(alloc, &[]),
         Some(ReadRefused::NoTable),
         "no bytes",
     );
     same(
-        &rt,
+        rt,
         refusal_of(alloc, &BYTES[..7]),
         Some(ReadRefused::NoTable),
         "7 bytes",
     );
     same(
-        &rt,
+        rt,
         refusal_of(alloc, &BYTES[..8]),
         Some(ReadRefused::CutShort),
         "8 bytes",
     );
     same(
-        &rt,
+        rt,
         refusal_of(alloc, &BYTES[..145]),
         Some(ReadRefused::CutShort),
         "145 bytes",
     );
-    same(&rt, refusal_of(alloc, &BYTES), None, "the table");
-    expect_refused(&rt, alloc, 0, b'S', ReadRefused::NoTable);
-    expect_refused(&rt, alloc, 7, b'2', ReadRefused::UnknownVersion);
-    expect_refused(&rt, alloc, 63, 2, ReadRefused::TooLong);
-    expect_refused(&rt, alloc, 67, 4, ReadRefused::CutShort);
-    expect_refused(&rt, alloc, 108, 0, ReadRefused::TooLong);
-    expect_refused(&rt, alloc, 113, 1, ReadRefused::CutShort);
-    expect_refused(&rt, alloc, 145, 0, ReadRefused::Damaged);
+    same(rt, refusal_of(alloc, &BYTES), None, "the table");
+    expect_refused(rt, alloc, 0, b'S', ReadRefused::NoTable);
+    expect_refused(rt, alloc, 7, b'2', ReadRefused::UnknownVersion);
+    expect_refused(rt, alloc, 63, 2, ReadRefused::TooLong);
+    expect_refused(rt, alloc, 67, 4, ReadRefused::CutShort);
+    expect_refused(rt, alloc, 108, 0, ReadRefused::TooLong);
+    expect_refused(rt, alloc, 113, 1, ReadRefused::CutShort);
+    expect_refused(rt, alloc, 145, 0, ReadRefused::Damaged);
 }
 
 /// The places of bytes that may be others in a table in order: the number of nodes; the number and the port of the address's label;
@@ -128,22 +131,24 @@ fn wrong_by_half(at: usize) -> Option<ReadRefused> {
 #[test]
 fn reads_only_what_is_in_order_behind_a_mended_digest(rt: HostRuntime) {
     let alloc = rt.alloc();
+    let rt = &rt;
     for at in 0..114usize {
         let mut other = BYTES;
         other[at] ^= 128;
         mend(&mut other);
         let found = refusal_of(alloc, &other);
-        same(&rt, found, wrong_by_half(at), "by half");
-        assert!(&rt; found.is_some() || is_written_so(&rt, alloc, &other));
+        same(rt, found, wrong_by_half(at), "by half");
+        assert!(rt; found.is_some() || is_written_so(rt, alloc, &other));
     }
 }
 
 #[test]
 fn has_no_table_of_a_node_that_is_not_there(rt: HostRuntime) {
     let alloc = rt.alloc();
-    let scheme = scheme_at(&rt, alloc, 5, &PATH, &[2]);
+    let rt = &rt;
+    let scheme = scheme_at(rt, alloc, 5, &PATH, &[2]);
     match RouterTable::of(alloc, &scheme, 5) {
-        Ok(_) => panic!(&rt; "a table"),
-        Err(refused) => same(&rt, refused, TableRefused::NoNode, "no node"),
+        Ok(_) => panic!(rt; "a table"),
+        Err(refused) => same(rt, refused, TableRefused::NoNode, "no node"),
     }
 }

@@ -1,9 +1,10 @@
 // Drawn graphs: each route against the trail over which the built scheme carries the packet.
-use crate::helpers::{Edge, got, graph_of, landmarks_at, routed, routes_in, same, words_at};
+use crate::helpers::{got, graph_of, landmarks_at, routed, routes_in, same, words_at};
 use graph_edits::Graph;
 use node_table::{CarryRefused, Scheme, Trail};
 use rand_core::{Rng, SeedableRng};
 use rand_xoshiro::Xoshiro256PlusPlus;
+use sample_networks::{drawn_edges, drawn_nodes};
 use scheme_builds::scheme_of;
 use single_route::{NoTrail, route_of};
 use std::alloc::Global;
@@ -74,52 +75,14 @@ fn compare(rt: &impl Abort, alloc: Global, graph: &Graph, at: &[u16]) -> u32 {
     apart
 }
 
-/// Drawn edges between so many nodes, each pair with an edge of a weight up to `heaviest` by so many chances of ten.
-fn drawn_edges(
-    rt: &impl Abort,
-    alloc: Global,
-    rng: &mut Xoshiro256PlusPlus,
-    nodes: u16,
-    heaviest: u32,
-    chances: u64,
-) -> Vec<Edge> {
-    let mut edges = Vec::new(alloc);
-    for a in 0..nodes {
-        for b in 0..a {
-            let weight = 1 + (rng.next_u64() % heaviest.max(1) as u64) as u32;
-            if rng.next_u64() % 10 < chances {
-                got(rt, edges.push((a, b, weight)));
-            }
-        }
-    }
-    edges
-}
-
-/// Some of the nodes below a number: all of which a draw in `one_of` says so.
-fn drawn_nodes(
-    rt: &impl Abort,
-    alloc: Global,
-    rng: &mut Xoshiro256PlusPlus,
-    nodes: u16,
-    one_of: u64,
-) -> Vec<u16> {
-    let mut at = Vec::new(alloc);
-    for node in 0..nodes {
-        if rng.next_u64() % one_of.max(1) == 0 {
-            got(rt, at.push(node));
-        }
-    }
-    at
-}
-
 /// One drawn graph with three choices of landmarks: none, some and all.
 fn compare_drawn(rt: &impl Abort, alloc: Global, rng: &mut Xoshiro256PlusPlus) -> u32 {
     let nodes = 1 + (rng.next_u64() % 12) as u16;
     let heaviest = 1 + (rng.next_u64() % 9) as u32;
-    let edges = drawn_edges(rt, alloc, rng, nodes, heaviest, 3);
+    let edges = got(rt, drawn_edges(alloc, rng, nodes, heaviest, (3, 10)));
     let graph = graph_of(rt, alloc, nodes, &edges);
-    let some = drawn_nodes(rt, alloc, rng, nodes, 3);
-    let all = drawn_nodes(rt, alloc, rng, nodes, 1);
+    let some = got(rt, drawn_nodes(alloc, rng, nodes, (1, 3)));
+    let all = got(rt, drawn_nodes(alloc, rng, nodes, (1, 1)));
     let apart = compare(rt, alloc, &graph, &[]);
     let second = compare(rt, alloc, &graph, &some);
     let third = compare(rt, alloc, &graph, &all);
@@ -147,11 +110,12 @@ fn goes_where_the_scheme_carries_a_packet(rt: HostRuntime) {
 #[test]
 fn goes_where_the_scheme_carries_a_packet_in_a_larger_graph(rt: HostRuntime) {
     let alloc = rt.alloc();
+    let rt = &rt;
     let mut rng = Xoshiro256PlusPlus::seed_from_u64(96);
-    let edges = drawn_edges(&rt, alloc, &mut rng, 28, 3, 2);
-    let graph = graph_of(&rt, alloc, 28, &edges);
+    let edges = got(rt, drawn_edges(alloc, &mut rng, 28, 3, (2, 10)));
+    let graph = graph_of(rt, alloc, 28, &edges);
     for one_of in &[8u64, 3] {
-        let at = drawn_nodes(&rt, alloc, &mut rng, 28, *one_of);
-        let _apart = compare(&rt, alloc, &graph, &at);
+        let at = got(rt, drawn_nodes(alloc, &mut rng, 28, (1, *one_of)));
+        let _apart = compare(rt, alloc, &graph, &at);
     }
 }

@@ -2,7 +2,7 @@
 use graph_edits::Graph;
 use landmarks::Landmarks;
 use node_table::Trail;
-pub(crate) use sample_networks::{Edge, PATH};
+pub(crate) use sample_networks::{Edge, PATH, Way, ends_of};
 use single_route::{NoTrail, Routes};
 use std::alloc::Global;
 use std::fmt::Debug;
@@ -58,18 +58,6 @@ pub(crate) fn routed(routes: &mut Routes<'_>, from: u16, to: u16) -> Result<Trai
     match routes.route(from, to) {
         Err(NoTrail::Memory) => routes.route(from, to),
         other => other,
-    }
-}
-
-/// How many nodes a graph has, its edges, its landmarks, and a way in it: its nodes, its ports and its length.
-pub(crate) type Way<'a> = (u16, &'a [Edge], &'a [u16], &'a [u16], &'a [u16], u64);
-
-/// The first and the last node of a way.
-pub(crate) fn ends_of(way: &[u16]) -> (u16, u16) {
-    match way {
-        [first, .., last] => (*first, *last),
-        [only] => (*only, *only),
-        [] => (0, 0),
     }
 }
 

@@ -27,17 +27,18 @@ fn expect_whole(rt: &impl Abort, trail: &Trail) {
 #[test]
 fn goes_over_the_longest_path(rt: HostRuntime) {
     let alloc = rt.alloc();
+    let rt = &rt;
     let mut edges = Vec::new(alloc);
     for node in 1..MOST_NODES {
-        got(&rt, edges.push((node - 1, node, 3u32)));
+        got(rt, edges.push((node - 1, node, 3u32)));
     }
-    let graph = graph_of(&rt, alloc, MOST_NODES, &edges);
+    let graph = graph_of(rt, alloc, MOST_NODES, &edges);
     let middle = MOST_NODES / 2;
     let last = MOST_NODES - 1;
     for at in &[&[] as &[u16], &[middle], &[0, last]] {
-        let landmarks = landmarks_at(&rt, alloc, MOST_NODES, at);
-        let mut routes = routes_in(&rt, alloc, &graph, &landmarks);
-        let trail = got(&rt, routed(&mut routes, 0, last));
-        expect_whole(&rt, &trail);
+        let landmarks = landmarks_at(rt, alloc, MOST_NODES, at);
+        let mut routes = routes_in(rt, alloc, &graph, &landmarks);
+        let trail = got(rt, routed(&mut routes, 0, last));
+        expect_whole(rt, &trail);
     }
 }

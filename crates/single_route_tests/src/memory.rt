@@ -7,27 +7,29 @@ use single_route::{NoTrail, route_of};
 #[test]
 fn routes_after_a_want_of_memory(rt: HostRuntime) {
     let alloc = rt.alloc();
-    let graph = graph_of(&rt, alloc, 5, &PATH);
-    let landmarks = landmarks_at(&rt, alloc, 5, &[2]);
-    let mut routes = routes_in(&rt, alloc, &graph, &landmarks);
-    let trail = got(&rt, routed(&mut routes, 0, 4));
-    expect_trail(&rt, &trail, &[0, 1, 2, 3, 4], &[0, 1, 1, 1], 4);
-    let trail = got(&rt, routed(&mut routes, 3, 4));
-    expect_trail(&rt, &trail, &[3, 4], &[1], 1);
-    let trail = got(&rt, routed(&mut routes, 1, 0));
-    expect_trail(&rt, &trail, &[1, 0], &[0], 1);
+    let rt = &rt;
+    let graph = graph_of(rt, alloc, 5, &PATH);
+    let landmarks = landmarks_at(rt, alloc, 5, &[2]);
+    let mut routes = routes_in(rt, alloc, &graph, &landmarks);
+    let trail = got(rt, routed(&mut routes, 0, 4));
+    expect_trail(rt, &trail, &[0, 1, 2, 3, 4], &[0, 1, 1, 1], 4);
+    let trail = got(rt, routed(&mut routes, 3, 4));
+    expect_trail(rt, &trail, &[3, 4], &[1], 1);
+    let trail = got(rt, routed(&mut routes, 1, 0));
+    expect_trail(rt, &trail, &[1, 0], &[0], 1);
 }
 
 /// One route alone.
 #[test]
 fn one_route_after_a_want_of_memory(rt: HostRuntime) {
     let alloc = rt.alloc();
-    let graph = graph_of(&rt, alloc, 5, &PATH);
-    let landmarks = landmarks_at(&rt, alloc, 5, &[2]);
-    assert!(&rt; landmarks.flags().len() == graph.nodes() as usize);
+    let rt = &rt;
+    let graph = graph_of(rt, alloc, 5, &PATH);
+    let landmarks = landmarks_at(rt, alloc, 5, &[2]);
+    assert!(rt; landmarks.flags().len() == graph.nodes() as usize);
     let answer = match route_of(alloc, &graph, &landmarks, 0, 4) {
         Err(NoTrail::Memory) => route_of(alloc, &graph, &landmarks, 0, 4),
         other => other,
     };
-    expect_trail(&rt, &got(&rt, answer), &[0, 1, 2, 3, 4], &[0, 1, 1, 1], 4);
+    expect_trail(rt, &got(rt, answer), &[0, 1, 2, 3, 4], &[0, 1, 1, 1], 4);
 }

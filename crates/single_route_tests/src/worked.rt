@@ -45,13 +45,14 @@ const WAYS: [Way<'static>; 14] = [
 #[test]
 fn goes_the_ways_that_were_found_by_hand(rt: HostRuntime) {
     let alloc = rt.alloc();
+    let rt = &rt;
     for (nodes, edges, at, through, ports, length) in &WAYS {
-        let graph = graph_of(&rt, alloc, *nodes, edges);
-        let landmarks = landmarks_at(&rt, alloc, *nodes, at);
+        let graph = graph_of(rt, alloc, *nodes, edges);
+        let landmarks = landmarks_at(rt, alloc, *nodes, at);
         let (from, to) = ends_of(through);
-        let mut routes = routes_in(&rt, alloc, &graph, &landmarks);
-        let trail = got(&rt, routed(&mut routes, from, to));
-        expect_trail(&rt, &trail, through, ports, *length);
+        let mut routes = routes_in(rt, alloc, &graph, &landmarks);
+        let trail = got(rt, routed(&mut routes, from, to));
+        expect_trail(rt, &trail, through, ports, *length);
     }
 }
 
@@ -73,14 +74,15 @@ const REFUSALS: [Refusal<'static>; 9] = [
 #[test]
 fn says_why_there_is_no_trail(rt: HostRuntime) {
     let alloc = rt.alloc();
+    let rt = &rt;
     for (nodes, edges, at, from, to, why) in &REFUSALS {
-        let graph = graph_of(&rt, alloc, *nodes, edges);
-        let landmarks = landmarks_at(&rt, alloc, *nodes, at);
-        let mut routes = routes_in(&rt, alloc, &graph, &landmarks);
-        same(&rt, routes.route(*from, *to).err(), Some(*why), "a refusal");
-        assert!(&rt; landmarks.flags().len() == graph.nodes() as usize);
+        let graph = graph_of(rt, alloc, *nodes, edges);
+        let landmarks = landmarks_at(rt, alloc, *nodes, at);
+        let mut routes = routes_in(rt, alloc, &graph, &landmarks);
+        same(rt, routes.route(*from, *to).err(), Some(*why), "a refusal");
+        assert!(rt; landmarks.flags().len() == graph.nodes() as usize);
         let once = route_of(alloc, &graph, &landmarks, *from, *to);
-        same(&rt, once.err(), Some(*why), "a refusal of one route");
+        same(rt, once.err(), Some(*why), "a refusal of one route");
     }
 }
 
@@ -88,15 +90,16 @@ fn says_why_there_is_no_trail(rt: HostRuntime) {
 #[test]
 fn answers_route_after_route(rt: HostRuntime) {
     let alloc = rt.alloc();
-    let graph = graph_of(&rt, alloc, 5, &PATH);
-    let landmarks = landmarks_at(&rt, alloc, 5, &[2]);
-    let mut routes = routes_in(&rt, alloc, &graph, &landmarks);
+    let rt = &rt;
+    let graph = graph_of(rt, alloc, 5, &PATH);
+    let landmarks = landmarks_at(rt, alloc, 5, &[2]);
+    let mut routes = routes_in(rt, alloc, &graph, &landmarks);
     for _ in 0..3u8 {
-        let trail = got(&rt, routed(&mut routes, 0, 4));
-        expect_trail(&rt, &trail, &[0, 1, 2, 3, 4], &[0, 1, 1, 1], 4);
+        let trail = got(rt, routed(&mut routes, 0, 4));
+        expect_trail(rt, &trail, &[0, 1, 2, 3, 4], &[0, 1, 1, 1], 4);
         let none = routes.route(0, 7).err();
-        same(&rt, none, Some(NoTrail::NoNode), "a node too many");
-        let trail = got(&rt, routed(&mut routes, 4, 3));
-        expect_trail(&rt, &trail, &[4, 3], &[0], 1);
+        same(rt, none, Some(NoTrail::NoNode), "a node too many");
+        let trail = got(rt, routed(&mut routes, 4, 3));
+        expect_trail(rt, &trail, &[4, 3], &[0], 1);
     }
 }

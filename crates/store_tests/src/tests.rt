@@ -25,12 +25,13 @@ use helpers::*;
 
 #[test]
 fn refusals_have_their_numbers(rt: HostRuntime) {
+    let rt = &rt;
     let format = [
         FormatRefused::BadSize as u8,
         FormatRefused::BadLength as u8,
         FormatRefused::Device as u8,
     ];
-    same(&rt, format, [1, 2, 3], "format");
+    same(rt, format, [1, 2, 3], "format");
     let open = [
         OpenRefused::NotFormatted as u8,
         OpenRefused::BadVersion as u8,
@@ -38,7 +39,7 @@ fn refusals_have_their_numbers(rt: HostRuntime) {
         OpenRefused::Device as u8,
         OpenRefused::Memory as u8,
     ];
-    same(&rt, open, [1, 2, 3, 4, 5], "open");
+    same(rt, open, [1, 2, 3, 4, 5], "open");
     let commit = [
         CommitRefused::NeedsRoll as u8,
         CommitRefused::Device as u8,
@@ -46,12 +47,12 @@ fn refusals_have_their_numbers(rt: HostRuntime) {
         CommitRefused::Down as u8,
         CommitRefused::Worn as u8,
     ];
-    same(&rt, commit, [1, 2, 3, 4, 5], "commit");
+    same(rt, commit, [1, 2, 3, 4, 5], "commit");
     let roll = [
         RollRefused::Device as u8,
         RollRefused::Memory as u8,
         RollRefused::Down as u8,
         RollRefused::Worn as u8,
     ];
-    same(&rt, roll, [2, 3, 4, 5], "roll");
+    same(rt, roll, [2, 3, 4, 5], "roll");
 }

@@ -14,7 +14,7 @@ use std::process::Abort;
 use std::thread;
 
 /// The numbers of these members, made over a scratch.
-fn flat<A: Allocator + Clone>(
+pub(crate) fn flat<A: Allocator + Clone>(
     alloc: Global,
     members: &[Member],
     scratch: A,
@@ -132,57 +132,59 @@ const ROWS: [Row<'static>; 7] = [
 /// Of two children as heavy the one with the smaller node is next to the root, wherever the search found it.
 #[test]
 fn numbers_a_tie_by_the_smaller_node(rt: HostRuntime) {
-    let all = got(&rt, flat_of(&rt, rt.alloc(), &TIE, rt.alloc()));
-    same(&rt, all.len(), 7, "the members");
+    let alloc = rt.alloc();
+    let rt = &rt;
+    let all = got(rt, flat_of(rt, alloc, &TIE, alloc));
+    same(rt, all.len(), 7, "the members");
     for (found, want) in all.iter().zip(ROWS.iter()) {
-        same(&rt, row(found), *want, "a member");
+        same(rt, row(found), *want, "a member");
     }
-    expect_same(&rt, rt.alloc(), &TIE);
+    expect_same(rt, alloc, &TIE);
 }
 
 #[test]
 fn numbers_small_trees_as_their_trees_do(rt: HostRuntime) {
-    expect_same(&rt, rt.alloc(), &FIVE);
-    expect_same(&rt, rt.alloc(), &[root(65_535)]);
-    expect_same(
-        &rt,
-        rt.alloc(),
-        &[root(65_535), below(65_535, 0, 65_535, 65_534)],
-    );
+    let alloc = rt.alloc();
+    let rt = &rt;
+    expect_same(rt, alloc, &FIVE);
+    expect_same(rt, alloc, &[root(65_535)]);
+    expect_same(rt, alloc, &[root(65_535), below(65_535, 0, 65_535, 65_534)]);
 }
 
 /// The largest trees, over each allocator.
 #[test]
 fn numbers_the_largest_trees_as_their_trees_do(rt: HostRuntime) {
     let alloc = rt.alloc();
-    expect_same(&rt, alloc, &listed(&rt, alloc, 16_384, on_star));
-    let members = listed(&rt, alloc, 16_383, in_pairs);
-    expect_same(&rt, alloc, &members);
-    let over_all = got(&rt, flat_of(&rt, alloc, &members, alloc));
-    let heap = got(&rt, LocalHeap::new(alloc, STACK_LEN));
-    let held = got(&rt, flat_of(&rt, alloc, &members, &heap));
-    same(&rt, heap.used(), 0, "the heap");
+    let rt = &rt;
+    expect_same(rt, alloc, &listed(rt, alloc, 16_384, on_star));
+    let members = listed(rt, alloc, 16_383, in_pairs);
+    expect_same(rt, alloc, &members);
+    let over_all = got(rt, flat_of(rt, alloc, &members, alloc));
+    let heap = got(rt, LocalHeap::new(alloc, STACK_LEN));
+    let held = got(rt, flat_of(rt, alloc, &members, &heap));
+    same(rt, heap.used(), 0, "the heap");
     let bump = Bump::new(&heap);
-    let bumped = got(&rt, flat_of(&rt, alloc, &members, &bump));
-    same(&rt, over_all == held, true, "in a heap");
-    same(&rt, over_all == bumped, true, "in an arena");
+    let bumped = got(rt, flat_of(rt, alloc, &members, &bump));
+    same(rt, over_all == held, true, "in a heap");
+    same(rt, over_all == bumped, true, "in an arena");
 }
 
 /// The path of all nodes is numbered on any stack; only the tree beside it needs a deep one.
 #[test]
 fn numbers_the_deepest_path(rt: HostRuntime) {
     let alloc = rt.alloc();
-    let members = listed(&rt, alloc, 16_384, on_path);
-    let flat = got(&rt, flat_of(&rt, alloc, &members, alloc));
-    let handle = got(&rt, rt.clone());
+    let rt = &rt;
+    let members = listed(rt, alloc, 16_384, on_path);
+    let flat = got(rt, flat_of(rt, alloc, &members, alloc));
+    let handle = got(rt, rt.clone());
     let thread = thread::Builder::new().stack_size(STACK_LEN);
-    let started = thread.spawn(&rt, move || {
+    let started = thread.spawn(rt, move || {
         let tree = tree_of(&handle, alloc, alloc, &members);
         let want = got(&handle, number(alloc, &tree));
         expect_numbers(&handle, &flat, &want, &members);
         want.len()
     });
-    same(&rt, got(&rt, started).join(&rt), 16_384, "the members");
+    same(rt, got(rt, started).join(rt), 16_384, "the members");
 }
 
 /// A drawn tree of nodes in no order: each member but the first hangs on an earlier one, by a drawn port.
@@ -207,48 +209,12 @@ fn drawn(rt: &impl Abort, alloc: Global, rng: &mut Xoshiro256PlusPlus) -> Vec<Me
 
 #[test]
 fn numbers_300_drawn_trees_as_their_trees_do(rt: HostRuntime) {
+    let alloc = rt.alloc();
+    let rt = &rt;
     let mut rng = Xoshiro256PlusPlus::seed_from_u64(23);
     for _ in 0..300 {
-        let members = drawn(&rt, rt.alloc(), &mut rng);
-        expect_same(&rt, rt.alloc(), &members);
-    }
-}
-
-/// Whether a heap of so many bytes is enough for the numbers of these members. It is empty again behind them, and behind a
-/// refusal.
-fn is_numbered_in(rt: &impl Abort, alloc: Global, size: usize, members: &[Member]) -> bool {
-    let heap = got(rt, LocalHeap::new(alloc, size));
-    let flat = match flat_of(rt, alloc, members, &heap) {
-        Ok(all) => all.len() == members.len(),
-        Err(_) => false,
-    };
-    same(rt, heap.used(), 0, "the heap");
-    flat
-}
-
-/// How many members, how much larger each heap is, and how many heaps are too small at least.
-const HEAPS: [(u16, usize, usize); 2] = [(15, 16, 10), (4095, 1_024, 40)];
-
-/// Heaps from too small to large enough: what is refused leaves nothing behind.
-#[test]
-fn each_list_refused(rt: HostRuntime) {
-    for (n, step, least) in &HEAPS {
-        let members = listed(&rt, rt.alloc(), *n, in_pairs);
-        let mut refused: usize = 0;
-        for count in 1..128usize {
-            let size = step.saturating_mul(count);
-            if !is_numbered_in(&rt, rt.alloc(), size, &members) {
-                same(
-                    &rt,
-                    refused.saturating_add(1),
-                    count,
-                    "none before was enough",
-                );
-                refused = count;
-            }
-        }
-        let some = *least < refused && refused < 127;
-        same(&rt, (refused, some), (refused, true), "the refused ones");
+        let members = drawn(rt, alloc, &mut rng);
+        expect_same(rt, alloc, &members);
     }
 }
 
@@ -302,6 +268,8 @@ const FAR: [Member; 4] = [
 /// Made for the refusal of each allocation in turn: what had no memory is made again.
 #[test]
 fn numbers_after_a_want_of_memory(rt: HostRuntime) {
-    expect_firsts(&rt, rt.alloc(), &FIVE, &[0u16, 1, 3, 2, 4]);
-    expect_firsts(&rt, rt.alloc(), &FAR, &[0u16, 3, 1, 2]);
+    let alloc = rt.alloc();
+    let rt = &rt;
+    expect_firsts(rt, alloc, &FIVE, &[0u16, 1, 3, 2, 4]);
+    expect_firsts(rt, alloc, &FAR, &[0u16, 3, 1, 2]);
 }

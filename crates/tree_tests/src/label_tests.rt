@@ -76,14 +76,16 @@ fn refusals_have_their_numbers(rt: HostRuntime) {
 
 #[test]
 fn numbers_of_five_nodes(rt: HostRuntime) {
-    let all = numbered(&rt, rt.alloc(), &FIVE);
-    same(&rt, all.len(), 5, "the members");
+    let alloc = rt.alloc();
+    let rt = &rt;
+    let all = numbered(rt, alloc, &FIVE);
+    same(rt, all.len(), 5, "the members");
     for (found, row) in all.iter().zip(ROWS.iter()) {
         let (node, (first, last, heavy_last, depth), up, heavy, lights) = *row;
         let record = Record::new(first, last, heavy_last, depth, up, heavy);
         let numbers = (found.node, Some(found.tree_record));
-        same(&rt, numbers, (node, record), "a record");
-        same(&rt, &found.label, &label(first, lights), "a label");
+        same(rt, numbers, (node, record), "a record");
+        same(rt, &found.label, &label(first, lights), "a label");
     }
 }
 
@@ -99,16 +101,13 @@ const STEPS: [(u16, u16, &[u16], TreeStep); 6] = [
 
 #[test]
 fn steps_of_five_nodes(rt: HostRuntime) {
-    let all = numbered(&rt, rt.alloc(), &FIVE);
+    let alloc = rt.alloc();
+    let rt = &rt;
+    let all = numbered(rt, alloc, &FIVE);
     for (node, first, lights, want) in &STEPS {
-        let at = of_node(&rt, &all, *node);
+        let at = of_node(rt, &all, *node);
         let found = step(&at.tree_record, &label(*first, lights));
-        same(
-            &rt,
-            (*node, *first, found),
-            (*node, *first, *want),
-            "a step",
-        );
+        same(rt, (*node, *first, found), (*node, *first, *want), "a step");
     }
 }
 
@@ -118,24 +117,21 @@ const THIRTEEN: [u16; 13] = [1, 2, 2, 2, 2, 2, 2, 2, 2, 2, 2, 2, 2];
 /// The label of the last of 16,383 has as many light ports as a label may have, under each allocator the same.
 #[test]
 fn the_last_of_all_pairs_has_thirteen_lights(rt: HostRuntime) {
-    let members = listed(&rt, rt.alloc(), 16_383, in_pairs);
-    let all = numbered(&rt, rt.alloc(), &members);
-    let last = of_node(&rt, &all, 16_382);
-    same(
-        &rt,
-        &last.label,
-        &label(16_382, &THIRTEEN),
-        "the last label",
-    );
+    let alloc = rt.alloc();
+    let rt = &rt;
+    let members = listed(rt, alloc, 16_383, in_pairs);
+    let all = numbered(rt, alloc, &members);
+    let last = of_node(rt, &all, 16_382);
+    same(rt, &last.label, &label(16_382, &THIRTEEN), "the last label");
     let lights = (last.label.lights().len(), last.tree_record.light_depth);
-    same(&rt, lights, (13, 13), "the light ports");
-    let heap = got(&rt, LocalHeap::new(rt.alloc(), STACK_LEN));
-    let held = numbered_over(&rt, rt.alloc(), &heap, &members);
+    same(rt, lights, (13, 13), "the light ports");
+    let heap = got(rt, LocalHeap::new(alloc, STACK_LEN));
+    let held = numbered_over(rt, alloc, &heap, &members);
     let bump = Bump::new(&heap);
-    let bumped = numbered_over(&rt, rt.alloc(), &bump, &members);
-    same(&rt, all.len(), 16_383, "the members");
-    same(&rt, all == held, true, "in a heap");
-    same(&rt, all == bumped, true, "in an arena");
+    let bumped = numbered_over(rt, alloc, &bump, &members);
+    same(rt, all.len(), 16_383, "the members");
+    same(rt, all == held, true, "in a heap");
+    same(rt, all == bumped, true, "in an arena");
 }
 
 /// How many members of a path have their node as number, no light port, and the path's end as last.
@@ -153,13 +149,14 @@ fn plain_members(all: &Numbered) -> usize {
 #[test]
 fn a_path_of_all_nodes_has_no_light_port(rt: HostRuntime) {
     let alloc = rt.alloc();
-    let members = listed(&rt, alloc, 16_384, on_path);
-    let handle = got(&rt, rt.clone());
+    let rt = &rt;
+    let members = listed(rt, alloc, 16_384, on_path);
+    let handle = got(rt, rt.clone());
     let thread = thread::Builder::new().stack_size(STACK_LEN);
-    let started = thread.spawn(&rt, move || {
+    let started = thread.spawn(rt, move || {
         plain_members(&numbered(&handle, alloc, &members))
     });
-    same(&rt, got(&rt, started).join(&rt), 16_384, "plain members");
+    same(rt, got(rt, started).join(rt), 16_384, "plain members");
 }
 
 /// The last number of a record whose first is 3, its parent port and its heavy port, and whether there is such a record.
@@ -180,16 +177,12 @@ fn a_record_has_a_heavy_port_where_it_has_members_below(rt: HostRuntime) {
 
 #[test]
 fn copies_are_equal(rt: HostRuntime) {
+    let rt = &rt;
     let one = label(7, &[3, 1]);
-    same(&rt, &one.copy(), &one, "a copy");
-    same(&rt, one.copy() == label(7, &[3]), false, "a port less");
-    same(
-        &rt,
-        one.copy() == label(8, &[3, 1]),
-        false,
-        "another number",
-    );
-    same(&rt, one.first(), 7, "the number");
+    same(rt, &one.copy(), &one, "a copy");
+    same(rt, one.copy() == label(7, &[3]), false, "a port less");
+    same(rt, one.copy() == label(8, &[3, 1]), false, "another number");
+    same(rt, one.first(), 7, "the number");
 }
 
 /// A drawn tree: each member but the first hangs on an earlier one, by the next free port there.
@@ -258,10 +251,12 @@ fn expect_climbed(rt: &impl Abort, all: &Numbered, members: &[Member]) {
 
 #[test]
 fn steps_follow_the_paths_of_200_drawn_trees(rt: HostRuntime) {
+    let alloc = rt.alloc();
+    let rt = &rt;
     let mut rng = Xoshiro256PlusPlus::seed_from_u64(11);
     for _ in 0..200 {
-        let members = drawn(&rt, rt.alloc(), &mut rng);
-        let all = numbered(&rt, rt.alloc(), &members);
-        expect_climbed(&rt, &all, &members);
+        let members = drawn(rt, alloc, &mut rng);
+        let all = numbered(rt, alloc, &members);
+        expect_climbed(rt, &all, &members);
     }
 }

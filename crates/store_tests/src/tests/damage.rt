@@ -113,17 +113,30 @@ fn put_slot(rt: &impl Abort, disk: &mut MemDisk, at: usize, slot: Slot) {
 
 #[test]
 fn tells_damaged_heads(rt: HostRuntime) {
+    let alloc = rt.alloc();
+    let rt = &rt;
     for (name, nodes, first, second, want) in &HEADS {
-        let mut disk = formatted(&rt, rt.alloc(), 5);
-        put(&rt, &mut disk, NODES, &nodes.to_be_bytes());
-        put_slot(&rt, &mut disk, FIRST_SLOT, *first);
-        put_slot(&rt, &mut disk, SECOND_SLOT, *second);
-        let found = match store_of(&rt, rt.alloc(), disk, name) {
-            Some(store) => Some((store.count(), store.nodes())),
-            None => None,
-        };
-        same(&rt, found, *want, name);
+        let mut disk = formatted(rt, alloc, 5);
+        put(rt, &mut disk, NODES, &nodes.to_be_bytes());
+        put_slot(rt, &mut disk, FIRST_SLOT, *first);
+        put_slot(rt, &mut disk, SECOND_SLOT, *second);
+        assert_sized(rt, alloc, disk, *want, name);
     }
+}
+
+// Opens a device, and sees that it is damaged, or that it has this count and so many nodes.
+fn assert_sized(
+    rt: &impl Abort,
+    alloc: Global,
+    disk: MemDisk,
+    want: Option<(u64, u16)>,
+    name: &str,
+) {
+    let found = match store_of(rt, alloc, disk, name) {
+        Some(store) => Some((store.count(), store.nodes())),
+        None => None,
+    };
+    same(rt, found, want, name);
 }
 
 // A device whose checkpoint has the count 3 and so many edges, which are not put yet.
@@ -183,14 +196,16 @@ fn shown_of_both(
 
 #[test]
 fn tells_damaged_edges(rt: HostRuntime) {
+    let alloc = rt.alloc();
+    let rt = &rt;
     for (name, first, second, is_sound) in &EDGES {
-        let mut disk = with_edges(&rt, rt.alloc(), 5, 2);
-        put_edge(&rt, &mut disk, FIRST_EDGES, *first);
-        put_edge(&rt, &mut disk, 4639, *second);
-        let found = shown_of_both(&rt, rt.alloc(), disk, (*first, *second), name);
+        let mut disk = with_edges(rt, alloc, 5, 2);
+        put_edge(rt, &mut disk, FIRST_EDGES, *first);
+        put_edge(rt, &mut disk, 4639, *second);
+        let found = shown_of_both(rt, alloc, disk, (*first, *second), name);
         let both = ((3, 2, Some(first.2)), (3, 2, Some(second.2)));
         let want = if *is_sound { Some(both) } else { None };
-        same(&rt, found, want, name);
+        same(rt, found, want, name);
     }
 }
 
@@ -207,20 +222,30 @@ fn crowded_device(rt: &impl Abort, alloc: Global, edges: u32) -> MemDisk {
 
 #[test]
 fn tells_an_edge_too_many(rt: HostRuntime) {
-    for (edges, want) in [(65_536, Some((3, 65_536, None))), (65_537, None)] {
-        let disk = crowded_device(&rt, rt.alloc(), edges);
-        assert_opens(&rt, rt.alloc(), disk, want, "edges");
-    }
+    let alloc = rt.alloc();
+    let rt = &rt;
+    let most = crowded_device(rt, alloc, 65_536);
+    assert_opens(rt, alloc, most, Some((3, 65_536, None)), "edges");
+    let more = crowded_device(rt, alloc, 65_537);
+    assert_opens(rt, alloc, more, None, "edges");
+}
+
+// A device of so many bytes, with the header and the first slot of a store for five nodes.
+fn sized(rt: &impl Abort, alloc: Global, len: usize) -> MemDisk {
+    let mut disk = blank(rt, alloc, len);
+    put_text(rt, &mut disk, 0, "545a4e4f4445 3032 0005");
+    put_slot(rt, &mut disk, FIRST_SLOT, (1, 1, 0, 5));
+    disk
 }
 
 #[test]
 fn tells_a_device_of_another_length(rt: HostRuntime) {
-    for (len, want) in [(3_158_016, Some((0, 0, None))), (3_158_017, None)] {
-        let mut disk = blank(&rt, rt.alloc(), len);
-        put_text(&rt, &mut disk, 0, "545a4e4f4445 3032 0005");
-        put_slot(&rt, &mut disk, FIRST_SLOT, (1, 1, 0, 5));
-        assert_opens(&rt, rt.alloc(), disk, want, "length");
-    }
+    let alloc = rt.alloc();
+    let rt = &rt;
+    let disk = sized(rt, alloc, 3_158_016);
+    assert_opens(rt, alloc, disk, Some((0, 0, None)), "length");
+    let longer = sized(rt, alloc, 3_158_017);
+    assert_opens(rt, alloc, longer, None, "length");
 }
 
 // A byte of the device with one edge, and what is opened where it is another.
@@ -263,22 +288,21 @@ const BYTES: [(&str, usize, u8, Option<Shown>); 24] = [
 
 #[test]
 fn tells_damage_by_one_byte(rt: HostRuntime) {
+    let alloc = rt.alloc();
+    let rt = &rt;
     for (name, at, byte, want) in &BYTES {
-        let disk = spoilt(&rt, with_edge(&rt, rt.alloc()), *at, *byte);
-        assert_opens(&rt, rt.alloc(), disk, *want, name);
+        let disk = spoilt_edge(rt, alloc, *at, *byte);
+        assert_opens(rt, alloc, disk, *want, name);
     }
-    let disk = spoilt(&rt, with_edge(&rt, rt.alloc()), 532_501, 4);
-    same(
-        &rt,
-        shown(&opened(&rt, rt.alloc(), disk), 0, 4),
-        (1, 1, Some(1)),
-        "an edge to node 4",
-    );
-    let equal = spoilt(
-        &rt,
-        spoilt(&rt, with_edge(&rt, rt.alloc()), 1_581_056, 1),
-        1_581_064,
-        1,
-    );
-    assert_opens(&rt, rt.alloc(), equal, None, "equal epochs");
+    let disk = spoilt_edge(rt, alloc, 532_501, 4);
+    let name = "an edge to node 4";
+    opens(rt, alloc, disk, (0, 4), (1, 1, Some(1)), name);
+    let disk = spoilt_edge(rt, alloc, 1_581_056, 1);
+    let equal = spoilt(rt, disk, 1_581_064, 1);
+    assert_opens(rt, alloc, equal, None, "equal epochs");
+}
+
+// The device with one edge, with one byte changed.
+fn spoilt_edge(rt: &impl Abort, alloc: Global, at: usize, byte: u8) -> MemDisk {
+    spoilt(rt, with_edge(rt, alloc), at, byte)
 }

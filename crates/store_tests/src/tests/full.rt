@@ -9,123 +9,87 @@ fn full_device(rt: &impl Abort, alloc: Global) -> Store<MemDisk> {
     let mut group = Vec::new(alloc);
     got(rt, group.push(request(rt, 0, 1, &ops)));
     add_requests(rt, &mut group, 2, 63, 16);
-    same(
-        rt,
-        commit(rt, alloc, &mut store, &group),
-        Ok(()),
-        "the first group",
-    );
+    answers(rt, alloc, &mut store, &group, Ok(()), "the first group");
     for i in 1..106u64 {
-        group.clear();
-        add_requests(rt, &mut group, 1 + 64 * i, 64, 16);
-        same(rt, commit(rt, alloc, &mut store, &group), Ok(()), "a group");
+        takes(rt, alloc, &mut store, &[(1 + 64 * i, 64, 16)]);
     }
     store
 }
 
 #[test]
 fn fills_a_journal(rt: HostRuntime) {
-    let store = full_device(&rt, rt.alloc());
-    same(
-        &rt,
-        (shown(&store, 0, 1), store.resume(0)),
-        ((6784, 1, Some(1)), 6784),
-        "full",
-    );
+    let alloc = rt.alloc();
+    let rt = &rt;
+    let store = full_device(rt, alloc);
+    shows_last(rt, &store, 6784, "full");
     // the last record of 9,863 bytes, and the next gate at 1,045,478 of the area
     let mut disk = store.into_disk();
     shows(
-        &rt,
+        rt,
         &mut disk,
         1_568_095,
         "01 00002682 0040 00 0000000000001a41 10",
     );
-    shows(&rt, &mut disk, 1_577_958, "00")
+    ends_in(rt, disk, 1_577_958, "00")
+}
+
+// The count and the last ticket of session 0 are one number, and the edge 0-1 is the only one.
+fn shows_last(rt: &impl Abort, store: &Store<MemDisk>, last: u64, name: &str) {
+    has(rt, store, (0, 1), (last, 1, Some(1)), name);
+    same(rt, store.resume(0), last, name);
 }
 
 // 22 requests with 319 ops, 3,098 bytes.
-fn group_past_the_end(rt: &impl Abort, alloc: Global) -> Vec<Request> {
-    let mut group = Vec::new(alloc);
-    add_requests(rt, &mut group, 6785, 19, 16);
-    add_requests(rt, &mut group, 6804, 1, 13);
-    add_requests(rt, &mut group, 6805, 2, 1);
-    group
-}
+const PAST_THE_END: [(u64, u64, usize); 3] = [(6785, 19, 16), (6804, 1, 13), (6805, 2, 1)];
 
 #[test]
 fn a_full_journal_needs_a_roll(rt: HostRuntime) {
-    let mut disk = full_device(&rt, rt.alloc()).into_disk();
-    let before = digest(&rt, &mut disk);
-    let mut store = opened(&rt, rt.alloc(), disk);
-    let group = group_past_the_end(&rt, rt.alloc());
-    let answer = commit(&rt, rt.alloc(), &mut store, &group);
-    same(&rt, answer, Err(CommitRefused::NeedsRoll), "past the end");
-    let found = (shown(&store, 0, 1), store.resume(0), store.is_down());
-    same(
-        &rt,
-        found,
-        ((6784, 1, Some(1)), 6784, false),
-        "past the end",
-    );
-    same(
-        &rt,
-        digest(&rt, &mut store.into_disk()),
-        before,
-        "past the end",
-    );
+    let alloc = rt.alloc();
+    let rt = &rt;
+    let mut disk = full_device(rt, alloc).into_disk();
+    let before = digest(rt, &mut disk);
+    let mut store = opened(rt, alloc, disk);
+    finds_no_room(rt, alloc, &mut store);
+    ends_as(rt, store.into_disk(), before, "past the end");
+}
+
+fn finds_no_room(rt: &impl Abort, alloc: Global, store: &mut Store<MemDisk>) {
+    let group = runs_of(rt, alloc, &PAST_THE_END);
+    let want = Err(CommitRefused::NeedsRoll);
+    answers(rt, alloc, store, &group, want, "past the end");
+    shows_last(rt, store, 6784, "past the end");
+    same(rt, store.is_down(), false, "past the end");
 }
 
 #[test]
 fn a_rolled_journal_takes_the_group(rt: HostRuntime) {
-    let mut store = full_device(&rt, rt.alloc());
-    rolls(&rt, rt.alloc(), &mut store);
-    let group = group_past_the_end(&rt, rt.alloc());
-    same(
-        &rt,
-        commit(&rt, rt.alloc(), &mut store, &group),
-        Ok(()),
-        "rolled",
-    );
-    same(
-        &rt,
-        (shown(&store, 0, 1), store.resume(0)),
-        ((6806, 1, Some(1)), 6806),
-        "rolled",
-    );
+    let alloc = rt.alloc();
+    let rt = &rt;
+    let mut store = full_device(rt, alloc);
+    rolls(rt, alloc, &mut store);
+    takes(rt, alloc, &mut store, &PAST_THE_END);
+    shows_last(rt, &store, 6806, "rolled");
     let mut disk = store.into_disk();
-    shows(&rt, &mut disk, SECOND_AREA, "01 00000c15 0016");
-    let store = opened(&rt, rt.alloc(), disk);
-    same(
-        &rt,
-        (shown(&store, 0, 1), store.resume(0)),
-        ((6806, 1, Some(1)), 6806),
-        "opened",
-    );
+    shows(rt, &mut disk, SECOND_AREA, "01 00000c15 0016");
+    ends_at_last(rt, opened(rt, alloc, disk), 6806, "opened");
+}
+
+fn ends_at_last(rt: &impl Abort, store: Store<MemDisk>, last: u64, name: &str) {
+    shows_last(rt, &store, last, name)
 }
 
 #[test]
 fn a_group_fits_by_one_byte(rt: HostRuntime) {
-    let mut store = full_device(&rt, rt.alloc());
+    let alloc = rt.alloc();
+    let rt = &rt;
+    let mut store = full_device(rt, alloc);
     // 21 requests with 320 ops, 3,097 bytes
-    let mut group = Vec::new(rt.alloc());
-    add_requests(&rt, &mut group, 6785, 19, 16);
-    add_requests(&rt, &mut group, 6804, 2, 8);
-    same(
-        &rt,
-        commit(&rt, rt.alloc(), &mut store, &group),
-        Ok(()),
-        "fits",
-    );
+    takes(rt, alloc, &mut store, &[(6785, 19, 16), (6804, 2, 8)]);
     let mut disk = store.into_disk();
     // the record's gate, and the next one in the last byte of the area, 1,048,575
-    shows(&rt, &mut disk, 1_577_958, "01 00000c14 0015");
-    shows(&rt, &mut disk, 1_581_055, "00 00");
-    same(
-        &rt,
-        shown(&opened(&rt, rt.alloc(), disk), 0, 1),
-        (6805, 1, Some(1)),
-        "opened",
-    );
+    shows(rt, &mut disk, 1_577_958, "01 00000c14 0015");
+    shows(rt, &mut disk, 1_581_055, "00 00");
+    opens(rt, alloc, disk, (0, 1), (6805, 1, Some(1)), "opened");
 }
 
 // 64 requests, from each of so many nodes to the 16 nodes behind 16,367.
@@ -143,42 +107,38 @@ fn add_edges(rt: &impl Abort, group: &mut Vec<Request>, first: u16) {
 fn crowded(rt: &impl Abort, alloc: Global) -> Store<MemDisk> {
     let mut store = opened(rt, alloc, formatted(rt, alloc, 16_384));
     for first in (0..4096u16).step_by(64) {
-        let mut group = Vec::new(alloc);
-        add_edges(rt, &mut group, first);
-        same(rt, commit(rt, alloc, &mut store, &group), Ok(()), "edges");
+        takes_edges(rt, alloc, &mut store, first);
     }
     store
 }
 
+fn takes_edges(rt: &impl Abort, alloc: Global, store: &mut Store<MemDisk>, first: u16) {
+    let mut group = Vec::new(alloc);
+    add_edges(rt, &mut group, first);
+    answers(rt, alloc, store, &group, Ok(()), "edges");
+}
+
+// The nodes of the first edge and of the last one.
+const FIRST: (u16, u16) = (0, 16_368);
+
+const LAST: (u16, u16) = (4095, 16_383);
+
 #[test]
 fn rolls_the_most_edges(rt: HostRuntime) {
-    let mut store = crowded(&rt, rt.alloc());
-    same(
-        &rt,
-        shown(&store, 4095, 16_383),
-        (4096, 65_536, Some(16)),
-        "edges",
-    );
-    rolls(&rt, rt.alloc(), &mut store);
+    let alloc = rt.alloc();
+    let rt = &rt;
+    let mut store = crowded(rt, alloc);
+    has(rt, &store, LAST, (4096, 65_536, Some(16)), "edges");
+    rolls(rt, alloc, &mut store);
     let mut disk = store.into_disk();
     // gate, epoch 2, count, nodes, number of edges, the tickets of sessions 0 and 1; the first edge; and the last, which ends 524,823
     // bytes behind the slot's start
     let front =
         "01 0000000000000002 0000000000001000 4000 00010000 0000000000000000 0000000000001000";
-    shows(&rt, &mut disk, SECOND_SLOT, front);
-    shows(&rt, &mut disk, SECOND_EDGES, "0000 3ff0 00000001");
-    shows(&rt, &mut disk, 2_105_871, "0fff 3fff 00000010 00");
-    let store = opened(&rt, rt.alloc(), disk);
-    same(
-        &rt,
-        shown(&store, 0, 16_368),
-        (4096, 65_536, Some(1)),
-        "opened",
-    );
-    same(
-        &rt,
-        shown(&store, 4095, 16_383),
-        (4096, 65_536, Some(16)),
-        "opened",
-    );
+    shows(rt, &mut disk, SECOND_SLOT, front);
+    shows(rt, &mut disk, SECOND_EDGES, "0000 3ff0 00000001");
+    shows(rt, &mut disk, 2_105_871, "0fff 3fff 00000010 00");
+    let store = opened(rt, alloc, disk);
+    has(rt, &store, FIRST, (4096, 65_536, Some(1)), "opened");
+    ends(rt, store, LAST, (4096, 65_536, Some(16)), "opened");
 }

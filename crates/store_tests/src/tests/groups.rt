@@ -14,6 +14,10 @@ fn largest_group(rt: &impl Abort, alloc: Global) -> Vec<Request> {
     group
 }
 
+const DEVICE: Result<(), CommitRefused> = Err(CommitRefused::Device);
+
+const DOWN: Result<(), CommitRefused> = Err(CommitRefused::Down);
+
 // Commits the group to a device with one edge by a plan that counts its calls, which has to stop it; and the disk after that.
 fn stopped(
     rt: &impl Abort,
@@ -24,35 +28,16 @@ fn stopped(
 ) -> MemDisk {
     let mut store = opened(rt, alloc, disk);
     store.arm(plan);
-    same(
-        rt,
-        commit(rt, alloc, &mut store, group),
-        Err(CommitRefused::Device),
-        "stopped",
-    );
-    same(
-        rt,
-        (shown(&store, 0, 1), store.is_down()),
-        ((1, 1, Some(1)), true),
-        "stopped",
-    );
-    same(
-        rt,
-        commit(rt, alloc, &mut store, group),
-        Err(CommitRefused::Down),
-        "again",
-    );
-    same(
-        rt,
-        roll(alloc, &mut store),
-        Err(RollRefused::Down),
-        "rolled",
-    );
+    answers(rt, alloc, &mut store, group, DEVICE, "stopped");
+    has(rt, &store, (0, 1), (1, 1, Some(1)), "stopped");
+    same(rt, store.is_down(), true, "stopped");
+    answers(rt, alloc, &mut store, group, DOWN, "again");
+    rolls_not(rt, alloc, &mut store, RollRefused::Down, "rolled");
     store.into_disk()
 }
 
-// The store that a crash leaves, which shows the old count or the whole group.
-fn left(rt: &impl Abort, alloc: Global, disk: MemDisk, word: u64) -> Store<MemDisk> {
+// The store that a crash leaves, which has this count and shows the old state or the whole group.
+fn left(rt: &impl Abort, alloc: Global, disk: MemDisk, word: u64, count: u64) -> Store<MemDisk> {
     let store = opened(rt, alloc, disk.crash(word));
     let found = (
         shown(&store, 0, 1),
@@ -65,55 +50,73 @@ fn left(rt: &impl Abort, alloc: Global, disk: MemDisk, word: u64) -> Store<MemDi
         ((65, 2, Some(64)), Some(7), 1064)
     };
     same(rt, found, want, "after a crash");
+    same(rt, store.count(), count, "the count after a crash");
     store
+}
+
+// Stops the first call of a commit behind each of so many bytes, from and to, with a crash after each; and the device after that.
+fn body_stops(
+    rt: &impl Abort,
+    alloc: Global,
+    disk: MemDisk,
+    group: &[Request],
+    ends: (usize, usize),
+    word: u64,
+) -> MemDisk {
+    let mut disk = disk;
+    for put_bytes in ends.0..ends.1 {
+        disk = stopped(rt, alloc, disk, group, Plan::Stop(1, put_bytes));
+        // before the gate's write
+        disk = left(rt, alloc, disk, word, 1).into_disk();
+        // the same device again, so what was torn is zeros
+        put(rt, &mut disk, 532_507, &[0; 9863]);
+    }
+    disk
+}
+
+// The group is committed whole.
+fn goes_in(rt: &impl Abort, alloc: Global, disk: MemDisk, group: &[Request]) {
+    let mut store = opened(rt, alloc, disk);
+    answers(rt, alloc, &mut store, group, Ok(()), "whole");
+    ends(rt, store, (0, 1), (65, 2, Some(64)), "whole");
 }
 
 #[test]
 fn the_largest_body_stops_at_its_ends(rt: HostRuntime) {
-    let group = largest_group(&rt, rt.alloc());
-    for word in WORDS {
-        let mut disk = with_edge(&rt, rt.alloc());
+    let alloc = rt.alloc();
+    let rt = &rt;
+    let group = largest_group(rt, alloc);
+    for word in &WORDS {
+        let disk = with_edge(rt, alloc);
         // The first call writes 4 bytes of length, 9,858 of payload, and the next gate: none to 64 bytes, and all but 64 to all of them
-        for (from, to) in [(0usize, 65usize), (9799, 9864)] {
-            for put_bytes in from..to {
-                let plan = Plan::Stop(1, put_bytes);
-                let store = left(
-                    &rt,
-                    rt.alloc(),
-                    stopped(&rt, rt.alloc(), disk, &group, plan),
-                    word,
-                );
-                same(&rt, store.count(), 1, "before the gate's write");
-                disk = store.into_disk();
-                // the same device again, so what was torn is zeros
-                put(&rt, &mut disk, 532_507, &[0; 9863]);
-            }
-        }
-        let mut store = opened(&rt, rt.alloc(), disk);
-        same(
-            &rt,
-            commit(&rt, rt.alloc(), &mut store, &group),
-            Ok(()),
-            "whole",
-        );
-        same(&rt, shown(&store, 0, 1), (65, 2, Some(64)), "whole");
+        let disk = body_stops(rt, alloc, disk, &group, (0, 65), *word);
+        let disk = body_stops(rt, alloc, disk, &group, (9799, 9864), *word);
+        goes_in(rt, alloc, disk, &group);
+    }
+}
+
+// The sync of the body, the gate's write before and behind its byte, the gate's sync; and the counts by the words.
+const BEHIND: [(Plan, [u64; 5]); 4] = [
+    (Plan::Stop(2, 0), [1, 1, 1, 1, 1]),
+    (Plan::Stop(3, 0), [1, 1, 1, 1, 65]),
+    (Plan::Stop(3, 1), [1, 65, 1, 1, 65]),
+    (Plan::Stop(4, 0), [1, 65, 1, 1, 65]),
+];
+
+// Stops a commit by a plan, and sees its count after a crash by each of the words.
+fn record_stops(rt: &impl Abort, alloc: Global, group: &[Request], plan: Plan, counts: &[u64; 5]) {
+    for (word, count) in WORDS.iter().zip(counts.iter()) {
+        let disk = stopped(rt, alloc, with_edge(rt, alloc), group, plan);
+        let _disk = left(rt, alloc, disk, *word, *count).into_disk();
     }
 }
 
 #[test]
 fn the_largest_record_stops_behind_its_body(rt: HostRuntime) {
-    let group = largest_group(&rt, rt.alloc());
-    // the sync of the body, the gate's write before and behind its byte, the gate's sync; and the counts by the words
-    for (plan, counts) in [
-        (Plan::Stop(2, 0), [1, 1, 1, 1, 1]),
-        (Plan::Stop(3, 0), [1, 1, 1, 1, 65]),
-        (Plan::Stop(3, 1), [1, 65, 1, 1, 65]),
-        (Plan::Stop(4, 0), [1, 65, 1, 1, 65]),
-    ] {
-        for (word, count) in WORDS.iter().zip(counts.iter()) {
-            let disk = stopped(&rt, rt.alloc(), with_edge(&rt, rt.alloc()), &group, plan);
-            let store = left(&rt, rt.alloc(), disk, *word);
-            same(&rt, store.count(), *count, "behind the body");
-        }
+    let alloc = rt.alloc();
+    let rt = &rt;
+    let group = largest_group(rt, alloc);
+    for (plan, counts) in &BEHIND {
+        record_stops(rt, alloc, &group, *plan, counts);
     }
 }

@@ -78,21 +78,40 @@ pub(super) fn opened(rt: &impl Abort, alloc: Global, disk: MemDisk) -> Store<Mem
 }
 
 // Why a device can't be opened.
-pub(super) fn refusal(alloc: Global, disk: MemDisk) -> Option<OpenRefused> {
+fn refusal(alloc: Global, disk: MemDisk) -> Option<OpenRefused> {
     match open_again(alloc, disk) {
         Ok(_) => None,
         Err((refused, _)) => Some(refused),
     }
 }
 
+// Sees why a device can't be opened.
+pub(super) fn is_refused(
+    rt: &impl Abort,
+    alloc: Global,
+    disk: MemDisk,
+    want: OpenRefused,
+    name: &str,
+) {
+    same(rt, refusal(alloc, disk), Some(want), name);
+}
+
+// Formats a device.
+pub(super) fn formats(
+    rt: &impl Abort,
+    disk: &mut MemDisk,
+    nodes: u16,
+    want: Result<(), FormatRefused>,
+    name: &str,
+) {
+    same(rt, format(disk, nodes), want, name);
+}
+
 // The first bytes of a device, as a device of its own.
 pub(super) fn cut_to(rt: &impl Abort, alloc: Global, disk: MemDisk, len: usize) -> MemDisk {
+    let mut bytes = got(rt, vec![in alloc; 0; len]);
     let mut disk = disk;
-    assert!(rt; len <= disk.len());
-    let Ok(mut bytes) = vec![in alloc; 0; len] else {
-        panic!(rt; "no memory");
-    };
-    got(rt, disk.read(0, bytes.as_mut_slice()));
+    reads(rt, &mut disk, 0, bytes.as_mut_slice());
     let mut front = blank(rt, alloc, len);
     put(rt, &mut front, 0, bytes.as_slice());
     front
@@ -227,6 +246,35 @@ pub(super) fn commit(
     }
 }
 
+// Sees what a commit answers.
+pub(super) fn answers(
+    rt: &impl Abort,
+    alloc: Global,
+    store: &mut Store<MemDisk>,
+    requests: &[Request],
+    want: Result<(), CommitRefused>,
+    name: &str,
+) {
+    same(rt, commit(rt, alloc, store, requests), want, name);
+}
+
+// Runs of requests of session 0: the first ticket, how many requests, and how many ops each.
+pub(super) type Runs<'a> = &'a [(u64, u64, usize)];
+
+pub(super) fn runs_of(rt: &impl Abort, alloc: Global, runs: Runs<'_>) -> Vec<Request> {
+    let mut group = Vec::new(alloc);
+    for (ticket, changes, ops) in runs {
+        add_requests(rt, &mut group, *ticket, *changes, *ops);
+    }
+    group
+}
+
+// A group of such runs is committed.
+pub(super) fn takes(rt: &impl Abort, alloc: Global, store: &mut Store<MemDisk>, runs: Runs<'_>) {
+    let group = runs_of(rt, alloc, runs);
+    answers(rt, alloc, store, &group, Ok(()), "a group");
+}
+
 // What a commit of a list of ops answers.
 pub(super) fn answer_to(
     rt: &impl Abort,
@@ -238,7 +286,19 @@ pub(super) fn answer_to(
     commit(rt, alloc, store, &group)
 }
 
-// The same, where the answer is Ok.
+// Sees that a commit of a list of ops is refused.
+pub(super) fn refuses(
+    rt: &impl Abort,
+    alloc: Global,
+    store: &mut Store<MemDisk>,
+    asked: &[Asked],
+    want: CommitRefused,
+    name: &str,
+) {
+    same(rt, answer_to(rt, alloc, store, asked), Err(want), name);
+}
+
+// Commits a list of ops.
 pub(super) fn commits(rt: &impl Abort, alloc: Global, store: &mut Store<MemDisk>, asked: &[Asked]) {
     got(rt, answer_to(rt, alloc, store, asked));
 }
@@ -255,6 +315,17 @@ pub(super) fn rolls(rt: &impl Abort, alloc: Global, store: &mut Store<MemDisk>) 
     got(rt, roll(alloc, store));
 }
 
+// Sees that a roll is refused.
+pub(super) fn rolls_not(
+    rt: &impl Abort,
+    alloc: Global,
+    store: &mut Store<MemDisk>,
+    want: RollRefused,
+    name: &str,
+) {
+    same(rt, roll(alloc, store), Err(want), name);
+}
+
 // A device for five nodes with one committed edge.
 pub(super) fn with_edge(rt: &impl Abort, alloc: Global) -> MemDisk {
     let mut store = opened(rt, alloc, formatted(rt, alloc, 5));
@@ -267,14 +338,58 @@ pub(super) fn shown(store: &Store<MemDisk>, a: u16, b: u16) -> Shown {
     (store.count(), graph.edges(), graph.weight(a, b))
 }
 
+// Sees that a store shows this of an edge.
+pub(super) fn has(
+    rt: &impl Abort,
+    store: &Store<MemDisk>,
+    nodes: (u16, u16),
+    want: Shown,
+    name: &str,
+) {
+    same(rt, shown(store, nodes.0, nodes.1), want, name);
+}
+
+// The same of a store that is used no more: a function that drops a store itself takes longer to prove.
+pub(super) fn ends(
+    rt: &impl Abort,
+    store: Store<MemDisk>,
+    nodes: (u16, u16),
+    want: Shown,
+    name: &str,
+) {
+    has(rt, &store, nodes, want, name)
+}
+
+// Opens a device, and sees that its store shows this of an edge.
+pub(super) fn opens(
+    rt: &impl Abort,
+    alloc: Global,
+    disk: MemDisk,
+    nodes: (u16, u16),
+    want: Shown,
+    name: &str,
+) {
+    ends(rt, opened(rt, alloc, disk), nodes, want, name)
+}
+
+// Opens the device of a store.
+pub(super) fn reopened(rt: &impl Abort, alloc: Global, store: Store<MemDisk>) -> Store<MemDisk> {
+    opened(rt, alloc, store.into_disk())
+}
+
 // ---- bytes
 
-pub(super) fn bytes<const N: usize>(rt: &impl Abort, disk: &mut MemDisk, at: usize) -> [u8; N] {
-    let mut bytes = [0; N];
-    if disk.len() < N || disk.len() - N < at {
+// Reads bytes of a device.
+fn reads(rt: &impl Abort, disk: &mut MemDisk, at: usize, bytes: &mut [u8]) {
+    if disk.len() < bytes.len() || disk.len() - bytes.len() < at {
         panic!(rt; "no bytes there");
     }
-    got(rt, disk.read(at, &mut bytes));
+    got(rt, disk.read(at, bytes));
+}
+
+fn bytes<const N: usize>(rt: &impl Abort, disk: &mut MemDisk, at: usize) -> [u8; N] {
+    let mut bytes = [0; N];
+    reads(rt, disk, at, &mut bytes);
     bytes
 }
 
@@ -329,10 +444,14 @@ pub(super) fn spoilt(rt: &impl Abort, disk: MemDisk, at: usize, byte: u8) -> Mem
 pub(super) fn shows(rt: &impl Abort, disk: &mut MemDisk, at: usize, text: &str) {
     let (want, len) = spelled(text);
     let mut found = [0; 64];
-    if disk.len() < len || disk.len() - len < at || disk.read(at, &mut found[..len]).is_err() {
-        panic!(rt; "no bytes there");
-    }
+    reads(rt, disk, at, &mut found[..len]);
     assert!(rt; found[..len] == want[..len], "{text} at {at}");
+}
+
+// The same of a device that is used no more.
+pub(super) fn ends_in(rt: &impl Abort, disk: MemDisk, at: usize, text: &str) {
+    let mut disk = disk;
+    shows(rt, &mut disk, at, text)
 }
 
 // Sees that a device has so many times eight zeros.
@@ -355,22 +474,19 @@ pub(super) struct Head {
 
 // Puts the head of the slot that begins at `at`.
 pub(super) fn put_head(rt: &impl Abort, disk: &mut MemDisk, at: usize, head: Head) {
-    let mut text = [head.gate; 23];
-    text[1..9].copy_from_slice(&head.epoch.to_be_bytes());
-    text[9..17].copy_from_slice(&head.count.to_be_bytes());
-    text[17..19].copy_from_slice(&head.nodes.to_be_bytes());
-    text[19..23].copy_from_slice(&head.edges.to_be_bytes());
-    put(rt, disk, at, &text);
+    put(rt, disk, at, &[head.gate]);
+    put(rt, disk, at.wrapping_add(1), &head.epoch.to_be_bytes());
+    put(rt, disk, at.wrapping_add(9), &head.count.to_be_bytes());
+    put(rt, disk, at.wrapping_add(17), &head.nodes.to_be_bytes());
+    put(rt, disk, at.wrapping_add(19), &head.edges.to_be_bytes());
 }
 
 // Puts an edge, its nodes as they are given.
 pub(super) fn put_edge(rt: &impl Abort, disk: &mut MemDisk, at: usize, edge: Edge) {
     let (a, b, weight) = edge;
-    let mut text = [0; 8];
-    text[..2].copy_from_slice(&a.to_be_bytes());
-    text[2..4].copy_from_slice(&b.to_be_bytes());
-    text[4..].copy_from_slice(&weight.to_be_bytes());
-    put(rt, disk, at, &text);
+    put(rt, disk, at, &a.to_be_bytes());
+    put(rt, disk, at.wrapping_add(2), &b.to_be_bytes());
+    put(rt, disk, at.wrapping_add(4), &weight.to_be_bytes());
 }
 
 // The store of a device, or none where it is damaged; no other refusal may be the answer.
@@ -413,4 +529,10 @@ pub(super) fn digest(rt: &impl Abort, disk: &mut MemDisk) -> u64 {
         }
     }
     digest
+}
+
+// Sees that a device that is used no more has the bytes of this digest.
+pub(super) fn ends_as(rt: &impl Abort, disk: MemDisk, before: u64, name: &str) {
+    let mut disk = disk;
+    same(rt, digest(rt, &mut disk), before, name);
 }

@@ -41,7 +41,7 @@ fn used_device(rt: &impl Abort, alloc: Global) -> MemDisk {
 
 // What the store of such a device shows.
 fn assert_used(rt: &impl Abort, store: &Store<MemDisk>) {
-    same(rt, shown(store, 0, 1), (5, 5, Some(9)), "used");
+    has(rt, store, (0, 1), (5, 5, Some(9)), "used");
     let graph = store.graph();
     let pairs = [(0, 2), (0, 3), (5, 6), (4, 5), (3, 4)];
     let found = pairs.map(|(a, b)| graph.weight(a, b));
@@ -65,18 +65,27 @@ fn untouched(rt: &impl Abort, disk: MemDisk, before: u64) -> MemDisk {
 
 #[test]
 fn an_opening_without_memory_is_made_again(rt: HostRuntime) {
-    let mut disk = used_device(&rt, rt.alloc());
-    same(&rt, disk.sync().is_ok(), true, "synced");
-    let before = digest(&rt, &mut disk);
-    let store = match Store::open(rt.alloc(), disk) {
+    let alloc = rt.alloc();
+    let rt = &rt;
+    let mut disk = used_device(rt, alloc);
+    same(rt, disk.sync().is_ok(), true, "synced");
+    let before = digest(rt, &mut disk);
+    ends_used(rt, opened_again(rt, alloc, disk, before));
+}
+
+// The store of a device of this digest, opened again where memory was refused.
+fn opened_again(rt: &impl Abort, alloc: Global, disk: MemDisk, before: u64) -> Store<MemDisk> {
+    match Store::open(alloc, disk) {
         Ok(store) => store,
         Err((refused, disk)) => {
-            same(&rt, refused, OpenRefused::Memory, "refused");
-            let disk = untouched(&rt, disk, before);
-            got(&rt, Store::open(rt.alloc(), disk))
+            same(rt, refused, OpenRefused::Memory, "refused");
+            got(rt, Store::open(alloc, untouched(rt, disk, before)))
         }
-    };
-    assert_used(&rt, &store);
+    }
+}
+
+fn ends_used(rt: &impl Abort, store: Store<MemDisk>) {
+    assert_used(rt, &store)
 }
 
 // The store after a refusal: the same, or that of the device as it was left.
@@ -106,7 +115,7 @@ const GROUP: [Asked; 5] = [
 ];
 
 fn assert_committed(rt: &impl Abort, store: &Store<MemDisk>) {
-    same(rt, shown(store, 0, 4), (8, 7, Some(3)), "committed");
+    has(rt, store, (0, 4), (8, 7, Some(3)), "committed");
     let graph = store.graph();
     let found = [(7, 8), (1, 2), (0, 2)].map(|(a, b)| graph.weight(a, b));
     same(rt, found, [Some(1_000_000), Some(2), None], "committed");
@@ -118,16 +127,37 @@ fn commits_again(rt: &impl Abort, alloc: Global, reopens: bool) {
     let mut disk = used_device(rt, alloc);
     let before = digest(rt, &mut disk);
     let group = group_again(rt, alloc, &GROUP);
-    let mut store = opened(rt, alloc, disk);
-    let mut answer = commit_once(rt, alloc, &mut store, &group);
+    let store = takes_again(
+        rt,
+        alloc,
+        opened(rt, alloc, disk),
+        &group,
+        (before, reopens),
+    );
+    ends_committed(rt, reopened(rt, alloc, store));
+}
+
+// The store, or the one that is opened where memory was refused, with the group committed.
+fn takes_again(
+    rt: &impl Abort,
+    alloc: Global,
+    store: Store<MemDisk>,
+    group: &[Request],
+    left: (u64, bool),
+) -> Store<MemDisk> {
+    let mut store = store;
+    let answer = commit_once(rt, alloc, &mut store, group);
     if answer.is_err() {
         same(rt, answer, Err(CommitRefused::Memory), "refused");
-        store = after_refusal(rt, alloc, store, before, reopens);
-        answer = commit_once(rt, alloc, &mut store, &group);
+        store = after_refusal(rt, alloc, store, left.0, left.1);
+        got(rt, commit_once(rt, alloc, &mut store, group));
     }
-    same(rt, answer, Ok(()), "committed");
     assert_committed(rt, &store);
-    assert_committed(rt, &opened(rt, alloc, store.into_disk()));
+    store
+}
+
+fn ends_committed(rt: &impl Abort, store: Store<MemDisk>) {
+    assert_committed(rt, &store)
 }
 
 #[test]
@@ -144,21 +174,32 @@ fn a_commit_without_memory_writes_nothing(rt: HostRuntime) {
 fn rolls_again(rt: &impl Abort, alloc: Global, reopens: bool) {
     let mut disk = used_device(rt, alloc);
     let before = digest(rt, &mut disk);
-    let mut store = opened(rt, alloc, disk);
-    let mut answer = store.roll(alloc);
-    if answer.is_err() {
-        same(rt, answer, Err(RollRefused::Memory), "refused");
-        store = after_refusal(rt, alloc, store, before, reopens);
-        answer = store.roll(alloc);
-    }
-    same(rt, answer, Ok(()), "rolled");
-    assert_used(rt, &store);
+    let store = rolled_again(rt, alloc, opened(rt, alloc, disk), before, reopens);
     let mut disk = store.into_disk();
     // an open gate, epoch 3, count 5, nodes 9, five edges, ticket 3 of session 0; and the first edge, 0-1 of weight 9
     let front = "01 0000000000000003 0000000000000005 0009 00000005 0000000000000003";
     shows(rt, &mut disk, FIRST_SLOT, front);
     shows(rt, &mut disk, FIRST_EDGES, "0000 0001 00000009");
-    assert_used(rt, &opened(rt, alloc, disk));
+    ends_used(rt, opened(rt, alloc, disk));
+}
+
+// The store, or the one that is opened where memory was refused, after a roll.
+fn rolled_again(
+    rt: &impl Abort,
+    alloc: Global,
+    store: Store<MemDisk>,
+    before: u64,
+    reopens: bool,
+) -> Store<MemDisk> {
+    let mut store = store;
+    let answer = store.roll(alloc);
+    if answer.is_err() {
+        same(rt, answer, Err(RollRefused::Memory), "refused");
+        store = after_refusal(rt, alloc, store, before, reopens);
+        got(rt, store.roll(alloc));
+    }
+    assert_used(rt, &store);
+    store
 }
 
 #[test]
@@ -174,6 +215,8 @@ fn a_roll_without_memory_writes_nothing(rt: HostRuntime) {
 // Helpers that ask again, over one store.
 #[test]
 fn answers_after_a_want_of_memory(rt: HostRuntime) {
-    let store = opened(&rt, rt.alloc(), with_edge(&rt, rt.alloc()));
-    same(&rt, shown(&store, 0, 1), (1, 1, Some(1)), "one edge");
+    let alloc = rt.alloc();
+    let rt = &rt;
+    let disk = with_edge(rt, alloc);
+    opens(rt, alloc, disk, (0, 1), (1, 1, Some(1)), "one edge");
 }

@@ -28,12 +28,7 @@ const CUTS: [(usize, OpenRefused); 3] = [
 fn tells_the_sync(rt: &impl Abort, alloc: Global, disk: MemDisk) {
     let mut disk = disk;
     disk.fail_at(1);
-    same(
-        rt,
-        refusal(alloc, disk),
-        Some(OpenRefused::Device),
-        "a sync that fails",
-    );
+    is_refused(rt, alloc, disk, OpenRefused::Device, "a sync that fails");
 }
 
 // A device of so many bytes that begins with what a text spells.
@@ -45,16 +40,18 @@ fn begun(rt: &impl Abort, alloc: Global, len: usize, text: &str) -> MemDisk {
 
 #[test]
 fn refuses_what_is_no_store(rt: HostRuntime) {
+    let alloc = rt.alloc();
+    let rt = &rt;
     for (len, text, want) in &NO_STORES {
-        let disk = begun(&rt, rt.alloc(), *len, text);
-        same(&rt, refusal(rt.alloc(), disk), Some(*want), text);
-        tells_the_sync(&rt, rt.alloc(), begun(&rt, rt.alloc(), *len, text));
+        let disk = begun(rt, alloc, *len, text);
+        is_refused(rt, alloc, disk, *want, text);
+        tells_the_sync(rt, alloc, begun(rt, alloc, *len, text));
     }
     for (len, want) in &CUTS {
-        let cut = cut_to(&rt, rt.alloc(), with_edge(&rt, rt.alloc()), *len);
-        same(&rt, refusal(rt.alloc(), cut), Some(*want), "cut");
-        let cut = cut_to(&rt, rt.alloc(), with_edge(&rt, rt.alloc()), *len);
-        tells_the_sync(&rt, rt.alloc(), cut);
+        let cut = cut_to(rt, alloc, with_edge(rt, alloc), *len);
+        is_refused(rt, alloc, cut, *want, "cut");
+        let cut = cut_to(rt, alloc, with_edge(rt, alloc), *len);
+        tells_the_sync(rt, alloc, cut);
     }
 }
 
@@ -78,14 +75,7 @@ fn long_device(rt: &impl Abort, alloc: Global) -> MemDisk {
     );
     rolls(rt, alloc, &mut store);
     for i in 0..8u64 {
-        let mut group = Vec::new(alloc);
-        add_requests(rt, &mut group, 2 + 64 * i, 64, 16);
-        same(
-            rt,
-            commit(rt, alloc, &mut store, &group),
-            Ok(()),
-            "a long device",
-        );
+        takes(rt, alloc, &mut store, &[(2 + 64 * i, 64, 16)]);
     }
     assert_long(rt, &store);
     store.into_disk()
@@ -116,22 +106,27 @@ fn stopped(rt: &impl Abort, alloc: Global, disk: MemDisk, plan: Plan, before: u6
     // a byte that was written and not synced would be 255 after this crash
     let mut disk = disk.crash(511);
     same(rt, digest(rt, &mut disk), before, "nothing is written");
-    let store = opened(rt, alloc, disk);
+    long_again(rt, opened(rt, alloc, disk))
+}
+
+// The device of a store that shows what the long one does.
+fn long_again(rt: &impl Abort, store: Store<MemDisk>) -> MemDisk {
     assert_long(rt, &store);
     store.into_disk()
 }
 
 #[test]
 fn each_call_of_a_long_opening_fails(rt: HostRuntime) {
-    let mut disk = long_device(&rt, rt.alloc());
-    let before = digest(&rt, &mut disk);
+    let alloc = rt.alloc();
+    let rt = &rt;
+    let mut disk = long_device(rt, alloc);
+    let before = digest(rt, &mut disk);
     // a sync, the header, two heads, the tickets, the edges, and the records in two parts
     for call in 1..9u64 {
-        for plan in [Plan::Fail(call), Plan::Stop(call, 0)] {
-            disk = stopped(&rt, rt.alloc(), disk, plan, before);
-        }
+        disk = stopped(rt, alloc, disk, Plan::Fail(call), before);
+        disk = stopped(rt, alloc, disk, Plan::Stop(call, 0), before);
     }
     // no call is left out, and none is made besides
     disk.fail_at(9);
-    assert_long(&rt, &opened(&rt, rt.alloc(), disk));
+    let _disk = long_again(rt, opened(rt, alloc, disk));
 }

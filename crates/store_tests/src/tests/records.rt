@@ -129,10 +129,12 @@ const RECORDS: [(&str, &str, Option<Shown>); 17] = [
 
 #[test]
 fn tells_damaged_records(rt: HostRuntime) {
+    let alloc = rt.alloc();
+    let rt = &rt;
     for (name, text, want) in &RECORDS {
-        let mut disk = one_edge(&rt, rt.alloc(), 3);
-        put_text(&rt, &mut disk, FIRST_AREA, text);
-        assert_opens(&rt, rt.alloc(), disk, *want, name);
+        let mut disk = one_edge(rt, alloc, 3);
+        put_text(rt, &mut disk, FIRST_AREA, text);
+        assert_opens(rt, alloc, disk, *want, name);
     }
 }
 
@@ -180,16 +182,18 @@ fn put_op(rt: &impl Abort, disk: &mut MemDisk, at: usize, kind: u8, edge: Edge) 
 
 #[test]
 fn tells_damaged_ops(rt: HostRuntime) {
+    let alloc = rt.alloc();
+    let rt = &rt;
     for (name, kind, edge, want) in &OPS {
-        let mut disk = one_edge(&rt, rt.alloc(), 3);
+        let mut disk = one_edge(rt, alloc, 3);
         put_text(
-            &rt,
+            rt,
             &mut disk,
             FIRST_AREA,
             "01 00000015 0001 00 0000000000000001 01",
         );
-        put_op(&rt, &mut disk, 532_497, *kind, *edge);
-        assert_opens(&rt, rt.alloc(), disk, *want, name);
+        put_op(rt, &mut disk, 532_497, *kind, *edge);
+        assert_opens(rt, alloc, disk, *want, name);
     }
 }
 
@@ -206,12 +210,14 @@ const SIZES: [(u16, u8, u8, Option<Shown>); 7] = [
 
 #[test]
 fn tells_too_many_requests_and_ops(rt: HostRuntime) {
+    let alloc = rt.alloc();
+    let rt = &rt;
     for (requests, ops, last, want) in &SIZES {
-        let mut disk = one_edge(&rt, rt.alloc(), 3);
-        let text = record(&rt, rt.alloc(), 1, &[(*requests, *ops)]);
-        put(&rt, &mut disk, FIRST_AREA, &text);
-        put(&rt, &mut disk, 532_484, &[*last]);
-        assert_opens(&rt, rt.alloc(), disk, *want, "requests and ops");
+        let mut disk = one_edge(rt, alloc, 3);
+        let text = record(rt, alloc, 1, &[(*requests, *ops)]);
+        put(rt, &mut disk, FIRST_AREA, &text);
+        put(rt, &mut disk, 532_484, &[*last]);
+        assert_opens(rt, alloc, disk, *want, "requests and ops");
     }
 }
 
@@ -240,11 +246,13 @@ fn two_records(rt: &impl Abort, alloc: Global, first: u16, second: u16) -> Vec<u
 
 #[test]
 fn tells_records_past_the_last_count(rt: HostRuntime) {
+    let alloc = rt.alloc();
+    let rt = &rt;
     for (below, first, second, want) in &BELOW {
-        let mut disk = one_edge(&rt, rt.alloc(), WORN_LIMIT.wrapping_sub(*below));
-        let text = two_records(&rt, rt.alloc(), *first, *second);
-        put(&rt, &mut disk, FIRST_AREA, &text);
-        assert_opens(&rt, rt.alloc(), disk, *want, "the last count");
+        let mut disk = one_edge(rt, alloc, WORN_LIMIT.wrapping_sub(*below));
+        let text = two_records(rt, alloc, *first, *second);
+        put(rt, &mut disk, FIRST_AREA, &text);
+        assert_opens(rt, alloc, disk, *want, "the last count");
     }
 }
 
@@ -265,38 +273,18 @@ fn ends_at(rt: &impl Abort, alloc: Global, runs: &[(u16, u8)], gate: usize, coun
     let store = opened(rt, alloc, nearly_full(rt, alloc, runs));
     same(rt, store.count(), count, "a closed gate");
     let disk = spoilt(rt, store.into_disk(), FIRST_AREA.wrapping_add(gate), 1);
-    same(
-        rt,
-        refusal(alloc, disk),
-        Some(OpenRefused::Damaged),
-        "an open gate",
-    );
+    is_refused(rt, alloc, disk, OpenRefused::Damaged, "an open gate");
 }
 
 #[test]
 fn tells_a_record_past_the_end(rt: HostRuntime) {
+    let alloc = rt.alloc();
+    let rt = &rt;
     // at the first of these places the next record's length just fits, at the others it passes the area's end
-    ends_at(
-        &rt,
-        rt.alloc(),
-        &[(19, 16), (1, 4), (6, 1)],
-        1_048_571,
-        6810,
-    );
-    ends_at(
-        &rt,
-        rt.alloc(),
-        &[(19, 16), (1, 2), (7, 1)],
-        1_048_572,
-        6811,
-    );
-    ends_at(&rt, rt.alloc(), &[(19, 16), (2, 8)], 1_048_575, 6805);
+    ends_at(rt, alloc, &[(19, 16), (1, 4), (6, 1)], 1_048_571, 6810);
+    ends_at(rt, alloc, &[(19, 16), (1, 2), (7, 1)], 1_048_572, 6811);
+    ends_at(rt, alloc, &[(19, 16), (2, 8)], 1_048_575, 6805);
     // one byte longer than the longest that fits: the next gate would be the other slot's
-    let disk = nearly_full(&rt, rt.alloc(), &[(19, 16), (1, 13), (2, 1)]);
-    same(
-        &rt,
-        refusal(rt.alloc(), disk),
-        Some(OpenRefused::Damaged),
-        "past the end",
-    );
+    let disk = nearly_full(rt, alloc, &[(19, 16), (1, 13), (2, 1)]);
+    is_refused(rt, alloc, disk, OpenRefused::Damaged, "past the end");
 }

@@ -1,92 +1,84 @@
 // Rolling: its bytes, its refusals, and every failure of the device inside a roll.
 use super::*;
 
+// 543 bytes: gate, epoch, count, nodes and number of edges, ticket 1 of session 0, those of the others, and the edge; and what stays.
+const ROLLED: [(usize, &str); 5] = [
+    (
+        1_581_056,
+        "01 0000000000000002 0000000000000001 0005 00000001 0000000000000001",
+    ),
+    (1_581_591, "0000 0001 00000001 00"),
+    (1_581_700, "00"),
+    (2_109_440, "00"),
+    (4096, "01"),
+];
+
 #[test]
 fn rolls_into_the_other_slot(rt: HostRuntime) {
+    let alloc = rt.alloc();
+    let rt = &rt;
     // what is left in the other slot from before counts for nothing
-    let disk = spoilt(&rt, with_edge(&rt, rt.alloc()), 1_581_700, 7);
-    let mut store = opened(&rt, rt.alloc(), spoilt(&rt, disk, 2_109_440, 1));
-    rolls(&rt, rt.alloc(), &mut store);
-    same(&rt, shown(&store, 0, 1), (1, 1, Some(1)), "rolled");
+    let disk = spoilt(rt, with_edge(rt, alloc), 1_581_700, 7);
+    let mut store = opened(rt, alloc, spoilt(rt, disk, 2_109_440, 1));
+    rolls(rt, alloc, &mut store);
+    has(rt, &store, (0, 1), (1, 1, Some(1)), "rolled");
     let mut disk = store.into_disk();
-    // 543 bytes: gate, epoch, count, nodes and number of edges, ticket 1 of session 0, those of the others, and the edge
-    let front = "01 0000000000000002 0000000000000001 0005 00000001 0000000000000001";
-    for (at, text) in [
-        (1_581_056, front),
-        (1_581_591, "0000 0001 00000001 00"),
-        (1_581_700, "00"),
-        (2_109_440, "00"),
-        (4096, "01"),
-    ] {
-        shows(&rt, &mut disk, at, text);
+    for (at, text) in &ROLLED {
+        shows(rt, &mut disk, *at, text);
     }
-    shows_zeros(&rt, &mut disk, 1_581_087, 63);
-    same(
-        &rt,
-        shown(&opened(&rt, rt.alloc(), disk), 0, 1),
-        (1, 1, Some(1)),
-        "opened",
-    );
+    shows_zeros(rt, &mut disk, 1_581_087, 63);
+    opens(rt, alloc, disk, (0, 1), (1, 1, Some(1)), "opened");
 }
 
 #[test]
 fn rolls_back_into_the_first_slot(rt: HostRuntime) {
-    let mut store = opened(&rt, rt.alloc(), with_edge(&rt, rt.alloc()));
-    rolls(&rt, rt.alloc(), &mut store);
-    let mut store = opened(&rt, rt.alloc(), store.into_disk());
-    rolls(&rt, rt.alloc(), &mut store);
+    let alloc = rt.alloc();
+    let rt = &rt;
+    let mut store = opened(rt, alloc, with_edge(rt, alloc));
+    rolls(rt, alloc, &mut store);
+    let mut store = reopened(rt, alloc, store);
+    rolls(rt, alloc, &mut store);
     let mut disk = store.into_disk();
-    shows(&rt, &mut disk, FIRST_SLOT, "01 0000000000000003");
-    shows(&rt, &mut disk, SECOND_SLOT, "01 0000000000000002");
-    same(
-        &rt,
-        shown(&opened(&rt, rt.alloc(), disk), 0, 1),
-        (1, 1, Some(1)),
-        "opened",
-    );
+    shows(rt, &mut disk, FIRST_SLOT, "01 0000000000000003");
+    shows(rt, &mut disk, SECOND_SLOT, "01 0000000000000002");
+    opens(rt, alloc, disk, (0, 1), (1, 1, Some(1)), "opened");
+}
+
+// A commit to this device writes nothing into the second slot.
+fn first_slot_stays(rt: &impl Abort, alloc: Global, disk: MemDisk) {
+    let mut store = opened(rt, alloc, disk);
+    commits(rt, alloc, &mut store, &[(0, 1, Op::Add(0, 1, 1))]);
+    shows_zeros(rt, &mut store.into_disk(), SECOND_SLOT, 68)
 }
 
 #[test]
 fn a_worn_epoch_stays(rt: HostRuntime) {
-    let mut disk = formatted(&rt, rt.alloc(), 5);
-    put_text(&rt, &mut disk, 4097, "7fffffffffffffff");
-    let before = digest(&rt, &mut disk);
-    let mut store = opened(&rt, rt.alloc(), disk);
-    same(
-        &rt,
-        roll(rt.alloc(), &mut store),
-        Err(RollRefused::Worn),
-        "worn",
-    );
-    same(&rt, store.is_down(), false, "worn");
+    let alloc = rt.alloc();
+    let rt = &rt;
+    let mut disk = formatted(rt, alloc, 5);
+    put_text(rt, &mut disk, 4097, "7fffffffffffffff");
+    let before = digest(rt, &mut disk);
+    let mut store = opened(rt, alloc, disk);
+    rolls_not(rt, alloc, &mut store, RollRefused::Worn, "worn");
+    same(rt, store.is_down(), false, "worn");
     let mut disk = store.into_disk();
-    same(&rt, digest(&rt, &mut disk), before, "worn");
-    let mut store = opened(&rt, rt.alloc(), disk);
-    commits(&rt, rt.alloc(), &mut store, &[(0, 1, Op::Add(0, 1, 1))]);
-    shows_zeros(&rt, &mut store.into_disk(), SECOND_SLOT, 68)
+    same(rt, digest(rt, &mut disk), before, "worn");
+    first_slot_stays(rt, alloc, disk);
 }
 
 #[test]
 fn rolls_to_the_last_epoch(rt: HostRuntime) {
+    let alloc = rt.alloc();
+    let rt = &rt;
     // one below the limit there is one roll, and no second
-    let mut disk = with_edge(&rt, rt.alloc());
-    put_text(&rt, &mut disk, 4097, "7ffffffffffffffe");
-    let mut store = opened(&rt, rt.alloc(), disk);
-    rolls(&rt, rt.alloc(), &mut store);
-    same(
-        &rt,
-        roll(rt.alloc(), &mut store),
-        Err(RollRefused::Worn),
-        "worn",
-    );
+    let mut disk = with_edge(rt, alloc);
+    put_text(rt, &mut disk, 4097, "7ffffffffffffffe");
+    let mut store = opened(rt, alloc, disk);
+    rolls(rt, alloc, &mut store);
+    rolls_not(rt, alloc, &mut store, RollRefused::Worn, "worn");
     let mut disk = store.into_disk();
-    shows(&rt, &mut disk, SECOND_SLOT, "01 7fffffffffffffff");
-    same(
-        &rt,
-        shown(&opened(&rt, rt.alloc(), disk), 0, 1),
-        (1, 1, Some(1)),
-        "opened",
-    );
+    shows(rt, &mut disk, SECOND_SLOT, "01 7fffffffffffffff");
+    opens(rt, alloc, disk, (0, 1), (1, 1, Some(1)), "opened");
 }
 
 // A device with one roll behind it, and one change behind that.
@@ -116,7 +108,7 @@ fn second_roll(rt: &impl Abort, alloc: Global, plan: Plan) -> (Result<(), RollRe
     assert_rolled(rt, &store, "a second roll");
     same(rt, store.is_down(), answer.is_err(), "down");
     if answer.is_err() {
-        same(rt, roll(alloc, &mut store), Err(RollRefused::Down), "again");
+        rolls_not(rt, alloc, &mut store, RollRefused::Down, "again");
     }
     (answer, store.into_disk())
 }
@@ -126,7 +118,10 @@ fn goes_on(rt: &impl Abort, alloc: Global, disk: MemDisk, word: u64) {
     let mut store = opened(rt, alloc, disk.crash(word));
     assert_rolled(rt, &store, "after a crash");
     commits(rt, alloc, &mut store, &[(4, 3, Op::Add(2, 3, 9))]);
-    let store = opened(rt, alloc, store.into_disk());
+    assert_gone_on(rt, reopened(rt, alloc, store));
+}
+
+fn assert_gone_on(rt: &impl Abort, store: Store<MemDisk>) {
     let found = (
         shown(&store, 1, 2),
         store.graph().weight(2, 3),
@@ -136,20 +131,25 @@ fn goes_on(rt: &impl Abort, alloc: Global, disk: MemDisk, word: u64) {
     same(rt, found, ((3, 3, Some(5)), Some(9), 1, 3), "opened again");
 }
 
+// Fails or stops a roll by a plan, and sees what it answers, and that it goes on after a crash by the word.
+fn rolls_by(rt: &impl Abort, alloc: Global, plan: Plan, want: Result<(), RollRefused>, word: u64) {
+    let (answer, disk) = second_roll(rt, alloc, plan);
+    same(rt, answer, want, "a roll by a plan");
+    goes_on(rt, alloc, disk, word);
+}
+
+const DEVICE: Result<(), RollRefused> = Err(RollRefused::Device);
+
 #[test]
 fn each_call_of_a_roll_fails(rt: HostRuntime) {
-    for word in WORDS {
+    let alloc = rt.alloc();
+    let rt = &rt;
+    for word in &WORDS {
         // no call is left out, and none is made besides
-        for call in 1..8u64 {
-            let want = if call < 7 {
-                Err(RollRefused::Device)
-            } else {
-                Ok(())
-            };
-            let (answer, disk) = second_roll(&rt, rt.alloc(), Plan::Fail(call));
-            same(&rt, answer, want, "a call fails");
-            goes_on(&rt, rt.alloc(), disk, word);
+        for call in 1..7u64 {
+            rolls_by(rt, alloc, Plan::Fail(call), DEVICE, *word);
         }
+        rolls_by(rt, alloc, Plan::Fail(7), Ok(()), *word);
     }
 }
 
@@ -175,11 +175,9 @@ const STOPS: [(u64, usize); 16] = [
 
 #[test]
 fn a_roll_stops_inside_each_write(rt: HostRuntime) {
-    for word in WORDS {
+    for word in &WORDS {
         for (call, put) in &STOPS {
-            let (answer, disk) = second_roll(&rt, rt.alloc(), Plan::Stop(*call, *put));
-            same(&rt, answer, Err(RollRefused::Device), "stopped");
-            goes_on(&rt, rt.alloc(), disk, word);
+            rolls_by(&rt, rt.alloc(), Plan::Stop(*call, *put), DEVICE, *word);
         }
     }
 }
@@ -187,9 +185,15 @@ fn a_roll_stops_inside_each_write(rt: HostRuntime) {
 // A roll on a device whose other slot was never open leaves its closed gate alone: four calls.
 #[test]
 fn a_first_roll_makes_four_calls(rt: HostRuntime) {
-    for (call, want) in [(4, Err(RollRefused::Device)), (5, Ok(()))] {
-        let mut store = opened(&rt, rt.alloc(), with_edge(&rt, rt.alloc()));
-        store.arm(Plan::Fail(call));
-        same(&rt, roll(rt.alloc(), &mut store), want, "four calls");
-    }
+    let alloc = rt.alloc();
+    let rt = &rt;
+    first_roll(rt, alloc, 4, DEVICE);
+    first_roll(rt, alloc, 5, Ok(()));
+}
+
+// Rolls with this call failing.
+fn first_roll(rt: &impl Abort, alloc: Global, call: u64, want: Result<(), RollRefused>) {
+    let mut store = opened(rt, alloc, with_edge(rt, alloc));
+    store.arm(Plan::Fail(call));
+    same(rt, roll(alloc, &mut store), want, "four calls");
 }

@@ -13,28 +13,38 @@ fn assert_kept(rt: &impl Abort, store: &Store<MemDisk>, name: &str) {
     let first = [store.resume(0), store.resume(1), store.resume(7)];
     same(rt, first, [7, 0, WORN_LIMIT], name);
     same(rt, [store.resume(62), store.resume(63)], [0, 258], name);
-    same(rt, shown(store, 0, 1), (4, 3, Some(5)), name);
+    has(rt, store, (0, 1), (4, 3, Some(5)), name);
 }
+
+// The device of a store that shows the same.
+fn kept(rt: &impl Abort, store: Store<MemDisk>, name: &str) -> MemDisk {
+    assert_kept(rt, &store, name);
+    store.into_disk()
+}
+
+// The tickets of sessions 0 and 1, of session 7, and of sessions 62 and 63, in the checkpoint of a roll.
+const ROLLED: [(usize, &str); 3] = [
+    (1_581_079, "0000000000000007 0000000000000000"),
+    (1_581_135, "7fffffffffffffff"),
+    (1_581_575, "0000000000000000 0000000000000102"),
+];
 
 #[test]
 fn keeps_the_last_tickets(rt: HostRuntime) {
-    let mut store = opened(&rt, rt.alloc(), formatted(&rt, rt.alloc(), 5));
-    same(&rt, store.starts(), [0; 64], "fresh");
-    commits(&rt, rt.alloc(), &mut store, &ASKED);
-    assert_kept(&rt, &store, "committed");
-    let mut store = opened(&rt, rt.alloc(), store.into_disk());
-    assert_kept(&rt, &store, "opened");
-    rolls(&rt, rt.alloc(), &mut store);
-    assert_kept(&rt, &store, "rolled");
-    let mut disk = store.into_disk();
-    for (at, text) in [
-        (1_581_079, "0000000000000007 0000000000000000"),
-        (1_581_135, "7fffffffffffffff"),
-        (1_581_575, "0000000000000000 0000000000000102"),
-    ] {
-        shows(&rt, &mut disk, at, text);
+    let alloc = rt.alloc();
+    let rt = &rt;
+    let mut store = opened(rt, alloc, formatted(rt, alloc, 5));
+    same(rt, store.starts(), [0; 64], "fresh");
+    commits(rt, alloc, &mut store, &ASKED);
+    let disk = kept(rt, store, "committed");
+    let mut store = opened(rt, alloc, disk);
+    assert_kept(rt, &store, "opened");
+    rolls(rt, alloc, &mut store);
+    let mut disk = kept(rt, store, "rolled");
+    for (at, text) in &ROLLED {
+        shows(rt, &mut disk, *at, text);
     }
-    assert_kept(&rt, &opened(&rt, rt.alloc(), disk), "opened after a roll");
+    let _disk = kept(rt, opened(rt, alloc, disk), "opened after a roll");
 }
 
 // A session, its last ticket in the checkpoint, and whether it may stand there.
@@ -48,17 +58,25 @@ const LAST: [(u8, u64, bool); 5] = [
 
 #[test]
 fn tells_tickets_past_the_limit(rt: HostRuntime) {
+    let alloc = rt.alloc();
+    let rt = &rt;
     for (session, ticket, is_sound) in &LAST {
-        let mut disk = formatted(&rt, rt.alloc(), 5);
+        let mut disk = formatted(rt, alloc, 5);
         let place = 4119 + 8 * *session as usize;
-        put(&rt, &mut disk, place, &ticket.to_be_bytes());
-        let found = match store_of(&rt, rt.alloc(), disk, "a last ticket") {
-            Some(store) => Some(store.resume(*session)),
-            None => None,
-        };
+        put(rt, &mut disk, place, &ticket.to_be_bytes());
         let want = if *is_sound { Some(*ticket) } else { None };
-        same(&rt, found, want, "a last ticket");
+        assert_last(rt, alloc, disk, *session, want);
     }
+}
+
+// Opens a device, and sees that it is damaged, or that this is the last ticket of the session.
+fn assert_last(rt: &impl Abort, alloc: Global, disk: MemDisk, session: u8, want: Option<u64>) {
+    assert!(rt; session < 64, "no session");
+    let found = match store_of(rt, alloc, disk, "a last ticket") {
+        Some(store) => Some(store.resume(session)),
+        None => None,
+    };
+    same(rt, found, want, "a last ticket");
 }
 
 // Where session 0 and session 63 have the last tickets 4 and 256: session and ticket of a record, session and ticket of one behind
@@ -86,17 +104,19 @@ const TURNS: [((u8, u64), (u8, u64), bool); 18] = [
 
 #[test]
 fn tells_tickets_out_of_turn(rt: HostRuntime) {
+    let alloc = rt.alloc();
+    let rt = &rt;
     for (first, second, is_sound) in &TURNS {
-        let mut disk = formatted(&rt, rt.alloc(), 5);
-        put_text(&rt, &mut disk, 4119, "0000000000000004");
-        put_text(&rt, &mut disk, 4623, "0000000000000100");
+        let mut disk = formatted(rt, alloc, 5);
+        put_text(rt, &mut disk, 4119, "0000000000000004");
+        put_text(rt, &mut disk, 4623, "0000000000000100");
         let add = "01 01 0000 0001 00000007";
-        put_asked(&rt, &mut disk, FIRST_AREA, *first, add);
+        put_asked(rt, &mut disk, FIRST_AREA, *first, add);
         let set = "01 02 0000 0001 00000008";
-        put_asked(&rt, &mut disk, 532_506, *second, set);
+        put_asked(rt, &mut disk, 532_506, *second, set);
         let shown = Some((2, 1, Some(8)));
         let want = if *is_sound { shown } else { None };
-        assert_opens(&rt, rt.alloc(), disk, want, "a ticket in turn");
+        assert_opens(rt, alloc, disk, want, "a ticket in turn");
     }
 }
 

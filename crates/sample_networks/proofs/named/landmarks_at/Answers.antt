@@ -1,5 +1,4 @@
-use Rattle.std.proofs.Common.{◌≡◌, ◌∙◌, ◌<◌, ◌≤◌, ◌^◌, arith}
-use Rattle.sample_networks.specs.Named.{words_at}
+use Rattle.std.proofs.Common.{◌∙◌, ◌<◌, ◌≤◌, ◌^◌, arith}
 use Rattle.sample_networks.proofs.NamedLemmas.{as_many, named_are}
 use Rattle.sample_networks.proofs.named.landmarks_at.Goals as goal
 

@@ -1,4 +1,4 @@
-use Rattle.std.proofs.Common.{◌≡◌, ◌∙◌, ap, sym, ◌+◌, ◌<◌, ◌≤◌, ℕ, length, map}
+use Rattle.std.proofs.Common.{◌∙◌, ap, sym, ◌+◌, ◌<◌, ◌≤◌, ℕ, length, map}
 use Rattle.std.proofs.lemmas.List.{get_or_default}
 use Rattle.std.specs.FinMap.{len, len-empty}
 use Rattle.graph_edits.specs.Changes.{edges_after}

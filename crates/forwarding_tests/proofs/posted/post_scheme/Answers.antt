@@ -1,6 +1,6 @@
 use Rattle.std.specs.Arc.{arc_value}
 use Rattle.forwarding_tests.proofs.Posting.{next_lawful, next_row}
-use Rattle.forwarding_tests.proofs.posted.post_next.Goals as goal
+use Rattle.forwarding_tests.proofs.posted.post_scheme.Goals as goal
 
 pub post_now-requires-clause-lawful : goal.post_now-requires-clause-lawful
 post_now-requires-clause-lawful g c = next_lawful c.args.writer.now c.args.posted (arc_value c.expect-scheme.result) c.requires.row c.kept-kept.ensures.lawful

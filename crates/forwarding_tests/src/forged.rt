@@ -1,8 +1,13 @@
 // Each forged packet comes to an end, within as many calls as its network has nodes.
-use crate::forged::{MOST_BYTES, drawn, drawn_generation, drawn_size, nodes_of};
-use crate::judged::{is_right, network_of};
-use crate::networks::{Network, got, number, posted};
+mod bytes;
+mod judged;
+mod networks;
+
+use crate::posted::got;
+use bytes::{MOST_BYTES, drawn, drawn_generation, drawn_size, nodes_of};
 use forwarders::{ByteMove, BytesRefused, Forwarder};
+use judged::{is_right, network_of};
+use networks::{Network, number, posted};
 use packet_bytes::PACKET_SIZE;
 use rand_core::SeedableRng;
 use rand_xoshiro::Xoshiro256PlusPlus;
@@ -11,7 +16,7 @@ use std::process::Abort;
 use std::sync::Wait;
 
 /// The answer of a node to bytes, judged.
-fn judged(
+fn judged_at(
     rt: &impl Abort,
     forwarder: &mut Forwarder,
     networks: &[Network],
@@ -42,7 +47,7 @@ fn passed(
     let mut at = from;
     let mut spelled = packet;
     for _ in 0..most_calls(networks, &packet) {
-        match judged(rt, forwarder, networks, at, &spelled) {
+        match judged_at(rt, forwarder, networks, at, &spelled) {
             Ok(ByteMove::Delivered) => return None,
             Ok(ByteMove::Forward { next, bytes, .. }) => {
                 at = next;
@@ -76,7 +81,7 @@ fn sent_at_length(
     from: u16,
     bytes: &[u8],
 ) -> Option<BytesRefused> {
-    judged(rt, forwarder, networks, from, bytes).err()
+    judged_at(rt, forwarder, networks, from, bytes).err()
 }
 
 /// How often ways ended so, by the number of the refusal, 0 for none.
@@ -93,8 +98,8 @@ fn count(ends: &mut Ends, end: Option<BytesRefused>) {
 }
 
 /// Passes so many drawn packets over the networks of one board.
-fn pass_drawn<W: Wait + Abort + Drop + Copy>(
-    rt: W,
+fn pass_drawn<R: Wait + Abort>(
+    rt: &R,
     alloc: Global,
     rng: &mut Xoshiro256PlusPlus,
     packets: u32,
@@ -106,16 +111,11 @@ fn pass_drawn<W: Wait + Abort + Drop + Copy>(
         let from = number(rng, nodes_of(&networks, generation).saturating_add(1));
         let packet = drawn(rng, &mut forwarder, &networks, from, generation);
         let end = match drawn_size(rng) {
-            PACKET_SIZE => passed(&rt, &mut forwarder, &networks, from, packet),
+            PACKET_SIZE => passed(rt, &mut forwarder, &networks, from, packet),
             size => {
                 let bytes = longer(&packet);
-                sent_at_length(
-                    &rt,
-                    &mut forwarder,
-                    &networks,
-                    from,
-                    front(&rt, &bytes, size),
-                )
+                let bytes = front(rt, &bytes, size);
+                sent_at_length(rt, &mut forwarder, &networks, from, bytes)
             }
         };
         count(ends, end);
@@ -129,17 +129,19 @@ const ENDS: [usize; 8] = [0, 1, 3, 4, 5, 7, 8, 9];
 
 #[test]
 fn a_million_forged_packets_end(rt: HostRuntime) {
+    let alloc = rt.alloc();
+    let rt = &rt;
     let mut rng = Xoshiro256PlusPlus::seed_from_u64(1205);
     let mut ends: Ends = [0; 10];
     for _ in 0..40u32 {
-        pass_drawn(rt, rt.alloc(), &mut rng, 25_000, &mut ends);
+        pass_drawn(rt, alloc, &mut rng, 25_000, &mut ends);
     }
     for number in &ENDS {
         let enough = match ends.get(*number) {
             Some(times) => 10_000 < *times,
             None => false,
         };
-        assert!(&rt; enough, "{number}");
+        assert!(rt; enough, "{number}");
     }
-    assert!(&rt; ends[2] == 0 && ends[6] == 0);
+    assert!(rt; ends[2] == 0 && ends[6] == 0);
 }

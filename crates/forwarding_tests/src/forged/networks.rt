@@ -1,32 +1,20 @@
 // Drawn networks, and a board with their schemes posted.
-ghost use Rattle.std.specs.Prelude.{◌≡◌, ◌+◌, ◌<◌, ◌++◌, ◌∷◌, []};
-ghost use Rattle.generations.specs.Notices.{notice_of};
-ghost use Rattle.generations.specs.Lawful.{IsLawful};
-ghost use Rattle.generations.specs.Posts.{with_posted};
-ghost use Rattle.forged_tests.specs.InARow.{IsInARow};
+ghost use Rattle.forwarding_tests.specs.InARow.{IsInARow};
 
+use crate::posted::{got, one_forwarder, post_scheme};
 use forwarders::Forwarder;
-use generations::{BoardWriter, MOST_SHELVED, PostRefused, Posting, board};
+use generations::{BoardWriter, MOST_SHELVED};
 use graph_edits::{Change, Graph, Op};
 use node_table::Scheme;
 use rand_core::Rng;
 use rand_xoshiro::Xoshiro256PlusPlus;
-use requests::SESSIONS;
 use scheme_builds::scheme_of;
 use std::alloc::Global;
 use std::process::Abort;
-use std::sync::{Arc, Wait};
+use std::sync::Wait;
 
 /// The most nodes of a drawn network.
 const MOST_DRAWN: u64 = 24;
-
-/// The value of an answer that has to have one.
-pub(crate) fn got<T, E: Drop>(rt: &impl Abort, answer: Result<T, E>) -> T {
-    match answer {
-        Ok(value) => value,
-        Err(_) => panic!(rt; "no value"),
-    }
-}
 
 /// A number below another one, 0 where there is none.
 pub(crate) fn below(rng: &mut Xoshiro256PlusPlus, limit: u64) -> u64 {
@@ -113,37 +101,6 @@ fn drawn_network(
     (network, scheme)
 }
 
-/// Posts one posting, once more where memory was refused.
-fn post_now<R: Wait + Drop>(rt: &impl Abort, writer: &mut BoardWriter<R>, posting: Posting)
-    requires nothing_kept { writer.old.kept ≡ [] }
-    requires lawful { IsLawful writer.old.opening.starts writer.old.opening.count (writer.old.posted ++ notice_of posting ∷ []) }
-    ensures { writer.new ≡ with_posted writer.old (notice_of posting) }
-{
-    match writer.post(posting) {
-        Ok(()) => {}
-        Err(PostRefused::Kept) => writer.retry().expect(rt, "memory"),
-        Err(PostRefused::Back(_)) => panic!(rt; "not taken"),
-    }
-}
-
-/// Posts a scheme as the next generation.
-fn post_scheme<R: Wait + Drop>(
-    rt: &impl Abort,
-    alloc: Global,
-    writer: &mut BoardWriter<R>,
-    posted: u64,
-    scheme: Scheme,
-)
-    requires row { IsInARow writer.old posted }
-    requires few { posted < 1000 }
-    ensures row { IsInARow writer.new (posted + 1) }
-{
-    let number = posted + 1;
-    let scheme = Arc::new(alloc, scheme).expect(rt, "memory");
-    let _kept = writer.kept();
-    post_now(rt, writer, Posting::Generation { number, scheme });
-}
-
 /// Posts drawn networks as the generations 1 to 4: which they are.
 fn post_all<R: Wait + Drop>(
     rt: &impl Abort,
@@ -163,13 +120,12 @@ fn post_all<R: Wait + Drop>(
 }
 
 /// Drawn networks, and a forwarder that looks at the board where they are the generations from 1 on.
-pub(crate) fn posted<W: Wait + Abort + Drop + Copy>(
-    rt: W,
+pub(crate) fn posted<'a, R: Wait + Abort>(
+    rt: &'a R,
     alloc: Global,
     rng: &mut Xoshiro256PlusPlus,
-) -> (Vec<Network>, BoardWriter<W>, Forwarder) {
-    let (mut writer, mut readers) = board(alloc, rt, 1, &[0; SESSIONS], 0).expect(&rt, "memory");
-    let reader = readers.pop().expect(&rt, "a reader");
-    let networks = post_all(&rt, alloc, rng, &mut writer);
-    (networks, writer, Forwarder::new(reader))
+) -> (Vec<Network>, BoardWriter<&'a R>, Forwarder) {
+    let (mut writer, forwarder) = one_forwarder(rt, alloc).expect(rt, "memory");
+    let networks = post_all(rt, alloc, rng, &mut writer);
+    (networks, writer, forwarder)
 }

@@ -1,5 +1,5 @@
 // What an answer to bytes has to be, by the layout and the neighbours of each node.
-use crate::networks::Network;
+use super::networks::Network;
 use forwarders::{ByteMove, BytesRefused};
 
 /// How many bytes a packet has.

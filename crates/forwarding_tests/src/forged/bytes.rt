@@ -1,5 +1,5 @@
 // Drawn bytes that are, or look like, a packet.
-use crate::networks::{Network, below, number};
+use super::networks::{Network, below, number};
 use forwarders::Forwarder;
 use packet_bytes::{PACKET_SIZE, Wire};
 use rand_core::Rng;
