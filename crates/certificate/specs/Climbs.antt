@@ -1,5 +1,6 @@
 -- What is said of the labels of one node, by climbing from the nodes that they name.
-use Rattle.std.specs.Prelude.{◌≡◌, ◌==◌, ℕ, ◌≤◌, Option, None, Some, IsSome, List}
+use Rattle.std.specs.Prelude.{◌≡◌, ◌==◌, ◌↔◌, ℕ, ◌≤◌, Bool, MatchOption, Option, None, Some, IsSome, List}
+use denote.Ref.{Bor}
 use Rattle.std.specs.List.{All}
 use Rattle.heavy_labels.specs.Label.{Label}
 use Rattle.heavy_labels.specs.Numbering.{lights_at}
@@ -15,6 +16,10 @@ use Rattle.node_table.specs.Ports.{port_to}
 -- the network is sound, and the first five rules hold
 unfoldable pub HoldsFirst : Network → Parts → Type 0
 HoldsFirst m p = IsSound m × ((k : Fault) → number_of k ≤ 5 → Holds m p k)
+
+-- these are the light ports above an edge, heavy or not, that has this port below; or there are none where they can't be
+abbrev pub AreAbove : Bool → Option ℕ → List ℕ → Option (Bor (List ℕ)) → Type 0
+AreAbove is_heavy port lights found = (ls : List ℕ) → MatchOption found (lights ≡ lights_at is_heavy ls port → ⊥) (λ rest. (lights ≡ lights_at is_heavy ls port) ↔ (rest.now ≡ ls))
 
 -- the light ports on the way from the root of r's tree to x
 abbrev pub lights_up : Network → Tables → ℕ → ℕ → List ℕ

@@ -4,3 +4,4 @@ pub mod Swift
 pub mod Climbs
 pub mod Faults
 pub mod Ranges
+pub mod Found

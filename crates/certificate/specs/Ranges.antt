@@ -16,6 +16,10 @@ HoldBetween P first last = (x : ℕ) → first ≤ x → x < last → P x
 abbrev pub HoldInRange : (ℕ → Type 0) → ℕ → ℕ → ℕ → Type 0
 HoldInRange P nodes size i = (x : ℕ) → i * size ≤ x → x < i * size + size → x < nodes → P x
 
+-- it is so of each node of the range i of a network and its parts
+abbrev pub HoldInPart : (Network → Parts → ℕ → Type 0) → Network → Parts → ℕ → ℕ → Type 0
+HoldInPart P m p size i = HoldInRange (P m p) m.nodes size i
+
 -- the entries of x are swept and strict, and its nearest landmark is right
 unfoldable pub IsSweptWhole : Network → Parts → ℕ → Type 0
 IsSweptWhole m p x = IsSweptAt m p x × (All (IsStrictAt (tables p) x) (entries_at p x) × IsNearestAt p x)

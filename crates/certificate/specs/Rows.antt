@@ -1,5 +1,5 @@
 -- What is said of one entry's record: the numbers of its children, found among its node's neighbours.
-use Rattle.std.specs.Prelude.{ℕ, ◌+◌, ◌==◌, nat_lt, not, true, cond, Option, Some, None, List, [], ◌∷◌}
+use Rattle.std.specs.Prelude.{◌≡◌, ◌↔◌, ℕ, ◌+◌, ◌==◌, nat_lt, not, true, false, cond, MatchOption, Option, Some, None, List, [], ◌∷◌}
 use Rattle.heavy_labels.specs.Numbering.{Record}
 use Rattle.heavy_labels.specs.Stepped.{record_of}
 use Rattle.std.specs.List.{All}
@@ -8,7 +8,7 @@ use Rattle.node_table.specs.declared.parts.Entry.{Entry}
 use Rattle.graph_edits.specs.Edges.{Network}
 use Rattle.node_table.specs.Ports.{neighbours, filtered}
 use Rattle.node_table.specs.Tables.{Tables, tables, entries_at}
-use Rattle.node_table.specs.Checks.{parent_is}
+use Rattle.node_table.specs.Checks.{parent_is, up_port}
 use Rattle.node_table.specs.Local.{record_at, span, IsRow, IsHeavyOf, FitsChild, FitsRoot}
 
 -- the children of x in the tree of r among some nodes
@@ -29,6 +29,10 @@ abbrev pub widest_from : Tables → ℕ → ℕ → Option ℕ → List ℕ → 
 widest_from t r x o [] = o
 widest_from t r x o (y ∷ ys) = widest_from t r x (wider t r x o y) ys
 
+-- the widest child of x among its neighbours
+abbrev pub widest_of : Network → Tables → ℕ → ℕ → Option ℕ
+widest_of m t r x = widest_from t r x None (neighbours m x)
+
 -- y in front of others, if it is a child of x and not h
 abbrev pub with_other : Tables → ℕ → ℕ → ℕ → ℕ → List ℕ → List ℕ
 with_other t r x h y ys = cond (parent_is x (t.entry y r)) (cond (not (y == h)) (y ∷ ys) ys) ys
@@ -37,6 +41,29 @@ with_other t r x h y ys = cond (parent_is x (t.entry y r)) (cond (not (y == h)) 
 abbrev pub others : Tables → ℕ → ℕ → ℕ → List ℕ → List ℕ
 others t r x h [] = []
 others t r x h (y ∷ ys) = with_other t r x h y (others t r x h ys)
+
+-- the children of x but h have the numbers from the start to below the end
+abbrev pub FitOthers : Network → Tables → ℕ → ℕ → ℕ → ℕ → ℕ → ℕ → Type 0
+FitOthers m t r x h start depth end = IsRow m t r false start depth end (others t r x h (neighbours m x))
+
+-- The number behind some children: all have the numbers from the next one to below the end where the rest have those from that number on. Where
+-- there is no such number, they haven't.
+abbrev pub GoesOn : Network → Tables → ℕ → ℕ → ℕ → ℕ → List ℕ → List ℕ → Option ℕ → Type 0
+GoesOn m t r depth end next all rest after =
+    MatchOption after (IsRow m t r false next depth end all → ⊥) (λ n. IsRow m t r false next depth end all ↔ IsRow m t r false n depth end rest)
+
+-- the record of y's entry has this number, this light depth and the port to its parent
+abbrev pub IsNumbered : Network → ℕ → Entry → ℕ → ℕ → Type 0
+IsNumbered m y e first depth =
+    ((record_of e.tree_record).first ≡ first) × (((record_of e.tree_record).light_depth ≡ depth) × ((record_of e.tree_record).parent_port ≡ up_port m y (Some e)))
+
+-- these children have the numbers behind those of the heavy one, up to the last that an entry's record names
+abbrev pub FitBehind : Network → Tables → Entry → List ℕ → Type 0
+FitBehind m t e ys = IsRow m t e.root false (e.tree_record.heavy_last + 1) e.tree_record.light_depth (e.tree_record.last + 1) ys
+
+-- the children of x but h do, for an entry of x
+abbrev pub OthersFitBehind : Network → Tables → ℕ → Entry → ℕ → Type 0
+OthersFitBehind m t x e h = FitBehind m t e (others t e.root x h (neighbours m x))
 
 -- the heavy child of x and its others
 abbrev pub row_after : Network → Tables → ℕ → ℕ → Option ℕ → List ℕ
@@ -54,6 +81,10 @@ FitsRow m t r k row = IsRow m t r true (k.first + 1) k.light_depth (k.last + 1) 
 -- a record and that of its node's heavy child h fit
 unfoldable pub FitsFirst : Network → Tables → ℕ → Record → ℕ → Type 0
 FitsFirst m t r k h = FitsChild m t r true (k.first + 1) k.light_depth h × IsHeavyOf m t r k (h ∷ [])
+
+-- an entry's record fits those of h and the other children of x
+abbrev pub FitsWithOthers : Network → Tables → ℕ → Entry → ℕ → Type 0
+FitsWithOthers m t x e h = FitsRow m t e.root (record_of e.tree_record) (h ∷ others t e.root x h (neighbours m x))
 
 -- an entry's record fits those of the children of its node in the tree of its root
 unfoldable pub FitsAt : Network → Tables → ℕ → Entry → Type 0

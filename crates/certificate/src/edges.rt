@@ -1,8 +1,8 @@
 // Edges: an entry leads over every edge to an entry no farther, or to where a landmark is as near.
-ghost use Rattle.std.specs.Prelude.{◌≡◌, ◌+◌, ◌<◌, ◌≤◌, ◌↔◌, ℕ, IsTrue, MatchOption, None, Some};
+ghost use Rattle.std.specs.Prelude.{◌≡◌, ◌+◌, ◌<◌, ◌≤◌, ◌↔◌, ℕ, IsTrue};
 ghost use Rattle.std.specs.List.{All};
 ghost use Rattle.certificate.specs.Entries.{AllAscend, EachEntry, IsClosedAt, IsClosedOver};
-ghost use Rattle.distances.specs.declared.nearest.Near.{Near};
+ghost use Rattle.certificate.specs.Found.{HasNearWithin, IsEntryOf};
 ghost use Rattle.node_table.specs.Tables.{entries_at, tables};
 ghost use Rattle.node_table.specs.Checks.{Holds, IsShaped, k2};
 
@@ -13,7 +13,7 @@ use node_table::{Entry, Scheme};
 
 /// Whether a node's nearest landmark is no farther than an edge past a distance.
 fn is_landmark_near(scheme: &Scheme, y: u16, distance: u64, weight: u32) -> bool
-    ensures { IsTrue result ↔ ((q : Near) × (((tables scheme.now).nearest y ≡ Some q) × (q.distance ≤ distance + weight))) }
+    ensures { IsTrue result ↔ HasNearWithin (tables scheme.now) y (distance + weight) }
 {
     match scheme.nearest(y) {
         Some(near) => is_at_most(near.distance, distance, weight),
@@ -29,7 +29,7 @@ pub(crate) fn is_closed_over(
     edge: (u16, u32),
     behind: Option<&Entry>,
 ) -> bool
-    requires { MatchOption behind ((tables scheme.now).entry edge.0 entry.now.root ≡ None) (λ f. (tables scheme.now).entry edge.0 entry.now.root ≡ Some f.now) }
+    requires { IsEntryOf (tables scheme.now) edge.0 entry.now.root behind }
     ensures { IsTrue result ↔ IsClosedOver (tables scheme.now) entry.now edge }
 {
     let (y, weight) = edge;

@@ -1,8 +1,9 @@
 // Fingers: where the last look-ups among the entries of a node's neighbours ended. Where roots are asked for in ascending
 // order, the next look-up walks on from there.
-ghost use Rattle.std.specs.Prelude.{◌≡◌, ◌≤◌, None, Some, MatchOption, length};
+ghost use Rattle.std.specs.Prelude.{◌≤◌, length};
 ghost use Rattle.std.specs.List.Sorted.{IsStrictlyIncreasing};
 ghost use Rattle.certificate.specs.Entries.{AllAscend, AreBelow};
+ghost use Rattle.certificate.specs.Found.{IsEntryOf};
 ghost use Rattle.node_table.specs.Tables.{roots_of, tables};
 
 use crate::pairs::{entry_at, place_from};
@@ -47,7 +48,7 @@ impl Fingers {
         root: u16,
     ) -> Option<&'a Entry>
         requires { AllAscend scheme.now }
-        ensures { MatchOption result ((tables scheme.now).entry y root ≡ None) (λ e. (tables scheme.now).entry y root ≡ Some e.now) }
+        ensures { IsEntryOf (tables scheme.now) y root result }
     {
         if port >= MOST_FINGERS {
             return scheme.entry(y, root);

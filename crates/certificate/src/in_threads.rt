@@ -5,7 +5,7 @@ ghost use Rattle.std.specs.List.{All};
 ghost use Rattle.certificate.specs.Climbs.{HoldsFirst};
 ghost use Rattle.certificate.specs.Entries.{AllAscend, IsFramed, IsNodeFramed};
 ghost use Rattle.certificate.specs.Faults.{IsExact, rule_of};
-ghost use Rattle.certificate.specs.Ranges.{HasListsAt, HoldBetween, HoldInRange, IsSweptWhole};
+ghost use Rattle.certificate.specs.Ranges.{HasListsAt, HoldBetween, HoldInPart, IsSweptWhole};
 ghost use Rattle.graph_edits.specs.Edges.{IsSound};
 ghost use Rattle.node_table.specs.Checks.{Holds, IsChecked, IsFirstFault, k6};
 ghost use Rattle.node_table.specs.Service.{Serves};
@@ -59,7 +59,7 @@ fn are_framed(graph: &Graph, scheme: &Scheme, first: u16, last: u16) -> bool
 
 /// Whether the nodes of a range have their ports, and entries that ascend, with one for themselves.
 fn are_framed_in(graph: &Graph, scheme: &Scheme, size: u16, i: usize) -> bool
-    ensures { IsTrue result → HoldInRange (IsNodeFramed graph.now scheme.now) graph.now.nodes size i }
+    ensures { IsTrue result → HoldInPart IsNodeFramed graph.now scheme.now size i }
 {
     let (first, last) = bounds(graph.nodes(), size, i);
     are_framed(graph, scheme, first, last)
@@ -77,7 +77,7 @@ fn are_all_framed<R: Threads + Sync>(rt: &R, graph: &Graph, scheme: &Scheme, wor
         &mut right,
         workers,
         &|i: usize, right: &mut bool|
-            ensures { IsTrue right.exit.now → HoldInRange (IsNodeFramed graph.entry.now scheme.entry.now) graph.entry.now.nodes size i }
+            ensures { IsTrue right.exit.now → HoldInPart IsNodeFramed graph.entry.now scheme.entry.now size i }
         { *right = are_framed_in(graph, scheme, size, i) },
     );
     all_right(&right)
@@ -109,7 +109,7 @@ fn are_swept(graph: &Graph, scheme: &Scheme, first: u16, last: u16) -> bool
 /// The same of the nodes of a range.
 fn are_swept_in(graph: &Graph, scheme: &Scheme, size: u16, i: usize) -> bool
     requires { AllAscend scheme.now }
-    ensures { IsTrue result → HoldInRange (IsSweptWhole graph.now scheme.now) graph.now.nodes size i }
+    ensures { IsTrue result → HoldInPart IsSweptWhole graph.now scheme.now size i }
 {
     let (first, last) = bounds(graph.nodes(), size, i);
     are_swept(graph, scheme, first, last)
@@ -129,7 +129,7 @@ fn are_all_swept<R: Threads + Sync>(rt: &R, graph: &Graph, scheme: &Scheme, work
         workers,
         &|i: usize, right: &mut bool|
             requires { AllAscend scheme.now }
-            ensures { IsTrue right.exit.now → HoldInRange (IsSweptWhole graph.entry.now scheme.entry.now) graph.entry.now.nodes size i }
+            ensures { IsTrue right.exit.now → HoldInPart IsSweptWhole graph.entry.now scheme.entry.now size i }
         { *right = are_swept_in(graph, scheme, size, i) },
     );
     all_right(&right)
@@ -159,7 +159,7 @@ fn have_lists(graph: &Graph, scheme: &Scheme, first: u16, last: u16) -> bool
 /// The same of the nodes of a range.
 fn have_lists_in(graph: &Graph, scheme: &Scheme, size: u16, i: usize) -> bool
     requires { HoldsFirst graph.now scheme.now }
-    ensures { IsTrue result → HoldInRange (HasListsAt graph.now scheme.now) graph.now.nodes size i }
+    ensures { IsTrue result → HoldInPart HasListsAt graph.now scheme.now size i }
 {
     let (first, last) = bounds(graph.nodes(), size, i);
     have_lists(graph, scheme, first, last)
@@ -179,7 +179,7 @@ fn have_all_lists<R: Threads + Sync>(rt: &R, graph: &Graph, scheme: &Scheme, wor
         workers,
         &|i: usize, right: &mut bool|
             requires { HoldsFirst graph.now scheme.now }
-            ensures { IsTrue right.exit.now → HoldInRange (HasListsAt graph.entry.now scheme.entry.now) graph.entry.now.nodes size i }
+            ensures { IsTrue right.exit.now → HoldInPart HasListsAt graph.entry.now scheme.entry.now size i }
         { *right = have_lists_in(graph, scheme, size, i) },
     );
     all_right(&right)

@@ -2,7 +2,7 @@
 // which meets the label's light ports from the last to the first.
 ghost use Rattle.std.specs.Prelude.{◌≡◌, ◌==◌, ◌<◌, ◌↔◌, ℕ, IsTrue, MatchOption, List, Option, Some, None, false, slice_get};
 ghost use Rattle.std.specs.List.{All};
-ghost use Rattle.certificate.specs.Climbs.{AreLinked, HasLabelsAt, HasLights, HoldsFirst, IsHomeRight, IsLabelRight, IsLinked};
+ghost use Rattle.certificate.specs.Climbs.{AreAbove, AreLinked, HasLabelsAt, HasLights, HoldsFirst, IsHomeRight, IsLabelRight, IsLinked};
 ghost use Rattle.heavy_labels.specs.Label.{Label};
 ghost use Rattle.heavy_labels.specs.Numbering.{lights_at};
 ghost use Rattle.node_table.specs.Checks.{Holds, k6, k7};
@@ -36,7 +36,7 @@ fn number(scheme: &Scheme, root: u16, x: u16) -> u16
 
 /// The light ports without the last one, if that is a port. A port that isn't there counts as 0.
 fn without_last(lights: &[u16], port: Option<u16>) -> Option<&[u16]>
-    ensures { (ls : List ℕ) → MatchOption result (lights.now ≡ lights_at false ls port → ⊥) (λ rest. (lights.now ≡ lights_at false ls port) ↔ (rest.now ≡ ls)) }
+    ensures { AreAbove false port lights.now result }
 {
     let (last, rest) = lights.split_last()?;
     if *last == port.unwrap_or(0) {
@@ -55,7 +55,7 @@ fn climbed<'a>(
     is_heavy: bool,
     lights: &'a [u16],
 ) -> Option<&'a [u16]>
-    ensures { (ls : List ℕ) → MatchOption result (lights.now ≡ lights_at is_heavy ls (port_to graph.now y x) → ⊥) (λ rest. (lights.now ≡ lights_at is_heavy ls (port_to graph.now y x)) ↔ (rest.now ≡ ls)) }
+    ensures { AreAbove is_heavy (port_to graph.now y x) lights.now result }
 {
     if is_heavy {
         Some(lights)

@@ -1,7 +1,8 @@
 // Parents: an entry's distance is its parent's and the edge, and no smaller neighbour gives the same.
-ghost use Rattle.std.specs.Prelude.{◌≡◌, ◌<◌, ◌↔◌, ℕ, IsTrue, MatchOption, None, Some};
+ghost use Rattle.std.specs.Prelude.{◌≡◌, ◌<◌, ◌↔◌, ℕ, IsTrue};
 ghost use Rattle.std.specs.List.{All};
 ghost use Rattle.certificate.specs.Entries.{AllAscend, EachEntry, HasTightParent, IsLater, IsNoEarlier, IsTightAt, IsTightBy};
+ghost use Rattle.certificate.specs.Found.{IsEntryOf};
 ghost use Rattle.node_table.specs.Tables.{Tables, entries_at, tables};
 ghost use Rattle.node_table.specs.Checks.{Holds, IsShaped, k3};
 
@@ -48,7 +49,7 @@ fn have_tight_parents(graph: &Graph, scheme: &Scheme, x: u16) -> bool
 /// stands for the same root, if there is one.
 #[tactic(auto, unfolding(crate::specs::Entries::IsNoEarlier))]
 fn is_no_earlier(entry: &Entry, y: u16, edge: (u16, u32), behind: Option<&Entry>) -> bool
-    ensures { (t : Tables) → MatchOption behind.entry (t.entry edge.0 entry.now.root ≡ None) (λ f. t.entry edge.0 entry.now.root ≡ Some f.now)
+    ensures { (t : Tables) → IsEntryOf t edge.0 entry.now.root behind.entry
         → IsTrue result ↔ IsNoEarlier t entry.now y edge }
 {
     let (z, weight) = edge;
@@ -64,7 +65,7 @@ fn is_no_earlier(entry: &Entry, y: u16, edge: (u16, u32), behind: Option<&Entry>
 /// The same for the parent that the entry names.
 #[tactic(auto, unfolding(crate::specs::Entries::IsLater))]
 pub(crate) fn is_later(entry: &Entry, edge: (u16, u32), behind: Option<&Entry>) -> bool
-    ensures { (t : Tables) → MatchOption behind.entry (t.entry edge.0 entry.now.root ≡ None) (λ f. t.entry edge.0 entry.now.root ≡ Some f.now)
+    ensures { (t : Tables) → IsEntryOf t edge.0 entry.now.root behind.entry
         → IsTrue result ↔ IsLater t entry.now edge }
 {
     match entry.parent {

@@ -1,9 +1,10 @@
 // Records: each by those of its children, two passes over the ports of its node. A finger in the entries behind each port
 // goes along with the roots of the node's own entries.
-ghost use Rattle.std.specs.Prelude.{◌≡◌, ◌<◌, ◌+◌, ◌↔◌, ℕ, IsTrue, Some, None, MatchOption, true, false, List, [], ◌∷◌};
+ghost use Rattle.std.specs.Prelude.{◌≡◌, ◌<◌, ◌+◌, ◌↔◌, ℕ, IsTrue, Some, None, true, List, []};
 ghost use Rattle.std.specs.List.{All};
 ghost use Rattle.certificate.specs.Entries.{AllAscend};
-ghost use Rattle.certificate.specs.Rows.{FitsAt, FitsFirst, FitsRow, IsLocalAt, others, row_after, widest_from, wider as wider_of, with_other};
+ghost use Rattle.certificate.specs.Rows.{FitOthers, FitsAt, FitsFirst, FitsRow, FitsWithOthers, GoesOn, IsLocalAt, IsNumbered, row_after, widest_of, wider as wider_of, with_other};
+ghost use Rattle.certificate.specs.Found.{IsChildOf, IsEntryOf};
 ghost use Rattle.certificate.specs.Swift.{HasSpan};
 ghost use Rattle.heavy_labels.specs.Stepped.{record_of};
 ghost use Rattle.certificate.specs.Climbs.{HoldsFirst};
@@ -21,8 +22,8 @@ use node_table::{Entry, Scheme};
 
 /// The entry of y for a root, if y is a child of x there.
 pub(crate) fn child_of<'a>(x: u16, behind: Option<&'a Entry>) -> Option<&'a Entry>
-    ensures { (t : Tables) (y root : ℕ) → MatchOption behind.entry (t.entry y root ≡ None) (λ e. t.entry y root ≡ Some e.now)
-        → MatchOption result (parent_is x (t.entry y root) ≡ false) (λ e. (t.entry y root ≡ Some e.now) × (e.now.parent ≡ Some x)) }
+    ensures { (t : Tables) (y root : ℕ) → IsEntryOf t y root behind.entry
+        → IsChildOf t root x y result }
 {
     let entry = behind?;
     if entry.parent == Some(x) {
@@ -46,9 +47,9 @@ pub(crate) fn wider_child(
     y: u16,
     below: Option<&Entry>,
 ) -> (Option<u16>, u32)
-    ensures node { (t : Tables) (root x : ℕ) → HasSpan t root widest.0 widest.1 → MatchOption below.entry (parent_is x (t.entry y root) ≡ false) (λ e. (t.entry y root ≡ Some e.now) × (e.now.parent ≡ Some x))
+    ensures node { (t : Tables) (root x : ℕ) → HasSpan t root widest.0 widest.1 → IsChildOf t root x y below.entry
         → result.0 ≡ wider_of t root x widest.0 y }
-    ensures span { (t : Tables) (root x : ℕ) → HasSpan t root widest.0 widest.1 → MatchOption below.entry (parent_is x (t.entry y root) ≡ false) (λ e. (t.entry y root ≡ Some e.now) × (e.now.parent ≡ Some x))
+    ensures span { (t : Tables) (root x : ℕ) → HasSpan t root widest.0 widest.1 → IsChildOf t root x y below.entry
         → HasSpan t root result.0 result.1 }
 {
     let Some(entry) = below else {
@@ -72,7 +73,7 @@ fn heavy_child(
 ) -> Option<u16>
     requires inside { x < graph.now.nodes }
     requires ascend { AllAscend scheme.now }
-    ensures { result ≡ widest_from (tables scheme.now) root x None (neighbours graph.now x) }
+    ensures { result ≡ widest_of graph.now (tables scheme.now) root x }
 {
     let row = graph.neighbours(x);
     let mut widest = (None, 0);
@@ -85,7 +86,7 @@ fn heavy_child(
 
 /// Whether the record of a child has a number and a light depth, and its port to its parent.
 pub(crate) fn fits_child(graph: &Graph, entry: &Entry, y: u16, first: u32, depth: u32) -> bool
-    ensures { IsTrue result ↔ (((record_of entry.now.tree_record).first ≡ first) × (((record_of entry.now.tree_record).light_depth ≡ depth) × ((record_of entry.now.tree_record).parent_port ≡ up_port graph.now y (Some entry.now)))) }
+    ensures { IsTrue result ↔ IsNumbered graph.now y entry.now first depth }
 {
     let record = &entry.tree_record;
     record.first as u32 == first
@@ -103,8 +104,8 @@ pub(crate) fn number_after(
     next: u32,
     depth: u16,
 ) -> Option<u32>
-    ensures { (t : Tables) (root x : ℕ) (ys : List ℕ) (end : ℕ) → MatchOption below.entry (parent_is x (t.entry y root) ≡ false) (λ e. (t.entry y root ≡ Some e.now) × (e.now.parent ≡ Some x))
-        → MatchOption result (IsRow graph.now t root false next depth end (with_other t root x heavy y ys) → ⊥) (λ n. IsRow graph.now t root false next depth end (with_other t root x heavy y ys) ↔ IsRow graph.now t root false n depth end ys) }
+    ensures { (t : Tables) (root x : ℕ) (ys : List ℕ) (end : ℕ) → IsChildOf t root x y below.entry
+        → GoesOn graph.now t root depth end next (with_other t root x heavy y ys) ys result }
 {
     let Some(entry) = below else {
         return Some(next);
@@ -132,7 +133,7 @@ fn are_others_fit(
 ) -> bool
     requires inside { x < graph.now.nodes }
     requires ascend { AllAscend scheme.now }
-    ensures { IsTrue result ↔ IsRow graph.now (tables scheme.now) root false start depth end (others (tables scheme.now) root x heavy (neighbours graph.now x)) }
+    ensures { IsTrue result ↔ FitOthers graph.now (tables scheme.now) root x heavy start depth end }
 {
     let row = graph.neighbours(x);
     let mut next = start;
@@ -149,7 +150,8 @@ fn are_others_fit(
 /// Whether a record and that of its node's heavy child, whose entry this is, fit.
 #[tactic(auto, unfolding(crate::specs::Rows::FitsFirst))]
 pub(crate) fn fits_first(graph: &Graph, entry: &Entry, heavy: u16, below: &Entry) -> bool
-    ensures { (t : Tables) → t.entry heavy entry.now.root ≡ Some below.now → IsTrue result ↔ FitsFirst graph.now t entry.now.root (record_of entry.now.tree_record) heavy }
+    ensures { (t : Tables) → t.entry heavy entry.now.root ≡ Some below.now
+        → IsTrue result ↔ FitsFirst graph.now t entry.now.root (record_of entry.now.tree_record) heavy }
 {
     let record = &entry.tree_record;
     fits_child(
@@ -174,7 +176,7 @@ fn fits_heavy(
 ) -> bool
     requires inside { x < graph.now.nodes }
     requires ascend { AllAscend scheme.now }
-    ensures { IsTrue result ↔ FitsRow graph.now (tables scheme.now) entry.now.root (record_of entry.now.tree_record) (heavy ∷ others (tables scheme.now) entry.now.root x heavy (neighbours graph.now x)) }
+    ensures { IsTrue result ↔ FitsWithOthers graph.now (tables scheme.now) x entry.now heavy }
 {
     let record = &entry.tree_record;
     let Some(below) = scheme.entry(heavy, entry.root) else {

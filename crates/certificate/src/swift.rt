@@ -1,15 +1,14 @@
 // The swift pass: Shape, Edges, Parents and Records at once, entry by entry, with one pass over the ports of its node. What it
 // takes for right is right. Which rule fails first where it finds a fault is told by the check of each.
-ghost use Rattle.std.specs.Prelude.{◌≡◌, ◌≢◌, ◌<◌, ◌+◌, ℕ, IfSome, IsTrue, Some, None, MatchOption, Option, false, List, ◌∷◌};
+ghost use Rattle.std.specs.Prelude.{◌≡◌, ◌≢◌, ◌<◌, ◌+◌, ℕ, IfSome, IsTrue, Some, List, ◌∷◌};
 ghost use Rattle.std.specs.List.{All};
 ghost use Rattle.certificate.specs.Entries.{AllAscend, HasParentAt};
-ghost use Rattle.certificate.specs.Rows.{FitsRow, IsLocalAt, others, widest_from};
+ghost use Rattle.certificate.specs.Rows.{FitBehind, FitsRow, IsLocalAt, OthersFitBehind, widest_of};
+ghost use Rattle.certificate.specs.Found.{IsEntryOf};
 ghost use Rattle.certificate.specs.Swift.{HasSpan, IsRightOver, IsSumOver, IsSwept, IsSweptAt, named_over};
 ghost use Rattle.graph_edits.specs.Edges.{IsSound, Network, neighbours_of, weight_in};
 ghost use Rattle.heavy_labels.specs.Stepped.{record_of};
 ghost use Rattle.node_table.specs.Checks.{Holds, k1, k2, k3, parent_is};
-ghost use Rattle.node_table.specs.Local.{IsRow};
-ghost use Rattle.node_table.specs.Ports.{neighbours};
 ghost use Rattle.node_table.specs.Tables.{Tables, tables};
 
 use crate::edges::is_closed_over;
@@ -25,7 +24,7 @@ use node_table::{Entry, Scheme};
 /// same root, if there is one.
 #[tactic(auto, unfolding(crate::specs::Swift::IsSumOver))]
 fn is_sum_over(entry: &Entry, edge: (u16, u32), behind: Option<&Entry>) -> bool
-    ensures { (t : Tables) → MatchOption behind.entry (t.entry edge.0 entry.now.root ≡ None) (λ f. t.entry edge.0 entry.now.root ≡ Some f.now)
+    ensures { (t : Tables) → IsEntryOf t edge.0 entry.now.root behind.entry
         → IsTrue result → IsSumOver t entry.now edge }
 {
     match behind {
@@ -39,7 +38,7 @@ fn is_sum_over(entry: &Entry, edge: (u16, u32), behind: Option<&Entry>) -> bool
 /// Whether an edge leads to the parent that an entry names, where this entry stands for the same root.
 #[tactic(auto, unfolding(crate::specs::Entries::HasParentAt))]
 fn meets_parent(entry: &Entry, edge: (u16, u32), behind: Option<&Entry>) -> bool
-    ensures { (m : Network) (t : Tables) (x : ℕ) → MatchOption behind.entry (t.entry edge.0 entry.now.root ≡ None) (λ f. t.entry edge.0 entry.now.root ≡ Some f.now)
+    ensures { (m : Network) (t : Tables) (x : ℕ) → IsEntryOf t edge.0 entry.now.root behind.entry
         → weight_in m x edge.0 ≡ Some edge.1 → IsTrue result → HasParentAt m t x entry.now }
 {
     behind.is_some() && entry.parent == Some(edge.0)
@@ -48,7 +47,7 @@ fn meets_parent(entry: &Entry, edge: (u16, u32), behind: Option<&Entry>) -> bool
 /// Whether an edge is right for an entry by Edges and Parents.
 #[tactic(auto, unfolding(crate::specs::Swift::IsRightOver))]
 fn is_right_over(scheme: &Scheme, entry: &Entry, edge: (u16, u32), behind: Option<&Entry>) -> bool
-    requires { MatchOption behind ((tables scheme.now).entry edge.0 entry.now.root ≡ None) (λ f. (tables scheme.now).entry edge.0 entry.now.root ≡ Some f.now) }
+    requires { IsEntryOf (tables scheme.now) edge.0 entry.now.root behind }
     ensures { IsTrue result → IsRightOver (tables scheme.now) entry.now edge }
 {
     is_closed_over(scheme, entry, edge, behind)
@@ -70,8 +69,8 @@ fn widest_child(
     requires ascend { AllAscend scheme.now }
     ensures parent { IfSome result (λ _. x ≢ entry.now.root → HasParentAt graph.now (tables scheme.now) x entry.now) }
     ensures right { IfSome result (λ _. All (IsRightOver (tables scheme.now) entry.now) (neighbours_of graph.now x)) }
-    ensures widest { IfSome result (λ heavy. heavy ≡ widest_from (tables scheme.now) entry.now.root x None (neighbours graph.now x)) }
-    ensures others { IfSome result (λ _. IsRow graph.now (tables scheme.now) entry.now.root false (entry.now.tree_record.heavy_last + 1) entry.now.tree_record.light_depth (entry.now.tree_record.last + 1) (others (tables scheme.now) entry.now.root x named (neighbours graph.now x))) }
+    ensures widest { IfSome result (λ heavy. heavy ≡ widest_of graph.now (tables scheme.now) entry.now.root x) }
+    ensures others { IfSome result (λ _. OthersFitBehind graph.now (tables scheme.now) x entry.now named) }
 {
     let record = &entry.tree_record;
     let depth = record.light_depth;
@@ -122,7 +121,7 @@ fn fits_named(
     heavy: u16,
 ) -> bool
     requires { AllAscend scheme.now }
-    ensures { (ys : List ℕ) → IsTrue result → IsRow graph.now (tables scheme.now) entry.now.root false (entry.now.tree_record.heavy_last + 1) entry.now.tree_record.light_depth (entry.now.tree_record.last + 1) ys
+    ensures { (ys : List ℕ) → IsTrue result → FitBehind graph.now (tables scheme.now) entry.now ys
         → FitsRow graph.now (tables scheme.now) entry.now.root (record_of entry.now.tree_record) (heavy ∷ ys) }
 {
     let port = entry.tree_record.heavy_port.unwrap_or(0) as usize;

@@ -1,5 +1,5 @@
 -- How many lines stand in front, a line further.
-use Rattle.std.proofs.Common.{arith, ◌≡◌, ◌≤◌, ◌<◌, ◌+◌, ◌∙◌, sym, ap, subst, refl, ℕ, List, [], ◌∷◌, Bool, true, false, cond, map, length, drop, get_or, Bor}
+use Rattle.std.proofs.Common.{◌≡◌, ◌≤◌, ◌<◌, ◌+◌, ◌∙◌, ap, refl, ℕ, List, [], Bool, true, false, cond, length, drop, get_or, Bor}
 use Rattle.std.proofs.lemmas.List.{at_drop_all, at_drop_more}
 use Rattle.edge_lists.specs.Rows.{is_header, lead, says_nothing, words_of}
 use Rattle.edge_lists.proofs.WordLemmas.{texts_at}

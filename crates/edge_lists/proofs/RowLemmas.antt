@@ -1,5 +1,5 @@
 -- Rows, a line more at a time.
-use Rattle.std.proofs.Common.{arith, ◌≡◌, ◌≢◌, ◌≤◌, ◌<◌, ◌+◌, ◌-◌, ◌^◌, ◌∙◌, ◌⊎◌, inl, inr, sym, ap, subst, refl, ℕ, zero, suc, List, [], ◌∷◌, ◌++◌, Bool, true, false, map, length, take, drop, get_or, append_assoc, Bor}
+use Rattle.std.proofs.Common.{arith, ◌≡◌, ◌≢◌, ◌<◌, ◌+◌, ◌-◌, ◌^◌, ◌∙◌, inl, inr, sym, ap, subst, refl, ℕ, zero, suc, List, [], ◌∷◌, ◌++◌, Bool, true, false, map, length, take, drop, get_or, append_assoc, Bor}
 use Rattle.edge_lists.specs.Rows.{IsFirstRefused, IsNoRow, IsRowOf, IsWeight, Said, Say, fields_of, lead, says_nothing, words_of}
 
 -- no fields say no edge

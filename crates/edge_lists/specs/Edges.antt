@@ -19,6 +19,18 @@ AreEdgesOf StandsFor said edges = AllZip (IsEdgeOf StandsFor) said edges
 abbrev pub IsNumber : ℕ → List ℕ → ℕ → Type 0
 IsNumber last word number = (word ≡ decimal number) × (number ≤ last)
 
+-- the edge of a row whose ends are such numbers
+abbrev pub IsNumbered : ℕ → Said → Edge → Type 0
+IsNumbered last said edge = IsEdgeOf (IsNumber last) said edge
+
+-- an end of the row is no such number
+abbrev pub IsNotNumbered : ℕ → Said → Type 0
+IsNotNumbered last said = (edge : Edge) → IsNumbered last said edge → ⊥
+
 -- the edges of rows whose ends are all such numbers
 abbrev pub AreNumbered : ℕ → List Said → List Edge → Type 0
 AreNumbered last said edges = AreEdgesOf (IsNumber last) said edges
+
+-- an end of a row is no such number
+abbrev pub AreNotNumbered : ℕ → List Said → Type 0
+AreNotNumbered last said = (edges : List Edge) → AreNumbered last said edges → ⊥

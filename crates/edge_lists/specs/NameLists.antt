@@ -55,6 +55,10 @@ HaveNumbers most names (word ∷ words) = (has_number most names word ≡ true) 
 abbrev pub ends_of : List Said → List (List ℕ)
 ends_of said = flat_map (λ row. row.a ∷ row.b ∷ []) said
 
+-- the ends of one row
+abbrev pub row_ends : Said → List (List ℕ)
+row_ends row = ends_of (row ∷ [])
+
 -- the edges of rows whose ends are names
 abbrev pub AreNamed : List (List ℕ) → List Said → List Edge → Type 0
 AreNamed names said edges = AreEdgesOf (IsNumberOf names) said edges

@@ -1,6 +1,8 @@
 -- Lists as they are written, and what is read of them.
 use Rattle.std.specs.Prelude.{◌≡◌, ◌≢◌, ◌==◌, ◌<◌, ◌+◌, ◌^◌, ◌||◌, ℕ, List, [], ◌∷◌, ◌++◌, Bool, false, All, decimal, drop, unwrap_or}
 use Rattle.std.specs.List.{flat_map, slice_get}
+use denote.Ref.{Bor}
+use Rattle.written_values.specs.Reading.{texts_of}
 use Rattle.written_values.specs.Scripts.{lines_of}
 use Rattle.edge_lists.specs.declared.edge.Edge.{Edge}
 use Rattle.edge_lists.specs.declared.refused.NameRefused.{NameRefused}
@@ -39,9 +41,17 @@ label_of names node = unwrap_or (slice_get names node) (decimal node)
 abbrev pub edge_line : List (List ℕ) → Edge → List ℕ
 edge_line names edge = label_of names edge.a ++ 32 ∷ (label_of names edge.b ++ 32 ∷ decimal edge.weight)
 
+-- that line, with a line feed behind it
+abbrev pub edge_text : List (List ℕ) → Edge → List ℕ
+edge_text names edge = edge_line names edge ++ 10 ∷ []
+
+-- the same, where the names are behind references
+abbrev pub text_of_edge : List (Bor (List ℕ)) → Edge → List ℕ
+text_of_edge names edge = edge_text (texts_of names) edge
+
 -- a line for each edge
 abbrev pub edges_text : List (List ℕ) → List Edge → List ℕ
-edges_text names edges = flat_map (λ edge. edge_line names edge ++ 10 ∷ []) edges
+edges_text names edges = flat_map (λ edge. edge_text names edge) edges
 
 -- what separates lines, words and fields: a line feed, a tab, a carriage return, a blank or a comma
 abbrev pub separates : ℕ → Bool

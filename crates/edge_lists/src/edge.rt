@@ -1,7 +1,8 @@
 // Edges between nodes that have numbers.
-ghost use Rattle.std.specs.Prelude.{IfNone, IfOk, IfSome, List, map};
-ghost use Rattle.edge_lists.specs.declared.edge.Edge.{Edge};
-ghost use Rattle.edge_lists.specs.Edges.{AreNumbered, IsEdgeOf, IsNumber};
+ghost use Rattle.std.specs.Prelude.{map};
+ghost use Rattle.written_values.specs.Reading.{IfRead};
+ghost use Rattle.edge_lists.specs.Edges.{AreNotNumbered, AreNumbered, IsNotNumbered, IsNumbered};
+ghost use Rattle.edge_lists.specs.Reading.{IfNoneRead};
 ghost use Rattle.edge_lists.specs.Rows.{row_of};
 
 use crate::row::Row;
@@ -20,8 +21,8 @@ pub struct Edge {
 
 // The edge of a row whose ends are plain numbers up to `last`.
 fn edge_in(alloc: Global, row: &Row<'_>, last: u16) -> Result<Option<Edge>, AllocError>
-    ensures found { IfOk result (λ found. IfSome found (λ edge. IsEdgeOf (IsNumber last) (row_of row.now) edge)) }
-    ensures none { IfOk result (λ found. IfNone found ((edge : Edge) → IsEdgeOf (IsNumber last) (row_of row.now) edge → ⊥)) }
+    ensures found { IfRead result (λ edge. IsNumbered last (row_of row.now) edge) }
+    ensures none { IfNoneRead result (IsNotNumbered last (row_of row.now)) }
 {
     let Some(a) = number(alloc, row.a, last as u64)? else {
         return Ok(None);
@@ -43,8 +44,8 @@ pub fn by_numbers(
     rows: &[Row<'_>],
     last: u16,
 ) -> Result<Option<Vec<Edge>>, AllocError>
-    ensures found { IfOk result (λ found. IfSome found (λ edges. AreNumbered last (map row_of rows.now) edges.items)) }
-    ensures none { IfOk result (λ found. IfNone found ((edges : List Edge) → AreNumbered last (map row_of rows.now) edges → ⊥)) }
+    ensures found { IfRead result (λ edges. AreNumbered last (map row_of rows.now) edges.items) }
+    ensures none { IfNoneRead result (AreNotNumbered last (map row_of rows.now)) }
 {
     let mut edges = Vec::new(alloc);
     for row in rows {

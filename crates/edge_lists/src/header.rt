@@ -1,5 +1,6 @@
 // Lines that say nothing.
-ghost use Rattle.std.specs.Prelude.{◌≡◌, ◌≤◌, IfOk, length, map};
+ghost use Rattle.std.specs.Prelude.{◌≡◌, ◌≤◌, IfOk, length};
+ghost use Rattle.written_values.specs.Reading.{texts_of};
 ghost use Rattle.edge_lists.specs.Rows.{IsFront, begins_as_name, is_header, is_numeric, lead, names_third, says_nothing, words_of};
 
 use crate::words::{fields_in, words_in};
@@ -7,7 +8,7 @@ use std::alloc::{AllocError, Global};
 
 /// Whether a line of these words says nothing: there is none, or the first begins with `#`.
 pub(crate) fn is_nothing(words: &[&str]) -> bool
-    ensures { result ≡ says_nothing (map (λ x. x.now) words.now) }
+    ensures { result ≡ says_nothing (texts_of words.now) }
 {
     match words.first() {
         Some(word) => match word.as_bytes() {
@@ -37,7 +38,7 @@ fn is_name(field: &str) -> bool
 
 // Whether there are three fields, and the third begins as no number does.
 fn is_third_named(fields: &[&str]) -> bool
-    ensures { result ≡ names_third (map (λ x. x.now) fields.now) }
+    ensures { result ≡ names_third (texts_of fields.now) }
 {
     match fields {
         [_, _, third] => is_name(*third),
@@ -47,7 +48,7 @@ fn is_third_named(fields: &[&str]) -> bool
 
 // Whether a line of these words is a header, where it is the first that says something.
 fn is_head(alloc: Global, text: &str, words: Vec<&str>) -> Result<bool, AllocError>
-    requires { map (λ x. x.now) words.items ≡ words_of text.now }
+    requires { texts_of words.items ≡ words_of text.now }
     ensures { IfOk result (λ is. is ≡ is_header text.now) }
 {
     let (fields, commas) = fields_in(alloc, text, words)?;
@@ -81,7 +82,7 @@ fn front_of(alloc: Global, text: &str) -> Result<Front, AllocError>
 
 /// How many lines stand in front of the first that may say an edge: lines that say nothing, and behind them a header.
 pub(crate) fn lines_before(alloc: Global, texts: &[&str]) -> Result<usize, AllocError>
-    ensures lead { IfOk result (λ n. n ≡ lead (map (λ x. x.now) texts.now)) }
+    ensures lead { IfOk result (λ n. n ≡ lead (texts_of texts.now)) }
     ensures within { IfOk result (λ n. n ≤ length texts.now) }
 {
     for index in 0..texts.len() {

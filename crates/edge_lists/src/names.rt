@@ -1,9 +1,11 @@
 // Names of nodes.
-ghost use Rattle.std.specs.Prelude.{◌≡◌, ◌↔◌, ◌<◌, ◌+◌, ◌^◌, ◌∷◌, ◌++◌, [], All, IfErr, IfNone, IfOk, IfSome, IsTrue, OnErr, OnOk, OnSome, false, ℕ, is_some, length, map};
+ghost use Rattle.std.specs.Prelude.{◌≡◌, ◌↔◌, ◌<◌, ◌+◌, ◌^◌, ◌∷◌, ◌++◌, [], All, IfOk, IfSome, IsTrue, OnErr, OnOk, false, ℕ, is_some, length, map};
 ghost use Rattle.std.specs.String.{string_bytes};
+ghost use Rattle.written_values.specs.Reading.{IfRead, texts_of};
 ghost use Rattle.written_values.specs.Scripts.{lines_of};
 ghost use Rattle.edge_lists.specs.Edges.{IsEdgeOf};
-ghost use Rattle.edge_lists.specs.NameLists.{AreBegun, AreNames, AreTaken, EndsAt, HaveNumbers, IsFirstNoName, IsNumberOf, IsOneTooMany, IsWord, NoneTwice, ends_of, has_number, is_among, with_name, with_names};
+ghost use Rattle.edge_lists.specs.NameLists.{AreBegun, AreNames, AreTaken, EndsAt, HaveNumbers, IsFirstNoName, IsNumberOf, IsOneTooMany, IsWord, NoneTwice, has_number, is_among, row_ends, with_name, with_names};
+ghost use Rattle.edge_lists.specs.Reading.{IfAccepted, IfNoneRead, IfRefused, OnRead};
 ghost use Rattle.edge_lists.specs.Rows.{row_of};
 ghost use Rattle.edge_lists.specs.Written.{AreListed, IsOneLine, names_text};
 
@@ -25,21 +27,22 @@ pub struct Names<'a> {
 }
 
 impl<'a> Model for Names<'a> {
-    ghost use Rattle.std.specs.Prelude.{List, ℕ, map};
+    ghost use Rattle.std.specs.Prelude.{List, ℕ};
+    ghost use Rattle.written_values.specs.Reading.{texts_of};
     ghost use Rattle.std.specs.HashMap.{get_by};
     ghost use Rattle.std.specs.Str.{bytes_eq};
     ghost use Rattle.edge_lists.specs.NameLists.{IsIndexOf};
 
     ghost Value = { List (List ℕ) };
 
-    ghost view = { λ names. map (λ name. name.now) names.list.items };
+    ghost view = { λ names. texts_of names.list.items };
 
-    ghost invariant = { λ names. IsIndexOf (map (λ name. name.now) names.list.items) (λ name. get_by (λ key. bytes_eq name key.now) names.numbers) };
+    ghost invariant = { λ names. IsIndexOf (texts_of names.list.items) (λ name. get_by (λ key. bytes_eq name key.now) names.numbers) };
 }
 
 // Whether a text is the only one of these words.
 fn is_only(words: &[&str], text: &str) -> bool
-    ensures { IsTrue result ↔ (map (λ word. word.now) words.now ≡ text.now ∷ []) }
+    ensures { IsTrue result ↔ (texts_of words.now ≡ text.now ∷ []) }
 {
     match words {
         [word] => *word == text,
@@ -118,9 +121,9 @@ impl<'a> Names<'a> {
         lines: &[&'a str],
         most: u16,
     ) -> Result<Result<Names<'a>, NameRefused>, AllocError>
-        ensures lines { IfOk result (λ read. IfOk read (λ names. names ≡ map (λ line. line.now) lines.now)) }
-        ensures names { IfOk result (λ read. IfOk read (λ names. AreNames most names)) }
-        ensures refused { IfOk result (λ read. IfErr read (λ refused. IsFirstNoName most (map (λ line. line.now) lines.now) refused)) }
+        ensures lines { IfAccepted result (λ names. names ≡ texts_of lines.now) }
+        ensures names { IfAccepted result (λ names. AreNames most names) }
+        ensures refused { IfRefused result (λ refused. IsFirstNoName most (texts_of lines.now) refused) }
     {
         let mut names = Names::new(alloc);
         for index in 0..lines.len() {
@@ -149,9 +152,9 @@ impl<'a> Names<'a> {
         text: &'a str,
         most: u16,
     ) -> Result<Result<Names<'a>, NameRefused>, AllocError>
-        ensures lines { IfOk result (λ read. IfOk read (λ names. names ≡ lines_of text.entry.now)) }
-        ensures names { IfOk result (λ read. IfOk read (λ names. AreNames most names)) }
-        ensures refused { IfOk result (λ read. IfErr read (λ refused. IsFirstNoName most (lines_of text.entry.now) refused)) }
+        ensures lines { IfAccepted result (λ names. names ≡ lines_of text.entry.now) }
+        ensures names { IfAccepted result (λ names. AreNames most names) }
+        ensures refused { IfRefused result (λ refused. IsFirstNoName most (lines_of text.entry.now) refused) }
     {
         let texts = lines_in(alloc, text)?;
         match Names::from_lines(alloc, &texts, most)? {
@@ -163,12 +166,12 @@ impl<'a> Names<'a> {
     /// The number of a name, which gets the next one where it is new; `None` where there are `most` names already and
     /// it is none of them.
     pub fn number_of(&mut self, name: &'a str, most: u16) -> Result<Option<u16>, AllocError>
-        ensures number { IfOk result (λ found. IfSome found (λ number. IsNumberOf self.new name.entry.now number)) }
+        ensures number { IfRead result (λ number. IsNumberOf self.new name.entry.now number) }
         ensures some { IfOk result (λ found. is_some found ≡ has_number most self.old name.entry.now) }
-        ensures names { IfOk result (λ found. OnSome found (self.new ≡ with_name self.old name.entry.now)) }
+        ensures names { OnRead result (self.new ≡ with_name self.old name.entry.now) }
 
         // Nothing changes where there is no number, or no memory.
-        ensures none { IfOk result (λ found. IfNone found (self.new ≡ self.old)) }
+        ensures none { IfNoneRead result (self.new ≡ self.old) }
         ensures err { OnErr result (self.new ≡ self.old) }
     {
         if let Some(number) = self.place_of(name) {
@@ -183,10 +186,10 @@ impl<'a> Names<'a> {
 
     // The edge of a row, by the numbers of its names.
     fn edge_of(&mut self, row: &Row<'a>, most: u16) -> Result<Option<Edge>, AllocError>
-        ensures edge { IfOk result (λ found. IfSome found (λ edge. IsEdgeOf (IsNumberOf self.new) (row_of row.now) edge)) }
-        ensures numbers { IfOk result (λ found. OnSome found (HaveNumbers most self.old (ends_of (row_of row.now ∷ [])))) }
-        ensures names { IfOk result (λ found. OnSome found (self.new ≡ with_names self.old (ends_of (row_of row.now ∷ [])))) }
-        ensures none { IfOk result (λ found. IfNone found (EndsAt most self.old (row_of row.now) self.new)) }
+        ensures edge { IfRead result (λ edge. IsEdgeOf (IsNumberOf self.new) (row_of row.now) edge) }
+        ensures numbers { OnRead result (HaveNumbers most self.old (row_ends (row_of row.now))) }
+        ensures names { OnRead result (self.new ≡ with_names self.old (row_ends (row_of row.now))) }
+        ensures none { IfNoneRead result (EndsAt most self.old (row_of row.now) self.new) }
         ensures err { OnErr result (AreBegun self.old (row_of row.now ∷ []) self.new) }
     {
         let Some(a) = self.number_of(row.a, most)? else {
@@ -211,8 +214,8 @@ impl<'a> Names<'a> {
         rows: &[Row<'a>],
         most: u16,
     ) -> Result<Result<Vec<Edge>, NameRefused>, AllocError>
-        ensures taken { IfOk result (λ taken. IfOk taken (λ edges. AreTaken most self.old (map row_of rows.now) edges.items self.new)) }
-        ensures refused { IfOk result (λ taken. IfErr taken (λ refused. IsOneTooMany most self.old (map row_of rows.now) refused self.new)) }
+        ensures taken { IfAccepted result (λ edges. AreTaken most self.old (map row_of rows.now) edges.items self.new) }
+        ensures refused { IfRefused result (λ why. IsOneTooMany most self.old (map row_of rows.now) why self.new) }
         ensures err { OnErr result (AreBegun self.old (map row_of rows.now) self.new) }
     {
         let mut edges = Vec::new(alloc);
@@ -231,7 +234,7 @@ impl<'a> Names<'a> {
 
     /// The names in the order of their numbers.
     pub fn list(&self) -> &[&'a str]
-        ensures names { map (λ name. name.now) result.now ≡ self.now }
+        ensures names { texts_of result.now ≡ self.now }
         ensures once { NoneTwice self.now }
         ensures few { length self.now < 2 ^ 16 }
     {

@@ -1,7 +1,9 @@
 // Reading an edge list.
-ghost use Rattle.std.specs.Prelude.{◌≡◌, ◌≢◌, ◌⊎◌, ◌∷◌, [], ◌+◌, ◌<◌, ◌^◌, ℕ, IfErr, IfNone, IfOk, IfSome, drop, length, map};
-ghost use Rattle.written_values.specs.Scripts.{lines_of};
-ghost use Rattle.edge_lists.specs.Rows.{IsFirstRefused, IsNoRow, IsReadAs, IsRowOf, IsWeight, Say, lead, row_of};
+ghost use Rattle.std.specs.Prelude.{◌≡◌, ◌∷◌, [], ◌+◌, ◌<◌, ◌^◌, ℕ, IfNone, IfOk, IfSome, length, map};
+ghost use Rattle.written_values.specs.Reading.{IfRead, texts_of};
+ghost use Rattle.edge_lists.specs.Reading.{IfAccepted, IfNoneRead, IfRefused};
+ghost use Rattle.edge_lists.specs.Rows.{IsFirstRefused, IsNoRow, IsReadAs, IsRowOf, IsWeight, Say, row_of};
+ghost use Rattle.edge_lists.specs.Written.{IsRefusedAt, SaysEdges};
 
 use crate::header::{is_nothing, lines_before};
 use crate::refused::{Form, LineRefused};
@@ -15,8 +17,8 @@ pub fn read_edge_list<'a>(
     alloc: Global,
     text: &'a str,
 ) -> Result<Result<Vec<Row<'a>>, LineRefused>, AllocError>
-    ensures found { IfOk result (λ read. IfOk read (λ rows. let texts = lines_of text.entry.now in Say (lead texts) (drop (lead texts) texts) (map row_of rows.items))) }
-    ensures refused { IfOk result (λ read. IfErr read (λ refused. let texts = lines_of text.entry.now in IsFirstRefused (lead texts) (drop (lead texts) texts) refused.number)) }
+    ensures found { IfAccepted result (λ rows. SaysEdges text.entry.now (map row_of rows.items)) }
+    ensures refused { IfRefused result (λ refused. IsRefusedAt text.entry.now refused.number) }
 {
     let texts = lines_in(alloc, text)?;
     let before = lines_before(alloc, &texts)?;
@@ -33,8 +35,8 @@ fn rows_in<'a>(
     texts: &[&'a str],
 ) -> Result<Result<Vec<Row<'a>>, LineRefused>, AllocError>
     requires { before + length texts.now < 2 ^ 64 }
-    ensures found { IfOk result (λ read. IfOk read (λ rows. Say before (map (λ x. x.now) texts.now) (map row_of rows.items))) }
-    ensures refused { IfOk result (λ read. IfErr read (λ refused. IsFirstRefused before (map (λ x. x.now) texts.now) refused.number)) }
+    ensures found { IfAccepted result (λ rows. Say before (texts_of texts.now) (map row_of rows.items)) }
+    ensures refused { IfRefused result (λ refused. IsFirstRefused before (texts_of texts.now) refused.number) }
 {
     let mut rows = Vec::new(alloc);
     for index in 0..texts.len() {
@@ -86,8 +88,8 @@ fn row_in<'a>(
     line: usize,
     fields: &[&'a str],
 ) -> Result<Result<Row<'a>, Form>, AllocError>
-    ensures row { IfOk result (λ read. IfOk read (λ row. IsRowOf line (map (λ x. x.now) fields.now) (row_of row))) }
-    ensures none { IfOk result (λ read. IfErr read (λ _. IsNoRow (map (λ x. x.now) fields.now))) }
+    ensures row { IfAccepted result (λ row. IsRowOf line (texts_of fields.now) (row_of row)) }
+    ensures none { IfRefused result (λ _. IsNoRow (texts_of fields.now)) }
 {
     let Some((a, behind)) = first_of(fields) else {
         return Ok(Err(Form::Fields));
@@ -107,8 +109,8 @@ fn row_in<'a>(
 
 // The first field, and those behind it.
 fn first_of<'a, 'b>(fields: &'a [&'b str]) -> Option<(&'b str, &'a [&'b str])>
-    ensures some { IfSome result (λ p. map (λ x. x.now) fields.entry.now ≡ p.0.now ∷ map (λ x. x.now) p.1.now) }
-    ensures none { IfNone result (map (λ x. x.now) fields.entry.now ≡ []) }
+    ensures some { IfSome result (λ p. texts_of fields.entry.now ≡ p.0.now ∷ texts_of p.1.now) }
+    ensures none { IfNone result (texts_of fields.entry.now ≡ []) }
 {
     match fields.split_first() {
         Some((first, rest)) => Some((*first, rest)),
@@ -118,8 +120,8 @@ fn first_of<'a, 'b>(fields: &'a [&'b str]) -> Option<(&'b str, &'a [&'b str])>
 
 // The weight that stands behind the ends, 1 where nothing does.
 fn weight_in(alloc: Global, fields: &[&str]) -> Result<Option<u32>, AllocError>
-    ensures some { IfOk result (λ o. IfSome o (λ w. IsWeight w (map (λ x. x.now) fields.now))) }
-    ensures none { IfOk result (λ o. IfNone o ((w : ℕ) → w < 2 ^ 32 → IsWeight w (map (λ x. x.now) fields.now) → ⊥)) }
+    ensures some { IfRead result (λ w. IsWeight w (texts_of fields.now)) }
+    ensures none { IfNoneRead result ((w : ℕ) → w < 2 ^ 32 → IsWeight w (texts_of fields.now) → ⊥) }
 {
     let Some((first, rest)) = first_of(fields) else {
         return Ok(Some(1));

@@ -1,5 +1,6 @@
 // The fields of a line.
 ghost use Rattle.std.specs.Prelude.{◌≡◌, ◌<◌, IfOk, map};
+ghost use Rattle.written_values.specs.Reading.{texts_of};
 ghost use Rattle.std.specs.List.{flat_map};
 ghost use Rattle.edge_lists.specs.Rows.{fields_of, has_comma, only_word, parts_at, unless_empty, words_of};
 
@@ -8,7 +9,7 @@ use std::alloc::{AllocError, Global};
 // What stands between such characters, in front of them and behind.
 fn parts_in<'a>(alloc: Global, text: &'a str, at: char) -> Result<Vec<&'a str>, AllocError>
     requires { at < 128 }
-    ensures { IfOk result (λ parts. map (λ x. x.now) parts.items ≡ parts_at at text.entry.now) }
+    ensures { IfOk result (λ parts. texts_of parts.items ≡ parts_at at text.entry.now) }
 {
     text.split(at).collect(alloc)
 }
@@ -16,7 +17,7 @@ fn parts_in<'a>(alloc: Global, text: &'a str, at: char) -> Result<Vec<&'a str>, 
 // The parts of each text.
 fn cut_each<'a>(alloc: Global, texts: &[&'a str], at: char) -> Result<Vec<&'a str>, AllocError>
     requires { at < 128 }
-    ensures { IfOk result (λ parts. map (λ x. x.now) parts.items ≡ flat_map (λ x. parts_at at x.now) texts.now) }
+    ensures { IfOk result (λ parts. texts_of parts.items ≡ flat_map (λ x. parts_at at x.now) texts.now) }
 {
     let mut parts = Vec::new(alloc);
     for text in texts {
@@ -28,7 +29,7 @@ fn cut_each<'a>(alloc: Global, texts: &[&'a str], at: char) -> Result<Vec<&'a st
 
 // Those that aren't empty.
 fn kept<'a>(alloc: Global, parts: &[&'a str]) -> Result<Vec<&'a str>, AllocError>
-    ensures { IfOk result (λ words. map (λ x. x.now) words.items ≡ flat_map (λ x. unless_empty x.now) parts.now) }
+    ensures { IfOk result (λ words. texts_of words.items ≡ flat_map (λ x. unless_empty x.now) parts.now) }
 {
     let mut words = Vec::new(alloc);
     for part in parts {
@@ -41,7 +42,7 @@ fn kept<'a>(alloc: Global, parts: &[&'a str]) -> Result<Vec<&'a str>, AllocError
 
 /// The words of a text: what stands between blanks, tabs and carriage returns, where something does.
 pub(crate) fn words_in<'a>(alloc: Global, text: &'a str) -> Result<Vec<&'a str>, AllocError>
-    ensures { IfOk result (λ words. map (λ x. x.now) words.items ≡ words_of text.entry.now) }
+    ensures { IfOk result (λ words. texts_of words.items ≡ words_of text.entry.now) }
 {
     let parts = parts_in(alloc, text, ' ')?;
     let smaller = cut_each(alloc, &parts, '\t')?;
@@ -52,7 +53,7 @@ pub(crate) fn words_in<'a>(alloc: Global, text: &'a str) -> Result<Vec<&'a str>,
 
 // The only word, or nothing where there is none or another.
 fn only_of<'a>(words: &[&'a str]) -> &'a str
-    ensures { result.now ≡ only_word (map (λ x. x.now) words.now) }
+    ensures { result.now ≡ only_word (texts_of words.now) }
 {
     match words {
         [word] => *word,
@@ -62,7 +63,7 @@ fn only_of<'a>(words: &[&'a str]) -> &'a str
 
 // The field of each part.
 fn fields_between<'a>(alloc: Global, parts: &[&'a str]) -> Result<Vec<&'a str>, AllocError>
-    ensures { IfOk result (λ fields. map (λ x. x.now) fields.items ≡ map (λ x. only_word (words_of x.now)) parts.now) }
+    ensures { IfOk result (λ fields. texts_of fields.items ≡ map (λ x. only_word (words_of x.now)) parts.now) }
 {
     let mut fields = Vec::new(alloc);
     for part in parts {
@@ -79,8 +80,8 @@ pub(crate) fn fields_in<'a>(
     text: &'a str,
     words: Vec<&'a str>,
 ) -> Result<(Vec<&'a str>, bool), AllocError>
-    requires { map (λ x. x.now) words.items ≡ words_of text.now }
-    ensures fields { IfOk result (λ fields. map (λ x. x.now) fields.0.items ≡ fields_of text.entry.now) }
+    requires { texts_of words.items ≡ words_of text.now }
+    ensures fields { IfOk result (λ fields. texts_of fields.0.items ≡ fields_of text.entry.now) }
     ensures commas { IfOk result (λ fields. fields.1 ≡ has_comma text.entry.now) }
 {
     let parts = parts_in(alloc, text, ',')?;

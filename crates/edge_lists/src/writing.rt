@@ -1,14 +1,15 @@
 // An edge list's text.
-ghost use Rattle.std.specs.Prelude.{◌≡◌, ◌++◌, ◌∷◌, [], All, IfOk, OnOk, map};
+ghost use Rattle.std.specs.Prelude.{◌≡◌, ◌++◌, All, IfOk, OnOk};
 ghost use Rattle.std.specs.String.{string_bytes};
-ghost use Rattle.edge_lists.specs.Written.{AreRead, FitTypes, IsLabel, edge_line, edges_text, label_of, said_of};
+ghost use Rattle.written_values.specs.Reading.{texts_of};
+ghost use Rattle.edge_lists.specs.Written.{AreRead, FitTypes, IsLabel, edges_text, label_of, said_of, text_of_edge};
 
 use crate::edge::Edge;
 use std::alloc::{AllocError, Global};
 
 /// Adds what a node is called: its name, or its number where it has none.
 pub fn push_label(text: &mut String, names: &[&str], node: u16) -> Result<(), AllocError>
-    ensures { OnOk result (string_bytes text.new ≡ string_bytes text.old ++ label_of (map (λ name. name.now) names.now) node) }
+    ensures { OnOk result (string_bytes text.new ≡ string_bytes text.old ++ label_of (texts_of names.now) node) }
 {
     match names.get(node as usize) {
         Some(name) => text.push_str(*name),
@@ -17,7 +18,7 @@ pub fn push_label(text: &mut String, names: &[&str], node: u16) -> Result<(), Al
 }
 
 fn push_line(text: &mut String, names: &[&str], edge: &Edge) -> Result<(), AllocError>
-    ensures line { OnOk result (string_bytes text.new ≡ string_bytes text.old ++ (edge_line (map (λ name. name.now) names.now) edge.now ++ 10 ∷ [])) }
+    ensures line { OnOk result (string_bytes text.new ≡ string_bytes text.old ++ text_of_edge names.now edge.now) }
     ensures fits { FitTypes edge.now }
 {
     let (a, b, weight) = (edge.a, edge.b, edge.weight);
@@ -32,9 +33,9 @@ fn push_line(text: &mut String, names: &[&str], edge: &Edge) -> Result<(), Alloc
 ///
 /// Where a list may call nodes by the names, [`crate::read_edge_list`] reads the text as just these edges.
 pub fn edge_list(alloc: Global, edges: &[Edge], names: &[&str]) -> Result<String, AllocError>
-    ensures text { IfOk result (λ text. string_bytes text ≡ edges_text (map (λ name. name.now) names.now) edges.now) }
-    ensures read { IfOk result (λ text. All IsLabel (map (λ name. name.now) names.now)
-        → AreRead (string_bytes text) (said_of (map (λ name. name.now) names.now) 0 edges.now)) }
+    ensures text { IfOk result (λ text. string_bytes text ≡ edges_text (texts_of names.now) edges.now) }
+    ensures read { IfOk result (λ text. All IsLabel (texts_of names.now)
+        → AreRead (string_bytes text) (said_of (texts_of names.now) 0 edges.now)) }
 {
     let mut text = String::new(alloc);
     for edge in edges {

@@ -9,7 +9,10 @@ use Rattle.intake.specs.declared.editor.Editor.TheInside.{Inside}
 use Rattle.intake.specs.declared.outcome.SubmitRefused.{SubmitRefused}
 use Rattle.intake.specs.declared.outcome.SubmitRefused.TheVariants.{BoardShut, QueueFull}
 use Rattle.intake.specs.Turns.{last_asked}
-use Rattle.intake.specs.Outcomes.{refusal_on}
+use Rattle.intake.specs.Outcomes.{outcome_on, refusal_on}
+use Rattle.intake.specs.declared.outcome.Outcome.{Outcome}
+use Rattle.intake.specs.Ends.{Sending}
+use Rattle.intake.specs.Watchers.{Watching}
 
 -- what contracts see of an editor
 pub record Editing : Type 0 where
@@ -35,6 +38,26 @@ IsEditing e = (e.watcher.session ≡ e.sender.session) × (e.watcher.last ≡ la
 abbrev pub editors_from : TableId → List ℕ → ℕ → List Knowledge → List Editing
 editors_from q starts n [] = []
 editors_from q starts n (r ∷ rs) = record { queue = q; session = n; start = last_of starts n; put = []; fulls = 0; known = r.all } ∷ editors_from q starts (n + 1) rs
+
+-- the editor at this end of the queue, before it has submitted anything
+abbrev pub beginner : Sending → Beginning → Editing
+beginner s known = record { queue = s.queue; session = s.session; start = s.start; put = []; fulls = s.fulls; known = known }
+
+-- the same editor, but for what it knows of the board
+abbrev pub with_known : Editing → Beginning → Editing
+with_known e known = record { queue = e.queue; session = e.session; start = e.start; put = e.put; fulls = e.fulls; known = known }
+
+-- it is the same editor, whatever it submitted and knows
+abbrev pub IsSameEditor : Editing → Editing → Type 0
+IsSameEditor old new = (new.queue ≡ old.queue) × ((new.session ≡ old.session) × (new.start ≡ old.start))
+
+-- the watcher that it leaves
+abbrev pub watcher_of : Editing → Watching
+watcher_of e = record { session = e.session; last = last_asked e.put; known = e.known }
+
+-- what the board after all that it knows says of its last ticket
+abbrev pub outcome_by : Editing → Outcome
+outcome_by e = outcome_on (board_after e.known) e.session (last_asked e.put)
 
 -- what refuses a ticket of this editor, on the board after this beginning, the queue aside
 abbrev pub refusal_by : Beginning → Editing → ℕ → Option SubmitRefused

@@ -5,6 +5,7 @@ use Rattle.std.specs.List.{last_or, AllByRecursion}
 use Rattle.std.specs.Option.{unwrap_or}
 use mathlib.Core.Option.{Option, none, some}
 use lib.ListN.{get_elem?}
+use Rattle.graph_edits.specs.declared.edits.Op.{Op}
 use Rattle.requests.specs.Tickets.{sessions, worn_limit, last_of, Rises}
 use Rattle.requests.specs.Requests.{asked_by}
 use Rattle.requests.specs.declared.request.Request.{Request}
@@ -13,6 +14,10 @@ use Rattle.intake.specs.declared.queue.View.{View}
 -- the requests of one session, in order
 abbrev pub of : ℕ → List Request → List Request
 of s rs = filter (λ r. r.session == s) rs
+
+-- a session's request under this ticket
+abbrev pub request_of : ℕ → ℕ → List Op → Request
+request_of session ticket change = record { session = session; ticket = ticket; change = change }
 
 -- the ticket of the last request, where there is one
 abbrev pub last_asked : List Request → Optional ℕ

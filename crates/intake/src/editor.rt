@@ -1,10 +1,9 @@
 // Editors: they put requests into the queue, and look at the board for what became of them.
-ghost use Rattle.std.specs.Prelude.{◌≡◌, ◌+◌, ◌++◌, ◌∷◌, [], IfOk, IfErr, OnOk, OnErr, Some, None, List};
-ghost use Rattle.generations.specs.Beginnings.{GoesOn, board_after};
-ghost use Rattle.generations.specs.Lawful.{IsLawful};
-ghost use Rattle.intake.specs.Turns.{HasWaited, last_asked, of};
+ghost use Rattle.std.specs.Prelude.{◌≡◌, ◌+◌, ◌++◌, ◌∷◌, [], IfOk, IfErr, OnOk, OnErr, None, List};
+ghost use Rattle.generations.specs.Beginnings.{GoesOn};
+ghost use Rattle.intake.specs.Turns.{HasWaited, of, request_of};
 ghost use Rattle.requests.specs.declared.request.Request.{Request};
-ghost use Rattle.intake.specs.Outcomes.{outcome_on};
+ghost use Rattle.intake.specs.Ends.{with_ended};
 ghost use Rattle.intake.specs.declared.outcome.SubmitRefused.TheVariants.{QueueFull};
 
 use crate::outcome::{Outcome, SubmitRefused};
@@ -35,12 +34,13 @@ impl Model for Editor {
 }
 
 impl Editor {
-    ghost use Rattle.intake.specs.Editors.{IsRefused, refusal_by};
+    ghost use Rattle.intake.specs.Watchers.{IsLawfulAfter};
+    ghost use Rattle.intake.specs.Editors.{IsRefused, IsSameEditor, beginner, outcome_by, refusal_by, with_known};
 
     // An editor that has submitted nothing.
     pub(crate) fn new(sender: Sender, reader: BoardReader) -> Editor
         requires { sender.put ≡ [] }
-        ensures { result ≡ record { queue = sender.queue; session = sender.session; start = sender.start; put = []; fulls = sender.fulls; known = reader.all } }
+        ensures { result ≡ beginner sender reader.all }
     {
         let watcher = Watcher::new(sender.session(), reader);
         Editor { sender, watcher }
@@ -70,7 +70,7 @@ impl Editor {
     /// From now on it sees no less than what was told. It takes no memory and waits for nobody.
     pub fn learn(&mut self, told: &Told)
         requires { told.now.opening ≡ self.old.known.opening }
-        ensures same { self.new ≡ record { queue = self.old.queue; session = self.old.session; start = self.old.start; put = self.old.put; fulls = self.old.fulls; known = self.new.known } }
+        ensures same { self.new ≡ with_known self.old self.new.known }
         ensures kept { GoesOn self.old.known self.new.known }
         ensures learnt { GoesOn told.now self.new.known }
     {
@@ -79,17 +79,17 @@ impl Editor {
 
     /// What became of the last change that it submitted. It takes no memory and waits for nobody.
     pub fn outcome(&mut self) -> Result<Outcome, Shut>
-        ensures same { self.new ≡ record { queue = self.old.queue; session = self.old.session; start = self.old.start; put = self.old.put; fulls = self.old.fulls; known = self.new.known } }
+        ensures same { self.new ≡ with_known self.old self.new.known }
         ensures kept { GoesOn self.old.known self.new.known }
-        ensures lawful { OnOk result (IsLawful self.new.known.opening.starts self.new.known.opening.count self.new.known.log) }
-        ensures outcome { IfOk result (λ o. o ≡ outcome_on (board_after self.new.known) self.new.session (last_asked self.new.put)) }
+        ensures lawful { OnOk result (IsLawfulAfter self.new.known) }
+        ensures outcome { IfOk result (λ o. o ≡ outcome_by self.new) }
     {
         self.watcher.outcome()
     }
 
     // What the board says of a ticket: why it isn't let in.
     fn judge(&mut self, ticket: u64) -> Result<Option<SubmitRefused>, Shut>
-        ensures same { self.new ≡ record { queue = self.old.queue; session = self.old.session; start = self.old.start; put = self.old.put; fulls = self.old.fulls; known = self.new.known } }
+        ensures same { self.new ≡ with_known self.old self.new.known }
         ensures kept { GoesOn self.old.known self.new.known }
         ensures refusal { IfOk result (λ o. o ≡ refusal_by self.new.known self.old ticket) }
     {
@@ -104,9 +104,9 @@ impl Editor {
         ticket: u64,
         change: Change,
     ) -> Result<(), (SubmitRefused, Change)>
-        ensures same { (self.new.queue ≡ self.old.queue) × ((self.new.session ≡ self.old.session) × (self.new.start ≡ self.old.start)) }
+        ensures same { IsSameEditor self.old self.new }
         ensures kept { GoesOn self.old.known self.new.known }
-        ensures put { OnOk result (self.new.put ≡ self.old.put ++ record { session = self.old.session; ticket = ticket; change = change } ∷ []) }
+        ensures put { OnOk result (self.new.put ≡ self.old.put ++ request_of self.old.session ticket change ∷ []) }
         ensures adds_nothing { OnErr result (self.new.put ≡ self.old.put) }
         ensures back { IfErr result (λ e. e.1 ≡ change) }
         ensures let_in { OnOk result (refusal_by self.new.known self.old ticket ≡ None) }
@@ -130,8 +130,9 @@ impl Editor {
         change: Change,
     ) -> Result<(), (SubmitRefused, Change)>
         requires { refusal_by self.old.known self.old ticket ≡ None }
-        ensures same { (self.new.queue ≡ self.old.queue) × ((self.new.session ≡ self.old.session) × ((self.new.start ≡ self.old.start) × (self.new.known ≡ self.old.known))) }
-        ensures put { OnOk result (self.new.put ≡ self.old.put ++ record { session = self.old.session; ticket = ticket; change = change } ∷ []) }
+        ensures same { IsSameEditor self.old self.new }
+        ensures known { self.new.known ≡ self.old.known }
+        ensures put { OnOk result (self.new.put ≡ self.old.put ++ request_of self.old.session ticket change ∷ []) }
         ensures adds_nothing { OnErr result (self.new.put ≡ self.old.put) }
         ensures back { IfErr result (λ e. (e.0 ≡ QueueFull) × (e.1 ≡ change)) }
         ensures full { OnErr result (self.new.fulls ≡ self.old.fulls + 1) }
@@ -153,13 +154,15 @@ impl Editor {
 }
 
 impl Taker {
+    ghost use Rattle.intake.specs.Editors.{watcher_of};
+
     /// Ends an editor: it submits no more, and its watcher is left. What was taken, followed by what waits, has just the requests
     /// that it submitted, each once, in its order.
     pub fn end(&mut self, editor: Editor) -> Watcher
         requires { editor.queue ≡ self.old.queue }
-        ensures same { self.new ≡ record { queue = self.old.queue; starts = self.old.starts; made = self.old.made; got = self.old.got; empties = self.old.empties; ended = Some (editor.session, editor.put) } }
+        ensures same { self.new ≡ with_ended self.old editor.session editor.put }
         ensures whole { (waits : List Request) × (editor.put ≡ of editor.session (self.new.got ++ waits)) }
-        ensures watcher { result ≡ record { session = editor.session; last = last_asked editor.put; known = editor.known } }
+        ensures watcher { result ≡ watcher_of editor }
     {
         let Editor { sender, watcher } = editor;
         self.close(sender);

@@ -6,7 +6,7 @@ ghost use Rattle.requests.specs.Tickets.{worn_limit, last_of, Rises};
 ghost use Rattle.requests.specs.Requests.{asked_by};
 ghost use Rattle.requests.specs.declared.request.Request.{Request};
 ghost use Rattle.intake.specs.Turns.{HasWaited, opener, of, last_or_start};
-ghost use Rattle.intake.specs.Ends.{HasAll, AreAll, HasTaken};
+ghost use Rattle.intake.specs.Ends.{HasAll, AreAll, AreAllWithWaiting, CountsEmpty, CountsFull, HasTaken, IsSameSender, IsSameTaker, PutsOrGivesBack, seated, with_ended};
 
 use crossbeam_queue::protocol::{Join, Lesson, Outcome, Protocol, Split};
 use crossbeam_queue::{Pass, RuledArrayQueue};
@@ -202,9 +202,9 @@ impl Sender {
         requires session { request.session ≡ self.old.session }
         requires ticket { last_or_start self.old.start self.old.put < request.ticket }
         requires within { request.ticket ≤ worn_limit }
-        ensures same { (self.new.queue ≡ self.old.queue) × ((self.new.session ≡ self.old.session) × (self.new.start ≡ self.old.start)) }
-        ensures put { MatchResult result (λ _. self.new.put ≡ self.old.put ++ request ∷ []) (λ r. (r ≡ request) × (self.new.put ≡ self.old.put)) }
-        ensures full { MatchResult result (λ _. self.new.fulls ≡ self.old.fulls) (λ _. self.new.fulls ≡ self.old.fulls + 1) }
+        ensures same { IsSameSender self.old self.new }
+        ensures put { PutsOrGivesBack self.old.put self.new.put request result }
+        ensures full { CountsFull self.old.fulls self.new.fulls result }
         ensures waited { OnErr result (HasWaited self.old.session self.old.put) }
     {
         let put = self.queue.push_as::<Puts, R>(rt, &mut self.pass, request);
@@ -218,13 +218,14 @@ impl Sender {
 impl Taker {
     // Takes the request at the front, and notes nothing.
     fn pop<R: Wait>(&mut self, rt: &R) -> Option<Request>
-        ensures same { (self.new.queue ≡ self.old.queue) × ((self.new.starts ≡ self.old.starts) × (self.new.empties ≡ self.old.empties)) }
+        ensures same { IsSameTaker self.old self.new }
+        ensures empties { self.new.empties ≡ self.old.empties }
         ensures made { self.new.made ≡ self.old.made }
         ensures ended { self.new.ended ≡ self.old.ended }
         ensures got { MatchOption result (self.new.got ≡ self.old.got) (λ r. self.new.got ≡ self.old.got ++ r ∷ []) }
         ensures rises { Rises self.new.starts (map asked_by self.new.got) }
         ensures none_left { IsNone result → HasAll self.new.ended self.new.got }
-        ensures all { MatchOption result (AreAll self.new self.new.got) (λ _. (waits : List Request) × AreAll self.new (self.new.got ++ waits)) }
+        ensures all { MatchOption result (AreAll self.new self.new.got) (λ _. AreAllWithWaiting self.new) }
         ensures within { IfSome result (λ r. r.ticket ≤ worn_limit) }
     {
         self.queue.pop_as::<Takes, R>(rt, &mut self.pass)
@@ -233,10 +234,10 @@ impl Taker {
     /// Takes the request at the front. Where the queue was found empty there is none, and all that the editor submitted that was
     /// ended last has been taken.
     pub fn take<R: Wait>(&mut self, rt: &R) -> Option<Request>
-        ensures same { (self.new.queue ≡ self.old.queue) × (self.new.starts ≡ self.old.starts) }
+        ensures same { IsSameTaker self.old self.new }
         ensures ended { self.new.ended ≡ self.old.ended }
         ensures got { MatchOption result (self.new.got ≡ self.old.got) (λ r. self.new.got ≡ self.old.got ++ r ∷ []) }
-        ensures empty { MatchOption result (self.new.empties ≡ self.old.empties + 1) (λ _. self.new.empties ≡ self.old.empties) }
+        ensures empty { CountsEmpty self.old.empties self.new.empties result }
         // All that was put is what was taken and some that wait, and there is an editor for the session of each.
         ensures taken { HasTaken self.old self.new }
         ensures rises { Rises self.new.starts (map asked_by self.new.got) }
@@ -304,9 +305,10 @@ impl Taker {
         requires next { session ≡ self.old.made }
         requires there { (session < SESSIONS) × (session < length self.old.starts) }
         requires start { start ≡ last_of self.old.starts session }
-        ensures same { (self.new.queue ≡ self.old.queue) × ((self.new.starts ≡ self.old.starts) × ((self.new.got ≡ self.old.got) × (self.new.empties ≡ self.old.empties))) }
+        ensures same { IsSameTaker self.old self.new }
+        ensures took_none { (self.new.got ≡ self.old.got) × (self.new.empties ≡ self.old.empties) }
         ensures made { OnOk result (self.new.made ≡ self.old.made + 1) }
-        ensures sender { IfOk result (λ e. e ≡ record { queue = self.old.queue; session = session; start = start; put = []; fulls = 0 }) }
+        ensures sender { IfOk result (λ e. e ≡ seated self.old.queue session start) }
     {
         let queue = Arc::try_clone(&self.queue)?;
         let pass = self.queue.another::<Seats>(&mut self.pass);
@@ -342,7 +344,7 @@ impl Taker {
     // Ends an editor's end: what was taken, followed by what waits, has just the requests that it put, in its order.
     pub(crate) fn close(&mut self, sender: Sender)
         requires { sender.queue ≡ self.old.queue }
-        ensures same { self.new ≡ record { queue = self.old.queue; starts = self.old.starts; made = self.old.made; got = self.old.got; empties = self.old.empties; ended = Some (sender.session, sender.put) } }
+        ensures same { self.new ≡ with_ended self.old sender.session sender.put }
         ensures whole { (waits : List Request) × (sender.put ≡ of sender.session (self.new.got ++ waits)) }
     {
         let Sender {

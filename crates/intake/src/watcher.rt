@@ -1,8 +1,6 @@
 // Watchers: they look at the board for what became of a session's last change.
 ghost use Rattle.std.specs.Prelude.{◌≡◌, IfOk, OnOk, Some, None};
-ghost use Rattle.generations.specs.Beginnings.{GoesOn, board_after};
-ghost use Rattle.generations.specs.Lawful.{IsLawful};
-ghost use Rattle.intake.specs.Outcomes.{outcome_on, refusal_on};
+ghost use Rattle.generations.specs.Beginnings.{GoesOn};
 
 use crate::outcome::{Outcome, SubmitRefused, outcome_of, refusal_of};
 use generations::{BoardReader, History, Shut, Told};
@@ -30,6 +28,8 @@ impl Model for Watcher {
 }
 
 impl Watcher {
+    ghost use Rattle.intake.specs.Watchers.{IsLawfulAfter, outcome_seen, refusal_seen};
+
     // One of a session that has submitted nothing.
     pub(crate) fn new(session: u8, reader: BoardReader) -> Watcher
         ensures { result ≡ record { session = session; last = None; known = reader.all } }
@@ -76,8 +76,8 @@ impl Watcher {
     pub fn outcome(&mut self) -> Result<Outcome, Shut>
         ensures same { (self.new.session ≡ self.old.session) × (self.new.last ≡ self.old.last) }
         ensures kept { GoesOn self.old.known self.new.known }
-        ensures lawful { OnOk result (IsLawful self.new.known.opening.starts self.new.known.opening.count self.new.known.log) }
-        ensures outcome { IfOk result (λ o. o ≡ outcome_on (board_after self.new.known) self.new.session self.new.last) }
+        ensures lawful { OnOk result (IsLawfulAfter self.new.known) }
+        ensures outcome { IfOk result (λ o. o ≡ outcome_seen self.new) }
     {
         let Some(reader) = self.reader.take() else {
             unreachable!()
@@ -101,7 +101,7 @@ impl Watcher {
     pub(crate) fn judge(&mut self, start: u64, ticket: u64) -> Result<Option<SubmitRefused>, Shut>
         ensures same { (self.new.session ≡ self.old.session) × (self.new.last ≡ self.old.last) }
         ensures kept { GoesOn self.old.known self.new.known }
-        ensures refusal { IfOk result (λ o. o ≡ refusal_on (board_after self.new.known) self.old.session start self.old.last ticket) }
+        ensures refusal { IfOk result (λ o. o ≡ refusal_seen self.new.known self.old start ticket) }
     {
         let Some(reader) = self.reader.take() else {
             unreachable!()

@@ -32,25 +32,50 @@ plan_words plans.None = []
 plan_words (plans.Fail call) = field_text (codes "fail") (decimal call) ∷ []
 plan_words (plans.Stop call bytes) = field_text (codes "stop") (pair_text call bytes) ∷ []
 
+-- a field that says which landmark words there are
+abbrev pub words_field : LandmarkWords → List ℕ
+words_field words = field_text (codes "words") (words_text words)
+
+-- a field that says what a crash leaves, alone
+abbrev pub crash_words : List ℕ → List (List ℕ)
+crash_words value = field_text (codes "crash") value ∷ []
+
+-- which call fails, and what the crash leaves
+abbrev pub end_words : Plan → ℕ → List (List ℕ)
+end_words plan crash = plan_words plan ++ crash_words (decimal crash)
+
 -- what stands behind `life`
 abbrev pub life_fields : LifeLine → List (List ℕ)
 life_fields life =
     field_text (codes "sessions") (decimal life.sessions)
     ∷ field_text (codes "places") (decimal life.places)
-    ∷ field_text (codes "words") (words_text life.words)
-    ∷ (plan_words life.plan ++ field_text (codes "crash") (decimal life.crash) ∷ [])
+    ∷ words_field life.words
+    ∷ end_words life.plan life.crash
 
+-- the words of a life
+abbrev pub life_words : LifeLine → List (List ℕ)
+life_words life = codes "life" ∷ life_fields life
+
+-- two numbers in decimal
+abbrev pub pair_words : ℕ → ℕ → List (List ℕ)
+pair_words a b = decimal a ∷ decimal b ∷ []
+
+-- two nodes, and how many postings were seen, in decimal
+abbrev pub launch_words : ℕ → ℕ → ℕ → List (List ℕ)
+launch_words from to at = decimal from ∷ pair_words to at
+
+-- the words of a line
 abbrev pub line_words : RehearsalLine → List (List ℕ)
 line_words (Device nodes) = codes "device" ∷ decimal nodes ∷ []
-line_words (Life life) = codes "life" ∷ life_fields life
+line_words (Life life) = life_words life
 line_words (Submit session ticket change) = codes "submit" ∷ decimal session ∷ decimal ticket ∷ map op_text change
-line_words (Look session at) = codes "look" ∷ decimal session ∷ decimal at ∷ []
+line_words (Look session at) = codes "look" ∷ pair_words session at
 line_words Take = codes "take" ∷ []
 line_words Commit = codes "commit" ∷ []
 line_words Post = codes "post" ∷ []
 line_words (Rebuild words) = codes "rebuild" ∷ words_text words ∷ []
-line_words (Launch from to at) = codes "launch" ∷ decimal from ∷ decimal to ∷ decimal at ∷ []
-line_words (Hop packet at) = codes "hop" ∷ decimal packet ∷ decimal at ∷ []
+line_words (Launch from to at) = codes "launch" ∷ launch_words from to at
+line_words (Hop packet at) = codes "hop" ∷ pair_words packet at
 
 -- whether one of the three steps of the committer is written so
 abbrev pub IsStep : List ℕ → Type 0
@@ -105,6 +130,10 @@ IsEvent nodes Post = Unit {0}
 IsEvent nodes (Rebuild words) = AreOfDevice nodes words
 IsEvent nodes (Launch from to at) = (from < 2 ^ 16) × (to < 2 ^ 16) × (at < 2 ^ 64)
 IsEvent nodes (Hop packet at) = (packet < 2 ^ 64) × (at < 2 ^ 64)
+
+-- an event of a device of any size
+abbrev pub IsEventAnywhere : RehearsalLine → Type 0
+IsEventAnywhere line = (nodes : ℕ) → IsEvent nodes line
 
 -- a life or an event
 abbrev pub IsLifeOrEvent : ℕ → RehearsalLine → Type 0

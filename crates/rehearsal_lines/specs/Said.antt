@@ -30,6 +30,10 @@ said_by text = unless_empty (words_of text)
 abbrev pub Say : List (List ℕ) → List RehearsalLine → Type 0
 Say texts lines = flat_map said_by texts ≡ map line_words lines
 
+-- these lines say that, and are a rehearsal
+abbrev pub SayRehearsal : List (List ℕ) → List RehearsalLine → Type 0
+SayRehearsal texts lines = Say texts lines × IsRehearsal lines
+
 -- Line n, counted from 1, is the first that isn't understood: the lines before it begin a rehearsal, and no rehearsal begins with the
 -- lines up to it, whatever the lines behind it are.
 pub record IsFirstRefused (texts : List (List ℕ)) (n : ℕ) : Type 0 where

@@ -1,9 +1,11 @@
 // Words of a line, one after another from the front.
-ghost use Rattle.std.specs.Prelude.{◌≡◌, ◌<◌, ◌≤◌, ◌^◌, ◌∷◌, [], ℕ, List, IfOk, IfSome, IsSomeAnd, IsSome, Some, decimal, map, true};
+ghost use Rattle.std.specs.Prelude.{◌≡◌, ◌<◌, ◌≤◌, ◌^◌, ◌∷◌, [], ℕ, List, IfSome, decimal, true};
 ghost use Rattle.written_values.specs.OpText.{pair_text};
+ghost use Rattle.written_values.specs.Reading.{IfRead, Reads, texts_of};
 ghost use Rattle.written_values.specs.WordsText.{words_text};
 ghost use Rattle.written_values.specs.declared.words.LandmarkWords.{LandmarkWords};
-ghost use Rattle.rehearsal_lines.specs.Grammar.{AreOfDevice, field_text, has_none};
+ghost use Rattle.rehearsal_lines.specs.Grammar.{AreOfDevice, field_text, has_none, pair_words};
+ghost use Rattle.rehearsal_lines.specs.Reading.{FindsField, FindsFirst, FindsText, ReadsFirst, ReadsSome};
 
 use std::alloc::{AllocError, Global};
 use written_values::{LandmarkWords, landmark_words, number};
@@ -14,9 +16,9 @@ pub(crate) fn number_first<'a, 'b>(
     words: &'a [&'b str],
     most: u64,
 ) -> Result<Option<(u64, &'a [&'b str])>, AllocError>
-    ensures found { IfOk result (λ o. IfSome o (λ p. map (λ x. x.now) words.entry.now ≡ decimal p.0 ∷ map (λ x. x.now) p.1.now)) }
-    ensures fits { IfOk result (λ o. IfSome o (λ p. p.0 ≤ most)) }
-    ensures only { (n : ℕ) (rest : List (List ℕ)) → n ≤ most → map (λ x. x.now) words.entry.now ≡ decimal n ∷ rest → IfOk result (λ o. IsSomeAnd o (λ p. (p.0 ≡ n) × (map (λ x. x.now) p.1.now ≡ rest))) }
+    ensures found { FindsFirst decimal words.entry.now result }
+    ensures fits { IfRead result (λ p. p.0 ≤ most) }
+    ensures only { ReadsFirst (λ n. n ≤ most) decimal words.entry.now result }
 {
     let Some((first, rest)) = words.split_first() else {
         return Ok(None);
@@ -33,8 +35,8 @@ pub(crate) fn only_number(
     words: &[&str],
     most: u64,
 ) -> Result<Option<u64>, AllocError>
-    ensures found { IfOk result (λ o. IfSome o (λ n. (map (λ x. x.now) words.now ≡ decimal n ∷ []) × (n ≤ most))) }
-    ensures only { (n : ℕ) → n ≤ most → map (λ x. x.now) words.now ≡ decimal n ∷ [] → IfOk result (λ o. o ≡ Some n) }
+    ensures found { IfRead result (λ n. (texts_of words.now ≡ decimal n ∷ []) × (n ≤ most)) }
+    ensures only { (n : ℕ) → n ≤ most → texts_of words.now ≡ decimal n ∷ [] → Reads result n }
 {
     let Some((n, rest)) = number_first(alloc, words, most)? else {
         return Ok(None);
@@ -52,9 +54,9 @@ pub(crate) fn two_numbers(
     words: &[&str],
     most: (u64, u64),
 ) -> Result<Option<(u64, u64)>, AllocError>
-    ensures found { IfOk result (λ o. IfSome o (λ p. map (λ x. x.now) words.now ≡ decimal p.0 ∷ decimal p.1 ∷ [])) }
-    ensures fits { IfOk result (λ o. IfSome o (λ p. (p.0 ≤ most.0) × (p.1 ≤ most.1))) }
-    ensures only { (a b : ℕ) → a ≤ most.0 → b ≤ most.1 → map (λ x. x.now) words.now ≡ decimal a ∷ decimal b ∷ [] → IfOk result (λ o. o ≡ Some (a, b)) }
+    ensures found { IfRead result (λ p. texts_of words.now ≡ pair_words p.0 p.1) }
+    ensures fits { IfRead result (λ p. (p.0 ≤ most.0) × (p.1 ≤ most.1)) }
+    ensures only { (a b : ℕ) → a ≤ most.0 → b ≤ most.1 → texts_of words.now ≡ pair_words a b → Reads result (a, b) }
 {
     let Some((a, rest)) = number_first(alloc, words, most.0)? else {
         return Ok(None);
@@ -71,8 +73,8 @@ pub(crate) fn field_first<'a, 'b>(
     name: &str,
 ) -> Option<(&'b str, &'a [&'b str])>
     requires { has_none 61 name.now ≡ true }
-    ensures found { IfSome result (λ p. map (λ x. x.now) words.entry.now ≡ field_text name.now p.0.now ∷ map (λ x. x.now) p.1.now) }
-    ensures only { (value : List ℕ) (rest : List (List ℕ)) → map (λ x. x.now) words.entry.now ≡ field_text name.now value ∷ rest → IsSomeAnd result (λ p. (p.0.now ≡ value) × (map (λ x. x.now) p.1.now ≡ rest)) }
+    ensures found { IfSome result (λ p. texts_of words.entry.now ≡ field_text name.now p.0.now ∷ texts_of p.1.now) }
+    ensures only { FindsField name.now words.entry.now result }
 {
     let Some((first, rest)) = words.split_first() else {
         return None;
@@ -87,7 +89,7 @@ pub(crate) fn field_first<'a, 'b>(
 fn value_of<'a>(word: &'a str, name: &str) -> Option<&'a str>
     requires { has_none 61 name.now ≡ true }
     ensures found { IfSome result (λ value. word.entry.now ≡ field_text name.now value.now) }
-    ensures only { (value : List ℕ) → word.entry.now ≡ field_text name.now value → IsSomeAnd result (λ read. read.now ≡ value) }
+    ensures only { (value : List ℕ) → word.entry.now ≡ field_text name.now value → FindsText result value }
 {
     let Some((front, value)) = word.split_once('=') else {
         return None;
@@ -103,9 +105,9 @@ pub(crate) fn number_field<'a, 'b>(
     most: u64,
 ) -> Result<Option<(u64, &'a [&'b str])>, AllocError>
     requires { has_none 61 name.now ≡ true }
-    ensures found { IfOk result (λ o. IfSome o (λ p. map (λ x. x.now) words.entry.now ≡ field_text name.now (decimal p.0) ∷ map (λ x. x.now) p.1.now)) }
-    ensures fits { IfOk result (λ o. IfSome o (λ p. p.0 ≤ most)) }
-    ensures only { (n : ℕ) (rest : List (List ℕ)) → n ≤ most → map (λ x. x.now) words.entry.now ≡ field_text name.now (decimal n) ∷ rest → IfOk result (λ o. IsSomeAnd o (λ p. (p.0 ≡ n) × (map (λ x. x.now) p.1.now ≡ rest))) }
+    ensures found { FindsFirst (λ n. field_text name.now (decimal n)) words.entry.now result }
+    ensures fits { IfRead result (λ p. p.0 ≤ most) }
+    ensures only { ReadsFirst (λ n. n ≤ most) (λ n. field_text name.now (decimal n)) words.entry.now result }
 {
     let Some((value, rest)) = field_first(words, name) else {
         return Ok(None);
@@ -118,8 +120,8 @@ pub(crate) fn number_field<'a, 'b>(
 
 /// Two numbers with a colon between, `A:B`.
 pub(crate) fn pair_in(alloc: Global, text: &str) -> Result<Option<(u64, u64)>, AllocError>
-    ensures found { IfOk result (λ o. IfSome o (λ p. text.now ≡ pair_text p.0 p.1)) }
-    ensures only { (a b : ℕ) → a < 2 ^ 64 → b < 2 ^ 64 → text.now ≡ pair_text a b → IfOk result (λ o. o ≡ Some (a, b)) }
+    ensures found { IfRead result (λ p. text.now ≡ pair_text p.0 p.1) }
+    ensures only { (a b : ℕ) → a < 2 ^ 64 → b < 2 ^ 64 → text.now ≡ pair_text a b → Reads result (a, b) }
 {
     let Some((front, behind)) = text.split_once(':') else {
         return Ok(None);
@@ -139,8 +141,8 @@ pub(crate) fn device_words(
     text: &str,
     nodes: u16,
 ) -> Result<Option<LandmarkWords>, AllocError>
-    ensures found { IfOk result (λ o. IfSome o (λ words. (text.now ≡ words_text words) × AreOfDevice nodes words)) }
-    ensures only { (words : LandmarkWords) → AreOfDevice nodes words → text.now ≡ words_text words → IfOk result (λ o. IsSome o) }
+    ensures found { IfRead result (λ words. (text.now ≡ words_text words) × AreOfDevice nodes words) }
+    ensures only { (words : LandmarkWords) → AreOfDevice nodes words → text.now ≡ words_text words → ReadsSome result }
 {
     match landmark_words(alloc, text)? {
         Some(words) if words.is_within(nodes) => Ok(Some(words)),

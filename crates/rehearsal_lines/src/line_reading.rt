@@ -1,14 +1,9 @@
 // Reading one line.
-ghost use Rattle.std.specs.Prelude.{◌≡◌, ◌<◌, ◌≤◌, ◌^◌, ◌∷◌, ◌++◌, [], ℕ, List, IfOk, IfSome, IsSome, IsSomeAnd, codes, decimal, map, true};
-ghost use Rattle.disk_trait.specs.declared.plan.Plan.{Plan};
-ghost use Rattle.graph_edits.specs.declared.edits.Op.{Op};
-ghost use Rattle.written_values.specs.OpText.{op_text};
-ghost use Rattle.written_values.specs.Scripts.{IsChange};
+ghost use Rattle.std.specs.Prelude.{◌≡◌, ◌<◌, ◌^◌, ◌∷◌, ◌++◌, [], ℕ, IfSome, IsSome, codes, decimal, true};
+ghost use Rattle.written_values.specs.Reading.{IfRead, texts_of};
 ghost use Rattle.written_values.specs.WordsText.{words_text};
-ghost use Rattle.written_values.specs.declared.words.LandmarkWords.{LandmarkWords};
-ghost use Rattle.rehearsal_lines.specs.declared.line.LifeLine.{LifeLine};
-ghost use Rattle.rehearsal_lines.specs.declared.line.RehearsalLine.{RehearsalLine};
-ghost use Rattle.rehearsal_lines.specs.Grammar.{AreOfDevice, FitsPlan, IsBegunBy, IsEvent, IsFew, IsLife, IsLifeOrEvent, MayStand, field_text, has_none, life_fields, line_words, plan_words};
+ghost use Rattle.rehearsal_lines.specs.Grammar.{AreOfDevice, FitsPlan, IsBegunBy, IsEvent, IsEventAnywhere, IsFew, IsLife, IsLifeOrEvent, MayStand, crash_words, end_words, field_text, has_none, life_fields, life_words, line_words, pair_words, plan_words, words_field};
+ghost use Rattle.rehearsal_lines.specs.Reading.{FindsFirst, FindsOnly, PassesFirst, PassesPlan, ReadsEach, ReadsFirst, ReadsLaunches, ReadsPairs, ReadsSome, ReadsSubmits};
 
 use crate::fields::{
     device_words, field_first, number_field, number_first, only_number, pair_in, two_numbers,
@@ -27,8 +22,8 @@ pub(crate) fn line_in(
     stage: Stage,
     words: &[&str],
 ) -> Result<Option<RehearsalLine>, AllocError>
-    ensures found { IfOk result (λ o. IfSome o (λ line. (map (λ x. x.now) words.now ≡ line_words line) × MayStand stage line)) }
-    ensures only { (line : RehearsalLine) → MayStand stage line → map (λ x. x.now) words.now ≡ line_words line → IfOk result (λ o. IsSome o) }
+    ensures found { FindsOnly (MayStand stage) line_words (texts_of words.now) result }
+    ensures only { ReadsEach (MayStand stage) line_words (texts_of words.now) result }
 {
     let Some((first, rest)) = words.split_first() else {
         return Ok(None);
@@ -41,8 +36,8 @@ pub(crate) fn line_in(
 }
 
 fn device_in(alloc: Global, name: &str, rest: &[&str]) -> Result<Option<RehearsalLine>, AllocError>
-    ensures found { IfOk result (λ o. IfSome o (λ line. (name.now ∷ map (λ x. x.now) rest.now ≡ line_words line) × MayStand Stage.Empty line)) }
-    ensures only { (line : RehearsalLine) → MayStand Stage.Empty line → name.now ∷ map (λ x. x.now) rest.now ≡ line_words line → IfOk result (λ o. IsSome o) }
+    ensures found { FindsOnly (MayStand Stage.Empty) line_words (name.now ∷ texts_of rest.now) result }
+    ensures only { ReadsEach (MayStand Stage.Empty) line_words (name.now ∷ texts_of rest.now) result }
 {
     if name != "device" {
         return Ok(None);
@@ -61,8 +56,8 @@ fn life_line(
     rest: &[&str],
     nodes: u16,
 ) -> Result<Option<RehearsalLine>, AllocError>
-    ensures found { IfOk result (λ o. IfSome o (λ line. (name.now ∷ map (λ x. x.now) rest.now ≡ line_words line) × MayStand (Stage.Made nodes) line)) }
-    ensures only { (life : LifeLine) → IsLife nodes life → name.now ∷ map (λ x. x.now) rest.now ≡ codes "life" ∷ life_fields life → IfOk result (λ o. IsSome o) }
+    ensures found { FindsOnly (MayStand (Stage.Made nodes)) line_words (name.now ∷ texts_of rest.now) result }
+    ensures only { ReadsEach (IsLife nodes) life_words (name.now ∷ texts_of rest.now) result }
 {
     if name != "life" {
         return Ok(None);
@@ -79,8 +74,8 @@ fn living_in(
     rest: &[&str],
     nodes: u16,
 ) -> Result<Option<RehearsalLine>, AllocError>
-    ensures found { IfOk result (λ o. IfSome o (λ line. (name.now ∷ map (λ x. x.now) rest.now ≡ line_words line) × IsLifeOrEvent nodes line)) }
-    ensures only { (line : RehearsalLine) → IsLifeOrEvent nodes line → name.now ∷ map (λ x. x.now) rest.now ≡ line_words line → IfOk result (λ o. IsSome o) }
+    ensures found { FindsOnly (IsLifeOrEvent nodes) line_words (name.now ∷ texts_of rest.now) result }
+    ensures only { ReadsEach (IsLifeOrEvent nodes) line_words (name.now ∷ texts_of rest.now) result }
 {
     match begun_by(name) {
         Form::Life => life_line(alloc, name, rest, nodes),
@@ -119,7 +114,7 @@ pub(crate) fn begun_by(name: &str) -> Form
 
 // A step of the committer.
 fn step_in(name: &str) -> Option<RehearsalLine>
-    ensures found { IfSome result (λ line. (name.now ∷ [] ≡ line_words line) × ((nodes : ℕ) → IsEvent nodes line)) }
+    ensures found { IfSome result (λ line. (name.now ∷ [] ≡ line_words line) × IsEventAnywhere line) }
     ensures take { name.now ≡ codes "take" → IsSome result }
     ensures commit { name.now ≡ codes "commit" → IsSome result }
     ensures post { name.now ≡ codes "post" → IsSome result }
@@ -136,8 +131,8 @@ fn step_in(name: &str) -> Option<RehearsalLine>
 }
 
 fn submit_in(alloc: Global, rest: &[&str]) -> Result<Option<RehearsalLine>, AllocError>
-    ensures found { IfOk result (λ o. IfSome o (λ line. (codes "submit" ∷ map (λ x. x.now) rest.now ≡ line_words line) × ((nodes : ℕ) → IsEvent nodes line))) }
-    ensures only { (s t : ℕ) (change : List Op) → s < 2 ^ 8 → t < 2 ^ 64 → IsChange change → map (λ x. x.now) rest.now ≡ decimal s ∷ decimal t ∷ map op_text change → IfOk result (λ o. IsSome o) }
+    ensures found { FindsOnly IsEventAnywhere line_words (codes "submit" ∷ texts_of rest.now) result }
+    ensures only { ReadsSubmits (texts_of rest.now) result }
 {
     let Some((session, behind)) = number_first(alloc, rest, 255)? else {
         return Ok(None);
@@ -156,8 +151,8 @@ fn submit_in(alloc: Global, rest: &[&str]) -> Result<Option<RehearsalLine>, Allo
 }
 
 fn look_in(alloc: Global, rest: &[&str]) -> Result<Option<RehearsalLine>, AllocError>
-    ensures found { IfOk result (λ o. IfSome o (λ line. (codes "look" ∷ map (λ x. x.now) rest.now ≡ line_words line) × ((nodes : ℕ) → IsEvent nodes line))) }
-    ensures only { (s at : ℕ) → s < 2 ^ 8 → at < 2 ^ 64 → map (λ x. x.now) rest.now ≡ decimal s ∷ decimal at ∷ [] → IfOk result (λ o. IsSome o) }
+    ensures found { FindsOnly IsEventAnywhere line_words (codes "look" ∷ texts_of rest.now) result }
+    ensures only { ReadsPairs (λ s. s < 2 ^ 8) (λ at. at < 2 ^ 64) pair_words (texts_of rest.now) result }
 {
     match two_numbers(alloc, rest, (255, u64::MAX))? {
         Some((session, at)) => Ok(Some(RehearsalLine::Look {
@@ -169,8 +164,8 @@ fn look_in(alloc: Global, rest: &[&str]) -> Result<Option<RehearsalLine>, AllocE
 }
 
 fn rebuild_in(alloc: Global, rest: &[&str], nodes: u16) -> Result<Option<RehearsalLine>, AllocError>
-    ensures found { IfOk result (λ o. IfSome o (λ line. (codes "rebuild" ∷ map (λ x. x.now) rest.now ≡ line_words line) × IsEvent nodes line)) }
-    ensures only { (words : LandmarkWords) → AreOfDevice nodes words → map (λ x. x.now) rest.now ≡ words_text words ∷ [] → IfOk result (λ o. IsSome o) }
+    ensures found { FindsOnly (IsEvent nodes) line_words (codes "rebuild" ∷ texts_of rest.now) result }
+    ensures only { ReadsEach (AreOfDevice nodes) (λ words. words_text words ∷ []) (texts_of rest.now) result }
 {
     let Some((first, [])) = rest.split_first() else {
         return Ok(None);
@@ -182,8 +177,8 @@ fn rebuild_in(alloc: Global, rest: &[&str], nodes: u16) -> Result<Option<Rehears
 }
 
 fn launch_in(alloc: Global, rest: &[&str]) -> Result<Option<RehearsalLine>, AllocError>
-    ensures found { IfOk result (λ o. IfSome o (λ line. (codes "launch" ∷ map (λ x. x.now) rest.now ≡ line_words line) × ((nodes : ℕ) → IsEvent nodes line))) }
-    ensures only { (from to at : ℕ) → from < 2 ^ 16 → to < 2 ^ 16 → at < 2 ^ 64 → map (λ x. x.now) rest.now ≡ decimal from ∷ decimal to ∷ decimal at ∷ [] → IfOk result (λ o. IsSome o) }
+    ensures found { FindsOnly IsEventAnywhere line_words (codes "launch" ∷ texts_of rest.now) result }
+    ensures only { ReadsLaunches (texts_of rest.now) result }
 {
     let Some((from, behind)) = number_first(alloc, rest, 65_535)? else {
         return Ok(None);
@@ -199,8 +194,8 @@ fn launch_in(alloc: Global, rest: &[&str]) -> Result<Option<RehearsalLine>, Allo
 }
 
 fn hop_in(alloc: Global, rest: &[&str]) -> Result<Option<RehearsalLine>, AllocError>
-    ensures found { IfOk result (λ o. IfSome o (λ line. (codes "hop" ∷ map (λ x. x.now) rest.now ≡ line_words line) × ((nodes : ℕ) → IsEvent nodes line))) }
-    ensures only { (packet at : ℕ) → packet < 2 ^ 64 → at < 2 ^ 64 → map (λ x. x.now) rest.now ≡ decimal packet ∷ decimal at ∷ [] → IfOk result (λ o. IsSome o) }
+    ensures found { FindsOnly IsEventAnywhere line_words (codes "hop" ∷ texts_of rest.now) result }
+    ensures only { ReadsPairs (λ packet. packet < 2 ^ 64) (λ at. at < 2 ^ 64) pair_words (texts_of rest.now) result }
 {
     match two_numbers(alloc, rest, (u64::MAX, u64::MAX))? {
         Some((packet, at)) => Ok(Some(RehearsalLine::Hop { packet, at })),
@@ -211,8 +206,8 @@ fn hop_in(alloc: Global, rest: &[&str]) -> Result<Option<RehearsalLine>, AllocEr
 // ---- a life
 
 fn life_in(alloc: Global, fields: &[&str], nodes: u16) -> Result<Option<LifeLine>, AllocError>
-    ensures found { IfOk result (λ o. IfSome o (λ life. (map (λ x. x.now) fields.now ≡ life_fields life) × IsLife nodes life)) }
-    ensures only { (life : LifeLine) → IsLife nodes life → map (λ x. x.now) fields.now ≡ life_fields life → IfOk result (λ o. IsSome o) }
+    ensures found { FindsOnly (IsLife nodes) life_fields (texts_of fields.now) result }
+    ensures only { ReadsEach (IsLife nodes) life_fields (texts_of fields.now) result }
 {
     let Some((sessions, seated)) = few_first(alloc, fields, "sessions")? else {
         return Ok(None);
@@ -242,9 +237,9 @@ fn few_first<'a, 'b>(
     name: &str,
 ) -> Result<Option<(u8, &'a [&'b str])>, AllocError>
     requires { has_none 61 name.now ≡ true }
-    ensures found { IfOk result (λ o. IfSome o (λ p. map (λ x. x.now) fields.entry.now ≡ field_text name.now (decimal p.0) ∷ map (λ x. x.now) p.1.now)) }
-    ensures few { IfOk result (λ o. IfSome o (λ p. IsFew p.0)) }
-    ensures only { (n : ℕ) (rest : List (List ℕ)) → IsFew n → map (λ x. x.now) fields.entry.now ≡ field_text name.now (decimal n) ∷ rest → IfOk result (λ o. IsSomeAnd o (λ p. (p.0 ≡ n) × (map (λ x. x.now) p.1.now ≡ rest))) }
+    ensures found { FindsFirst (λ n. field_text name.now (decimal n)) fields.entry.now result }
+    ensures few { IfRead result (λ p. IsFew p.0) }
+    ensures only { ReadsFirst IsFew (λ n. field_text name.now (decimal n)) fields.entry.now result }
 {
     let Some((n, rest)) = number_field(alloc, fields, name, 64)? else {
         return Ok(None);
@@ -261,9 +256,9 @@ fn words_first<'a, 'b>(
     fields: &'a [&'b str],
     nodes: u16,
 ) -> Result<Option<(LandmarkWords, &'a [&'b str])>, AllocError>
-    ensures found { IfOk result (λ o. IfSome o (λ p. map (λ x. x.now) fields.entry.now ≡ field_text (codes "words") (words_text p.0) ∷ map (λ x. x.now) p.1.now)) }
-    ensures of_device { IfOk result (λ o. IfSome o (λ p. AreOfDevice nodes p.0)) }
-    ensures only { (words : LandmarkWords) (rest : List (List ℕ)) → AreOfDevice nodes words → map (λ x. x.now) fields.entry.now ≡ field_text (codes "words") (words_text words) ∷ rest → IfOk result (λ o. IsSomeAnd o (λ p. map (λ x. x.now) p.1.now ≡ rest)) }
+    ensures found { FindsFirst words_field fields.entry.now result }
+    ensures of_device { IfRead result (λ p. AreOfDevice nodes p.0) }
+    ensures only { PassesFirst (AreOfDevice nodes) words_field fields.entry.now result }
 {
     let Some((value, rest)) = field_first(fields, "words") else {
         return Ok(None);
@@ -276,9 +271,9 @@ fn words_first<'a, 'b>(
 
 // Which call fails, and what the crash leaves.
 fn end_in(alloc: Global, fields: &[&str]) -> Result<Option<(Plan, u64)>, AllocError>
-    ensures found { IfOk result (λ o. IfSome o (λ p. map (λ x. x.now) fields.now ≡ plan_words p.0 ++ field_text (codes "crash") (decimal p.1) ∷ [])) }
-    ensures fits { IfOk result (λ o. IfSome o (λ p. FitsPlan p.0 × (p.1 < 2 ^ 64))) }
-    ensures only { (plan : Plan) (crash : ℕ) → FitsPlan plan → crash < 2 ^ 64 → map (λ x. x.now) fields.now ≡ plan_words plan ++ field_text (codes "crash") (decimal crash) ∷ [] → IfOk result (λ o. IsSome o) }
+    ensures found { IfRead result (λ p. texts_of fields.now ≡ end_words p.0 p.1) }
+    ensures fits { IfRead result (λ p. FitsPlan p.0 × (p.1 < 2 ^ 64)) }
+    ensures only { ReadsPairs FitsPlan (λ crash. crash < 2 ^ 64) end_words (texts_of fields.now) result }
 {
     let Some((plan, rest)) = plan_first(alloc, fields)? else {
         return Ok(None);
@@ -291,8 +286,8 @@ fn end_in(alloc: Global, fields: &[&str]) -> Result<Option<(Plan, u64)>, AllocEr
 
 // What the crash leaves, which is the only field.
 fn only_field(alloc: Global, fields: &[&str]) -> Result<Option<u64>, AllocError>
-    ensures found { IfOk result (λ o. IfSome o (λ n. map (λ x. x.now) fields.now ≡ field_text (codes "crash") (decimal n) ∷ [])) }
-    ensures only { (n : ℕ) → n < 2 ^ 64 → map (λ x. x.now) fields.now ≡ field_text (codes "crash") (decimal n) ∷ [] → IfOk result (λ o. IsSome o) }
+    ensures found { IfRead result (λ n. texts_of fields.now ≡ crash_words (decimal n)) }
+    ensures only { (n : ℕ) → n < 2 ^ 64 → texts_of fields.now ≡ crash_words (decimal n) → ReadsSome result }
 {
     let Some((n, rest)) = number_field(alloc, fields, "crash", u64::MAX)? else {
         return Ok(None);
@@ -309,9 +304,9 @@ fn plan_first<'a, 'b>(
     alloc: Global,
     fields: &'a [&'b str],
 ) -> Result<Option<(Plan, &'a [&'b str])>, AllocError>
-    ensures found { IfOk result (λ o. IfSome o (λ p. map (λ x. x.now) fields.entry.now ≡ plan_words p.0 ++ map (λ x. x.now) p.1.now)) }
-    ensures fits { IfOk result (λ o. IfSome o (λ p. FitsPlan p.0)) }
-    ensures only { (plan : Plan) (value : List ℕ) → FitsPlan plan → map (λ x. x.now) fields.entry.now ≡ plan_words plan ++ field_text (codes "crash") value ∷ [] → IfOk result (λ o. IsSomeAnd o (λ p. map (λ x. x.now) p.1.now ≡ field_text (codes "crash") value ∷ [])) }
+    ensures found { IfRead result (λ p. texts_of fields.entry.now ≡ plan_words p.0 ++ texts_of p.1.now) }
+    ensures fits { IfRead result (λ p. FitsPlan p.0) }
+    ensures only { PassesPlan fields.entry.now result }
 {
     if let Some((value, rest)) = field_first(fields, "fail") {
         return match written_values::number(alloc, value, u64::MAX)? {

@@ -1,10 +1,9 @@
 // Reading a rehearsal.
-ghost use Rattle.std.specs.Prelude.{◌≡◌, ◌∷◌, [], List, ℕ, IfOk, IfErr, map};
+ghost use Rattle.std.specs.Prelude.{◌≡◌, IfOk, IfErr};
 ghost use Rattle.std.specs.List.{flat_map};
+ghost use Rattle.written_values.specs.Reading.{texts_of};
 ghost use Rattle.written_values.specs.Scripts.{lines_of, words_of as parts_of};
-ghost use Rattle.rehearsal_lines.specs.declared.line.RehearsalLine.{RehearsalLine};
-ghost use Rattle.rehearsal_lines.specs.Grammar.{IsRehearsal, MayStand, line_words};
-ghost use Rattle.rehearsal_lines.specs.Said.{IsFirstRefused, IsReadAs, Say, bare, unless_empty, words_of};
+ghost use Rattle.rehearsal_lines.specs.Said.{IsFirstRefused, IsReadAs, SayRehearsal, bare, unless_empty, words_of};
 
 use crate::line::RehearsalLine;
 use crate::line_reading::{begun_by, line_in};
@@ -18,7 +17,7 @@ pub fn read_rehearsal(
     alloc: Global,
     text: &str,
 ) -> Result<Result<Vec<RehearsalLine>, LineRefused>, AllocError>
-    ensures found { IfOk result (λ read. IfOk read (λ lines. Say (lines_of text.now) lines.items × IsRehearsal lines.items)) }
+    ensures found { IfOk result (λ read. IfOk read (λ lines. SayRehearsal (lines_of text.now) lines.items)) }
     ensures refused { IfOk result (λ read. IfErr read (λ refused. IsFirstRefused (lines_of text.now) refused.number)) }
 {
     let texts = lines_in(alloc, text)?;
@@ -30,8 +29,8 @@ fn lines_read(
     alloc: Global,
     texts: &[&str],
 ) -> Result<Result<Vec<RehearsalLine>, LineRefused>, AllocError>
-    ensures found { IfOk result (λ read. IfOk read (λ lines. Say (map (λ x. x.now) texts.now) lines.items × IsRehearsal lines.items)) }
-    ensures refused { IfOk result (λ read. IfErr read (λ refused. IsFirstRefused (map (λ x. x.now) texts.now) refused.number)) }
+    ensures found { IfOk result (λ read. IfOk read (λ lines. SayRehearsal (texts_of texts.now) lines.items)) }
+    ensures refused { IfOk result (λ read. IfErr read (λ refused. IsFirstRefused (texts_of texts.now) refused.number)) }
 {
     let mut lines = Vec::new(alloc);
     let mut stage = Stage::Empty;
@@ -90,7 +89,7 @@ fn form_of(stage: Stage, words: &[&str]) -> Form {
 
 // The words of a line.
 fn words_in<'a>(alloc: Global, text: &'a str) -> Result<Vec<&'a str>, AllocError>
-    ensures { IfOk result (λ words. map (λ x. x.now) words.items ≡ words_of text.entry.now) }
+    ensures { IfOk result (λ words. texts_of words.items ≡ words_of text.entry.now) }
 {
     let parts = parts_in(alloc, bare_of(text))?;
     let words = kept(alloc, &parts)?;
@@ -99,7 +98,7 @@ fn words_in<'a>(alloc: Global, text: &'a str) -> Result<Vec<&'a str>, AllocError
 
 // Those that aren't empty.
 fn kept<'a>(alloc: Global, parts: &[&'a str]) -> Result<Vec<&'a str>, AllocError>
-    ensures { IfOk result (λ words. map (λ x. x.now) words.items ≡ flat_map (λ x. unless_empty x.now) parts.now) }
+    ensures { IfOk result (λ words. texts_of words.items ≡ flat_map (λ x. unless_empty x.now) parts.now) }
 {
     let mut words = Vec::new(alloc);
     for part in parts {
@@ -112,7 +111,7 @@ fn kept<'a>(alloc: Global, parts: &[&'a str]) -> Result<Vec<&'a str>, AllocError
 
 // What stands between the blanks of a text, in front of them and behind.
 fn parts_in<'a>(alloc: Global, text: &'a str) -> Result<Vec<&'a str>, AllocError>
-    ensures { IfOk result (λ parts. map (λ x. x.now) parts.items ≡ parts_of text.entry.now) }
+    ensures { IfOk result (λ parts. texts_of parts.items ≡ parts_of text.entry.now) }
 {
     text.split(' ').collect(alloc)
 }

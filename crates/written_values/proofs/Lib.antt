@@ -2,3 +2,4 @@ pub mod Texts
 pub mod NodeTexts
 pub mod WordLemmas
 pub mod Written
+pub mod OldForms

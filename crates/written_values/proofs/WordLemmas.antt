@@ -1,10 +1,9 @@
 -- Words that are drawn, one after the other.
-use Rattle.std.proofs.Common.{arith, ◌≡◌, refl, subst, ℕ, ◌+◌, ◌<◌, ◌≢◌, inl, inr, List, [], ◌∷◌, ◌++◌, replicate, slice_set, Contains, add-one}
+use Rattle.std.proofs.Common.{arith, ◌≡◌, refl, subst, ℕ, ◌+◌, ◌<◌, ◌≢◌, inl, inr, List, [], ◌∷◌, ◌++◌, slice_set, Contains, add-one}
 use Rattle.std.proofs.lemmas.Grind.{common_steps}
 use Rattle.std.proofs.lemmas.List.Elements.{Contains-push, Contains-push_cases, Contains-append_left}
-use Rattle.std.proofs.lemmas.List.{length-replicate}
 use Rattle.rand_xoshiro.specs.Xoshiro256.{plus_plus}
-use Rattle.written_values.specs.Words.{AreDrawn, AreZeroAt, greatest, state_after, word_after}
+use Rattle.written_values.specs.Words.{AreDrawn, AreZeroAt, state_after, word_after}
 
 pub state_next : (state : List ℕ) (k : ℕ) → state_after state (k + 1) ≡ (plus_plus (state_after state k)).1
 unfolding state_after

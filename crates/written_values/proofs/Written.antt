@@ -1,5 +1,5 @@
 -- Lists that are written as texts.
-use Rattle.std.proofs.Common.{◌≡◌, ◌∙◌, ◌<◌, ◌≤◌, ◌^◌, ◌==◌, arith, ℕ, zero, suc, refl, sym, ap, ap₂, List, [], ◌∷◌, ◌++◌, map, length, take, get_or, false, Option, Some, Bor, codes, decimal}
+use Rattle.std.proofs.Common.{◌≡◌, ◌∙◌, ◌<◌, ◌≤◌, ◌^◌, ◌==◌, arith, ℕ, zero, suc, refl, sym, ap, ap₂, List, [], ◌∷◌, ◌++◌, map, length, take, get_or, false, Option, None, Some, Bor, codes, decimal}
 use Rattle.std.proofs.lemmas.Fmt.{decimal_is_IsNumeral}
 use Rattle.std.proofs.lemmas.Str.Parse.{digit_at}
 use Rattle.graph_edits.specs.declared.edits.Op.{Op}
@@ -58,6 +58,18 @@ edit_alone editors session ops words read small is written only (Edit s os) stan
 edit_alone editors session ops words read small is written only (Route from to) stand same =
     let first : decimal session ≡ codes "route" = cc in
     absurd (no_route session (omega (arith, small)) first)
+
+-- ends that are read are those of one packet
+pub one_route : (a b from to : ℕ) (read : Option (ℕ × ℕ)) → read ≡ Some (a, b) → read ≡ Some (from, to) → Some (Route a b) ≡ Some (Route from to)
+one_route a b from to read is other =
+    let pair : (a, b) ≡ (from, to) = cc in
+    let one : a ≡ from = ap (λ (p : ℕ × ℕ). p.0) pair in
+    let all : b ≡ to = ap (λ (p : ℕ × ℕ). p.1) pair in
+    ap₂ (λ (n m : ℕ). Some (Route n m)) one all
+
+-- nothing is read where nothing was read
+pub nothing_read : {A B : Type 0} (a : A) (b : B) (read : Option A) → read ≡ None → read ≡ Some a → None ≡ Some b
+nothing_read a b read is other = absurd (cc)
 
 -- three words
 pub three : (ws : List (Bor (List ℕ))) (d : Bor (List ℕ)) → 3 ≤ length ws → length ws < 4 → map (λ x. x.now) ws ≡ (get_or ws 0 d).now ∷ (get_or ws 1 d).now ∷ (get_or ws 2 d).now ∷ []

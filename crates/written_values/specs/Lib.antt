@@ -2,3 +2,4 @@ pub mod OpText
 pub mod WordsText
 pub mod Words
 pub mod Scripts
+pub mod Reading

@@ -1,5 +1,5 @@
 -- How an op is written.
-use Rattle.std.specs.Prelude.{ℕ, ◌<◌, ◌^◌, List, ◌∷◌, ◌++◌, codes, decimal}
+use Rattle.std.specs.Prelude.{ℕ, ◌≡◌, ◌<◌, ◌^◌, List, ◌∷◌, ◌++◌, codes, decimal}
 use Rattle.graph_edits.specs.declared.edits.Op.{Op}
 use Rattle.graph_edits.specs.declared.edits.Op.TheVariants.{Add, Set, Cut}
 
@@ -10,6 +10,14 @@ pair_text a b = decimal a ++ 58 ∷ decimal b
 -- an edge with its weight
 abbrev pub edge_text : ℕ → ℕ → ℕ → List ℕ
 edge_text a b w = decimal a ++ 58 ∷ pair_text b w
+
+-- the text is a number, a colon and this rest
+abbrev pub LeadsWith : List ℕ → ℕ → List ℕ → Type 0
+LeadsWith text n rest = text ≡ decimal n ++ 58 ∷ rest
+
+-- the text is this edge
+abbrev pub IsEdge : List ℕ → ℕ → ℕ → ℕ → Type 0
+IsEdge text a b w = text ≡ edge_text a b w
 
 -- the kind, the nodes and the weight, if there is one, with colons between
 abbrev pub op_text : Op → List ℕ

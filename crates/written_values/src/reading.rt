@@ -1,10 +1,11 @@
 // Reading a script.
-ghost use Rattle.std.specs.Prelude.{◌≡◌, ◌==◌, ◌<◌, ◌^◌, ◌∷◌, [], ℕ, List, All, IfOk, IfSome, IsSomeAnd, Some, codes, decimal, map};
+ghost use Rattle.std.specs.Prelude.{◌≡◌, ◌==◌, ◌<◌, ◌^◌, ℕ, List, All, IfOk, decimal, map};
 ghost use Rattle.std.specs.List.{slice_split};
 ghost use Rattle.graph_edits.specs.declared.edits.Op.{Op};
 ghost use Rattle.written_values.specs.OpText.{Fits, op_text};
 ghost use Rattle.written_values.specs.declared.line.ScriptLine.{ScriptLine};
-ghost use Rattle.written_values.specs.Scripts.{AreOfSessions, IsChange, IsWritten, MayStand, line_words, lines_of, words_of};
+ghost use Rattle.written_values.specs.Reading.{AreLines, IfRead, Reads, ReadsList, texts_of};
+ghost use Rattle.written_values.specs.Scripts.{AreFit, AreOfSessions, IsChange, IsEdit, IsLine, IsWritten, MayStand, Script, lines_of, route_words, words_of};
 
 use crate::line::ScriptLine;
 use crate::op_words::{node, number, op};
@@ -13,21 +14,21 @@ use std::alloc::{AllocError, Global};
 
 // The words of a line.
 fn words_in<'a>(alloc: Global, text: &'a str) -> Result<Vec<&'a str>, AllocError>
-    ensures { IfOk result (λ words. map (λ x. x.now) words.items ≡ words_of text.entry.now) }
+    ensures { IfOk result (λ words. texts_of words.items ≡ words_of text.entry.now) }
 {
     text.split(' ').collect(alloc)
 }
 
 // What stands between the line feeds of a text, in front of them and behind.
 fn parts_in<'a>(alloc: Global, text: &'a str) -> Result<Vec<&'a str>, AllocError>
-    ensures { IfOk result (λ parts. map (λ x. x.now) parts.items ≡ slice_split (λ b. b == 10) text.entry.now) }
+    ensures { IfOk result (λ parts. texts_of parts.items ≡ slice_split (λ b. b == 10) text.entry.now) }
 {
     text.split('\n').collect(alloc)
 }
 
 /// The lines of a text: what stands between the line feeds. Behind the last feed there may be nothing.
 pub fn lines_in<'a>(alloc: Global, text: &'a str) -> Result<Vec<&'a str>, AllocError>
-    ensures { IfOk result (λ lines. map (λ x. x.now) lines.items ≡ lines_of text.entry.now) }
+    ensures { IfOk result (λ lines. texts_of lines.items ≡ lines_of text.entry.now) }
 {
     let mut lines = parts_in(alloc, text)?;
     let Some(last) = lines.pop() else {
@@ -41,8 +42,8 @@ pub fn lines_in<'a>(alloc: Global, text: &'a str) -> Result<Vec<&'a str>, AllocE
 
 // Each word as an op.
 fn ops_in(alloc: Global, words: &[&str]) -> Result<Option<Vec<Op>>, AllocError>
-    ensures found { IfOk result (λ o. IfSome o (λ ops. (map op_text ops.items ≡ map (λ x. x.now) words.now) × All Fits ops.items)) }
-    ensures only { (ops : List Op) → All Fits ops → map op_text ops ≡ map (λ x. x.now) words.now → IfOk result (λ o. IsSomeAnd o (λ read. read.items ≡ ops)) }
+    ensures found { IfRead result (λ ops. (map op_text ops.items ≡ texts_of words.now) × All Fits ops.items) }
+    ensures only { (ops : List Op) → All Fits ops → map op_text ops ≡ texts_of words.now → ReadsList result ops }
 {
     let mut ops = Vec::new(alloc);
     for word in words {
@@ -56,8 +57,8 @@ fn ops_in(alloc: Global, words: &[&str]) -> Result<Option<Vec<Op>>, AllocError>
 
 /// The change whose ops are these words. `None` where a word is no op, or there are none or too many.
 pub fn change_in(alloc: Global, words: &[&str]) -> Result<Option<Change>, AllocError>
-    ensures found { IfOk result (λ o. IfSome o (λ change. (map op_text change ≡ map (λ x. x.now) words.now) × IsChange change)) }
-    ensures only { (ops : List Op) → IsChange ops → map op_text ops ≡ map (λ x. x.now) words.now → IfOk result (λ o. o ≡ Some ops) }
+    ensures found { IfRead result (λ change. (map op_text change ≡ texts_of words.now) × IsChange change) }
+    ensures only { (ops : List Op) → IsChange ops → map op_text ops ≡ texts_of words.now → Reads result ops }
 {
     let Some(ops) = ops_in(alloc, words)? else {
         return Ok(None);
@@ -67,8 +68,8 @@ pub fn change_in(alloc: Global, words: &[&str]) -> Result<Option<Change>, AllocE
 
 // A session that has an editor.
 fn session_in(alloc: Global, text: &str, editors: u8) -> Result<Option<u8>, AllocError>
-    ensures found { IfOk result (λ o. IfSome o (λ session. (text.now ≡ decimal session) × (session < editors))) }
-    ensures only { (session : ℕ) → session < editors → text.now ≡ decimal session → IfOk result (λ o. o ≡ Some session) }
+    ensures found { IfRead result (λ session. (text.now ≡ decimal session) × (session < editors)) }
+    ensures only { (session : ℕ) → session < editors → text.now ≡ decimal session → Reads result session }
 {
     match number(alloc, text, u8::MAX as u64)? {
         Some(session) if session < editors as u64 => Ok(Some(session as u8)),
@@ -78,8 +79,8 @@ fn session_in(alloc: Global, text: &str, editors: u8) -> Result<Option<u8>, Allo
 
 // A session that has an editor, and its change.
 fn edit_in(alloc: Global, words: &[&str], editors: u8) -> Result<Option<(u8, Change)>, AllocError>
-    ensures found { IfOk result (λ o. IfSome o (λ edit. (map (λ x. x.now) words.now ≡ decimal edit.0 ∷ map op_text edit.1) × (edit.0 < editors) × IsChange edit.1)) }
-    ensures only { (session : ℕ) (ops : List Op) → session < editors → IsChange ops → map (λ x. x.now) words.now ≡ decimal session ∷ map op_text ops → IfOk result (λ o. o ≡ Some (session, ops)) }
+    ensures found { IfRead result (λ edit. IsEdit editors edit (texts_of words.now)) }
+    ensures only { (edit : ℕ × List Op) → IsEdit editors edit (texts_of words.now) → Reads result edit }
 {
     let Some((first, rest)) = words.split_first() else {
         return Ok(None);
@@ -95,9 +96,9 @@ fn edit_in(alloc: Global, words: &[&str], editors: u8) -> Result<Option<(u8, Cha
 
 // The ends of a route.
 fn route_in(alloc: Global, words: &[&str]) -> Result<Option<(u16, u16)>, AllocError>
-    ensures found { IfOk result (λ o. IfSome o (λ ends. map (λ x. x.now) words.now ≡ codes "route" ∷ decimal ends.0 ∷ decimal ends.1 ∷ [])) }
-    ensures fits { IfOk result (λ o. IfSome o (λ ends. (ends.0 < 2 ^ 16) × (ends.1 < 2 ^ 16))) }
-    ensures only { (from to : ℕ) → from < 2 ^ 16 → to < 2 ^ 16 → map (λ x. x.now) words.now ≡ codes "route" ∷ decimal from ∷ decimal to ∷ [] → IfOk result (λ o. o ≡ Some (from, to)) }
+    ensures found { IfRead result (λ ends. texts_of words.now ≡ route_words ends.0 ends.1) }
+    ensures fits { IfRead result (λ ends. (ends.0 < 2 ^ 16) × (ends.1 < 2 ^ 16)) }
+    ensures only { (a b : ℕ) → a < 2 ^ 16 → b < 2 ^ 16 → texts_of words.now ≡ route_words a b → Reads result (a, b) }
 {
     let [word, from, to] = words else {
         return Ok(None);
@@ -116,8 +117,8 @@ fn route_in(alloc: Global, words: &[&str]) -> Result<Option<(u16, u16)>, AllocEr
 
 // One line.
 fn line_in(alloc: Global, text: &str, editors: u8) -> Result<Option<ScriptLine>, AllocError>
-    ensures found { IfOk result (λ o. IfSome o (λ line. (words_of text.now ≡ line_words line) × MayStand editors line)) }
-    ensures only { (line : ScriptLine) → MayStand editors line → words_of text.now ≡ line_words line → IfOk result (λ o. o ≡ Some line) }
+    ensures found { IfRead result (λ line. IsLine text.now line × MayStand editors line) }
+    ensures only { (line : ScriptLine) → MayStand editors line → IsLine text.now line → Reads result line }
 {
     let words = words_in(alloc, text)?;
     if let Some((session, change)) = edit_in(alloc, &words, editors)? {
@@ -135,8 +136,8 @@ fn lines_read(
     texts: &[&str],
     editors: u8,
 ) -> Result<Option<Vec<ScriptLine>>, AllocError>
-    ensures found { IfOk result (λ o. IfSome o (λ script. (map (λ x. words_of x.now) texts.now ≡ map line_words script.items) × All (MayStand editors) script.items)) }
-    ensures only { (script : List ScriptLine) → All (MayStand editors) script → map (λ x. words_of x.now) texts.now ≡ map line_words script → IfOk result (λ o. IsSomeAnd o (λ read. read.items ≡ script)) }
+    ensures found { IfRead result (λ script. AreLines texts.now script.items × AreFit editors script.items) }
+    ensures only { (script : Script) → AreFit editors script → AreLines texts.now script → ReadsList result script }
 {
     let mut script = Vec::new(alloc);
     for text in texts {
@@ -150,9 +151,9 @@ fn lines_read(
 
 /// The lines of a script for so many editors, of the sessions from 0 on. `None` where a line is of neither form.
 pub fn script(alloc: Global, text: &str, editors: u8) -> Result<Option<Vec<ScriptLine>>, AllocError>
-    ensures found { IfOk result (λ o. IfSome o (λ script. IsWritten text.now script.items × All (MayStand editors) script.items)) }
-    ensures only { (script : List ScriptLine) → All (MayStand editors) script → IsWritten text.now script → IfOk result (λ o. IsSomeAnd o (λ read. read.items ≡ script)) }
-    ensures sessions { IfOk result (λ o. IfSome o (λ script. AreOfSessions editors script.items)) }
+    ensures found { IfRead result (λ script. IsWritten text.now script.items × AreFit editors script.items) }
+    ensures only { (script : Script) → AreFit editors script → IsWritten text.now script → ReadsList result script }
+    ensures sessions { IfRead result (λ script. AreOfSessions editors script.items) }
 {
     let lines = lines_in(alloc, text)?;
     lines_read(alloc, &lines, editors)

@@ -1,7 +1,8 @@
 //! The words by which landmarks are chosen, as they are asked for.
-ghost use Rattle.std.specs.Prelude.{◌≡◌, ◌≤◌, ◌<◌, ◌^◌, ◌++◌, ◌∷◌, ◌↔◌, ℕ, List, All, IfOk, IfSome, IsSomeAnd, IsTrue, decimal, length};
+ghost use Rattle.std.specs.Prelude.{◌≡◌, ◌<◌, ◌↔◌, ℕ, List, All, IfOk, IsTrue, length};
 ghost use Rattle.written_values.specs.declared.words.LandmarkWords.{LandmarkWords};
-ghost use Rattle.written_values.specs.WordsText.{AreNodes, IsAsked, IsSame, nodes_text, words_text};
+ghost use Rattle.written_values.specs.WordsText.{AreNodes, IsAsked, nodes_text, words_text};
+ghost use Rattle.written_values.specs.Reading.{IfRead, ReadsList, ReadsWords};
 ghost use Rattle.written_values.specs.Words.{AreDrawn, AreWords, AreZeroAt, IsWithin, first_state, state_after};
 
 use crate::op_words::{node, number};
@@ -23,8 +24,8 @@ pub enum LandmarkWords {
 
 /// What a text asks for, where it is of one of the three forms.
 pub fn landmark_words(alloc: Global, text: &str) -> Result<Option<LandmarkWords>, AllocError>
-    ensures found { IfOk result (λ o. IfSome o (λ words. (text.now ≡ words_text words) × IsAsked words)) }
-    ensures only { (words : LandmarkWords) → IsAsked words → text.now ≡ words_text words → IfOk result (λ o. IsSomeAnd o (λ read. IsSame read words)) }
+    ensures found { IfRead result (λ words. (text.now ≡ words_text words) × IsAsked words) }
+    ensures only { (words : LandmarkWords) → IsAsked words → text.now ≡ words_text words → ReadsWords result words }
 {
     if text == "none" {
         return Ok(Some(LandmarkWords::Greatest));
@@ -43,8 +44,8 @@ pub fn landmark_words(alloc: Global, text: &str) -> Result<Option<LandmarkWords>
 
 /// One node or more, as `2,5`.
 fn node_list(alloc: Global, text: &str) -> Result<Option<Vec<u16>>, AllocError>
-    ensures found { IfOk result (λ o. IfSome o (λ nodes. (text.now ≡ nodes_text nodes.items) × AreNodes nodes.items)) }
-    ensures only { (nodes : List ℕ) → AreNodes nodes → text.now ≡ nodes_text nodes → IfOk result (λ o. IsSomeAnd o (λ read. read.items ≡ nodes)) }
+    ensures found { IfRead result (λ nodes. (text.now ≡ nodes_text nodes.items) × AreNodes nodes.items) }
+    ensures only { (nodes : List ℕ) → AreNodes nodes → text.now ≡ nodes_text nodes → ReadsList result nodes }
 {
     let mut nodes = Vec::new(alloc);
     let mut rest = text;

@@ -1,6 +1,6 @@
-use Rattle.std.proofs.Common.{arith, ◌≡◌, ◌<◌, ◌≤◌, ◌+◌, length, get_or, drop, subst, ℕ, List}
+use Rattle.std.proofs.Common.{arith, ◌<◌, ◌≤◌, length, get_or, subst}
 use Rattle.edge_lists.specs.Rows.{IsFront}
-use Rattle.edge_lists.proofs.HeaderLemmas.{lead_end, lead_header, lead_left, lead_nothing, lead_other, nowhere}
+use Rattle.edge_lists.proofs.HeaderLemmas.{lead_end, lead_header, lead_nothing, lead_other, nowhere}
 use Rattle.edge_lists.proofs.header.lines_before.Goals as goal
 
 pub returns-in-Header-clause-lead : goal.returns-in-Header-clause-lead

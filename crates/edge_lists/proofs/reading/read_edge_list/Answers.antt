@@ -3,8 +3,7 @@ use Rattle.std.proofs.lemmas.List.{take_all}
 use Rattle.std.proofs.lemmas.Result.{IfErr-at_err, IfOk-at_ok}
 use Rattle.written_values.specs.Scripts.{lines_of}
 use Rattle.edge_lists.specs.declared.refused.LineRefused.{LineRefused}
-use Rattle.edge_lists.specs.declared.row.Row.{Row}
-use Rattle.edge_lists.specs.Rows.{IsFirstRefused, Said, Say, lead, row_of}
+use Rattle.edge_lists.specs.Rows.{IsFirstRefused, Say, lead, row_of}
 use Rattle.edge_lists.proofs.RowLemmas.{carried}
 use Rattle.edge_lists.proofs.WordLemmas.{texts_at}
 use Rattle.edge_lists.proofs.reading.read_edge_list.Goals as goal

@@ -1,4 +1,4 @@
-use Rattle.std.proofs.Common.{◌≡◌, ◌<◌, ◌^◌, ℕ, List, Option, subst}
+use Rattle.std.proofs.Common.{◌<◌, ◌^◌, ℕ, List, Option, subst}
 use Rattle.std.specs.Prelude.{IfNone}
 use Rattle.edge_lists.specs.Rows.{IsWeight}
 use Rattle.edge_lists.proofs.RowLemmas.{no_row_weighted}

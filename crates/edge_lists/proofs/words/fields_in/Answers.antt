@@ -1,4 +1,4 @@
-use Rattle.std.proofs.Common.{arith, ◌≡◌, ◌<◌, ◌∙◌, ap, map, length, List, ℕ, Bor, true, false}
+use Rattle.std.proofs.Common.{arith, ◌≡◌, ◌<◌, ◌∙◌, ap, map, length, List, ℕ, true}
 use Rattle.std.proofs.lemmas.Bool.Decides.{nat_tests}
 use Rattle.edge_lists.specs.Rows.{has_comma, only_word, parts_at, words_of}
 use Rattle.edge_lists.proofs.WordLemmas.{fields_at_commas, map_through, parts_count, texts_at}

@@ -1,4 +1,4 @@
-use Rattle.std.proofs.Common.{◌≡◌, ◌∙◌, ap, map, List, ℕ, Bor}
+use Rattle.std.proofs.Common.{◌∙◌, ap, map, List, ℕ, Bor}
 use Rattle.edge_lists.proofs.WordLemmas.{words_by_cuts}
 use Rattle.edge_lists.proofs.words.words_in.Goals as goal
 

@@ -1,4 +1,4 @@
-use Rattle.std.proofs.Common.{rules, arith, ◌≡◌, ◌<◌, ◌+◌, ◌∙◌, ◌∷◌, ◌++◌, [], ap, sym, refl, ℕ, List, true, false, length, get_or, take}
+use Rattle.std.proofs.Common.{rules, arith, ◌≡◌, ◌<◌, ◌∙◌, ◌∷◌, ◌++◌, [], ap, sym, refl, ℕ, List, true, false, length, get_or, take}
 use Rattle.std.proofs.lemmas.Grind.{common_steps}
 use Rattle.edge_lists.specs.NameLists.{IsWord, has_number, is_among, with_name}
 use Rattle.edge_lists.proofs.HeaderLemmas.{nowhere}

@@ -1,5 +1,4 @@
-use Rattle.std.proofs.Common.{rules, ◌≡◌, ap, sym, ◌∙◌}
-use Rattle.crossbeam_queue.specs.Passes.{view}
+use Rattle.std.proofs.Common.{rules, ap, ◌∙◌}
 use Rattle.intake.specs.declared.queue.View.{View}
 use Rattle.intake.specs.Ends.{Taking, AreAll}
 use Rattle.intake.specs.Insides.{ended_of}

@@ -1,0 +1,19 @@
+-- What a look-up of an entry finds.
+use Rattle.std.specs.Prelude.{◌≡◌, ℕ, ◌≤◌, false, Some, None, MatchOption, Option}
+use denote.Ref.{Bor}
+use Rattle.distances.specs.declared.nearest.Near.{Near}
+use Rattle.node_table.specs.declared.parts.Entry.{Entry}
+use Rattle.node_table.specs.Checks.{parent_is}
+use Rattle.node_table.specs.Tables.{Tables}
+
+-- it is the entry of y for the root, or nothing where y has none
+abbrev pub IsEntryOf : Tables → ℕ → ℕ → Option (Bor Entry) → Type 0
+IsEntryOf t y root found = MatchOption found (t.entry y root ≡ None) (λ e. t.entry y root ≡ Some e.now)
+
+-- it is the entry of y for the root, if y is a child of x there, or else nothing
+abbrev pub IsChildOf : Tables → ℕ → ℕ → ℕ → Option (Bor Entry) → Type 0
+IsChildOf t root x y found = MatchOption found (parent_is x (t.entry y root) ≡ false) (λ e. (t.entry y root ≡ Some e.now) × (e.now.parent ≡ Some x))
+
+-- y has a nearest landmark, which is no farther than this
+abbrev pub HasNearWithin : Tables → ℕ → ℕ → Type 0
+HasNearWithin t y most = (q : Near) × ((t.nearest y ≡ Some q) × (q.distance ≤ most))
