@@ -7,3 +7,4 @@ pub mod EdgeRows
 pub mod Rolls
 pub mod SameStore
 pub mod Wholes
+pub mod OldForms

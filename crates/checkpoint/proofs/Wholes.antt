@@ -14,6 +14,7 @@ use Rattle.layout_2.specs.Standing.{StandsFor, StandsForNone}
 use Rattle.layout_2.proofs.Texts.{text_fits}
 use Rattle.layout_2.proofs.Folds.{after-nil}
 use Rattle.checkpoint.specs.Rolling.{area_text, padding}
+use Rattle.checkpoint.specs.Written.{HoldsFresh}
 use Rattle.checkpoint.specs.Whole.{without_tickets, IsFreshWith, IsForeign, IsAllForeign, IsShut, IsWritten, IsWriting, StandsForNoneOr}
 
 -- ---- what an image stands for
@@ -121,6 +122,14 @@ module _ (count : ℕ) (graph : Network) (sound : IsSound graph) (fits : count �
   writing_stands image (inl foreign) = inl (foreign_none image foreign)
   writing_stands image (inr (inl shut)) = inl (shut_none image shut)
   writing_stands image (inr (inr w)) = inr (written_stands image w)
+
+  pub holds_fresh : (disk : DiskView) → ((image : List ℕ) → MayLeave disk image → IsWritten graph.nodes text image) → MayLeave disk disk.content → HoldsFresh state disk
+  holds_fresh disk written present = record {
+    stands = written_stands disk.content (written disk.content present);
+    left = λ image left. written_stands image (written image left);
+    fresh = written_fresh disk.content (written disk.content present);
+    fresh_left = λ image left. written_fresh image (written image left);
+  }
 
 -- ---- the gates are closed
 

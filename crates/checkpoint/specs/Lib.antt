@@ -1,5 +1,10 @@
 pub mod Kept
 pub mod StoreWords
+pub mod Opening
+pub mod Committing
 pub mod Rolling
+pub mod Rolled
 pub mod Formatting
+pub mod Formatted
 pub mod Whole
+pub mod Written

@@ -1,12 +1,13 @@
 //! Making a device ready.
-ghost use Rattle.std.specs.Prelude.{◌≡◌, ◌≢◌, ◌≤◌, ◌<◌, ◌+◌, ◌↔◌, ◌∷◌, ℕ, List, length, get_or, IsTrue, OnOk, OnErr, IsErr, IsErrOf};
-ghost use Rattle.disk_trait.specs.Disk.{MayLeave, AtMostCalls, IsSameDevice, IsSettled, Torn, overwritten, bytes_at};
+ghost use Rattle.std.specs.Prelude.{◌≡◌, ◌≢◌, ◌≤◌, ◌<◌, ◌+◌, ◌↔◌, ◌∷◌, ℕ, length, get_or, IsTrue, OnOk, OnErr, IsErr, IsErrOf};
+ghost use Rattle.disk_trait.specs.Disk.{AtMostCalls, IsSameDevice, IsSettled, Torn, overwritten, bytes_at};
 ghost use Rattle.layout_2.specs.Layout.{device_len, most_nodes, edges_start, header, journal_start, slot_start};
 ghost use Rattle.layout_parts.specs.Heads.{head_text};
 ghost use Rattle.layout_parts.specs.Refusals.{header_len};
 ghost use Rattle.layout_2.specs.State.{first_state};
 ghost use Rattle.layout_2.specs.Standing.{StandsFor};
 ghost use Rattle.checkpoint.specs.Formatting.{first_slot, with_front, with_gates, formatted};
+ghost use Rattle.checkpoint.specs.Formatted.{IsFormatted};
 
 use crate::refusals::FormatRefused;
 use byteorder::{BigEndian, ByteOrder};
@@ -50,13 +51,18 @@ fn first_checkpoint(nodes: u16) -> [u8; EDGES_START]
 // Puts bytes from `at` on.
 fn put<D: Disk>(disk: &mut D, at: usize, bytes: &[u8]) -> Result<(), DeviceFault>
     requires { at + length bytes.now ≤ length (D.view disk.old).content }
-    ensures written { IsTrue (D.view disk.old).keeps_model → OnOk result ((D.view disk.new).content ≡ overwritten (D.view disk.old).content at bytes.now) }
-    ensures ran { IsSameDevice (D.view disk.old) (D.view disk.new) }
-    ensures calls { AtMostCalls 1 (D.view disk.old) (D.view disk.new) }
+    ensures written { IsTrue (D.view disk.old).keeps_model
+        → OnOk result ((D.view disk.new).content ≡ overwritten (D.view disk.old).content at bytes.now) }
+    ensures there { IsTrue (D.view disk.old).keeps_model
+        → OnOk result (bytes_at (D.view disk.new).content at (length bytes.now) ≡ bytes.now) }
+    ensures elsewhere { IsTrue (D.view disk.old).keeps_model
+        → OnOk result (Torn at (length bytes.now) (D.view disk.old).content (D.view disk.new).content) }
+
     ensures fault { OnErr result ((D.view disk.old).failures < (D.view disk.new).failures) }
     ensures no_failure { OnOk result ((D.view disk.new).failures ≡ (D.view disk.old).failures) }
-    ensures there { IsTrue (D.view disk.old).keeps_model → OnOk result (bytes_at (D.view disk.new).content at (length bytes.now) ≡ bytes.now) }
-    ensures elsewhere { IsTrue (D.view disk.old).keeps_model → OnOk result (Torn at (length bytes.now) (D.view disk.old).content (D.view disk.new).content) }
+
+    ensures ran { IsSameDevice (D.view disk.old) (D.view disk.new) }
+    ensures calls { AtMostCalls 1 (D.view disk.old) (D.view disk.new) }
 {
     disk.write_at(at, bytes)
 }
@@ -64,44 +70,46 @@ fn put<D: Disk>(disk: &mut D, at: usize, bytes: &[u8]) -> Result<(), DeviceFault
 // Puts the header, and an open slot.
 fn put_front<D: Disk>(disk: &mut D, nodes: u16) -> Result<(), DeviceFault>
     requires { length (D.view disk.old).content ≡ device_len }
-    ensures written { IsTrue (D.view disk.old).keeps_model → OnOk result ((D.view disk.new).content ≡ with_front nodes (D.view disk.old).content) }
-    ensures header { IsTrue (D.view disk.old).keeps_model → OnOk result (bytes_at (D.view disk.new).content 0 header_len ≡ header nodes) }
-    ensures slot { IsTrue (D.view disk.old).keeps_model → OnOk result (bytes_at (D.view disk.new).content (slot_start 0) edges_start ≡ first_slot nodes) }
+    ensures written { IsTrue (D.view disk.old).keeps_model
+        → OnOk result ((D.view disk.new).content ≡ with_front nodes (D.view disk.old).content) }
+    ensures header { IsTrue (D.view disk.old).keeps_model
+        → OnOk result (bytes_at (D.view disk.new).content 0 header_len ≡ header nodes) }
+    ensures slot { IsTrue (D.view disk.old).keeps_model
+        → OnOk result (bytes_at (D.view disk.new).content (slot_start 0) edges_start ≡ first_slot nodes) }
+
     ensures fault { OnErr result ((D.view disk.old).failures < (D.view disk.new).failures) }
     ensures no_failure { OnOk result ((D.view disk.new).failures ≡ (D.view disk.old).failures) }
+
     ensures ran { IsSameDevice (D.view disk.old) (D.view disk.new) }
     ensures calls { AtMostCalls 2 (D.view disk.old) (D.view disk.new) }
 {
-    match put(disk, 0, &header_of(nodes)) {
-        Ok(()) => {}
-        Err(fault) => return Err(fault),
-    }
-    match put(disk, SLOTS_START, &first_checkpoint(nodes)) {
-        Ok(()) => Ok(()),
-        Err(fault) => Err(fault),
-    }
+    put(disk, 0, &header_of(nodes))?;
+    put(disk, SLOTS_START, &first_checkpoint(nodes))?;
+    Ok(())
 }
 
 // Closes the first gate of the open slot's journal, and the other slot.
 fn put_gates<D: Disk>(disk: &mut D) -> Result<(), DeviceFault>
     requires { length (D.view disk.old).content ≡ device_len }
-    ensures written { IsTrue (D.view disk.old).keeps_model → OnOk result ((D.view disk.new).content ≡ with_gates (D.view disk.old).content) }
-    ensures journal { IsTrue (D.view disk.old).keeps_model → OnOk result (get_or (D.view disk.new).content (journal_start 0) 1 ≡ 0) }
-    ensures other { IsTrue (D.view disk.old).keeps_model → OnOk result (get_or (D.view disk.new).content (slot_start 1) 0 ≡ 0) }
-    ensures below { IsTrue (D.view disk.old).keeps_model → OnOk result ((from n : ℕ) → from + n ≤ journal_start 0 → bytes_at (D.view disk.new).content from n ≡ bytes_at (D.view disk.old).content from n) }
+    ensures written { IsTrue (D.view disk.old).keeps_model
+        → OnOk result ((D.view disk.new).content ≡ with_gates (D.view disk.old).content) }
+    ensures journal { IsTrue (D.view disk.old).keeps_model
+        → OnOk result (get_or (D.view disk.new).content (journal_start 0) 1 ≡ 0) }
+    ensures other { IsTrue (D.view disk.old).keeps_model
+        → OnOk result (get_or (D.view disk.new).content (slot_start 1) 0 ≡ 0) }
+    ensures below { IsTrue (D.view disk.old).keeps_model
+        → OnOk result ((from n : ℕ) → from + n ≤ journal_start 0
+        → bytes_at (D.view disk.new).content from n ≡ bytes_at (D.view disk.old).content from n) }
+
     ensures fault { OnErr result ((D.view disk.old).failures < (D.view disk.new).failures) }
     ensures no_failure { OnOk result ((D.view disk.new).failures ≡ (D.view disk.old).failures) }
+
     ensures ran { IsSameDevice (D.view disk.old) (D.view disk.new) }
     ensures calls { AtMostCalls 2 (D.view disk.old) (D.view disk.new) }
 {
-    match put(disk, SLOTS_START + CHECKPOINT_ROOM, &[CLOSED_GATE]) {
-        Ok(()) => {}
-        Err(fault) => return Err(fault),
-    }
-    match put(disk, SLOTS_START + SLOT_ROOM, &[CLOSED_GATE]) {
-        Ok(()) => Ok(()),
-        Err(fault) => Err(fault),
-    }
+    put(disk, SLOTS_START + CHECKPOINT_ROOM, &[CLOSED_GATE])?;
+    put(disk, SLOTS_START + SLOT_ROOM, &[CLOSED_GATE])?;
+    Ok(())
 }
 
 // Puts all that a fresh device has, and syncs.
@@ -109,26 +117,22 @@ fn put_all<D: Disk>(disk: &mut D, nodes: u16) -> Result<(), DeviceFault>
     requires long { length (D.view disk.old).content ≡ device_len }
     requires some { 1 ≤ nodes }
     requires few { nodes ≤ most_nodes }
-    ensures written { IsTrue (D.view disk.old).keeps_model → OnOk result ((D.view disk.new).content ≡ formatted nodes (D.view disk.old).content) }
-    ensures ok { IsTrue (D.view disk.old).keeps_model → OnOk result (StandsFor (first_state nodes) (D.view disk.new).content) }
+    ensures written { IsTrue (D.view disk.old).keeps_model
+        → OnOk result ((D.view disk.new).content ≡ formatted nodes (D.view disk.old).content) }
+    ensures ok { IsTrue (D.view disk.old).keeps_model
+        → OnOk result (StandsFor (first_state nodes) (D.view disk.new).content) }
     ensures settled { IsTrue (D.view disk.old).keeps_model → OnOk result (IsSettled (D.view disk.new)) }
+
     ensures fault { OnErr result ((D.view disk.old).failures < (D.view disk.new).failures) }
     ensures no_failure { OnOk result ((D.view disk.new).failures ≡ (D.view disk.old).failures) }
+
     ensures ran { IsSameDevice (D.view disk.old) (D.view disk.new) }
     ensures calls { AtMostCalls 5 (D.view disk.old) (D.view disk.new) }
 {
-    match put_front(disk, nodes) {
-        Ok(()) => {}
-        Err(fault) => return Err(fault),
-    }
-    match put_gates(disk) {
-        Ok(()) => {}
-        Err(fault) => return Err(fault),
-    }
-    match disk.sync() {
-        Ok(()) => Ok(()),
-        Err(fault) => Err(fault),
-    }
+    put_front(disk, nodes)?;
+    put_gates(disk)?;
+    disk.sync()?;
+    Ok(())
 }
 
 /// Makes a device hold a network of so many nodes and no edges, and no session's ticket. It takes no
@@ -136,14 +140,14 @@ fn put_all<D: Disk>(disk: &mut D, nodes: u16) -> Result<(), DeviceFault>
 /// the gate of that slot's first record and the gate of slot 1; each other byte stays (`written`). Where
 /// the device fails, it holds no store.
 pub fn format<D: Disk>(disk: &mut D, n: u16) -> Result<(), FormatRefused>
-    ensures written { IsTrue (D.view disk.old).keeps_model → OnOk result ((D.view disk.new).content ≡ formatted n (D.view disk.old).content) }
-    ensures ok { IsTrue (D.view disk.old).keeps_model → OnOk result (StandsFor (first_state n) (D.view disk.new).content) }
-    ensures left { IsTrue (D.view disk.old).keeps_model → OnOk result ((image : List ℕ) → MayLeave (D.view disk.new) image → StandsFor (first_state n) image) }
+    ensures ok { OnOk result (IsFormatted n (D.view disk.old) (D.view disk.new)) }
+
     ensures bad_size { IsErrOf result FormatRefused.BadSize ↔ (¬ ((1 ≤ n) × (n ≤ most_nodes))) }
-    ensures bad_length { IsErrOf result FormatRefused.BadLength ↔ ((1 ≤ n) × (n ≤ most_nodes) × (length (D.view disk.old).content ≢ device_len)) }
-    ensures untouched { IsErr result → ¬ (IsErrOf result FormatRefused.Device) → disk.new ≡ disk.old }
+    ensures bad_length { IsErrOf result FormatRefused.BadLength
+        ↔ ((1 ≤ n) × (n ≤ most_nodes) × (length (D.view disk.old).content ≢ device_len)) }
     ensures device { IsErrOf result FormatRefused.Device → (D.view disk.old).failures < (D.view disk.new).failures }
-    ensures no_failure { OnOk result ((D.view disk.new).failures ≡ (D.view disk.old).failures) }
+    ensures untouched { IsErr result → ¬ (IsErrOf result FormatRefused.Device) → disk.new ≡ disk.old }
+
     ensures ran { IsSameDevice (D.view disk.old) (D.view disk.new) }
     ensures calls { AtMostCalls 5 (D.view disk.old) (D.view disk.new) }
 {

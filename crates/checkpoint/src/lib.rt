@@ -4,7 +4,8 @@
 //! at most one state ([`standing_law`]). This crate writes. A device has two slots, each a checkpoint and a journal behind it; A
 //! commit appends a group of requests to the journal of the slot in use. A roll fills the other slot and opens its gate last.
 //!
-//! The contract that the layer above uses is that of [`Store`], and it names no slot, gate, epoch or area:
+//! The contract that the layer above uses is that of [`Store`], and it names no slot, gate, epoch or area. What each answer says is a
+//! record with named fields (specs/Opening.antt, Committing, Rolled, Formatted and Written):
 //!
 //! - [`format`] makes a device stand for no changes, no edges and no tickets.
 //! - [`write_state`] makes a device stand for a count and a network without tickets. Where it had no front of this layout before, whenever

@@ -1,5 +1,5 @@
 //! Rolling: the network and the last tickets as a new checkpoint in the slot that isn't in use.
-ghost use Rattle.std.specs.Prelude.{◌≡◌, ◌≢◌, ◌≤◌, ◌<◌, ◌+◌, ◌^◌, ◌↔◌, ◌++◌, ℕ, List, length, get_or, take, IsTrue, IfOk, OnOk, OnErr, IsErr, IsErrOf, true, false};
+ghost use Rattle.std.specs.Prelude.{◌≡◌, ◌≤◌, ◌<◌, ◌+◌, ◌++◌, ℕ, List, length, get_or, take, IsTrue, IfOk, OnOk, OnErr, true, false};
 ghost use Rattle.std.specs.List.{flat_map};
 ghost use Rattle.std.specs.FinMap.{len};
 ghost use Rattle.disk_trait.specs.Disk.{AtMostCalls, IsSameDevice, MayLeave, LeavesOnly};
@@ -7,7 +7,6 @@ ghost use Rattle.layout_2.specs.Layout.{checkpoint_room};
 ghost use Rattle.layout_2.specs.State.{state_with, tickets_text, IsLawful};
 ghost use Rattle.layout_parts.specs.EdgeTexts.{edge_text, edges_text};
 ghost use Rattle.layout_parts.specs.Heads.{head_text};
-ghost use Rattle.layout_2.specs.Standing.{StandsFor};
 ghost use Rattle.checkpoint.specs.Rolling.{up_text, padding, area_text, IsClosing};
 
 use crate::refusals::RollRefused;
@@ -36,7 +35,8 @@ fn head_of(epoch: u64, count: u64, nodes: u16, edges: u32) -> [u8; HEAD_LEN - 1]
 
 // Adds a head: a checkpoint up to its tickets.
 fn put_head(text: &mut Vec<u8>, epoch: u64, count: u64, graph: &Graph) -> Result<(), AllocError>
-    ensures { OnOk result (text.new.items ≡ text.old.items ++ head_text epoch count graph.now.nodes (len graph.now.edges)) }
+    ensures { OnOk result (text.new.items
+        ≡ text.old.items ++ head_text epoch count graph.now.nodes (len graph.now.edges)) }
 {
     let nodes = graph.nodes();
     text.extend_from_slice(&head_of(epoch, count, nodes, graph.edges() as u32))?;
@@ -102,7 +102,8 @@ pub(crate) fn text_of(
     tickets: &[u64; SESSIONS],
 ) -> Result<Vec<u8>, AllocError>
     ensures long { IfOk result (λ text. length text.items ≡ checkpoint_room) }
-    ensures text { IsLawful graph.now → IfOk result (λ text. text.items ≡ area_text epoch (state_with count graph.now tickets.now)) }
+    ensures text { IsLawful graph.now
+        → IfOk result (λ text. text.items ≡ area_text epoch (state_with count graph.now tickets.now)) }
 {
     let mut text = Vec::with_capacity(alloc, CHECKPOINT_ROOM)?;
     put_head(&mut text, epoch, count, graph)?;
@@ -120,8 +121,10 @@ fn close_open<D: Disk>(disk: &mut D, gate: usize, byte: u8) -> Result<(), Device
     ensures fault { OnErr result ((D.view disk.old).failures < (D.view disk.new).failures) }
     ensures no_failure { OnOk result ((D.view disk.new).failures ≡ (D.view disk.old).failures) }
     ensures calls { AtMostCalls 2 (D.view disk.old) (D.view disk.new) }
-    ensures any_moment { IsTrue (D.view disk.old).keeps_model → LeavesOnly (D.view disk.old) (D.view disk.new) (IsClosing (D.view disk.old) gate byte) }
-    ensures ok { IsTrue (D.view disk.old).keeps_model → byte ≡ 1 → OnOk result ((image : List ℕ) → MayLeave (D.view disk.new) image → get_or image gate 0 ≡ 0) }
+    ensures any_moment { IsTrue (D.view disk.old).keeps_model
+        → LeavesOnly (D.view disk.old) (D.view disk.new) (IsClosing (D.view disk.old) gate byte) }
+    ensures ok { IsTrue (D.view disk.old).keeps_model → byte ≡ 1
+        → OnOk result ((image : List ℕ) → MayLeave (D.view disk.new) image → get_or image gate 0 ≡ 0) }
 {
     if byte != OPEN_GATE {
         return Ok(());
@@ -130,7 +133,8 @@ fn close_open<D: Disk>(disk: &mut D, gate: usize, byte: u8) -> Result<(), Device
 }
 
 impl<D: Disk> Store<D> {
-    ghost use Rattle.checkpoint.specs.StoreWords.{state_of, view_of, is_down, IsDurable, HasRolled, IsWornOut};
+    ghost use Rattle.checkpoint.specs.StoreWords.{state_of, view_of};
+    ghost use Rattle.checkpoint.specs.Rolled.{IsNowRolled, RefusesRoll, KeepsState};
 
     /// Writes the network and the last tickets as a new checkpoint, so that the journal is empty again:
     /// after it a commit isn't refused as `NeedsRoll`. It reads nothing, and has at most six
@@ -141,18 +145,15 @@ impl<D: Disk> Store<D> {
     /// call of the device failed: the store is down from then on.
     pub fn roll(&mut self, alloc: Global) -> Result<(), RollRefused>
         ensures same { state_of self.new ≡ state_of self.old }
-        ensures rolled { OnOk result (HasRolled self.old self.new) }
-        ensures durable { IsTrue (view_of self.old).keeps_model → OnOk result (IsDurable self.new) }
-        ensures no_failure { OnOk result ((view_of self.new).failures ≡ (view_of self.old).failures) }
-        ensures down { IsErrOf result RollRefused.Down ↔ (is_down self.old ≡ true) }
-        ensures worn { IsErrOf result RollRefused.Worn ↔ ((is_down self.old ≡ false) × IsWornOut self.old) }
-        ensures device { IsErrOf result RollRefused.Device → (view_of self.old).failures < (view_of self.new).failures }
-        ensures lost { IsErrOf result RollRefused.Device → is_down self.new ≡ true }
-        ensures stays_up { is_down self.old ≡ false → ¬ (IsErrOf result RollRefused.Device) → is_down self.new ≡ false }
+
+        ensures ok { OnOk result (IsNowRolled self.old self.new) }
+
+        ensures refused { RefusesRoll self.old self.new result }
+
         ensures ran { IsSameDevice (view_of self.old) (view_of self.new) }
-        ensures untouched { IsErr result → ¬ (IsErrOf result RollRefused.Device) → self.new ≡ self.old }
         ensures calls { AtMostCalls 6 (view_of self.old) (view_of self.new) }
-        ensures any_moment { IsTrue (view_of self.old).keeps_model → is_down self.old ≡ false → LeavesOnly (view_of self.old) (view_of self.new) (StandsFor (state_of self.old)) }
+
+        ensures any_moment { KeepsState self.old self.new }
     {
         if self.down {
             return Err(RollRefused::Down);

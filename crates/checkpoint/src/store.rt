@@ -1,15 +1,11 @@
 //! The store.
-ghost use Rattle.std.specs.Prelude.{◌≡◌, ◌≢◌, ◌⊎◌, ◌≤◌, ◌<◌, ◌+◌, ◌*◌, ◌^◌, ◌↔◌, ◌++◌, [], ◌∷◌, ℕ, List, length, IsTrue, IfOk, IfErr, OnOk, OnErr, IsErrOf, IsErr, IsSome, Some, false, true, map};
-ghost use Rattle.disk_trait.specs.Disk.{AtMostCalls, IsSameDevice, LeavesOnly, OnlyRead, Unchanged};
+ghost use Rattle.std.specs.Prelude.{◌≡◌, ◌≤◌, ◌<◌, ◌+◌, ◌↔◌, length, IsTrue, IfOk, IfErr, OnOk, IsSome, Some, false, true};
+ghost use Rattle.disk_trait.specs.Disk.{AtMostCalls, IsSameDevice, Unchanged};
 ghost use Rattle.graph_edits.specs.Changes.{fold};
 ghost use Rattle.journal.specs.Layout.{most_entries};
 ghost use Rattle.requests.specs.Tickets.{sessions, last_of, tickets_after};
-ghost use Rattle.layout_2.specs.Layout.{worn_limit, device_len, journal_room, journal_start, slot_start};
-ghost use Rattle.layout_2.specs.State.{State, state_with, changes_of, asked, after, AreInTurn};
-ghost use Rattle.layout_2.specs.Standing.{StandsFor, StandsForNone};
-ghost use Rattle.layout_parts.specs.Refusals.{LacksMagic};
-ghost use Rattle.layout_2.specs.Fronts.{HasOtherVersion, HasThisVersion};
-ghost use Rattle.layout_parts.specs.Refusals.{IsFormatFault, IsNoDeviceFault};
+ghost use Rattle.layout_2.specs.Layout.{worn_limit, device_len, journal_room, journal_start};
+ghost use Rattle.layout_2.specs.State.{state_with, changes_of, asked, after, AreInTurn};
 ghost use Rattle.checkpoint.specs.Kept.{IsKept, kept_props};
 
 use crate::refusals::CommitRefused;
@@ -43,7 +39,10 @@ pub struct Store<D: Disk> {
     ghost at: { journal.area.start ≡ journal_start slot },
     ghost room: { journal.area.room ≡ journal_room },
     ghost long: { length (D.view disk).content ≡ device_len },
-    ghost kept: { IsTrue (D.view disk).keeps_model → down ≡ false → IsKept (D.view disk) slot epoch other_gate (state_with base_count.value base.value base_tickets.value) (state_with count graph tickets) journal.groups } by { Prim.hlevel kept_props },
+    ghost kept: { IsTrue (D.view disk).keeps_model → down ≡ false
+        → IsKept (D.view disk) slot epoch other_gate
+        (state_with base_count.value base.value base_tickets.value) (state_with count graph tickets)
+        journal.groups } by { Prim.hlevel kept_props },
 }
 
 // What the graph needs to take the changes of requests in order.
@@ -70,26 +69,15 @@ fn raise_all(tickets: &mut [u64; SESSIONS], requests: &[Request])
 }
 
 impl<D: Disk> Store<D> {
-    ghost use Rattle.checkpoint.specs.StoreWords.{state_of, nodes_of, disk_of, view_of, is_down, IsDurable, IsRolled, HasAppended, LacksRoomFor, IsWornOut};
+    ghost use Rattle.checkpoint.specs.StoreWords.{state_of, nodes_of, disk_of, view_of, is_down, IsWornOut};
+    ghost use Rattle.checkpoint.specs.Opening.{IsOpened, IsNotOpened};
+    ghost use Rattle.checkpoint.specs.Committing.{HasCommitted, RefusesCommit, CommitsWholly};
 
     /// The store that a device holds. It syncs, and writes nothing; with a refusal the device comes back.
     pub fn open(alloc: Global, disk: D) -> Result<Store<D>, (OpenRefused, D)>
-        ensures ok { IsTrue (D.view disk).keeps_model → IfOk result (λ store. StandsFor (state_of store) (D.view disk).content) }
-        ensures durable { IsTrue (D.view disk).keeps_model → IfOk result (λ store. IsDurable store) }
-        ensures up { IfOk result (λ store. is_down store ≡ false) }
-        ensures no_failure { IfOk result (λ store. (view_of store).failures ≡ (D.view disk).failures) }
-        ensures reads { IsTrue (D.view disk).keeps_model → IfOk result (λ store. OnlyRead (D.view disk) (view_of store)) }
-        ensures ran { IfOk result (λ store. IsSameDevice (D.view disk) (view_of store)) }
-        ensures opened { IsTrue (D.view disk).keeps_model → OnOk result (HasThisVersion (D.view disk).content) }
-        ensures refused { IsTrue (D.view disk).keeps_model → IfErr result (λ e. IsFormatFault e.0 → StandsForNone (D.view disk).content) }
-        ensures not_formatted { IsTrue (D.view disk).keeps_model → IfErr result (λ e. e.0 ≡ OpenRefused.NotFormatted → LacksMagic (D.view disk).content) }
-        ensures bad_version { IsTrue (D.view disk).keeps_model → IfErr result (λ e. e.0 ≡ OpenRefused.BadVersion → HasOtherVersion (D.view disk).content) }
-        ensures damaged { IsTrue (D.view disk).keeps_model → IfErr result (λ e. e.0 ≡ OpenRefused.Damaged → HasThisVersion (D.view disk).content) }
-        ensures memory { IsTrue (D.view disk).keeps_model → IfErr result (λ e. e.0 ≡ OpenRefused.Memory → HasThisVersion (D.view disk).content) }
-        ensures served { IfErr result (λ e. IsNoDeviceFault e.0 → (D.view e.1).failures ≡ (D.view disk).failures) }
-        ensures device { IfErr result (λ e. e.0 ≡ OpenRefused.Device → (D.view disk).failures < (D.view e.1).failures) }
-        ensures reads_err { IsTrue (D.view disk).keeps_model → IfErr result (λ e. OnlyRead (D.view disk) (D.view e.1)) }
-        ensures ran_err { IfErr result (λ e. IsSameDevice (D.view disk) (D.view e.1)) }
+        ensures opened { IfOk result (λ store. IsOpened (D.view disk) store) }
+
+        ensures refused { IfErr result (λ e. IsNotOpened (D.view disk) (D.view e.1) e.0) }
     {
         let mut disk = disk;
         match load(alloc, &mut disk) {
@@ -167,26 +155,16 @@ impl<D: Disk> Store<D> {
         requires few { length requests.now ≤ most_entries }
         requires accepted { IsSome (fold (state_of self.old).graph (changes_of requests.now)) }
         requires in_turn { AreInTurn (state_of self.old).tickets requests.now }
-        ensures ok { OnOk result (after (state_of self.old) requests.now ≡ Some (state_of self.new)) }
-        ensures appended { OnOk result (HasAppended self.old self.new requests.now) }
-        ensures durable { IsTrue (view_of self.old).keeps_model → OnOk result (IsDurable self.new) }
-        ensures no_failure { OnOk result ((view_of self.new).failures ≡ (view_of self.old).failures) }
-        ensures err { OnErr result (state_of self.new ≡ state_of self.old) }
+        ensures ok { OnOk result (HasCommitted self.old self.new requests.now) }
+
+        ensures refused { RefusesCommit self.old self.new requests.now result }
+
         ensures nodes { nodes_of self.new ≡ nodes_of self.old }
-        ensures down { IsErrOf result CommitRefused.Down ↔ (is_down self.old ≡ true) }
-        ensures worn { IsErrOf result CommitRefused.Worn ↔ ((is_down self.old ≡ false) × (worn_limit < (state_of self.old).count + length requests.now)) }
-        ensures needs_roll { IsErrOf result CommitRefused.NeedsRoll
-            ↔ ((is_down self.old ≡ false) × ((state_of self.old).count + length requests.now ≤ worn_limit) × LacksRoomFor self.old requests.now) }
-        ensures rolled_fits { IsRolled self.old → ¬ (IsErrOf result CommitRefused.NeedsRoll) }
-        ensures device { IsErrOf result CommitRefused.Device → (view_of self.old).failures < (view_of self.new).failures }
-        ensures lost { IsErrOf result CommitRefused.Device → is_down self.new ≡ true }
-        ensures stays_up { is_down self.old ≡ false → ¬ (IsErrOf result CommitRefused.Device) → is_down self.new ≡ false }
         ensures worn_out { IsWornOut self.new ↔ IsWornOut self.old }
         ensures ran { IsSameDevice (view_of self.old) (view_of self.new) }
-        ensures untouched { IsErr result → ¬ (IsErrOf result CommitRefused.Device) → self.new ≡ self.old }
         ensures calls { AtMostCalls 4 (view_of self.old) (view_of self.new) }
-        ensures any_moment { IsTrue (view_of self.old).keeps_model → is_down self.old ≡ false → (next : State) → after (state_of self.old) requests.now ≡ Some next
-            → LeavesOnly (view_of self.old) (view_of self.new) (λ image. StandsFor (state_of self.old) image ⊎ StandsFor next image) }
+
+        ensures any_moment { CommitsWholly self.old self.new requests.now }
     {
         if self.down {
             return Err(CommitRefused::Down);

@@ -1,9 +1,9 @@
 //! Writing a whole state at once: a count and a network, as a fresh device holds them.
-ghost use Rattle.std.specs.Prelude.{◌≡◌, ◌≤◌, ◌<◌, ◌+◌, ◌↔◌, ℕ, List, length, get_or, IsTrue, OnOk, OnErr, IsErrOf};
+ghost use Rattle.std.specs.Prelude.{◌≡◌, ◌≤◌, ◌<◌, ◌+◌, ℕ, List, length, IsTrue, OnOk, OnErr, IsErrOf};
 ghost use Rattle.disk_trait.specs.Disk.{MayLeave, AtMostCalls, IsSameDevice, IsSettled, LeavesOnly, IsTornFrom, bytes_at};
-ghost use Rattle.layout_2.specs.Layout.{checkpoint_room, device_len, slot_room, slot_start, slots_start, worn_limit};
-ghost use Rattle.layout_2.specs.Standing.{StandsFor};
-ghost use Rattle.checkpoint.specs.Whole.{without_tickets, IsAllForeign, IsFreshWith, IsShut, IsWriting, IsWritten, StandsForNoneOr};
+ghost use Rattle.layout_2.specs.Layout.{checkpoint_room, device_len, slot_room, slots_start, worn_limit};
+ghost use Rattle.checkpoint.specs.Whole.{without_tickets, IsAllForeign, IsShut, IsWriting, IsWritten};
+ghost use Rattle.checkpoint.specs.Written.{IsNowWritten, WritesWholly};
 
 use crate::formatting::header_of;
 use crate::roll::text_of;
@@ -32,18 +32,16 @@ fn put_synced<D: Disk>(disk: &mut D, at: usize, bytes: &[u8]) -> Result<(), Devi
     ensures fault { OnErr result ((D.view disk.old).failures < (D.view disk.new).failures) }
     ensures no_failure { OnOk result ((D.view disk.new).failures ≡ (D.view disk.old).failures) }
     ensures calls { AtMostCalls 2 (D.view disk.old) (D.view disk.new) }
-    ensures any_moment { IsTrue (D.view disk.old).keeps_model → LeavesOnly (D.view disk.old) (D.view disk.new) (IsTornFrom (D.view disk.old) at (length bytes.now)) }
+
+    ensures any_moment { IsTrue (D.view disk.old).keeps_model
+        → LeavesOnly (D.view disk.old) (D.view disk.new) (IsTornFrom (D.view disk.old) at (length bytes.now)) }
     ensures settled { IsTrue (D.view disk.old).keeps_model → OnOk result (IsSettled (D.view disk.new)) }
-    ensures there { IsTrue (D.view disk.old).keeps_model → OnOk result (bytes_at (D.view disk.new).content at (length bytes.now) ≡ bytes.now) }
+    ensures there { IsTrue (D.view disk.old).keeps_model
+        → OnOk result (bytes_at (D.view disk.new).content at (length bytes.now) ≡ bytes.now) }
 {
-    match disk.write_at(at, bytes) {
-        Ok(()) => {}
-        Err(fault) => return Err(fault),
-    }
-    match disk.sync() {
-        Ok(()) => Ok(()),
-        Err(fault) => Err(fault),
-    }
+    disk.write_at(at, bytes)?;
+    disk.sync()?;
+    Ok(())
 }
 
 // Closes both slots' gates: at most four calls of the device.
@@ -53,17 +51,15 @@ fn shut_slots<D: Disk>(disk: &mut D) -> Result<(), DeviceFault>
     ensures fault { OnErr result ((D.view disk.old).failures < (D.view disk.new).failures) }
     ensures no_failure { OnOk result ((D.view disk.new).failures ≡ (D.view disk.old).failures) }
     ensures calls { AtMostCalls 4 (D.view disk.old) (D.view disk.new) }
-    ensures any_moment { IsTrue (D.view disk.old).keeps_model → LeavesOnly (D.view disk.old) (D.view disk.new) (IsTornFrom (D.view disk.old) slots_start (slot_room + 1)) }
-    ensures ok { IsTrue (D.view disk.old).keeps_model → OnOk result ((image : List ℕ) → MayLeave (D.view disk.new) image → IsShut image) }
+
+    ensures any_moment { IsTrue (D.view disk.old).keeps_model
+        → LeavesOnly (D.view disk.old) (D.view disk.new) (IsTornFrom (D.view disk.old) slots_start (slot_room + 1)) }
+    ensures ok { IsTrue (D.view disk.old).keeps_model
+        → OnOk result ((image : List ℕ) → MayLeave (D.view disk.new) image → IsShut image) }
 {
-    match close(disk, SLOTS_START) {
-        Ok(()) => {}
-        Err(fault) => return Err(fault),
-    }
-    match close(disk, SLOTS_START + SLOT_ROOM) {
-        Ok(()) => Ok(()),
-        Err(fault) => Err(fault),
-    }
+    close(disk, SLOTS_START)?;
+    close(disk, SLOTS_START + SLOT_ROOM)?;
+    Ok(())
 }
 
 // Puts a whole device behind its gates: they are closed first, then the header is put, then the text of
@@ -75,21 +71,16 @@ fn put_whole<D: Disk>(disk: &mut D, nodes: u16, text: &[u8]) -> Result<(), Devic
     ensures fault { OnErr result ((D.view disk.old).failures < (D.view disk.new).failures) }
     ensures no_failure { OnOk result ((D.view disk.new).failures ≡ (D.view disk.old).failures) }
     ensures calls { AtMostCalls 10 (D.view disk.old) (D.view disk.new) }
-    ensures any_moment { IsTrue (D.view disk.old).keeps_model → IsAllForeign (D.view disk.old) → LeavesOnly (D.view disk.old) (D.view disk.new) (IsWriting nodes text.now) }
-    ensures ok { IsTrue (D.view disk.old).keeps_model → OnOk result ((image : List ℕ) → MayLeave (D.view disk.new) image → IsWritten nodes text.now image) }
+
+    ensures any_moment { IsTrue (D.view disk.old).keeps_model → IsAllForeign (D.view disk.old)
+        → LeavesOnly (D.view disk.old) (D.view disk.new) (IsWriting nodes text.now) }
+    ensures ok { IsTrue (D.view disk.old).keeps_model
+        → OnOk result ((image : List ℕ) → MayLeave (D.view disk.new) image → IsWritten nodes text.now image) }
 {
-    match shut_slots(disk) {
-        Ok(()) => {}
-        Err(fault) => return Err(fault),
-    }
-    match put_synced(disk, 0, &header_of(nodes)) {
-        Ok(()) => {}
-        Err(fault) => return Err(fault),
-    }
-    match publish(disk, SLOTS_START, text) {
-        Ok(()) => Ok(()),
-        Err(fault) => Err(fault),
-    }
+    shut_slots(disk)?;
+    put_synced(disk, 0, &header_of(nodes))?;
+    publish(disk, SLOTS_START, text)?;
+    Ok(())
 }
 
 /// Makes a device hold this count and this network, as a fresh device does: in slot 0, with the first
@@ -110,16 +101,15 @@ pub fn write_state<D: Disk>(
 ) -> Result<(), WriteRefused>
     requires long { length (D.view disk.old).content ≡ device_len }
     requires count { count ≤ worn_limit }
-    ensures ok { IsTrue (D.view disk.old).keeps_model → OnOk result (StandsFor (without_tickets count graph.now) (D.view disk.new).content) }
-    ensures left { IsTrue (D.view disk.old).keeps_model → OnOk result ((image : List ℕ) → MayLeave (D.view disk.new) image → StandsFor (without_tickets count graph.now) image) }
-    ensures fresh { IsTrue (D.view disk.old).keeps_model → OnOk result (IsFreshWith (without_tickets count graph.now) (D.view disk.new).content) }
-    ensures fresh_left { IsTrue (D.view disk.old).keeps_model → OnOk result ((image : List ℕ) → MayLeave (D.view disk.new) image → IsFreshWith (without_tickets count graph.now) image) }
+    ensures ok { OnOk result (IsNowWritten (without_tickets count graph.now) (D.view disk.old) (D.view disk.new)) }
+
     ensures memory { IsErrOf result WriteRefused.Memory → disk.new ≡ disk.old }
     ensures device { IsErrOf result WriteRefused.Device → (D.view disk.old).failures < (D.view disk.new).failures }
-    ensures no_failure { OnOk result ((D.view disk.new).failures ≡ (D.view disk.old).failures) }
+
     ensures ran { IsSameDevice (D.view disk.old) (D.view disk.new) }
     ensures calls { AtMostCalls 10 (D.view disk.old) (D.view disk.new) }
-    ensures any_moment { IsTrue (D.view disk.old).keeps_model → IsAllForeign (D.view disk.old) → LeavesOnly (D.view disk.old) (D.view disk.new) (StandsForNoneOr (without_tickets count graph.now)) }
+
+    ensures any_moment { WritesWholly (without_tickets count graph.now) (D.view disk.old) (D.view disk.new) }
 {
     graph.sound();
     let text = match text_of(alloc, FIRST_EPOCH, count, graph, &[0; SESSIONS]) {

@@ -20,9 +20,13 @@
 //! answer [`Fault::Output`]; [`tell`] appends `tznode: `, the fault's text and a line feed, or the write failed; and
 //! [`Fault::status`] is 2 exactly where the words are not understood.
 //!
+//! Of a writer that fails contracts know nothing. A [`FaultWriter`] tells faults too, and says whether a write of it has failed:
+//! so a contract can say that a fault which wasn't told was tried to be told. [`WatchedWriter`] makes one of any writer.
+//!
 //! ```text
 //! print_line(&mut out, Formatted { nodes: 5 })?;     // formatted nodes=5
 //! tell(&mut err, Fault::NoNode)?;                    // tznode: no node
+//! WatchedWriter::new(&mut err).tell(Fault::NoNode)?; // the same
 //! ```
 //!
 //! The crate stands on the graph alone. It knows no device and no scheme: whoever knows one says what is printed of it.
@@ -30,6 +34,7 @@
 
 mod ended;
 mod fault;
+mod fault_writer;
 mod lines;
 mod listing;
 mod printing;
@@ -37,6 +42,7 @@ mod route_lines;
 
 pub use ended::Ended;
 pub use fault::Fault;
+pub use fault_writer::{FaultWriter, WatchedWriter};
 pub use lines::{AcceptedLine, EdgeLine, Formatted, MigratedLine, RefusedLine, TicketLine, Totals};
 pub use listing::listing_of;
 pub use printing::{print_line, print_text, tell};

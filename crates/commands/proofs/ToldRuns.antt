@@ -103,6 +103,12 @@ told_behind P told_old told_new (Err first) (Untold came) is behind fault other 
 
 -- ---- a live service
 
+-- where the program ends untold, so does its live service
+pub untold_so : (ended : Served) (outcome : Outcome) (fault : Fault) → IsEndOf ended outcome → outcome ≡ Untold fault → ended ≡ served.Untold fault
+untold_so served.Printed outcome fault is same = absurd (cc)
+untold_so (served.Told came) outcome fault is same = absurd (cc)
+untold_so (served.Untold came) outcome fault is same = cc
+
 -- a fault before any line is answered
 pub early_so : {D : Type 0} (model : Ghosts D) (opened : D → Type 0) (given : Option (List ℕ)) (editors : ℕ) (words : LandmarkWords) (old told_old told_new : Option (List ℕ)) (fault : Fault) (outcome : Outcome)
     → (let r : Result Ended Fault = Err fault in IsToldSo r told_old told_new outcome) → (fault ≡ told.Memory) ⊎ IsFileFault fault → IsLiveOutcome model opened given editors words old old told_old told_new outcome

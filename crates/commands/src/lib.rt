@@ -29,10 +29,11 @@
 //! The contract that the layer above uses is that of [`run_words`] (`Says` of `specs/Runs`): of any run that what it printed is the
 //! answer to what its words ask for, or which fault ended it, and with which status, and that no other command reads what is meant for
 //! `serve`. [`run_words_at`] says it of a place of `tables` that the caller brings. [`run`] says the same of how it ended ([`Outcome`];
-//! `Runs` of `specs/Runs`), and [`run_on`] of devices and files of any kind, and that no other command than `tables` puts a file there:
-//! what a line of a live service asks to be put is put into files of the system. Where a device keeps the disk model, the answer is
-//! that of the state for which the content of the device by that path stands, and the fault is true of that device. Of a live service
-//! it says that its lines are answers, each to the line at its place. What a file of the system holds is tested.
+//! `Runs` of `specs/Runs`), and that a fault is untold only where a write of its `FaultWriter` has failed. [`run_on`] says it of devices
+//! and files of any kind, and that no other command than `tables` puts a file there: what a line of a live service asks to be put is put
+//! into files of the system. Where a device keeps the disk model, the answer is that of the state for which the content of the device by
+//! that path stands, and the fault is true of that device. Of a live service it says that its lines are answers, each to the line at its
+//! place. What a file of the system holds is tested.
 //!
 //! ```text
 //! let words = ["edit", "device", "add:0:1:1"];

@@ -1,9 +1,9 @@
 //! How a run of the program ends.
-ghost use Rattle.std.specs.Prelude.{◌≡◌, ◌≤◌};
+ghost use Rattle.std.specs.Prelude.{◌≡◌, ◌≤◌, IsTrue};
+ghost use Rattle.command_output.specs.declared.fault.Fault.{Fault};
 ghost use Rattle.commands.specs.Outcomes.{IsToldSo, status_in};
 
-use command_output::{Ended, Fault, tell};
-use std::io::Write;
+use command_output::{Ended, Fault, FaultWriter};
 
 /// How a run of the program ended.
 #[derive(Clone, Copy, Debug, PartialEq, Eq, Drop)]
@@ -31,12 +31,14 @@ impl Outcome {
 }
 
 /// Tells a fault, where one ended the run.
-pub(crate) fn told<E: Write>(err: &mut E, ended: Result<Ended, Fault>) -> Outcome
-    ensures { IsToldSo ended (E.contents err.old) (E.contents err.new) result }
+pub(crate) fn told<E: FaultWriter>(err: &mut E, ended: Result<Ended, Fault>) -> Outcome
+    ensures told { IsToldSo ended (E.contents err.old) (E.contents err.new) result }
+
+    ensures untold { (fault : Fault) → result ≡ Outcome.Untold fault → IsTrue (E.has_failed err.new) }
 {
     match ended {
         Ok(ended) => Outcome::Answered(ended),
-        Err(fault) => match tell(err, fault) {
+        Err(fault) => match err.tell(fault) {
             Ok(()) => Outcome::Told(fault),
             Err(_) => Outcome::Untold(fault),
         },

@@ -1,5 +1,6 @@
 //! The program, on any words, reader and writers.
-ghost use Rattle.std.specs.Prelude.{◌≡◌, ◌<◌, ℕ, List, Option, None};
+ghost use Rattle.std.specs.Prelude.{◌≡◌, ◌<◌, ℕ, IsTrue, List, Option, None};
+ghost use Rattle.command_output.specs.declared.fault.Fault.{Fault};
 ghost use Rattle.clap.specs.Walk.{texts};
 ghost use Rattle.requests.specs.Tickets.{sessions};
 ghost use Rattle.device_commands.specs.Openings.{IsOpenFault};
@@ -18,7 +19,7 @@ use crate::scheme_tasks::{run_check, run_route};
 use crate::service::{run_live, run_serve};
 use crate::tables::run_tables;
 use command_line::{Task, WordsRefused, understood};
-use command_output::{Ended, Fault};
+use command_output::{Ended, Fault, FaultWriter, WatchedWriter};
 use device_files::DeviceFile;
 use disk_trait::Disk;
 use graph_edits::Change;
@@ -52,7 +53,8 @@ where
 
     ensures unread { ¬ AskService (texts words.now) → script.new ≡ script.old }
 {
-    run(rt, words, script, out, err).status()
+    let mut faults = WatchedWriter::new(err);
+    run(rt, words, script, out, &mut faults).status()
 }
 
 /// The same with the files of `tables` put at this place.
@@ -77,7 +79,8 @@ where
 
     ensures unput { PutsOnlyAsked (texts words.now) T.puts tables.old tables.new }
 {
-    run_at(rt, tables, words, script, out, err).status()
+    let mut faults = WatchedWriter::new(err);
+    run_at(rt, tables, words, script, out, &mut faults).status()
 }
 
 /// Does what the words ask for on files, and answers how it ended.
@@ -92,9 +95,12 @@ where
     R: Files<File = File> + AllocGlobal + Threads + Wait + Sync + TablePlaces<'a>,
     S: Read + Send,
     O: Write,
-    E: Write,
-    ensures { RunsWords ⟦<DeviceFile as Disk>⟧ IsFileOf AnyPut (texts words.now)
+    E: FaultWriter,
+    ensures runs { RunsWords ⟦<DeviceFile as Disk>⟧ IsFileOf AnyPut (texts words.now)
         S.remaining script.old script.new O.contents out.old out.new E.contents err.old err.new result }
+
+    // A fault that wasn't told couldn't be: a write of this writer has failed.
+    ensures untold { (fault : Fault) → result ≡ Outcome.Untold fault → IsTrue (E.has_failed err.new) }
 {
     run_at(rt, &mut rt.place(), words, script, out, err)
 }
@@ -113,9 +119,11 @@ where
     T: TableFiles + Send,
     S: Read + Send,
     O: Write,
-    E: Write,
+    E: FaultWriter,
     ensures runs { RunsWords ⟦<DeviceFile as Disk>⟧ IsFileOf (PutBy T.puts tables.old tables.new) (texts words.now)
         S.remaining script.old script.new O.contents out.old out.new E.contents err.old err.new result }
+
+    ensures untold { (fault : Fault) → result ≡ Outcome.Untold fault → IsTrue (E.has_failed err.new) }
 
     ensures unput { PutsOnlyAsked (texts words.now) T.puts tables.old tables.new }
 {
@@ -139,9 +147,11 @@ where
     T: TableFiles + Send,
     S: Read + Send,
     O: Write,
-    E: Write,
+    E: FaultWriter,
     ensures runs { RunsWords F.Device.Disk (F.opened devices.now) (PutBy T.puts tables.old tables.new) (texts words.now)
         S.remaining script.old script.new O.contents out.old out.new E.contents err.old err.new result }
+
+    ensures untold { (fault : Fault) → result ≡ Outcome.Untold fault → IsTrue (E.has_failed err.new) }
 
     ensures unput { PutsOnlyAsked (texts words.now) T.puts tables.old tables.new }
 {
@@ -167,10 +177,12 @@ where
     T: TableFiles + Send,
     S: Read + Send,
     O: Write,
-    E: Write,
+    E: FaultWriter,
     requires { MayRun task }
     ensures runs { RunsTask F.Device.Disk (F.opened devices.now) (PutBy T.puts tables.old tables.new) task.entry
         S.remaining script.old script.new O.contents out.old out.new E.contents err.old err.new result }
+
+    ensures untold { (fault : Fault) → result ≡ Outcome.Untold fault → IsTrue (E.has_failed err.new) }
 
     ensures unput { ¬ IsOfTables task.entry → ¬ IsLiveService task.entry → T.puts tables.new ≡ T.puts tables.old }
 {
@@ -215,12 +227,14 @@ where
     T: TableFiles + Send,
     S: Read + Send,
     O: Write,
-    E: Write,
+    E: FaultWriter,
     requires { IsServiceConfig config }
     ensures outcome { RunsService F.Device.Disk (F.opened devices.now device.now Access.ToChange) live
         (S.remaining script.old) config.editors words O.contents out.old out.new E.contents err.old err.new result }
 
     ensures untouched { live ≡ None → UnlessOutput result (out.new ≡ out.old) }
+
+    ensures untold { (fault : Fault) → result ≡ Outcome.Untold fault → IsTrue (E.has_failed err.new) }
 
     ensures unput { live ≡ None → T.puts tables.new ≡ T.puts tables.old }
 {

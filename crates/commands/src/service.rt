@@ -1,5 +1,6 @@
 //! The command `serve`, over a script or over lines as they come.
-ghost use Rattle.std.specs.Prelude.{◌≡◌, IfOk, IfErr};
+ghost use Rattle.std.specs.Prelude.{◌≡◌, IfOk, IfErr, IsTrue};
+ghost use Rattle.command_output.specs.declared.fault.Fault.{Fault};
 ghost use Rattle.written_values.specs.Scripts.{AreOfSessions};
 ghost use Rattle.service_threads.specs.Config.{IsServiceConfig};
 ghost use Rattle.commands.specs.Outcomes.{IsEndOf};
@@ -8,7 +9,7 @@ ghost use Rattle.commands.specs.ServedScripts.{IsReadFault, IsScriptFault, IsScr
 
 use crate::devices::{Access, Devices};
 use crate::outcome::{Outcome, told};
-use command_output::{Ended, Fault};
+use command_output::{Ended, Fault, FaultWriter};
 use live_service::{serve_lines, serve_live};
 use service_lines::Served;
 use service_threads::{NoHooks, ServiceConfig};
@@ -108,10 +109,12 @@ where
     T: TableFiles + Send,
     S: Read + Send,
     O: Write,
-    E: Write,
+    E: FaultWriter,
     requires { IsServiceConfig config }
-    ensures { RunsLive F.Device.Disk (F.opened devices.now device.now Access.ToChange)
+    ensures runs { RunsLive F.Device.Disk (F.opened devices.now device.now Access.ToChange)
         (S.remaining from.old) config.editors words O.contents out.old out.new E.contents err.old err.new result }
+
+    ensures untold { (fault : Fault) → result ≡ Outcome.Untold fault → IsTrue (E.has_failed err.new) }
 {
     let Ok(input) = BufReader::new(rt.alloc(), from) else {
         return told(err, Err(Fault::Memory));

@@ -1,5 +1,5 @@
 -- What a crash leaves over a commit, said from the store before the requests were taken.
-use Rattle.std.proofs.Common.{◌≡◌, ◌⊎◌, ℕ, List, [], ◌++◌, length, drop, Result, Err, IsTrue, false, ◌∷◌, refl, arith, ap, sym, ◌∙◌, subst, append-nil, inl}
+use Rattle.std.proofs.Common.{◌≡◌, ◌⊎◌, ℕ, List, [], ◌++◌, length, drop, IsTrue, false, ◌∷◌, refl, arith, ap, sym, ◌∙◌, subst, append-nil, inl}
 use Rattle.generations.proofs.Keeping.{drop_front, drop_whole}
 use Rattle.disk_trait.specs.Disk.{IsSameDevice, LeavesOnly, started}
 use Rattle.requests.specs.declared.request.Request.{Request}
@@ -24,18 +24,6 @@ stays old new next same model up =
 abbrev Leaves : {D : Type 0} {V : _} → Store D V → List Request → Store D V → Type 0
 Leaves mid held new = LeavesOnly (view_of mid) (view_of new) (λ image. StandsFor (state_of mid) image ⊎ StandsFor (settle (state_of mid) held).state image)
 
-pub through : {D : Type 0} {V : _} → (old mid new : Store D V) (held asked : List Request) → mid ≡ old → held ≡ asked → IsTrue (view_of old).keeps_model → (IsTrue (view_of mid).keeps_model → Leaves mid held new) → Leaves old asked new
-through old mid new held asked same all model leaves =
-    subst (λ (h : List Request). Leaves old h new) all (subst (λ m. IsTrue (view_of m).keeps_model → Leaves m held new) same leaves model)
-
-pub through_alone : {D : Type 0} {V : _} → (old mid new : Store D V) → mid ≡ old → IsTrue (view_of old).keeps_model → (IsTrue (view_of mid).keeps_model → LeavesOnly (view_of mid) (view_of new) (StandsFor (state_of mid)))
-    → LeavesOnly (view_of old) (view_of new) (StandsFor (state_of old))
-through_alone old mid new same model leaves = subst (λ m. IsTrue (view_of m).keeps_model → LeavesOnly (view_of m) (view_of new) (StandsFor (state_of m))) same leaves model
-
-pub idle_through : {D : Type 0} {V : _} → (old mid new : Store D V) (held asked : List Request) → mid ≡ old → held ≡ asked → ((settle (state_of mid) held).accepted ≡ [] → new ≡ mid) → (settle (state_of old) asked).accepted ≡ [] → new ≡ old
-idle_through {D = D} {V = V} old mid new held asked same all idle none =
-    idle (subst (λ (x : Store D V × List Request). (settle (state_of x.0) x.1).accepted ≡ []) (λ i. (sym same i, sym all i)) none) ∙ same
-
 -- ---- what a crash leaves between two calls
 
 -- what keeps the model after a call kept it before
@@ -51,10 +39,6 @@ pub down_leaves : {D : Type 0} {V : _} → (old new : Store D V) (held held' : L
 down_leaves old new held held' same still leaves image left =
     subst (λ (x : State × List Request). StandsForEither x.0 x.1 image) (λ i. (sym same i, sym still i)) ∣ leaves.now image left ∣₁
 
--- an equal one leaves the same
-pub same_leaves : {D : Type 0} {V : _} → (old new : Store D V) (held held' : List Request) → new ≡ old → held' ≡ held → LeavesGroupWhole old held → LeavesGroupWhole new held'
-same_leaves {D = D} {V = V} old new held held' same still leaves = subst (λ (x : Store D V × List Request). LeavesGroupWhole x.0 x.1) (λ i. (sym same i, sym still i)) leaves
-
 -- ---- what was held or taken
 
 pub taken_first : (held got now new last : List Request) → held ≡ [] → new ≡ got ++ now → last ≡ new → now ≡ held ++ drop (length got) last
@@ -64,10 +48,6 @@ taken_first held got now new last none front same =
 -- .. and where a group was held
 pub held_first : (held got now last : List Request) → now ≡ held → last ≡ got → now ≡ held ++ drop (length got) last
 held_first held got now last same still = same ∙ sym (ap (λ l. held ++ l) (ap (drop (length got)) still ∙ drop_whole got) ∙ append-nil held)
-
--- the same refusal of two calls
-pub err_same : {A B E : Type 0} (e f : E) → ◌≡◌ {A = Result A E} (Err e) (Err f) → ◌≡◌ {A = Result B E} (Err e) (Err f)
-err_same e f is = ap Err (let i : e ≡ f = cc in i)
 
 pub none_of : {A : Type 0} (xs : List A) (n : ℕ) → n ≡ length xs → n ≡ 0 → xs ≡ []
 none_of [] n long is = refl

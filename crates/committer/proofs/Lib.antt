@@ -8,3 +8,5 @@ pub mod Telling
 pub mod Rebuilding
 pub mod Crashing
 pub mod Listings
+pub mod Answering
+pub mod OldForms

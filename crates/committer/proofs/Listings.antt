@@ -1,5 +1,5 @@
 -- The one list of requests goes on as they are taken and settled, and as a generation is announced.
-use Rattle.std.proofs.Common.{◌≡◌, ◌≢◌, ◌≤◌, ◌+◌, ℕ, zero, suc, Bool, true, false, MatchBool, List, [], ◌∷◌, ◌++◌, length, take, drop, Some, refl, ap, sym, ◌∙◌, subst, append-nil, arith}
+use Rattle.std.proofs.Common.{◌≡◌, ◌≢◌, ◌≤◌, ℕ, zero, suc, Bool, true, false, MatchBool, List, [], ◌∷◌, ◌++◌, length, take, drop, Some, refl, ap, sym, ◌∙◌, subst, append-nil, arith}
 use Rattle.std.proofs.Math.Seq.{take-length}
 use Rattle.layout_2.specs.State.{State, AreInTurn, asked}
 use Rattle.requests.specs.Tickets.{worn_limit, Rises}
@@ -93,13 +93,12 @@ taken_listed first posts held now got got' state down is none front rises within
     relisted first posts posts now now (got ++ now) got' state state down down refl refl refl front refl refl more
 
 -- .. behind what was paid
-pub filled_listed : (first : State) (posts posts' : Outgoing) (b : Bool) (held now got got' : List Request) (state state' : State) (down down' : Bool) (starts : List ℕ) → IsListed first posts held got state down
-    → MatchBool b (posts' ≡ paid posts) ((posts' ≡ posts) × (posts.due ≢ [])) → held ≡ [] → got' ≡ got ++ now → Rises starts (asked got') → starts ≡ posts'.opening.starts → AreWithin now → state' ≡ state → down' ≡ down
-    → IsListed first posts' now got' state' down'
-filled_listed first posts posts' b held now got got' state state' down down' starts is pays none front rises same within s d =
-    let paid : IsListed first posts' held got state down = paid_listed first posts posts' b held got state down pays is in
-    let filled : IsListed first posts' now got' state down = taken_listed first posts' held now got got' state down paid none front (subst (λ (ts : List ℕ). Rises ts (asked got')) same rises) within in
-    relisted first posts' posts' now now got' got' state state' down down' refl refl refl refl s d filled
+pub filled_now : (first : State) (posts : Outgoing) (held now got got' : List Request) (state state' : State) (down down' : Bool) (starts : List ℕ) → IsListed first posts held got state down
+    → held ≡ [] → got' ≡ got ++ now → Rises starts (asked got') → starts ≡ posts.opening.starts → AreWithin now → state' ≡ state → down' ≡ down
+    → IsListed first posts now got' state' down'
+filled_now first posts held now got got' state state' down down' starts is none front rises same within s d =
+    let filled : IsListed first posts now got' state down = taken_listed first posts held now got got' state down is none front (subst (λ (ts : List ℕ). Rises ts (asked got')) same rises) within in
+    relisted first posts posts now now got' got' state state' down down' refl refl refl refl s d filled
 
 -- what is held was committed, and its marks are posted or due
 pub committed_listed : (first : State) (posts posts' : Outgoing) (p : Notice) (b : Bool) (held held' got got' : List Request) (state state' : State) (down down' : Bool) → IsListed first posts held got state down → down ≡ false → posts.due ≡ []

@@ -77,17 +77,11 @@ retie opening log got newest newest' held held' state state' down down' n h s d 
 
 -- ---- requests were taken
 
-pub tied_filled : (o o' : Outgoing) (b : Bool) (newest : Option ℕ) (held now got got' : List Request) (state state' : State) (down down' : Bool) (starts : List ℕ) → IsTied o.opening (all_of o) newest held got state down
-    → MatchBool b (o' ≡ paid o) ((o' ≡ o) × (o.due ≢ [])) → held ≡ [] → got' ≡ got ++ now → Rises starts (asked got') → starts ≡ o'.opening.starts → state' ≡ state → down' ≡ down → IsTied o'.opening (all_of o') newest now got' state' down'
-tied_filled o o' b newest held now got got' state state' down down' starts t pays none front rises same s d =
-    let pay = tied_paid newest held got state down o o' b pays t in
-    let bare = retie o'.opening (all_of o') got newest newest held [] state state' down down' refl (sym none) s d pay in
-    tied_taken o'.opening (all_of o') newest got now got' state' down' bare front (subst (λ (ts : List ℕ). Rises ts (asked got')) same rises)
-
--- what was paid is on the same board
-pub paid_starts : (starts : List ℕ) (o o' : Outgoing) (b : Bool) → starts ≡ o.opening.starts → MatchBool b (o' ≡ paid o) ((o' ≡ o) × (o.due ≢ [])) → starts ≡ o'.opening.starts
-paid_starts starts o o' true same is = same ∙ sym (ap (λ (x : Outgoing). x.opening.starts) is)
-paid_starts starts o o' false same is = same ∙ sym (ap (λ (x : Outgoing). x.opening.starts) is.0)
+pub tied_now : (o : Outgoing) (newest : Option ℕ) (held now got got' : List Request) (state state' : State) (down down' : Bool) (starts : List ℕ) → IsTied o.opening (all_of o) newest held got state down
+    → held ≡ [] → got' ≡ got ++ now → Rises starts (asked got') → starts ≡ o.opening.starts → state' ≡ state → down' ≡ down → IsTied o.opening (all_of o) newest now got' state' down'
+tied_now o newest held now got got' state state' down down' starts t none front rises same s d =
+    let bare = retie o.opening (all_of o) got newest newest held [] state state' down down' refl (sym none) s d t in
+    tied_taken o.opening (all_of o) newest got now got' state' down' bare front (subst (λ (ts : List ℕ). Rises ts (asked got')) same rises)
 
 -- ---- the marks of what is held
 

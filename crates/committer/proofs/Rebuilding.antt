@@ -1,10 +1,11 @@
 -- What a rebuild leaves as the newest generation.
 use Rattle.std.proofs.Common.{◌≡◌, ◌⊎◌, ℕ, Bool, List, Option, Some, None, Result, Ok, Err, refl, ap, sym, ◌∙◌, subst, inl, inr, ⊎_elim}
-use Rattle.std.specs.Prelude.{OnOk}
+use Rattle.std.specs.Prelude.{IfOk, OnOk}
 use Rattle.std.specs.Option.{option_map}
 use Rattle.layout_2.specs.State.{State}
 use Rattle.requests.specs.declared.request.Request.{Request}
 use Rattle.graph_edits.specs.Edges.{Network}
+use Rattle.checkpoint.specs.StoreWords.{state_of}
 use Rattle.node_table.specs.declared.parts.Parts.{Parts}
 use Rattle.node_table.specs.Tables.{tables}
 use Rattle.node_table.specs.Service.{Serves}
@@ -13,14 +14,14 @@ use Rattle.generations.specs.declared.posting.Notice.TheVariants.{Built}
 use Rattle.generations.specs.Beginnings.{Opening}
 use Rattle.generations.specs.Notices.{newest_in}
 use Rattle.scheme_builds.specs.Schemes.{IsSchemeOf}
-use Rattle.committer.specs.Outboxes.{Outgoing, paid, with_posted, with_due}
+use Rattle.committer.specs.declared.committer.Committer.{Committer}
+use Rattle.committer.specs.declared.refused.RebuildRefused.{RebuildRefused}
+use Rattle.committer.specs.Answers.{FindsDue, HasRebuilt}
+use Rattle.committer.specs.CommitterWords.{store_of, posts_of}
+use Rattle.committer.specs.Outboxes.{Outgoing, all_of, paid, with_posted, with_due}
 use Rattle.committer.specs.Ties.{IsTied}
-use Rattle.committer.specs.Rebuilds.{IsBuilt, IsOwed, IsServed}
+use Rattle.committer.specs.Rebuilds.{IsBuilt, IsNumbered, IsOwed, IsServed}
 use Rattle.generations.proofs.Numbers.{now_newest}
-
-pub on_ok : {A E : Type 0} (r : Result A E) (P Q : Type 0) → (P → Q) → OnOk r P → OnOk r Q
-on_ok (Ok a) P Q f p = f p
-on_ok (Err e) P Q f p = p
 
 -- the newest generation, where it has the store's count, serves the store's graph
 pub newest_serves : (opening : Opening) (log : List Notice) (newest : Option ℕ) (held got : List Request) (state : State) (down : Bool) (number : ℕ) (log' : List Notice) → IsTied opening log newest held got state down
@@ -52,3 +53,16 @@ pub owed_is : (words : List ℕ) (state : State) (o mid o' : Outgoing) (scheme :
     → (o' ≡ mid) ⊎ (o' ≡ with_due mid (Built number scheme)) → (o' ≡ paid o) ⊎ IsOwed words state o o'
 owed_is words state o mid o' scheme number paid_is same good is =
     ⊎_elim (λ (e : o' ≡ mid). inl (e ∙ paid_is)) (λ (e : o' ≡ with_due mid (Built number scheme)). inr (scheme, (good, e ∙ (λ i. with_due (paid_is i) (Built (same i) scheme))))) is
+
+-- a generation was due, and it is posted
+pub rebuilt : {D R : Type 0} {V : _} → (words : List ℕ) (old mid new : Committer D R V) (scheme : Parts) (number : ℕ) (r : Result ℕ RebuildRefused) → FindsDue old mid (Some number)
+    → IsSchemeOf (state_of (store_of old)).graph words (state_of (store_of old)).count scheme → IfOk r (λ n. n ≡ number) → OnOk r (posts_of new ≡ with_posted (posts_of mid) (Built number scheme)) → IfOk r (HasRebuilt words old new)
+rebuilt words old mid new scheme number (Ok n) found good is posted =
+    let s = state_of (store_of old) in
+    record {
+      number = is ∙ found.number;
+      serves = posted_serves s (posts_of mid) (posts_of new) scheme number found.number good.serves posted;
+      posts = built_is words s (posts_of old) (posts_of mid) (posts_of new) scheme number found.posts found.number good posted;
+      no_news = λ same. absurd (found.old_news (subst (λ (n : ℕ). IsNumbered n (all_of (posts_of old))) (sym found.number) same));
+    }
+rebuilt words old mid new scheme number (Err refused) found good is posted = tt

@@ -1,5 +1,5 @@
 -- What calls that take leave, one after another.
-use Rattle.std.proofs.Common.{◌≡◌, ◌⊎◌, inl, inr, ⊎_elim, ◌<◌, ◌++◌, ℕ, List, [], Option, refl, ap, sym, ◌∙◌, subst, arith}
+use Rattle.std.proofs.Common.{◌≡◌, inl, inr, ⊎_elim, ◌<◌, ◌++◌, ℕ, List, [], Option, refl, sym, ◌∙◌, subst, arith}
 use Rattle.requests.specs.declared.request.Request.{Request}
 use Rattle.intake.specs.Turns.{AreOfEditors}
 use Rattle.intake.specs.Ends.{Taking, HasAll, AreAll, HasTaken}
@@ -7,9 +7,6 @@ use Rattle.intake.specs.Ends.{Taking, HasAll, AreAll, HasTaken}
 -- where nothing was done nothing was taken
 pub taken_none : (t : Taking) → HasTaken t t
 taken_none t = record { made = refl; ended = refl; all = inl (refl, refl) }
-
-pub taken_same : (old new : Taking) → new ≡ old → HasTaken old new
-taken_same old new same = subst (λ (t : Taking). HasTaken old t) (sym same) (taken_none old)
 
 -- a call behind others that did not find the queue empty
 pub taken_more : (old mid new : Taking) → mid.empties ≡ old.empties → HasTaken old mid → HasTaken mid new → HasTaken old new
@@ -29,7 +26,3 @@ taken_more old mid new same first second = record {
     kept : (mid new : Taking) → HasTaken mid new → new.got ≡ mid.got → (waits : List Request) → AreAll mid (mid.got ++ waits) → AreAll new (new.got ++ waits)
     kept mid new h got waits all =
         subst (λ (x : Option (ℕ × List Request) × (ℕ × List Request)). HasAll x.0 (x.1.1 ++ waits) × AreOfEditors x.1.0 (x.1.1 ++ waits)) (λ i. (sym h.ended i, (sym h.made i, sym got i))) all
-
--- from a taker to an equal one
-pub taken_to : (old mid new : Taking) → HasTaken old mid → new ≡ mid → HasTaken old new
-taken_to old mid new taken same = subst (λ (t : Taking). HasTaken old t) (sym same) taken

@@ -7,3 +7,4 @@ pub mod Rounds
 pub mod Crashes
 pub mod Rebuilds
 pub mod Listed
+pub mod Answers

@@ -1,28 +1,25 @@
 // The committer: rounds and rebuilds.
-ghost use Rattle.std.specs.Prelude.{◌≡◌, ◌≢◌, ◌⊎◌, ◌≤◌, ◌<◌, ◌+◌, ◌↔◌, ◌++◌, ◌∷◌, [], List, length, IsTrue, IfOk, IfSome, OnOk, OnErr, is_some, IsErr, IsErrOf, Some, None, true, false};
+ghost use Rattle.std.specs.Prelude.{◌≡◌, ◌≢◌, ◌⊎◌, ◌≤◌, ◌<◌, ◌↔◌, ◌++◌, [], List, length, IsTrue, IfOk, OnOk, OnErr, is_some, IsErr, IsErrOf, Some, None, true, false};
 ghost use Rattle.std.specs.Arc.{arc_value};
-ghost use Rattle.disk_trait.specs.Disk.{IsSameDevice, LeavesOnly};
 ghost use Rattle.requests.specs.Tickets.{Rises};
 ghost use Rattle.requests.specs.declared.request.Request.{Request};
 ghost use Rattle.layout_2.specs.State.{asked as asked_all};
-ghost use Rattle.layout_2.specs.Standing.{StandsFor};
 ghost use Rattle.checkpoint.specs.Kept.{kept_props};
-ghost use Rattle.checkpoint.specs.StoreWords.{state_of, nodes_of, view_of, is_down};
+ghost use Rattle.checkpoint.specs.StoreWords.{state_of, view_of, is_down};
 ghost use Rattle.node_table.specs.Tables.{tables};
 ghost use Rattle.node_table.specs.Service.{Serves};
-ghost use Rattle.generations.specs.declared.posting.Notice.TheVariants.{Marked, Failed, Built};
+ghost use Rattle.generations.specs.declared.posting.Notice.TheVariants.{Built};
 ghost use Rattle.intake.specs.Turns.{of, last_asked, AreWithin};
 ghost use Rattle.intake.specs.Ends.{HasTaken};
 ghost use Rattle.scheme_builds.specs.Schemes.{IsSchemeOf};
-ghost use Rattle.group_commit.specs.DeskWords.{store_of as desk_store, held_of as desk_held, due_of as desk_due, IsPastLimits};
+ghost use Rattle.group_commit.specs.DeskWords.{store_of as desk_store, held_of as desk_held, due_of as desk_due};
 ghost use Rattle.group_commit.specs.Limits.{most_held};
-ghost use Rattle.group_commit.specs.Settling.{settle};
-ghost use Rattle.committer.specs.Outboxes.{all_of, paid, with_posted, with_due};
+ghost use Rattle.committer.specs.Outboxes.{all_of, with_posted};
 ghost use Rattle.committer.specs.Turns.{HoldsNoLater};
 ghost use Rattle.committer.specs.Ties.{IsTied};
-ghost use Rattle.committer.specs.Rounds.{with_marks_of, TellsUpTo};
+ghost use Rattle.committer.specs.Rounds.{TellsUpTo};
 ghost use Rattle.committer.specs.Crashes.{LeavesGroupWhole};
-ghost use Rattle.committer.specs.Rebuilds.{IsBuilt, IsOwed, IsServed, IsNumbered};
+ghost use Rattle.committer.specs.Rebuilds.{IsNumbered};
 
 use crate::outbox::{Offered, Outbox};
 use crate::refused::{RebuildRefused, RoundRefused};
@@ -47,9 +44,11 @@ pub struct Committer<D: Disk, R: Wait + Drop> {
     // What is due is at the outbox.
     ghost at_outbox: { is_some (desk_due desk) ≡ false },
     ghost same_starts: { taker.starts ≡ outbox.opening.starts },
-    ghost tied: { IsTied outbox.opening (all_of outbox) newest (desk_held desk) taker.got (state_of (desk_store desk)) (is_down (desk_store desk)) } by { Prim.hlevel kept_props },
+    ghost tied: { IsTied outbox.opening (all_of outbox) newest (desk_held desk) taker.got
+        (state_of (desk_store desk)) (is_down (desk_store desk)) } by { Prim.hlevel kept_props },
     // A crash now leaves the state of the store, or the one with the whole group that is held.
-    ghost whole: { IsTrue (view_of (desk_store desk)).keeps_model → LeavesGroupWhole (desk_store desk) (desk_held desk) } by { Prim.hlevel kept_props },
+    ghost whole: { IsTrue (view_of (desk_store desk)).keeps_model
+        → LeavesGroupWhole (desk_store desk) (desk_held desk) } by { Prim.hlevel kept_props },
 }
 
 /// What a round did.
@@ -65,7 +64,8 @@ pub struct Round {
 fn fill<D: Disk, W: Wait>(rt: &W, taker: &mut Taker, desk: &mut Desk<D>) -> usize
     requires empty { desk_held desk.old ≡ [] }
     requires told { desk_due desk.old ≡ None }
-    requires no_later { HoldsNoLater (state_of (desk_store desk.old)).tickets (desk_held desk.old) taker.old.starts taker.old.got }
+    requires no_later { HoldsNoLater (state_of (desk_store desk.old)).tickets (desk_held desk.old)
+        taker.old.starts taker.old.got }
     requires rises { Rises taker.old.starts (asked_all taker.old.got) }
     ensures store { desk_store desk.new ≡ desk_store desk.old }
     ensures due { desk_due desk.new ≡ None }
@@ -90,8 +90,9 @@ fn fill<D: Disk, W: Wait>(rt: &W, taker: &mut Taker, desk: &mut Desk<D>) -> usiz
 }
 
 impl<D: Disk, R: Wait + Drop> Committer<D, R> {
-    ghost use Rattle.committer.specs.CommitterWords.{desk_of, store_of, held_of, taker_of, queue_of, got_of, empties_of, posts_of, newest_of, taken, asked, settled};
+    ghost use Rattle.committer.specs.CommitterWords.{store_of, held_of, taker_of, queue_of, got_of, empties_of, posts_of, newest_of, taken, asked, settled};
     ghost use Rattle.committer.specs.Listed.{IsListedFrom, StaysListed};
+    ghost use Rattle.committer.specs.Answers.{Takes, MayTakeFewer, StaysPut, asked_group, held_group, settled_group, HasCommitted, OwesMarks, KeepsGroup, IsWorn, LosesDevice, LeavesEither, StaysDown, StaysOwed, GoesOn, IsAtRest, FindsDue, HasRebuilt, LacksScheme, IsNotTaken, IsDueOrDropped};
 
     /// A committer of a desk, a queue and a board at their beginning.
     pub fn new(desk: Desk<D>, taker: Taker, writer: BoardWriter<R>) -> Committer<D, R>
@@ -134,7 +135,8 @@ impl<D: Disk, R: Wait + Drop> Committer<D, R> {
     pub fn told(&self) -> Told
         ensures posted { result ≡ record { opening = (posts_of self.now).opening; log = (posts_of self.now).posted } }
         // How what is posted and due goes with the store, with what is held and with what was taken.
-        ensures tied { IsTied (posts_of self.now).opening (all_of (posts_of self.now)) (newest_of self.now) (held_of self.now) (got_of self.now) (state_of (store_of self.now)) (is_down (store_of self.now)) }
+        ensures tied { IsTied (posts_of self.now).opening (all_of (posts_of self.now)) (newest_of self.now)
+            (held_of self.now) (got_of self.now) (state_of (store_of self.now)) (is_down (store_of self.now)) }
         // No posted count is above the store's.
         ensures tells { TellsUpTo (state_of (store_of self.now)).count (posts_of self.now).posted }
     {
@@ -144,53 +146,32 @@ impl<D: Disk, R: Wait + Drop> Committer<D, R> {
     /// Posts what is due; takes up to [`MOST_HELD`] requests, unless a group is held; commits the group, and posts its marks. Nothing
     /// is written for a group of which no change is accepted, and a round that has no request posts no marks.
     pub fn round<W: Wait>(&mut self, alloc: Global, rt: &W) -> Result<Round, RoundRefused>
-        // What is taken is the front of the queue.
-        ensures front { got_of self.new ≡ got_of self.old ++ taken self.old self.new }
-        ensures few { length (taken self.old self.new) ≤ most_held }
-        ensures queue { queue_of self.new ≡ queue_of self.old }
-        ensures held_first { held_of self.old ≢ [] → taken self.old self.new ≡ [] }
-        // Where it found the queue empty, it took all that was submitted by the editor that was ended last; and all that it took is
-        // of sessions that have an editor.
-        ensures taken { HasTaken (taker_of self.old) (taker_of self.new) }
-        // It takes fewer only where it held a group, found the queue empty, or stopped before.
-        ensures fewer { length (taken self.old self.new) < most_held → (held_of self.old ≢ []) ⊎ ((empties_of self.old < empties_of self.new)
-            ⊎ ((is_down (store_of self.old) ≡ true) ⊎ (((posts_of self.old).due ≢ []) × (IsErrOf result RoundRefused.Board × (posts_of self.new ≡ posts_of self.old))))) }
-        ensures numbers { IfOk result (λ r. (r.taken ≡ length (taken self.old self.new)) × (r.accepted ≡ length (settled self.old self.new).accepted)) }
-        ensures ok { OnOk result (state_of (store_of self.new) ≡ (settled self.old self.new).state) }
-        ensures ok_held { OnOk result (held_of self.new ≡ []) }
-        ensures ok_posts { OnOk result (posts_of self.new ≡ with_marks_of (asked self.old self.new) (settled self.old self.new).marks (paid (posts_of self.old))) }
+        // What is taken is the front of the queue, and of sessions that have an editor.
+        ensures takes { Takes (held_of self.old) (taker_of self.old) (taker_of self.new) }
+        ensures fewer { length (taken self.old self.new) < most_held → MayTakeFewer self.old self.new result }
+        ensures number { IfOk result (λ round. round.taken ≡ length (taken self.old self.new)) }
+
+        ensures ok { IfOk result (λ round. HasCommitted (asked_group self.old self.new) self.new round.accepted) }
         // Nothing is written where nothing is accepted.
         ensures idle { (settled self.old self.new).accepted ≡ [] → store_of self.new ≡ store_of self.old }
-        // Down: every round on a store that went down.
+
+        // Every round on a store that went down is refused so.
         ensures down { IsErrOf result RoundRefused.Down ↔ (is_down (store_of self.old) ≡ true) }
-        ensures down_leaves { IsErrOf result RoundRefused.Down → (store_of self.new ≡ store_of self.old) × ((held_of self.new ≡ held_of self.old) × (got_of self.new ≡ got_of self.old)) }
-        ensures down_posts { IsErrOf result RoundRefused.Down → (posts_of self.new ≡ paid (posts_of self.old)) ⊎ (posts_of self.new ≡ posts_of self.old) }
-        // Memory and Worn: the group stays held.
-        ensures held { IsErrOf result RoundRefused.Memory ⊎ IsErrOf result RoundRefused.Worn → (held_of self.new ≡ asked self.old self.new) × (posts_of self.new ≡ paid (posts_of self.old)) }
-        ensures same { IsErrOf result RoundRefused.Memory ⊎ IsErrOf result RoundRefused.Worn → state_of (store_of self.new) ≡ state_of (store_of self.old) }
-        ensures worn { IsErrOf result RoundRefused.Worn → (store_of self.new ≡ store_of self.old) × IsPastLimits (desk_of self.new) }
-        // Device: the group stays held, and that the device failed is posted or due.
-        ensures device { IsErrOf result RoundRefused.Device → (held_of self.new ≡ asked self.old self.new) × (state_of (store_of self.new) ≡ state_of (store_of self.old)) }
-        ensures device_lost { IsErrOf result RoundRefused.Device → (is_down (store_of self.new) ≡ true) × ((view_of (store_of self.old)).failures < (view_of (store_of self.new)).failures) }
-        ensures device_posts { IsErrOf result RoundRefused.Device → (posts_of self.new ≡ with_posted (paid (posts_of self.old)) Failed) ⊎ (posts_of self.new ≡ with_due (paid (posts_of self.old)) Failed) }
-        // Board: at what was due, and nothing happened; or at the marks of what is committed, which are due.
-        ensures board { IsErrOf result RoundRefused.Board → (((posts_of self.old).due ≢ []) × ((posts_of self.new ≡ posts_of self.old) × ((store_of self.new ≡ store_of self.old) × ((held_of self.new ≡ held_of self.old) × (got_of self.new ≡ got_of self.old)))))
-            ⊎ ((held_of self.new ≡ []) × ((state_of (store_of self.new) ≡ (settled self.old self.new).state) × (posts_of self.new ≡ with_due (paid (posts_of self.old)) (Marked (settled self.old self.new).marks)))) }
-        ensures nodes { nodes_of (store_of self.new) ≡ nodes_of (store_of self.old) }
-        ensures stays_up { is_down (store_of self.old) ≡ false → ¬ (IsErrOf result RoundRefused.Device) → is_down (store_of self.new) ≡ false }
-        ensures ran { IsSameDevice (view_of (store_of self.old)) (view_of (store_of self.new)) }
-        // A crash at any moment of the call leaves the old state, or the one after the whole group.
-        ensures any_moment { IsTrue (view_of (store_of self.old)).keeps_model → is_down (store_of self.old) ≡ false
-            → LeavesOnly (view_of (store_of self.old)) (view_of (store_of self.new)) (λ image. StandsFor (state_of (store_of self.old)) image ⊎ StandsFor (settled self.old self.new).state image) }
-        // Where the group stays held, it leaves the old state alone.
-        ensures refused { IsErrOf result RoundRefused.Memory ⊎ IsErrOf result RoundRefused.Worn → IsTrue (view_of (store_of self.old)).keeps_model → is_down (store_of self.old) ≡ false
-            → LeavesOnly (view_of (store_of self.old)) (view_of (store_of self.new)) (StandsFor (state_of (store_of self.old))) }
-        // From here on a crash leaves the store's state, or the one with the whole group that is held, after Device and Down too.
-        ensures whole { IsTrue (view_of (store_of self.new)).keeps_model → LeavesGroupWhole (store_of self.new) (held_of self.new) }
-        // No posted count is above the store's, so each image has all that was told.
-        ensures tells { TellsUpTo (state_of (store_of self.new)).count (posts_of self.new).posted }
-        // What was taken stays one list, and what is posted and due goes with it, whatever the answer.
-        ensures listed { StaysListed self.old self.new }
+        ensures down_leaves { IsErrOf result RoundRefused.Down → StaysDown self.old self.new }
+        ensures stays_up { is_down (store_of self.old) ≡ false → ¬ (IsErrOf result RoundRefused.Device)
+            → is_down (store_of self.new) ≡ false }
+
+        ensures kept { IsErrOf result RoundRefused.Memory ⊎ IsErrOf result RoundRefused.Worn
+            → KeepsGroup (asked_group self.old self.new) self.new }
+        ensures worn { IsErrOf result RoundRefused.Worn → IsWorn (asked_group self.old self.new) self.new }
+        ensures device { IsErrOf result RoundRefused.Device → LosesDevice (asked_group self.old self.new) self.new }
+        // At what was due, or at the marks of what is committed.
+        ensures board { IsErrOf result RoundRefused.Board
+            → StaysOwed self.old self.new ⊎ OwesMarks (asked_group self.old self.new) self.new }
+
+        ensures any_moment { LeavesEither (asked_group self.old self.new) self.new }
+        ensures goes_on { GoesOn self.old self.new }
+        ensures at_rest { IsAtRest self.new }
     {
         if self.desk.store().is_down() {
             let _paid = self.outbox.pay();
@@ -199,20 +180,35 @@ impl<D: Disk, R: Wait + Drop> Committer<D, R> {
         if !self.outbox.pay() {
             return Err(RoundRefused::Board);
         }
-        let mut taken = 0;
-        if self.desk.held() == 0 {
-            taken = fill(rt, &mut self.taker, &mut self.desk);
-        }
+        let taken = self.take_up(rt);
         if self.desk.held() == 0 {
             return Ok(Round {
                 taken: 0,
                 accepted: 0,
             });
         }
-        match self.commit(alloc) {
-            Ok(accepted) => Ok(Round { taken, accepted }),
-            Err(refused) => Err(refused),
+        let accepted = self.commit(alloc)?;
+        Ok(Round { taken, accepted })
+    }
+
+    // Takes requests from the queue, where no group is held.
+    fn take_up<W: Wait>(&mut self, rt: &W) -> usize
+        requires up { is_down (store_of self.old) ≡ false }
+        ensures store { store_of self.new ≡ store_of self.old }
+        ensures posts { posts_of self.new ≡ posts_of self.old }
+        ensures held { held_of self.new ≡ asked self.old self.new }
+
+        ensures takes { Takes (held_of self.old) (taker_of self.old) (taker_of self.new) }
+        ensures number { result ≡ length (taken self.old self.new) }
+        ensures fewer { length (taken self.old self.new) < most_held
+            → (held_of self.old ≢ []) ⊎ (empties_of self.old < empties_of self.new) }
+
+        ensures listed { StaysListed self.old self.new }
+    {
+        if self.desk.held() > 0 {
+            return 0;
         }
+        fill(rt, &mut self.taker, &mut self.desk)
     }
 
     // Commits what is held and posts the marks, or that the device failed.
@@ -220,31 +216,21 @@ impl<D: Disk, R: Wait + Drop> Committer<D, R> {
         requires some { held_of self.old ≢ [] }
         requires nothing_due { (posts_of self.old).due ≡ [] }
         requires up { is_down (store_of self.old) ≡ false }
-        ensures taker { (got_of self.new ≡ got_of self.old) × (empties_of self.new ≡ empties_of self.old) }
-        ensures same_taker { taker_of self.new ≡ taker_of self.old }
-        ensures queue { queue_of self.new ≡ queue_of self.old }
-        ensures number { IfOk result (λ accepted. accepted ≡ length (settle (state_of (store_of self.old)) (held_of self.old)).accepted) }
-        ensures ok { OnOk result (state_of (store_of self.new) ≡ (settle (state_of (store_of self.old)) (held_of self.old)).state) }
-        ensures ok_held { OnOk result (held_of self.new ≡ []) }
-        ensures ok_posts { OnOk result (posts_of self.new ≡ with_posted (posts_of self.old) (Marked (settle (state_of (store_of self.old)) (held_of self.old)).marks)) }
-        ensures idle { (settle (state_of (store_of self.old)) (held_of self.old)).accepted ≡ [] → store_of self.new ≡ store_of self.old }
+        ensures taker { taker_of self.new ≡ taker_of self.old }
+
+        ensures ok { IfOk result (HasCommitted (held_group self.old) self.new) }
+        ensures idle { (settled_group (held_group self.old)).accepted ≡ [] → store_of self.new ≡ store_of self.old }
+
         ensures not_down { ¬ (IsErrOf result RoundRefused.Down) }
-        ensures held { IsErrOf result RoundRefused.Memory ⊎ IsErrOf result RoundRefused.Worn → (held_of self.new ≡ held_of self.old) × (posts_of self.new ≡ posts_of self.old) }
-        ensures same { IsErrOf result RoundRefused.Memory ⊎ IsErrOf result RoundRefused.Worn → state_of (store_of self.new) ≡ state_of (store_of self.old) }
-        ensures worn { IsErrOf result RoundRefused.Worn → (store_of self.new ≡ store_of self.old) × IsPastLimits (desk_of self.new) }
-        ensures device { IsErrOf result RoundRefused.Device → (held_of self.new ≡ held_of self.old) × (state_of (store_of self.new) ≡ state_of (store_of self.old)) }
-        ensures device_lost { IsErrOf result RoundRefused.Device → (is_down (store_of self.new) ≡ true) × ((view_of (store_of self.old)).failures < (view_of (store_of self.new)).failures) }
-        ensures device_posts { IsErrOf result RoundRefused.Device → (posts_of self.new ≡ with_posted (posts_of self.old) Failed) ⊎ (posts_of self.new ≡ with_due (posts_of self.old) Failed) }
-        ensures board { IsErrOf result RoundRefused.Board → (held_of self.new ≡ []) × ((state_of (store_of self.new) ≡ (settle (state_of (store_of self.old)) (held_of self.old)).state)
-            × (posts_of self.new ≡ with_due (posts_of self.old) (Marked (settle (state_of (store_of self.old)) (held_of self.old)).marks))) }
-        ensures nodes { nodes_of (store_of self.new) ≡ nodes_of (store_of self.old) }
+        ensures kept { IsErrOf result RoundRefused.Memory ⊎ IsErrOf result RoundRefused.Worn
+            → KeepsGroup (held_group self.old) self.new }
+        ensures worn { IsErrOf result RoundRefused.Worn → IsWorn (held_group self.old) self.new }
+        ensures device { IsErrOf result RoundRefused.Device → LosesDevice (held_group self.old) self.new }
+        ensures board { IsErrOf result RoundRefused.Board → OwesMarks (held_group self.old) self.new }
         ensures stays_up { ¬ (IsErrOf result RoundRefused.Device) → is_down (store_of self.new) ≡ false }
-        ensures ran { IsSameDevice (view_of (store_of self.old)) (view_of (store_of self.new)) }
-        ensures any_moment { IsTrue (view_of (store_of self.old)).keeps_model
-            → LeavesOnly (view_of (store_of self.old)) (view_of (store_of self.new)) (λ image. StandsFor (state_of (store_of self.old)) image ⊎ StandsFor (settle (state_of (store_of self.old)) (held_of self.old)).state image) }
-        ensures refused { IsErrOf result RoundRefused.Memory ⊎ IsErrOf result RoundRefused.Worn → IsTrue (view_of (store_of self.old)).keeps_model
-            → LeavesOnly (view_of (store_of self.old)) (view_of (store_of self.new)) (StandsFor (state_of (store_of self.old))) }
-        ensures listed { StaysListed self.old self.new }
+
+        ensures any_moment { LeavesEither (held_group self.old) self.new }
+        ensures goes_on { GoesOn self.old self.new }
     {
         match self.desk.commit(alloc) {
             Ok(accepted) => {
@@ -279,20 +265,13 @@ impl<D: Disk, R: Wait + Drop> Committer<D, R> {
         words: &[u64],
         scratch: A,
     ) -> Result<u64, RebuildRefused>
-        ensures store { store_of self.new ≡ store_of self.old }
-        ensures held { (held_of self.new ≡ held_of self.old) × ((got_of self.new ≡ got_of self.old) × (empties_of self.new ≡ empties_of self.old)) }
-        ensures queue { queue_of self.new ≡ queue_of self.old }
-        ensures taker { taker_of self.new ≡ taker_of self.old }
-        ensures number { IfOk result (λ number. number ≡ (state_of (store_of self.old)).count) }
-        ensures serves { OnOk result (IsServed (state_of (store_of self.old)) (posts_of self.new).posted) }
-        ensures posts { OnOk result ((posts_of self.new ≡ paid (posts_of self.old)) ⊎ IsBuilt words.now (state_of (store_of self.old)) (posts_of self.old) (posts_of self.new)) }
-        ensures no_news { IsNumbered (state_of (store_of self.old)).count (all_of (posts_of self.old)) → OnOk result (posts_of self.new ≡ paid (posts_of self.old)) }
+        ensures ok { IfOk result (HasRebuilt words.now self.old self.new) }
         ensures down { IsErrOf result RebuildRefused.Down ↔ (is_down (store_of self.old) ≡ true) }
         ensures down_leaves { IsErrOf result RebuildRefused.Down → posts_of self.new ≡ posts_of self.old }
-        ensures memory { IsErrOf result RebuildRefused.Memory → posts_of self.new ≡ paid (posts_of self.old) }
-        ensures memory_news { IsErrOf result RebuildRefused.Memory → ¬ (IsNumbered (state_of (store_of self.old)).count (all_of (posts_of self.old))) }
-        ensures board { IsErrOf result RebuildRefused.Board → (((posts_of self.old).due ≢ []) × (posts_of self.new ≡ posts_of self.old))
-            ⊎ ((posts_of self.new ≡ paid (posts_of self.old)) ⊎ IsOwed words.now (state_of (store_of self.old)) (posts_of self.old) (posts_of self.new)) }
+        ensures memory { IsErrOf result RebuildRefused.Memory → LacksScheme self.old self.new }
+        ensures board { IsErrOf result RebuildRefused.Board → IsNotTaken words.now self.old self.new }
+
+        ensures stays { StaysPut self.old self.new }
         ensures listed { StaysListed self.old self.new }
     {
         let Some(number) = self.generation_due()? else {
@@ -311,21 +290,13 @@ impl<D: Disk, R: Wait + Drop> Committer<D, R> {
     /// It is refused as `Down` where the device has failed, and as `Board` where the board doesn't take what is due to it. Either leaves all
     /// as it was.
     pub fn generation_due(&mut self) -> Result<Option<u64>, RebuildRefused>
-        ensures store { store_of self.new ≡ store_of self.old }
-        ensures held { (held_of self.new ≡ held_of self.old) × ((got_of self.new ≡ got_of self.old) × (empties_of self.new ≡ empties_of self.old)) }
-        ensures queue { queue_of self.new ≡ queue_of self.old }
-        ensures taker { taker_of self.new ≡ taker_of self.old }
-        ensures paid { OnOk result (posts_of self.new ≡ paid (posts_of self.old)) }
-        ensures nothing_due { OnOk result ((posts_of self.new).due ≡ []) }
-        ensures up { OnOk result (is_down (store_of self.old) ≡ false) }
-        ensures number { IfOk result (λ due. IfSome due (λ number. number ≡ (state_of (store_of self.old)).count)) }
-        ensures news { IfOk result (λ due. IfSome due (λ number. ¬ (IsNumbered number (all_of (posts_of self.new))))) }
-        ensures old_news { IfOk result (λ due. IfSome due (λ number. ¬ (IsNumbered number (all_of (posts_of self.old))))) }
-        ensures serves { IfOk result (λ due. due ≡ None → IsServed (state_of (store_of self.old)) (posts_of self.new).posted) }
+        ensures ok { IfOk result (FindsDue self.old self.new) }
         ensures down { IsErrOf result RebuildRefused.Down ↔ (is_down (store_of self.old) ≡ true) }
         ensures memory { ¬ (IsErrOf result RebuildRefused.Memory) }
-        ensures leaves { OnErr result (posts_of self.new ≡ posts_of self.old) }
         ensures board { IsErrOf result RebuildRefused.Board → (posts_of self.old).due ≢ [] }
+        ensures leaves { OnErr result (posts_of self.new ≡ posts_of self.old) }
+
+        ensures stays { StaysPut self.old self.new }
         ensures listed { StaysListed self.old self.new }
     {
         if self.desk.store().is_down() {
@@ -355,14 +326,14 @@ impl<D: Disk, R: Wait + Drop> Committer<D, R> {
         requires number { number ≡ (state_of (store_of self.old)).count }
         requires news { ¬ (IsNumbered number (all_of (posts_of self.old))) }
         requires serves { Serves (state_of (store_of self.old)).graph (tables (arc_value scheme)) }
-        ensures store { store_of self.new ≡ store_of self.old }
-        ensures held { (held_of self.new ≡ held_of self.old) × ((got_of self.new ≡ got_of self.old) × (empties_of self.new ≡ empties_of self.old)) }
-        ensures queue { queue_of self.new ≡ queue_of self.old }
-        ensures taker { taker_of self.new ≡ taker_of self.old }
         ensures number { IfOk result (λ n. n ≡ number) }
-        ensures posted { OnOk result (posts_of self.new ≡ with_posted (posts_of self.old) (Built number (arc_value scheme))) }
+        ensures posted { OnOk result
+            (posts_of self.new ≡ with_posted (posts_of self.old) (Built number (arc_value scheme))) }
         ensures only_board { IsErr result → IsErrOf result RebuildRefused.Board }
-        ensures board { IsErrOf result RebuildRefused.Board → (posts_of self.new ≡ posts_of self.old) ⊎ (posts_of self.new ≡ with_due (posts_of self.old) (Built number (arc_value scheme))) }
+        ensures board { IsErrOf result RebuildRefused.Board
+            → IsDueOrDropped (Built number (arc_value scheme)) self.old self.new }
+
+        ensures stays { StaysPut self.old self.new }
         // What was taken stays one list, where the scheme has the number too.
         ensures listed { (arc_value scheme).generation ≡ number → StaysListed self.old self.new }
     {
@@ -395,13 +366,15 @@ impl<D: Disk, R: Wait + Drop> Committer<D, R> {
     /// that it submitted, each once, in its order.
     pub fn end(&mut self, editor: Editor) -> Watcher
         requires { editor.queue ≡ queue_of self.old }
-        ensures watcher { result ≡ record { session = editor.session; last = last_asked editor.put; known = editor.known } }
+        ensures watcher { result
+            ≡ record { session = editor.session; last = last_asked editor.put; known = editor.known } }
         ensures made { (taker_of self.new).made ≡ (taker_of self.old).made }
         ensures ended { (taker_of self.new).ended ≡ Some (editor.session, editor.put) }
         ensures empties { empties_of self.new ≡ empties_of self.old }
         ensures whole { (waits : List Request) × (editor.put ≡ of editor.session (got_of self.new ++ waits)) }
         ensures store { store_of self.new ≡ store_of self.old }
-        ensures same { (held_of self.new ≡ held_of self.old) × ((got_of self.new ≡ got_of self.old) × ((queue_of self.new ≡ queue_of self.old) × (posts_of self.new ≡ posts_of self.old))) }
+        ensures same { (held_of self.new ≡ held_of self.old) × ((got_of self.new ≡ got_of self.old)
+            × ((queue_of self.new ≡ queue_of self.old) × (posts_of self.new ≡ posts_of self.old))) }
         ensures listed { StaysListed self.old self.new }
     {
         self.taker.end(editor)

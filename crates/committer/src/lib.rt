@@ -15,21 +15,21 @@
 //! # The contract
 //!
 //! Contracts see a committer by the definitions of specs/CommitterWords.antt: its store, what it holds, all that it took, what is
-//! posted and due. What the layer above uses is [`Committer::round`]:
+//! posted and due. What the layer above uses is [`Committer::round`]; each answer is one record of specs/Answers.antt:
 //!
 //! | Answer | What it says |
 //! |---|---|
-//! | `Ok` | the store has the state after the requests held or taken, settled in order; what was due and then just their marks were posted; nothing is held |
-//! | `Device` | count, graph and tickets stay, the group stays held, and that the device failed is posted or due; from now on the answer is `Down` |
-//! | `Down` | the same store and held group; what was due is posted or stays due |
-//! | `Memory`, `Worn` | count, graph and tickets stay, and the group stays held |
-//! | `Board` | at what was due: nothing happened. Behind the commit: the store is as for `Ok`, and just the marks are due |
+//! | `Ok` (`HasCommitted`) | the store has the state after the requests held or taken, settled in order; what was due and then just their marks were posted; nothing is held |
+//! | `Device` (`LosesDevice`) | count, graph and tickets stay, the group stays held, and that the device failed is posted or due; from now on the answer is `Down` |
+//! | `Down` (`StaysDown`) | the same store and held group; what was due is posted or stays due |
+//! | `Memory`, `Worn` (`KeepsGroup`) | count, graph and tickets stay, and the group stays held |
+//! | `Board` (`StaysOwed`, `OwesMarks`) | at what was due: nothing happened. Behind the commit: the store is as for `Ok`, and just the marks are due |
 //!
 //! Fewer than 64 are taken only where a group was held already, the queue was found empty in the call, or it stopped before.
 //!
 //! On a device that keeps the disk model a crash at any moment of a round leaves the state of before, or the one after the whole
 //! group (`any_moment`); and a crash between two calls leaves the store's state, or the one with the whole group that is held,
-//! also after a failure of the device (`whole`). A count that was posted as accepted is one that the store has reached (`tells`),
+//! also after a failure of the device (`whole` of `IsAtRest`). A count that was posted as accepted is one that the store has reached (`tells`),
 //! so each image has every change that was answered `accepted`. One record, `IsTied`, ties together what was taken, held, posted
 //! and stored ([`Committer::told`]).
 //!

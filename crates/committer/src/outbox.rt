@@ -70,8 +70,10 @@ impl<R: Wait + Drop> Outbox<R> {
     /// Posts one posting, and says whether it did. Where it did not, the posting is due.
     pub fn tell(&mut self, posting: Posting) -> bool
         requires nothing_due { self.old.due ≡ [] }
-        requires lawful { IsLawful self.old.opening.starts self.old.opening.count (self.old.posted ++ notice_of posting ∷ []) }
-        ensures { MatchBool result (self.new ≡ with_posted self.old (notice_of posting)) (self.new ≡ with_due self.old (notice_of posting)) }
+        requires lawful { IsLawful self.old.opening.starts self.old.opening.count
+            (self.old.posted ++ notice_of posting ∷ []) }
+        ensures { MatchBool result (self.new ≡ with_posted self.old (notice_of posting))
+            (self.new ≡ with_due self.old (notice_of posting)) }
     {
         match self.writer.post(posting) {
             Ok(()) => true,
@@ -86,7 +88,8 @@ impl<R: Wait + Drop> Outbox<R> {
     /// Posts one posting. Where the writer gives it back, it is dropped.
     pub fn offer(&mut self, posting: Posting) -> Offered
         requires nothing_due { self.old.due ≡ [] }
-        requires lawful { IsLawful self.old.opening.starts self.old.opening.count (self.old.posted ++ notice_of posting ∷ []) }
+        requires lawful { IsLawful self.old.opening.starts self.old.opening.count
+            (self.old.posted ++ notice_of posting ∷ []) }
         ensures { IsOffered self.old (notice_of posting) self.new result }
     {
         match self.writer.post(posting) {

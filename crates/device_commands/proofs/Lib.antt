@@ -1,2 +1,3 @@
 pub mod OneRequest
 pub mod OpenFaults
+pub mod OldForms

@@ -1,21 +1,29 @@
 -- One request alone: its mark, and the state after it.
-use Rattle.std.proofs.Common.{refl, ap, sym, ◌∙◌, ◌≡◌, ◌≢◌, ◌<◌, ◌≤◌, ◌+◌, ◌⊎◌, inl, ℕ, List, [], ◌∷◌, Option, Some, Result, Ok, Err, IsTrue, IfOk, OnOk, false, subst, arith}
+use Rattle.std.proofs.Common.{refl, sym, ◌≡◌, ◌≢◌, ◌<◌, ◌≤◌, ◌+◌, ◌⊎◌, inl, ℕ, List, [], ◌∷◌, Option, Result, Ok, Err, IsTrue, IfErr, IfOk, OnOk, false, subst, arith}
 use Rattle.std.specs.Result.{IsOk}
-use Rattle.disk_trait.specs.Disk.{LeavesOnly, OnlyRead, joined, reading_leaves, started}
+use Rattle.std.proofs.lemmas.Result.{IfOk-weaker}
+use Rattle.disk_trait.specs.Disk.{IsSameDevice, LeavesOnly, OnlyRead, joined, ran_none, reading_leaves, started}
 use Rattle.graph_edits.specs.declared.edits.Op.{Op}
 use Rattle.graph_edits.specs.Changes.{after as graph_after}
 use Rattle.requests.specs.declared.request.Request.{Request}
 use Rattle.requests.specs.Tickets.{raise}
 use Rattle.layout_2.specs.State.{State, state_with}
 use Rattle.layout_2.specs.Standing.{KeepsThrough, StandsFor}
+use Rattle.checkpoint.specs.Opening.{IsOpened}
 use Rattle.checkpoint.specs.declared.store.Store.{Store}
 use Rattle.checkpoint.specs.StoreWords.{state_of, view_of, disk_of, is_down, stands_now}
 use Rattle.generations.specs.declared.posting.Mark.{Mark}
+use Rattle.generations.specs.declared.posting.Posting.{Posting}
 use Rattle.generations.specs.declared.posting.Verdict.{Verdict}
 use Rattle.generations.specs.declared.posting.Verdict.TheVariants.{Accepted, Refused}
+use Rattle.group_commit.specs.Postings.{MarksAreDue}
 use Rattle.group_commit.specs.Settling.{Settled, settle, accept, refuse, one_more}
 use Rattle.command_output.specs.declared.fault.Fault.{Fault}
+use Rattle.command_output.specs.declared.fault.Fault.TheVariants as told
 use Rattle.device_commands.specs.Answer.{IsNew, IsTaken, state_under, verdict_of}
+use Rattle.device_commands.specs.Edits.{IsSettledTo}
+use Rattle.device_commands.specs.Openings.{AnswersOf, IsOpenFault, IsReading, TellsOf}
+use Rattle.device_commands.proofs.OpenFaults.{never_device, of_memory}
 
 -- the state after one request is that under its ticket
 pub one_state : (s : State) (r : Request) → (settle s (r ∷ [])).state ≡ state_under s r.session r.ticket r.change
@@ -45,6 +53,10 @@ one_mark s r = elim (graph_after s.graph r.change) as (λ o. (mark : Mark) × ((
   | Err at ↦ (_, (refl, refl))
 ]
 
+-- marks are due where equal ones are
+pub due_same : (d e : Option Posting) (ms ns : List Mark) → d ≡ e → ms ≡ ns → MarksAreDue e ms → MarksAreDue d ns
+due_same d e ms ns same is due = subst (λ (l : List Mark). MarksAreDue d l) is (subst (λ (x : Option Posting). MarksAreDue x ms) (sym same) due)
+
 -- what settling one request leaves, said of the store that the desk was made of
 pub settles_leaves : {D : Type 0} {V : _} → (store was done result : Store D V) (held : List Request) (r : Request) → was ≡ store → held ≡ r ∷ [] → result ≡ done → is_down store ≡ false
     → (IsTrue (view_of was).keeps_model → is_down was ≡ false → LeavesOnly (view_of was) (view_of done) (λ image. StandsFor (state_of was) image ⊎ StandsFor (settle (state_of was) held).state image))
@@ -60,6 +72,19 @@ pub untouched_leaves : {D : Type 0} {V : _} → (store result : Store D V) (next
 untouched_leaves store result next same model up =
     subst (λ s. LeavesOnly (view_of store) (view_of s) (λ image. StandsFor (state_of store) image ⊎ StandsFor next image)) (sym same)
     (started (view_of store) (λ image. StandsFor (state_of store) image ⊎ StandsFor next image) (λ image left. inl (stands_now store model up image left)))
+
+-- so it is settled where a fault ends it before the desk
+pub untouched : {D : Type 0} {V : _} → (store : Store D V) (next : State) (change : List Op) (fault : Fault) → is_down store ≡ false → (fault ≡ told.Device → ⊥) → IsSettledTo next change store store (Err fault)
+untouched store next change fault up other = record {
+  verdict = tt;
+  state = tt;
+  up = tt;
+  refused = λ _. refl;
+  worn_leaves = λ _. refl;
+  device = λ is. absurd (other (let same : fault ≡ told.Device = cc in same));
+  ran = ran_none (view_of store);
+  any_moment = λ model. untouched_leaves store store next refl model up;
+}
 
 -- a verdict that is that of a state, under a ticket that is new to it
 pub of_one_state : (r : Result Verdict Fault) (state : State) (session : ℕ) (named : Option ℕ) (change : List Op) → IfOk r (λ verdict. verdict ≡ verdict_of state change) → OnOk r (IsNew state session named)
@@ -94,3 +119,26 @@ pub edit_keeps : {D : Type 0} {V : _} → (back : D) (done : Store D V) (r : Res
 edit_keeps {V = V} back done (Ok verdict) state is model same up =
     subst (λ s. KeepsThrough (V.view back) s) same (subst (λ d. KeepsThrough (V.view d) (state_of done)) (sym is) (λ image left. stands_now done model up image left))
 edit_keeps {V = V} back done (Err fault) state is model same up = tt
+
+-- ---- a device that was opened
+
+-- a question to it only reads
+pub asked_back : {D X : Type 0} {V : _} → (disk back : D) (store : Store D V) (answer : Result X Fault) → back ≡ disk_of store → IsOpened (V.view disk) store → IfErr answer (λ fault. fault ≡ told.Memory)
+    → IsReading (V.view disk) (V.view back) answer
+asked_back {V = V} disk back store answer is opened only = record {
+  tells = λ model. of_memory answer (λ fault. TellsOf fault (V.view disk).content) tt only;
+  device = λ same. absurd (never_device answer only same);
+  reads = λ model. edit_reads disk back store store refl is (opened.of_model model).reads;
+  ran = subst (λ d. IsSameDevice (V.view disk) (V.view d)) (sym is) opened.ran;
+}
+
+-- and its answer is that of the state that the store has
+pub asked_answer : {D X : Type 0} {V : _} → (IsAnswer : State → X → Type 0) (disk back : D) (store : Store D V) (answer : Result X Fault) → back ≡ disk_of store → IsOpened (V.view disk) store
+    → ((one two : State) (content : List ℕ) → StandsFor one content → StandsFor two content → one ≡ two) → IfOk answer (IsAnswer (state_of store)) → IfErr answer (λ fault. fault ≡ told.Memory)
+    → AnswersOf IsAnswer (V.view disk) (V.view back) answer
+asked_answer {V = V} IsAnswer disk back store answer is opened law answers only = record {
+  of_one = IfOk-weaker answer (IsAnswer (state_of store)) (λ x. (state : State) × IsAnswer state x) (λ x here. (state_of store, here)) answers;
+  of_content = λ model state stands. subst (λ (s : State). IfOk answer (IsAnswer s)) (law (state_of store) state (V.view disk).content (opened.of_model model).stands stands) answers;
+  faults = of_memory answer IsOpenFault tt only;
+  reading = asked_back disk back store answer is opened only;
+}

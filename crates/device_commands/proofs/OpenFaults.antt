@@ -1,23 +1,23 @@
 -- What faults tell of a content.
-use Rattle.std.proofs.Common.{◌≡◌, ℕ, List, Result, Ok, Err, IfErr, IsErrOf, refl, ap, subst, sym}
+use Rattle.std.proofs.Common.{◌≡◌, ℕ, List, Option, Result, Ok, Err, IfErr, IsErrOf, refl, ap, inl, subst, sym}
 use Rattle.layout_parts.specs.declared.refusals.OpenRefused.{OpenRefused}
 use Rattle.layout_parts.specs.declared.refusals.OpenRefused.TheVariants.{NotFormatted, BadVersion, Damaged, Device, Memory}
-use Rattle.layout_parts.specs.Refusals.{LacksMagic}
-use Rattle.layout_2.specs.Fronts.{HasOtherVersion, HasThisVersion}
-use Rattle.layout_parts.specs.Refusals.{IsFormatFault}
-use Rattle.layout_2.specs.Standing.{StandsForNone}
+use Rattle.disk_trait.specs.Disk.{DiskView, reading_leaves}
+use Rattle.graph_edits.specs.declared.edits.Op.{Op}
+use Rattle.layout_2.specs.State.{State}
+use Rattle.checkpoint.specs.Opening.{IsNotOpened, TellsContent}
 use Rattle.command_output.specs.declared.fault.Fault.{Fault}
 use Rattle.command_output.specs.declared.fault.Fault.TheVariants as fault
-use Rattle.device_commands.specs.Openings.{IsChangeFault, IsDeskFault, IsEditFault, IsOpenFault, IsQueueFault, IsUnwrittenFault, TellsOf, open_fault}
+use Rattle.device_commands.specs.Edits.{EditsDevice}
+use Rattle.device_commands.specs.Openings.{AnswersOf, IsChangeFault, IsDeskFault, IsEditFault, IsOpenFault, IsQueueFault, IsUnwrittenFault, TellsNotOpened, TellsOf, open_fault}
 
 -- a refused opening's fault tells what the refusal does
-pub opening_tells : (refused : OpenRefused) (content : List ℕ) → (IsFormatFault refused → StandsForNone content) → (refused ≡ NotFormatted → LacksMagic content)
-    → (refused ≡ BadVersion → HasOtherVersion content) → (refused ≡ Damaged → HasThisVersion content) → TellsOf (open_fault refused) content
-opening_tells NotFormatted content none magic version damaged = (magic refl, none tt)
-opening_tells BadVersion content none magic version damaged = (version refl, none tt)
-opening_tells Damaged content none magic version damaged = (damaged refl, none tt)
-opening_tells Device content none magic version damaged = tt
-opening_tells Memory content none magic version damaged = tt
+opening_tells : (disk left : DiskView) (why : OpenRefused) → TellsContent disk left why → TellsOf (open_fault why) disk.content
+opening_tells disk left NotFormatted tells = (tells.not_formatted refl, tells.stands_for_none tt)
+opening_tells disk left BadVersion tells = (tells.bad_version refl, tells.stands_for_none tt)
+opening_tells disk left Damaged tells = (tells.damaged refl, tells.stands_for_none tt)
+opening_tells disk left Device tells = tt
+opening_tells disk left Memory tells = tt
 
 -- and is one of an opening
 pub is_open_fault : (refused : OpenRefused) → IsOpenFault (open_fault refused)
@@ -26,6 +26,10 @@ is_open_fault BadVersion = tt
 is_open_fault Damaged = tt
 is_open_fault Device = tt
 is_open_fault Memory = tt
+
+-- where a fault isn't one of an opening, an opening doesn't end by it
+never_told : {A : Type 0} (f other : Fault) → ¬ (IsOpenFault other) → IsOpenFault f → ◌≡◌ {A = Result A Fault} (Err f) (Err other) → ⊥
+never_told f other never is same = never (subst IsOpenFault (let e : f ≡ other = cc in e) is)
 
 -- that of a failed call of the device comes of nothing else
 pub device_alone : (refused : OpenRefused) → open_fault refused ≡ fault.Device → refused ≡ Device
@@ -103,3 +107,49 @@ pub never_device : {A : Type 0} (r : Result A Fault) → IfErr r (λ f. f ≡ fa
 never_device {A = A} r is same =
     let memory : fault.Device ≡ fault.Memory = subst (λ (x : Result A Fault). IfErr x (λ f. f ≡ fault.Memory)) same is in
     absurd (cc)
+
+-- ---- a device that wasn't opened
+
+-- so it says of the device what the refusal says
+pub not_opened : (disk left : DiskView) (why : OpenRefused) (f : Fault) → f ≡ open_fault why → IsNotOpened disk left why → TellsNotOpened disk left f
+not_opened disk left why f same is = subst (λ (f : Fault). TellsNotOpened disk left f) (sym same) (record {
+  fault = is_open_fault why;
+  tells = λ model. opening_tells disk left why (is.of_model model);
+  device = λ told. is.device (device_alone why told);
+  reads = λ model. (is.of_model model).reads;
+  ran = is.ran;
+})
+
+-- what was asked of a device that wasn't opened is answered so
+pub not_asked : {X : Type 0} (IsAnswer : State → X → Type 0) (disk left : DiskView) (f : Fault) → TellsNotOpened disk left f → AnswersOf IsAnswer disk left (Err f)
+not_asked {X = X} IsAnswer disk left f told = record {
+  of_one = tt;
+  of_content = λ model state stands. tt;
+  faults = told.fault;
+  reading = record {
+    tells = told.tells;
+    device = λ is. told.device (let same : f ≡ fault.Device = cc in same);
+    reads = told.reads;
+    ran = told.ran;
+  };
+}
+
+-- and so a change of it
+pub not_edited : (session : ℕ) (named : Option ℕ) (change : List Op) (disk left : DiskView) (f : Fault) → TellsNotOpened disk left f → EditsDevice session named change disk left (Err f)
+not_edited session named change disk left f told = record {
+  of_one = tt;
+  of_content = λ model state stands. record {
+    verdict = tt;
+    new = tt;
+    left = tt;
+    already_in = λ is. absurd (never_told f fault.AlreadyIn (λ x. x) told.fault is);
+    worn = λ is. absurd (never_told f fault.Worn (λ x. x) told.fault is);
+    refused = λ refused. told.reads model;
+    any_moment = λ keeps. reading_leaves disk left _ (told.reads model) (λ image may. inl (keeps image may));
+  };
+  unwritten = λ model un. told.reads model;
+  tells = told.tells;
+  device = λ is. told.device (let same : f ≡ fault.Device = cc in same);
+  faults = open_edits f told.fault;
+  ran = told.ran;
+}

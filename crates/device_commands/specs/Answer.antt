@@ -1,9 +1,10 @@
 -- What one change does to a device, and what is answered.
-use Rattle.std.specs.Prelude.{◌+◌, ◌<◌, ℕ, List, [], ◌∷◌, Option, Some, None, Ok, Err}
+use Rattle.std.specs.Prelude.{◌+◌, ◌<◌, ℕ, List, Option, Some, None, Ok, Err}
 use Rattle.std.specs.Result.{IsOk}
 use Rattle.graph_edits.specs.declared.edits.Op.{Op}
 use Rattle.graph_edits.specs.Changes.{after as graph_after}
 use Rattle.requests.specs.Tickets.{last_of, raise}
+use Rattle.requests.specs.declared.request.Request.{Request}
 use Rattle.layout_2.specs.State.{State, state_with}
 use Rattle.generations.specs.declared.posting.Verdict.{Verdict}
 use Rattle.generations.specs.declared.posting.Verdict.TheVariants.{Accepted, Refused}
@@ -32,6 +33,10 @@ IsTaken state change = IsOk (graph_after state.graph change)
 -- the state with a session's change under a ticket, where it is accepted, else as it was
 abbrev pub state_under : State → ℕ → ℕ → List Op → State
 state_under state session ticket change = elim (graph_after state.graph change) [ Ok graph ↦ state_with (state.count + 1) graph (raise state.tickets (session, ticket)) | Err at ↦ state ]
+
+-- so by a request
+abbrev pub state_by : State → Request → State
+state_by state request = state_under state request.session request.ticket request.change
 
 -- so under the ticket of the change
 abbrev pub state_after : State → ℕ → Option ℕ → List Op → State

@@ -1,3 +1,4 @@
 pub mod Answer
 pub mod Openings
+pub mod Edits
 pub mod Moves

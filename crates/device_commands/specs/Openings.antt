@@ -1,12 +1,15 @@
 -- Why a device isn't formatted or opened, and a change isn't made.
-use Rattle.std.specs.Prelude.{◌≤◌, ◌<◌, ℕ, List, Result, IsTrue, IfErr, IsErrOf}
+use Rattle.std.specs.Prelude.{◌≡◌, ◌≤◌, ◌<◌, ℕ, List, Result, IsTrue, IfErr, IfOk, IsErrOf}
 use Rattle.graph_edits.specs.Edges.{most_nodes}
 use Rattle.disk_trait.specs.Disk.{DiskView, IsSameDevice, OnlyRead}
+use Rattle.requests.specs.Tickets.{last_of}
 use Rattle.layout_parts.specs.declared.refusals.OpenRefused.{OpenRefused}
 use Rattle.layout_parts.specs.declared.refusals.OpenRefused.TheVariants.{NotFormatted as OpenNotFormatted, BadVersion, Damaged as OpenDamaged, Device as OpenDevice, Memory as OpenMemory}
 use Rattle.layout_parts.specs.Refusals.{LacksMagic}
 use Rattle.layout_2.specs.Fronts.{HasOtherVersion, HasThisVersion}
-use Rattle.layout_2.specs.Standing.{StandsForNone}
+use Rattle.layout_2.specs.State.{State}
+use Rattle.layout_2.specs.Standing.{StandsFor, StandsForNone}
+use Rattle.command_output.specs.Lines.{listing_text}
 use Rattle.command_output.specs.declared.fault.Fault.{Fault}
 use Rattle.command_output.specs.declared.fault.Fault.TheVariants.{NodeCount, DeviceLength, NotFormatted, LayoutNotKnown, Damaged, Device, Memory, Internal, Worn, AlreadyIn}
 
@@ -80,3 +83,27 @@ pub record IsReading {X : Type 0} (old new : DiskView) (answer : Result X Fault)
   pub device : IsErrOf answer Device → old.failures < new.failures
   pub reads : IsTrue old.keeps_model → OnlyRead old new
   pub ran : IsSameDevice old new
+
+-- No store was opened: a fault tells why, and the device, which was only read, comes back.
+pub record TellsNotOpened (disk left : DiskView) (told : Fault) : Type 0 where
+  pub fault : IsOpenFault told
+  pub tells : IsTrue disk.keeps_model → TellsOf told disk.content
+  pub device : told ≡ Device → disk.failures < left.failures
+  pub reads : IsTrue disk.keeps_model → OnlyRead disk left
+  pub ran : IsSameDevice disk left
+
+-- What a device was asked and answers: of the state for which it stands, and it is only read.
+pub record AnswersOf {X : Type 0} (IsAnswer : State → X → Type 0) (disk left : DiskView) (result : Result X Fault) : Type 0 where
+  -- where it doesn't keep the model, the answer is that of a state too
+  pub of_one : IfOk result (λ answer. (state : State) × IsAnswer state answer)
+  pub of_content : IsTrue disk.keeps_model → (state : State) → StandsFor state disk.content → IfOk result (IsAnswer state)
+  pub faults : IfErr result IsOpenFault
+  pub reading : IsReading disk left result
+
+-- the text is the listing of a state
+abbrev pub IsListing : State → List ℕ → Type 0
+IsListing state text = text ≡ listing_text state.count state.graph
+
+-- the ticket is a session's last one in a state
+abbrev pub IsLastTicket : ℕ → State → ℕ → Type 0
+IsLastTicket session state ticket = ticket ≡ last_of state.tickets session

@@ -1,12 +1,11 @@
 //! One change of a device.
-ghost use Rattle.std.specs.Prelude.{◌≡◌, ◌<◌, ◌≤◌, ◌⊎◌, ◌↔◌, IsTrue, IfOk, IfErr, IsErrOf, OnOk, false};
-ghost use Rattle.disk_trait.specs.Disk.{IsSameDevice, LeavesOnly, OnlyRead};
+ghost use Rattle.std.specs.Prelude.{◌≡◌, ◌<◌, ◌≤◌, ◌⊎◌, ◌↔◌, IfOk, IfErr, IsErrOf, OnOk, false};
 ghost use Rattle.requests.specs.Tickets.{sessions, worn_limit};
-ghost use Rattle.layout_2.specs.State.{IsNext, State};
-ghost use Rattle.layout_2.specs.Standing.{KeepsThrough, StandsFor};
-ghost use Rattle.checkpoint.specs.StoreWords.{state_of, view_of, is_down};
-ghost use Rattle.device_commands.specs.Answer.{verdict_of, state_after, state_under, last_ticket, ticket_of, IsNew, IsTaken};
-ghost use Rattle.device_commands.specs.Openings.{IsChangeFault, IsDeskFault, IsEditFault, IsUnwrittenFault, TellsOf};
+ghost use Rattle.layout_2.specs.State.{IsNext};
+ghost use Rattle.checkpoint.specs.StoreWords.{state_of, is_down};
+ghost use Rattle.device_commands.specs.Answer.{state_after, state_by, ticket_of, IsNew, IsTaken};
+ghost use Rattle.device_commands.specs.Edits.{EditsDevice, IsPastLimits, IsSettledTo};
+ghost use Rattle.device_commands.specs.Openings.{IsChangeFault, IsDeskFault};
 
 use crate::one_request::{settled, submitted};
 use crate::opening::open;
@@ -30,24 +29,7 @@ pub fn edit<D: Disk, R: Threads + Wait + Sync>(
     change: Change,
 ) -> (Result<Verdict, Fault>, D)
     requires { session < sessions }
-    ensures verdict { IsTrue (D.view disk).keeps_model → (state : State) → StandsFor state (D.view disk).content → IfOk result.0 (λ verdict. verdict ≡ verdict_of state change) }
-    ensures new { IsTrue (D.view disk).keeps_model → (state : State) → StandsFor state (D.view disk).content → OnOk result.0 (IsNew state session named) }
-    // Also of a disk that doesn't keep the model the verdict is that of a state to which the ticket is new.
-    ensures of_one { IfOk result.0 (λ verdict. (state : State) × IsNew state session named × (verdict ≡ verdict_of state change)) }
-    // A ticket that was taken changes nothing.
-    ensures already_in { IsTrue (D.view disk).keeps_model → (state : State) → StandsFor state (D.view disk).content → IsErrOf result.0 Fault.AlreadyIn → ¬ (IsNew state session named) }
-    ensures unwritten { IsTrue (D.view disk).keeps_model → IfErr result.0 (λ fault. IsUnwrittenFault fault → OnlyRead (D.view disk) (D.view result.1)) }
-    // A change that the graph refuses writes nothing.
-    ensures refused { IsTrue (D.view disk).keeps_model → (state : State) → StandsFor state (D.view disk).content → ¬ (IsTaken state change) → OnlyRead (D.view disk) (D.view result.1) }
-    ensures device { IsErrOf result.0 Fault.Device → (D.view disk).failures < (D.view result.1).failures }
-    ensures worn { IsTrue (D.view disk).keeps_model → (state : State) → StandsFor state (D.view disk).content → IsErrOf result.0 Fault.Worn
-        → IsNew state session named × ((worn_limit < ticket_of (last_ticket state session) named) ⊎ IsTaken state change) }
-    ensures left { IsTrue (D.view disk).keeps_model → (state : State) → StandsFor state (D.view disk).content → OnOk result.0 (KeepsThrough (D.view result.1) (state_after state session named change)) }
-    ensures any_moment { IsTrue (D.view disk).keeps_model → (state : State) → StandsFor state (D.view disk).content → KeepsThrough (D.view disk) state
-        → LeavesOnly (D.view disk) (D.view result.1) (λ image. StandsFor state image ⊎ StandsFor (state_after state session named change) image) }
-    ensures tells { IsTrue (D.view disk).keeps_model → IfErr result.0 (λ fault. TellsOf fault (D.view disk).content) }
-    ensures faults { IfErr result.0 (λ fault. IsEditFault fault) }
-    ensures ran { IsSameDevice (D.view disk) (D.view result.1) }
+    ensures { EditsDevice session named change (D.view disk) (D.view result.1) result.0 }
 {
     standing_law();
     match open(alloc, disk) {
@@ -70,20 +52,13 @@ fn settle_one<D: Disk, R: Threads + Wait + Sync>(
 ) -> (Result<Verdict, Fault>, Store<D>)
     requires up { is_down store ≡ false }
     requires there { session < sessions }
-    ensures verdict { IfOk result.0 (λ verdict. verdict ≡ verdict_of (state_of store) change) }
+    ensures settled { IsSettledTo (state_after (state_of store) session named change) change store result.1 result.0 }
     ensures new { OnOk result.0 (IsNew (state_of store) session named) }
+
     ensures already_in { IsErrOf result.0 Fault.AlreadyIn → ¬ (IsNew (state_of store) session named) }
     ensures unwritten { IsErrOf result.0 Fault.AlreadyIn → result.1 ≡ store }
-    ensures worn_leaves { IsErrOf result.0 Fault.Worn → result.1 ≡ store }
-    ensures refused { ¬ (IsTaken (state_of store) change) → result.1 ≡ store }
-    ensures device { IsErrOf result.0 Fault.Device → (view_of store).failures < (view_of result.1).failures }
-    ensures worn { IsErrOf result.0 Fault.Worn → IsNew (state_of store) session named × ((worn_limit < ticket_of (last_ticket (state_of store) session) named) ⊎ IsTaken (state_of store) change) }
-    ensures state { OnOk result.0 (state_of result.1 ≡ state_after (state_of store) session named change) }
-    ensures up { OnOk result.0 (is_down result.1 ≡ false) }
-    ensures ran { IsSameDevice (view_of store) (view_of result.1) }
+    ensures worn { IsErrOf result.0 Fault.Worn → IsPastLimits (state_of store) session named change }
     ensures faults { IfErr result.0 (λ fault. IsChangeFault fault) }
-    ensures any_moment { IsTrue (view_of store).keeps_model
-        → LeavesOnly (view_of store) (view_of result.1) (λ image. StandsFor (state_of store) image ⊎ StandsFor (state_after (state_of store) session named change) image) }
 {
     match ticket_for(named, store.resume(session)) {
         Ok(ticket) => {
@@ -125,16 +100,9 @@ fn commit_one<D: Disk, R: Threads + Wait + Sync>(
 ) -> (Result<Verdict, Fault>, Store<D>)
     requires up { is_down store ≡ false }
     requires next { IsNext (state_of store).tickets request }
-    ensures verdict { IfOk result.0 (λ verdict. verdict ≡ verdict_of (state_of store) request.change) }
-    ensures worn { IsErrOf result.0 Fault.Worn → (result.1 ≡ store) × IsTaken (state_of store) request.change }
-    ensures refused { ¬ (IsTaken (state_of store) request.change) → result.1 ≡ store }
-    ensures device { IsErrOf result.0 Fault.Device → (view_of store).failures < (view_of result.1).failures }
-    ensures state { OnOk result.0 (state_of result.1 ≡ state_under (state_of store) request.session request.ticket request.change) }
-    ensures up { OnOk result.0 (is_down result.1 ≡ false) }
-    ensures ran { IsSameDevice (view_of store) (view_of result.1) }
+    ensures settled { IsSettledTo (state_by (state_of store) request) request.change store result.1 result.0 }
+    ensures worn { IsErrOf result.0 Fault.Worn → IsTaken (state_of store) request.change }
     ensures faults { IfErr result.0 (λ fault. IsDeskFault fault) }
-    ensures any_moment { IsTrue (view_of store).keeps_model
-        → LeavesOnly (view_of store) (view_of result.1) (λ image. StandsFor (state_of store) image ⊎ StandsFor (state_under (state_of store) request.session request.ticket request.change) image) }
 {
     let (starts, count) = (store.starts(), store.count());
     match submitted(rt, alloc, &starts, count, request) {

@@ -15,19 +15,26 @@ use std::alloc::Global;
 
 /// Brings what a device of layout 1 holds to a new one, and answers how much that was. The old device is only read.
 pub fn migrate<O: Disk, N: Disk>(alloc: Global, old: &mut O, new: &mut N) -> Result<Moved, Fault>
-    ensures moved { IsTrue (O.view old.old).keeps_model → IsTrue (N.view new.old).keeps_model → IfOk result (λ moved. HasMoved moved (O.view old.old).content (N.view new.new)) }
+    ensures moved { IsTrue (O.view old.old).keeps_model → IsTrue (N.view new.old).keeps_model
+        → IfOk result (λ moved. HasMoved moved (O.view old.old).content (N.view new.new)) }
     // Also of disks that don't keep the model the edges are those of a network.
     ensures of_one { IfOk result (λ moved. (graph : Network) × (moved.edges ≡ len graph.edges)) }
-    ensures only_read { IsTrue (O.view old.old).keeps_model → OnlyRead (O.view old.old) (O.view old.new) }
+    ensures no_failure { OnOk result (((O.view old.new).failures ≡ (O.view old.old).failures)
+        × ((N.view new.new).failures ≡ (N.view new.old).failures)) }
+
+    ensures device_length { IsErrOf result Fault.DeviceLength ↔ (length (N.view new.old).content ≢ device_len) }
+    ensures device { IsErrOf result Fault.Device → ((O.view old.old).failures < (O.view old.new).failures)
+        ⊎ ((N.view new.old).failures < (N.view new.new).failures) }
+    ensures tells { IsTrue (O.view old.old).keeps_model
+        → IfErr result (λ fault. TellsOfOld fault (O.view old.old).content) }
     // Where it isn't told that a device failed, the new one is as it was.
     ensures untouched { IsErr result → ¬ (IsErrOf result Fault.Device) → new.new ≡ new.old }
-    ensures any_moment { IsTrue (O.view old.old).keeps_model → IsTrue (N.view new.old).keeps_model → IsAllForeign (N.view new.old)
-        → LeavesOnly (N.view new.old) (N.view new.new) (HoldsNoneOrAllOf (O.view old.old).content) }
-    ensures device_length { IsErrOf result Fault.DeviceLength ↔ (length (N.view new.old).content ≢ device_len) }
-    ensures device { IsErrOf result Fault.Device → ((O.view old.old).failures < (O.view old.new).failures) ⊎ ((N.view new.old).failures < (N.view new.new).failures) }
-    ensures no_failure { OnOk result (((O.view old.new).failures ≡ (O.view old.old).failures) × ((N.view new.new).failures ≡ (N.view new.old).failures)) }
-    ensures tells { IsTrue (O.view old.old).keeps_model → IfErr result (λ fault. TellsOfOld fault (O.view old.old).content) }
     ensures faults { IfErr result (λ fault. IsMoveFault fault) }
+
+    ensures only_read { IsTrue (O.view old.old).keeps_model → OnlyRead (O.view old.old) (O.view old.new) }
+    ensures any_moment { IsTrue (O.view old.old).keeps_model → IsTrue (N.view new.old).keeps_model
+        → IsAllForeign (N.view new.old)
+        → LeavesOnly (N.view new.old) (N.view new.new) (HoldsNoneOrAllOf (O.view old.old).content) }
     ensures ran_old { IsSameDevice (O.view old.old) (O.view old.new) }
     ensures ran_new { IsSameDevice (N.view new.old) (N.view new.new) }
 {

@@ -1,13 +1,12 @@
 //! One change on an open store: an editor in a thread of its own submits it, and the desk settles it.
-ghost use Rattle.std.specs.Prelude.{◌≡◌, ◌<◌, ◌∷◌, ◌⊎◌, [], IsTrue, IfOk, IfErr, IsErrOf, OnOk, false};
-ghost use Rattle.disk_trait.specs.Disk.{IsSameDevice, LeavesOnly};
+ghost use Rattle.std.specs.Prelude.{◌≡◌, ◌<◌, ◌∷◌, ◌⊎◌, [], IfOk, IfErr, IsErrOf, false};
 ghost use Rattle.requests.specs.Tickets.{sessions};
 ghost use Rattle.layout_2.specs.State.{IsNext};
-ghost use Rattle.layout_2.specs.Standing.{StandsFor};
-ghost use Rattle.checkpoint.specs.StoreWords.{state_of, view_of, is_down};
+ghost use Rattle.checkpoint.specs.StoreWords.{state_of, is_down};
 ghost use Rattle.generations.specs.declared.posting.Mark.{Mark};
 ghost use Rattle.group_commit.specs.Postings.{MarksAreDue};
-ghost use Rattle.device_commands.specs.Answer.{IsTaken, state_under, verdict_of};
+ghost use Rattle.device_commands.specs.Answer.{IsTaken, state_by};
+ghost use Rattle.device_commands.specs.Edits.{IsSettledTo};
 ghost use Rattle.device_commands.specs.Openings.{IsDeskFault, IsQueueFault};
 
 use checkpoint::Store;
@@ -75,27 +74,19 @@ pub fn settled<D: Disk>(
 ) -> (Result<Verdict, Fault>, Store<D>)
     requires up { is_down store ≡ false }
     requires next { IsNext (state_of store).tickets request }
-    ensures verdict { IfOk result.0 (λ verdict. verdict ≡ verdict_of (state_of store) request.change) }
-    ensures state { OnOk result.0 (state_of result.1 ≡ state_under (state_of store) request.session request.ticket request.change) }
-    ensures up { OnOk result.0 (is_down result.1 ≡ false) }
-
-    // Nothing is written where the graph refuses the change, or a limit is reached.
-    ensures refused { ¬ (IsTaken (state_of store) request.change) → result.1 ≡ store }
-    ensures worn { IsErrOf result.0 Fault.Worn → (result.1 ≡ store) × IsTaken (state_of store) request.change }
-
-    ensures device { IsErrOf result.0 Fault.Device → (view_of store).failures < (view_of result.1).failures }
+    ensures settled { IsSettledTo (state_by (state_of store) request) request.change store result.1 result.0 }
+    ensures worn { IsErrOf result.0 Fault.Worn → IsTaken (state_of store) request.change }
     ensures faults { IfErr result.0 (λ fault. IsDeskFault fault) }
-    ensures ran { IsSameDevice (view_of store) (view_of result.1) }
-    ensures any_moment { IsTrue (view_of store).keeps_model
-        → LeavesOnly (view_of store) (view_of result.1) (λ image. StandsFor (state_of store) image ⊎ StandsFor (state_under (state_of store) request.session request.ticket request.change) image) }
 {
     let mut desk = Desk::new(store);
     desk.give(request);
-    let answer = match desk.commit(alloc) {
-        Ok(_) => Ok(one_verdict(desk.paid())),
-        Err(refused) => Err(fault_of(refused)),
-    };
-    (answer, desk.into_store())
+    match desk.commit(alloc) {
+        Ok(_) => {
+            let verdict = one_verdict(desk.paid());
+            (Ok(verdict), desk.into_store())
+        }
+        Err(refused) => (Err(fault_of(refused)), desk.into_store()),
+    }
 }
 
 // The verdict of the one mark that is due.

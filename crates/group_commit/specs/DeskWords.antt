@@ -1,15 +1,13 @@
 -- A desk, as the crates above see it.
-use Rattle.std.specs.Prelude.{◌≡◌, ◌≢◌, ◌⊎◌, ◌≤◌, ◌<◌, ℕ, List, [], length, Option, true}
+use Rattle.std.specs.Prelude.{◌≢◌, ◌⊎◌, ◌<◌, ℕ, List, [], Option}
 use Rattle.requests.specs.declared.request.Request.{Request}
 use Rattle.requests.specs.Tickets.{tickets_after}
 use Rattle.checkpoint.specs.declared.store.Store.{Store}
 use Rattle.layout_2.specs.Layout.{worn_limit}
-use Rattle.layout_2.specs.State.{asked, IsNext, AreInTurn}
-use Rattle.checkpoint.specs.StoreWords.{state_of, is_down, LacksRoomFor, IsWornOut}
+use Rattle.layout_2.specs.State.{asked, IsNext}
+use Rattle.checkpoint.specs.StoreWords.{state_of, LacksRoomFor, IsWornOut}
 use Rattle.generations.specs.declared.posting.Posting.{Posting}
-use Rattle.group_commit.specs.Limits.{most_held}
 use Rattle.group_commit.specs.declared.desk.Desk.{Desk}
-use Rattle.group_commit.specs.Postings.{AreMarksDue, IsDownDue}
 use Rattle.group_commit.specs.Settling.{Settled, settle}
 
 -- its store

@@ -1,12 +1,11 @@
 //! The desk: requests are held, settled in order, and committed as one group.
-ghost use Rattle.std.specs.Prelude.{◌≡◌, ◌≢◌, ◌⊎◌, ◌≤◌, ◌<◌, ◌↔◌, ◌++◌, [], ◌∷◌, length, option_copied, IsTrue, IfOk, OnOk, OnErr, IsErrOf, IsErr, None, false, true};
-ghost use Rattle.disk_trait.specs.Disk.{AtMostCalls, IsSameDevice, LeavesOnly, Unchanged};
+ghost use Rattle.std.specs.Prelude.{◌≡◌, ◌≢◌, ◌≤◌, ◌<◌, ◌↔◌, ◌++◌, [], ◌∷◌, length, option_copied, IsTrue, IfOk, None, false, true};
+ghost use Rattle.disk_trait.specs.Disk.{AtMostCalls, IsSameDevice, Unchanged};
 ghost use Rattle.requests.specs.Tickets.{sessions, last_of};
 ghost use Rattle.layout_2.specs.State.{AreInTurn};
-ghost use Rattle.layout_2.specs.Standing.{StandsFor};
-ghost use Rattle.checkpoint.specs.StoreWords.{state_of, nodes_of, view_of, is_down, IsDurable, IsWhereItWas, HasAppended, HasRolled, HasRolledAndAppended, HasRoomFor, LacksRoomFor};
+ghost use Rattle.checkpoint.specs.StoreWords.{state_of, nodes_of, view_of, is_down, IsWhereItWas};
 ghost use Rattle.group_commit.specs.Limits.{most_held};
-ghost use Rattle.group_commit.specs.Postings.{MarksAreDue, AreMarksDue, IsDownDue};
+ghost use Rattle.group_commit.specs.Postings.{AreMarksDue, IsDownDue};
 ghost use Rattle.group_commit.specs.Turns.{in_turn_prop};
 
 use crate::limits::MOST_HELD;
@@ -36,7 +35,8 @@ pub struct Desk<D: Disk> {
 }
 
 impl<D: Disk> Desk<D> {
-    ghost use Rattle.group_commit.specs.DeskWords.{store_of, held_of, due_of, settled_of, IsNextHere, IsPastLimits};
+    ghost use Rattle.group_commit.specs.DeskWords.{store_of, held_of, due_of, settled_of, IsNextHere};
+    ghost use Rattle.group_commit.specs.Groups.{IsGroupCommitted, RefusesGroup, AtMostCallsWithRoom, SettlesWholly, KeepsStateHeld};
 
     /// A desk that holds nothing and has nothing to tell. No call of the store has met a failure of its device.
     pub fn new(store: Store<D>) -> Desk<D>
@@ -103,41 +103,23 @@ impl<D: Disk> Desk<D> {
     /// goes before it where the journal has no room. The answer is how many are accepted; where none is, nothing is written.
     pub fn commit(&mut self, alloc: Global) -> Result<usize, DeskRefused>
         requires { held_of self.old ≢ [] }
-        ensures ok { OnOk result (state_of (store_of self.new) ≡ (settled_of self.old).state) }
-        ensures appended { (settled_of self.old).accepted ≢ [] → HasRoomFor (store_of self.old) (settled_of self.old).accepted → OnOk result (HasAppended (store_of self.old) (store_of self.new) (settled_of self.old).accepted) }
-        ensures rolled { (settled_of self.old).accepted ≢ [] → LacksRoomFor (store_of self.old) (settled_of self.old).accepted → OnOk result (HasRolledAndAppended (store_of self.old) (store_of self.new) (settled_of self.old).accepted) }
-        ensures durable { IsTrue (view_of (store_of self.old)).keeps_model → OnOk result (IsDurable (store_of self.new)) }
-        ensures no_failure { OnOk result ((view_of (store_of self.new)).failures ≡ (view_of (store_of self.old)).failures) }
-        ensures number { IfOk result (λ accepted. accepted ≡ length (settled_of self.old).accepted) }
-        ensures marks { OnOk result (MarksAreDue (due_of self.new) (settled_of self.old).marks) }
-        ensures none_held { OnOk result (held_of self.new ≡ []) }
+        ensures ok { IfOk result (λ accepted. IsGroupCommitted self.old self.new accepted) }
+
+        ensures refused { RefusesGroup self.old self.new result }
+
         // Nothing is written where nothing is accepted.
         ensures idle { (settled_of self.old).accepted ≡ [] → store_of self.new ≡ store_of self.old }
-        ensures err { OnErr result (state_of (store_of self.new) ≡ state_of (store_of self.old)) }
-        ensures still_held { OnErr result (held_of self.new ≡ held_of self.old) }
-        ensures untold { IsErr result → ¬ (IsErrOf result DeskRefused.Device) → due_of self.new ≡ due_of self.old }
         ensures nodes { nodes_of (store_of self.new) ≡ nodes_of (store_of self.old) }
-        ensures device { IsErrOf result DeskRefused.Device → (view_of (store_of self.old)).failures < (view_of (store_of self.new)).failures }
-        ensures lost { IsErrOf result DeskRefused.Device → is_down (store_of self.new) ≡ true }
-        ensures down_due { IsErrOf result DeskRefused.Device → IsDownDue (due_of self.new) }
-        ensures down { IsErrOf result DeskRefused.Down ↔ (is_down (store_of self.old) ≡ true) }
-        ensures down_leaves { IsErrOf result DeskRefused.Down → store_of self.new ≡ store_of self.old }
-        ensures worn { IsErrOf result DeskRefused.Worn → IsPastLimits self.old }
-        ensures past_limits { is_down (store_of self.old) ≡ false → IsPastLimits self.old → IsErrOf result DeskRefused.Worn ⊎ IsErrOf result DeskRefused.Memory }
-        ensures worn_leaves { IsErrOf result DeskRefused.Worn → store_of self.new ≡ store_of self.old }
-        // Where memory ran out, the store may have rolled.
-        ensures memory_leaves { IsErrOf result DeskRefused.Memory → (store_of self.new ≡ store_of self.old) ⊎ (LacksRoomFor (store_of self.old) (settled_of self.old).accepted × HasRolled (store_of self.old) (store_of self.new)) }
-        ensures stays_up { is_down (store_of self.old) ≡ false → ¬ (IsErrOf result DeskRefused.Device) → is_down (store_of self.new) ≡ false }
+
         ensures ran { IsSameDevice (view_of (store_of self.old)) (view_of (store_of self.new)) }
         // A record takes four calls of the device at most, and a roll before it six.
         ensures calls { AtMostCalls 10 (view_of (store_of self.old)) (view_of (store_of self.new)) }
-        ensures calls_with_room { HasRoomFor (store_of self.old) (settled_of self.old).accepted → AtMostCalls 4 (view_of (store_of self.old)) (view_of (store_of self.new)) }
+        ensures calls_with_room { AtMostCallsWithRoom 4 self.old self.new }
+
         // A crash at any moment of the call leaves the old state, or the new one with the whole group.
-        ensures any_moment { IsTrue (view_of (store_of self.old)).keeps_model → is_down (store_of self.old) ≡ false
-            → LeavesOnly (view_of (store_of self.old)) (view_of (store_of self.new)) (λ image. StandsFor (state_of (store_of self.old)) image ⊎ StandsFor (settled_of self.old).state image) }
+        ensures any_moment { SettlesWholly self.old self.new }
         // Where the group stays held, it leaves the old state alone.
-        ensures refused { IsErr result → ¬ (IsErrOf result DeskRefused.Device) → IsTrue (view_of (store_of self.old)).keeps_model → is_down (store_of self.old) ≡ false
-            → LeavesOnly (view_of (store_of self.old)) (view_of (store_of self.new)) (StandsFor (state_of (store_of self.old))) }
+        ensures keeps_state { KeepsStateHeld self.old self.new result }
     {
         if self.store.is_down() {
             return Err(DeskRefused::Down);

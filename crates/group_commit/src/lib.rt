@@ -21,7 +21,8 @@
 //! Contracts see a desk by five words (specs/DeskWords.antt): its store, the requests that it holds, what it
 //! has to tell, `tickets_of`, each session's last ticket with the held ones, and `settled_of`, the settling of
 //! what it holds from where its store stands. A settling (specs/Settling.antt) is the marks, the accepted
-//! requests and the state that they lead to. What the layer above uses is [`Desk::commit`]:
+//! requests and the state that they lead to. What the layer above uses is [`Desk::commit`]. What `Ok` says of it is
+//! the record `IsGroupCommitted`, and what the refusals say is `RefusesGroup` (specs/Groups.antt):
 //!
 //! | Answer | What it says |
 //! |---|---|
@@ -32,7 +33,7 @@
 //!
 //! On a device that keeps the disk model, a crash at any moment of the call leaves the state of before or
 //! that of the settling (clause `any_moment`), and at a refusal other than `Device` that of before alone
-//! (`refused`). These clauses join with those of the calls before and behind it. Where nothing is accepted,
+//! (`keeps_state`). These clauses join with those of the calls before and behind it. Where nothing is accepted,
 //! the store isn't touched (`idle`), so nothing is written. Where something is, the group stands behind the
 //! groups of before if the journal has room for it (`appended`), and only else has the store rolled
 //! (`rolled`). `Worn` tells that numbers have run out: the count has no room for the accepted requests, or a

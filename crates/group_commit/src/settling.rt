@@ -45,7 +45,9 @@ impl Settling {
     /// Settles one request more.
     fn add(&mut self, overlay: &mut Overlay<'_>, request: &Request) -> Result<(), AllocError>
         requires { self.old.count + 1 < 2 ^ 64 }
-        ensures settled { OnOk result ((s : State) (rs : List Request) → settle s rs ≡ seen s.tickets self.old overlay.old → settle s (rs ++ request.now ∷ []) ≡ seen s.tickets self.new overlay.new) }
+        ensures settled { OnOk result ((s : State) (rs : List Request)
+            → settle s rs ≡ seen s.tickets self.old overlay.old
+            → settle s (rs ++ request.now ∷ []) ≡ seen s.tickets self.new overlay.new) }
         ensures count { OnOk result (self.new.count ≤ self.old.count + 1) }
     {
         match overlay.apply(&request.change) {
@@ -88,7 +90,8 @@ pub(crate) fn settle_all<D: Disk>(
     requires in_turn { AreInTurn (state_of store.now).tickets requests.now }
     ensures marks { IfOk result (λ r. r.marks.items ≡ (settle (state_of store.now) requests.now).marks) }
     ensures accepted { IfOk result (λ r. r.accepted.items ≡ (settle (state_of store.now) requests.now).accepted) }
-    ensures leads { IfOk result (λ r. after (state_of store.now) r.accepted.items ≡ Some (settle (state_of store.now) requests.now).state) }
+    ensures leads { IfOk result (λ r.
+        after (state_of store.now) r.accepted.items ≡ Some (settle (state_of store.now) requests.now).state) }
     ensures takes { IfOk result (λ r. IsSome (fold (state_of store.now).graph (changes_of r.accepted.items))) }
     ensures in_turn { IfOk result (λ r. AreInTurn (state_of store.now).tickets r.accepted.items) }
     ensures few { IfOk result (λ r. length r.accepted.items ≤ length requests.now) }

@@ -1,8 +1,7 @@
 -- What the reply to an event says: what the committer has come to, and how many changes the store has.
-use Rattle.std.proofs.Common.{arith, ◌≡◌, ⊎_elim, inl, ◌+◌, ◌++◌, ◌||◌, ℕ, Bool, true, false, cond, nat_le, is_some, List, [], ◌∷◌, length, Option, Some, None, slice_get, Result, Ok, Err, refl, sym, ap, ◌∙◌, subst}
+use Rattle.std.proofs.Common.{arith, ◌≡◌, ⊎_elim, inl, ◌+◌, ◌||◌, ℕ, Bool, true, false, cond, nat_le, is_some, List, length, Option, Some, None, slice_get, Result, Ok, Err, refl, sym, ap, ◌∙◌, subst}
 use Rattle.requests.specs.Tickets.{last_of}
 use Rattle.requests.specs.declared.request.Request.{Request}
-use Rattle.layout_2.specs.State.{State}
 use Rattle.node_table.specs.declared.packet.Packet.{Packet}
 use Rattle.node_table.specs.declared.packet.Move.{Move}
 use Rattle.node_table.specs.declared.packet.Move.TheVariants as packets

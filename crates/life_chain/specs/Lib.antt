@@ -5,3 +5,4 @@ pub mod Words
 pub mod Lived
 pub mod Chains
 pub mod Laws
+pub mod Telling

@@ -1,11 +1,8 @@
 //! Lives of one device, one after another.
-ghost use Rattle.std.specs.Prelude.{◌≡◌, ◌≤◌, [], length, vec_capacity, IsTrue, IfOk, OnErr};
-ghost use Rattle.layout_2.specs.State.{State};
-ghost use Rattle.layout_2.specs.Standing.{StandsFor};
+ghost use Rattle.std.specs.Prelude.{◌≡◌, ◌≤◌, [], length, vec_capacity, IfOk, OnErr};
 ghost use Rattle.life_chain.specs.Rooms.{HaveRooms};
-ghost use Rattle.life_chain.specs.Lived.{AreLived};
 ghost use Rattle.life_chain.specs.Words.{IsLeftByWord, any_word};
-ghost use Rattle.life_chain.specs.Chains.{IsFirst, AreChained, AreExactlyOnce, IsLastRefused};
+ghost use Rattle.life_chain.specs.Telling.{KeepsModel, ReportsEach, AreTold, AreToldOnDisk};
 
 use crate::crash::{Crash, ImageOfWord, SomeImage};
 use crate::life::Life;
@@ -21,7 +18,7 @@ use std::alloc::{AllocError, Global};
 /// and a crash as its word says. Before the first life there has to be room for every reply, else nothing is done. Behind a life that
 /// couldn't open there is none. This is [`lives_on`], without the disk that is left.
 ///
-/// On a disk that keeps the model:
+/// On a disk that keeps the model the report tells (`AreTold`, specs/Telling.antt):
 ///
 /// - each report is that of its life (`lived`, in words at [`lives_on`]);
 /// - so the first life opened to what the disk stood for (`first`), and each next one to the state after some of the requests that the
@@ -34,11 +31,7 @@ pub fn lives<D: CrashDisk + Drop>(
     disk: D,
     lives: &[Life],
 ) -> Result<LivesReport, AllocError>
-    ensures first { IsTrue (D.view disk).keeps_model → IfOk result (λ report. IsFirst report.lives.items (D.view disk).content) }
-    ensures lived { IsTrue (D.view disk).keeps_model → IfOk result (λ report. (left : D) × AreLived D.Disk any_word disk lives.now report.lives.items report.refused left) }
-    ensures chained { IsTrue (D.view disk).keeps_model → IfOk result (λ report. AreChained lives.now report.lives.items) }
-    ensures exactly_once { IsTrue (D.view disk).keeps_model → IfOk result (λ report. AreExactlyOnce report.lives.items) }
-    ensures refused { IsTrue (D.view disk).keeps_model → (s : State) → StandsFor s (D.view disk).content → IfOk result (λ report. IsLastRefused report.refused) }
+    ensures told { IfOk result (λ report. (left : D) × AreToldOnDisk D.Disk any_word disk lives.now report left) }
 {
     lives_on(alloc, disk, lives).0
 }
@@ -54,25 +47,22 @@ pub fn lives_on<D: CrashDisk + Drop>(
     disk: D,
     lives: &[Life],
 ) -> (Result<LivesReport, AllocError>, D)
-    ensures first { IsTrue (D.view disk).keeps_model → IfOk result.0 (λ report. IsFirst report.lives.items (D.view disk).content) }
-    ensures lived { IsTrue (D.view disk).keeps_model → IfOk result.0 (λ report. AreLived D.Disk any_word disk lives.now report.lives.items report.refused result.1) }
-    ensures chained { IsTrue (D.view disk).keeps_model → IfOk result.0 (λ report. AreChained lives.now report.lives.items) }
-    ensures exactly_once { IsTrue (D.view disk).keeps_model → IfOk result.0 (λ report. AreExactlyOnce report.lives.items) }
-    ensures refused { IsTrue (D.view disk).keeps_model → (s : State) → StandsFor s (D.view disk).content → IfOk result.0 (λ report. IsLastRefused report.refused) }
+    ensures told { IfOk result.0 (λ report. AreToldOnDisk D.Disk any_word disk lives.now report result.1) }
+
     ensures no_memory { OnErr result.0 (result.1 ≡ disk) }
 {
     lives_by::<D, SomeImage>(alloc, disk, lives)
 }
 
 /// The same on a disk in memory, which each crash leaves with the image of the life's word (`IsLeftByWord`, specs/Words.antt).
+/// Such a disk keeps the model, so the report always tells of the lives (`AreTold`, specs/Telling.antt).
 pub fn lives_in_memory(
     alloc: Global,
     disk: MemDisk,
     lives: &[Life],
 ) -> (Result<LivesReport, AllocError>, MemDisk)
-    ensures lived { IfOk result.0 (λ report. AreLived ⟦<MemDisk as Disk>⟧ IsLeftByWord disk lives.now report.lives.items report.refused result.1) }
-    ensures chained { IfOk result.0 (λ report. AreChained lives.now report.lives.items) }
-    ensures exactly_once { IfOk result.0 (λ report. AreExactlyOnce report.lives.items) }
+    ensures told { IfOk result.0 (λ report. AreTold ⟦<MemDisk as Disk>⟧ IsLeftByWord disk lives.now report result.1) }
+
     ensures no_memory { OnErr result.0 (result.1 ≡ disk) }
 {
     lives_by::<MemDisk, ImageOfWord>(alloc, disk, lives)
@@ -84,11 +74,8 @@ fn lives_by<D: CrashDisk + Drop, C: Crash<D>>(
     disk: D,
     lives: &[Life],
 ) -> (Result<LivesReport, AllocError>, D)
-    ensures first { IsTrue (D.view disk).keeps_model → IfOk result.0 (λ report. IsFirst report.lives.items (D.view disk).content) }
-    ensures lived { IsTrue (D.view disk).keeps_model → IfOk result.0 (λ report. AreLived D.Disk C.by_word disk lives.now report.lives.items report.refused result.1) }
-    ensures chained { IsTrue (D.view disk).keeps_model → IfOk result.0 (λ report. AreChained lives.now report.lives.items) }
-    ensures exactly_once { IsTrue (D.view disk).keeps_model → IfOk result.0 (λ report. AreExactlyOnce report.lives.items) }
-    ensures refused { IsTrue (D.view disk).keeps_model → (s : State) → StandsFor s (D.view disk).content → IfOk result.0 (λ report. IsLastRefused report.refused) }
+    ensures told { IfOk result.0 (λ report. AreToldOnDisk D.Disk C.by_word disk lives.now report result.1) }
+
     ensures no_memory { OnErr result.0 (result.1 ≡ disk) }
 {
     standing_law();
@@ -114,7 +101,8 @@ fn lives_in<D: CrashDisk + Drop, C: Crash<D>>(
     requires rooms { HaveRooms rooms.items lives.now }
     requires none { reports.items ≡ [] }
     requires spare { length lives.now ≤ vec_capacity reports }
-    ensures { IsTrue (D.view disk).keeps_model → AreLived D.Disk C.by_word disk lives.now result.0.lives.items result.0.refused result.1 }
+
+    ensures { KeepsModel D.Disk disk → ReportsEach D.Disk C.by_word disk lives.now result.0 result.1 }
 {
     let mut rooms = rooms;
     let mut reports = reports;

@@ -8,16 +8,17 @@
 //!
 //! # The contract
 //!
-//! For any disk that keeps the disk model, and any lives:
+//! The clause `told` says: on any disk that keeps the disk model, the report of any lives tells this of them (`AreTold`, specs/Telling.antt):
 //!
-//! | Clause | What it says |
+//! | Field | What it says |
 //! |---|---|
 //! | `first` | the first life opens to what the disk stands for |
 //! | `lived` | each report is that of its life, of the very disk that the crash of the one before had left (`AreLived`, specs/Lived.antt), up to the first life that couldn't open: that one tells of the content's front, and of the device only where it failed in the opening, and only read the disk |
 //! | `chained` | each next life opens to a prefix state of the one before (`IsNextOf`, specs/Chains.antt): whole changes and whole groups, those that events and replies tell of |
 //! | `exactly_once` | over these lives, and each beginning of them, each session's ticket is in at most once, only above the first disk's last one, and exactly once where it is acknowledged; each life opens to the last tickets of what is in (`IsExactlyOnce` of `run_laws`) |
 //! | `refused` | where the disk stands for anything, an opening is refused by `Device` or `Memory` alone |
-//! | `no_memory` | where there was no room for the replies, no life ran, and the disk is the one that was handed over |
+//!
+//! The clause `no_memory` says of any disk: where there was no room for the replies, no life ran, and the disk is the one that was handed over.
 //!
 //! `IsLived` describes a life in three parts:
 //!

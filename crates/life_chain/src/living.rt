@@ -1,10 +1,11 @@
 // One life.
-ghost use Rattle.std.specs.Prelude.{◌≡◌, replicate, IsTrue, IfOk, IfErr};
+ghost use Rattle.std.specs.Prelude.{◌≡◌, replicate, IfOk, IfErr};
 ghost use Rattle.disk_trait.specs.Disk.{IsSameDevice};
 ghost use Rattle.checkpoint.specs.StoreWords.{state_of};
 ghost use Rattle.event_runs.specs.Machines.{fresh_session};
 ghost use Rattle.life_chain.specs.Rooms.{IsRoomFor};
 ghost use Rattle.life_chain.specs.Lived.{IsLived, IsRefusedOpening};
+ghost use Rattle.life_chain.specs.Telling.{KeepsModel};
 
 use crate::crash::Crash;
 use crate::life::Life;
@@ -27,9 +28,12 @@ pub(crate) fn live<D: CrashDisk + Drop, C: Crash<D>>(
     replies: Vec<Reply>,
 ) -> Result<(LifeReport, D), (OpenRefused, D)>
     requires room { IsRoomFor replies life.now }
+
     ensures ran { IfOk result (λ r. IsSameDevice (D.view disk) (D.view r.1)) }
-    ensures lived { IsTrue (D.view disk).keeps_model → IfOk result (λ r. IsLived D.Disk C.by_word disk life.now r.0 r.1) }
-    ensures refused { IsTrue (D.view disk).keeps_model → IfErr result (λ e. IsRefusedOpening D.Disk disk e.0 e.1) }
+
+    ensures lived { KeepsModel D.Disk disk → IfOk result (λ r. IsLived D.Disk C.by_word disk life.now r.0 r.1) }
+
+    ensures refused { KeepsModel D.Disk disk → IfErr result (λ e. IsRefusedOpening D.Disk disk e.0 e.1) }
 {
     let store = match Store::open(alloc, disk) {
         Ok(store) => store,

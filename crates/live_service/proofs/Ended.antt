@@ -27,6 +27,10 @@ use Rattle.live_service.specs.declared.printed.Printed.{Printed}
 use Rattle.live_service.proofs.PrintedLines.{none_printed}
 use Rattle.live_service.proofs.SaidLines.{printed_of}
 
+-- want of memory isn't a failure of the device
+pub memory_alone : {T : Type 0} → IsErrOf {T = T} (Err cause.Memory) cause.Device → ⊥
+memory_alone is = absurd (cc)
+
 -- the fault that is told of threads that stopped
 pub cause_later : (c : StopCause) → IsLater (told_fault (stop_fault c))
 cause_later cause.Device = tt
@@ -104,7 +108,7 @@ prints_to input editors old new printed ended so end =
 
 -- .. and by what is known of the list, where no fault ended it
 pub prints_on : {D : Type 0} {V : _} → (store : Store D V) (input : Input) (editors : ℕ) (old new : Option (List ℕ)) (printed : Printed) (ended : Served) (back : Option D) → PrintsSo input editors old new printed → IsPrintEnd input printed ended
-    → (ended ≡ served.Printed → HasServedOn store printed.known back) → ended ≡ served.Printed → HasPrintedOn store input editors old new back
+    → (ended ≡ served.Printed → HasServedOn store input editors printed.known back) → ended ≡ served.Printed → HasPrintedOn store input editors old new back
 prints_on store input editors old new printed ended back so end on is = record {
   known = printed.known;
   count = printed.count;
@@ -119,8 +123,8 @@ none_to input editors old new ended f same fault =
     record { answers = λ unfailed. (0, subst (λ (o : Option (List ℕ)). HasPrinted input editors old o 0) (sym same) (none_printed input editors old), λ is. absurd (not_printed ended f fault is)) }
 
 -- of both, on a console of whose values this word reads what is printed
-pub run_prints : {C D : Type 0} {V : _} {prints : C → C → Printed → Type 0} {finishes : C → C → Served → Type 0} {input : Input} {store : Store D V} {old new : C} {ended : Served} {back : Option D}
-    → HasRun prints finishes input store old new ended back → (editors : ℕ) (text : C → Option (List ℕ))
+pub run_prints : {C D : Type 0} {V : _} {prints : C → C → Printed → Type 0} {finishes : C → C → Served → Type 0} {input : Input} {many : ℕ} {store : Store D V} {old new : C} {ended : Served} {back : Option D}
+    → HasRun prints finishes input many store old new ended back → (editors : ℕ) (text : C → Option (List ℕ))
     → ((mid : C) (printed : Printed) → prints old mid printed → finishes mid new ended → PrintsSo input editors (text old) (text new) printed) → (finishes old new ended → text new ≡ text old)
     → PrintsTo input editors (text old) (text new) ended
 run_prints {input = input} {old = old} {new = new} {ended = ended} run editors text so same =
@@ -128,8 +132,8 @@ run_prints {input = input} {old = old} {new = new} {ended = ended} run editors t
     (λ none. none_to input editors (text old) (text new) ended told.Memory (same none.finishing) none.memory) run.console
 
 -- the threads of a service ran that no fault ended
-pub ran_of : {C D : Type 0} {V : _} {prints : C → C → Printed → Type 0} {finishes : C → C → Served → Type 0} {input : Input} {store : Store D V} {old new : C} {ended : Served} {back : Option D}
-    → HasRun prints finishes input store old new ended back → ended ≡ served.Printed → IsRun prints finishes input store old new ended back
+pub ran_of : {C D : Type 0} {V : _} {prints : C → C → Printed → Type 0} {finishes : C → C → Served → Type 0} {input : Input} {many : ℕ} {store : Store D V} {old new : C} {ended : Served} {back : Option D}
+    → HasRun prints finishes input many store old new ended back → ended ≡ served.Printed → IsRun prints finishes input many store old new ended back
 ran_of {ended = ended} run is = ⊎_elim (λ ran. ran) (λ none. absurd (not_printed ended told.Memory none.memory is)) run.console
 
 -- no engine was started

@@ -81,7 +81,7 @@ script_served input script editors printed ended text old new names has prints e
 
 -- and its answers are by what is known
 pub script_gathered : {D : Type 0} {V : _} → (store : Store D V) (input : Input) (editors : ℕ) (printed : Printed) (ended : Served) (text : List ℕ) (old new : Option (List ℕ)) (back : Option D)
-    → (printed.end ≡ Whole → HasText printed.known input editors printed.count text) → PrintsAtEnd text old new ended → IsPrintEnd input printed ended → (ended ≡ served.Printed → HasServedOn store printed.known back)
+    → (printed.end ≡ Whole → HasText printed.known input editors printed.count text) → PrintsAtEnd text old new ended → IsPrintEnd input printed ended → (ended ≡ served.Printed → HasServedOn store input editors printed.known back)
     → ended ≡ served.Printed → HasGatheredOn store input editors old new back
 script_gathered store input editors printed ended text old new back has prints end on is = record {
   known = printed.known;

@@ -1,4 +1,6 @@
+pub mod AllTaken
 pub mod Answering
+pub mod Backs
 pub mod Ended
 pub mod Further
 pub mod GatheredLines
@@ -10,4 +12,5 @@ pub mod SaidLines
 pub mod SaidPackets
 pub mod Seats
 pub mod Sending
+pub mod Submitting
 pub mod TablesPut

@@ -1,5 +1,5 @@
 -- The one list of a service that no fault ended.
-use Rattle.std.proofs.Common.{◌≡◌, inl, inr, ◌<◌, ◌++◌, ◌∷◌, [], ℕ, zero, suc, List, Option, Some, None, Result, Ok, Err, IfOk, OnOk, IsTrue, length, sym, ap, subst, ◌∙◌, arith}
+use Rattle.std.proofs.Common.{◌≡◌, Bool, true, inl, inr, ◌<◌, ◌++◌, ◌∷◌, [], ℕ, zero, suc, List, Option, Some, None, Result, Ok, Err, IfOk, OnOk, IsTrue, length, sym, ap, subst, ◌∙◌, arith}
 use Rattle.std.specs.Prelude.{IfSome, IsOk, IsOkAnd, IsSomeAnd, slice_index_or}
 use Rattle.std.specs.Io.KnownBytes.{Appends}
 use mathlib.Core.Logic.{∥∥₁_map}
@@ -22,6 +22,7 @@ use Rattle.committer.specs.declared.committer.Committer.{Committer}
 use Rattle.committer.specs.CommitterWords.{store_of, got_of, posts_of}
 use Rattle.committer.specs.Listed.{IsListedFrom, StaysListed}
 use Rattle.settled_lists.specs.Posted.{ArePosted}
+use Rattle.intake.specs.Turns.{of}
 use Rattle.service_workers.specs.declared.stop_cause.StopCause.{StopCause}
 use Rattle.service_workers.specs.Forwarded.{AreNamed, HoldsOf}
 use Rattle.service_threads.specs.Kept.{HasSettled, IsLeftBy, IsOnCourse, IsServedDisk, StandsForBeginning}
@@ -30,35 +31,42 @@ use Rattle.live_lines.specs.declared.answer.Answer.{Answer}
 use Rattle.live_service.specs.Inputs.{Input}
 use Rattle.live_service.specs.OneList.{AreAnswersIn, AreSaid, IsSaidIn}
 use Rattle.live_service.specs.Prints.{AreAllLines}
+use Rattle.live_service.specs.Submits.{ArePutInOrder}
 use Rattle.live_service.specs.ServedList.{AreOfOneList, HasAnswered, HasAnsweredScript, HasGatheredOn, HasPrintedOn, HasServedAll, HasServedOn}
 
 -- ---- the committer
 
 -- what a committer posted that nothing stopped, and the store that it gives back
-pub served_all : {D R : Type 0} {V : _} → (first now : Committer D R V) (store : Store D V) (own : Result (Unit {0}) StopCause) (result : Result Beginning StopCause) (opening : Opening) (board : Beginning)
+pub served_all : {D R : Type 0} {V : _} → (first now : Committer D R V) (store : Store D V) (input : Input) (editors : ℕ) (own : Result (Unit {0}) StopCause) (result : Result Beginning StopCause) (opening : Opening) (board : Beginning)
     → IsListedFrom (state_of (store_of first)) first → OnOk own (IsOnCourse first now) → OnOk own ((posts_of now).opening ≡ opening) → board ≡ record { opening = (posts_of now).opening; log = (posts_of now).posted }
-    → OnOk result (IsOk own) → IfOk result (λ b. b ≡ board) → store ≡ store_of now → IfOk result (λ b. (b.opening ≡ opening) × HasServedAll (store_of first) b (view_of store))
-served_all first now store own (Err e) opening board listed on named is ok same left = tt
-served_all first now store (Err e) (Ok b) opening board listed on named is ok same left = absurd (cc)
-served_all first now store (Ok u) (Ok b) opening board listed on named is ok same left =
+    → OnOk result (IsOk own) → IfOk result (λ b. b ≡ board) → OnOk result ((session : ℕ) → ArePutInOrder input editors (of session (got_of now))) → store ≡ store_of now
+    → IfOk result (λ b. (b.opening ≡ opening) × HasServedAll (store_of first) input editors b (view_of store))
+served_all first now store input editors own (Err e) opening board listed on named is ok same put left = tt
+served_all first now store input editors (Err e) (Ok b) opening board listed on named is ok same put left = absurd (cc)
+served_all first now store input editors (Ok u) (Ok b) opening board listed on named is ok same put left =
     let all = on.listed (state_of (store_of first)) listed in
-    subst (λ (c : Beginning). (c.opening ≡ opening) × HasServedAll (store_of first) c (view_of store)) (sym (same ∙ is))
-    (subst (λ s. ((posts_of now).opening ≡ opening) × HasServedAll (store_of first) (record { opening = (posts_of now).opening; log = (posts_of now).posted }) (view_of s)) (sym left)
-    (named, record { taken = got_of now; begins = all.begins; posted = on_course_posted first now on (state_of (store_of first)) listed; settled = on.settled; stands = on.stands }))
+    subst (λ (c : Beginning). (c.opening ≡ opening) × HasServedAll (store_of first) input editors c (view_of store)) (sym (same ∙ is))
+    (subst (λ s. ((posts_of now).opening ≡ opening) × HasServedAll (store_of first) input editors (record { opening = (posts_of now).opening; log = (posts_of now).posted }) (view_of s)) (sym left)
+    (named, record { taken = got_of now; begins = all.begins; posted = on_course_posted first now on (state_of (store_of first)) listed; settled = on.settled; stands = on.stands; of_input = put }))
+
+-- each session's requests were put by lines of the input, where an engine ended so that asks for all of that
+pub put_of_all : (result : Result Beginning StopCause) (all : Bool) (P : Type 0) → OnOk result (all ≡ true) → (all ≡ true → P) → OnOk result P
+put_of_all (Ok b) all P is then = then is
+put_of_all (Err e) all P is then = tt
 
 -- it is listed still behind a call that leaves the store
 pub listed_still : {D R : Type 0} {V : _} → (old new : Committer D R V) → store_of new ≡ store_of old → StaysListed old new → IsListedFrom (state_of (store_of old)) old → IsListedFrom (state_of (store_of new)) new
 listed_still old new same stays listed = subst (λ s. IsListedFrom (state_of s) new) (sym same) (stays (state_of (store_of old)) listed)
 
 -- the same from an equal store
-pub served_from : {D : Type 0} {V : _} → (store from : Store D V) (new : DiskView) (result : Result Beginning StopCause) (opening : Opening) → from ≡ store
-    → IfOk result (λ b. (b.opening ≡ opening) × HasServedAll from b new) → IfOk result (λ b. (b.opening ≡ opening) × HasServedAll store b new)
-served_from store from new result opening same is = subst (λ s. IfOk result (λ b. (b.opening ≡ opening) × HasServedAll s b new)) same is
+pub served_from : {D : Type 0} {V : _} → (store from : Store D V) (input : Input) (editors : ℕ) (new : DiskView) (result : Result Beginning StopCause) (opening : Opening) → from ≡ store
+    → IfOk result (λ b. (b.opening ≡ opening) × HasServedAll from input editors b new) → IfOk result (λ b. (b.opening ≡ opening) × HasServedAll store input editors b new)
+served_from store from input editors new result opening same is = subst (λ s. IfOk result (λ b. (b.opening ≡ opening) × HasServedAll s input editors b new)) same is
 
 -- .. and of an equal view
-pub served_view : {D : Type 0} {V : _} → (store : Store D V) (old new : DiskView) (result : Result Beginning StopCause) (opening : Opening) → new ≡ old
-    → IfOk result (λ b. (b.opening ≡ opening) × HasServedAll store b old) → IfOk result (λ b. (b.opening ≡ opening) × HasServedAll store b new)
-served_view store old new result opening same is = subst (λ v. IfOk result (λ b. (b.opening ≡ opening) × HasServedAll store b v)) (sym same) is
+pub served_view : {D : Type 0} {V : _} → (store : Store D V) (input : Input) (editors : ℕ) (old new : DiskView) (result : Result Beginning StopCause) (opening : Opening) → new ≡ old
+    → IfOk result (λ b. (b.opening ≡ opening) × HasServedAll store input editors b old) → IfOk result (λ b. (b.opening ≡ opening) × HasServedAll store input editors b new)
+served_view store input editors old new result opening same is = subst (λ v. IfOk result (λ b. (b.opening ≡ opening) × HasServedAll store input editors b v)) (sym same) is
 
 -- what is known is of the engine's board
 pub same_board : (engine : Result Beginning StopCause) (known opening : Opening) → known ≡ opening → IfOk engine (λ b. b.opening ≡ opening) → IfOk engine (λ b. known ≡ b.opening)
@@ -66,10 +74,10 @@ same_board (Ok b) known opening same is = same ∙ sym is
 same_board (Err e) known opening same is = tt
 
 -- the board of an engine that nothing stopped has all that was known
-pub served_on : {D : Type 0} {V : _} → (store : Store D V) (engine : Result Beginning StopCause) (known : Beginning) (back : Option D) → IsOkAnd engine (λ board. GoesOn known board)
-    → IfOk engine (λ board. IsSomeAnd back (λ d. HasServedAll store board (V.view d))) → HasServedOn store known back
-served_on store (Ok board) known back on all = record { board = board; on = on; all = all }
-served_on store (Err e) known back on all = absurd on
+pub served_on : {D : Type 0} {V : _} → (store : Store D V) (input : Input) (editors : ℕ) (engine : Result Beginning StopCause) (known : Beginning) (back : Option D) → IsOkAnd engine (λ board. GoesOn known board)
+    → IfOk engine (λ board. IsSomeAnd back (λ d. HasServedAll store input editors board (V.view d))) → HasServedOn store input editors known back
+served_on store input editors (Ok board) known back on all = record { board = board; on = on; all = all }
+served_on store input editors (Err e) known back on all = absurd on
 
 -- ---- a whole list
 
@@ -138,7 +146,7 @@ opened_left {V = V} disk store engine back one opened left = record {
 pub read_left : {D : Type 0} (model : Ghosts D) (disk back : D) → IsSameDevice (model.view disk) (model.view back) → (IsTrue (model.view disk).keeps_model → OnlyRead (model.view disk) (model.view back)) → IsLeftBy model disk (Some back)
 read_left model disk back same reads = record { ran = same; any_moment = λ keeps_model state stands keeps. read_leaves state (model.view disk) (model.view back) (reads keeps_model) keeps }
 
-of_one_list : {D : Type 0} {V : _} → (disk back : D) (store : Store D V) (known board : Beginning) (input : Input) (editors : ℕ) (answers : List Answer) → IsOpened disk store → HasServedAll store board (V.view back)
+of_one_list : {D : Type 0} {V : _} → (disk back : D) (store : Store D V) (known board : Beginning) (input : Input) (editors : ℕ) (answers : List Answer) → IsOpened disk store → HasServedAll store input editors board (V.view back)
     → GoesOn known board → AreSaid known input editors answers → AreOfOneList V disk back input editors answers
 of_one_list {V = V} disk back store known board input editors answers opened all on said =
     let still : IsTrue (V.view disk).keeps_model → IsTrue (view_of store).keeps_model = λ model. subst IsTrue (sym opened.ran.model) model in
@@ -148,6 +156,7 @@ of_one_list {V = V} disk back store known board input editors answers opened all
       taken = all.taken;
       board = board;
       begins = all.begins;
+      of_input = all.of_input;
       posted = all.posted;
       said = answers_in (state_of store) all.taken known board input editors answers all.begins all.posted on said;
       any_moment = λ model keeps. opened_leaves (state_of store) (V.view disk) (view_of store) (V.view back) all.taken (opened.reads model) keeps (still model) all.settled;
@@ -159,7 +168,7 @@ pub answered : {D : Type 0} {V : _} → (disk : D) (store : Store D V) (input : 
     → IsSomeAnd back (λ d. HasAnswered V disk d input editors old new)
 answered {V = V} disk store input editors old new back opened has = of back has.on.all
   where
-    of : (b : Option _) → IsSomeAnd b (λ d. HasServedAll store has.on.board (V.view d)) → IsSomeAnd b (λ d. HasAnswered V disk d input editors old new)
+    of : (b : Option _) → IsSomeAnd b (λ d. HasServedAll store input editors has.on.board (V.view d)) → IsSomeAnd b (λ d. HasAnswered V disk d input editors old new)
     of None all = absurd all
     of (Some d) all = record {
       answers = has.printed.answers;
@@ -173,7 +182,7 @@ pub script_answered : {D : Type 0} {V : _} → (disk : D) (store : Store D V) (i
     → IsSomeAnd back (λ d. HasAnsweredScript V disk d input editors old new)
 script_answered {V = V} disk store input editors old new back opened has = of back has.on.all
   where
-    of : (b : Option _) → IsSomeAnd b (λ d. HasServedAll store has.on.board (V.view d)) → IsSomeAnd b (λ d. HasAnsweredScript V disk d input editors old new)
+    of : (b : Option _) → IsSomeAnd b (λ d. HasServedAll store input editors has.on.board (V.view d)) → IsSomeAnd b (λ d. HasAnsweredScript V disk d input editors old new)
     of None all = absurd all
     of (Some d) all = record {
       answers = has.gathered.by.answers;

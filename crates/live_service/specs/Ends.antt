@@ -1,5 +1,5 @@
 -- How a live service ends.
-use Rattle.std.specs.Prelude.{◌≡◌, ◌⊎◌, ℕ, List, Option, Some, None}
+use Rattle.std.specs.Prelude.{◌≡◌, ◌⊎◌, ℕ, Bool, List, Option, Some, None, IsTrue}
 use Rattle.std.specs.Io.KnownBytes.{Appends}
 use Rattle.command_output.specs.Faults.{told_text}
 use Rattle.command_output.specs.declared.fault.Fault.{Fault}
@@ -18,6 +18,10 @@ abbrev pub HasToldSo : Option (List ℕ) → Option (List ℕ) → Served → Ty
 HasToldSo old new Printed = new ≡ old
 HasToldSo old new (Told fault) = Appends old new (told_text fault)
 HasToldSo old new (Untold fault) = Unit {0}
+
+-- a fault was told, or a write of the writer for faults has failed
+abbrev pub IsToldOrFailed : Option (List ℕ) → Option (List ℕ) → Bool → Fault → Type 0
+IsToldOrFailed old new has_failed fault = Appends old new (told_text fault) ⊎ IsTrue has_failed
 
 -- the faults of a service whose device was opened
 abbrev pub IsLater : Fault → Type 0

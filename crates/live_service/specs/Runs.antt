@@ -47,13 +47,13 @@ pub record PrintsTo (input : Input) (editors : ℕ) (old new : Option (List ℕ)
   pub answers : fault_of ended ≢ Some told.Output → (count : ℕ) × HasPrinted input editors old new count × (ended ≡ served.Printed → AreAllLines input count)
 
 -- The threads of a service ran: it printed on a console and told its end there, between two values of that, and ended as its printing did.
-pub record IsRun {C D : Type 0} {V : _} (prints : C → C → Printed → Type 0) (finishes : C → C → Served → Type 0) (input : Input) (store : Store D V) (old new : C) (ended : Served) (back : Option D) : Type 0 where
+pub record IsRun {C D : Type 0} {V : _} (prints : C → C → Printed → Type 0) (finishes : C → C → Served → Type 0) (input : Input) (editors : ℕ) (store : Store D V) (old new : C) (ended : Served) (back : Option D) : Type 0 where
   pub mid : C
   pub printed : Printed
   pub printing : prints old mid printed
   pub finishing : finishes mid new ended
   pub print_end : IsPrintEnd input printed ended
-  pub one_list : ended ≡ served.Printed → HasServedOn store printed.known back
+  pub one_list : ended ≡ served.Printed → HasServedOn store input editors printed.known back
 
 -- No thread was started, since memory ran out: that was told.
 pub record IsUnstarted {C : Type 0} (finishes : C → C → Served → Type 0) (old new : C) (ended : Served) : Type 0 where
@@ -61,9 +61,9 @@ pub record IsUnstarted {C : Type 0} (finishes : C → C → Served → Type 0) (
   pub memory : fault_of ended ≡ Some told.Memory
 
 -- a service on a store that was opened ended so, between two values of its console
-pub record HasRun {C D : Type 0} {V : _} (prints : C → C → Printed → Type 0) (finishes : C → C → Served → Type 0) (input : Input) (store : Store D V) (old new : C) (ended : Served) (back : Option D) : Type 0 where
+pub record HasRun {C D : Type 0} {V : _} (prints : C → C → Printed → Type 0) (finishes : C → C → Served → Type 0) (input : Input) (editors : ℕ) (store : Store D V) (old new : C) (ended : Served) (back : Option D) : Type 0 where
   pub engine_end : HasEnded store ended back
-  pub console : IsRun prints finishes input store old new ended back ⊎ IsUnstarted finishes old new ended
+  pub console : IsRun prints finishes input editors store old new ended back ⊎ IsUnstarted finishes old new ended
 
 -- A service of a script ended so, between two values of its writer, whose contents are read so: without a fault it printed all answers, and
 -- a fault but that of the printing left the writer as it was.

@@ -17,7 +17,9 @@ use Rattle.service_threads.specs.Kept.{HasSettled, StandsForBeginning}
 use Rattle.service_workers.specs.declared.answer.Answer.{Answer as ScriptAnswer}
 use Rattle.service_lines.specs.ServedLines.{answers_text as script_text}
 use Rattle.live_lines.specs.declared.answer.Answer.{Answer}
+use Rattle.intake.specs.Turns.{of}
 use Rattle.live_service.specs.Inputs.{Input}
+use Rattle.live_service.specs.Submits.{ArePutInOrder}
 use Rattle.live_service.specs.Scripts.{answer_of_line}
 use Rattle.live_service.specs.OneList.{AreAnswersIn}
 use Rattle.live_service.specs.Prints.{AreAllLines, HasPrintedBy, answers_text}
@@ -39,19 +41,20 @@ pub record IsBoardOf (opening : Opening) (state : State) (writer : Posts) (reade
 
 -- From the state of a store on requests were taken and all settled: what is on the board has the marks of the first of them, and each
 -- generation there serves the state that its number names. A crash at any moment left the state after a beginning of them, and one now
--- leaves the state after all.
-pub record HasServedAll {D : Type 0} {V : _} (store : Store D V) (board : Beginning) (new : DiskView) : Type 0 where
+-- leaves the state after all. Each session's requests were put by lines of the input, in the lines' order.
+pub record HasServedAll {D : Type 0} {V : _} (store : Store D V) (input : Input) (editors : ℕ) (board : Beginning) (new : DiskView) : Type 0 where
   pub taken : List Request
   pub begins : (board.opening.starts ≡ (state_of store).tickets) × (board.opening.count ≡ (state_of store).count)
   pub posted : ArePosted (state_of store) taken board.log
   pub settled : HasSettled (state_of store) taken (view_of store) new
   pub stands : IsTrue new.keeps_model → KeepsThrough new (settle (state_of store) taken).state
+  pub of_input : (session : ℕ) → ArePutInOrder input editors (of session taken)
 
 -- The board has all that was known, and the disk came back behind it.
-pub record HasServedOn {D : Type 0} {V : _} (store : Store D V) (known : Beginning) (back : Option D) : Type 0 where
+pub record HasServedOn {D : Type 0} {V : _} (store : Store D V) (input : Input) (editors : ℕ) (known : Beginning) (back : Option D) : Type 0 where
   pub board : Beginning
   pub on : GoesOn known board
-  pub all : IsSomeAnd back (λ d. HasServedAll store board (V.view d))
+  pub all : IsSomeAnd back (λ d. HasServedAll store input editors board (V.view d))
 
 -- An input was answered over a store: so much was printed by what was known, and the board has it.
 pub record HasPrintedOn {D : Type 0} {V : _} (store : Store D V) (input : Input) (editors : ℕ) (old new : Option (List ℕ)) (back : Option D) : Type 0 where
@@ -59,7 +62,7 @@ pub record HasPrintedOn {D : Type 0} {V : _} (store : Store D V) (input : Input)
   pub count : ℕ
   pub printed : HasPrintedBy known input editors old new count
   pub whole : AreAllLines input count
-  pub on : HasServedOn store known back
+  pub on : HasServedOn store input editors known back
 
 -- a script was answered over a store
 pub record HasGatheredOn {D : Type 0} {V : _} (store : Store D V) (input : Input) (editors : ℕ) (old new : Option (List ℕ)) (back : Option D) : Type 0 where
@@ -69,7 +72,7 @@ pub record HasGatheredOn {D : Type 0} {V : _} (store : Store D V) (input : Input
   pub gathered : HasText known input editors count text
   pub printed : Appends old new text
   pub whole : AreAllLines input count
-  pub on : HasServedOn store known back
+  pub on : HasServedOn store input editors known back
 
 -- ---- a service that no fault ended
 
@@ -82,6 +85,8 @@ pub record AreOfOneList {D : Type 0} (model : Ghosts D) (disk back : D) (input :
   pub taken : List Request
   pub board : Beginning
   pub begins : (board.opening.starts ≡ first.tickets) × (board.opening.count ≡ first.count)
+  -- each session's requests were put by lines that ask for just these edits, in the order of the lines, each line at most once
+  pub of_input : (session : ℕ) → ArePutInOrder input editors (of session taken)
   -- the marks on the board are those of settling the first of the requests, and each generation there serves the state that its number names
   pub posted : ArePosted first taken board.log
   -- each answer is to the line at its place, and the board says it

@@ -1,12 +1,13 @@
 // The caller's end: it prints, and tells how the service ended.
-ghost use Rattle.std.specs.Prelude.{◌≡◌, ◌≢◌};
+ghost use Rattle.std.specs.Prelude.{◌≡◌, ◌≢◌, IsTrue};
+ghost use Rattle.command_output.specs.declared.fault.Fault.{Fault};
 ghost use Rattle.live_service.specs.Ends.{HasToldSo, fault_of};
 
 use crate::exchange::Exchange;
 use crate::messages::Stream;
 use crate::printed::Printed;
 use crate::printing::print_all;
-use command_output::{Fault, tell};
+use command_output::{Fault, FaultWriter};
 use service_lines::Served;
 use service_workers::Naming;
 use std::alloc::Global;
@@ -36,7 +37,7 @@ pub trait Console<J: Stream> {
         ensures fault { IsFinish fault result.1 };
 }
 
-/// Two writers, each lent for a time of its own: so what each holds is known once it comes back.
+/// A writer of answers and one of faults, each lent for a time of its own: so what each holds is known once it comes back.
 #[derive(Drop)]
 pub struct Terminal<'a, 'b, O, E> {
     pub alloc: Global,
@@ -45,12 +46,13 @@ pub struct Terminal<'a, 'b, O, E> {
 }
 
 /// Tells a fault, where there is one.
-pub fn told<E: Write>(err: &mut E, fault: Option<Fault>) -> Served
+pub fn told<E: FaultWriter>(err: &mut E, fault: Option<Fault>) -> Served
     ensures told { HasToldSo (E.contents err.old) (E.contents err.new) result }
+    ensures untold { (fault : Fault) → result ≡ Served.Untold fault → IsTrue (E.has_failed err.new) }
     ensures fault { fault_of result ≡ fault }
 {
     match fault {
-        Some(fault) => match tell(err, fault) {
+        Some(fault) => match err.tell(fault) {
             Ok(()) => Served::Told(fault),
             Err(_) => Served::Untold(fault),
         },
@@ -58,8 +60,10 @@ pub fn told<E: Write>(err: &mut E, fault: Option<Fault>) -> Served
     }
 }
 
-impl<'a, 'b, J: Stream, O: Write, E: Write> Console<J> for Terminal<'a, 'b, O, E> {
-    ghost use Rattle.std.specs.Prelude.{◌≡◌};
+impl<'a, 'b, J: Stream, O: Write, E: FaultWriter> Console<J> for Terminal<'a, 'b, O, E> {
+    ghost use Rattle.std.specs.Prelude.{◌≡◌, IsTrue};
+    ghost use Rattle.command_output.specs.declared.fault.Fault.{Fault};
+    ghost use Rattle.service_lines.specs.declared.served.Served.TheVariants.{Untold};
     ghost use Rattle.live_service.specs.Runs.{PrintsSo};
     ghost use Rattle.live_service.specs.Ends.{HasToldSo};
 
@@ -67,7 +71,8 @@ impl<'a, 'b, J: Stream, O: Write, E: Write> Console<J> for Terminal<'a, 'b, O, E
         × PrintsSo J.input J.editors (O.contents c.out.now) (O.contents d.out.now) p };
 
     ghost finishes = { λ c d s. (d.out.ghost_name ≡ c.out.ghost_name) × (d.err.ghost_name ≡ c.err.ghost_name) × (d.out.now ≡ c.out.now)
-        × HasToldSo (E.contents c.err.now) (E.contents d.err.now) s };
+        × HasToldSo (E.contents c.err.now) (E.contents d.err.now) s
+        × ((fault : Fault) → s ≡ Untold fault → IsTrue (E.has_failed d.err.now)) };
 
     fn print<B: Naming, R: Wait>(self, rt: &R, exchange: &Exchange<J, B>) -> (Self, Printed) {
         let Terminal { alloc, out, err } = self;

@@ -1,7 +1,9 @@
 // An editor's thread.
-ghost use Rattle.std.specs.Prelude.{IfSome};
+ghost use Rattle.std.specs.Prelude.{◌≡◌, [], IfSome};
+ghost use Rattle.service_workers.specs.Edited.{IsSameEditor};
 ghost use Rattle.live_lines.specs.Answers.{Fits};
 ghost use Rattle.live_service.specs.OneList.{IsSaidBy};
+ghost use Rattle.live_service.specs.Submits.{ArePutInOrder, HasPutFor};
 
 use crate::exchange::Exchange;
 use crate::messages::{Answered, Ask, Stream};
@@ -31,6 +33,8 @@ fn edited<B: Naming, R: Wait>(
 ) -> Option<(SessionEditor<B>, Answer)>
     ensures fits { IfSome result (λ r. Fits (Asked.Edit session ticket change) r.1) }
     ensures said { IfSome result (λ r. IsSaidBy r.0.editor.known (Asked.Edit session ticket change) r.1) }
+    ensures same { IfSome result (λ r. IsSameEditor editor.editor r.0.editor) }
+    ensures put { IfSome result (λ r. HasPutFor (Asked.Edit session ticket change) r.1 editor.editor r.0.editor) }
 {
     if session != editor.session() {
         coordinator.stop(rt, StopCause::Internal);
@@ -64,6 +68,8 @@ fn answer_of<B: Naming, R: Wait>(
 ) -> Option<(SessionEditor<B>, Answer)>
     ensures fits { IfSome result (λ r. Fits asked r.1) }
     ensures said { IfSome result (λ r. IsSaidBy r.0.editor.known asked r.1) }
+    ensures same { IfSome result (λ r. IsSameEditor editor.editor r.0.editor) }
+    ensures put { IfSome result (λ r. HasPutFor asked r.1 editor.editor r.0.editor) }
 {
     match asked {
         Asked::Edit {
@@ -88,7 +94,11 @@ fn answered<J: Stream, B: Naming, R: Wait>(
     coordinator: &Coordinator<B>,
     editor: SessionEditor<B>,
     ask: Ask<J>,
-) -> Option<(SessionEditor<B>, Answered<J, B>)> {
+) -> Option<(SessionEditor<B>, Answered<J, B>)>
+    ensures same { IfSome result (λ r. IsSameEditor editor.editor r.0.editor) }
+    ensures fits { IfSome result (λ r. Fits ask.asked r.1.answer) }
+    ensures put { IfSome result (λ r. HasPutFor ask.asked r.1.answer editor.editor r.0.editor) }
+{
     let Ask { place, asked, of } = ask;
     let (editor, answer) = answer_of(rt, coordinator, editor, asked)?;
     let answered = Answered {
@@ -101,37 +111,54 @@ fn answered<J: Stream, B: Naming, R: Wait>(
     Some((editor, answered))
 }
 
-// Answers one line after the other.
+// Answers one line after the other, each behind the one before. The editor comes back, unless all stop.
 fn answer_each<J: Stream, B: Naming, R: Wait>(
     rt: &R,
     coordinator: &Coordinator<B>,
     exchange: &Exchange<J, B>,
     editor: SessionEditor<B>,
-) {
+) -> Option<SessionEditor<B>>
+    requires { editor.editor.put ≡ [] }
+    ensures { IfSome result (λ e. IsSameEditor editor.editor e.editor × ArePutInOrder J.input J.editors e.editor.put) }
+{
     let Some(mailbox) = exchange.sessions.get(editor.session() as usize) else {
         coordinator.stop(rt, StopCause::Internal);
-        return;
+        return None;
     };
     let mut editor = editor;
+    // The least place that the next line may have.
+    let mut next: u64 = 0;
     for _ in rt.forever() {
         let Some(ask) = mailbox.take(rt) else {
-            return;
+            return Some(editor);
         };
+        let place = ask.place;
+        if place < next || place == u64::MAX {
+            coordinator.stop(rt, StopCause::Internal);
+            return None;
+        }
         let Some((back, answered)) = answered(rt, coordinator, editor, ask) else {
-            return;
+            return None;
         };
         editor = back;
+        next = place + 1;
         let _put = exchange.answers.put(rt, answered);
     }
+    unreachable!()
 }
 
-/// Answers the lines that are a session's, one after the other, until no more comes or all stop.
+/// Answers the lines that are a session's, one after the other, until no more comes or all stop. The editor comes back, unless all
+/// stop: what it put, lines asked for, in their order.
 pub fn edit_lines<J: Stream, B: Naming, R: Wait>(
     rt: &R,
     coordinator: &Coordinator<B>,
     exchange: &Exchange<J, B>,
     editor: SessionEditor<B>,
-) {
-    answer_each(rt, coordinator, exchange, editor);
+) -> Option<SessionEditor<B>>
+    requires { editor.editor.put ≡ [] }
+    ensures { IfSome result (λ e. IsSameEditor editor.editor e.editor × ArePutInOrder J.input J.editors e.editor.put) }
+{
+    let back = answer_each(rt, coordinator, exchange, editor);
     coordinator.leave(rt);
+    back
 }

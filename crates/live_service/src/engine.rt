@@ -1,13 +1,19 @@
 // The engine's threads: the committer in the caller's, and one for each editor, each forwarder, the waiter and tables.
-ghost use Rattle.std.specs.Prelude.{◌≡◌, [], All, IfOk, IfSome, IsErrOf, IsOk, OnOk, vec_len, ◌<◌, ◌≤◌};
+ghost use Rattle.std.specs.Prelude.{◌≡◌, ◌⊎◌, ◌+◌, ℕ, [], All, IfOk, IfSome, IsErrOf, IsOk, OnOk, map, true, vec_len, ◌<◌, ◌≤◌};
+ghost use Rattle.atomic_table.specs.Seated.{TableId};
 ghost use Rattle.requests.specs.Tickets.{last_of};
+ghost use Rattle.layout_2.specs.State.{State};
 ghost use Rattle.intake.specs.Editors.{Editing};
+ghost use Rattle.intake.specs.Turns.{of};
 ghost use Rattle.checkpoint.specs.StoreWords.{state_of, view_of};
-ghost use Rattle.committer.specs.CommitterWords.{posts_of, store_of};
-ghost use Rattle.committer.specs.Listed.{IsListedFrom};
+ghost use Rattle.settled_lists.specs.Posted.{ArePosted};
+ghost use Rattle.committer.specs.CommitterWords.{got_of, posts_of, queue_of, store_of, taker_of};
+ghost use Rattle.committer.specs.Listed.{IsListedFrom, StaysListed};
+ghost use Rattle.service_workers.specs.Edited.{IsSameEditor};
 ghost use Rattle.service_threads.specs.Kept.{HasFailed, HasSettledSome, IsFresh, IsServedDisk};
 ghost use Rattle.live_service.specs.Seated.{IsSeated};
 ghost use Rattle.live_service.specs.ServedList.{HasServedAll};
+ghost use Rattle.live_service.specs.Submits.{AreAllEditors, ArePutInOrder};
 
 use crate::editing::edit_lines;
 use crate::exchange::Exchange;
@@ -28,9 +34,11 @@ use service_workers::{
     Coordinator, ForwarderOf, Hooks, Naming, SessionEditor, StopCause, WordSource,
 };
 use std::alloc::{AllocError, Global};
+use std::marker::PhantomData;
+use std::snapshot::Snapshot;
 use std::sync::Wait;
 use std::thread;
-use std::thread::{JoinHandle, Scope, Threads};
+use std::thread::{JoinHandle, Promise, PromisedHandle, Scope, Threads};
 use table_files::TableFiles;
 
 /// The editors, the forwarders and the reader for tables, at the board that `B` names.
@@ -41,20 +49,48 @@ pub struct Seats<B: Naming> {
     pub tables: TablesReader<B>,
 }
 
+// What an editor's thread answers: the editor that it was given, where that comes back. What this has put lines asked for, in their order.
+#[derive(Drop)]
+struct EditorPromise<J: Stream, B: Naming> {
+    editor: Snapshot<SessionEditor<B>>,
+    of: PhantomData<J>,
+}
+
+impl<J: Stream, B: Naming> Promise<Option<SessionEditor<B>>> for EditorPromise<J, B> {
+    ghost use Rattle.std.specs.Prelude.{IfSome};
+    ghost use Rattle.service_workers.specs.Edited.{IsSameEditor};
+    ghost use Rattle.live_service.specs.Submits.{ArePutInOrder};
+
+    ghost kept_by = { λ p r. IfSome r (λ e. IsSameEditor p.editor.value.editor e.editor × ArePutInOrder J.input J.editors e.editor.put) };
+}
+
 // Starts the editors' threads. Where one can't be made all stop.
-fn start_editors<'s, E, J: Stream + Send + Sync, B: Naming + Send + Sync, R: Wait + Sync>(
+fn start_editors<'s, E, J: Stream + Send + Sync, B: Naming + Send + Sync + 's, R: Wait + Sync>(
     scope: &Scope<'s, E>,
     rt: &'s R,
     coordinator: &'s Coordinator<B>,
     exchange: &'s Exchange<J, B>,
     editors: Vec<SessionEditor<B>>,
-    handles: &mut Vec<JoinHandle<()>>,
-) {
+    handles: &mut Vec<PromisedHandle<Option<SessionEditor<B>>, EditorPromise<J, B>>>,
+)
+    requires fresh { All (λ e. e.put ≡ []) (map (λ e. e.editor) editors.items) }
+    requires none { handles.old.items ≡ [] }
+    // They are at the editors' queue.
+    ensures queue { (q : TableId) → All (λ e. e.queue ≡ q) (map (λ e. e.editor) editors.items) → All (λ h. h.promise.editor.value.editor.queue ≡ q) handles.new.items }
+{
     for editor in editors {
         if handles.len() == handles.capacity() {
             return;
         }
-        match scope.spawn(move || edit_lines(rt, coordinator, exchange, editor)) {
+        let promise: EditorPromise<J, B> = EditorPromise {
+            editor: Snapshot::of(&editor),
+            of: PhantomData,
+        };
+        let job = move || -> Option<SessionEditor<B>>
+            requires { editor.editor.put ≡ [] }
+            ensures { IfSome result (λ e. IsSameEditor editor.editor e.editor × ArePutInOrder J.input J.editors e.editor.put) }
+        { edit_lines(rt, coordinator, exchange, editor) };
+        match scope.spawn_with(promise, job) {
             Ok(handle) => handles.push_reserved(handle),
             Err(_) => {
                 coordinator.stop(rt, StopCause::NoThread);
@@ -143,6 +179,72 @@ fn start_waiter<'s, E, J: Stream + Send + Sync, B: Naming + Send + Sync, R: Wait
     }
 }
 
+// Whether all that an editor put has been taken: the mark of its last ticket is on the board. The editor ends.
+fn has_left_none<B: Naming, D: Disk, Q: Wait + Drop>(
+    board: &History,
+    committer: &mut Committer<D, Q>,
+    editor: SessionEditor<B>,
+) -> bool
+    requires opening { board.now.opening ≡ B.opening }
+    requires posted { (first : State) × ArePosted first (got_of committer.old) board.now.log }
+    requires queue { editor.editor.queue ≡ queue_of committer.old }
+    ensures taken { result ≡ true → editor.editor.put ≡ of editor.editor.session (got_of committer.old) }
+    ensures same { (store_of committer.new ≡ store_of committer.old) × ((got_of committer.new ≡ got_of committer.old) × (queue_of committer.new ≡ queue_of committer.old)) }
+{
+    let known = editor.known();
+    let _watcher = committer.end(editor.into_editor());
+    board.covers(&known)
+}
+
+// For how many sessions, from 0, the editor has come back and all that it put has been taken, with one editor more.
+fn ended_next<J: Stream, B: Naming, D: Disk, Q: Wait + Drop>(
+    served: bool,
+    board: &History,
+    committer: &mut Committer<D, Q>,
+    ended: usize,
+    back: Option<SessionEditor<B>>,
+) -> usize
+    requires opening { served ≡ true → board.now.opening ≡ B.opening }
+    requires posted { (first : State) × ArePosted first (got_of committer.old) board.now.log }
+    requires queue { IfSome back (λ e. e.editor.queue ≡ queue_of committer.old) }
+    requires put { IfSome back (λ e. ArePutInOrder J.input J.editors e.editor.put) }
+    ensures more { (result ≡ ended) ⊎ ((result ≡ ended + 1) × ArePutInOrder J.input J.editors (of ended (got_of committer.old))) }
+    ensures same { (store_of committer.new ≡ store_of committer.old) × ((got_of committer.new ≡ got_of committer.old) × (queue_of committer.new ≡ queue_of committer.old)) }
+{
+    let Some(editor) = back else {
+        return ended;
+    };
+    if !served || editor.session() as usize != ended {
+        return ended;
+    }
+    if !has_left_none::<B, D, Q>(board, committer, editor) {
+        return ended;
+    }
+    ended + 1
+}
+
+// Joins the editors' threads, and answers for how many sessions, from 0, the editor came back and all that it put has been taken.
+fn ended_editors<J: Stream, B: Naming, D: Disk, Q: Wait + Drop, R: Threads + Wait>(
+    rt: &R,
+    served: bool,
+    board: &History,
+    committer: &mut Committer<D, Q>,
+    handles: Vec<PromisedHandle<Option<SessionEditor<B>>, EditorPromise<J, B>>>,
+) -> usize
+    requires opening { served ≡ true → board.now.opening ≡ B.opening }
+    requires posted { (first : State) × ArePosted first (got_of committer.old) board.now.log }
+    requires queue { All (λ h. h.promise.editor.value.editor.queue ≡ queue_of committer.old) handles.items }
+    ensures put { (session : ℕ) → session < result → ArePutInOrder J.input J.editors (of session (got_of committer.old)) }
+    ensures store { store_of committer.new ≡ store_of committer.old }
+{
+    let mut ended: usize = 0;
+    for handle in handles {
+        let back = handle.join(rt);
+        ended = ended_next::<J, B, D, Q>(served, board, committer, ended, back);
+    }
+    ended
+}
+
 // Joins the threads. Behind a fault the waiter sleeps until no answer comes any more; else it answers its lines first.
 fn joined<J: Stream, B: Naming, R: Threads + Wait>(
     rt: &R,
@@ -151,9 +253,6 @@ fn joined<J: Stream, B: Naming, R: Threads + Wait>(
     handles: Vec<JoinHandle<()>>,
     waiter: Option<JoinHandle<()>>,
 ) {
-    if coordinator.stopped(rt) {
-        exchange.shut(rt);
-    }
     for handle in handles {
         handle.join(rt);
     }
@@ -166,21 +265,24 @@ fn joined<J: Stream, B: Naming, R: Threads + Wait>(
 }
 
 // Why the threads stopped, if they did, and else what was posted. What the committer itself met goes before what another thread met; of
-// the device it alone knows.
+// the device it alone knows. If nothing stopped them, all that editors put was taken, or two parts disagree.
 fn ended(
     own: Result<(), StopCause>,
     cause: Option<StopCause>,
+    all_taken: bool,
     board: History,
 ) -> Result<History, StopCause>
     ensures device { IsErrOf result StopCause.Device → IsErrOf own StopCause.Device }
     ensures board { IfOk result (λ b. b ≡ board) }
     ensures own { OnOk result (IsOk own) }
+    ensures all { OnOk result (all_taken ≡ true) }
 {
     match (own, cause) {
         (Err(cause), _) => Err(cause),
         (Ok(()), Some(StopCause::Device)) => Err(StopCause::Internal),
         (Ok(()), Some(cause)) => Err(cause),
-        (Ok(()), None) => Ok(board),
+        (Ok(()), None) if all_taken => Ok(board),
+        (Ok(()), None) => Err(StopCause::Internal),
     }
 }
 
@@ -208,9 +310,10 @@ fn threads<
     requires opening { (posts_of committer).opening ≡ B.opening }
     requires fresh { IsFresh committer }
     requires listed { IsListedFrom (state_of (store_of committer)) committer }
+    requires editors { AreAllEditors (taker_of committer) (map (λ e. e.editor) seats.editors.items) }
     ensures settled { HasSettledSome (state_of (store_of committer)) (view_of (store_of committer)) (view_of result.1) }
     ensures device { IsErrOf result.0 StopCause.Device → HasFailed (view_of (store_of committer)) (view_of result.1) }
-    ensures all { IfOk result.0 (λ board. (board.opening ≡ B.opening) × HasServedAll (store_of committer) board (view_of result.1)) }
+    ensures all { IfOk result.0 (λ board. (board.opening ≡ B.opening) × HasServedAll (store_of committer) J.input J.editors board (view_of result.1)) }
 {
     thread::scope(
         thread::scope_env(),
@@ -219,9 +322,10 @@ fn threads<
             requires opening { (posts_of committer).opening ≡ B.opening }
             requires fresh { IsFresh committer }
             requires listed { IsListedFrom (state_of (store_of committer)) committer }
+            requires editors { AreAllEditors (taker_of committer) (map (λ e. e.editor) seats.editors.items) }
             ensures settled { HasSettledSome (state_of (store_of committer)) (view_of (store_of committer)) (view_of result.1) }
             ensures device { IsErrOf result.0 StopCause.Device → HasFailed (view_of (store_of committer)) (view_of result.1) }
-            ensures all { IfOk result.0 (λ board. (board.opening ≡ B.opening) × HasServedAll (store_of committer) board (view_of result.1)) }
+            ensures all { IfOk result.0 (λ board. (board.opening ≡ B.opening) × HasServedAll (store_of committer) J.input J.editors board (view_of result.1)) }
         {
             let mut committer = committer;
             let mut rebuilds = rebuilds;
@@ -230,15 +334,16 @@ fn threads<
                 forwarders,
                 tables: reader,
             } = seats;
+            let sessions = editors.len();
+            let Ok(mut editing) = Vec::with_capacity(alloc, sessions) else {
+                return (Err(StopCause::Memory), committer.into_store());
+            };
             // The thread that puts tables is one more.
-            let count = editors
-                .len()
-                .saturating_add(forwarders.len())
-                .saturating_add(1);
+            let count = forwarders.len().saturating_add(1);
             let Ok(mut handles) = Vec::with_capacity(alloc, count) else {
                 return (Err(StopCause::Memory), committer.into_store());
             };
-            start_editors(scope, rt, coordinator, exchange, editors, &mut handles);
+            start_editors(scope, rt, coordinator, exchange, editors, &mut editing);
             start_forwarders(
                 scope,
                 rt,
@@ -267,10 +372,14 @@ fn threads<
                 &mut committer,
                 &mut rebuilds,
             );
-            joined(rt, coordinator, exchange, handles, waiter);
             let board = committer.told().history();
+            if coordinator.stopped(rt) {
+                exchange.shut(rt);
+            }
+            let taken = ended_editors(rt, own.is_ok(), &board, &mut committer, editing);
+            joined(rt, coordinator, exchange, handles, waiter);
             (
-                ended(own, coordinator.cause(rt), board),
+                ended(own, coordinator.cause(rt), taken == sessions, board),
                 committer.into_store(),
             )
         },
@@ -300,9 +409,10 @@ fn run<
     requires opening { (posts_of committer).opening ≡ B.opening }
     requires fresh { IsFresh committer }
     requires listed { IsListedFrom (state_of (store_of committer)) committer }
+    requires editors { AreAllEditors (taker_of committer) (map (λ e. e.editor) seats.editors.items) }
     ensures settled { HasSettledSome (state_of (store_of committer)) (view_of (store_of committer)) (view_of result.1) }
     ensures device { IsErrOf result.0 StopCause.Device → HasFailed (view_of (store_of committer)) (view_of result.1) }
-    ensures all { IfOk result.0 (λ board. (board.opening ≡ B.opening) × HasServedAll (store_of committer) board (view_of result.1)) }
+    ensures all { IfOk result.0 (λ board. (board.opening ≡ B.opening) × HasServedAll (store_of committer) J.input J.editors board (view_of result.1)) }
 {
     let mut committer = committer;
     let Ok(mut rebuilds) = Rebuilds::new(alloc, source, rounds) else {
@@ -333,6 +443,7 @@ fn named<B: Naming>(
     requires named { All (λ e. e.known.opening ≡ B.opening) editors.items }
     requires fresh { All (λ e. e.put ≡ []) editors.items }
     requires start { All (λ e. e.start ≡ last_of B.opening.starts e.session) editors.items }
+    ensures { IfOk result (λ all. map (λ e. e.editor) all.items ≡ editors.items) }
 {
     let mut all = Vec::new(alloc);
     for editor in editors {
@@ -386,6 +497,7 @@ fn seat_all<B: Naming>(
     requires begins { starts.now ≡ B.opening.starts }
     ensures starts { IfOk result (λ r. r.0.starts ≡ starts.now) }
     ensures got { IfOk result (λ r. r.0.got ≡ []) }
+    ensures editors { IfOk result (λ r. AreAllEditors r.0 (map (λ e. e.editor) r.1.editors.items)) }
 {
     let mut readers = readers;
     let tables = reader_for_tables::<B>(&mut readers);
@@ -418,7 +530,7 @@ fn seat<
 ) -> (Result<History, StopCause>, Store<D>)
     ensures settled { HasSettledSome (state_of parts.opened.store) (view_of parts.opened.store) (view_of result.1) }
     ensures device { IsErrOf result.0 StopCause.Device → HasFailed (view_of parts.opened.store) (view_of result.1) }
-    ensures all { IfOk result.0 (λ board. (board.opening ≡ B.opening) × HasServedAll parts.opened.store board (view_of result.1)) }
+    ensures all { IfOk result.0 (λ board. (board.opening ≡ B.opening) × HasServedAll parts.opened.store J.input J.editors board (view_of result.1)) }
 {
     let EngineParts {
         opened,
@@ -470,7 +582,7 @@ pub fn engine<
 ) -> (Result<History, StopCause>, D)
     ensures settled { HasSettledSome (state_of parts.opened.store) (view_of parts.opened.store) (D.view result.1) }
     ensures device { IsErrOf result.0 StopCause.Device → HasFailed (view_of parts.opened.store) (D.view result.1) }
-    ensures all { IfOk result.0 (λ board. (board.opening ≡ B.opening) × HasServedAll parts.opened.store board (D.view result.1)) }
+    ensures all { IfOk result.0 (λ board. (board.opening ≡ B.opening) × HasServedAll parts.opened.store J.input J.editors board (D.view result.1)) }
 {
     let (result, store) = seat::<J, B, D, G, T, Q, R>(rt, alloc, parts, hooks, exchange);
     exchange.shut(rt);

@@ -14,6 +14,9 @@
 //! lines of answers were printed of which just those are verdicts whose line is an edit; a fault but that of the printing has printed
 //! nothing (`IsServed` and `IsServedSo` of `service_lines`).
 //!
+//! A fault is told on a `FaultWriter` of `command_output`, which `WatchedWriter` makes of any writer. Where one of these calls answers
+//! that a fault wasn't told, a write of this very writer has failed.
+//!
 //! The contract of [`serve_live`] says more of each line. Unless input or output failed, what is printed is lines of
 //! answers and nothing else: the k-th fits what the k-th line of the input asks for (`PrintsTo` of `specs/Runs`), and if no fault
 //! ended the service each line has one. The lines are those of an input whose bytes are known. If the disk comes back, it is the very
@@ -21,14 +24,16 @@
 //! told, and is true of the device (`IsServeEnd`).
 //!
 //! Where no fault ended a service, all its answers are of one list of requests, which it took from the state of the opened device on
-//! (`AreOfOneList` of `specs/ServedList`): a verdict is the mark that settling the first of them gives this session and this ticket, and
-//! an edit that is in already has a ticket that was taken before. Each generation serves the graph of the state that its number names. A route is the
+//! (`AreOfOneList` of `specs/ServedList`). Each session's are edits that lines of the input ask for, in the order of the lines, each line
+//! at most once (`ArePutInOrder` of `specs/Submits`). A verdict is the mark that settling the first of them gives this session and this
+//! ticket, and an edit that is in already has a ticket that was taken before. Each generation serves the graph of the state that its number names. A route is the
 //! way that a packet goes there, and so are addresses, launches and hops by the scheme of their generation (`IsSaidIn` of
 //! `specs/OneList`). The device holds the state after all of the requests. Nothing of this kind is said of `resume`, `tables`, `state`
 //! and `wait`, nor of a way's length. The same holds of a script.
 //!
 //! ```text
-//! let (served, disk) = serve_live(&rt, alloc, disk, words, config, 16, input, &NoHooks, &mut out, &mut err);
+//! let mut err = WatchedWriter::new(rt.stderr());
+//! let (served, disk) = serve_live(&rt, alloc, disk, words, config, 16, input, &NoHooks, tables, &mut out, &mut err);
 //! // edit 0 - add:0:1:1    0 1 accepted count=1
 //! // wait                  generation=1
 //! // route 0 1             generation=1 route 0 1 length 1     (sent once the answer to `wait` was read)

@@ -38,20 +38,22 @@ use std::thread;
 use std::thread::{Promise, PromisedHandle, Scope, Threads};
 use table_files::TableFiles;
 
-// What the engine's thread answers of the disk that the store was on, and of the board that `B` names.
+// What the engine's thread answers of the disk that the store was on, of its input, and of the board that `B` names.
 #[derive(Drop)]
-struct EnginePromise<B: Naming, D: Disk> {
+struct EnginePromise<J: Stream, B: Naming, D: Disk> {
     store: Snapshot<Store<D>>,
-    of: PhantomData<B>,
+    of: PhantomData<J>,
+    at: PhantomData<B>,
 }
 
-impl<B: Naming, D: Disk> Promise<(Result<History, StopCause>, D)> for EnginePromise<B, D> {
+impl<J: Stream, B: Naming, D: Disk> Promise<(Result<History, StopCause>, D)>
+    for EnginePromise<J, B, D> {
     ghost use Rattle.std.specs.Prelude.{◌≡◌, IfOk};
     ghost use Rattle.service_threads.specs.Kept.{IsServedDisk};
     ghost use Rattle.live_service.specs.ServedList.{HasServedAll};
 
     ghost kept_by = { λ p r. IsServedDisk p.store.value r.0 (D.view r.1)
-        × IfOk r.0 (λ board. (board.opening ≡ B.opening) × HasServedAll p.store.value board (D.view r.1)) };
+        × IfOk r.0 (λ board. (board.opening ≡ B.opening) × HasServedAll p.store.value J.input J.editors board (D.view r.1)) };
 }
 
 // What the reader's thread answers of its input.
@@ -154,13 +156,13 @@ fn conclude<J: Stream, C: Console<J>, R: Threads>(
 }
 
 // Waits for the engine. The disk comes back, unless it had no thread.
-fn join_engine<B: Naming, D: Disk, R: Threads>(
+fn join_engine<J: Stream, B: Naming, D: Disk, R: Threads>(
     rt: &R,
-    engine: Option<PromisedHandle<(Result<History, StopCause>, D), EnginePromise<B, D>>>,
+    engine: Option<PromisedHandle<(Result<History, StopCause>, D), EnginePromise<J, B, D>>>,
 ) -> (Result<History, StopCause>, Option<D>)
     ensures disk { (store : Store D D.Disk) → IfSome engine (λ handle. handle.promise.store.value ≡ store) → IfSome result.1 (λ d. IsServedDisk store result.0 (D.view d)) }
     ensures opening { IfOk result.0 (λ board. board.opening ≡ B.opening) }
-    ensures all { (store : Store D D.Disk) → IfSome engine (λ handle. handle.promise.store.value ≡ store) → IfOk result.0 (λ board. IsSomeAnd result.1 (λ d. HasServedAll store board (D.view d))) }
+    ensures all { (store : Store D D.Disk) → IfSome engine (λ handle. handle.promise.store.value ≡ store) → IfOk result.0 (λ board. IsSomeAnd result.1 (λ d. HasServedAll store J.input J.editors board (D.view d))) }
 {
     match engine {
         Some(engine) => {
@@ -189,12 +191,13 @@ fn start_engine<
     parts: EngineParts<B, D, T, Q>,
     hooks: &'s G,
     exchange: &'s Exchange<J, B>,
-) -> Option<PromisedHandle<(Result<History, StopCause>, D), EnginePromise<B, D>>>
+) -> Option<PromisedHandle<(Result<History, StopCause>, D), EnginePromise<J, B, D>>>
     ensures { IfSome result (λ handle. handle.promise.store.value ≡ parts.opened.store) }
 {
-    let promise: EnginePromise<B, D> = EnginePromise {
+    let promise: EnginePromise<J, B, D> = EnginePromise {
         store: Snapshot::of(&parts.opened.store),
         of: PhantomData,
+        at: PhantomData,
     };
     // The closure takes each part by itself: so the proof that it may go to another thread finds the rule for each.
     let EngineParts {
@@ -214,7 +217,7 @@ fn start_engine<
         requires board { IsBoardOf B.opening (state_of store) writer readers.items }
         requires up { is_down store ≡ false }
         ensures served { IsServedDisk store result.0 (D.view result.1) }
-        ensures all { IfOk result.0 (λ board. (board.opening ≡ B.opening) × HasServedAll store board (D.view result.1)) }
+        ensures all { IfOk result.0 (λ board. (board.opening ≡ B.opening) × HasServedAll store J.input J.editors board (D.view result.1)) }
     {
         let opened = Opened {
             config,
@@ -262,14 +265,14 @@ pub(crate) fn threads<
     console: C,
 ) -> (C, Served, Option<D>)
     requires given { L.has_given lines 0 }
-    ensures { HasRun C.prints C.finishes J.input parts.opened.store console result.0 result.1 result.2 }
+    ensures { HasRun C.prints C.finishes J.input J.editors parts.opened.store console result.0 result.1 result.2 }
 {
     thread::scope(
         thread::scope_env(),
         rt,
         |scope| -> (C, Served, Option<D>)
             requires given { L.has_given lines 0 }
-            ensures { HasRun C.prints C.finishes J.input parts.opened.store console result.0 result.1 result.2 }
+            ensures { HasRun C.prints C.finishes J.input J.editors parts.opened.store console result.0 result.1 result.2 }
         {
             let engine_thread = start_engine(scope, rt, alloc, parts, hooks, exchange);
             if engine_thread.is_none() {

@@ -1,5 +1,5 @@
 // A script on a device: the live service's engine runs it, and its answers are printed at the end.
-ghost use Rattle.std.specs.Prelude.{◌≡◌, ◌≢◌, ◌≤◌, ◌⊎◌, IfErr, IfOk, IsSomeAnd, OnOk, Some};
+ghost use Rattle.std.specs.Prelude.{◌≡◌, ◌≢◌, ◌≤◌, ◌⊎◌, IfErr, IfOk, IsSomeAnd, IsTrue, OnOk, Some};
 ghost use Rattle.command_output.specs.declared.fault.Fault.{Fault};
 ghost use Rattle.command_output.specs.Faults.{status_of};
 ghost use Rattle.written_values.specs.Scripts.{AreOfSessions};
@@ -7,7 +7,7 @@ ghost use Rattle.service_threads.specs.Config.{IsServiceConfig};
 ghost use Rattle.service_threads.specs.Kept.{IsLeftBy};
 ghost use Rattle.service_lines.specs.ServedLines.{IsServed, IsServedSo, IsServeEnd};
 ghost use Rattle.service_lines.specs.declared.served.Served.{Served};
-ghost use Rattle.live_service.specs.Ends.{fault_of};
+ghost use Rattle.live_service.specs.Ends.{IsToldOrFailed, fault_of};
 ghost use Rattle.live_service.specs.Inputs.{Script};
 ghost use Rattle.live_service.specs.Runs.{HasServedScript};
 ghost use Rattle.live_service.specs.ServedList.{HasAnsweredScript};
@@ -18,7 +18,7 @@ use crate::opened::{EngineConfig, Opened};
 use crate::script_source::ScriptSource;
 use crate::serving::{seated, serve_opened, take_back};
 use checkpoint::standing_law;
-use command_output::{Fault, tell};
+use command_output::{Fault, FaultWriter};
 use disk_trait::Disk;
 use service_lines::{Served, fault_of as told_fault};
 use service_threads::{ServiceConfig, open_device};
@@ -193,11 +193,13 @@ where
     G: Hooks + Sync,
     R: Threads + Wait + Sync,
     O: Write,
-    E: Write,
+    E: FaultWriter,
     requires config { IsServiceConfig config }
     requires sessions { AreOfSessions config.editors script.items }
     ensures so { IsServedSo D.Disk disk words result.1 script.items (O.contents out.old) (O.contents out.new) (E.contents err.old) (E.contents err.new) result.0 }
     ensures quiet { result.0 ≡ Served.Printed → err.new ≡ err.old }
+    // A fault that wasn't told couldn't be: a write of this writer has failed.
+    ensures untold { (fault : Fault) → result.0 ≡ Served.Untold fault → IsTrue (E.has_failed err.new) }
     // No line is printed where the service gives no answers.
     ensures untouched { (fault : Fault) → (result.0 ≡ Served.Told fault) ⊎ (result.0 ≡ Served.Untold fault) → fault ≢ Fault.Output → out.new ≡ out.old }
     ensures left { IsLeftBy D.Disk disk result.1 }
@@ -206,7 +208,7 @@ where
     let (result, disk) = serve_lines(rt, alloc, disk, words, config, script, hooks, out);
     match result {
         Ok(()) => (Served::Printed, disk),
-        Err(fault) => match tell(err, fault) {
+        Err(fault) => match err.tell(fault) {
             Ok(()) => (Served::Told(fault), disk),
             Err(_) => (Served::Untold(fault), disk),
         },
@@ -231,12 +233,13 @@ where
     G: Hooks + Sync,
     R: Threads + Wait + Sync,
     O: Write,
-    E: Write,
+    E: FaultWriter,
     requires config { IsServiceConfig config }
     requires sessions { AreOfSessions config.editors script.items }
     ensures few { result.0 ≤ 2 }
     ensures done { result.0 ≡ 0 → IsServed script.items (O.contents out.old) (O.contents out.new) × (err.new ≡ err.old) }
-    ensures fault { (result.0 ≡ 0) ⊎ ((fault : Fault) × IsServeEnd D.Disk disk words result.1 fault × (result.0 ≡ status_of fault) × (fault ≢ Fault.Output → out.new ≡ out.old)) }
+    ensures fault { (result.0 ≡ 0) ⊎ ((fault : Fault) × IsServeEnd D.Disk disk words result.1 fault × (result.0 ≡ status_of fault)
+        × (fault ≢ Fault.Output → out.new ≡ out.old) × IsToldOrFailed (E.contents err.old) (E.contents err.new) (E.has_failed err.new) fault) }
     ensures left { IsLeftBy D.Disk disk result.1 }
     ensures one_list { result.0 ≡ 0 → IsSomeAnd result.1 (λ d. HasAnsweredScript D.Disk disk d (Script script.items) config.editors (O.contents out.old) (O.contents out.new)) }
 {

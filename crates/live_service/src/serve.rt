@@ -1,5 +1,6 @@
 // The live service on a device.
-ghost use Rattle.std.specs.Prelude.{◌≡◌, IfSome, IsSomeAnd};
+ghost use Rattle.std.specs.Prelude.{◌≡◌, IfSome, IsSomeAnd, IsTrue};
+ghost use Rattle.command_output.specs.declared.fault.Fault.{Fault};
 ghost use Rattle.service_threads.specs.Config.{IsServiceConfig};
 ghost use Rattle.service_threads.specs.Kept.{IsLeftBy};
 ghost use Rattle.service_lines.specs.ServedLines.{IsServeEnd};
@@ -15,6 +16,7 @@ use crate::messages::Stream;
 use crate::opened::{EngineConfig, Opened};
 use crate::serving::{seated, serve_opened, take_back};
 use checkpoint::standing_law;
+use command_output::FaultWriter;
 use disk_trait::Disk;
 use service_lines::{Served, fault_of as told_fault};
 use service_threads::{ServiceConfig, open_device};
@@ -45,11 +47,12 @@ where
     R: Threads + Wait + Sync,
     S: BufRead + Send + Drop,
     O: Write,
-    E: Write,
+    E: FaultWriter,
     requires editors { opened.config.service.editors ≡ J.editors }
     requires input { J.input ≡ Bytes (S.remaining input) }
     ensures printed { PrintsTo J.input J.editors (O.contents out.old) (O.contents out.new) result.0 }
     ensures told { HasToldSo (E.contents err.old) (E.contents err.new) result.0 }
+    ensures untold { (fault : Fault) → result.0 ≡ Served.Untold fault → IsTrue (E.has_failed err.new) }
     ensures ended { HasEnded opened.store result.0 result.1 }
     ensures one_list { result.0 ≡ Served.Printed → HasPrintedOn opened.store J.input J.editors (O.contents out.old) (O.contents out.new) result.1 }
 {
@@ -95,11 +98,13 @@ where
     R: Threads + Wait + Sync,
     S: BufRead + Send + Drop,
     O: Write,
-    E: Write,
+    E: FaultWriter,
     requires config { IsServiceConfig config }
     // Lines of answers, the k-th to the k-th line of the input, where its bytes are known. Nothing is said where the output failed.
     ensures printed { PrintsTo (Bytes (S.remaining input)) config.editors (O.contents out.old) (O.contents out.new) result.0 }
     ensures told { HasToldSo (E.contents err.old) (E.contents err.new) result.0 }
+    // A fault that wasn't told couldn't be: a write of this writer has failed.
+    ensures untold { (fault : Fault) → result.0 ≡ Served.Untold fault → IsTrue (E.has_failed err.new) }
     // A fault is true of the device.
     ensures ended { IfSome (fault_of result.0) (λ fault. IsServeEnd D.Disk disk words result.1 fault) }
     // The very device comes back: a crash at any moment leaves the state after a beginning of the requests that were taken.

@@ -66,7 +66,7 @@ fn unstarted<J: Stream, D: Disk + Drop, T: Drop, C: Console<J>>(
     opened: Opened<D, T>,
     console: C,
 ) -> (C, Served, Option<D>)
-    ensures { HasRun C.prints C.finishes J.input opened.store console result.0 result.1 result.2 }
+    ensures { HasRun C.prints C.finishes J.input J.editors opened.store console result.0 result.1 result.2 }
 {
     let (console, served) = console.finish(Some(Fault::Memory));
     let Opened {
@@ -101,7 +101,7 @@ where
     C: Console<J> + Drop,
     requires board { IsBoardOf B.opening (state_of opened.store) writer readers.items }
     requires given { L.has_given lines 0 }
-    ensures { HasRun C.prints C.finishes J.input opened.store console result.0 result.1 result.2 }
+    ensures { HasRun C.prints C.finishes J.input J.editors opened.store console result.0 result.1 result.2 }
 {
     let service = opened.config.service;
     let known = writer.tell().history();
@@ -138,7 +138,7 @@ where
     L: LineSource<J> + Send + Drop,
     C: Console<J> + Drop,
     requires given { L.has_given lines 0 }
-    ensures { HasRun C.prints C.finishes J.input opened.store console result.0 result.1 result.2 }
+    ensures { HasRun C.prints C.finishes J.input J.editors opened.store console result.0 result.1 result.2 }
 {
     match board_of(rt, alloc, &opened.config, &opened.store) {
         Ok((writer, readers)) => serve_at_board::<J, Brand, D, G, T, &R, R, L, C>(

@@ -1,6 +1,7 @@
 // What the tests share: devices, and services that are run on them.
 use crate::places::NoFiles;
 use checkpoint::{DEVICE_LEN, Store, format};
+use command_output::WatchedWriter;
 use disk_trait::{Disk, MemDisk};
 use live_service::serve_live;
 use service_lines::Served;
@@ -119,7 +120,7 @@ where
         hooks,
         tables,
         out,
-        err,
+        &mut WatchedWriter::new(err),
     )
 }
 

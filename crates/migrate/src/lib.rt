@@ -12,7 +12,8 @@
 //!   new device, by its content and by every image that a crash may leave from then on, for the same count and network, no ticket taken
 //!   (`HasMoved` of specs/Moved.antt).
 //! - BadLength comes exactly where the new device has another length than layout 2's. NotFormatted, BadVersion and Damaged come only where
-//!   the old content stands for nothing, each by its front. With each refusal but NewDevice the new device is as it was.
+//!   the old content stands for nothing, each by its front (`TellsOfOld` of specs/Refused.antt). With each refusal but NewDevice the new
+//!   device is as it was.
 //! - OldDevice and NewDevice come only where a call of that device failed. With NewDevice the new one isn't to be used. Where it had no
 //!   front of layout 2 before, as a device of zeros, a crash at any moment of the call leaves of it nothing or the whole (`any_moment`).
 //!

@@ -1,13 +1,12 @@
 //! Bringing a state over.
-ghost use Rattle.std.specs.Prelude.{◌≡◌, ◌≢◌, ◌≤◌, ◌<◌, ◌↔◌, ℕ, List, length, IsTrue, IfOk, OnOk, IsErr, IsErrOf};
+ghost use Rattle.std.specs.Prelude.{◌≡◌, ◌≢◌, ◌≤◌, ◌↔◌, length, IsTrue, IfErr, IfOk, OnOk, IsErr, IsErrOf};
 ghost use Rattle.std.specs.FinMap.{len};
-ghost use Rattle.disk_trait.specs.Disk.{AtMostCalls, IsSameDevice, LeavesOnly, OnlyRead};
+ghost use Rattle.disk_trait.specs.Disk.{AtMostCalls, IsSameDevice, OnlyRead};
 ghost use Rattle.graph_edits.specs.Edges.{Network};
-ghost use Rattle.layout_1.specs.Fronts.{HasOtherVersion, HasThisVersion, LacksMagic};
-ghost use Rattle.layout_1.specs.Standing.{StandsForNone};
+ghost use Rattle.layout_1.specs.Fronts.{HasThisVersion};
 ghost use Rattle.layout_2.specs.Layout.{device_len, worn_limit};
-ghost use Rattle.checkpoint.specs.Whole.{IsAllForeign};
-ghost use Rattle.migrate.specs.Moved.{Held, HasMoved, HoldsNoneOrAllOf};
+ghost use Rattle.migrate.specs.Moved.{MovesAll, MovesAllOfCount, MovesWholly, ReadsHeld};
+ghost use Rattle.migrate.specs.Refused.{NoneFailed, TellsOfNew, TellsOfOld};
 
 use crate::refusals::MigrateRefused;
 use checkpoint::{DEVICE_LEN, WriteRefused, write_state};
@@ -27,15 +26,10 @@ pub struct Moved {
 
 // The count and the network that a device of layout 1 holds. It syncs, and writes nothing.
 fn read_old<O: Disk>(alloc: Global, old: &mut O) -> Result<(u64, Graph), MigrateRefused>
-    ensures ok { IsTrue (O.view old.old).keeps_model → IfOk result (λ held. Held held.0 held.1 (O.view old.old).content) }
+    ensures ok { ReadsHeld (O.view old.old) result }
     ensures fits { IfOk result (λ held. held.0 ≤ worn_limit) }
     ensures this_version { IsTrue (O.view old.old).keeps_model → OnOk result (HasThisVersion (O.view old.old).content) }
-    ensures not_formatted { IsTrue (O.view old.old).keeps_model → IsErrOf result MigrateRefused.NotFormatted → LacksMagic (O.view old.old).content × StandsForNone (O.view old.old).content }
-    ensures bad_version { IsTrue (O.view old.old).keeps_model → IsErrOf result MigrateRefused.BadVersion → HasOtherVersion (O.view old.old).content × StandsForNone (O.view old.old).content }
-    ensures damaged { IsTrue (O.view old.old).keeps_model → IsErrOf result MigrateRefused.Damaged → HasThisVersion (O.view old.old).content × StandsForNone (O.view old.old).content }
-    ensures memory { IsTrue (O.view old.old).keeps_model → IsErrOf result MigrateRefused.Memory → HasThisVersion (O.view old.old).content }
-    ensures old_served { IsErr result → ¬ (IsErrOf result MigrateRefused.OldDevice) → (O.view old.new).failures ≡ (O.view old.old).failures }
-    ensures old_device { IsErrOf result MigrateRefused.OldDevice → (O.view old.old).failures < (O.view old.new).failures }
+    ensures refused { IfErr result (λ e. TellsOfOld e (O.view old.old) (O.view old.new)) }
     ensures others { ¬ (IsErrOf result MigrateRefused.BadLength) × ¬ (IsErrOf result MigrateRefused.NewDevice) }
     ensures no_failure { OnOk result ((O.view old.new).failures ≡ (O.view old.old).failures) }
     ensures only_read { IsTrue (O.view old.old).keeps_model → OnlyRead (O.view old.old) (O.view old.new) }
@@ -66,25 +60,19 @@ pub fn bring_over<O: Disk, N: Disk>(
     old: &mut O,
     new: &mut N,
 ) -> Result<Moved, MigrateRefused>
-    ensures ok { IsTrue (O.view old.old).keeps_model → IsTrue (N.view new.old).keeps_model → IfOk result (λ moved. HasMoved moved (O.view old.old).content (N.view new.new)) }
+    ensures ok { MovesAll (O.view old.old) (N.view new.old) (N.view new.new) result }
     ensures fits { IfOk result (λ moved. moved.count ≤ worn_limit) }
     // Also of disks that don't keep the model the edges are those of a network.
     ensures of_one { IfOk result (λ moved. (graph : Network) × (moved.edges ≡ len graph.edges)) }
     ensures bad_length { IsErrOf result MigrateRefused.BadLength ↔ (length (N.view new.old).content ≢ device_len) }
-    ensures not_formatted { IsTrue (O.view old.old).keeps_model → IsErrOf result MigrateRefused.NotFormatted → LacksMagic (O.view old.old).content × StandsForNone (O.view old.old).content }
-    ensures bad_version { IsTrue (O.view old.old).keeps_model → IsErrOf result MigrateRefused.BadVersion → HasOtherVersion (O.view old.old).content × StandsForNone (O.view old.old).content }
-    ensures damaged { IsTrue (O.view old.old).keeps_model → IsErrOf result MigrateRefused.Damaged → HasThisVersion (O.view old.old).content × StandsForNone (O.view old.old).content }
-    ensures memory { IsTrue (O.view old.old).keeps_model → IsErrOf result MigrateRefused.Memory → HasThisVersion (O.view old.old).content }
-    ensures old_served { IsErr result → ¬ (IsErrOf result MigrateRefused.OldDevice) → (O.view old.new).failures ≡ (O.view old.old).failures }
-    ensures old_device { IsErrOf result MigrateRefused.OldDevice → (O.view old.old).failures < (O.view old.new).failures }
-    ensures new_device { IsErrOf result MigrateRefused.NewDevice → (N.view new.old).failures < (N.view new.new).failures }
-    ensures no_failure { OnOk result (((O.view old.new).failures ≡ (O.view old.old).failures) × ((N.view new.new).failures ≡ (N.view new.old).failures)) }
+    ensures refused { IfErr result (λ e. TellsOfOld e (O.view old.old) (O.view old.new)) }
+    ensures new_device { TellsOfNew result (N.view new.old) (N.view new.new) }
+    ensures no_failure { OnOk result (NoneFailed (O.view old.old) (O.view old.new) (N.view new.old) (N.view new.new)) }
     ensures only_read { IsTrue (O.view old.old).keeps_model → OnlyRead (O.view old.old) (O.view old.new) }
     ensures not_opened { IsErrOf result MigrateRefused.BadLength → old.new ≡ old.old }
     ensures untouched { IsErr result → ¬ (IsErrOf result MigrateRefused.NewDevice) → new.new ≡ new.old }
     ensures calls { AtMostCalls 10 (N.view new.old) (N.view new.new) }
-    ensures any_moment { IsTrue (O.view old.old).keeps_model → IsTrue (N.view new.old).keeps_model → IsAllForeign (N.view new.old)
-        → LeavesOnly (N.view new.old) (N.view new.new) (HoldsNoneOrAllOf (O.view old.old).content) }
+    ensures any_moment { MovesWholly (O.view old.old) (N.view new.old) (N.view new.new) }
     ensures ran_old { IsSameDevice (O.view old.old) (O.view old.new) }
     ensures ran_new { IsSameDevice (N.view new.old) (N.view new.new) }
 {
@@ -109,23 +97,17 @@ pub fn migrate<O: Disk, N: Disk>(
     old: &mut O,
     new: &mut N,
 ) -> Result<u64, MigrateRefused>
-    ensures ok { IsTrue (O.view old.old).keeps_model → IsTrue (N.view new.old).keeps_model → IfOk result (λ count. (edges : ℕ) × HasMoved (record { count = count; edges = edges }) (O.view old.old).content (N.view new.new)) }
+    ensures ok { MovesAllOfCount (O.view old.old) (N.view new.old) (N.view new.new) result }
     ensures fits { IfOk result (λ count. count ≤ worn_limit) }
     ensures bad_length { IsErrOf result MigrateRefused.BadLength ↔ (length (N.view new.old).content ≢ device_len) }
-    ensures not_formatted { IsTrue (O.view old.old).keeps_model → IsErrOf result MigrateRefused.NotFormatted → LacksMagic (O.view old.old).content × StandsForNone (O.view old.old).content }
-    ensures bad_version { IsTrue (O.view old.old).keeps_model → IsErrOf result MigrateRefused.BadVersion → HasOtherVersion (O.view old.old).content × StandsForNone (O.view old.old).content }
-    ensures damaged { IsTrue (O.view old.old).keeps_model → IsErrOf result MigrateRefused.Damaged → HasThisVersion (O.view old.old).content × StandsForNone (O.view old.old).content }
-    ensures memory { IsTrue (O.view old.old).keeps_model → IsErrOf result MigrateRefused.Memory → HasThisVersion (O.view old.old).content }
-    ensures old_served { IsErr result → ¬ (IsErrOf result MigrateRefused.OldDevice) → (O.view old.new).failures ≡ (O.view old.old).failures }
-    ensures old_device { IsErrOf result MigrateRefused.OldDevice → (O.view old.old).failures < (O.view old.new).failures }
-    ensures new_device { IsErrOf result MigrateRefused.NewDevice → (N.view new.old).failures < (N.view new.new).failures }
-    ensures no_failure { OnOk result (((O.view old.new).failures ≡ (O.view old.old).failures) × ((N.view new.new).failures ≡ (N.view new.old).failures)) }
+    ensures refused { IfErr result (λ e. TellsOfOld e (O.view old.old) (O.view old.new)) }
+    ensures new_device { TellsOfNew result (N.view new.old) (N.view new.new) }
+    ensures no_failure { OnOk result (NoneFailed (O.view old.old) (O.view old.new) (N.view new.old) (N.view new.new)) }
     ensures only_read { IsTrue (O.view old.old).keeps_model → OnlyRead (O.view old.old) (O.view old.new) }
     ensures not_opened { IsErrOf result MigrateRefused.BadLength → old.new ≡ old.old }
     ensures untouched { IsErr result → ¬ (IsErrOf result MigrateRefused.NewDevice) → new.new ≡ new.old }
     ensures calls { AtMostCalls 10 (N.view new.old) (N.view new.new) }
-    ensures any_moment { IsTrue (O.view old.old).keeps_model → IsTrue (N.view new.old).keeps_model → IsAllForeign (N.view new.old)
-        → LeavesOnly (N.view new.old) (N.view new.new) (HoldsNoneOrAllOf (O.view old.old).content) }
+    ensures any_moment { MovesWholly (O.view old.old) (N.view new.old) (N.view new.new) }
     ensures ran_old { IsSameDevice (O.view old.old) (O.view old.new) }
     ensures ran_new { IsSameDevice (N.view new.old) (N.view new.new) }
 {

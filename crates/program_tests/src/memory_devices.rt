@@ -1,7 +1,7 @@
 // The program on devices in memory.
 use crate::helpers::{got, same, text_of, words_of};
 use checkpoint::DEVICE_LEN;
-use command_output::Fault;
+use command_output::{Fault, WatchedWriter};
 use commands::{Access, Devices, run_on};
 use device_commands::format;
 use disk_trait::MemDisk;
@@ -120,7 +120,7 @@ fn commands_answer_for_the_device_of_their_path(rt: HostRuntime) {
             &words,
             &mut script,
             &mut out,
-            &mut err,
+            &mut WatchedWriter::new(&mut err),
         );
         let found = (outcome.status(), text_of(&rt, &out), text_of(&rt, &err));
         same(&rt, found, (*status, *printed, *told), line);

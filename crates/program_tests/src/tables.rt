@@ -5,7 +5,7 @@ use crate::helpers::{
     words_of,
 };
 use checkpoint::DEVICE_LEN;
-use command_output::Fault;
+use command_output::{Fault, WatchedWriter};
 use commands::{Access, Devices, run_on};
 use device_commands::{edit, format};
 use disk_trait::{Disk, MemDisk};
@@ -297,7 +297,7 @@ fn expect_row<R: Files<File = File> + AllocGlobal + Abort + Threads + Wait + Syn
         &words,
         &mut io::empty(),
         &mut out,
-        &mut err,
+        &mut WatchedWriter::new(&mut err),
     );
     let found = (outcome.status(), text_of(rt, &out), text_of(rt, &err));
     same(rt, found, (status, printed, told), line);

@@ -1,5 +1,6 @@
 // What the tests share: devices, and scripts that are run on them.
 use checkpoint::{DEVICE_LEN, Store, format};
+use command_output::WatchedWriter;
 use disk_trait::{Disk, MemDisk};
 use live_service::serve_on;
 use service_threads::{Hooks, NoHooks, ServiceConfig};
@@ -107,7 +108,18 @@ where
             .expect(rt, "memory")
             .expect(rt, "words"),
     };
-    serve_on(rt, alloc, disk, words, config, script, hooks, out, err)
+    let mut faults = WatchedWriter::new(err);
+    serve_on(
+        rt,
+        alloc,
+        disk,
+        words,
+        config,
+        script,
+        hooks,
+        out,
+        &mut faults,
+    )
 }
 
 /// Runs a script on a disk in memory, with no hooks.

@@ -1,6 +1,7 @@
 -- What is left on a device over turns: the states after beginnings of what was taken.
-use Rattle.std.proofs.Common.{◌≡◌, ◌⊎◌, ℕ, ◌+◌, List, [], ◌++◌, length, drop, IsTrue, false, arith, ap, sym, ◌∙◌, subst, ⊎_elim}
+use Rattle.std.proofs.Common.{◌≡◌, ◌⊎◌, ◌≤◌, ◌==◌, ◌∷◌, refl, ℕ, ◌+◌, List, [], ◌++◌, length, drop, IsTrue, false, arith, ap, sym, ◌∙◌, subst, ⊎_elim}
 use Rattle.std.proofs.lemmas.List.{take-append-le, length-append}
+use Rattle.std.proofs.lemmas.List.Elements.{filter-append}
 use Rattle.std.proofs.Math.Seq.{take-length}
 use Rattle.std.specs.Prelude.{IfSome, Option, Some, None, Result}
 use Rattle.service_workers.specs.declared.stop_cause.StopCause.{StopCause}
@@ -10,14 +11,17 @@ use Rattle.layout_2.specs.State.{State}
 use Rattle.layout_2.specs.Standing.{KeepsThrough, StandsFor}
 use Rattle.checkpoint.specs.declared.store.Store.{Store}
 use Rattle.checkpoint.specs.StoreWords.{state_of, view_of, is_down, stands_now}
+use Rattle.intake.specs.Ends.{HasTaken, Taking}
+use Rattle.intake.specs.Turns.{AreOfEditors, of}
 use Rattle.group_commit.specs.Settling.{Settled, settle}
 use Rattle.group_commit.proofs.SettlingLemmas.{settle-append}
 use Rattle.committer.specs.declared.committer.Committer.{Committer}
 use Rattle.settled_lists.specs.Posted.{ArePosted}
 use Rattle.settled_lists.proofs.Posted.{posted_first}
-use Rattle.committer.specs.CommitterWords.{store_of, held_of, got_of, posts_of, taken, settled}
+use Rattle.committer.specs.CommitterWords.{store_of, held_of, taker_of, queue_of, got_of, posts_of, taken, settled}
+use Rattle.committer.specs.Answers.{StaysPut}
 use Rattle.committer.specs.Listed.{IsListedFrom, StaysListed}
-use Rattle.service_threads.specs.Kept.{HasSettled, HasSettledAll, HasSettledSome, HasTurned, IsFresh, IsOnCourse, IsServedDisk, LeavesBeginnings, PostsAlong, StandsForBeginning, StaysPut}
+use Rattle.service_threads.specs.Kept.{HasSettled, HasSettledAll, HasSettledSome, HasTurned, IsFresh, IsOnCourse, IsServedDisk, KeepsQueue, LeavesBeginnings, PostsAlong, StandsForBeginning}
 
 -- ---- beginnings of a list
 
@@ -113,7 +117,47 @@ turned_posted first old new on lists state is = board_posted state new (lists st
 pub turned_listed : {D R : Type 0} {V : _} → (first old new : Committer D R V) → IsOnCourse first old → StaysListed old new → StaysListed first new
 turned_listed first old new on lists = listed_twice first old new on.listed lists
 
--- at the beginning
+-- ---- the queue
+
+-- nothing was taken
+pub queue_same : {D R : Type 0} {V : _} → (old new : Committer D R V) → taker_of new ≡ taker_of old → KeepsQueue old new
+queue_same old new same = record {
+  queue = ap (λ (t : Taking). t.queue) same;
+  made = ap (λ (t : Taking). t.made) same;
+  editors = subst (λ (t : Taking). AreOfEditors t.made t.got) (sym same);
+}
+
+pub queue_first : {D R : Type 0} {V : _} → (c : Committer D R V) → KeepsQueue c c
+queue_first c = queue_same c c refl
+
+-- one call behind another
+pub queue_twice : {D R : Type 0} {V : _} → (old mid new : Committer D R V) → KeepsQueue old mid → KeepsQueue mid new → KeepsQueue old new
+queue_twice old mid new first second = record { queue = second.queue ∙ first.queue; made = second.made ∙ first.made; editors = λ all. second.editors (first.editors all) }
+
+-- what is of a session in a list's front is in the list
+none_in_front : (s : ℕ) (got waits : List Request) → of s (got ++ waits) ≡ [] → of s got ≡ []
+none_in_front s got waits none = front (of s got) (of s waits) (sym (filter-append (λ (r : Request). r.session == s) got waits) ∙ none)
+  where
+    front : (xs ys : List Request) → xs ++ ys ≡ [] → xs ≡ []
+    front [] ys none = refl
+    front (x ∷ xs) ys none = absurd (cc)
+
+-- requests were taken from the front of the queue
+pub queue_taken : {D R : Type 0} {V : _} → (old new : Committer D R V) → queue_of new ≡ queue_of old → HasTaken (taker_of old) (taker_of new) → KeepsQueue old new
+queue_taken old new same taken = record {
+  queue = same;
+  made = taken.made;
+  editors = λ all s above.
+      ⊎_elim (λ none. ap (of s) none.0 ∙ all s (subst (λ (n : ℕ). n ≤ s) taken.made above)) (λ some. none_in_front s (got_of new) some.0 (some.1.0.1 s above)) taken.all;
+}
+
+-- .. and a rebuild behind that
+pub queue_turned : {D R : Type 0} {V : _} → (old mid new : Committer D R V) → queue_of mid ≡ queue_of old → HasTaken (taker_of old) (taker_of mid) → taker_of new ≡ taker_of mid → KeepsQueue old new
+queue_turned old mid new same taken still = queue_twice old mid new (queue_taken old mid same taken) (queue_same mid new still)
+
+-- ---- the beginning
+
+-- a committer that has taken nothing
 pub on_course_first : {D R : Type 0} {V : _} → (c : Committer D R V) → IsFresh c → IsOnCourse c c
 on_course_first c fresh = record {
   up = fresh.up;
@@ -129,26 +173,23 @@ on_course_first c fresh = record {
 -- a rebuild behind a turn leaves what the turn left
 pub turned_still : {D R : Type 0} {V : _} → (old mid new : Committer D R V) → HasTurned old mid → StaysPut mid new → HasTurned old new
 turned_still {V = V} old mid new turn stays = record {
-  front = stays.got ∙ turn.front ∙ ap (λ (l : List Request). got_of old ++ drop (length (got_of old)) l) (sym stays.got);
+  front = (λ i. (stays.taker i).got) ∙ turn.front ∙ ap (λ (l : List Request). got_of old ++ drop (length (got_of old)) l) (sym ((λ i. (stays.taker i).got)));
   same = subst (λ s. IsSameDevice (view_of (store_of old)) (view_of s)) (sym stays.store) turn.same;
   any_moment = λ model up.
       let left = subst (λ s. LeavesOnly (view_of (store_of old)) (view_of s) (λ image. StandsFor (state_of (store_of old)) image ⊎ StandsFor (settled old mid).state image)) (sym stays.store) (turn.any_moment model up) in
       subst (λ (l : List Request). LeavesOnly (view_of (store_of old)) (view_of (store_of new))
-      (λ image. StandsFor (state_of (store_of old)) image ⊎ StandsFor (settle (state_of (store_of old)) (held_of old ++ drop (length (got_of old)) l)).state image)) (sym stays.got) left;
+      (λ image. StandsFor (state_of (store_of old)) image ⊎ StandsFor (settle (state_of (store_of old)) (held_of old ++ drop (length (got_of old)) l)).state image)) (sym ((λ i. (stays.taker i).got))) left;
 }
 
 pub settled_still : {D R : Type 0} {V : _} → (old mid new : Committer D R V) → HasSettledAll old mid → StaysPut mid new → HasSettledAll old new
 settled_still old mid new done stays = record {
   held = stays.held ∙ done.held;
-  state = ap (λ s. state_of s) stays.store ∙ done.state ∙ ap (λ (l : List Request). (settle (state_of (store_of old)) (held_of old ++ drop (length (got_of old)) l)).state) (sym stays.got);
+  state = ap (λ s. state_of s) stays.store ∙ done.state ∙ ap (λ (l : List Request). (settle (state_of (store_of old)) (held_of old ++ drop (length (got_of old)) l)).state) (sym ((λ i. (stays.taker i).got)));
   up = ap (λ s. is_down s) stays.store ∙ done.up;
 }
 
-pub put_twice : {D R : Type 0} {V : _} → (old mid new : Committer D R V) → StaysPut old mid → StaysPut mid new → StaysPut old new
-put_twice old mid new first second = record { store = second.store ∙ first.store; held = second.held ∙ first.held; got = second.got ∙ first.got }
-
 pub fresh_still : {D R : Type 0} {V : _} → (old new : Committer D R V) → IsFresh old → StaysPut old new → IsFresh new
-fresh_still old new fresh stays = record { up = ap (λ s. is_down s) stays.store ∙ fresh.up; held = stays.held ∙ fresh.held; got = stays.got ∙ fresh.got }
+fresh_still old new fresh stays = record { up = ap (λ s. is_down s) stays.store ∙ fresh.up; held = stays.held ∙ fresh.held; got = (λ i. (stays.taker i).got) ∙ fresh.got }
 
 -- a committer that stayed put hands back a store on which nothing was settled
 pub some_settled_still : {D R : Type 0} {V : _} → (old new : Committer D R V) → is_down (store_of old) ≡ false → StaysPut old new → HasSettledSome (state_of (store_of old)) (view_of (store_of old)) (view_of (store_of new))

@@ -1,19 +1,28 @@
 -- What a service leaves on its device, whatever ends it.
-use Rattle.std.specs.Prelude.{◌≡◌, ◌++◌, ◌⊎◌, ◌<◌, ◌≤◌, ℕ, List, [], length, take, IfSome, IsErrOf, IsTrue, Option, Result, false}
+use Rattle.std.specs.Prelude.{◌≡◌, ◌≢◌, ◌++◌, ◌⊎◌, ◌<◌, ◌≤◌, ℕ, List, [], length, take, IfErr, IfSome, IsErrOf, IsTrue, OnOk, Option, Result, false}
 use Rattle.disk_trait.specs.declared.disk.Disk.{Ghosts}
-use Rattle.disk_trait.specs.Disk.{DiskView, IsSameDevice, LeavesOnly}
+use Rattle.disk_trait.specs.Disk.{DiskView, IsSameDevice, LeavesOnly, OnlyRead}
 use Rattle.requests.specs.declared.request.Request.{Request}
 use Rattle.layout_2.specs.State.{State}
 use Rattle.layout_2.specs.Standing.{KeepsThrough, StandsFor}
 use Rattle.checkpoint.specs.declared.store.Store.{Store}
 use Rattle.checkpoint.specs.StoreWords.{state_of, view_of, is_down}
+use Rattle.generations.specs.Beginnings.{Opening}
 use Rattle.group_commit.specs.Settling.{settle}
+use Rattle.written_values.specs.Words.{IsWithin}
+use Rattle.written_values.specs.declared.words.LandmarkWords.{LandmarkWords}
 use Rattle.committer.specs.declared.committer.Committer.{Committer}
 use Rattle.service_workers.specs.declared.stop_cause.StopCause.{StopCause}
 use Rattle.service_workers.specs.declared.stop_cause.StopCause.TheVariants.{Device}
 use Rattle.settled_lists.specs.Posted.{ArePosted}
-use Rattle.committer.specs.CommitterWords.{store_of, held_of, got_of, posts_of, taken, settled}
+use Rattle.intake.specs.Turns.{AreOfEditors}
+use Rattle.committer.specs.CommitterWords.{store_of, held_of, taker_of, queue_of, got_of, posts_of, taken, settled}
+use Rattle.committer.specs.Answers.{StaysPut}
 use Rattle.committer.specs.Listed.{IsListedFrom, StaysListed}
+use Rattle.service_threads.specs.declared.committer_stop.CommitterStop.{CommitterStop}
+use Rattle.service_threads.specs.declared.fault.Fault.{Fault}
+use Rattle.service_threads.specs.declared.fault.Fault.TheVariants as told
+use Rattle.service_threads.specs.Faults.{TellsOf}
 
 -- the image stands for the state after a beginning of these requests, settled from a state on
 abbrev pub StandsForBeginning : State → List Request → List ℕ → Type 0
@@ -29,11 +38,11 @@ pub record HasSettled (first : State) (requests : List Request) (old new : DiskV
 abbrev pub HasSettledSome : State → DiskView → DiskView → Type 0
 HasSettledSome first old new = (requests : List Request) × HasSettled first requests old new
 
--- nothing was taken or committed
-pub record StaysPut {D R : Type 0} {V : _} (old new : Committer D R V) : Type 0 where
-  pub store : store_of new ≡ store_of old
-  pub held : held_of new ≡ held_of old
-  pub got : got_of new ≡ got_of old
+-- The queue stays, with its editors: where all that was taken is of sessions that have one, it still is.
+pub record KeepsQueue {D R : Type 0} {V : _} (old new : Committer D R V) : Type 0 where
+  pub queue : queue_of new ≡ queue_of old
+  pub made : (taker_of new).made ≡ (taker_of old).made
+  pub editors : AreOfEditors (taker_of old).made (got_of old) → AreOfEditors (taker_of new).made (got_of new)
 
 -- A turn took requests from the queue: it is the same device, and a crash at any moment of it leaves the state before the turn or the
 -- one after the whole group.
@@ -57,6 +66,32 @@ PostsAlong old new = (first : State) → IsListedFrom first old → ArePosted fi
 -- the device failed between two views
 abbrev pub HasFailed : DiskView → DiskView → Type 0
 HasFailed old new = old.failures < new.failures
+
+-- A service's device was refused: a fault tells why, and the device, which was only read, comes back.
+pub record IsRefusedFor (asked : LandmarkWords) (disk left : DiskView) (fault : Fault) : Type 0 where
+  pub tells : IsTrue disk.keeps_model → TellsOf fault disk.content
+  -- the landmark words don't fit the nodes of the state for which the device stands
+  pub words : IsTrue disk.keeps_model → (state : State) → StandsFor state disk.content → fault ≡ told.Words → ¬ IsWithin asked state.graph.nodes
+  -- where it doesn't keep the model, they don't fit those of a state
+  pub of_one : fault ≡ told.Words → (state : State) × ¬ IsWithin asked state.graph.nodes
+  pub device : fault ≡ told.Device → HasFailed disk left
+  pub reads : IsTrue disk.keeps_model → OnlyRead disk left
+  pub ran : IsSameDevice disk left
+
+-- what a committer settled of what it took, from its beginning on
+abbrev pub HasSettledFrom : {D R : Type 0} {V : _} → Committer D R V → Committer D R V → Type 0
+HasSettledFrom first now = HasSettled (state_of (store_of first)) (got_of now) (view_of (store_of first)) (view_of (store_of now))
+
+-- the device failed under a committer
+abbrev pub HasLostDevice : {D R : Type 0} {V : _} → Committer D R V → Committer D R V → Type 0
+HasLostDevice old new = HasFailed (view_of (store_of old)) (view_of (store_of new))
+
+-- A generation was built and posted on this board, or that was refused: nothing was taken or committed.
+pub record OnlyRebuilds {D R T : Type 0} {V : _} (board : Opening) (old new : Committer D R V) (result : Result T CommitterStop) : Type 0 where
+  pub opening : OnOk result ((posts_of new).opening ≡ board)
+  pub stays : StaysPut old new
+  pub listed : StaysListed old new
+  pub not_device : IfErr result (λ stop. stop.cause ≢ Device)
 
 -- a committer at its beginning
 pub record IsFresh {D R : Type 0} {V : _} (c : Committer D R V) : Type 0 where

@@ -3,10 +3,10 @@ ghost use Rattle.std.specs.Arc.{arc_value};
 ghost use Rattle.std.specs.Prelude.{◌≡◌, ◌≢◌, IfErr, IfOk, IsErrOf, OnOk, false};
 ghost use Rattle.node_table.specs.Service.{Serves};
 ghost use Rattle.node_table.specs.Tables.{tables};
-ghost use Rattle.checkpoint.specs.StoreWords.{state_of, view_of, is_down};
-ghost use Rattle.committer.specs.CommitterWords.{posts_of, store_of, got_of};
+ghost use Rattle.checkpoint.specs.StoreWords.{is_down};
+ghost use Rattle.committer.specs.CommitterWords.{posts_of, store_of};
 ghost use Rattle.committer.specs.Listed.{StaysListed};
-ghost use Rattle.service_threads.specs.Kept.{HasFailed, HasSettled, HasSettledAll, HasTurned, IsFresh, IsOnCourse, PostsAlong, StaysPut};
+ghost use Rattle.service_threads.specs.Kept.{HasLostDevice, HasSettledAll, HasSettledFrom, HasTurned, IsFresh, IsOnCourse, KeepsQueue, OnlyRebuilds, PostsAlong};
 
 use crate::committer_stop::CommitterStop;
 use committer::{Committer, Round};
@@ -68,10 +68,7 @@ impl Rebuilds {
     ) -> Result<(), CommitterStop>
         requires opening { (posts_of committer.old).opening ≡ J.opening }
         requires up { is_down (store_of committer.old) ≡ false }
-        ensures opening { OnOk result ((posts_of committer.new).opening ≡ J.opening) }
-        ensures stays { StaysPut committer.old committer.new }
-        ensures listed { StaysListed committer.old committer.new }
-        ensures not_device { IfErr result (λ stop. stop.cause ≢ StopCause.Device) }
+        ensures { OnlyRebuilds J.opening committer.old committer.new result }
     {
         let Rebuilds { source, heap, .. } = self;
         match source {
@@ -96,10 +93,7 @@ fn rebuild_by<D: Disk, R: Wait + Drop, S: Threads + Wait + Sync>(
     heap: &LocalHeap,
 ) -> Result<(), CommitterStop>
     requires up { is_down (store_of committer.old) ≡ false }
-    ensures opening { OnOk result ((posts_of committer.new).opening ≡ (posts_of committer.old).opening) }
-    ensures stays { StaysPut committer.old committer.new }
-    ensures listed { StaysListed committer.old committer.new }
-    ensures not_device { IfErr result (λ stop. stop.cause ≢ StopCause.Device) }
+    ensures { OnlyRebuilds (posts_of committer.old).opening committer.old committer.new result }
 {
     let workers = workers_here(rt, committer.store().nodes());
     if workers < 2 {
@@ -162,9 +156,10 @@ fn turn<J: Naming, D: Disk, R: Wait + Drop, S: Threads + Wait + Sync>(
     requires up { is_down (store_of committer.old) ≡ false }
     ensures opening { OnOk result ((posts_of committer.new).opening ≡ J.opening) }
     ensures turned { HasTurned committer.old committer.new }
+    ensures queue { KeepsQueue committer.old committer.new }
     ensures settled { OnOk result (HasSettledAll committer.old committer.new) }
     ensures listed { StaysListed committer.old committer.new }
-    ensures device { IfErr result (λ stop. stop.cause ≡ StopCause.Device → HasFailed (view_of (store_of committer.old)) (view_of (store_of committer.new))) }
+    ensures device { IfErr result (λ stop. stop.cause ≡ StopCause.Device → HasLostDevice committer.old committer.new) }
 {
     let round = committer.round(alloc, rt)?;
     if round.taken > 0 {
@@ -181,7 +176,7 @@ fn turn<J: Naming, D: Disk, R: Wait + Drop, S: Threads + Wait + Sync>(
 }
 
 /// Commits what editors submit, until all of them have left, or all stop. An `Err` is why the committer itself stopped.
-#[tactic(auto, using(crate::proofs::Settling::on_course_first, crate::proofs::Settling::turned_settles))]
+#[tactic(auto, using(crate::proofs::Settling::on_course_first, crate::proofs::Settling::turned_settles, crate::proofs::Settling::queue_first))]
 pub fn commit_all<J: Naming, D: Disk, R: Wait + Drop, S: Threads + Wait + Sync>(
     rt: &S,
     alloc: Global,
@@ -191,12 +186,16 @@ pub fn commit_all<J: Naming, D: Disk, R: Wait + Drop, S: Threads + Wait + Sync>(
 ) -> Result<(), StopCause>
     requires opening { (posts_of committer.old).opening ≡ J.opening }
     requires fresh { IsFresh committer.old }
-    ensures settled { HasSettled (state_of (store_of committer.old)) (got_of committer.new) (view_of (store_of committer.old)) (view_of (store_of committer.new)) }
-    ensures device { IsErrOf result StopCause.Device → HasFailed (view_of (store_of committer.old)) (view_of (store_of committer.new)) }
+    ensures settled { HasSettledFrom committer.old committer.new }
+    ensures device { IsErrOf result StopCause.Device → HasLostDevice committer.old committer.new }
+
     // What was taken stays one list, whatever ended it: what is posted and due has the marks of settling the first of it, and each
     // generation serves the state that its number names.
     ensures listed { StaysListed committer.old committer.new }
     ensures posted { PostsAlong committer.old committer.new }
+    // And so does the queue, and all that was taken is of sessions that have an editor.
+    ensures queue { KeepsQueue committer.old committer.new }
+
     // Where nothing stopped the committer, that is the whole list, and the device stands for the state after it.
     ensures all { OnOk result (IsOnCourse committer.old committer.new) }
     ensures opening { OnOk result ((posts_of committer.new).opening ≡ J.opening) }
@@ -230,10 +229,7 @@ pub fn first_generation<J: Naming, D: Disk, R: Wait + Drop, S: Threads + Wait + 
 ) -> Result<Coordinator<J>, CommitterStop>
     requires opening { (posts_of committer.old).opening ≡ J.opening }
     requires up { is_down (store_of committer.old) ≡ false }
-    ensures opening { OnOk result ((posts_of committer.new).opening ≡ J.opening) }
-    ensures stays { StaysPut committer.old committer.new }
-    ensures listed { StaysListed committer.old committer.new }
-    ensures not_device { IfErr result (λ stop. stop.cause ≢ StopCause.Device) }
+    ensures { OnlyRebuilds J.opening committer.old committer.new result }
 {
     let mut graphs = Graphs::new();
     graphs.push(next_graph(alloc, committer)?);

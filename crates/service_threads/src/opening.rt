@@ -1,12 +1,7 @@
 // Opening a service's device.
-ghost use Rattle.std.specs.Prelude.{◌≡◌, IfErr, IfOk, IsTrue, false};
-ghost use Rattle.disk_trait.specs.Disk.{IsSameDevice, OnlyRead};
-ghost use Rattle.checkpoint.specs.StoreWords.{state_of, view_of, is_down};
-ghost use Rattle.layout_2.specs.State.{State};
-ghost use Rattle.layout_2.specs.Standing.{StandsFor};
-ghost use Rattle.written_values.specs.Words.{IsWithin};
-ghost use Rattle.service_threads.specs.Faults.{TellsOf};
-ghost use Rattle.service_threads.specs.Kept.{HasFailed};
+ghost use Rattle.std.specs.Prelude.{IfErr, IfOk};
+ghost use Rattle.checkpoint.specs.Opening.{IsOpened};
+ghost use Rattle.service_threads.specs.Kept.{IsRefusedFor};
 
 use crate::fault::Fault;
 use checkpoint::{Store, standing_law};
@@ -21,16 +16,8 @@ pub fn open_device<D: Disk>(
     disk: D,
     words: &LandmarkWords,
 ) -> Result<(Store<D>, WordSource), (Fault, D)>
-    ensures up { IfOk result (λ r. is_down r.0 ≡ false) }
-    ensures tells { IsTrue (D.view disk).keeps_model → IfErr result (λ e. TellsOf e.0 (D.view disk).content) }
-    ensures words { IsTrue (D.view disk).keeps_model → (state : State) → StandsFor state (D.view disk).content → IfErr result (λ e. e.0 ≡ Fault.Words → ¬ IsWithin words.now state.graph.nodes) }
-    ensures of_one { IfErr result (λ e. e.0 ≡ Fault.Words → (state : State) × ¬ IsWithin words.now state.graph.nodes) }
-    ensures stands { IsTrue (D.view disk).keeps_model → IfOk result (λ r. StandsFor (state_of r.0) (D.view disk).content) }
-    ensures reads { IsTrue (D.view disk).keeps_model → IfOk result (λ r. OnlyRead (D.view disk) (view_of r.0)) }
-    ensures ran { IfOk result (λ r. IsSameDevice (D.view disk) (view_of r.0)) }
-    ensures reads_err { IsTrue (D.view disk).keeps_model → IfErr result (λ e. OnlyRead (D.view disk) (D.view e.1)) }
-    ensures ran_err { IfErr result (λ e. IsSameDevice (D.view disk) (D.view e.1)) }
-    ensures device { IfErr result (λ e. e.0 ≡ Fault.Device → HasFailed (D.view disk) (D.view e.1)) }
+    ensures opened { IfOk result (λ r. IsOpened (D.view disk) r.0) }
+    ensures refused { IfErr result (λ e. IsRefusedFor words.now (D.view disk) (D.view e.1) e.0) }
 {
     standing_law();
     let store = match Store::open(alloc, disk) {

@@ -10,6 +10,9 @@ use Rattle.intake.specs.Turns.{last_asked, last_or_start}
 use Rattle.intake.proofs.Refusals.{asked_push}
 use Rattle.service_workers.specs.Edited.{IsEdited, IsSameEditor}
 use Rattle.service_workers.specs.Settled.{IsMarkOf}
+use Rattle.service_workers.specs.declared.session_editor.EditEnd.TheVariants.{Settled}
+use Rattle.service_workers.specs.declared.session_editor.Put.TheVariants as tried
+use Rattle.service_workers.specs.EditedAsAsked.{HasPut, IsEditEnd}
 use Rattle.service_workers.proofs.Outcomes.{put_under}
 use Rattle.service_workers.proofs.OneChange.{edited_then}
 
@@ -30,10 +33,11 @@ marked_under e mark before session ticket change is marked =
 
 -- a change that was put, and then settled
 pub settled_as_asked : (old put now : Editing) (change : List Op) (ticket : ℕ) (mark : Mark) → IsSameEditor old put → IsSameEditor put now → now.put ≡ put.put
-    → put.put ≡ old.put ++ record { session = old.session; ticket = ticket; change = change } ∷ [] → IsMarkOf now mark → IsEdited old change now mark × (mark.ticket ≡ ticket)
+    → HasPut old ticket change put tried.In → IsMarkOf now mark → IsEditEnd old ticket change now (Settled mark)
 settled_as_asked old put now change ticket mark one two none asked marked = (
-  edited_then old put now change ticket (Some mark) one two none (put_under now (Some mark) old.put old.session ticket change (none ∙ asked) marked) marked,
-  marked_under now mark old.put old.session ticket change (none ∙ asked) marked,
+  edited_then old put now change ticket (Some mark) one two none (put_under now (Some mark) old.put old.session ticket change (none ∙ asked.0) marked) marked,
+  marked_under now mark old.put old.session ticket change (none ∙ asked.0) marked,
+  asked.1,
 )
 
 -- the session's last ticket behind a change that is settled

@@ -1,4 +1,5 @@
 pub mod Outcomes
 pub mod OneChange
 pub mod AsAsked
+pub mod Resting
 pub mod PacketsOnWay

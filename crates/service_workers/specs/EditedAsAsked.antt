@@ -1,5 +1,5 @@
 -- What an editor does with a change under a ticket that is asked for.
-use Rattle.std.specs.Prelude.{◌≡◌, ◌+◌, ◌-◌, ◌^◌, min, ◌⊎◌, ◌++◌, ◌∷◌, [], ℕ, List, Option, Some, None}
+use Rattle.std.specs.Prelude.{◌≡◌, ◌<◌, ◌+◌, ◌-◌, ◌^◌, min, ◌⊎◌, ◌++◌, ◌∷◌, [], ℕ, List, Option, Some, None}
 use Rattle.graph_edits.specs.declared.edits.Op.{Op}
 use Rattle.generations.specs.Beginnings.{Beginning}
 use Rattle.intake.specs.declared.outcome.SubmitRefused.TheVariants as refused
@@ -19,15 +19,19 @@ IsOld seen e ticket = (refusal_by seen e ticket ≡ Some refused.AlreadyIn) ⊎ 
 abbrev pub IsPastLimit : Beginning → Editing → ℕ → Type 0
 IsPastLimit seen e ticket = refusal_by seen e ticket ≡ Some refused.Worn
 
+-- it is above all that were submitted
+abbrev pub IsNew : Editing → ℕ → Type 0
+IsNew e ticket = last_or_start e.start e.put < ticket
+
 -- what became of a change that was to be put into the queue
 abbrev pub HasPut : Editing → ℕ → List Op → Editing → Put → Type 0
-HasPut old ticket change new tried.In = new.put ≡ old.put ++ record { session = old.session; ticket = ticket; change = change } ∷ []
+HasPut old ticket change new tried.In = (new.put ≡ old.put ++ record { session = old.session; ticket = ticket; change = change } ∷ []) × IsNew old ticket
 HasPut old ticket change new tried.Old = (new.put ≡ old.put) × IsOld new.known old ticket
 HasPut old ticket change new tried.PastLimit = (new.put ≡ old.put) × IsPastLimit new.known old ticket
 
--- what came of it: its mark is under the ticket that was asked for
+-- what came of it: its mark is under the ticket that was asked for, which is above all before
 abbrev pub IsEditEnd : Editing → ℕ → List Op → Editing → EditEnd → Type 0
-IsEditEnd old ticket change new (Settled mark) = IsEdited old change new mark × (mark.ticket ≡ ticket)
+IsEditEnd old ticket change new (Settled mark) = IsEdited old change new mark × (mark.ticket ≡ ticket) × IsNew old ticket
 IsEditEnd old ticket change new AlreadyIn = (new.put ≡ old.put) × IsOld new.known old ticket
 IsEditEnd old ticket change new PastLimit = (new.put ≡ old.put) × IsPastLimit new.known old ticket
 

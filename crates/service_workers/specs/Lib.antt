@@ -2,5 +2,6 @@ pub mod Answers
 pub mod Settled
 pub mod Edited
 pub mod EditedAsAsked
+pub mod AtRest
 pub mod Forwarded
 pub mod Source

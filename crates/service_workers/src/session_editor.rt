@@ -4,6 +4,7 @@ ghost use Rattle.requests.specs.Tickets.{last_of};
 ghost use Rattle.intake.specs.Turns.{last_or_start};
 ghost use Rattle.service_workers.specs.Edited.{IsSameEditor};
 ghost use Rattle.service_workers.specs.EditedAsAsked.{HasPut, IsEditEnd, asked_ticket};
+ghost use Rattle.service_workers.specs.AtRest.{IsAtRest};
 
 use crate::coordinator::Coordinator;
 use crate::editing::settled;
@@ -46,6 +47,8 @@ pub struct SessionEditor<J: Naming> {
     ghost named: { editor.known.opening ≡ J.opening },
     ghost last_is: { last ≡ last_or_start editor.start editor.put },
     ghost start_is: { editor.start ≡ last_of J.opening.starts editor.session },
+    // All that it submitted is settled.
+    ghost at_rest: { ∥ IsAtRest editor ∥₁ },
 }
 
 // Puts a change into the queue, under this ticket, unless that is refused. Without an answer all stop.
@@ -110,6 +113,7 @@ fn edit_as_asked<J: Naming, R: Wait>(
 }
 
 impl<J: Naming> SessionEditor<J> {
+    #[tactic(auto, using(crate::proofs::Resting::rests_new))]
     /// An editor that has submitted nothing.
     pub fn new(editor: Editor) -> SessionEditor<J>
         requires named { editor.known.opening ≡ J.opening }
@@ -146,7 +150,15 @@ impl<J: Naming> SessionEditor<J> {
         self.editor.session()
     }
 
-    #[tactic(auto, using(crate::proofs::AsAsked::last_settled))]
+    /// The editor itself, which has submitted just what it was asked to.
+    pub fn into_editor(self) -> Editor
+        ensures same { result ≡ self.editor }
+        ensures at_rest { ∥ IsAtRest result ∥₁ }
+    {
+        self.editor
+    }
+
+    #[tactic(auto, using(crate::proofs::Resting::rests_still))]
     /// Submits a change under a ticket, or where none is named under the one behind the last, and waits for its mark. Gives the
     /// editor back, with the ticket and what came of the change. None where all stop.
     pub fn edit<R: Wait>(

@@ -1,8 +1,8 @@
 // Lines and faults as texts. Expected texts are those of docs/FORMATS.md.
 use command_output::{
-    AbsentLine, AcceptedLine, BrokenLine, CheckedLine, Ended, Fault, Formatted, MigratedLine,
-    RefusedLine, RouteLine, TablesLine, TicketLine, UnreachableLine, listing_of, print_line,
-    print_text, tell,
+    AbsentLine, AcceptedLine, BrokenLine, CheckedLine, Ended, Fault, FaultWriter, Formatted,
+    MigratedLine, RefusedLine, RouteLine, TablesLine, TicketLine, UnreachableLine, WatchedWriter,
+    listing_of, print_line, print_text, tell,
 };
 use graph_edits::{Change, Code, Graph, Op};
 use std::alloc::AllocError;
@@ -117,6 +117,12 @@ fn texts_of_faults(rt: HostRuntime) -> io::Result<()> {
         let mut err = Vec::new(rt.alloc());
         tell(&mut err, fault)?;
         assert_eq!(&rt; err.as_slice(), line.as_str().as_bytes());
+        let mut watched = Vec::new(rt.alloc());
+        WatchedWriter::new(&mut watched).tell(fault)?;
+        assert_eq!(&rt; watched.as_slice(), line.as_str().as_bytes());
+        let mut short = [0; 8];
+        assert!(&rt; WatchedWriter::new(&mut short[..]).tell(fault).is_err());
+        assert_eq!(&rt; short.as_slice(), "tznode: ".as_bytes());
     }
     assert_eq!(&rt; Fault::from(AllocError), Fault::Memory);
     Ok(())

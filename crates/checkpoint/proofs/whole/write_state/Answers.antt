@@ -2,34 +2,23 @@ use Rattle.std.proofs.Common.{◌∙◌, subst}
 use Rattle.disk_trait.specs.Disk.{weaker}
 use Rattle.layout_parts.proofs.ReadLemmas.{still}
 use Rattle.checkpoint.specs.Whole.{without_tickets, IsWriting, IsWritten, StandsForNoneOr}
-use Rattle.checkpoint.proofs.Wholes.{written_fresh, written_stands, writing_stands}
+use Rattle.layout_2.specs.State.{IsLawful}
+use Rattle.checkpoint.proofs.Wholes.{holds_fresh, writing_stands}
 use Rattle.checkpoint.proofs.whole.write_state.Goals as goal
 
-pub returns-in-Ok-put_whole-clause-left : goal.returns-in-Ok-put_whole-clause-left
-returns-in-Ok-put_whole-clause-left g c model image left =
-    let graph = c.args.graph.now in
-    let text = c.deref.result.now in
-    written_stands c.args.count graph c.sound.ensures c.requires.count text (λ lawful. c.deref.ensures.value ∙ c.in-Ok.ensures.text lawful) image
-    (subst (λ n. IsWritten n text image) c.nodes.ensures.nodes (c.in-Ok-put_whole.ensures.ok model image left))
-
 pub returns-in-Ok-put_whole-clause-ok : goal.returns-in-Ok-put_whole-clause-ok
-returns-in-Ok-put_whole-clause-ok g c model =
-    let v0 = g.D.Disk.view c.args.disk.now in
-    let v1 = g.D.Disk.view c.put_whole.new.disk in
-    returns-in-Ok-put_whole-clause-left g c model v1.content (g.met.D.Disk.present c.put_whole.new.disk (still v0 v1 c.put_whole.ensures.ran model))
-
-pub returns-in-Ok-put_whole-clause-fresh_left : goal.returns-in-Ok-put_whole-clause-fresh_left
-returns-in-Ok-put_whole-clause-fresh_left g c model image left =
+returns-in-Ok-put_whole-clause-ok g c =
     let graph = c.args.graph.now in
     let text = c.deref.result.now in
-    written_fresh c.args.count graph c.sound.ensures c.requires.count text (λ lawful. c.deref.ensures.value ∙ c.in-Ok.ensures.text lawful) image
-    (subst (λ n. IsWritten n text image) c.nodes.ensures.nodes (c.in-Ok-put_whole.ensures.ok model image left))
-
-pub returns-in-Ok-put_whole-clause-fresh : goal.returns-in-Ok-put_whole-clause-fresh
-returns-in-Ok-put_whole-clause-fresh g c model =
     let v0 = g.D.Disk.view c.args.disk.now in
     let v1 = g.D.Disk.view c.put_whole.new.disk in
-    returns-in-Ok-put_whole-clause-fresh_left g c model v1.content (g.met.D.Disk.present c.put_whole.new.disk (still v0 v1 c.put_whole.ensures.ran model))
+    let lawful_text = λ (lawful : IsLawful graph). c.deref.ensures.value ∙ c.in-Ok.ensures.text lawful in
+    record {
+      no_failure = c.in-Ok-put_whole.ensures.no_failure;
+      of_model = λ model. holds_fresh c.args.count graph c.sound.ensures c.requires.count text lawful_text v1
+          (λ image left. subst (λ n. IsWritten n text image) c.nodes.ensures.nodes (c.in-Ok-put_whole.ensures.ok model image left))
+          (g.met.D.Disk.present c.put_whole.new.disk (still v0 v1 c.put_whole.ensures.ran model));
+    }
 
 pub returns-in-Ok-put_whole-clause-any_moment : goal.returns-in-Ok-put_whole-clause-any_moment
 returns-in-Ok-put_whole-clause-any_moment g c model foreign =

@@ -15,7 +15,7 @@ returns-in-Ok-clause-runs g c =
     let asked = c.in-Ok.ensures.asked in
     record {
       outcome = asked_so g.F.Device.Disk (g.F.Devices.opened c.args.devices.now) (PutBy g.T.TableFiles.puts c.args.tables.now c.run_understood.new.tables) (texts c.args.words.now) c.in-Ok.task (g.S.Read.remaining c.args.script.now)
-          (g.O.Write.contents c.args.out.now) (g.O.Write.contents c.run_understood.new.out) (g.E.Write.contents c.args.err.now) (g.E.Write.contents c.run_understood.new.err) c.run_understood.result asked by.outcome;
+          (g.O.Write.contents c.args.out.now) (g.O.Write.contents c.run_understood.new.out) (g.E.FaultWriter.contents c.args.err.now) (g.E.FaultWriter.contents c.run_understood.new.err) c.run_understood.result asked by.outcome;
       untouched = λ other. by.untouched (λ live. other (c.in-Ok.task, asked, live));
       unread = λ other. by.unread (λ service. other (c.in-Ok.task, asked, service));
     }
@@ -31,7 +31,7 @@ returns-in-Err-clause-runs g c =
     let old = g.O.Write.contents c.args.out.now in
     let why = c.in-Err.ensures in
     record {
-      outcome = refused_so g.F.Device.Disk there put (texts c.args.words.now) given old old (g.E.Write.contents c.args.err.now) (g.E.Write.contents c.told.new.err) c.fault_of.result c.told.result c.told.ensures
+      outcome = refused_so g.F.Device.Disk there put (texts c.args.words.now) given old old (g.E.FaultWriter.contents c.args.err.now) (g.E.FaultWriter.contents c.told.new.err) c.fault_of.result c.told.result c.told.ensures.told
           (refused_for g.F.Device.Disk there put (texts c.args.words.now) given old old c.in-Err.refused c.fault_of.result c.fault_of.ensures why.cause (λ task asked fits. why.refused task asked fits));
       untouched = λ batch fault other which. refl {a = c.args.out.now};
       unread = λ other. refl {a = c.args.script.now};

@@ -13,8 +13,8 @@ returns-in-Serve-clause-runs g c =
     let given = g.S.Read.remaining c.args.script.now in
     let old = g.O.Write.contents c.args.out.now in
     let new = g.O.Write.contents c.run_service.new.out in
-    let told_old = g.E.Write.contents c.args.err.now in
-    let told_new = g.E.Write.contents c.run_service.new.err in
+    let told_old = g.E.FaultWriter.contents c.args.err.now in
+    let told_new = g.E.FaultWriter.contents c.run_service.new.err in
     let w = c.in-Serve in
     record {
       outcome = subst (λ (t : Task). IsOutcomeOf g.F.Device.Disk there put t given old new told_old told_new c.run_service.result) (sym w.is)
@@ -34,8 +34,8 @@ returns-in_default-clause-runs g c =
     let ends = c.run_task.ensures.ends given in
     record {
       outcome = told_so g.F.Device.Disk (g.F.Devices.opened c.args.devices.now) (PutBy g.T.TableFiles.puts c.args.tables.now c.run_task.new.tables) c.args.task given
-          (g.O.Write.contents c.args.out.now) (g.O.Write.contents c.run_task.new.out) (g.E.Write.contents c.args.err.now) (g.E.Write.contents c.told.new.err)
-          c.run_task.result c.told.result c.told.ensures ends.printed ends.fault;
-      untouched = λ other. told_behind (c.run_task.new.out ≡ c.args.out.now) (g.E.Write.contents c.args.err.now) (g.E.Write.contents c.told.new.err) c.run_task.result c.told.result c.told.ensures ends.untouched;
+          (g.O.Write.contents c.args.out.now) (g.O.Write.contents c.run_task.new.out) (g.E.FaultWriter.contents c.args.err.now) (g.E.FaultWriter.contents c.told.new.err)
+          c.run_task.result c.told.result c.told.ensures.told ends.printed ends.fault;
+      untouched = λ other. told_behind (c.run_task.new.out ≡ c.args.out.now) (g.E.FaultWriter.contents c.args.err.now) (g.E.FaultWriter.contents c.told.new.err) c.run_task.result c.told.result c.told.ensures.told ends.untouched;
       unread = λ other. refl {a = c.args.script.now};
     }

@@ -21,8 +21,8 @@ returns-in-Ok g c =
     let reading : IsReading disk left c.check_in_store.result = record {
       tells = λ model. each_fault c.check_in_store.result (IsQueryFault asked) (λ fault. TellsOf fault content) (λ fault is. words_tell asked fault content is) faults;
       device = λ is. absurd (not_told c.check_in_store.result Device (IsQueryFault asked) (λ never. never) faults is);
-      reads = λ model. only_read c.args.disk c.into_disk.result c.in-Ok.store c.into_disk.ensures (c.in-Ok.ensures.reads model);
+      reads = λ model. only_read c.args.disk c.into_disk.result c.in-Ok.store c.into_disk.ensures (c.in-Ok.ensures.opened.of_model model).reads;
       ran = ran;
     } in
     answers_of asked IsCheckIn IsQueryFault IsCheckDeviceFault disk left (state_of c.in-Ok.store) c.check_in_store.result c.check_in_store.ensures
-    (λ model (state : State) stands. c.standing_law.ensures (state_of c.in-Ok.store) state _ (c.in-Ok.ensures.stands model) stands) (check_asks asked) reading
+    (λ model (state : State) stands. c.standing_law.ensures (state_of c.in-Ok.store) state _ (c.in-Ok.ensures.opened.of_model model).stands stands) (check_asks asked) reading

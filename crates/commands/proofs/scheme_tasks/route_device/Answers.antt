@@ -12,7 +12,7 @@ use Rattle.commands.proofs.scheme_tasks.route_device.Goals as goal
 
 pub returns-in-Ok-clause-no_node : goal.returns-in-Ok-clause-no_node
 returns-in-Ok-clause-no_node g c model state stands =
-    let same : state_of c.in-Ok.store ≡ state = c.standing_law.ensures (state_of c.in-Ok.store) state _ (c.in-Ok.ensures.stands model) stands in
+    let same : state_of c.in-Ok.store ≡ state = c.standing_law.ensures (state_of c.in-Ok.store) state _ (c.in-Ok.ensures.opened.of_model model).stands stands in
     subst (λ (s : State). IsErrOf c.routes_in_store.result NoNode → LacksNode c.args.asked.now c.args.pairs.now s.graph.nodes) same c.routes_in_store.ensures.no_node
 
 pub returns-in-Ok-clause-routes : goal.returns-in-Ok-clause-routes
@@ -26,8 +26,8 @@ returns-in-Ok-clause-routes g c =
     let reading : IsReading disk left c.routes_in_store.result = record {
       tells = λ model. each_fault c.routes_in_store.result (IsRouteFault asked) (λ fault. TellsOf fault content) (λ fault is. route_tells asked fault content is) faults;
       device = λ is. absurd (not_told c.routes_in_store.result Device (IsRouteFault asked) (λ never. never) faults is);
-      reads = λ model. only_read c.args.disk c.into_disk.result c.in-Ok.store c.into_disk.ensures (c.in-Ok.ensures.reads model);
+      reads = λ model. only_read c.args.disk c.into_disk.result c.in-Ok.store c.into_disk.ensures (c.in-Ok.ensures.opened.of_model model).reads;
       ran = ran;
     } in
     answers_of asked (AreRoutesIn c.args.pairs.now) IsRouteFault IsRouteDeviceFault disk left (state_of c.in-Ok.store) c.routes_in_store.result c.routes_in_store.ensures.routes
-    (λ model (state : State) stands. c.standing_law.ensures (state_of c.in-Ok.store) state _ (c.in-Ok.ensures.stands model) stands) (route_asks asked) reading
+    (λ model (state : State) stands. c.standing_law.ensures (state_of c.in-Ok.store) state _ (c.in-Ok.ensures.opened.of_model model).stands stands) (route_asks asked) reading

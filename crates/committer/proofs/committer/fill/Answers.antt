@@ -2,7 +2,7 @@ use Rattle.std.proofs.Common.{◌∷◌, ◌++◌, ◌+◌, [], length, ap, sym,
 use Rattle.checkpoint.specs.StoreWords.{state_of}
 use Rattle.group_commit.specs.DeskWords.{store_of as desk_store, held_of as desk_held}
 use Rattle.committer.proofs.InTurns.{next_here, holds_more}
-use Rattle.committer.proofs.Taking.{taken_none, taken_more}
+use Rattle.committer.proofs.Taking.{taken_more}
 use Rattle.committer.proofs.Listings.{within_more}
 use Rattle.committer.proofs.committer.fill.Goals as goal
 

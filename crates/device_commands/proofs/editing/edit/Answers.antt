@@ -1,63 +1,47 @@
-use Rattle.std.proofs.Common.{sym, ◌≡◌, ◌<◌, ◌⊎◌, ◌∙◌, subst, IsTrue, IfOk, OnOk, IsErrOf}
-use Rattle.disk_trait.specs.Disk.{OnlyRead}
-use Rattle.requests.specs.Tickets.{worn_limit}
+use Rattle.std.proofs.Common.{◌≡◌, ◌∙◌, IsTrue, refl, subst, sym}
+use Rattle.std.proofs.lemmas.Result.{IfErr-weaker}
+use Rattle.disk_trait.specs.Disk.{IsSameDevice, OnlyRead, ran_on}
 use Rattle.layout_2.specs.State.{State}
 use Rattle.checkpoint.specs.StoreWords.{state_of, view_of}
-use Rattle.command_output.specs.declared.fault.Fault.TheVariants.{AlreadyIn, Worn}
-use Rattle.layout_2.specs.Standing.{KeepsThrough}
-use Rattle.device_commands.specs.Answer.{IsNew, IsTaken, last_ticket, state_after, ticket_of, verdict_of}
+use Rattle.device_commands.specs.Answer.{state_after}
+use Rattle.device_commands.specs.Edits.{EditsState}
 use Rattle.device_commands.proofs.OneRequest.{edit_fails, edit_keeps, edit_leaves, edit_reads, of_one_state}
-use Rattle.device_commands.proofs.OpenFaults.{change_unwritten}
+use Rattle.device_commands.proofs.OpenFaults.{change_edits, change_tells, change_unwritten, not_edited}
 use Rattle.device_commands.proofs.editing.edit.Goals as goal
 
-pub returns-in-Ok-clause-verdict : goal.returns-in-Ok-clause-verdict
-returns-in-Ok-clause-verdict g c model state stands =
-    let same : state_of c.in-Ok.store ≡ state = c.standing_law.ensures (state_of c.in-Ok.store) state _ (c.in-Ok.ensures.stands model) stands in
-    subst (λ s. IfOk c.settle_one-answer.result.0 (λ verdict. verdict ≡ verdict_of s c.args.change)) same c.settle_one-answer.ensures.verdict
+pub returns-in-Ok : goal.returns-in-Ok
+returns-in-Ok g c =
+    let disk = g.D.Disk.view c.args.disk in
+    let left = g.D.Disk.view c.into_disk.result in
+    let opened = c.in-Ok.ensures.opened in
+    let by = c.settle_one-answer.ensures in
+    let answer = c.settle_one-answer.result.0 in
+    let done = c.settle_one-answer.result.1 in
+    let at = state_of c.in-Ok.store in
+    record {
+      of_one = of_one_state answer at c.args.session c.args.named c.args.change by.settled.verdict by.new;
+      of_content = λ model state stands.
+          let same : at ≡ state = c.standing_law.ensures at state _ (opened.of_model model).stands stands in
+          let still : IsTrue (view_of c.in-Ok.store).keeps_model = subst IsTrue (sym opened.ran.model) model in
+          let keeps : IsTrue (view_of done).keeps_model = subst IsTrue (sym (by.settled.ran.model ∙ opened.ran.model)) model in
+          subst (λ (s : State). EditsState c.args.session c.args.named c.args.change disk left answer s) same (record {
+            verdict = by.settled.verdict;
+            new = by.new;
+            left = edit_keeps c.into_disk.result done answer (state_after at c.args.session c.args.named c.args.change) c.into_disk.ensures keeps by.settled.state by.settled.up;
+            already_in = by.already_in;
+            worn = by.worn;
+            refused = λ refused. edit_reads c.args.disk c.into_disk.result c.in-Ok.store done (by.settled.refused refused) c.into_disk.ensures (opened.of_model model).reads;
+            any_moment = λ held. edit_leaves c.args.disk c.into_disk.result c.in-Ok.store done at (λ (s : State). state_after s c.args.session c.args.named c.args.change) refl c.into_disk.ensures (opened.of_model model).reads held
+                (by.settled.any_moment still);
+          });
+      unwritten = λ model. change_unwritten answer (OnlyRead disk left) by.faults
+          (λ is. edit_reads c.args.disk c.into_disk.result c.in-Ok.store done (by.unwritten is) c.into_disk.ensures (opened.of_model model).reads)
+          (λ is. edit_reads c.args.disk c.into_disk.result c.in-Ok.store done (by.settled.worn_leaves is) c.into_disk.ensures (opened.of_model model).reads);
+      tells = λ model. IfErr-weaker answer _ _ (λ fault is. change_tells fault disk.content is) by.faults;
+      device = λ is. edit_fails c.args.disk c.into_disk.result c.in-Ok.store done c.into_disk.ensures opened.ran.no_fewer (by.settled.device is);
+      faults = IfErr-weaker answer _ _ change_edits by.faults;
+      ran = subst (λ d. IsSameDevice disk (g.D.Disk.view d)) (sym c.into_disk.ensures) (ran_on disk (view_of c.in-Ok.store) (view_of done) opened.ran by.settled.ran);
+    }
 
-pub returns-in-Ok-clause-new : goal.returns-in-Ok-clause-new
-returns-in-Ok-clause-new g c model state stands =
-    let same : state_of c.in-Ok.store ≡ state = c.standing_law.ensures (state_of c.in-Ok.store) state _ (c.in-Ok.ensures.stands model) stands in
-    subst (λ s. OnOk c.settle_one-answer.result.0 (IsNew s c.args.session c.args.named)) same c.settle_one-answer.ensures.new
-
-pub returns-in-Ok-clause-of_one : goal.returns-in-Ok-clause-of_one
-returns-in-Ok-clause-of_one g c = of_one_state c.settle_one-answer.result.0 (state_of c.in-Ok.store) c.args.session c.args.named c.args.change c.settle_one-answer.ensures.verdict c.settle_one-answer.ensures.new
-
-pub returns-in-Ok-clause-already_in : goal.returns-in-Ok-clause-already_in
-returns-in-Ok-clause-already_in g c model state stands =
-    let same : state_of c.in-Ok.store ≡ state = c.standing_law.ensures (state_of c.in-Ok.store) state _ (c.in-Ok.ensures.stands model) stands in
-    subst (λ s. IsErrOf c.settle_one-answer.result.0 AlreadyIn → ¬ (IsNew s c.args.session c.args.named)) same c.settle_one-answer.ensures.already_in
-
-pub returns-in-Ok-clause-unwritten : goal.returns-in-Ok-clause-unwritten
-returns-in-Ok-clause-unwritten g c model =
-    change_unwritten c.settle_one-answer.result.0 (OnlyRead (g.D.Disk.view c.args.disk) (g.D.Disk.view c.into_disk.result)) c.settle_one-answer.ensures.faults
-    (λ is. edit_reads c.args.disk c.into_disk.result c.in-Ok.store c.settle_one-answer.result.1 (c.settle_one-answer.ensures.unwritten is) c.into_disk.ensures (c.in-Ok.ensures.reads model))
-    (λ is. edit_reads c.args.disk c.into_disk.result c.in-Ok.store c.settle_one-answer.result.1 (c.settle_one-answer.ensures.worn_leaves is) c.into_disk.ensures (c.in-Ok.ensures.reads model))
-
-pub returns-in-Ok-clause-refused : goal.returns-in-Ok-clause-refused
-returns-in-Ok-clause-refused g c model state stands refused =
-    let same : state_of c.in-Ok.store ≡ state = c.standing_law.ensures (state_of c.in-Ok.store) state _ (c.in-Ok.ensures.stands model) stands in
-    edit_reads c.args.disk c.into_disk.result c.in-Ok.store c.settle_one-answer.result.1 (c.settle_one-answer.ensures.refused (subst (λ s. ¬ (IsTaken s c.args.change)) (sym same) refused)) c.into_disk.ensures (c.in-Ok.ensures.reads model)
-
-pub returns-in-Ok-clause-device : goal.returns-in-Ok-clause-device
-returns-in-Ok-clause-device g c is =
-    edit_fails c.args.disk c.into_disk.result c.in-Ok.store c.settle_one-answer.result.1 c.into_disk.ensures c.in-Ok.ensures.ran.no_fewer (c.settle_one-answer.ensures.device is)
-
-pub returns-in-Ok-clause-worn : goal.returns-in-Ok-clause-worn
-returns-in-Ok-clause-worn g c model state stands =
-    let same : state_of c.in-Ok.store ≡ state = c.standing_law.ensures (state_of c.in-Ok.store) state _ (c.in-Ok.ensures.stands model) stands in
-    subst (λ s. IsErrOf c.settle_one-answer.result.0 Worn → IsNew s c.args.session c.args.named × ((worn_limit < ticket_of (last_ticket s c.args.session) c.args.named) ⊎ IsTaken s c.args.change)) same c.settle_one-answer.ensures.worn
-
-pub returns-in-Ok-clause-left : goal.returns-in-Ok-clause-left
-returns-in-Ok-clause-left g c model state stands =
-    let same : state_of c.in-Ok.store ≡ state = c.standing_law.ensures (state_of c.in-Ok.store) state _ (c.in-Ok.ensures.stands model) stands in
-    let keeps : IsTrue (view_of c.settle_one-answer.result.1).keeps_model = subst IsTrue (sym (c.settle_one-answer.ensures.ran.model ∙ c.in-Ok.ensures.ran.model)) model in
-    subst (λ s. OnOk c.settle_one-answer.result.0 (KeepsThrough (g.D.Disk.view c.into_disk.result) (state_after s c.args.session c.args.named c.args.change))) same
-    (edit_keeps c.into_disk.result c.settle_one-answer.result.1 c.settle_one-answer.result.0 (state_after (state_of c.in-Ok.store) c.args.session c.args.named c.args.change) c.into_disk.ensures keeps c.settle_one-answer.ensures.state c.settle_one-answer.ensures.up)
-
-pub returns-in-Ok-clause-any_moment : goal.returns-in-Ok-clause-any_moment
-returns-in-Ok-clause-any_moment g c model state stands keeps =
-    let same : state_of c.in-Ok.store ≡ state = c.standing_law.ensures (state_of c.in-Ok.store) state _ (c.in-Ok.ensures.stands model) stands in
-    let still : IsTrue (view_of c.in-Ok.store).keeps_model = subst IsTrue (sym c.in-Ok.ensures.ran.model) model in
-    edit_leaves c.args.disk c.into_disk.result c.in-Ok.store c.settle_one-answer.result.1 state (λ (s : State). state_after s c.args.session c.args.named c.args.change) same c.into_disk.ensures (c.in-Ok.ensures.reads model) keeps
-    (c.settle_one-answer.ensures.any_moment still)
+pub returns-in-Err : goal.returns-in-Err
+returns-in-Err g c = not_edited c.args.session c.args.named c.args.change _ _ c.in-Err.fault c.in-Err.ensures.refused

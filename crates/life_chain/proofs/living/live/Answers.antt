@@ -31,19 +31,20 @@ use Rattle.life_chain.proofs.living.live.Goals as goal
 
 pub returns-in-Err-clause-refused : goal.returns-in-Err-clause-refused
 returns-in-Err-clause-refused g c model =
-    let is = c.in-Err.ensures in
+    let is = c.in-Err.ensures.refused in
+    let content = is.of_model model in
     record {
-      front = tells c.in-Err.refused.0 (g.D.Disk.view c.args.disk).content (is.not_formatted model) (is.bad_version model) (is.damaged model) (is.memory model);
-      read = is.reads_err model;
-      ran = is.ran_err;
+      front = tells c.in-Err.refused.0 (g.D.Disk.view c.args.disk).content content.not_formatted content.bad_version content.damaged content.memory;
+      read = content.reads;
+      ran = is.ran;
       device = is.device;
       served = is.served;
-      none = is.refused model;
+      none = content.stands_for_none;
     }
 
 pub returns-clause-lived : goal.returns-clause-lived
 returns-clause-lived g c model =
-    let opened = c.in-Ok.ensures in
+    let opened = c.in-Ok.ensures.opened in
     let store = c.in-Ok.store in
     let disk = c.args.disk in
     let life : Life = c.args.life.now in
@@ -87,7 +88,7 @@ returns-clause-lived g c model =
     subst (λ (l : List Event). (machine_of end).asked ≡ (machine_of armed).asked ++ all_let_in l replies.items) c.as_slice-2.ensures.value c.run_into.ensures.asked in
     let run : HasRun armed life.events.items replies.items end = subst (λ (l : List Event). HasRun armed l replies.items end) c.as_slice-2.ensures.value c.run_into.ensures.worlds in
     let read : OnlyRead (g.D.Disk.view disk) (world_view armed) =
-    read_same (g.D.Disk.view disk) (world_view built) (world_view armed) (subst (λ st. OnlyRead (g.D.Disk.view disk) (view_of st)) (sym built_is) (opened.reads model)) c.arm.ensures.same in
+    read_same (g.D.Disk.view disk) (world_view built) (world_view armed) (subst (λ st. OnlyRead (g.D.Disk.view disk) (view_of st)) (sym built_is) (opened.of_model model).reads) c.arm.ensures.same in
     let reported : machine_of end ≡ machine_with report.stored due state down = ap (λ (x : Stored). machine_with x due state down) (sym c.into_parts-stored.ensures.stored) in
     let answered : IsAnswered s life report (machine_of armed) (machine_of end) =
     answered_is s life report (machine_of armed) (machine_of end) reported rebuilt asked_is answers (c.run_into.ensures.lists s listed_armed) (c.run_into.ensures.routed_well s listed_armed ways_armed) in
@@ -97,7 +98,7 @@ returns-clause-lived g c model =
     subst (λ d. IsTrue (g.D.Disk.view d).keeps_model → HasCrashed g.D.Disk d left) disk_is (λ m. record { image = c.crash-disk.ensures.image m; settled = c.crash-disk.ensures.settled m; ran = c.crash-disk.ensures.ran }) model_end in
     let opened_is : opened_of report ≡ s = by_parts c.count-count.result s.count c.in-Ok-parts_of.graph s.graph c.starts-tickets.result s.tickets c.count-count.ensures.same c.in-Ok-parts_of.ensures.graph c.starts-tickets.ensures in
     lived_is g.D.Disk g.C.Crash.by_word disk left s life report opened_is (record {
-      opened = opened.ok model;
+      opened = (opened.of_model model).stands;
       started = armed;
       worlds = run.worlds;
       stopped = end;

@@ -1,4 +1,4 @@
-use Rattle.std.proofs.Common.{rules, ◌≡◌, ◌∙◌, sym, subst}
+use Rattle.std.proofs.Common.{rules, ◌≡◌, ◌++◌, ◌∷◌, [], ◌∙◌, sym, subst}
 use Rattle.service_workers.specs.declared.session_editor.EditEnd.{EditEnd}
 use Rattle.service_workers.specs.EditedAsAsked.{IsEditEnd}
 use Rattle.live_service.proofs.Answering.{edit_said}
@@ -18,3 +18,10 @@ returns-in-AlreadyIn-clause-said g c =
     let of : c.args.session ≡ c.args.editor.editor.session = search rules in
     let end = subst (λ (e : EditEnd). IsEditEnd c.args.editor.editor c.in_ok-editor.ticket c.args.change new e) c.in-AlreadyIn.is c.in_ok-editor.ensures.ended in
     old_said g.B.Naming.opening new.known c.args.editor.editor c.args.session c.args.ticket c.args.change c.in_ok-editor.ticket c.in_ok-editor.editor.named of c.args.editor.start_is end.1
+
+pub returns-in-Settled-clause-put : goal.returns-in-Settled-clause-put
+returns-in-Settled-clause-put g c =
+    let old = c.args.editor.editor in
+    let of : c.args.session ≡ c.args.editor.editor.session = search rules in
+    let end = subst (λ (e : EditEnd). IsEditEnd old c.in_ok-editor.ticket c.args.change c.in_ok-editor.editor.editor e) c.in-Settled.is c.in_ok-editor.ensures.ended in
+    end.0.put ∙ (λ i. old.put ++ record { session = sym of i; ticket = end.1 i; change = c.args.change } ∷ [])

@@ -14,11 +14,11 @@ use Rattle.live_service.proofs.script.serve_lines.Goals as goal
 pub returns-in-Err-clause-ended : goal.returns-in-Err-clause-ended
 returns-in-Err-clause-ended g c =
     subst (λ (f : Fault). IsServeEnd g.D.Disk c.args.disk c.args.words (Some c.in-Err.disk) f) (sym c.fault_of.ensures)
-    (told_end g.D.Disk c.args.disk c.args.words (Some c.in-Err.disk) c.in-Err.fault c.in-Err.ensures.tells c.in-Err.ensures.words c.in-Err.ensures.of_one (λ keeps is. c.in-Err.ensures.reads_err keeps)
-    c.in-Err.ensures.device)
+    (told_end g.D.Disk c.args.disk c.args.words (Some c.in-Err.disk) c.in-Err.fault c.in-Err.ensures.refused.tells c.in-Err.ensures.refused.words c.in-Err.ensures.refused.of_one (λ keeps is. c.in-Err.ensures.refused.reads keeps)
+    c.in-Err.ensures.refused.device)
 
 pub returns-in-Err-clause-left : goal.returns-in-Err-clause-left
-returns-in-Err-clause-left g c = read_left g.D.Disk c.args.disk c.in-Err.disk c.in-Err.ensures.ran_err c.in-Err.ensures.reads_err
+returns-in-Err-clause-left g c = read_left g.D.Disk c.args.disk c.in-Err.disk c.in-Err.ensures.refused.ran c.in-Err.ensures.refused.reads
 
 pub returns-clause-ended : goal.returns-clause-ended
 returns-clause-ended g c =
@@ -26,7 +26,7 @@ returns-clause-ended g c =
     let ended = c.serve_script-served.ensures.engine_end in
     let back = c.serve_script-served.result.1 in
     err_of c.result_of.result (fault_of c.serve_script-served.result.0) (λ f. IsServeEnd g.D.Disk c.args.disk c.args.words back f) c.result_of.ensures.fault
-    (engine_ends c.args.disk c.args.words store ended.0 back (fault_of c.serve_script-served.result.0) c.in-Ok.ensures.ran ended.1.disk ended.1.fault)
+    (engine_ends c.args.disk c.args.words store ended.0 back (fault_of c.serve_script-served.result.0) c.in-Ok.ensures.opened.ran ended.1.disk ended.1.fault)
 
 pub returns-clause-untouched : goal.returns-clause-untouched
 returns-clause-untouched g c =
@@ -36,7 +36,7 @@ pub returns-clause-left : goal.returns-clause-left
 returns-clause-left g c =
     let ended = c.serve_script-served.ensures.engine_end in
     opened_left c.args.disk c.in-Ok.opened.0 ended.0 c.serve_script-served.result.1 c.standing_law.ensures
-    (record { held = c.in-Ok.ensures.stands; reads = c.in-Ok.ensures.reads; ran = c.in-Ok.ensures.ran }) ended.1.disk
+    (record { held = λ model. (c.in-Ok.ensures.opened.of_model model).stands; reads = λ model. (c.in-Ok.ensures.opened.of_model model).reads; ran = c.in-Ok.ensures.opened.ran }) ended.1.disk
 
 pub returns-clause-one_list : goal.returns-clause-one_list
 returns-clause-one_list g c =
@@ -46,4 +46,4 @@ returns-clause-one_list g c =
     ok_of c.result_of.result (c.serve_script-served.result.0) _ c.result_of.ensures.printed
     (λ is. subst (λ (n : ℕ). IsSomeAnd back (λ d. HasAnsweredScript g.D.Disk c.args.disk d (Script c.args.script.items) n (g.O.Write.contents c.args.out.now) new)) c.seated.ensures.editors
     (script_answered c.args.disk store (Script c.args.script.items) c.seated.result.editors (g.O.Write.contents c.args.out.now) new back
-    (record { held = c.in-Ok.ensures.stands; reads = c.in-Ok.ensures.reads; ran = c.in-Ok.ensures.ran }) (c.serve_script-served.ensures.one_list is)))
+    (record { held = λ model. (c.in-Ok.ensures.opened.of_model model).stands; reads = λ model. (c.in-Ok.ensures.opened.of_model model).reads; ran = c.in-Ok.ensures.opened.ran }) (c.serve_script-served.ensures.one_list is)))

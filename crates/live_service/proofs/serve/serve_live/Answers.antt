@@ -17,23 +17,23 @@ returns-in-Err-clause-printed g c =
 pub returns-in-Err-clause-ended : goal.returns-in-Err-clause-ended
 returns-in-Err-clause-ended g c =
     subst (λ o. IfSome o (λ f. IsServeEnd g.D.Disk c.args.disk c.args.words (Some c.in-Err.disk) f)) (sym (c.told.ensures.fault ∙ ap Some c.fault_of.ensures))
-    (told_end g.D.Disk c.args.disk c.args.words (Some c.in-Err.disk) c.in-Err.fault c.in-Err.ensures.tells c.in-Err.ensures.words c.in-Err.ensures.of_one (λ keeps is. c.in-Err.ensures.reads_err keeps)
-    c.in-Err.ensures.device)
+    (told_end g.D.Disk c.args.disk c.args.words (Some c.in-Err.disk) c.in-Err.fault c.in-Err.ensures.refused.tells c.in-Err.ensures.refused.words c.in-Err.ensures.refused.of_one (λ keeps is. c.in-Err.ensures.refused.reads keeps)
+    c.in-Err.ensures.refused.device)
 
 pub returns-in-Err-clause-left : goal.returns-in-Err-clause-left
-returns-in-Err-clause-left g c = read_left g.D.Disk c.args.disk c.in-Err.disk c.in-Err.ensures.ran_err c.in-Err.ensures.reads_err
+returns-in-Err-clause-left g c = read_left g.D.Disk c.args.disk c.in-Err.disk c.in-Err.ensures.refused.ran c.in-Err.ensures.refused.reads
 
 pub returns-clause-ended : goal.returns-clause-ended
 returns-clause-ended g c =
     let store = c.in-Ok.opened.0 in
     let ended = c.serve_stream.ensures.ended in
-    engine_ends c.args.disk c.args.words store ended.0 c.serve_stream.result.1 (fault_of c.serve_stream.result.0) c.in-Ok.ensures.ran ended.1.disk ended.1.fault
+    engine_ends c.args.disk c.args.words store ended.0 c.serve_stream.result.1 (fault_of c.serve_stream.result.0) c.in-Ok.ensures.opened.ran ended.1.disk ended.1.fault
 
 pub returns-clause-left : goal.returns-clause-left
 returns-clause-left g c =
     let ended = c.serve_stream.ensures.ended in
     opened_left c.args.disk c.in-Ok.opened.0 ended.0 c.serve_stream.result.1 c.standing_law.ensures
-    (record { held = c.in-Ok.ensures.stands; reads = c.in-Ok.ensures.reads; ran = c.in-Ok.ensures.ran }) ended.1.disk
+    (record { held = λ model. (c.in-Ok.ensures.opened.of_model model).stands; reads = λ model. (c.in-Ok.ensures.opened.of_model model).reads; ran = c.in-Ok.ensures.opened.ran }) ended.1.disk
 
 pub returns-in-Err-clause-one_list : goal.returns-in-Err-clause-one_list
 returns-in-Err-clause-one_list g c is = absurd (not_printed c.told.result _ c.told.ensures.fault is)
@@ -44,4 +44,4 @@ returns-clause-one_list g c is =
     let back = c.serve_stream.result.1 in
     subst (λ (n : ℕ). IsSomeAnd back (λ d. HasAnswered g.D.Disk c.args.disk d (Bytes (g.S.Read.remaining c.args.input)) n (g.O.Write.contents c.args.out.now) (g.O.Write.contents c.serve_stream.new.out))) c.seated.ensures.editors
     (answered c.args.disk store (Bytes (g.S.Read.remaining c.args.input)) c.seated.result.editors (g.O.Write.contents c.args.out.now) (g.O.Write.contents c.serve_stream.new.out) back
-    (record { held = c.in-Ok.ensures.stands; reads = c.in-Ok.ensures.reads; ran = c.in-Ok.ensures.ran }) (c.serve_stream.ensures.one_list is))
+    (record { held = λ model. (c.in-Ok.ensures.opened.of_model model).stands; reads = λ model. (c.in-Ok.ensures.opened.of_model model).reads; ran = c.in-Ok.ensures.opened.ran }) (c.serve_stream.ensures.one_list is))

@@ -4,18 +4,15 @@ use Rattle.checkpoint.specs.Whole.{without_tickets, StandsForNoneOr}
 use Rattle.migrate.specs.Moved.{HoldsNoneOrAllOf}
 use Rattle.migrate.proofs.moving.bring_over.Goals as goal
 
-pub returns-in-Err-clause-damaged : goal.returns-in-Err-clause-damaged
-returns-in-Err-clause-damaged g c model is = c.in-Err.ensures.damaged model cc
-
 pub returns-in-Ok-write_state-clause-ok : goal.returns-in-Ok-write_state-clause-ok
 returns-in-Ok-write_state-clause-ok g c old_model new_model = record {
   graph = c.in-Ok.held.1;
   edges = c.edges-edges.ensures;
   held = c.in-Ok.ensures.ok old_model;
-  holds = c.in-Ok-write_state.ensures.ok new_model;
-  left = c.in-Ok-write_state.ensures.left new_model;
-  fresh = c.in-Ok-write_state.ensures.fresh new_model;
-  fresh_left = c.in-Ok-write_state.ensures.fresh_left new_model;
+  holds = (c.in-Ok-write_state.ensures.ok.of_model new_model).stands;
+  left = (c.in-Ok-write_state.ensures.ok.of_model new_model).left;
+  fresh = (c.in-Ok-write_state.ensures.ok.of_model new_model).fresh;
+  fresh_left = (c.in-Ok-write_state.ensures.ok.of_model new_model).fresh_left;
 }
 
 pub returns-in-Ok-write_state-clause-any_moment : goal.returns-in-Ok-write_state-clause-any_moment

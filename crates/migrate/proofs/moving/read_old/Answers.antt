@@ -1,5 +1,5 @@
 use Rattle.std.proofs.Common.{subst, sym}
-use Rattle.layout_1.specs.Refusals.{IsFormatFault, TellsOf}
+use Rattle.layout_1.specs.Refusals.{IsFormatFault, IsNoDeviceFault, TellsOf}
 use Rattle.layout_1.specs.State.{counted}
 use Rattle.migrate.proofs.moving.read_old.Goals as goal
 
@@ -18,8 +18,11 @@ returns-in-Ok-clause-ok g c model =
       count_fits = c.in-Ok.ensures.fits;
     }
 
-pub returns-in-Err-Damaged-clause-damaged : goal.returns-in-Err-Damaged-clause-damaged
-returns-in-Err-Damaged-clause-damaged g c model _ =
+pub returns-in-Err-Damaged-clause-refused : goal.returns-in-Err-Damaged-clause-refused
+returns-in-Err-Damaged-clause-refused g c =
     let v = g.O.Disk.view c.args.old.now in
     let is = c.in-Err-Damaged.field-0-is in
-    (subst (λ e. TellsOf e v.content) is (c.in-Err-Damaged.ensures.tells model), c.in-Err-Damaged.ensures.refused model (subst IsFormatFault (sym is) tt))
+    record {
+      content = λ model. (subst (λ e. TellsOf e v.content) is (c.in-Err-Damaged.ensures.tells model), c.in-Err-Damaged.ensures.refused model (subst IsFormatFault (sym is) tt));
+      calls = c.in-Err-Damaged.ensures.served (subst IsNoDeviceFault (sym is) tt);
+    }

@@ -11,11 +11,11 @@ pub returns-in-Ok-commit-clause-any_moment : goal.returns-in-Ok-commit-clause-an
 returns-in-Ok-commit-clause-any_moment g c model next goes =
     let old = c.args.store.now in
     let rolled = c.roll.new.self in
-    let mid_state : state_of c.commit.new.self ≡ state_of old = c.in-Err-NeedsRoll.ensures.err in
+    let mid_state : state_of c.commit.new.self ≡ state_of old = c.in-Err-NeedsRoll.ensures.refused.state in
     let state : state_of rolled ≡ state_of old = c.roll.ensures.same ∙ mid_state in
-    let mid_up : is_down c.commit.new.self ≡ false = c.in-Err-NeedsRoll.ensures.stays_up c.requires.up (λ e. cc) in
-    let up : is_down rolled ≡ false = c.in-Ok-roll.ensures.stays_up mid_up (λ e. cc) in
-    let rolls = rolled_leaves old c.commit.new.self rolled (c.in-Err-NeedsRoll.ensures.untouched refl (λ e. cc)) model (λ still. c.roll.ensures.any_moment still mid_up) in
+    let mid_up : is_down c.commit.new.self ≡ false = c.in-Err-NeedsRoll.ensures.refused.stays_up c.requires.up (λ e. cc) in
+    let up : is_down rolled ≡ false = c.in-Ok-roll.ensures.refused.stays_up mid_up (λ e. cc) in
+    let rolls = rolled_leaves old c.commit.new.self rolled (c.in-Err-NeedsRoll.ensures.refused.untouched refl (λ e. cc)) model (λ still. c.roll.ensures.any_moment still mid_up) in
     let still : IsTrue (view_of rolled).keeps_model = subst IsTrue (sym (c.roll.ensures.ran.model ∙ c.commit.ensures.ran.model)) model in
     let on : after (state_of rolled) c.args.requests.now ≡ Some next = subst (λ (s : State). after s c.args.requests.now ≡ Some next) (sym state) goes in
     then_commits old rolled c.commit-2.new.self next state rolls (c.commit-2.ensures.any_moment still up next on)
@@ -24,11 +24,11 @@ pub returns-in-Err-Device-commit-clause-any_moment : goal.returns-in-Err-Device-
 returns-in-Err-Device-commit-clause-any_moment g c model next goes =
     let old = c.args.store.now in
     let rolled = c.roll.new.self in
-    let mid_state : state_of c.commit.new.self ≡ state_of old = c.in-Err-NeedsRoll.ensures.err in
+    let mid_state : state_of c.commit.new.self ≡ state_of old = c.in-Err-NeedsRoll.ensures.refused.state in
     let state : state_of rolled ≡ state_of old = c.roll.ensures.same ∙ mid_state in
-    let mid_up : is_down c.commit.new.self ≡ false = c.in-Err-NeedsRoll.ensures.stays_up c.requires.up (λ e. cc) in
-    let up : is_down rolled ≡ false = c.in-Ok-roll.ensures.stays_up mid_up (λ e. cc) in
-    let rolls = rolled_leaves old c.commit.new.self rolled (c.in-Err-NeedsRoll.ensures.untouched refl (λ e. cc)) model (λ still. c.roll.ensures.any_moment still mid_up) in
+    let mid_up : is_down c.commit.new.self ≡ false = c.in-Err-NeedsRoll.ensures.refused.stays_up c.requires.up (λ e. cc) in
+    let up : is_down rolled ≡ false = c.in-Ok-roll.ensures.refused.stays_up mid_up (λ e. cc) in
+    let rolls = rolled_leaves old c.commit.new.self rolled (c.in-Err-NeedsRoll.ensures.refused.untouched refl (λ e. cc)) model (λ still. c.roll.ensures.any_moment still mid_up) in
     let still : IsTrue (view_of rolled).keeps_model = subst IsTrue (sym (c.roll.ensures.ran.model ∙ c.commit.ensures.ran.model)) model in
     let on : after (state_of rolled) c.args.requests.now ≡ Some next = subst (λ (s : State). after s c.args.requests.now ≡ Some next) (sym state) goes in
     then_commits old rolled c.commit-2.new.self next state rolls (c.commit-2.ensures.any_moment still up next on)

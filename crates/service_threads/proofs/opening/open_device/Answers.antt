@@ -1,27 +1,38 @@
-use Rattle.std.proofs.Common.{rules, ◌≡◌, ◌∙◌, ap, sym, subst, IsTrue, List, ℕ}
+use Rattle.std.proofs.Common.{rules, ◌≡◌, sym, subst, IsTrue}
+use Rattle.disk_trait.specs.Disk.{IsSameDevice, OnlyRead}
 use Rattle.checkpoint.specs.StoreWords.{state_of}
 use Rattle.layout_2.specs.State.{State}
 use Rattle.written_values.specs.Words.{IsWithin}
-use Rattle.service_threads.specs.declared.fault.Fault.{Fault}
-use Rattle.service_threads.specs.Faults.{TellsOf}
-use Rattle.service_threads.proofs.Openings.{opening_tells}
+use Rattle.service_threads.proofs.Openings.{not_opened}
 use Rattle.service_threads.proofs.opening.open_device.Goals as goal
 
-pub returns-in-Err-clause-tells : goal.returns-in-Err-clause-tells
-returns-in-Err-clause-tells g c model =
-    let content : List ℕ = (g.D.Disk.view c.args.disk).content in
-    subst (λ (fault : Fault). TellsOf fault content) (sym c.from.ensures)
-    (opening_tells c.in-Err.refused content (c.in-Err.ensures.refused model) (c.in-Err.ensures.not_formatted model) (c.in-Err.ensures.bad_version model) (c.in-Err.ensures.damaged model))
+pub returns-in-Err-clause-refused : goal.returns-in-Err-clause-refused
+returns-in-Err-clause-refused g c = not_opened c.args.words.now _ _ c.in-Err.refused _ c.from.ensures c.in-Err.ensures.refused
 
-pub returns-then-not-is_within-clause-words : goal.returns-then-not-is_within-clause-words
-returns-then-not-is_within-clause-words g c model state stands is within =
-    let same : state_of c.in-Ok.store ≡ state = c.standing_law.ensures (state_of c.in-Ok.store) state _ (c.in-Ok.ensures.ok model) stands in
-    let nodes : c.nodes.result ≡ state.graph.nodes = c.nodes.ensures ∙ ap (λ (s : State). s.graph.nodes) same in
+pub returns-then-not-is_within-clause-refused : goal.returns-then-not-is_within-clause-refused
+returns-then-not-is_within-clause-refused g c =
+    let opened = c.in-Ok.ensures.opened in
     let outside : IsTrue c.is_within.result → ⊥ = search rules in
-    outside (c.is_within.ensures.1 (subst (λ n. IsWithin c.args.words.now n) (sym nodes) within))
+    let beyond : ¬ (IsWithin c.args.words.now (state_of c.in-Ok.store).graph.nodes) = λ within. outside (c.is_within.ensures.1 (subst (λ n. IsWithin c.args.words.now n) (sym c.nodes.ensures) within)) in
+    record {
+      tells = λ model. tt;
+      words = λ model state stands _.
+          let same : state_of c.in-Ok.store ≡ state = c.standing_law.ensures (state_of c.in-Ok.store) state _ (opened.of_model model).stands stands in
+          subst (λ (s : State). ¬ (IsWithin c.args.words.now s.graph.nodes)) same beyond;
+      of_one = λ _. (state_of c.in-Ok.store, beyond);
+      device = λ is. absurd cc;
+      reads = λ model. subst (λ d. OnlyRead (g.D.Disk.view c.args.disk) (g.D.Disk.view d)) (sym c.into_disk.ensures) (opened.of_model model).reads;
+      ran = subst (λ d. IsSameDevice (g.D.Disk.view c.args.disk) (g.D.Disk.view d)) (sym c.into_disk.ensures) opened.ran;
+    }
 
-pub returns-then-not-is_within-clause-of_one : goal.returns-then-not-is_within-clause-of_one
-returns-then-not-is_within-clause-of_one g c is =
-    let nodes : c.nodes.result ≡ (state_of c.in-Ok.store).graph.nodes = c.nodes.ensures in
-    let outside : IsTrue c.is_within.result → ⊥ = search rules in
-    (state_of c.in-Ok.store, λ within. outside (c.is_within.ensures.1 (subst (λ n. IsWithin c.args.words.now n) (sym nodes) within)))
+pub returns-in-Err-of-clause-refused : goal.returns-in-Err-of-clause-refused
+returns-in-Err-of-clause-refused g c =
+    let opened = c.in-Ok.ensures.opened in
+    record {
+      tells = λ model. tt;
+      words = λ model state stands is. absurd cc;
+      of_one = λ is. absurd cc;
+      device = λ is. absurd cc;
+      reads = λ model. subst (λ d. OnlyRead (g.D.Disk.view c.args.disk) (g.D.Disk.view d)) (sym c.into_disk-in-Err-of.ensures) (opened.of_model model).reads;
+      ran = subst (λ d. IsSameDevice (g.D.Disk.view c.args.disk) (g.D.Disk.view d)) (sym c.into_disk-in-Err-of.ensures) opened.ran;
+    }

@@ -9,9 +9,8 @@ use Rattle.stop_trials.proofs.listing.calls_of.Goals as goal
 
 pub returns : goal.returns
 returns c =
-    let lived_there = rw c.in_ok-report.was at (c.lives_on-report.ensures.lived refl) in
-    let chained_there = rw c.in_ok-report.was at (c.lives_on-report.ensures.chained refl) in
-    let once = rw c.in_ok-report.was at (c.lives_on-report.ensures.exactly_once refl) in
+    let told_there = rw c.in_ok-report.was at c.lives_on-report.ensures.told in
+    let told = told_there.of_model refl in
     let whole : is_whole c.in_ok-report.report ≡ true = grind (arith, common_steps) in
     record {
       report = c.in_ok-report.report;
@@ -19,9 +18,9 @@ returns c =
       reported = record {
         disk = c.new.result;
         formatted = subst (λ (d : MemDisk). StandsFor (first_state c.args.nodes) (mem_view d).content) (sym c.new.ensures.disk) c.in_ok-disk.ensures.formatted;
-        lived = lived_there;
-        chained = chained_there;
-        exactly_once = once;
+        lived = told.lived;
+        chained = told.chained;
+        exactly_once = told.exactly_once;
       };
       all = whole;
       noted = c.in_ok-into_calls.ensures;

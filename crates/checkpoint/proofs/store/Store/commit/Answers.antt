@@ -1,4 +1,4 @@
-use Rattle.std.proofs.Common.{arith, ◌≡◌, ◌⊎◌, inl, ◌+◌, ◌≤◌, length, refl, ap, sym, ◌∙◌, IsTrue, List, ℕ, subst, Some}
+use Rattle.std.proofs.Common.{arith, rules, ◌≡◌, ◌⊎◌, inl, ◌+◌, ◌≤◌, length, refl, ap, sym, ◌∙◌, IsTrue, List, ℕ, subst, Some}
 use Rattle.std.specs.Prelude.{Err}
 use Rattle.disk_trait.specs.Disk.{LeavesOnly, started, weaker}
 use Rattle.layout_2.specs.Records.{AllSpell}
@@ -60,18 +60,33 @@ invariant_of-self-in-Ok-clause-kept g c model_new up =
     kept_appended v0 (g.D.Disk.view c.append.new.disk) s.journal c.append.new.self s.slot s.epoch s.other_gate _ (state_of s) next c.args.requests.now s.two_slots (rw (s.at, s.room) refl) (s.kept model up) goes c.requires.in_turn
     c.append.ensures.area c.in-Ok.ensures.grows (λ known. (c.append.ensures.any_moment model known).now) (c.in-Ok.ensures.ok model)
 
-pub returns-clause-durable : goal.returns-clause-durable
-returns-clause-durable g c model =
+pub returns-clause-ok : goal.returns-clause-ok
+returns-clause-ok g c =
     let s = c.args.self.now in
     let v0 = view_of s in
     let next : State = state_with (s.count + length c.args.requests.now) c.install.new.self c.raise_all.new.tickets in
     let goes : after (state_of s) c.args.requests.now ≡ Some next = after_is (state_of s) c.args.requests.now c.install.new.self (sym c.in_ok-prepared.ensures.after ∙ ap Some (sym c.install.ensures)) ∙ ap (λ (ts : List ℕ). Some (state_with (s.count + length c.args.requests.now) c.install.new.self ts)) (sym c.raise_all.ensures) in
     let v1 = g.D.Disk.view c.append.new.disk in
-    kept_stands v1 s.slot s.epoch s.other_gate (state_with s.base_count.value s.base.value s.base_tickets.value) next c.append.new.self.groups s.two_slots (omega (arith, c.if-self-requests.false))
-    (kept_appended v0 v1 s.journal c.append.new.self s.slot s.epoch s.other_gate _ (state_of s) next c.args.requests.now s.two_slots (rw (s.at, s.room) refl) (s.kept model c.if-self.false) goes c.requires.in_turn
-    c.append.ensures.area c.in-Ok.ensures.grows (λ known. (c.append.ensures.any_moment model known).now) (c.in-Ok.ensures.ok model))
+    record {
+      state = goes;
+      appended = search rules;
+      durable = λ model. kept_stands v1 s.slot s.epoch s.other_gate (state_with s.base_count.value s.base.value s.base_tickets.value) next c.append.new.self.groups s.two_slots (omega (arith, c.if-self-requests.false))
+          (kept_appended v0 v1 s.journal c.append.new.self s.slot s.epoch s.other_gate _ (state_of s) next c.args.requests.now s.two_slots (rw (s.at, s.room) refl) (s.kept model c.if-self.false) goes c.requires.in_turn
+          c.append.ensures.area c.in-Ok.ensures.grows (λ known. (c.append.ensures.any_moment model known).now) (c.in-Ok.ensures.ok model));
+      no_failure = c.in-Ok.ensures.no_failure;
+    }
 
-pub returns-in-Err-Memory-clause-untouched : goal.returns-in-Err-Memory-clause-untouched
-returns-in-Err-Memory-clause-untouched g c _ _ =
+pub returns-in-Err-Memory-clause-refused : goal.returns-in-Err-Memory-clause-refused
+returns-in-Err-Memory-clause-refused g c =
     let is = ap Err c.in-Err-Memory.field-0-is in
-    same_store _ c.args.self.now (c.in-Err-Memory.ensures.memory_same is) c.in-Err-Memory.ensures.err refl refl refl refl refl refl refl refl refl refl
+    record {
+      down = search rules;
+      worn = search rules;
+      needs_roll = search rules;
+      rolled_fits = search rules;
+      device = search rules;
+      lost = search rules;
+      stays_up = search rules;
+      state = search rules;
+      untouched = λ _ _. same_store _ c.args.self.now (c.in-Err-Memory.ensures.memory_same is) c.in-Err-Memory.ensures.err refl refl refl refl refl refl refl refl refl refl;
+    }

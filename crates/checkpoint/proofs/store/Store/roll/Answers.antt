@@ -1,4 +1,4 @@
-use Rattle.std.proofs.Common.{arith, ◌∙◌, ◌+◌, [], IsTrue, refl, subst}
+use Rattle.std.proofs.Common.{arith, rules, ◌∙◌, ◌+◌, [], IsTrue, refl, subst}
 use Rattle.disk_trait.specs.Disk.{started}
 use Rattle.layout_2.specs.State.{State, state_with}
 use Rattle.layout_2.specs.Standing.{StandsFor}
@@ -10,8 +10,15 @@ use Rattle.checkpoint.proofs.Rolls.{stands_closing, stands_publishing, kept_roll
 use Rattle.checkpoint.proofs.SameStore.{same_store}
 use Rattle.checkpoint.proofs.store.Store.roll.Goals as goal
 
-pub returns-in-Err-clause-untouched : goal.returns-in-Err-clause-untouched
-returns-in-Err-clause-untouched g c _ _ = same_store _ c.args.self.now refl refl refl refl refl refl refl refl refl refl refl refl
+pub returns-in-Err-clause-refused : goal.returns-in-Err-clause-refused
+returns-in-Err-clause-refused g c = record {
+  down = search rules;
+  worn = search rules;
+  device = search rules;
+  lost = search rules;
+  stays_up = search rules;
+  untouched = λ _ _. same_store _ c.args.self.now refl refl refl refl refl refl refl refl refl refl refl refl;
+}
 
 pub returns-then-self-ge-WORN_LIMIT-clause-any_moment : goal.returns-then-self-ge-WORN_LIMIT-clause-any_moment
 returns-then-self-ge-WORN_LIMIT-clause-any_moment g c model up = started (view_of c.args.self.now) (StandsFor (state_of c.args.self.now)) (stands_now c.args.self.now model up)
@@ -59,14 +66,18 @@ invariant_of-self-2-clause-kept g c model_new up =
     v2 (c.in-Ok-publish.ensures.ok model1) in
     rw (c.of.ensures, c.of-2.ensures, c.of-3.ensures, c.fresh-self.ensures) kept
 
-pub returns-clause-durable : goal.returns-clause-durable
-returns-clause-durable g c model =
+pub returns-clause-ok : goal.returns-clause-ok
+returns-clause-ok g c =
     let s = c.args.self.now in
     let base : State = state_with s.base_count.value s.base.value s.base_tickets.value in
     let v0 = view_of s in
     let v1 = g.D.Disk.view c.close_open.new.disk in
     let v2 = g.D.Disk.view c.publish.new.disk in
-    kept_stands v2 (other s.slot) (s.epoch + 1) 1 (state_of s) (state_of s) [] (omega arith) s.fits
-    (kept_rolled v0 v1 s.slot s.epoch s.other_gate base (state_of s) s.journal.groups s.two_slots (s.kept model c.if-self.false) s.fits (c.close_open.ensures.any_moment model)
-    c.deref.result.now (λ lawful. c.deref.ensures.value ∙ c.in-Ok.ensures.text lawful) (omega (arith, c.if-self-ge-WORN_LIMIT.false)) (c.in-Ok-close_open.ensures.ok model)
-    v2 (c.in-Ok-publish.ensures.ok (still v0 v1 c.close_open.ensures.ran model)))
+    record {
+      rolled = search rules;
+      durable = λ model. kept_stands v2 (other s.slot) (s.epoch + 1) 1 (state_of s) (state_of s) [] (omega arith) s.fits
+          (kept_rolled v0 v1 s.slot s.epoch s.other_gate base (state_of s) s.journal.groups s.two_slots (s.kept model c.if-self.false) s.fits (c.close_open.ensures.any_moment model)
+          c.deref.result.now (λ lawful. c.deref.ensures.value ∙ c.in-Ok.ensures.text lawful) (omega (arith, c.if-self-ge-WORN_LIMIT.false)) (c.in-Ok-close_open.ensures.ok model)
+          v2 (c.in-Ok-publish.ensures.ok (still v0 v1 c.close_open.ensures.ran model)));
+      no_failure = search rules;
+    }

@@ -1,172 +1,173 @@
-use Rattle.std.proofs.Common.{rules, ◌≡◌, ◌++◌, [], List, false, length, drop, ap, sym, ◌∙◌, subst, inl, inr, ⊎_elim, arith}
-use Rattle.std.specs.Prelude.{is_some}
-use Rattle.requests.specs.declared.request.Request.{Request}
-use Rattle.checkpoint.specs.StoreWords.{state_of, is_down}
-use Rattle.group_commit.specs.DeskWords.{store_of as desk_store, held_of as desk_held}
-use Rattle.committer.proofs.Tying.{tied_no_later, tied_rises}
-use Rattle.committer.proofs.Logs.{tied_paid, tied_filled, paid_starts}
+use Rattle.std.proofs.Common.{length, drop, refl, ap, sym, ◌∙◌, subst, inl, inr, ⊎_elim}
+use Rattle.disk_trait.specs.Disk.{IsSameDevice, ran_none}
+use Rattle.checkpoint.specs.StoreWords.{state_of, nodes_of, view_of}
+use Rattle.intake.specs.Ends.{Taking}
+use Rattle.group_commit.specs.DeskWords.{store_of as desk_store}
+use Rattle.group_commit.specs.Settling.{settle}
+use Rattle.committer.specs.Answers.{HasCommitted, IsWorn, KeepsGroup, LeavesEither, LosesDevice, OwesMarks}
+use Rattle.committer.proofs.Answering.{at_rest, fewer_on, group_is, idle_on, marks_of_none, none_taken, refused_too, takes_none, takes_on}
+use Rattle.committer.proofs.Crashing.{none_of, stays}
+use Rattle.committer.proofs.Listings.{paid_listed}
+use Rattle.committer.proofs.Logs.{tied_paid}
 use Rattle.committer.proofs.Telling.{tied_tells}
-use Rattle.committer.proofs.Crashing.{stays, through, through_alone, idle_through, up_leaves, taken_first, held_first, err_same, none_of}
-use Rattle.committer.specs.Listed.{IsListedFrom}
-use Rattle.committer.proofs.Listings.{paid_listed, filled_listed}
-use Rattle.committer.proofs.committer.Committer.round.Goals.{then-held-eq0, else-held-eq0}
 use Rattle.committer.proofs.committer.Committer.round.Goals as goal
 
+-- ---- the device had failed
+
+pub returns-then-is_down-clause-takes : goal.returns-then-is_down-clause-takes
+returns-then-is_down-clause-takes g c = takes_none _ c.args.self.now.taker
+
+pub returns-then-is_down-clause-goes_on : goal.returns-then-is_down-clause-goes_on
+returns-then-is_down-clause-goes_on g c = record {
+  nodes = refl;
+  ran = ran_none _;
+  listed = λ first is. paid_listed first c.args.self.now.outbox c.pay-paid.new.self c.pay-paid.result _ _ _ _ c.pay-paid.ensures is;
+}
+
+pub returns-then-is_down-clause-at_rest : goal.returns-then-is_down-clause-at_rest
+returns-then-is_down-clause-at_rest g c = record {
+  whole = c.args.self.now.whole;
+  tells = tied_tells _ _ _ _ _ c.pay-paid.new.self (tied_paid _ _ _ _ _ c.args.self.now.outbox c.pay-paid.new.self c.pay-paid.result c.pay-paid.ensures c.args.self.now.tied);
+}
+
+-- ---- what was due is due still
+
+pub returns-then-not-pay-clause-takes : goal.returns-then-not-pay-clause-takes
+returns-then-not-pay-clause-takes g c = takes_none _ c.args.self.now.taker
+
 pub returns-then-not-pay-clause-any_moment : goal.returns-then-not-pay-clause-any_moment
-returns-then-not-pay-clause-any_moment g c model up = stays (desk_store c.args.self.now.desk) (desk_store c.args.self.now.desk) _ (λ i. desk_store c.args.self.now.desk) model up
+returns-then-not-pay-clause-any_moment g c model up = stays (desk_store c.args.self.now.desk) (desk_store c.args.self.now.desk) _ refl model up
 
-pub returns-then-held-eq0-2-clause-any_moment : goal.returns-then-held-eq0-2-clause-any_moment
-returns-then-held-eq0-2-clause-any_moment g c model up =
-    let same : desk_store c.if-held-eq0.self.desk ≡ desk_store c.args.self.now.desk = search rules in
-    stays (desk_store c.args.self.now.desk) (desk_store c.if-held-eq0.self.desk) _ same model up
+pub returns-then-not-pay-clause-goes_on : goal.returns-then-not-pay-clause-goes_on
+returns-then-not-pay-clause-goes_on g c = record {
+  nodes = refl;
+  ran = ran_none _;
+  listed = λ first is. paid_listed first c.args.self.now.outbox c.pay.new.self c.pay.result _ _ _ _ c.pay.ensures is;
+}
 
-pub returns-in-Ok-clause-any_moment : goal.returns-in-Ok-clause-any_moment
-returns-in-Ok-clause-any_moment g c model up =
-    let same : desk_store c.if-held-eq0.self.desk ≡ desk_store c.args.self.now.desk = search rules in
-    let was : List Request = desk_held c.args.self.now.desk in
-    let got : List Request = c.args.self.now.taker.got in
-    let all : desk_held c.if-held-eq0.self.desk ≡ was ++ drop (length got) c.commit.new.self.taker.got = elim c.if-held-eq0.branch [
-      | then-held-eq0 w ↦
-          let none : was ≡ [] = none_of was c.held.result c.held.ensures.same w.if-held-eq0.true in
-          let front : c.if-held-eq0.self.taker.got ≡ got ++ desk_held c.if-held-eq0.self.desk = ap (λ s. s.taker.got) w.self-is ∙ (w.fill-taken.ensures.front ∙ ap (λ s. got ++ desk_held s.desk) (sym w.self-is)) in
-          taken_first was got (desk_held c.if-held-eq0.self.desk) c.if-held-eq0.self.taker.got c.commit.new.self.taker.got none front c.commit.ensures.taker.0
-      | else-held-eq0 w ↦ held_first was got (desk_held c.if-held-eq0.self.desk) c.commit.new.self.taker.got (ap (λ s. desk_held s.desk) w.self-is) (c.commit.ensures.taker.0 ∙ ap (λ s. s.taker.got) w.self-is)
-    ] in
-    through (desk_store c.args.self.now.desk) (desk_store c.if-held-eq0.self.desk) (desk_store c.commit.new.self.desk) (desk_held c.if-held-eq0.self.desk) _ same all model c.commit.ensures.any_moment
+pub returns-then-not-pay-clause-at_rest : goal.returns-then-not-pay-clause-at_rest
+returns-then-not-pay-clause-at_rest g c = record {
+  whole = c.args.self.now.whole;
+  tells = tied_tells _ _ _ _ _ c.pay.new.self (tied_paid _ _ _ _ _ c.args.self.now.outbox c.pay.new.self c.pay.result c.pay.ensures c.args.self.now.tied);
+}
 
-pub returns-in-Err-clause-any_moment : goal.returns-in-Err-clause-any_moment
-returns-in-Err-clause-any_moment g c model up =
-    let same : desk_store c.if-held-eq0.self.desk ≡ desk_store c.args.self.now.desk = search rules in
-    let was : List Request = desk_held c.args.self.now.desk in
-    let got : List Request = c.args.self.now.taker.got in
-    let all : desk_held c.if-held-eq0.self.desk ≡ was ++ drop (length got) c.commit.new.self.taker.got = elim c.if-held-eq0.branch [
-      | then-held-eq0 w ↦
-          let none : was ≡ [] = none_of was c.held.result c.held.ensures.same w.if-held-eq0.true in
-          let front : c.if-held-eq0.self.taker.got ≡ got ++ desk_held c.if-held-eq0.self.desk = ap (λ s. s.taker.got) w.self-is ∙ (w.fill-taken.ensures.front ∙ ap (λ s. got ++ desk_held s.desk) (sym w.self-is)) in
-          taken_first was got (desk_held c.if-held-eq0.self.desk) c.if-held-eq0.self.taker.got c.commit.new.self.taker.got none front c.commit.ensures.taker.0
-      | else-held-eq0 w ↦ held_first was got (desk_held c.if-held-eq0.self.desk) c.commit.new.self.taker.got (ap (λ s. desk_held s.desk) w.self-is) (c.commit.ensures.taker.0 ∙ ap (λ s. s.taker.got) w.self-is)
-    ] in
-    through (desk_store c.args.self.now.desk) (desk_store c.if-held-eq0.self.desk) (desk_store c.commit.new.self.desk) (desk_held c.if-held-eq0.self.desk) _ same all model c.commit.ensures.any_moment
+-- ---- nothing is held
 
-pub returns-in-Err-clause-refused : goal.returns-in-Err-clause-refused
-returns-in-Err-clause-refused g c which model up =
-    let same : desk_store c.if-held-eq0.self.desk ≡ desk_store c.args.self.now.desk = search rules in
-    through_alone (desk_store c.args.self.now.desk) (desk_store c.if-held-eq0.self.desk) (desk_store c.commit.new.self.desk) same model (c.in-Err.ensures.refused (⊎_elim (λ a. inl (err_same _ _ a)) (λ b. inr (err_same _ _ b)) which))
-
-pub fill-taken-requires-clause-no_later : goal.fill-taken-requires-clause-no_later
-fill-taken-requires-clause-no_later g c = tied_no_later _ _ _ _ _ _ _ c.args.self.now.taker.starts c.args.self.now.same_starts c.args.self.now.tied
-
-pub fill-taken-requires-clause-rises : goal.fill-taken-requires-clause-rises
-fill-taken-requires-clause-rises g c = tied_rises _ _ _ _ _ _ _ c.args.self.now.taker.starts c.args.self.now.same_starts c.args.self.now.tied
-
-pub returns-then-is_down-clause-tells : goal.returns-then-is_down-clause-tells
-returns-then-is_down-clause-tells g c = tied_tells _ _ _ _ _ c.pay-paid.new.self (tied_paid _ _ _ _ _ c.args.self.now.outbox c.pay-paid.new.self c.pay-paid.result c.pay-paid.ensures c.args.self.now.tied)
-
-pub returns-then-not-pay-clause-tells : goal.returns-then-not-pay-clause-tells
-returns-then-not-pay-clause-tells g c = tied_tells _ _ _ _ _ c.pay.new.self (tied_paid _ _ _ _ _ c.args.self.now.outbox c.pay.new.self c.pay.result c.pay.ensures c.args.self.now.tied)
-
-pub returns-then-held-eq0-2-clause-tells : goal.returns-then-held-eq0-2-clause-tells
-returns-then-held-eq0-2-clause-tells g c = tied_tells _ _ _ _ _ c.if-held-eq0.self.outbox c.if-held-eq0.self.tied
-
-pub returns-in-Ok-clause-tells : goal.returns-in-Ok-clause-tells
-returns-in-Ok-clause-tells g c = tied_tells _ _ _ _ _ c.commit.new.self.outbox c.commit.new.self.tied
-
-pub returns-in-Err-clause-tells : goal.returns-in-Err-clause-tells
-returns-in-Err-clause-tells g c = tied_tells _ _ _ _ _ c.commit.new.self.outbox c.commit.new.self.tied
-
-pub invariant_of-self-then-held-eq0 : goal.invariant_of-self-then-held-eq0
-invariant_of-self-then-held-eq0 g c =
-    let old = c.args.self.now in
-    let none : desk_held old.desk ≡ [] = none_of (desk_held old.desk) c.held.result c.held.ensures.same c.if-held-eq0.true in
-    let same = c.fill-taken.ensures.same.0 ∙ paid_starts old.taker.starts old.outbox c.pay.new.self c.pay.result old.same_starts c.pay.ensures in
-    let was_up : is_down (desk_store old.desk) ≡ false = search rules in
+pub returns-then-held-eq0-clause-ok : goal.returns-then-held-eq0-clause-ok
+returns-then-held-eq0-clause-ok g c =
+    let none = none_of _ c.held.result c.held.ensures.same c.if-held-eq0.true in
+    let nothing = sym c.take_up-taken.ensures.held ∙ none in
     record {
-      at_outbox = ap is_some c.fill-taken.ensures.due;
-      same_starts = same;
-      tied = tied_filled old.outbox c.pay.new.self c.pay.result old.newest (desk_held old.desk) (desk_held c.fill-taken.new.desk) old.taker.got c.fill-taken.new.taker.got _ _ _ _ c.fill-taken.new.taker.starts old.tied c.pay.ensures none
-          c.fill-taken.ensures.front c.fill-taken.ensures.rises same (ap state_of c.fill-taken.ensures.store) (ap is_down c.fill-taken.ensures.store);
-      whole = up_leaves (desk_store c.fill-taken.new.desk) (desk_held c.fill-taken.new.desk) (ap is_down c.fill-taken.ensures.store ∙ was_up);
+      number = ap (λ l. length (settle (state_of (desk_store c.args.self.now.desk)) l).accepted) (sym nothing);
+      state = ap state_of c.take_up-taken.ensures.store ∙ ap (λ l. (settle (state_of (desk_store c.args.self.now.desk)) l).state) (sym nothing);
+      held = none;
+      posts = c.take_up-taken.ensures.posts ∙ c.if-not-pay.ensures ∙ marks_of_none _ _ _ nothing;
     }
 
-pub returns-in-Ok-clause-fewer : goal.returns-in-Ok-clause-fewer
-returns-in-Ok-clause-fewer g c few =
-    let was : List Request = desk_held c.args.self.now.desk in
-    let got : List Request = c.args.self.now.taker.got in
-    let now : List Request = drop (length got) c.commit.new.self.taker.got in
-    elim c.if-held-eq0.branch [
-      | then-held-eq0 w ↦
-          let none : was ≡ [] = none_of was c.held.result c.held.ensures.same w.if-held-eq0.true in
-          let front : c.if-held-eq0.self.taker.got ≡ got ++ desk_held c.if-held-eq0.self.desk = ap (λ s. s.taker.got) w.self-is ∙ (w.fill-taken.ensures.front ∙ ap (λ s. got ++ desk_held s.desk) (sym w.self-is)) in
-          let all : desk_held c.if-held-eq0.self.desk ≡ was ++ now = taken_first was got (desk_held c.if-held-eq0.self.desk) c.if-held-eq0.self.taker.got c.commit.new.self.taker.got none front c.commit.ensures.taker.0 in
-          let long : length (desk_held c.if-held-eq0.self.desk) ≡ length now = ap length (all ∙ ap (λ l. l ++ now) none) in
-          let number = w.fill-taken.ensures.number ∙ ap (λ s. length (desk_held s.desk)) (sym w.self-is) in
-          let more = w.fill-taken.ensures.fewer (omega (arith, long, number, few)) in
-          let same = c.commit.ensures.taker.1 ∙ ap (λ s. s.taker.empties) w.self-is in
-          inr (inl (omega (arith, more, same)))
-      | else-held-eq0 w ↦ inl (λ e. w.if-held-eq0.false (c.held.ensures.same ∙ ap length e))
-    ]
+pub returns-then-held-eq0-clause-takes : goal.returns-then-held-eq0-clause-takes
+returns-then-held-eq0-clause-takes g c = c.take_up-taken.ensures.takes
 
-pub returns-in-Ok-clause-idle : goal.returns-in-Ok-clause-idle
-returns-in-Ok-clause-idle g c =
-    let same : desk_store c.if-held-eq0.self.desk ≡ desk_store c.args.self.now.desk = search rules in
-    let was : List Request = desk_held c.args.self.now.desk in
-    let got : List Request = c.args.self.now.taker.got in
-    let all : desk_held c.if-held-eq0.self.desk ≡ was ++ drop (length got) c.commit.new.self.taker.got = elim c.if-held-eq0.branch [
-      | then-held-eq0 w ↦
-          let none : was ≡ [] = none_of was c.held.result c.held.ensures.same w.if-held-eq0.true in
-          let front : c.if-held-eq0.self.taker.got ≡ got ++ desk_held c.if-held-eq0.self.desk = ap (λ s. s.taker.got) w.self-is ∙ (w.fill-taken.ensures.front ∙ ap (λ s. got ++ desk_held s.desk) (sym w.self-is)) in
-          taken_first was got (desk_held c.if-held-eq0.self.desk) c.if-held-eq0.self.taker.got c.commit.new.self.taker.got none front c.commit.ensures.taker.0
-      | else-held-eq0 w ↦ held_first was got (desk_held c.if-held-eq0.self.desk) c.commit.new.self.taker.got (ap (λ s. desk_held s.desk) w.self-is) (c.commit.ensures.taker.0 ∙ ap (λ s. s.taker.got) w.self-is)
-    ] in
-    idle_through (desk_store c.args.self.now.desk) (desk_store c.if-held-eq0.self.desk) (desk_store c.commit.new.self.desk) (desk_held c.if-held-eq0.self.desk) _ same all c.commit.ensures.idle
+pub returns-then-held-eq0-clause-number : goal.returns-then-held-eq0-clause-number
+returns-then-held-eq0-clause-number g c = none_taken _ _ (sym c.take_up-taken.ensures.held ∙ none_of _ c.held.result c.held.ensures.same c.if-held-eq0.true)
 
-pub returns-then-is_down-clause-listed : goal.returns-then-is_down-clause-listed
-returns-then-is_down-clause-listed g c first is = paid_listed first c.args.self.now.outbox c.pay-paid.new.self c.pay-paid.result _ _ _ _ c.pay-paid.ensures is
+pub returns-then-held-eq0-clause-fewer : goal.returns-then-held-eq0-clause-fewer
+returns-then-held-eq0-clause-fewer g c few = ⊎_elim (λ some. inl some) (λ empty. inr (inl empty)) (c.take_up-taken.ensures.fewer few)
 
-pub returns-then-not-pay-clause-listed : goal.returns-then-not-pay-clause-listed
-returns-then-not-pay-clause-listed g c first is = paid_listed first c.args.self.now.outbox c.pay.new.self c.pay.result _ _ _ _ c.pay.ensures is
+pub returns-then-held-eq0-clause-goes_on : goal.returns-then-held-eq0-clause-goes_on
+returns-then-held-eq0-clause-goes_on g c = record {
+  nodes = ap nodes_of c.take_up-taken.ensures.store;
+  ran = subst (λ s. IsSameDevice (view_of (desk_store c.args.self.now.desk)) (view_of s)) (sym c.take_up-taken.ensures.store) (ran_none _);
+  listed = λ first is. c.take_up-taken.ensures.listed first (paid_listed first c.args.self.now.outbox c.pay.new.self c.pay.result _ _ _ _ c.pay.ensures is);
+}
 
-pub returns-then-held-eq0-2-clause-listed : goal.returns-then-held-eq0-2-clause-listed
-returns-then-held-eq0-2-clause-listed g c first is =
-    let old = c.args.self.now in
-    let was : List Request = desk_held old.desk in
-    let here : IsListedFrom first c.if-held-eq0.self = elim c.if-held-eq0.branch [
-      | then-held-eq0 w ↦
-          let none : was ≡ [] = none_of was c.held.result c.held.ensures.same w.if-held-eq0.true in
-          let same = w.fill-taken.ensures.same.0 ∙ paid_starts old.taker.starts old.outbox c.pay.new.self c.pay.result old.same_starts c.pay.ensures in
-          subst (λ s. IsListedFrom first s) (sym w.self-is)
-          (filled_listed first old.outbox c.pay.new.self c.pay.result was (desk_held w.fill-taken.new.desk) old.taker.got w.fill-taken.new.taker.got _ _ _ _ w.fill-taken.new.taker.starts is c.pay.ensures none
-          w.fill-taken.ensures.front w.fill-taken.ensures.rises same w.fill-taken.ensures.within (ap state_of w.fill-taken.ensures.store) (ap is_down w.fill-taken.ensures.store))
-      | else-held-eq0 w ↦ subst (λ s. IsListedFrom first s) (sym w.self-is) (paid_listed first old.outbox c.pay.new.self c.pay.result _ _ _ _ c.pay.ensures is)
-    ] in
-    here
+pub returns-then-held-eq0-clause-any_moment : goal.returns-then-held-eq0-clause-any_moment
+returns-then-held-eq0-clause-any_moment g c model up = stays (desk_store c.args.self.now.desk) (desk_store c.take_up-taken.new.self.desk) _ c.take_up-taken.ensures.store model up
 
-pub returns-in-Ok-clause-listed : goal.returns-in-Ok-clause-listed
-returns-in-Ok-clause-listed g c first is =
-    let old = c.args.self.now in
-    let was : List Request = desk_held old.desk in
-    let here : IsListedFrom first c.if-held-eq0.self = elim c.if-held-eq0.branch [
-      | then-held-eq0 w ↦
-          let none : was ≡ [] = none_of was c.held.result c.held.ensures.same w.if-held-eq0.true in
-          let same = w.fill-taken.ensures.same.0 ∙ paid_starts old.taker.starts old.outbox c.pay.new.self c.pay.result old.same_starts c.pay.ensures in
-          subst (λ s. IsListedFrom first s) (sym w.self-is)
-          (filled_listed first old.outbox c.pay.new.self c.pay.result was (desk_held w.fill-taken.new.desk) old.taker.got w.fill-taken.new.taker.got _ _ _ _ w.fill-taken.new.taker.starts is c.pay.ensures none
-          w.fill-taken.ensures.front w.fill-taken.ensures.rises same w.fill-taken.ensures.within (ap state_of w.fill-taken.ensures.store) (ap is_down w.fill-taken.ensures.store))
-      | else-held-eq0 w ↦ subst (λ s. IsListedFrom first s) (sym w.self-is) (paid_listed first old.outbox c.pay.new.self c.pay.result _ _ _ _ c.pay.ensures is)
-    ] in
-    c.commit.ensures.listed first here
+pub returns-then-held-eq0-clause-at_rest : goal.returns-then-held-eq0-clause-at_rest
+returns-then-held-eq0-clause-at_rest g c = at_rest c.take_up-taken.new.self
 
-pub returns-in-Err-clause-listed : goal.returns-in-Err-clause-listed
-returns-in-Err-clause-listed g c first is =
-    let old = c.args.self.now in
-    let was : List Request = desk_held old.desk in
-    let here : IsListedFrom first c.if-held-eq0.self = elim c.if-held-eq0.branch [
-      | then-held-eq0 w ↦
-          let none : was ≡ [] = none_of was c.held.result c.held.ensures.same w.if-held-eq0.true in
-          let same = w.fill-taken.ensures.same.0 ∙ paid_starts old.taker.starts old.outbox c.pay.new.self c.pay.result old.same_starts c.pay.ensures in
-          subst (λ s. IsListedFrom first s) (sym w.self-is)
-          (filled_listed first old.outbox c.pay.new.self c.pay.result was (desk_held w.fill-taken.new.desk) old.taker.got w.fill-taken.new.taker.got _ _ _ _ w.fill-taken.new.taker.starts is c.pay.ensures none
-          w.fill-taken.ensures.front w.fill-taken.ensures.rises same w.fill-taken.ensures.within (ap state_of w.fill-taken.ensures.store) (ap is_down w.fill-taken.ensures.store))
-      | else-held-eq0 w ↦ subst (λ s. IsListedFrom first s) (sym w.self-is) (paid_listed first old.outbox c.pay.new.self c.pay.result _ _ _ _ c.pay.ensures is)
-    ] in
-    c.commit.ensures.listed first here
+-- ---- the commit was refused
+
+pub returns-in_err-accepted-clause-takes : goal.returns-in_err-accepted-clause-takes
+returns-in_err-accepted-clause-takes g c = takes_on _ _ _ _ c.commit.ensures.taker c.take_up-taken.ensures.takes
+
+pub returns-in_err-accepted-clause-fewer : goal.returns-in_err-accepted-clause-fewer
+returns-in_err-accepted-clause-fewer g c few =
+    ⊎_elim (λ some. inl some) (λ empty. inr (inl empty)) (fewer_on c.args.self.now c.take_up-taken.new.self c.commit.new.self c.commit.ensures.taker c.take_up-taken.ensures.fewer few)
+
+pub returns-in_err-accepted-clause-idle : goal.returns-in_err-accepted-clause-idle
+returns-in_err-accepted-clause-idle g c =
+    let is = group_is c.args.self.now c.take_up-taken.new.self c.commit.new.self c.take_up-taken.ensures.store (c.take_up-taken.ensures.posts ∙ c.if-not-pay.ensures) c.take_up-taken.ensures.held c.commit.ensures.taker in
+    idle_on c.take_up-taken.new.self c.commit.new.self _ is c.commit.ensures.idle
+
+pub returns-in_err-accepted-clause-kept : goal.returns-in_err-accepted-clause-kept
+returns-in_err-accepted-clause-kept g c which =
+    let is = group_is c.args.self.now c.take_up-taken.new.self c.commit.new.self c.take_up-taken.ensures.store (c.take_up-taken.ensures.posts ∙ c.if-not-pay.ensures) c.take_up-taken.ensures.held c.commit.ensures.taker in
+    subst (λ group. KeepsGroup group c.commit.new.self) is (c.in_err-accepted.ensures.kept (⊎_elim (λ a. inl (refused_too c.from_residual.result _ _ c.from_residual.ensures.1 a)) (λ b. inr (refused_too c.from_residual.result _ _ c.from_residual.ensures.1 b)) which))
+
+pub returns-in_err-accepted-clause-worn : goal.returns-in_err-accepted-clause-worn
+returns-in_err-accepted-clause-worn g c which =
+    let is = group_is c.args.self.now c.take_up-taken.new.self c.commit.new.self c.take_up-taken.ensures.store (c.take_up-taken.ensures.posts ∙ c.if-not-pay.ensures) c.take_up-taken.ensures.held c.commit.ensures.taker in
+    subst (λ group. IsWorn group c.commit.new.self) is (c.in_err-accepted.ensures.worn (refused_too c.from_residual.result _ _ c.from_residual.ensures.1 which))
+
+pub returns-in_err-accepted-clause-device : goal.returns-in_err-accepted-clause-device
+returns-in_err-accepted-clause-device g c which =
+    let is = group_is c.args.self.now c.take_up-taken.new.self c.commit.new.self c.take_up-taken.ensures.store (c.take_up-taken.ensures.posts ∙ c.if-not-pay.ensures) c.take_up-taken.ensures.held c.commit.ensures.taker in
+    subst (λ group. LosesDevice group c.commit.new.self) is (c.in_err-accepted.ensures.device (refused_too c.from_residual.result _ _ c.from_residual.ensures.1 which))
+
+pub returns-in_err-accepted-clause-board : goal.returns-in_err-accepted-clause-board
+returns-in_err-accepted-clause-board g c which =
+    let is = group_is c.args.self.now c.take_up-taken.new.self c.commit.new.self c.take_up-taken.ensures.store (c.take_up-taken.ensures.posts ∙ c.if-not-pay.ensures) c.take_up-taken.ensures.held c.commit.ensures.taker in
+    inr (subst (λ group. OwesMarks group c.commit.new.self) is (c.in_err-accepted.ensures.board (refused_too c.from_residual.result _ _ c.from_residual.ensures.1 which)))
+
+pub returns-in_err-accepted-clause-any_moment : goal.returns-in_err-accepted-clause-any_moment
+returns-in_err-accepted-clause-any_moment g c =
+    let is = group_is c.args.self.now c.take_up-taken.new.self c.commit.new.self c.take_up-taken.ensures.store (c.take_up-taken.ensures.posts ∙ c.if-not-pay.ensures) c.take_up-taken.ensures.held c.commit.ensures.taker in
+    subst (λ group. LeavesEither group c.commit.new.self) is c.commit.ensures.any_moment
+
+pub returns-in_err-accepted-clause-goes_on : goal.returns-in_err-accepted-clause-goes_on
+returns-in_err-accepted-clause-goes_on g c = record {
+  nodes = c.commit.ensures.goes_on.nodes ∙ ap nodes_of c.take_up-taken.ensures.store;
+  ran = subst (λ s. IsSameDevice (view_of s) (view_of (desk_store c.commit.new.self.desk))) c.take_up-taken.ensures.store c.commit.ensures.goes_on.ran;
+  listed = λ first is. c.commit.ensures.goes_on.listed first (c.take_up-taken.ensures.listed first (paid_listed first c.args.self.now.outbox c.pay.new.self c.pay.result _ _ _ _ c.pay.ensures is));
+}
+
+pub returns-in_err-accepted-clause-at_rest : goal.returns-in_err-accepted-clause-at_rest
+returns-in_err-accepted-clause-at_rest g c = at_rest c.commit.new.self
+
+-- ---- the group was committed
+
+pub returns-clause-takes : goal.returns-clause-takes
+returns-clause-takes g c = takes_on _ _ _ _ c.commit.ensures.taker c.take_up-taken.ensures.takes
+
+pub returns-clause-number : goal.returns-clause-number
+returns-clause-number g c = c.take_up-taken.ensures.number ∙ ap (λ (t : Taking). length (drop (length c.args.self.now.taker.got) t.got)) (sym c.commit.ensures.taker)
+
+pub returns-clause-fewer : goal.returns-clause-fewer
+returns-clause-fewer g c few =
+    ⊎_elim (λ some. inl some) (λ empty. inr (inl empty)) (fewer_on c.args.self.now c.take_up-taken.new.self c.commit.new.self c.commit.ensures.taker c.take_up-taken.ensures.fewer few)
+
+pub returns-clause-ok : goal.returns-clause-ok
+returns-clause-ok g c =
+    let is = group_is c.args.self.now c.take_up-taken.new.self c.commit.new.self c.take_up-taken.ensures.store (c.take_up-taken.ensures.posts ∙ c.if-not-pay.ensures) c.take_up-taken.ensures.held c.commit.ensures.taker in
+    subst (λ group. HasCommitted group c.commit.new.self c.in_ok-accepted.accepted) is c.in_ok-accepted.ensures.ok
+
+pub returns-clause-idle : goal.returns-clause-idle
+returns-clause-idle g c =
+    let is = group_is c.args.self.now c.take_up-taken.new.self c.commit.new.self c.take_up-taken.ensures.store (c.take_up-taken.ensures.posts ∙ c.if-not-pay.ensures) c.take_up-taken.ensures.held c.commit.ensures.taker in
+    idle_on c.take_up-taken.new.self c.commit.new.self _ is c.commit.ensures.idle
+
+pub returns-clause-any_moment : goal.returns-clause-any_moment
+returns-clause-any_moment g c =
+    let is = group_is c.args.self.now c.take_up-taken.new.self c.commit.new.self c.take_up-taken.ensures.store (c.take_up-taken.ensures.posts ∙ c.if-not-pay.ensures) c.take_up-taken.ensures.held c.commit.ensures.taker in
+    subst (λ group. LeavesEither group c.commit.new.self) is c.commit.ensures.any_moment
+
+pub returns-clause-goes_on : goal.returns-clause-goes_on
+returns-clause-goes_on g c = record {
+  nodes = c.commit.ensures.goes_on.nodes ∙ ap nodes_of c.take_up-taken.ensures.store;
+  ran = subst (λ s. IsSameDevice (view_of s) (view_of (desk_store c.commit.new.self.desk))) c.take_up-taken.ensures.store c.commit.ensures.goes_on.ran;
+  listed = λ first is. c.commit.ensures.goes_on.listed first (c.take_up-taken.ensures.listed first (paid_listed first c.args.self.now.outbox c.pay.new.self c.pay.result _ _ _ _ c.pay.ensures is));
+}
+
+pub returns-clause-at_rest : goal.returns-clause-at_rest
+returns-clause-at_rest g c = at_rest c.commit.new.self

@@ -19,7 +19,7 @@ use Rattle.interleave.proofs.Tickets.{won_behind}
 use Rattle.interleave.proofs.world.World.commit.Goals as goal
 
 pub invariant_of-self-in-Ok-clause-split : goal.invariant_of-self-in-Ok-clause-split
-invariant_of-self-in-Ok-clause-split g c = c.in-Ok.ensures.none_held ∙ sym (none_left c.args.self.now.stored.taken c.args.self.now.stored.asked.items)
+invariant_of-self-in-Ok-clause-split g c = c.in-Ok.ensures.ok.none_held ∙ sym (none_left c.args.self.now.stored.taken c.args.self.now.stored.asked.items)
 
 pub invariant_of-self-in-Ok-clause-behind : goal.invariant_of-self-in-Ok-clause-behind
 invariant_of-self-in-Ok-clause-behind g c =
@@ -27,7 +27,7 @@ invariant_of-self-in-Ok-clause-behind g c =
     let l : List Request = world.stored.asked.items in
     let held : List Request = held_of world.desk in
     let after = won_behind c.settling_law.ensures.tickets_stay_behind (state_of (store_of world.desk)) world.stored.starts l held world.stored.done world.stored.taken world.in_turn world.behind world.split world.started in
-    subst (λ (s : State). AreBehind s.tickets (tickets_after world.stored.starts (asked (take world.stored.taken l)))) (sym c.in-Ok.ensures.ok) after
+    subst (λ (s : State). AreBehind s.tickets (tickets_after world.stored.starts (asked (take world.stored.taken l)))) (sym c.in-Ok.ensures.ok.state) after
 
 pub returns-in-Ok-clause-happens : goal.returns-in-Ok-clause-happens
 returns-in-Ok-clause-happens g c model =
@@ -38,10 +38,10 @@ returns-in-Ok-clause-happens g c model =
     let a = lists_of world in
     let w = view_of new in
     let long : world.stored.taken ≡ length a.taken = sym (length-take-le world.stored.taken world.stored.asked.items world.within) in
-    let up : is_down (store_of desk) ≡ false = not_true (is_down (store_of desk)) (λ e. let d = c.commit.ensures.down.1 e in let is = c.in-Ok.is in cc) in
+    let up : is_down (store_of desk) ≡ false = not_true (is_down (store_of desk)) (λ e. let d = c.commit.ensures.refused.down.1 e in let is = c.in-Ok.is in cc) in
     let leaves : LeavesOnly v w (IsEither a) = subst (λ (l : List Request). LeavesOnly v w (λ image. StandsFor a.state image ⊎ StandsFor (settled a.state l) image)) world.split (c.commit.ensures.any_moment model up) in
-    let state : state_of new ≡ state_held a = c.in-Ok.ensures.ok ∙ ap (λ l. settled a.state l) world.split in
-    let down : is_down new ≡ false = c.commit.ensures.stays_up up (λ h. let is = c.in-Ok.is in cc) in
+    let state : state_of new ≡ state_held a = c.in-Ok.ensures.ok.state ∙ ap (λ l. settled a.state l) world.split in
+    let down : is_down new ≡ false = c.commit.ensures.refused.stays_up up (λ h. let is = c.in-Ok.is in cc) in
     let new_model : IsTrue w.keeps_model = subst IsTrue (sym c.commit.ensures.ran.model) model in
     let groups : c.add.new.list.items ≡ a.groups ++ (a.done, length a.taken) ∷ [] = c.add.ensures.items ∙ ap (λ l. l ++ (world.stored.done, world.stored.taken) ∷ []) c.reserve.ensures.items ∙ ap (λ k. a.groups ++ (a.done, k) ∷ []) long in
     won (record {
@@ -49,7 +49,7 @@ returns-in-Ok-clause-happens g c model =
       leaves = leaves;
       lists = lists_are a.taken world.stored.taken (length a.taken) c.add.new.list.items (a.groups ++ (a.done, length a.taken) ∷ []) (state_of new) (state_held a) (is_down new) false long groups state down;
       stands = λ image left. subst (λ (t : State). StandsFor t image) state (stands_now new new_model down image left);
-      number_is = c.in-Ok.ensures.number ∙ ap (λ l. length (settle a.state l).accepted) world.split;
+      number_is = c.in-Ok.ensures.ok.number ∙ ap (λ l. length (settle a.state l).accepted) world.split;
     })
 
 pub returns-in-Err-Device-clause-happens : goal.returns-in-Err-Device-clause-happens
@@ -62,26 +62,26 @@ returns-in-Err-Device-clause-happens g c model =
     let w = view_of new in
     let is : c.commit.result ≡ Err Device = c.in-Err-Device.is ∙ ap Err c.in-Err-Device.field-0-is in
     let long : world.stored.taken ≡ length a.taken = sym (length-take-le world.stored.taken world.stored.asked.items world.within) in
-    let up : is_down (store_of desk) ≡ false = not_true (is_down (store_of desk)) (λ e. let d = c.commit.ensures.down.1 e in cc) in
+    let up : is_down (store_of desk) ≡ false = not_true (is_down (store_of desk)) (λ e. let d = c.commit.ensures.refused.down.1 e in cc) in
     let leaves : LeavesOnly v w (IsEither a) = subst (λ (l : List Request). LeavesOnly v w (λ image. StandsFor a.state image ⊎ StandsFor (settled a.state l) image)) world.split (c.commit.ensures.any_moment model up) in
     let groups : c.add-in-Err-Device.new.list.items ≡ a.groups ++ (a.done, length a.taken) ∷ [] =
     c.add-in-Err-Device.ensures.items ∙ ap (λ l. l ++ (world.stored.done, world.stored.taken) ∷ []) c.reserve.ensures.items ∙ ap (λ k. a.groups ++ (a.done, k) ∷ []) long in
     lost (record {
       up = up;
       leaves = leaves;
-      lists = lists_are a.taken a.done a.done c.add-in-Err-Device.new.list.items (a.groups ++ (a.done, length a.taken) ∷ []) (state_of new) a.state (is_down new) true refl groups c.in-Err-Device.ensures.err (c.commit.ensures.lost is);
+      lists = lists_are a.taken a.done a.done c.add-in-Err-Device.new.list.items (a.groups ++ (a.done, length a.taken) ∷ []) (state_of new) a.state (is_down new) true refl groups c.in-Err-Device.ensures.refused.state (c.commit.ensures.refused.lost is);
       none = refl;
     })
 
 pub returns-in-Ok-clause-commits : goal.returns-in-Ok-clause-commits
 returns-in-Ok-clause-commits g c =
     let store = store_of c.args.self.now.desk in
-    let up : is_down store ≡ false = not_true (is_down store) (λ e. let d = c.commit.ensures.down.1 e in let is = c.in-Ok.is in cc) in
+    let up : is_down store ≡ false = not_true (is_down store) (λ e. let d = c.commit.ensures.refused.down.1 e in let is = c.in-Ok.is in cc) in
     record {
-      served = c.in-Ok.ensures.no_failure;
-      durable = c.in-Ok.ensures.durable;
-      within = λ past. ⊎_elim (λ worn. let is = c.in-Ok.is in cc) (λ memory. let is = c.in-Ok.is in cc) (c.commit.ensures.past_limits up past);
+      served = c.in-Ok.ensures.ok.no_failure;
+      durable = c.in-Ok.ensures.ok.durable;
+      within = λ past. ⊎_elim (λ worn. let is = c.in-Ok.is in cc) (λ memory. let is = c.in-Ok.is in cc) (c.commit.ensures.refused.past_limits up past);
       none = c.commit.ensures.idle;
-      appended = c.in-Ok.ensures.appended;
-      rolled = c.in-Ok.ensures.rolled;
+      appended = c.in-Ok.ensures.ok.appended;
+      rolled = c.in-Ok.ensures.ok.rolled;
     }

@@ -16,7 +16,7 @@ returns g c =
         printing = c.print-console.ensures.prints;
         finishing = c.conclude-console.ensures.finishes;
         print_end = c.conclude-console.ensures.printed;
-        one_list = λ is. served_on store engine printed.known c.join_engine-ended.result.1 (c.conclude-console.ensures.on is) (c.join_engine-ended.ensures.all store started);
+        one_list = λ is. served_on store g.J.Stream.input g.J.Stream.editors engine printed.known c.join_engine-ended.result.1 (c.conclude-console.ensures.on is) (c.join_engine-ended.ensures.all store started);
       });
     }
 
