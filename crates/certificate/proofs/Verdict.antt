@@ -90,6 +90,35 @@ to_next m p n k e h at j l = go (nat_lt (number_of j) (n + 1)) refl
         let l2 : n + 1 ≤ number_of j = grind (arith, nat_tests) in
         subst (Holds m p) (sym (one_rule j k (omega (arith, l, l2, e)))) at
 
+-- ---- the rules up to each of the eight
+
+module _ (m : Network) (p : Parts) where
+  pub to_shape : Holds m p k1 → HoldsTo m p 1
+  to_shape shape = to_next m p 0 k1 refl (to_none m p) shape
+
+  pub to_edges : Holds m p k1 → Holds m p k2 → HoldsTo m p 2
+  to_edges shape edges = to_next m p 1 k2 refl (to_shape shape) edges
+
+  pub to_parents : Holds m p k1 → Holds m p k2 → Holds m p k3 → HoldsTo m p 3
+  to_parents shape edges parents = to_next m p 2 k3 refl (to_edges shape edges) parents
+
+  pub to_strict : Holds m p k1 → Holds m p k2 → Holds m p k3 → Holds m p k4 → HoldsTo m p 4
+  to_strict shape edges parents strict = to_next m p 3 k4 refl (to_parents shape edges parents) strict
+
+  pub to_nearest : Holds m p k1 → Holds m p k2 → Holds m p k3 → Holds m p k4 → Holds m p k5 → HoldsTo m p 5
+  to_nearest shape edges parents strict nearest = to_next m p 4 k5 refl (to_strict shape edges parents strict) nearest
+
+  pub to_records : Holds m p k1 → Holds m p k2 → Holds m p k3 → Holds m p k4 → Holds m p k5 → Holds m p k6 → HoldsTo m p 6
+  to_records shape edges parents strict nearest records = to_next m p 5 k6 refl (to_nearest shape edges parents strict nearest) records
+
+  pub to_labels : Holds m p k1 → Holds m p k2 → Holds m p k3 → Holds m p k4 → Holds m p k5 → Holds m p k6 → Holds m p k7 → HoldsTo m p 7
+  to_labels shape edges parents strict nearest records labels = to_next m p 6 k7 refl (to_records shape edges parents strict nearest records) labels
+
+  pub to_directories : Holds m p k1 → Holds m p k2 → Holds m p k3 → Holds m p k4 → Holds m p k5 → Holds m p k6 → Holds m p k7 → Holds m p k8 → HoldsTo m p 8
+  to_directories shape edges parents strict nearest records labels directories = to_next m p 7 k8 refl (to_labels shape edges parents strict nearest records labels) directories
+
+-- ---- what follows from them
+
 pub first_five : (m : Network) → IsSound m → (p : Parts) → HoldsTo m p 5 → HoldsFirst m p
 unfolding HoldsFirst
 first_five m s p h = (s, h)

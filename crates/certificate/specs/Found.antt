@@ -1,14 +1,14 @@
 -- What a look-up of an entry finds.
-use Rattle.std.specs.Prelude.{◌≡◌, ℕ, ◌≤◌, false, Some, None, MatchOption, Option}
+use Rattle.std.specs.Prelude.{◌≡◌, ℕ, ◌≤◌, false, Some, MatchOption, Option}
 use denote.Ref.{Bor}
 use Rattle.distances.specs.declared.nearest.Near.{Near}
 use Rattle.node_table.specs.declared.parts.Entry.{Entry}
 use Rattle.node_table.specs.Checks.{parent_is}
-use Rattle.node_table.specs.Tables.{Tables}
+use Rattle.node_table.specs.Tables.{RefersTo, Tables}
 
 -- it is the entry of y for the root, or nothing where y has none
 abbrev pub IsEntryOf : Tables → ℕ → ℕ → Option (Bor Entry) → Type 0
-IsEntryOf t y root found = MatchOption found (t.entry y root ≡ None) (λ e. t.entry y root ≡ Some e.now)
+IsEntryOf t y root found = RefersTo (t.entry y root) found
 
 -- it is the entry of y for the root, if y is a child of x there, or else nothing
 abbrev pub IsChildOf : Tables → ℕ → ℕ → ℕ → Option (Bor Entry) → Type 0

@@ -8,6 +8,10 @@ use Rattle.certificate.specs.Climbs.{HasLabelsAt}
 use Rattle.certificate.specs.Entries.{HasDirectoryAt, IsNearestAt, IsStrictAt}
 use Rattle.certificate.specs.Swift.{IsSweptAt}
 
+-- it is so of each node of a network and its parts
+abbrev pub HoldOfAll : (Network → Parts → ℕ → Type 0) → Network → Parts → Type 0
+HoldOfAll P m p = (x : ℕ) → x < m.nodes → P m p x
+
 -- it is so of each node from the first to below the last
 abbrev pub HoldBetween : (ℕ → Type 0) → ℕ → ℕ → Type 0
 HoldBetween P first last = (x : ℕ) → first ≤ x → x < last → P x

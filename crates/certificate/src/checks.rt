@@ -1,7 +1,8 @@
 // The checks in their order.
-ghost use Rattle.std.specs.Prelude.{◌<◌, ◌↔◌, ℕ, IfErr, IsTrue, OnOk};
+ghost use Rattle.std.specs.Prelude.{◌↔◌, IfErr, IsTrue, OnOk};
 ghost use Rattle.certificate.specs.Climbs.{HoldsFirst};
 ghost use Rattle.certificate.specs.Faults.{IsExact, rule_of};
+ghost use Rattle.certificate.specs.Ranges.{HoldOfAll};
 ghost use Rattle.certificate.specs.Rows.{IsLocalAt};
 ghost use Rattle.node_table.specs.Checks.{Holds, IsChecked, IsFirstFault, IsShaped, k1, k2, k3, k6};
 ghost use Rattle.node_table.specs.Service.{Serves};
@@ -49,7 +50,7 @@ fn keeps_parents(graph: &Graph, scheme: &Scheme, swift: bool) -> bool
 /// Whether it keeps Records, in the same way: all records are right where each is by those of its children.
 fn keeps_records(graph: &Graph, scheme: &Scheme, swift: bool) -> bool
     requires first { HoldsFirst graph.now scheme.now }
-    requires swift { IsTrue swift → (x : ℕ) → x < graph.now.nodes → IsLocalAt graph.now scheme.now x }
+    requires swift { IsTrue swift → HoldOfAll IsLocalAt graph.now scheme.now }
     ensures { IsTrue result ↔ Holds graph.now scheme.now k6 }
 {
     swift || has_records(graph, scheme)

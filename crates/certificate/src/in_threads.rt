@@ -5,7 +5,7 @@ ghost use Rattle.std.specs.List.{All};
 ghost use Rattle.certificate.specs.Climbs.{HoldsFirst};
 ghost use Rattle.certificate.specs.Entries.{AllAscend, IsFramed, IsNodeFramed};
 ghost use Rattle.certificate.specs.Faults.{IsExact, rule_of};
-ghost use Rattle.certificate.specs.Ranges.{HasListsAt, HoldBetween, HoldInPart, IsSweptWhole};
+ghost use Rattle.certificate.specs.Ranges.{HasListsAt, HoldBetween, HoldInPart, HoldOfAll, IsSweptWhole};
 ghost use Rattle.graph_edits.specs.Edges.{IsSound};
 ghost use Rattle.node_table.specs.Checks.{Holds, IsChecked, IsFirstFault, k6};
 ghost use Rattle.node_table.specs.Service.{Serves};
@@ -68,7 +68,7 @@ fn are_framed_in(graph: &Graph, scheme: &Scheme, size: u16, i: usize) -> bool
 /// Whether it is so of all nodes.
 fn are_all_framed<R: Threads + Sync>(rt: &R, graph: &Graph, scheme: &Scheme, workers: usize) -> bool
     requires { 0 < workers }
-    ensures { IsTrue result → (x : ℕ) → x < graph.now.nodes → IsNodeFramed graph.now scheme.now x }
+    ensures { IsTrue result → HoldOfAll IsNodeFramed graph.now scheme.now }
 {
     let size = graph.nodes().div_ceil(RANGES as u16);
     let mut right = [false; RANGES];
@@ -119,7 +119,7 @@ fn are_swept_in(graph: &Graph, scheme: &Scheme, size: u16, i: usize) -> bool
 fn are_all_swept<R: Threads + Sync>(rt: &R, graph: &Graph, scheme: &Scheme, workers: usize) -> bool
     requires some { 0 < workers }
     requires ascend { AllAscend scheme.now }
-    ensures { IsTrue result → (x : ℕ) → x < graph.now.nodes → IsSweptWhole graph.now scheme.now x }
+    ensures { IsTrue result → HoldOfAll IsSweptWhole graph.now scheme.now }
 {
     let size = graph.nodes().div_ceil(RANGES as u16);
     let mut right = [false; RANGES];
@@ -169,7 +169,7 @@ fn have_lists_in(graph: &Graph, scheme: &Scheme, size: u16, i: usize) -> bool
 fn have_all_lists<R: Threads + Sync>(rt: &R, graph: &Graph, scheme: &Scheme, workers: usize) -> bool
     requires some { 0 < workers }
     requires first { HoldsFirst graph.now scheme.now }
-    ensures { IsTrue result → (x : ℕ) → x < graph.now.nodes → HasListsAt graph.now scheme.now x }
+    ensures { IsTrue result → HoldOfAll HasListsAt graph.now scheme.now }
 {
     let size = graph.nodes().div_ceil(RANGES as u16);
     let mut right = [false; RANGES];

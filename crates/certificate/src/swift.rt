@@ -5,6 +5,7 @@ ghost use Rattle.std.specs.List.{All};
 ghost use Rattle.certificate.specs.Entries.{AllAscend, HasParentAt};
 ghost use Rattle.certificate.specs.Rows.{FitBehind, FitsRow, IsLocalAt, OthersFitBehind, widest_of};
 ghost use Rattle.certificate.specs.Found.{IsEntryOf};
+ghost use Rattle.certificate.specs.Ranges.{HoldOfAll};
 ghost use Rattle.certificate.specs.Swift.{HasSpan, IsRightOver, IsSumOver, IsSwept, IsSweptAt, named_over};
 ghost use Rattle.graph_edits.specs.Edges.{IsSound, Network, neighbours_of, weight_in};
 ghost use Rattle.heavy_labels.specs.Stepped.{record_of};
@@ -174,7 +175,7 @@ pub(crate) fn is_swiftly_sound(graph: &Graph, scheme: &Scheme) -> bool
     ensures shape { IsTrue result → Holds graph.now scheme.now k1 }
     ensures edges { IsTrue result → Holds graph.now scheme.now k2 }
     ensures parents { IsTrue result → Holds graph.now scheme.now k3 }
-    ensures records { IsTrue result → (x : ℕ) → x < graph.now.nodes → IsLocalAt graph.now scheme.now x }
+    ensures records { IsTrue result → HoldOfAll IsLocalAt graph.now scheme.now }
 {
     if !is_framed(graph, scheme) {
         return false;

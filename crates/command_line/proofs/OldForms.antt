@@ -1,20 +1,33 @@
 -- The clauses that contracts had before records took their place follow from the records. What isn't here is the same clause, with an
 -- abbreviation in it.
-use Rattle.std.proofs.Common.{◌≡◌, ◌⊎◌, codes, List, Result, IfErr, IfOk, false}
+use Rattle.std.proofs.Common.{◌≡◌, ◌⊎◌, sym, codes, List, Result, IfErr, IfOk, option_map, false}
 use Rattle.std.proofs.lemmas.Result.{IfOk-weaker}
 use Rattle.std.specs.Global.{Vec}
 use Rattle.clap.specs.Simple.{App, app_of, with_rule}
 use Rattle.clap.specs.Walk.{Row, Rule, Text, rule_of}
+use Rattle.clap.specs.Words.{first_value, found_of, matched_of, raw_values}
+use Rattle.clap.specs.declared.parser.matches.ArgMatches.{ArgMatches}
+use Rattle.clap.proofs.WalkLemmas.{first_value-rows, raw_values-rows}
 use Rattle.clap.specs.declared.builder.arg.Arg.{Arg}
 use Rattle.clap.specs.declared.builder.command.Command.{Command}
 use Rattle.clap.specs.declared.builder.command.Command.TheViews.{out-Command}
 use Rattle.command_line.specs.Asked.{Gives, IsCause, IsInRange, IsSameTask, IsTask}
 use Rattle.command_line.specs.Grammar.{AddsRule, IsArgOf, IsCommandOf}
-use Rattle.command_line.specs.Readings.{IsUnderstoodOn, Reads, ReadsAll, Understands}
+use Rattle.command_line.specs.Readings.{IsUnderstoodOn, Reads, ReadsAll, Understands, all_texts_of, text_of}
 use Rattle.command_line.specs.declared.refused.WordsRefused.{WordsRefused}
 use Rattle.command_line.specs.declared.refused.WordsRefused.TheVariants as why
 use Rattle.command_line.specs.declared.task.Task.{Task}
 use Rattle.command_line.proofs.OneTask.{serve_in_range}
+
+-- ---- texts
+
+-- the text of an argument, which clauses read by clap's getter
+pub old_text : (found : ArgMatches) (id : Text) → text_of found id ≡ first_value (found_of found) id
+old_text found id = sym (first_value-rows (found_of found) id)
+
+-- and all its texts
+pub old_texts : (found : ArgMatches) (id : Text) → all_texts_of found id ≡ option_map raw_values (matched_of (found_of found) id)
+old_texts found id = sym (raw_values-rows (found_of found) id)
 
 -- ---- values
 

@@ -1,12 +1,17 @@
 -- Pairs of nodes, and the texts of their nodes.
-use Rattle.std.proofs.Common.{◌≡◌, ◌∙◌, ◌<◌, ◌^◌, ◌+◌, ◌*◌, arith, ℕ, zero, suc, refl, sym, ap, ap₂, List, [], ◌∷◌, ◌++◌, map, length, take, get_or, append_assoc, All, codes, decimal, Option, Some, None, length-append}
+use Rattle.std.proofs.Common.{◌≡◌, ◌∙◌, ◌<◌, ◌^◌, ◌+◌, ◌*◌, arith, ℕ, refl, sym, ap, ap₂, List, [], ◌∷◌, ◌++◌, map, length, take, get_or, append_assoc, All, codes, decimal, subst, Option, Some, None, Result, Ok, Err, IsErrAnd, length-append}
 use Rattle.std.proofs.lemmas.List.{append-nil, length-map, map-append, take_more}
 use Rattle.std.proofs.lemmas.Fmt.{decimal_injective}
 use Rattle.std.proofs.lemmas.List.Elements.{All-head, All-tail, recursion_from_All}
 use Rattle.std.specs.Borrow.{Bor}
+use Rattle.std.specs.Global.{Vec}
 use Rattle.std.specs.List.{AllByRecursion}
 use Rattle.clap.specs.Walk.{Row, Text, all_of, texts}
+use Rattle.written_values.proofs.Written.{nowhere, read_at}
 use Rattle.command_line.specs.Asked.{ArePairsAsked, Gives, IsNodeInRange, IsPairInRange, nodes_of, texts_in}
+use Rattle.command_line.specs.Readings.{IsNumberRefusal, ReadsAll}
+use Rattle.command_line.specs.declared.refused.WordsRefused.{WordsRefused}
+use Rattle.command_line.specs.declared.refused.WordsRefused.TheVariants as why
 
 -- a text is that of one node
 one_node : (a b : ℕ) → a < 2 ^ 16 → b < 2 ^ 16 → decimal a ≡ decimal b → a ≡ b
@@ -69,52 +74,56 @@ one_pair_more [] from to = refl
 one_pair_more (p ∷ pairs) from to = ap (λ (ns : List ℕ). p.0 ∷ p.1 ∷ ns) (one_pair_more pairs from to)
 
 -- nodes whose texts were read, and the one of the next text
-pub one_text_more : (ns : List ℕ) (node : ℕ) (given : List (Bor Text)) (i : ℕ) (d : Bor Text) → i < length given → (get_or given i d).now ≡ decimal node → map decimal ns ≡ texts (take i given)
+pub one_text_more : (ns : List ℕ) (node : ℕ) (given : List (Bor Text)) (i : ℕ) → i < length given → (get_or given i nowhere).now ≡ decimal node → map decimal ns ≡ texts (take i given)
     → map decimal (ns ++ node ∷ []) ≡ texts (take (i + 1) given)
-one_text_more ns node given i d lt is same =
+one_text_more ns node given i lt is same =
     map-append decimal ns (node ∷ [])
     ∙ ap₂ (λ (ts us : List Text). ts ++ us) same (ap (λ (t : Text). t ∷ []) (sym is))
-    ∙ sym (map-append (λ (t : Bor Text). t.now) (take i given) (get_or given i d ∷ []))
-    ∙ ap texts (sym (take_more given i d lt))
+    ∙ sym (map-append (λ (t : Bor Text). t.now) (take i given) (get_or given i nowhere ∷ []))
+    ∙ ap texts (sym (take_more given i nowhere lt))
 
 -- a node that is read waits, where none did
-pub one_waits : (pairs : List (ℕ × ℕ)) (node : ℕ) (given : List (Bor Text)) (i : ℕ) (d : Bor Text) → i < length given → (get_or given i d).now ≡ decimal node
+pub one_waits : (pairs : List (ℕ × ℕ)) (node : ℕ) (given : List (Bor Text)) (i : ℕ) → i < length given → (get_or given i nowhere).now ≡ decimal node
     → map decimal (nodes_of pairs ++ []) ≡ texts (take i given) → map decimal (nodes_of pairs ++ node ∷ []) ≡ texts (take (i + 1) given)
-one_waits pairs node given i d lt is same = one_text_more (nodes_of pairs) node given i d lt is (ap (map decimal) (sym (append-nil (nodes_of pairs))) ∙ same)
+one_waits pairs node given i lt is same = one_text_more (nodes_of pairs) node given i lt is (ap (map decimal) (sym (append-nil (nodes_of pairs))) ∙ same)
 
 -- and else it makes a pair with the one that waited
-pub two_pair : (pairs : List (ℕ × ℕ)) (from to : ℕ) (given : List (Bor Text)) (i : ℕ) (d : Bor Text) → i < length given → (get_or given i d).now ≡ decimal to
+pub two_pair : (pairs : List (ℕ × ℕ)) (from to : ℕ) (given : List (Bor Text)) (i : ℕ) → i < length given → (get_or given i nowhere).now ≡ decimal to
     → map decimal (nodes_of pairs ++ from ∷ []) ≡ texts (take i given) → map decimal (nodes_of (pairs ++ (from, to) ∷ []) ++ []) ≡ texts (take (i + 1) given)
-two_pair pairs from to given i d lt is same =
+two_pair pairs from to given i lt is same =
     ap (map decimal) (append-nil (nodes_of (pairs ++ (from, to) ∷ [])) ∙ one_pair_more pairs from to ∙ sym (append_assoc (nodes_of pairs) (from ∷ []) (to ∷ [])))
-    ∙ one_text_more (nodes_of pairs ++ from ∷ []) to given i d lt is same
+    ∙ one_text_more (nodes_of pairs ++ from ∷ []) to given i lt is same
 
 -- pairs have an even number of nodes
 pub even_nodes : (pairs : List (ℕ × ℕ)) → length (nodes_of pairs) ≡ 2 * length pairs
 even_nodes [] = refl
 even_nodes (p ∷ pairs) = let rest = even_nodes pairs in omega arith
 
-node_at_in : (ns : List ℕ) (given : List (Bor Text)) (i : ℕ) (d : Bor Text) → i < length given → AllByRecursion (λ n. n < 2 ^ 16) ns → map decimal ns ≡ texts given
-    → (n : ℕ) × (n < 2 ^ 16) × ((get_or given i d).now ≡ decimal n)
-node_at_in ns [] i d lt fit same = absurd (omega arith)
-node_at_in [] (t ∷ given) i d lt fit same = absurd (cc)
-node_at_in (n ∷ ns) (t ∷ given) zero d lt fit same = (n, fit.0, cc)
-node_at_in (n ∷ ns) (t ∷ given) (suc i) d lt fit same =
-    let rest : map decimal ns ≡ texts given = cc in
-    node_at_in ns given i d (omega arith) fit.1 rest
-
--- where texts are those of nodes, each text is that of one
-pub named_at : (ns : List ℕ) (given : List (Bor Text)) (i : ℕ) (d : Bor Text) → i < length given → All IsNodeInRange ns → texts given ≡ map decimal ns → (n : ℕ) × (n < 2 ^ 16) × ((get_or given i d).now ≡ decimal n)
-named_at ns given i d lt fit same = node_at_in ns given i d lt (recursion_from_All IsNodeInRange ns fit) (sym same)
-
-each_node : (pairs : List (ℕ × ℕ)) → AllByRecursion IsPairInRange pairs → AllByRecursion (λ n. n < 2 ^ 16) (nodes_of pairs)
+pub each_node : (pairs : List (ℕ × ℕ)) → AllByRecursion IsPairInRange pairs → AllByRecursion IsNodeInRange (nodes_of pairs)
 each_node [] fits = tt
 each_node (p ∷ pairs) fits = (fits.0.0, (fits.0.1, each_node pairs fits.1))
 
--- where texts are those of pairs, each text is that of a node
-pub node_at : (pairs : List (ℕ × ℕ)) (given : List (Bor Text)) (i : ℕ) (d : Bor Text) → i < length given → All IsPairInRange pairs → texts given ≡ map decimal (nodes_of pairs)
-    → (n : ℕ) × (n < 2 ^ 16) × ((get_or given i d).now ≡ decimal n)
-node_at pairs given i d lt fits same = node_at_in (nodes_of pairs) given i d lt (each_node pairs (recursion_from_All IsPairInRange pairs fits)) (sym same)
+-- values in a row that are refused, as one of them is
+pub all_refused : {T : Type 0} (Given : List T → Type 0) (r : Result (Vec T) WordsRefused) (refused : WordsRefused) → IsErrAnd r (λ e. e ≡ refused) → IsNumberRefusal refused
+    → ((xs : List T) → Given xs → refused ≡ why.Memory) → ReadsAll Given r
+all_refused Given (Ok xs) refused is number only = absurd is
+all_refused Given (Err e) refused is number only = record {
+  found = tt;
+  only = λ xs given. subst (λ (w : WordsRefused). w ≡ why.Memory) (sym is) (only xs given);
+  refusals = subst (λ (w : WordsRefused). IsNumberRefusal w) (sym is) number;
+}
+
+-- so are values whose texts are those of nodes, as one of the texts is
+pub node_refused : {T : Type 0} (Given : List T → Type 0) (nodes : List T → List ℕ) (given : List (Bor Text)) (i : ℕ) → i < length given
+    → ((xs : List T) → Given xs → AllByRecursion IsNodeInRange (nodes xs) × (texts given ≡ map decimal (nodes xs)))
+    → (r : Result (Vec T) WordsRefused) (refused : WordsRefused) → IsErrAnd r (λ e. e ≡ refused) → IsNumberRefusal refused
+    → ((n : ℕ) → ((get_or given i nowhere).now ≡ decimal n) × (n < 2 ^ 16) → refused ≡ why.Memory) → ReadsAll Given r
+node_refused Given nodes given i lt are r refused is number only =
+    all_refused Given r refused is number
+    (λ xs asked.
+    let all = are xs asked in
+    let here = read_at IsNodeInRange (λ (x : Bor Text). x.now) decimal (nodes xs) given i nowhere lt all.0 (sym all.1) in
+    only here.0 (here.2, here.1))
 
 -- and their number is even
 pub never_odd : (asked read : List (ℕ × ℕ)) (node : ℕ) (given : List Text) → map decimal (nodes_of read ++ node ∷ []) ≡ given → given ≡ map decimal (nodes_of asked) → ⊥

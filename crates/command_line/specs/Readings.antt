@@ -1,14 +1,14 @@
 -- What a reading of the program's words promises.
-use Rattle.std.specs.Prelude.{◌≡◌, ◌<◌, ◌⊎◌, ℕ, List, Option, Some, codes, decimal, map, option_map, All, Result, IfOk, IfErr}
+use Rattle.std.specs.Prelude.{◌≡◌, ◌<◌, ◌≤◌, ◌⊎◌, ℕ, List, Option, Some, codes, decimal, map, option_map, All, Result, IfOk, IfErr}
 use Rattle.std.specs.Global.{Vec}
-use Rattle.clap.specs.Walk.{Row, Text, rows_of}
-use Rattle.clap.specs.Words.{first_value, found_of, matched_of, raw_values}
+use Rattle.clap.specs.Walk.{Row, Text, all_of, first_of, rows_of}
+use Rattle.clap.specs.Words.{found_of}
 use Rattle.clap.specs.declared.parser.matches.ArgMatches.{ArgMatches}
 use Rattle.graph_edits.specs.declared.edits.Op.{Op}
 use Rattle.written_values.specs.OpText.{Fits, op_text}
 use Rattle.written_values.specs.WordsText.{words_text}
 use Rattle.written_values.specs.declared.words.LandmarkWords.{LandmarkWords}
-use Rattle.command_line.specs.Asked.{Gives, IsCause, IsInRange, IsLive, IsNodeInRange, IsPairInRange, IsSameTask, IsTask, IsTicket, nodes_of, texts_in}
+use Rattle.command_line.specs.Asked.{Gives, IsCause, IsInRange, IsNodeInRange, IsPairInRange, IsSameTask, IsTask, IsTicket, nodes_of, texts_in}
 use Rattle.command_line.specs.declared.refused.WordsRefused.{WordsRefused}
 use Rattle.command_line.specs.declared.refused.WordsRefused.TheVariants as why
 use Rattle.command_line.specs.declared.task.Task.{Task}
@@ -21,15 +21,19 @@ rows_in found = rows_of (found_of found)
 
 -- the text that an argument has
 abbrev pub text_of : ArgMatches → Text → Option Text
-text_of found id = first_value (found_of found) id
+text_of found id = first_of id (rows_in found)
 
 -- all texts that an argument has
 abbrev pub all_texts_of : ArgMatches → Text → Option (List Text)
-all_texts_of found id = option_map raw_values (matched_of (found_of found) id)
+all_texts_of found id = all_of id (rows_in found)
 
 -- the same, none where it has none
 abbrev pub texts_of : ArgMatches → Text → List Text
 texts_of found id = texts_in (all_texts_of found id)
+
+-- the text is a number in decimal, from one to another
+abbrev pub IsNumberWithin : ℕ → ℕ → Text → ℕ → Type 0
+IsNumberWithin least most text n = (text ≡ decimal n) × (least ≤ n) × (n ≤ most)
 
 -- the text is a number in decimal, below this one
 abbrev pub IsNumberBelow : ℕ → Option Text → ℕ → Type 0
@@ -46,10 +50,6 @@ ArePairTexts given pairs = (given ≡ map decimal (nodes_of pairs)) × All IsPai
 -- the text is a ticket in decimal, or there is neither
 abbrev pub IsTicketText : Option Text → Option ℕ → Type 0
 IsTicketText text ticket = (text ≡ option_map decimal ticket) × IsTicket ticket
-
--- `--live` and `--rounds` are given so, or neither of them
-abbrev pub IsLiveIn : ArgMatches → Option ℕ → Type 0
-IsLiveIn found live = IsLive (text_of found (codes "live")) (text_of found (codes "rounds")) live
 
 -- the text is written as these landmark words
 abbrev pub IsTextOfWords : Option Text → LandmarkWords → Type 0

@@ -1,5 +1,5 @@
 //! What the program's words ask for.
-ghost use Rattle.std.specs.Prelude.{◌≡◌, ◌<◌, ◌^◌, ◌⊎◌, List, IfOk, IfErr, Some, None, codes, decimal, map, All, IsTrue, ◌↔◌};
+ghost use Rattle.std.specs.Prelude.{◌≡◌, ◌<◌, ◌^◌, ◌⊎◌, List, IfOk, IfErr, Some, None, codes, decimal, map, option_map, All, IsTrue, ◌↔◌};
 ghost use Rattle.clap.specs.Walk.{texts};
 ghost use Rattle.clap.specs.Words.{kind_of};
 ghost use Rattle.graph_edits.specs.declared.edits.Op.{Op};
@@ -7,8 +7,8 @@ ghost use Rattle.requests.specs.Tickets.{sessions};
 ghost use Rattle.written_values.specs.declared.words.LandmarkWords.{LandmarkWords};
 ghost use Rattle.written_values.specs.OpText.{Fits, op_text};
 ghost use Rattle.written_values.specs.WordsText.{IsAsked, IsSame};
-ghost use Rattle.command_line.specs.Asked.{ArePairsAsked, AreRounds, IsAskedFor, IsOpsCause, IsPairInRange, IsRefusedFor, IsSeats, IsSessionText, IsWordsCause};
-ghost use Rattle.command_line.specs.Readings.{AreNodeTexts, ArePairTexts, AreTextsOfOps, IsLiveIn, IsNumberBelow, IsOpRefusal, IsTextOfWords, IsTicketText, IsUnderstood, IsUnderstoodOn, Reads, ReadsAll, Understands, all_texts_of, rows_in, text_of, texts_of};
+ghost use Rattle.command_line.specs.Asked.{ArePairsAsked, AreRounds, IsAskedFor, IsLiveAsked, IsOpsCause, IsPairInRange, IsRefusedFor, IsSeats, IsSessionText, IsWordsCause};
+ghost use Rattle.command_line.specs.Readings.{AreNodeTexts, ArePairTexts, AreTextsOfOps, IsNumberBelow, IsNumberWithin, IsOpRefusal, IsTextOfWords, IsTicketText, IsUnderstood, IsUnderstoodOn, Reads, ReadsAll, Understands, all_texts_of, rows_in, text_of, texts_of};
 
 use crate::grammar::grammar;
 use crate::refused::WordsRefused;
@@ -129,7 +129,7 @@ fn refused_for(error: Error) -> WordsRefused
 fn task_of<'a>(alloc: Global, name: &str, found: &ArgMatches<'a>) -> Result<Task<'a>, WordsRefused>
     ensures { IsUnderstood name.now (rows_in found.entry.now) result }
 {
-    let Some(device) = found.get_str("device") else {
+    let Some(device) = text_given(found, "device") else {
         return Err(WordsRefused::Usage);
     };
     if name == "format" {
@@ -249,7 +249,7 @@ fn tables_of<'a>(
 fn named_nodes(alloc: Global, found: &ArgMatches<'_>) -> Result<Vec<u16>, WordsRefused>
     ensures { ReadsAll (AreNodeTexts (texts_of found.entry.now (codes "node"))) result }
 {
-    match found.get_strs("node") {
+    match texts_given(found, "node") {
         Some(texts) => nodes_in(alloc, texts),
         None => Ok(Vec::new(alloc)),
     }
@@ -267,27 +267,48 @@ fn nodes_in(alloc: Global, given: &[&str]) -> Result<Vec<u16>, WordsRefused>
     Ok(nodes)
 }
 
+// The text that an argument has.
+fn text_given<'a>(found: &ArgMatches<'a>, id: &str) -> Option<&'a str>
+    ensures { option_map (λ text. text.now) result ≡ text_of found.entry.now id.now }
+{
+    found.get_str(id)
+}
+
+// All texts that an argument has.
+fn texts_given<'a, 'b>(found: &'b ArgMatches<'a>, id: &str) -> Option<&'b [&'a str]>
+    ensures { option_map (λ all. texts all.now) result ≡ all_texts_of found.entry.now id.now }
+{
+    found.get_strs(id)
+}
+
+// The number from one to another that a text is.
+fn number_in(alloc: Global, text: &str, least: u64, most: u64) -> Result<u64, WordsRefused>
+    ensures { Reads (IsNumberWithin least most text.now) result }
+{
+    match number(alloc, text, most)? {
+        Some(number) if number >= least => Ok(number),
+        _ => Err(WordsRefused::Usage),
+    }
+}
+
 // A number from 1 to 64, or the usual one where none is named.
 fn seats(alloc: Global, found: &ArgMatches<'_>, id: &str, usual: u8) -> Result<u8, WordsRefused>
     ensures { Reads (IsSeats (text_of found.entry.now id.now) usual) result }
 {
-    let Some(text) = found.get_str(id) else {
+    let Some(text) = text_given(found, id) else {
         return Ok(usual);
     };
-    match number(alloc, text, MOST_SEATS)? {
-        Some(0) | None => Err(WordsRefused::Usage),
-        Some(seats) => Ok(seats as u8),
-    }
+    Ok(number_in(alloc, text, 1, MOST_SEATS)? as u8)
 }
 
 // The rounds of a live service, where it is to be one. They mean nothing to another.
 fn live(alloc: Global, found: &ArgMatches<'_>) -> Result<Option<u16>, WordsRefused>
-    ensures { Reads (IsLiveIn found.entry.now) result }
+    ensures { Reads (IsLiveAsked (rows_in found.entry.now)) result }
 {
     if is_flagged(found) {
         return Ok(Some(rounds(alloc, found)?));
     }
-    match found.get_str("rounds") {
+    match text_given(found, "rounds") {
         Some(_) => Err(WordsRefused::Usage),
         None => Ok(None),
     }
@@ -297,7 +318,7 @@ fn live(alloc: Global, found: &ArgMatches<'_>) -> Result<Option<u16>, WordsRefus
 fn is_flagged(found: &ArgMatches<'_>) -> bool
     ensures { IsTrue result ↔ (text_of found.entry.now (codes "live") ≡ Some (codes "true")) }
 {
-    match found.get_str("live") {
+    match text_given(found, "live") {
         Some(text) => text == "true",
         None => false,
     }
@@ -307,13 +328,10 @@ fn is_flagged(found: &ArgMatches<'_>) -> bool
 fn rounds(alloc: Global, found: &ArgMatches<'_>) -> Result<u16, WordsRefused>
     ensures { Reads (AreRounds (text_of found.entry.now (codes "rounds"))) result }
 {
-    let Some(text) = found.get_str("rounds") else {
+    let Some(text) = text_given(found, "rounds") else {
         return Ok(USUAL_ROUNDS);
     };
-    match node(alloc, text)? {
-        Some(0) | None => Err(WordsRefused::Usage),
-        Some(rounds) => Ok(rounds),
-    }
+    Ok(number_in(alloc, text, 1, u16::MAX as u64)? as u16)
 }
 
 // The text of an argument.
@@ -323,7 +341,7 @@ fn text<'a>(found: &ArgMatches<'a>, id: &str) -> Result<&'a str, WordsRefused>
     ensures none { IfErr result (λ _. text_of found.entry.now id.now ≡ None) }
     ensures refusal { IfErr result (λ refused. refused ≡ WordsRefused.Usage) }
 {
-    match found.get_str(id) {
+    match text_given(found, id) {
         Some(text) => Ok(text),
         None => Err(WordsRefused::Usage),
     }
@@ -333,7 +351,7 @@ fn text<'a>(found: &ArgMatches<'a>, id: &str) -> Result<&'a str, WordsRefused>
 fn whole(alloc: Global, found: &ArgMatches<'_>, id: &str) -> Result<u16, WordsRefused>
     ensures { Reads (IsNumberBelow (2 ^ 16) (text_of found.entry.now id.now)) result }
 {
-    let Some(text) = found.get_str(id) else {
+    let Some(text) = text_given(found, id) else {
         return Err(WordsRefused::Usage);
     };
     whole_in(alloc, text)
@@ -364,7 +382,7 @@ fn pairs(alloc: Global, found: &ArgMatches<'_>) -> Result<Vec<(u16, u16)>, Words
 fn more_pairs(alloc: Global, found: &ArgMatches<'_>) -> Result<Vec<(u16, u16)>, WordsRefused>
     ensures { ReadsAll (ArePairTexts (texts_of found.entry.now (codes "more"))) result }
 {
-    match found.get_strs("more") {
+    match texts_given(found, "more") {
         Some(texts) => pairs_in(alloc, texts),
         None => Ok(Vec::new(alloc)),
     }
@@ -392,43 +410,41 @@ fn pairs_in(alloc: Global, given: &[&str]) -> Result<Vec<(u16, u16)>, WordsRefus
     }
 }
 
+// The session that a text is.
+fn session_in(alloc: Global, text: &str) -> Result<u8, WordsRefused>
+    ensures { Reads (λ n. (text.now ≡ decimal n) × (n < sessions)) result }
+{
+    Ok(number_in(alloc, text, 0, SESSIONS as u64 - 1)? as u8)
+}
+
 // A session's number.
 fn session(alloc: Global, found: &ArgMatches<'_>) -> Result<u8, WordsRefused>
     ensures { Reads (IsNumberBelow sessions (text_of found.entry.now (codes "session"))) result }
 {
-    let Some(text) = found.get_str("session") else {
+    let Some(text) = text_given(found, "session") else {
         return Err(WordsRefused::Usage);
     };
-    match number(alloc, text, SESSIONS as u64 - 1)? {
-        Some(session) => Ok(session as u8),
-        None => Err(WordsRefused::Usage),
-    }
+    session_in(alloc, text)
 }
 
 // The session of an edit: the one that is named, or else the usual one.
 fn named_session(alloc: Global, found: &ArgMatches<'_>) -> Result<u8, WordsRefused>
     ensures { Reads (λ n. IsSessionText (text_of found.entry.now (codes "session")) n × (n < sessions)) result }
 {
-    let Some(text) = found.get_str("session") else {
+    let Some(text) = text_given(found, "session") else {
         return Ok(USUAL_SESSION);
     };
-    match number(alloc, text, SESSIONS as u64 - 1)? {
-        Some(session) => Ok(session as u8),
-        None => Err(WordsRefused::Usage),
-    }
+    session_in(alloc, text)
 }
 
 // A ticket, where one is named.
 fn ticket(alloc: Global, found: &ArgMatches<'_>) -> Result<Option<u64>, WordsRefused>
     ensures { Reads (IsTicketText (text_of found.entry.now (codes "ticket"))) result }
 {
-    let Some(text) = found.get_str("ticket") else {
+    let Some(text) = text_given(found, "ticket") else {
         return Ok(None);
     };
-    match number(alloc, text, WORN_LIMIT)? {
-        Some(0) | None => Err(WordsRefused::Usage),
-        Some(ticket) => Ok(Some(ticket)),
-    }
+    Ok(Some(number_in(alloc, text, 1, WORN_LIMIT)?))
 }
 
 fn words_asked(alloc: Global, found: &ArgMatches<'_>) -> Result<LandmarkWords, WordsRefused>
@@ -440,7 +456,7 @@ fn words_asked(alloc: Global, found: &ArgMatches<'_>) -> Result<LandmarkWords, W
 
     ensures cause { IfErr result (λ refused. IsWordsCause (rows_in found.entry.now) refused) }
 {
-    let Some(text) = found.get_str("words") else {
+    let Some(text) = text_given(found, "words") else {
         return Err(WordsRefused::Usage);
     };
     match landmark_words(alloc, text)? {
@@ -457,7 +473,7 @@ fn change(alloc: Global, found: &ArgMatches<'_>) -> Result<Change, WordsRefused>
 
     ensures cause { IfErr result (λ refused. IsOpsCause (rows_in found.entry.now) refused) }
 {
-    let Some(texts) = found.get_strs("ops") else {
+    let Some(texts) = texts_given(found, "ops") else {
         return Err(WordsRefused::Usage);
     };
     let ops = ops_of(alloc, texts)?;

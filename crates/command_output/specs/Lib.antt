@@ -1,3 +1,4 @@
 pub mod Lines
 pub mod RouteLines
 pub mod Faults
+pub mod Printing

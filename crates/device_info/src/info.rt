@@ -1,8 +1,6 @@
 //! The figures of a device.
-ghost use Rattle.std.specs.Prelude.{◌≡◌, ◌<◌, IfOk, IfErr, IsErrOf, IsTrue, OnOk};
-ghost use Rattle.disk_trait.specs.Disk.{IsSameDevice, OnlyRead};
-ghost use Rattle.layout_2.specs.Refusals.{IsFormatFault, IsNoDeviceFault, TellsOf};
-ghost use Rattle.layout_2.specs.Standing.{StandsForNone};
+ghost use Rattle.std.specs.Prelude.{◌≡◌, IfOk, IfErr, IsTrue, OnOk};
+ghost use Rattle.layout_2.specs.Loading.{IsRead, IsNotLoaded};
 ghost use Rattle.device_info.specs.Info.{IsInfoOf, held_after};
 
 use disk_trait::Disk;
@@ -51,20 +49,12 @@ fn held_of(alloc: Global, tickets: &[u64]) -> Result<Vec<Held>, AllocError>
 
 /// What a device holds. It syncs, reads, and writes nothing.
 pub fn info_of<D: Disk>(alloc: Global, disk: &mut D) -> Result<DeviceInfo, OpenRefused>
-    ensures figures { IsTrue (D.view disk.old).keeps_model → IfOk result (λ info. IsInfoOf info (D.view disk.old).content) }
-    ensures no_failure { OnOk result ((D.view disk.new).failures ≡ (D.view disk.old).failures) }
-    ensures reads { IsTrue (D.view disk.old).keeps_model → OnlyRead (D.view disk.old) (D.view disk.new) }
-    ensures ran { IsSameDevice (D.view disk.old) (D.view disk.new) }
-    ensures refused { IsTrue (D.view disk.old).keeps_model
-        → IfErr result (λ e. IsFormatFault e → StandsForNone (D.view disk.old).content) }
-    ensures tells { IsTrue (D.view disk.old).keeps_model → IfErr result (λ e. TellsOf e (D.view disk.old).content) }
-    ensures served { IfErr result (λ e. IsNoDeviceFault e → (D.view disk.new).failures ≡ (D.view disk.old).failures) }
-    ensures device { IsErrOf result OpenRefused.Device → (D.view disk.old).failures < (D.view disk.new).failures }
+    ensures read { OnOk result (IsRead (D.view disk.old) (D.view disk.new)) }
+    ensures figures { IsTrue (D.view disk.old).keeps_model
+        → IfOk result (λ info. IsInfoOf info (D.view disk.old).content) }
+    ensures refused { IfErr result (IsNotLoaded (D.view disk.old) (D.view disk.new)) }
 {
-    let loaded = match load(alloc, disk) {
-        Ok(loaded) => loaded,
-        Err(refused) => return Err(refused),
-    };
+    let loaded = load(alloc, disk)?;
     let Ok(held) = held_of(alloc, &loaded.tickets) else {
         return Err(OpenRefused::Memory);
     };

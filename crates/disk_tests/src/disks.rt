@@ -245,7 +245,8 @@ fn opens_a_gate_only_before_whole_text(rt: HostRuntime) {
 fn keep<D: Disk>(disk: &mut D, number: u64) -> Result<(), DeviceFault>
     requires { 9 ≤ length (D.view disk.old).content }
     ensures { IsTrue (D.view disk.old).keeps_model →
-        OnOk result ((image : List ℕ) → MayLeave (D.view disk.new) image → IsPublished (D.view disk.old) 0 (to_be_bytes w64 number) image) }
+        OnOk result ((image : List ℕ) → MayLeave (D.view disk.new) image
+        → IsPublished (D.view disk.old) 0 (to_be_bytes w64 number) image) }
 {
     publish(disk, 0, &number.to_be_bytes())
 }

@@ -21,7 +21,8 @@ pub fn publish<D: Disk>(disk: &mut D, gate: usize, text: &[u8]) -> Result<(), De
     ensures any_moment { IsTrue (D.view disk.old).keeps_model →
         LeavesOnly (D.view disk.old) (D.view disk.new) (IsPublishing (D.view disk.old) gate text.now) }
     ensures ok { IsTrue (D.view disk.old).keeps_model →
-        OnOk result ((image : List ℕ) → MayLeave (D.view disk.new) image → IsPublished (D.view disk.old) gate text.now image) }
+        OnOk result ((image : List ℕ) → MayLeave (D.view disk.new) image
+        → IsPublished (D.view disk.old) gate text.now image) }
 {
     disk.write_at(gate + 1, text)?;
     disk.sync()?;

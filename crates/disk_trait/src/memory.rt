@@ -120,7 +120,8 @@ impl Disk for MemDisk {
         ensures fails { IsErr result ↔ IsTrue (fails_now (plan_of self.old)) }
         ensures plan { plan_of self.new ≡ next_plan (plan_of self.old) }
         ensures put { (mem_view self.new).content
-            ≡ overwritten (mem_view self.old).content at (take (bytes_put (plan_of self.old) (length bytes.now)) bytes.now) }
+            ≡ overwritten (mem_view self.old).content at
+            (take (bytes_put (plan_of self.old) (length bytes.now)) bytes.now) }
         ensures unsettled { unsettled_of self.new ≡ marked (unsettled_of self.old) at (length bytes.now) }
         ensures synced { synced_of self.new ≡ synced_of self.old }
     {
@@ -143,7 +144,8 @@ impl Disk for MemDisk {
             OnOk result (IsSettled (mem_view self.new)) }
         ensures fails { IsErr result ↔ IsTrue (fails_now (plan_of self.old)) }
         ensures plan { plan_of self.new ≡ next_plan (plan_of self.old) }
-        ensures all_settled { OnOk result (unsettled_of self.new ≡ replicate (length (mem_view self.old).content) false) }
+        ensures all_settled { OnOk result (unsettled_of self.new
+            ≡ replicate (length (mem_view self.old).content) false) }
         ensures synced { OnOk result (synced_of self.new ≡ (mem_view self.new).content) }
         ensures not_settled { OnErr result (HoldsTheSame self.old self.new) }
     {

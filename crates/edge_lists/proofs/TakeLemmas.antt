@@ -1,8 +1,8 @@
 -- Rows and lines whose names are taken, one more at a time.
-use Rattle.std.proofs.Common.{arith, ◌≡◌, ◌≤◌, ◌<◌, ◌+◌, ◌∙◌, ◌⊎◌, ◌||◌, inl, inr, sym, ap, subst, refl, ℕ, suc, List, [], ◌∷◌, ◌++◌, Bool, true, false, map, length, take, drop, get_or, nat_lt, Bor, append_assoc}
+use Rattle.std.proofs.Common.{arith, ◌≡◌, ◌≤◌, ◌<◌, ◌+◌, ◌∙◌, ◌⊎◌, ◌||◌, inl, inr, sym, ap, subst, refl, ℕ, List, [], ◌∷◌, ◌++◌, Bool, true, false, map, length, take, drop, get_or, nat_lt, Bor, append_assoc}
 use Rattle.std.specs.Prelude.{OnErr, Result, Ok, Err}
 use Rattle.std.specs.List.{AllZip}
-use Rattle.std.proofs.lemmas.List.{append-nil, drop_more, length_push, map-append, take-append-drop, take_more}
+use Rattle.std.proofs.lemmas.List.{append-nil, drop_more, length-map, length-take-le, length_push, map-append, take-append-drop, take_more}
 use Rattle.std.proofs.lemmas.List.Concat.{flat_map-append}
 use Rattle.std.proofs.lemmas.List.Elements.{All-push}
 use Rattle.std.proofs.lemmas.Bool.Decides.{nat_tests}
@@ -170,22 +170,21 @@ pub texts_more : (texts : List (Bor (List ℕ))) (i : ℕ) → i < length texts 
 texts_more texts i lt = ap texts_at (take_more texts i nowhere lt) ∙ map-append (λ (x : Bor (List ℕ)). x.now) (take i texts) (get_or texts i nowhere ∷ [])
 
 -- a line that is no name
-pub no_name : (most : ℕ) (lines names : List (List ℕ)) (texts : List (Bor (List ℕ))) (i : ℕ) (refused : NameRefused) → texts_at texts ≡ lines → i < length texts → names ≡ texts_at (take i texts)
-    → AreNames most names → refused.number ≡ i + 1 → length (take i texts) ≡ i → IsNoName most names (get_or texts i nowhere).now refused.form → IsFirstNoName most lines refused
-no_name most lines names texts i refused all lt front are number long form =
-    let count : length names ≡ i = ap (λ (l : List (List ℕ)). length l) front ∙ length_texts (take i texts) ∙ long in
+pub no_name : (most : ℕ) (names : List (List ℕ)) (texts : List (Bor (List ℕ))) (i : ℕ) (refused : NameRefused) → i < length texts → names ≡ texts_at (take i texts) → AreNames most names
+    → refused.number ≡ i + 1 → IsNoName most names (get_or texts i nowhere).now refused.form → IsFirstNoName most (texts_at texts) refused
+no_name most names texts i refused lt front are number form =
+    let text = (get_or texts i nowhere).now in
+    let behind = texts_at (drop (i + 1) texts) in
+    let count : length names ≡ i = ap length front ∙ length-map (take i texts) (λ x. x.now) ∙ length-take-le i texts (omega arith) in
     record {
       names = names;
-      line = (get_or texts i nowhere).now;
-      behind = texts_at (drop (i + 1) texts);
-      parts = sym all ∙ texts_around texts i lt ∙ ap (λ (l : List (List ℕ)). l ++ (get_or texts i nowhere).now ∷ texts_at (drop (i + 1) texts)) (sym front);
+      line = text;
+      behind = behind;
+      parts = texts_around texts i lt ∙ ap (λ (l : List (List ℕ)). l ++ text ∷ behind) (sym front);
       before = are;
       number = omega (arith, number, count);
       form = form;
-    } where
-      length_texts : (xs : List (Bor (List ℕ))) → length (texts_at xs) ≡ length xs
-      length_texts [] = refl
-      length_texts (x ∷ xs) = ap suc (length_texts xs)
+    }
 
 -- where there is no number for a new name, there are names enough
 pub no_room : (most : ℕ) (names : List (List ℕ)) (name : List ℕ) → is_among names name ≡ false → has_number most names name ≡ false → most ≤ length names

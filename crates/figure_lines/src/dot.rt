@@ -107,7 +107,8 @@ fn push_edges(
     names: &[&str],
     edges: &[Edge],
 ) -> Result<(), AllocError>
-    ensures { OnOk result (text.new.items ≡ text.old.items ++ flat_map (edge_line (map (λ x. x.now) names.now)) edges.now) }
+    ensures { OnOk result (text.new.items
+        ≡ text.old.items ++ flat_map (edge_line (map (λ x. x.now) names.now)) edges.now) }
 {
     for edge in edges {
         push_edge(alloc, text, names, *edge)?;

@@ -73,7 +73,8 @@ pub(crate) fn push_whole(
     value: u64,
     unit: &'static str,
 ) -> Result<(), AllocError>
-    ensures { OnOk result (map said figures.new.items ≡ map said figures.old.items ++ said_whole name.now value unit.entry.now ∷ []) }
+    ensures { OnOk result (map said figures.new.items
+        ≡ map said figures.old.items ++ said_whole name.now value unit.entry.now ∷ []) }
 {
     figures.push(whole(alloc, name, value, unit)?)?;
     Ok(())
@@ -87,7 +88,8 @@ pub(crate) fn push_thousandths(
     value: Option<u64>,
     unit: &'static str,
 ) -> Result<(), AllocError>
-    ensures { OnOk result (map said figures.new.items ≡ map said figures.old.items ++ said_thousandths name.now value unit.entry.now ∷ []) }
+    ensures { OnOk result (map said figures.new.items
+        ≡ map said figures.old.items ++ said_thousandths name.now value unit.entry.now ∷ []) }
 {
     figures.push(thousandths(alloc, name, value, unit)?)?;
     Ok(())

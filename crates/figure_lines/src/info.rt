@@ -42,7 +42,8 @@ impl<'a> Serialize for InfoObject<'a> {
 
 // The key of the tickets, and an array of them.
 fn send_tickets<S: Serializer>(out: &mut S, held: &[Held]) -> Result<(), S::Error>
-    ensures { OnOk result (SendsMember (codes "tickets") (tickets_data held.now) (S.written out.old) (S.written out.new)) }
+    ensures { OnOk result
+        (SendsMember (codes "tickets") (tickets_data held.now) (S.written out.old) (S.written out.new)) }
 {
     out.key("tickets")?;
     out.begin_seq(Some(held.len()))?;

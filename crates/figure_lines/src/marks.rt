@@ -38,7 +38,8 @@ fn marks_in(
     nearest: &Nearest,
 ) -> Result<Vec<Option<Mark>>, AllocError>
     requires all { length nearest.now.nearest ≡ nodes }
-    requires within { (v : ℕ) → IfSome (slice_index_or nearest.now.nearest v None) (λ near. near.landmark < length colours.now) }
+    requires within { (v : ℕ)
+        → IfSome (slice_index_or nearest.now.nearest v None) (λ near. near.landmark < length colours.now) }
     ensures { IfOk result (λ marks. marks.items ≡ map (option_map (mark_in colours.now)) nearest.now.nearest) }
 {
     let mut marks = Vec::with_capacity(alloc, nodes as usize)?;
@@ -51,7 +52,8 @@ fn marks_in(
 // The colour that each node has where it is a landmark.
 fn colours_of(alloc: Global, flags: &[bool]) -> Result<Vec<u8>, AllocError>
     ensures count { IfOk result (λ colours. length colours.items ≡ length flags.now) }
-    ensures colours { IfOk result (λ colours. (v : ℕ) → v < length flags.now → slice_index colours.items v ≡ colour_of flags.now v) }
+    ensures colours { IfOk result (λ colours. (v : ℕ) → v < length flags.now
+        → slice_index colours.items v ≡ colour_of flags.now v) }
 {
     let mut colours = Vec::with_capacity(alloc, flags.len())?;
     let mut before: usize = 0;

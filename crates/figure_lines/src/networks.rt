@@ -30,7 +30,8 @@ pub fn edges_of(alloc: Global, graph: &Graph) -> Result<Vec<Edge>, AllocError>
 
 // The edges of one node to greater ones.
 fn push_row(edges: &mut Vec<Edge>, node: u16, row: &[(u16, u32)]) -> Result<(), AllocError>
-    ensures { OnOk result (map edge_at edges.new.items ≡ map edge_at edges.old.items ++ flat_map (edge_up node) row.now) }
+    ensures { OnOk result (map edge_at edges.new.items
+        ≡ map edge_at edges.old.items ++ flat_map (edge_up node) row.now) }
 {
     for (neighbour, weight) in row {
         push_edge(edges, node, *neighbour, *weight)?;
@@ -44,7 +45,8 @@ fn push_edge(
     neighbour: u16,
     weight: u32,
 ) -> Result<(), AllocError>
-    ensures { OnOk result (map edge_at edges.new.items ≡ map edge_at edges.old.items ++ edge_up node (neighbour, weight)) }
+    ensures { OnOk result (map edge_at edges.new.items
+        ≡ map edge_at edges.old.items ++ edge_up node (neighbour, weight)) }
 {
     if node < neighbour {
         edges.push(Edge {
@@ -85,7 +87,8 @@ fn write_edge(
     names: &[&str],
     edge: Edge,
 ) -> Result<(), AllocError>
-    ensures { (text : List ℕ) → HasRows writer.old text → OnOk result (HasRows writer.new (text ++ edge_row (map (λ x. x.now) names.now) edge)) }
+    ensures { (text : List ℕ) → HasRows writer.old text
+        → OnOk result (HasRows writer.new (text ++ edge_row (map (λ x. x.now) names.now) edge)) }
 {
     let a = label(alloc, names, edge.a as usize)?;
     let b = label(alloc, names, edge.b as usize)?;
@@ -142,7 +145,8 @@ fn send_edge<S: Serializer>(out: &mut S, edge: Edge) -> Result<(), S::Error>
 }
 
 fn send_names<S: Serializer>(out: &mut S, names: &[&str]) -> Result<(), S::Error>
-    ensures { OnOk result (SendsValue (array (items_by string (map (λ x. x.now) names.now))) (S.written out.old) (S.written out.new)) }
+    ensures { OnOk result
+        (SendsValue (array (items_by string (map (λ x. x.now) names.now))) (S.written out.old) (S.written out.new)) }
 {
     out.begin_seq(Some(names.len()))?;
     for name in names {
@@ -158,7 +162,8 @@ pub fn network_json(
     edges: &[Edge],
     names: &[&str],
 ) -> Result<String, AllocError>
-    ensures { IfOk result (λ text. string_bytes text ≡ json_line (network_data nodes edges.now (map (λ x. x.now) names.now))) }
+    ensures { IfOk result (λ text. string_bytes text
+        ≡ json_line (network_data nodes edges.now (map (λ x. x.now) names.now))) }
 {
     let network = NetworkObject {
         edges,

@@ -44,7 +44,8 @@ pub fn figures_csv(alloc: Global, figures: &[Figure]) -> Result<Vec<u8>, AllocEr
 }
 
 fn write_figure(writer: &mut Writer<Vec<u8>>, figure: &Figure) -> Result<(), AllocError>
-    ensures { (text : List ℕ) → HasRows writer.old text → OnOk result (HasRows writer.new (text ++ figure_row (said figure.now))) }
+    ensures { (text : List ℕ) → HasRows writer.old text
+        → OnOk result (HasRows writer.new (text ++ figure_row (said figure.now))) }
 {
     let name = figure.name.as_str();
     write_row(writer, name, figure.value.as_str(), figure.unit)
@@ -64,7 +65,8 @@ pub(crate) fn write_row(
     b: &str,
     c: &str,
 ) -> Result<(), AllocError>
-    ensures { (text : List ℕ) → HasRows writer.old text → OnOk result (HasRows writer.new (text ++ row a.now b.now c.now)) }
+    ensures { (text : List ℕ) → HasRows writer.old text
+        → OnOk result (HasRows writer.new (text ++ row a.now b.now c.now)) }
 {
     match writer.write_fields(&[a.as_bytes(), b.as_bytes(), c.as_bytes()]) {
         Ok(()) => Ok(()),

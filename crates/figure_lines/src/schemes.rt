@@ -64,7 +64,8 @@ fn push_spread(
     spread: &Spread,
     unit: &'static str,
 ) -> Result<(), AllocError>
-    ensures { OnOk result (map said figures.new.items ≡ map said figures.old.items ++ spread_figures name.now spread.now unit.entry.now) }
+    ensures { OnOk result (map said figures.new.items
+        ≡ map said figures.old.items ++ spread_figures name.now spread.now unit.entry.now) }
 {
     let mean_name = format!(in alloc; "{name}_mean")?;
     let mean = share_of(spread.sum, spread.count);

@@ -1,5 +1,5 @@
 -- What stands on a shelf was published, and under one number one scheme was.
-use Rattle.std.proofs.Common.{◌≡◌, ◌⊎◌, inl, inr, ⊎_elim, ◌<◌, ◌+◌, ◌-◌, ◌==◌, ℕ, zero, suc, Bool, true, false, cond, List, [], ◌∷◌, ◌++◌, length, map, drop, fold, Option, Some, None, slice_index, slice_index_or, refl, sym, ap, ◌∙◌, subst, arith}
+use Rattle.std.proofs.Common.{◌≡◌, ◌⊎◌, inl, inr, ⊎_elim, ◌<◌, ◌-◌, ◌==◌, ℕ, zero, suc, Bool, true, false, cond, List, [], ◌∷◌, ◌++◌, length, map, drop, fold, Option, Some, None, slice_index_or, refl, sym, ap, ◌∙◌, subst, arith}
 use Rattle.std.specs.List.{Contains}
 use Rattle.std.specs.List.Sorted.{IsStrictlyIncreasing}
 use Rattle.std.proofs.lemmas.Bool.{eqb-true}
@@ -13,6 +13,7 @@ use Rattle.generations.specs.Notices.{generation_of, generations_in}
 use Rattle.generations.specs.Shelves.{most_shelved}
 use Rattle.generations.specs.Boards.{BoardState, after, fresh, scheme_of}
 use Rattle.generations.specs.Beginnings.{Beginning, GoesOn, board_after}
+use Rattle.generations.proofs.Lawfulness.{tail_rises}
 use Rattle.forwarders.specs.Arrivals.{IsLawfulList, IsPublished}
 
 -- ---- one of many generations
@@ -74,12 +75,6 @@ found_among gs (Some g ∷ shelf) n p h e = by (g.0 == n) refl e (λ f. found_am
     by false is f rest = rest f
 
 -- ---- under one number stands one scheme
-
-plus_one : (k : ℕ) → suc k + 1 ≡ suc (k + 1)
-plus_one k = omega arith
-
-tail_rises : (x : ℕ) (xs : List ℕ) → IsStrictlyIncreasing (x ∷ xs) → IsStrictlyIncreasing xs
-tail_rises x xs rises k within = subst (λ (n : ℕ). slice_index xs k < slice_index (x ∷ xs) n) (plus_one k) (rises (suc k) (omega (arith, within)))
 
 first_two : (x y : ℕ) (xs : List ℕ) → IsStrictlyIncreasing (x ∷ y ∷ xs) → x < y
 first_two x y xs rises = rises 0 (omega arith)

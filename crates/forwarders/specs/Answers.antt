@@ -49,9 +49,13 @@ launch_at u a shelf = by (λ t. decide t u a) (scheme_of a.generation shelf)
 abbrev pub hop_at : ℕ → Packet → Shelf → Result Move Refused
 hop_at x k shelf = by (λ t. node_step t x k) (scheme_of k.generation shelf)
 
+-- the answer is this one, unless the board gave no look, which is told so
+abbrev pub UnlessShut : {A E : Type 0} → E → Result A E → Result A E → Type 0
+UnlessShut shut by_shelf answer = (answer ≡ Err shut) ⊎ (answer ≡ by_shelf)
+
 -- what a forwarder that looks at this shelf, if the board gives a look, answers to a packet at x
 abbrev pub IsAnswer : Shelf → ℕ → Packet → Result Move Refused → Type 0
-IsAnswer shelf x k answer = (answer ≡ Err BoardShut) ⊎ (answer ≡ hop_at x k shelf)
+IsAnswer shelf x k answer = UnlessShut BoardShut (hop_at x k shelf) answer
 
 -- an answer to a packet, which comes back where it is refused
 abbrev pub handed_back : Packet → Result Move Refused → Result Move (Refused × Packet)

@@ -23,7 +23,8 @@ fn last_number(places: &[Option<Shelved>]) -> Option<u64>
 
 // The scheme of this number.
 fn scheme_in(places: &[Option<Shelved>], number: u64) -> Option<&Scheme>
-    ensures { MatchOption result (scheme_of number (map plain places.now) ≡ None) (λ s. scheme_of number (map plain places.now) ≡ Some s.now) }
+    ensures { MatchOption result (scheme_of number (map plain places.now) ≡ None)
+        (λ s. scheme_of number (map plain places.now) ≡ Some s.now) }
 {
     match places {
         [] => None,

@@ -1,9 +1,9 @@
 // A forwarder.
-ghost use Rattle.std.specs.Prelude.{◌≡◌, ◌⊎◌, IfOk, IfErr, Ok, Err};
+ghost use Rattle.std.specs.Prelude.{◌≡◌, IfOk, IfErr};
 ghost use Rattle.generations.specs.Beginnings.{GoesOn, board_after};
 ghost use Rattle.generations.specs.Boards.{latest_of};
 ghost use Rattle.generations.specs.Lawful.{IsLawful};
-ghost use Rattle.forwarders.specs.Answers.{address_at, handed_back, hop_at, launch_at};
+ghost use Rattle.forwarders.specs.Answers.{UnlessShut, address_at, handed_back, hop_at, launch_at};
 ghost use Rattle.forwarders.specs.ByteAnswers.{IsByteAnswer};
 
 use crate::answers::{address_on, hop_on, latest_on, launch_on};
@@ -95,7 +95,7 @@ impl Forwarder {
     /// The address of a node in a generation.
     pub fn address(&mut self, generation: u64, v: u16) -> Result<Address, Refused>
         ensures kept { GoesOn self.old self.new }
-        ensures answer { (result ≡ Err Refused.BoardShut) ⊎ (result ≡ address_at generation v (board_after self.new).shelf) }
+        ensures answer { UnlessShut Refused.BoardShut (address_at generation v (board_after self.new).shelf) result }
     {
         let Some(reader) = self.reader.take() else {
             unreachable!()
@@ -118,7 +118,7 @@ impl Forwarder {
     /// The packet that a node sends to an address, by the scheme of the address's generation.
     pub fn launch(&mut self, from: u16, address: &Address) -> Result<Packet, Refused>
         ensures kept { GoesOn self.old self.new }
-        ensures answer { (result ≡ Err Refused.BoardShut) ⊎ (result ≡ launch_at from address.now (board_after self.new).shelf) }
+        ensures answer { UnlessShut Refused.BoardShut (launch_at from address.now (board_after self.new).shelf) result }
     {
         let Some(reader) = self.reader.take() else {
             unreachable!()
@@ -142,7 +142,8 @@ impl Forwarder {
     /// it was.
     pub fn hop(&mut self, at: u16, packet: Packet) -> Result<Move, (Refused, Packet)>
         ensures kept { GoesOn self.old self.new }
-        ensures answer { (result ≡ Err (Refused.BoardShut, packet)) ⊎ (result ≡ handed_back packet (hop_at at packet (board_after self.new).shelf)) }
+        ensures answer { UnlessShut (Refused.BoardShut, packet)
+            (handed_back packet (hop_at at packet (board_after self.new).shelf)) result }
     {
         let Some(reader) = self.reader.take() else {
             unreachable!()

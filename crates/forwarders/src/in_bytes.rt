@@ -23,7 +23,9 @@ pub enum ByteMove {
 
 /// The packet that the bytes spell, or why they spell none.
 pub(crate) fn packet_in(bytes: &[u8]) -> Result<Packet, BytesRefused>
-    ensures { MatchResult result (λ packet. (packet_refusal bytes.now ≡ None) × SpellsPacket bytes.now packet) (λ e. IsSome (packet_refusal bytes.now) × IfSome (packet_refusal bytes.now) (λ refused. IsUnread refused e)) }
+    ensures { MatchResult result
+        (λ packet. (packet_refusal bytes.now ≡ None) × SpellsPacket bytes.now packet)
+        (λ e. IsSome (packet_refusal bytes.now) × IfSome (packet_refusal bytes.now) (λ refused. IsUnread refused e)) }
 {
     match Packet::from_bytes(bytes) {
         Ok(packet) => Ok(packet),

@@ -4,7 +4,7 @@ use Rattle.generations.specs.declared.posting.Notice.{Notice}
 use Rattle.generations.specs.Beginnings.{Beginning, Extends}
 use Rattle.generations.specs.Notices.{notice_of}
 use Rattle.generations.specs.Posts.{Posts, all_posted, with_posted, with_kept}
-use Rattle.generations.specs.Writes.{posts_of, HasPublisher}
+use Rattle.generations.specs.Writes.{posts_of, pending_of, HasPublisher}
 use Rattle.generations.specs.Waits.{IsWaiting}
 use Rattle.generations.specs.declared.replica.Update.{Update}
 use Rattle.generations.specs.declared.writer.Publisher.{Publisher}
@@ -48,4 +48,4 @@ waits_posts posted all pending Logged h = posts_all posted all (notice_of h.0.po
 
 pub has_posts : {R : Type 0} (posted all : Beginning) (waiting : Waiting) (o : Option (Publisher R)) → HasPublisher posted all waiting o → posts_of all all ≡ all_posted (posts_of posted all)
 has_posts posted all waiting None h = absurd h
-has_posts posted all waiting (Some p) h = waits_posts posted all (drop p.writer.behind p.writer.log.items) waiting h.1
+has_posts posted all waiting (Some p) h = waits_posts posted all (pending_of p) waiting h.1

@@ -93,7 +93,8 @@ range_first a (x ∷ xs) ys h =
 plus_one : (k : ℕ) → suc k + 1 ≡ suc (k + 1)
 plus_one k = omega arith
 
-tail_rises : (x : ℕ) (xs : List ℕ) → IsStrictlyIncreasing (x ∷ xs) → IsStrictlyIncreasing xs
+-- behind their first, rising numbers rise
+pub tail_rises : (x : ℕ) (xs : List ℕ) → IsStrictlyIncreasing (x ∷ xs) → IsStrictlyIncreasing xs
 tail_rises x xs rises k within = subst (λ (n : ℕ). slice_index xs k < slice_index (x ∷ xs) n) (plus_one k) (rises (suc k) (omega (arith, within)))
 
 after_first : (x : ℕ) (xs : List ℕ) (k : ℕ) → slice_index xs k < slice_index xs (k + 1) → slice_index (x ∷ xs) (suc k) < slice_index (x ∷ xs) (suc k + 1)

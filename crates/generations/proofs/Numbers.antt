@@ -1,5 +1,5 @@
 -- The numbers of generations.
-use Rattle.std.proofs.Common.{◌≡◌, ◌≢◌, ℕ, zero, suc, ◌+◌, ◌<◌, ◌≤◌, List, [], ◌∷◌, ◌++◌, length, map, slice_index, Option, Some, None, refl, ap, ◌∙◌, subst, append-nil, arith}
+use Rattle.std.proofs.Common.{◌≡◌, ◌≢◌, ℕ, zero, suc, ◌<◌, ◌≤◌, List, [], ◌∷◌, ◌++◌, length, map, slice_index, Option, Some, None, refl, ap, ◌∙◌, append-nil, arith}
 use Rattle.std.specs.Option.{option_map}
 use Rattle.std.specs.List.{last_or}
 use Rattle.std.specs.List.Sorted.{IsStrictlyIncreasing}
@@ -8,6 +8,7 @@ use Rattle.node_table.specs.declared.parts.Parts.{Parts}
 use Rattle.generations.specs.declared.posting.Notice.{Notice}
 use Rattle.generations.specs.declared.posting.Notice.TheVariants.{Built}
 use Rattle.generations.specs.Notices.{generation_of, generations_in, numbers_in, newest_in}
+use Rattle.generations.proofs.Lawfulness.{tail_rises}
 
 last_push : {A : Type 0} (o : Option A) (xs : List A) (x : A) → last_or o (xs ++ x ∷ []) ≡ Some x
 last_push o [] x = refl
@@ -24,12 +25,6 @@ some_last x (y ∷ ys) e = some_last y ys e
 no_last : {A : Type 0} (xs : List A) → last_or None xs ≡ None → xs ≡ []
 no_last [] e = refl
 no_last (x ∷ xs) e = absurd (some_last x xs e)
-
-plus_one : (k : ℕ) → suc k + 1 ≡ suc (k + 1)
-plus_one k = omega arith
-
-tail_rises : (x : ℕ) (xs : List ℕ) → IsStrictlyIncreasing (x ∷ xs) → IsStrictlyIncreasing xs
-tail_rises x xs rises k within = subst (λ (n : ℕ). slice_index xs k < slice_index (x ∷ xs) n) (plus_one k) (rises (suc k) (omega (arith, within)))
 
 -- of rising numbers the last is the greatest
 up_to_last_from : (x : ℕ) (xs : List ℕ) (m : ℕ) → IsStrictlyIncreasing (x ∷ xs) → last_or (Some x) xs ≡ Some m → (k : ℕ) → k < length (x ∷ xs) → slice_index (x ∷ xs) k ≤ m

@@ -18,4 +18,4 @@ IsPending posted all pending = (update : Update) × IsLast posted all update × 
 abbrev pub IsWaiting : Beginning → Beginning → List Update → Waiting → Type 0
 IsWaiting posted all pending Nothing = (all ≡ posted) × (pending ≡ [])
 IsWaiting posted all pending (Outside update) = IsLast posted all update × (pending ≡ [])
-IsWaiting posted all pending Logged = (update : Update) × IsLast posted all update × (pending ≡ update ∷ [])
+IsWaiting posted all pending Logged = IsPending posted all pending

@@ -1,5 +1,5 @@
 // The board as a plain value.
-ghost use Rattle.std.specs.Prelude.{◌≡◌, ◌∷◌, ◌++◌, [], fold, map, slice_set, Some, MatchResult};
+ghost use Rattle.std.specs.Prelude.{◌≡◌, ◌∷◌, ◌++◌, [], fold, map, Some, MatchResult};
 ghost use Rattle.requests.specs.Tickets.{last_of};
 ghost use Rattle.generations.specs.Shelves.{plain, newest};
 ghost use Rattle.generations.specs.Notices.{notice_of};
@@ -62,7 +62,8 @@ impl Board {
     /// Takes in one posting more. It allocates nothing: a generation alone is refused, where its scheme has as many owners as can
     /// be counted, and then the board stays as it was.
     pub fn fold(&mut self, posting: &Posting) -> Result<(), AllocError>
-        ensures { MatchResult result (λ _. self.new ≡ after self.old (notice_of posting.now)) (λ _. self.new ≡ self.old) }
+        ensures { MatchResult result (λ _. self.new ≡ after self.old (notice_of posting.now))
+            (λ _. self.new ≡ self.old) }
     {
         match posting {
             Posting::Marks(marks) => {

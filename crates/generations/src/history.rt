@@ -144,7 +144,8 @@ impl History {
     /// Whether the other one goes no further. All histories of a board are beginnings of one list.
     pub fn covers(&self, other: &History) -> bool
         requires { other.now.opening ≡ self.now.opening }
-        ensures { MatchBool result (IsPrefix other.now.log self.now.log) (IsPrefix self.now.log other.now.log × (length self.now.log < length other.now.log)) }
+        ensures { MatchBool result (IsPrefix other.now.log self.now.log)
+            (IsPrefix self.now.log other.now.log × (length self.now.log < length other.now.log)) }
     {
         let mut both = self.seen.again();
         both.learn(&other.seen);
@@ -155,7 +156,8 @@ impl History {
     pub(crate) fn add(&self, head: &Head, posting: &Posting) -> Option<History>
         requires book { head.now.word.book ≡ self.now.opening.book }
         requires room { length self.now.log < MOST_POSTINGS }
-        requires lawful { IsLawful self.now.opening.starts self.now.opening.count (self.now.log ++ notice_of posting.now ∷ []) }
+        requires lawful { IsLawful self.now.opening.starts self.now.opening.count
+            (self.now.log ++ notice_of posting.now ∷ []) }
         ensures { IfSome result (λ h. Extends self.now (notice_of posting.now) h) }
     {
         let mut seen = self.seen.again();

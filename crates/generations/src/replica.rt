@@ -1,5 +1,4 @@
 // One of the two copies that readers and the writer share: a board, and the beginning of the list that it is the fold of.
-ghost use Rattle.std.specs.Prelude.{◌≡◌};
 
 use crate::fold::Board;
 use crate::history::History;

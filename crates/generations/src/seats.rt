@@ -2,6 +2,7 @@
 ghost use Rattle.std.specs.Prelude.{◌≡◌, [], ◌≤◌, IfOk, All, Some, vec_len};
 ghost use Rattle.left_right.specs.Sides.{view};
 ghost use Rattle.generations.specs.Knowledges.{all_seen};
+ghost use Rattle.generations.specs.Writes.{IsSameWriter};
 
 use crate::fold::Board;
 use crate::history::{History, open};
@@ -40,7 +41,7 @@ fn seated(
     history: &History,
 ) -> Result<BoardReader, AllocError>
     requires { view writer.old.desk.place ≡ Some history.now }
-    ensures writer { (view writer.new.desk.place ≡ view writer.old.desk.place) × (writer.new.desk.shown ≡ writer.old.desk.shown) × (writer.new.log ≡ writer.old.log) × (writer.new.behind ≡ writer.old.behind) }
+    ensures writer { IsSameWriter writer.old writer.new }
     ensures reader { IfOk result (λ r. r ≡ all_seen history.now) }
 {
     let mut reader = writer.factory().reader()?;
@@ -55,7 +56,7 @@ fn seat_all(
     readers: usize,
 ) -> Result<Vec<BoardReader>, AllocError>
     requires { view writer.old.desk.place ≡ Some history.now }
-    ensures writer { (view writer.new.desk.place ≡ view writer.old.desk.place) × (writer.new.desk.shown ≡ writer.old.desk.shown) × (writer.new.log ≡ writer.old.log) × (writer.new.behind ≡ writer.old.behind) }
+    ensures writer { IsSameWriter writer.old writer.new }
     ensures readers { IfOk result (λ v. (vec_len v ≡ readers) × All (λ r. r ≡ all_seen history.now) v.items) }
 {
     let mut all = Vec::new(alloc);

@@ -3,7 +3,7 @@ ghost use Rattle.std.specs.Prelude.{◌≡◌, ◌≢◌, ◌++◌, ◌∷◌, [
 ghost use Rattle.left_right.specs.Sides.{view};
 ghost use Rattle.generations.specs.Notices.{notice_of};
 ghost use Rattle.generations.specs.Waits.{IsLast, IsWaiting, IsPending};
-ghost use Rattle.generations.specs.Writes.{IsPublished, IsHandedIn};
+ghost use Rattle.generations.specs.Writes.{IsPublished, HasHandedIn, Shows, pending_of};
 ghost use Rattle.generations.specs.Posts.{with_posted, all_posted};
 ghost use Rattle.generations.specs.Lawful.{IsLawful};
 ghost use Rattle.generations.specs.Refusals.{IsRefused};
@@ -118,8 +118,10 @@ impl<R: Wait + Drop> BoardWriter<R> {
     /// Posts one posting: every look that starts then, of a reader that was told of it, sees it.
     pub fn post(&mut self, posting: Posting) -> Result<(), PostRefused>
         requires nothing_kept { self.old.kept ≡ [] }
-        requires lawful { IsLawful self.old.opening.starts self.old.opening.count (self.old.posted ++ notice_of posting ∷ []) }
-        ensures { MatchResult result (λ _. self.new ≡ with_posted self.old (notice_of posting)) (λ e. IsRefused posting self.old self.new e) }
+        requires lawful { IsLawful self.old.opening.starts self.old.opening.count
+            (self.old.posted ++ notice_of posting ∷ []) }
+        ensures { MatchResult result (λ _. self.new ≡ with_posted self.old (notice_of posting))
+            (λ e. IsRefused posting self.old self.new e) }
     {
         if self.posted.len() >= MOST_POSTINGS {
             return Err(PostRefused::Back(posting));
@@ -187,10 +189,10 @@ impl<R: Wait + Drop> BoardWriter<R> {
 impl<R: Wait + Drop> Publisher<R> {
     // Publishes what waits.
     fn again(self, posted: &History, all: &History, waiting: Waiting) -> (Publisher<R>, Waiting)
-        requires shown { IsPublished self.writer.desk.shown.value (view self.writer.desk.place) posted.now }
-        requires waits { IsWaiting posted.now all.now (drop self.writer.behind self.writer.log.items) waiting }
+        requires shown { Shows self posted.now }
+        requires waits { IsWaiting posted.now all.now (pending_of self) waiting }
         requires some { waiting ≢ Waiting.Nothing }
-        ensures { IsHandedIn posted.now all.now result.0.writer.desk.shown.value (view result.0.writer.desk.place) (drop result.0.writer.behind result.0.writer.log.items) result.1 }
+        ensures { HasHandedIn result.0 posted.now all.now result.1 }
     {
         match waiting {
             Waiting::Outside(update) => self.hand_in(posted, all, update),
@@ -201,10 +203,10 @@ impl<R: Wait + Drop> Publisher<R> {
 
     // Hands the update to the log, and publishes it.
     fn hand_in(self, posted: &History, all: &History, update: Update) -> (Publisher<R>, Waiting)
-        requires shown { IsPublished self.writer.desk.shown.value (view self.writer.desk.place) posted.now }
-        requires pending { drop self.writer.behind self.writer.log.items ≡ [] }
+        requires shown { Shows self posted.now }
+        requires pending { pending_of self ≡ [] }
         requires last { IsLast posted.now all.now update }
-        ensures { IsHandedIn posted.now all.now result.0.writer.desk.shown.value (view result.0.writer.desk.place) (drop result.0.writer.behind result.0.writer.log.items) result.1 }
+        ensures { HasHandedIn result.0 posted.now all.now result.1 }
     {
         let Self { rt, mut writer } = self;
         match writer.append(update) {
@@ -215,9 +217,9 @@ impl<R: Wait + Drop> Publisher<R> {
 
     // Publishes the one update that is pending.
     fn show(self, posted: &History, all: &History) -> (Publisher<R>, Waiting)
-        requires shown { IsPublished self.writer.desk.shown.value (view self.writer.desk.place) posted.now }
-        requires pending { IsPending posted.now all.now (drop self.writer.behind self.writer.log.items) }
-        ensures { IsHandedIn posted.now all.now result.0.writer.desk.shown.value (view result.0.writer.desk.place) (drop result.0.writer.behind result.0.writer.log.items) result.1 }
+        requires shown { Shows self posted.now }
+        requires pending { IsPending posted.now all.now (pending_of self) }
+        ensures { HasHandedIn result.0 posted.now all.now result.1 }
     {
         let Self { rt, writer } = self;
         let (writer, shown) = writer.publish_as::<Observation, R>(&rt);

@@ -184,7 +184,8 @@ impl Graph {
     /// A refusal of memory leaves the graph as it was.
     pub fn add(&mut self, a: u16, b: u16, weight: u32) -> Result<(), AllocError>
         requires { refusal_at self.old.nodes self.old.edges (Add a b weight) ≡ None }
-        ensures ok { OnOk result (self.new ≡ record { nodes = self.old.nodes; edges = insert self.old.edges (pair_of a b) weight }) }
+        ensures ok { OnOk result (self.new
+            ≡ record { nodes = self.old.nodes; edges = insert self.old.edges (pair_of a b) weight }) }
         ensures unchanged { OnErr result (self.new ≡ self.old) }
     {
         rows::put_both(&mut self.rows, a, b, weight)?;
@@ -209,7 +210,8 @@ impl Graph {
     /// Makes the op at a place of a change, or refuses it and leaves the graph as it was.
     fn replay_op(&mut self, index: usize, op: Op) -> Result<(), EditRefused>
         ensures passed { OnOk result (refusal_at self.old.nodes self.old.edges op ≡ None) }
-        ensures made { OnOk result (self.new ≡ record { nodes = self.old.nodes; edges = edges_after_op self.old.edges op }) }
+        ensures made { OnOk result (self.new
+            ≡ record { nodes = self.old.nodes; edges = edges_after_op self.old.edges op }) }
         ensures refused { IfErr result (IsRefusedOp index (refusal_at self.old.nodes self.old.edges op)) }
         ensures unchanged { OnErr result (self.new ≡ self.old) }
     {
@@ -224,7 +226,8 @@ impl Graph {
     /// Makes an op, where nothing stands against it. A refusal of memory leaves the graph as it was.
     fn make(&mut self, op: Op) -> Result<(), AllocError>
         requires { refusal_at self.old.nodes self.old.edges op ≡ None }
-        ensures ok { OnOk result (self.new ≡ record { nodes = self.old.nodes; edges = edges_after_op self.old.edges op }) }
+        ensures ok { OnOk result (self.new
+            ≡ record { nodes = self.old.nodes; edges = edges_after_op self.old.edges op }) }
         ensures unchanged { OnErr result (self.new ≡ self.old) }
     {
         rows::write_both(&mut self.rows, op)?;

@@ -140,7 +140,8 @@ pub(crate) fn edges_then(edges: usize, op: Op) -> usize
 fn lay(changed: &mut Vec<((u16, u16), Option<u32>)>, op: Op)
     requires sorted { T (is_sorted pair_cmp changed.old.items) }
     requires room { vec_len changed.old < vec_capacity changed.old }
-    ensures items { changed.new.items ≡ put pair_cmp (pair_of (first_node op) (second_node op)) (op_weight op) changed.old.items }
+    ensures items { changed.new.items
+        ≡ put pair_cmp (pair_of (first_node op) (second_node op)) (op_weight op) changed.old.items }
     ensures len { vec_len changed.new ≤ vec_len changed.old + 1 }
     ensures capacity { vec_capacity changed.old ≤ vec_capacity changed.new }
 {

@@ -69,10 +69,12 @@ fn rewrite_all(
 ) -> Result<(), AllocError>
     requires slots { AreSlots (length base.now) rows.old.items }
     requires rows { AreRows (placed (lists base.now) rows.old.items) edges.old }
-    requires accepted { err_of (edges_after (length base.now) (edges_from 0 (placed (lists base.now) rows.old.items)) 0 ops.now) ≡ None }
+    requires accepted { err_of (edges_after (length base.now) (edges_from 0 (placed (lists base.now) rows.old.items)) 0 ops.now)
+        ≡ None }
     ensures slots { OnOk result (AreSlots (length base.now) rows.new.items) }
     ensures rows { OnOk result (AreRows (placed (lists base.now) rows.new.items) edges.new) }
-    ensures edges { OnOk result (edges_after (length base.now) (edges_from 0 (placed (lists base.now) rows.old.items)) 0 ops.now ≡ Ok (edges_from 0 (placed (lists base.now) rows.new.items))) }
+    ensures edges { OnOk result (edges_after (length base.now) (edges_from 0 (placed (lists base.now) rows.old.items)) 0 ops.now
+        ≡ Ok (edges_from 0 (placed (lists base.now) rows.new.items))) }
 {
     for op in ops {
         rewrite(alloc, base, rows, *op)?;
@@ -93,7 +95,8 @@ fn rewrite(
     requires ends { HasEndsIn (length base.now) op }
     requires apart { first_node op ≢ second_node op }
     ensures slots { OnOk result (AreSlots (length base.now) rows.new.items) }
-    ensures rows { OnOk result (placed (lists base.now) rows.new.items ≡ rows_with (placed (lists base.now) rows.old.items) (first_node op) (second_node op) (op_weight op)) }
+    ensures rows { OnOk result (placed (lists base.now) rows.new.items
+        ≡ rows_with (placed (lists base.now) rows.old.items) (first_node op) (second_node op) (op_weight op)) }
 {
     let (a, b) = op.ends();
     match op.weight() {
@@ -121,7 +124,9 @@ fn put_half(
     requires slots { AreSlots (length base.now) rows.old.items }
     requires sorted { T (is_sorted nat_cmp (row_of (placed (lists base.now) rows.old.items) node)) }
     ensures slots { OnOk result (AreSlots (length base.now) rows.new.items) }
-    ensures rows { OnOk result (placed (lists base.now) rows.new.items ≡ slice_set (placed (lists base.now) rows.old.items) node (put nat_cmp neighbour weight (row_of (placed (lists base.now) rows.old.items) node))) }
+    ensures rows { OnOk result (placed (lists base.now) rows.new.items
+        ≡ slice_set (placed (lists base.now) rows.old.items) node
+        (put nat_cmp neighbour weight (row_of (placed (lists base.now) rows.old.items) node))) }
 {
     let i = slot_of(alloc, base, rows, node)?;
     rows::put_neighbour(&mut rows[i].1, neighbour, weight)?;
@@ -140,7 +145,9 @@ fn cut_half(
     requires slots { AreSlots (length base.now) rows.old.items }
     requires sorted { T (is_sorted nat_cmp (row_of (placed (lists base.now) rows.old.items) node)) }
     ensures slots { OnOk result (AreSlots (length base.now) rows.new.items) }
-    ensures rows { OnOk result (placed (lists base.now) rows.new.items ≡ slice_set (placed (lists base.now) rows.old.items) node (cut_row neighbour (row_of (placed (lists base.now) rows.old.items) node))) }
+    ensures rows { OnOk result (placed (lists base.now) rows.new.items
+        ≡ slice_set (placed (lists base.now) rows.old.items) node
+        (cut_row neighbour (row_of (placed (lists base.now) rows.old.items) node))) }
 {
     let i = slot_of(alloc, base, rows, node)?;
     table::cut_entry(&mut rows[i].1, neighbour);

@@ -105,7 +105,8 @@ pub(crate) fn write_both(rows: &mut Vec<Vec<(u16, u32)>>, op: Op) -> Result<(), 
     requires ends { HasEndsIn (length rows.old.items) op }
     requires apart { first_node op ≢ second_node op }
     requires sorted { (x : ℕ) → T (is_sorted nat_cmp (row_of (lists rows.old.items) x)) }
-    ensures ok { OnOk result (lists rows.new.items ≡ rows_with (lists rows.old.items) (first_node op) (second_node op) (op_weight op)) }
+    ensures ok { OnOk result (lists rows.new.items
+        ≡ rows_with (lists rows.old.items) (first_node op) (second_node op) (op_weight op)) }
     ensures unchanged { OnErr result (lists rows.new.items ≡ lists rows.old.items) }
 {
     let (a, b) = op.ends();

@@ -46,6 +46,9 @@
 //! for each request, under its session and ticket; the requests marked `Accepted` are those that are
 //! accepted; and their counts go on from the state's, one by one. [`limits_law`] says what [`MOST_HELD`] is.
 //!
+//! Who judges requests otherwise commits them by [`commit_rolling`], as one record too: a desk's own commit is this call, with the
+//! requests that were accepted (`HasCommittedAll` and `RefusesAll` of specs/StoreCommits.antt).
+//!
 //! ```rust
 //! ghost use Rattle.std.specs.Prelude.{◌≡◌, false};
 //! ghost use Rattle.checkpoint.specs.StoreWords.{is_down};
@@ -86,3 +89,4 @@ pub use desk::Desk;
 pub use laws::{limits_law, settling_law};
 pub use limits::MOST_HELD;
 pub use refused::DeskRefused;
+pub use rolling::commit_rolling;

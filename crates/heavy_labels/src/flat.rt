@@ -55,7 +55,8 @@ fn label_at(
     requires heavy { AreHeavy members.now by_node.now heavy.now }
     requires ahead { AreAheadTo members.now by_node.now (length by_node.now) ahead.now }
     requires flat { AreFlat members.now above.now heavy.now ahead.now at (map seen out.now) }
-    ensures { IsLabelAt members.now above.now heavy.now ahead.now at (label_over above.now (map seen out.now) at) result }
+    ensures { IsLabelAt members.now above.now heavy.now ahead.now at
+        (label_over above.now (map seen out.now) at) result }
 {
     if at == 0 {
         return Label::of(0, &[]);
@@ -161,7 +162,9 @@ pub fn number_members<A: Allocator + Clone>(
     requires members { AreMembers members.now }
     requires places { HasPlaces members.now places.now }
     ensures nodes { IfOk result (λ all. map (λ n. n.node) all.items ≡ map (λ m. m.node) members.now) }
-    ensures lines { IfOk result (λ all. (d : Tree) (b : Brief) → IsListed b (map head_brief (tree_lines (first_or d (subtrees members.now)))) → IsListed b (map seen all.items)) }
+    ensures lines { IfOk result (λ all. (d : Tree) (b : Brief)
+        → IsListed b (map head_brief (tree_lines (first_or d (subtrees members.now))))
+        → IsListed b (map seen all.items)) }
 {
     let above = parents(scratch.clone()?, members, places)?;
     let sizes = sizes(scratch.clone()?, members, &above)?;

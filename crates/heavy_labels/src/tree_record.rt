@@ -32,7 +32,15 @@ impl Record {
         parent_port: Option<u16>,
         heavy_port: Option<u16>,
     ) -> Option<Record>
-        ensures made { IfSome result (λ r. record_of r ≡ record { first = first; last = last; heavy_last = heavy_last; light_depth = light_depth; parent_port = parent_port; heavy_port = heavy_port }) }
+        ensures made { IfSome result (λ r. record_of r
+            ≡ record {
+              first = first;
+              last = last;
+              heavy_last = heavy_last;
+              light_depth = light_depth;
+              parent_port = parent_port;
+              heavy_port = heavy_port;
+            }) }
         ensures exact { IsSome result ↔ (is_none heavy_port ≡ (first == last)) }
     {
         if heavy_port.is_none() == (first == last) {

@@ -1,6 +1,9 @@
 -- Lines of bytes, one after the other.
-use Rattle.std.proofs.Common.{◌≡◌, ◌≢◌, ◌<◌, ◌≤◌, ◌+◌, ◌++◌, ℕ, zero, suc, List, [], ◌∷◌, Some, slice_get, length, take, drop, refl, sym, ap, subst, ◌∙◌, ⊎_elim, arith, eq-eqb, ne_eqb, length-drop, drop-drop}
+use Rattle.std.proofs.Common.{◌≡◌, ◌≢◌, ◌<◌, ◌≤◌, ◌+◌, ◌++◌, ℕ, zero, suc, List, [], ◌∷◌, Option, Some, MatchOption, slice_get, length, take, drop, refl, sym, ap, subst, ◌∙◌, ⊎_elim, arith, eq-eqb, ne_eqb, length-drop, drop-drop}
 use Rattle.std.proofs.lemmas.Bool.{cond-true, cond-false, cases_eq}
+use Rattle.std.specs.List.{AllWithin, HoldsAt}
+use Rattle.std.specs.Option.{unwrap_or}
+use Rattle.std.proofs.lemmas.Iterator.{index_from_first}
 use Rattle.std.proofs.lemmas.List.Elements.{All-nil, All-cons, All-head, All-tail}
 use Rattle.input_lines.specs.Lines.{after_line, after_lines, first_line, in_front, line_at, line_feed, lines_in}
 use Rattle.input_lines.specs.Reading.{Unfed}
@@ -56,6 +59,16 @@ first_taken (x ∷ xs) =
     (λ e. subst (λ l. take (length l) (x ∷ xs) ≡ l) (sym (first_fed x xs e)) refl)
     (λ other. subst (λ l. take (length l) (x ∷ xs) ≡ l) (sym (first_other x xs other)) (ap (λ l. x ∷ l) (first_taken xs)))
     (cases_eq x line_feed)
+
+-- it is as long as the place of the first line feed says
+pub first_long : (xs : List ℕ) (at : Option ℕ)
+    → MatchOption at (AllWithin (λ x. x ≢ line_feed) xs 0 (length xs)) (λ i. (i < length xs) × HoldsAt (λ x. x ≡ line_feed) xs i × AllWithin (λ x. x ≢ line_feed) xs 0 i)
+    → length (first_line xs) ≡ unwrap_or at (length xs)
+first_long xs at first =
+    index_from_first (λ ys. length (first_line ys)) (λ x. x ≡ line_feed) (λ x. x ≢ line_feed) refl
+    (λ y ys e. ap (λ (l : List ℕ). length l) (first_fed y ys e))
+    (λ y ys other. ap (λ (l : List ℕ). length l) (first_other y ys other) ∙ omega arith)
+    xs at first
 
 pub first_short : (xs : List ℕ) → length (first_line xs) ≤ length xs
 first_short [] = omega arith

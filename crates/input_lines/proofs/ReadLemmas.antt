@@ -1,22 +1,25 @@
 -- What parts of a line do to the bytes that a reader has left, where those are known.
-use Rattle.std.proofs.Common.{◌≡◌, ◌≢◌, ◌<◌, ◌≤◌, ◌+◌, ◌++◌, ℕ, Bool, true, false, nat_lt, List, [], ◌∷◌, Option, Some, None, IfSome, Result, Ok, Err, IfOk, OnOk, OnErr, length, take, refl, sym, ap, subst, ◌∙◌, arith, append_assoc, append-nil, length-append}
+use Rattle.std.proofs.Common.{◌≡◌, ◌≢◌, ◌<◌, ◌≤◌, ◌+◌, ◌++◌, ℕ, Bool, true, false, nat_lt, List, [], ◌∷◌, Option, Some, None, IfSome, Result, Ok, Err, IfOk, length, take, refl, sym, ap, subst, ◌∙◌, arith, append_assoc, append-nil, length-append}
+use denote.Ref.{Bor}
 use mir.Val.{bool_byte}
 use Rattle.std.proofs.lemmas.Bool.{ltb-true}
 use Rattle.std.proofs.lemmas.List.{take_at}
 use Rattle.std.proofs.lemmas.List.Elements.{All-append}
 use Rattle.std.specs.Io.{StartsWith}
+use Rattle.std.specs.Io.BufRead.{DropsConsumable, FillKeeps}
 use Rattle.std.specs.Io.KnownBytes.{Consumes, IsAtEnd, Keeps}
+use Rattle.std.proofs.BufReadLemmas.{Consumes_shown}
 use Rattle.std.proofs.KnownBytes.{Consumes-trans, starts_with_rest}
 use Rattle.input_lines.specs.Lines.{after_line, first_line, line_feed, longest_line}
 use Rattle.input_lines.specs.Reading.{DropsLine, Grows, IsFurther, IsNext, IsTooLong, SkipsPart, Unfed, feed_of}
 use Rattle.input_lines.specs.declared.line.NextLine.{NextLine}
 use Rattle.input_lines.specs.declared.line.NextLine.TheVariants.{Line, LongerLine}
-use Rattle.input_lines.proofs.LineLemmas.{after_fed, after_joined, first_and_feed, first_fed, first_grows, first_joined, first_short, first_taken}
+use Rattle.input_lines.proofs.LineLemmas.{after_fed, after_joined, first_and_feed, first_fed, first_grows, first_joined, first_short, first_taken, first_unfed}
 
 -- ---- what is shown
 
 -- a line and its feed are a front
-pub fed_part : (shown : List ℕ) (n : ℕ) → length (first_line shown) < length shown → n ≡ length (first_line shown) + 1 → take n shown ≡ first_line shown ++ line_feed ∷ []
+fed_part : (shown : List ℕ) (n : ℕ) → length (first_line shown) < length shown → n ≡ length (first_line shown) + 1 → take n shown ≡ first_line shown ++ line_feed ∷ []
 fed_part shown n short size =
     let line = first_line shown in
     let feed = line_feed ∷ [] in
@@ -24,7 +27,7 @@ fed_part shown n short size =
     ap (take n) split ∙ take_at (line ++ feed) (after_line shown) n (length-append line feed ∙ sym size)
 
 -- what isn't fed is all
-pub part_whole : (shown : List ℕ) (n : ℕ) → n ≡ length (first_line shown) → take n shown ≡ first_line shown ++ []
+part_whole : (shown : List ℕ) (n : ℕ) → n ≡ length (first_line shown) → take n shown ≡ first_line shown ++ []
 part_whole shown n size = ap (λ k. take k shown) size ∙ first_taken shown ∙ sym (append-nil (first_line shown))
 
 -- bytes that begin with what is shown have no shorter first line
@@ -117,7 +120,7 @@ further_more z a b bs read further = (bs ++ further.0, Consumes-trans z a b bs f
 -- ---- what a step over what is shown does
 
 -- a part that is read whole, with its line feed where there is one
-pub shown_part : (shown line : List ℕ) (n : ℕ) (fed : Bool) → line ≡ first_line shown → nat_lt (length line) (length shown) ≡ fed → n ≡ length line + bool_byte fed → take n shown ≡ line ++ feed_of fed
+shown_part : (shown line : List ℕ) (n : ℕ) (fed : Bool) → line ≡ first_line shown → nat_lt (length line) (length shown) ≡ fed → n ≡ length line + bool_byte fed → take n shown ≡ line ++ feed_of fed
 shown_part shown line n true is short size =
     let lt : length (first_line shown) < length shown = subst (λ l. length l < length shown) is (ltb-true _ _ short) in
     fed_part shown n lt (size ∙ ap (λ (l : List ℕ). length l + 1) is) ∙ ap (λ l. l ++ line_feed ∷ []) (sym is)
@@ -125,35 +128,30 @@ shown_part shown line n false is short size =
     let same : n ≡ length (first_line shown) = omega (arith, size, ap (λ (l : List ℕ). length l) is) in
     part_whole shown n same ∙ ap (λ l. l ++ []) (sym is)
 
-pub shown_skips : (a b : Option (List ℕ)) (line : List ℕ) (fed : Bool) → Unfed line → Consumes a b (line ++ feed_of fed) → SkipsPart a b fed
-shown_skips a b line true unfed read = fed_drops a b line unfed read
-shown_skips a b line false unfed read = (line, unfed, subst (Consumes a b) (append-nil line) read)
-
 -- it is no more than is shown
-pub used_within : (shown line : List ℕ) (fed : Bool) → line ≡ first_line shown → nat_lt (length line) (length shown) ≡ fed → length line + bool_byte fed ≤ length shown
+used_within : (shown line : List ℕ) (fed : Bool) → line ≡ first_line shown → nat_lt (length line) (length shown) ≡ fed → length line + bool_byte fed ≤ length shown
 used_within shown line true is short = omega (arith, ltb-true (length line) (length shown) short)
 used_within shown line false is short = omega (arith, ap (λ (l : List ℕ). length l) is, first_short shown)
 
+-- `fill_buf` shows bytes, and `consume` takes their first line, with its line feed where there is one
+pub part_read : {E : Type 0} (a b c : Option (List ℕ)) (limit : Option ℕ) (r : Result (Bor (List ℕ)) E) (shown : Bor (List ℕ)) (line : List ℕ) (fed : Bool)
+    → line ≡ first_line shown.now → nat_lt (length line) (length shown.now) ≡ fed
+    → r ≡ Ok shown → FillKeeps a b limit r → IfSome a (λ xs. StartsWith xs shown.now) → IfSome a (λ xs. length shown.now ≡ 0 → xs ≡ [])
+    → DropsConsumable b c limit (length line + bool_byte (nat_lt (length line) (length shown.now)))
+    → Unfed line × Consumes a c (line ++ feed_of fed)
+part_read a b c limit r shown line fed is short shows fills front end drops =
+    let kept = subst (FillKeeps a b limit) shows fills in
+    let used = used_within shown.now line _ is refl in
+    let read = Consumes_shown a b c limit shown.now _ used front end kept.0 kept.1 drops in
+    let part = shown_part shown.now line _ fed is short (ap (λ b. length line + bool_byte b) short) in
+    (subst Unfed (sym is) (first_unfed shown.now), subst (Consumes a c) part read.0)
+
+pub shown_skips : (a b : Option (List ℕ)) (line : List ℕ) (fed : Bool) → Unfed line × Consumes a b (line ++ feed_of fed) → SkipsPart a b fed
+shown_skips a b line true read = fed_drops a b line read.0 read.1
+shown_skips a b line false read = (line, read.0, subst (Consumes a b) (append-nil line) read.1)
+
 -- ---- over a result
 
-module _ {E : Type 0} (r : Result NextLine E) where
-  pub longer_given : (z : Option (List ℕ)) (line : List ℕ) → IfOk r (λ next. next ≡ LongerLine) → IfSome z (λ xs. longest_line < length (first_line xs)) → IfOk r (λ next. IfSome z (λ xs. IsNext xs next line))
-  longer_given = at r
-    where
-      at : (r : Result NextLine E) (z : Option (List ℕ)) (line : List ℕ) → IfOk r (λ next. next ≡ LongerLine) → IfSome z (λ xs. longest_line < length (first_line xs)) → IfOk r (λ next. IfSome z (λ xs. IsNext xs next line))
-      at (Ok next) z line is long = subst (λ n. IfSome z (λ xs. IsNext xs n line)) (sym is) long
-      at (Err e) z line is long = tt
-
-  pub on_ok : {A B : Type 0} → (A → B) → OnOk r A → OnOk r B
-  on_ok = at r
-    where
-      at : (r : Result NextLine E) {A B : Type 0} → (A → B) → OnOk r A → OnOk r B
-      at (Ok next) f h = f h
-      at (Err e) f h = h
-
-  pub on_err : {A B : Type 0} → (A → B) → OnErr r A → OnErr r B
-  on_err = at r
-    where
-      at : (r : Result NextLine E) {A B : Type 0} → (A → B) → OnErr r A → OnErr r B
-      at (Ok next) f h = h
-      at (Err e) f h = f h
+pub longer_given : {E : Type 0} (r : Result NextLine E) (z : Option (List ℕ)) (line : List ℕ) → IfOk r (λ next. next ≡ LongerLine) → IfSome z (λ xs. longest_line < length (first_line xs)) → IfOk r (λ next. IfSome z (λ xs. IsNext xs next line))
+longer_given (Ok next) z line is long = subst (λ n. IfSome z (λ xs. IsNext xs n line)) (sym is) long
+longer_given (Err e) z line is long = tt

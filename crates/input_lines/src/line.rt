@@ -86,7 +86,8 @@ fn skip_longer<R: BufRead>(reader: &mut R) -> io::Result<NextLine>
 fn append_part<R: BufRead>(reader: &mut R, line: &mut Vec<u8>) -> io::Result<Part>
     requires bounded { length line.old.items ≤ longest_line }
 
-    ensures ok { IfOk result (TakesPart (R.remaining reader.old) (R.remaining reader.new) line.old.items line.new.items) }
+    ensures ok { IfOk result
+        (TakesPart (R.remaining reader.old) (R.remaining reader.new) line.old.items line.new.items) }
     ensures bounded { length line.new.items ≤ longest_line }
 
     ensures err { OnErr result (Keeps (R.remaining reader.old) (R.remaining reader.new)) }

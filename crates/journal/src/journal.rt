@@ -173,10 +173,12 @@ impl<E: Entry> Journal<E> {
         ensures device { IsErrOf result AppendRefused.Device → (D.view disk.old).failures < (D.view disk.new).failures }
         ensures memory_same { IsErrOf result AppendRefused.Memory → disk.new ≡ disk.old }
         ensures calls { AtMostCalls 4 (D.view disk.old) (D.view disk.new) }
-        ensures any_moment { IsTrue (D.view disk.old).keeps_model → AllSpell E.form (D.view disk.old) self.old.area self.old.groups
+        ensures any_moment { IsTrue (D.view disk.old).keeps_model
+            → AllSpell E.form (D.view disk.old) self.old.area self.old.groups
             → LeavesOnly (D.view disk.old) (D.view disk.new)
             (IsBeforeOrAfter E.form (D.view disk.old) self.old.area self.old.groups entries.now) }
-        ensures ok { IsTrue (D.view disk.old).keeps_model → AllSpell E.form (D.view disk.old) self.old.area self.old.groups
+        ensures ok { IsTrue (D.view disk.old).keeps_model
+            → AllSpell E.form (D.view disk.old) self.old.area self.old.groups
             → OnOk result (AllSpell E.form (D.view disk.new) self.new.area self.new.groups) }
     {
         if !self.has_room(entries) {
@@ -217,8 +219,10 @@ impl<E: Entry> Journal<E> {
             → IfOk result (λ r. Spells E.form area r.0.groups (D.view disk.old).content) }
         ensures damaged { IsTrue (D.view disk.old).keeps_model → IsErrOf result ScanRefused.Damaged
             → SpellsNothing E.form area (D.view disk.old).content }
-        ensures damaged_served { IsErrOf result ScanRefused.Damaged → (D.view disk.new).failures ≡ (D.view disk.old).failures }
-        ensures memory_served { IsErrOf result ScanRefused.Memory → (D.view disk.new).failures ≡ (D.view disk.old).failures }
+        ensures damaged_served { IsErrOf result ScanRefused.Damaged
+            → (D.view disk.new).failures ≡ (D.view disk.old).failures }
+        ensures memory_served { IsErrOf result ScanRefused.Memory
+            → (D.view disk.new).failures ≡ (D.view disk.old).failures }
         ensures device { IsErrOf result ScanRefused.Device → (D.view disk.old).failures < (D.view disk.new).failures }
     {
         let Ok(mut window) = Window::new(alloc, WINDOW.min(area.room)) else {

@@ -1,5 +1,5 @@
 -- The form of layout 1: its journal lists accepted changes, and its checkpoints hold no tickets.
-use Rattle.std.specs.Prelude.{ℕ, List, []}
+use Rattle.std.specs.Prelude.{[]}
 use Rattle.journal.specs.ChangeForm.{change_form}
 use Rattle.layout_parts.specs.Forms.{LayoutForm}
 use Rattle.layout_1.specs.Layout.{sizes}

@@ -1,5 +1,5 @@
 -- What the form of layout 1 keeps.
-use Rattle.std.proofs.Common.{◌≡◌, refl, arith}
+use Rattle.std.proofs.Common.{refl, arith}
 use Rattle.journal.specs.ChangeForm.{change_is_form}
 use Rattle.layout_parts.specs.Forms.{IsLayoutForm}
 use Rattle.layout_1.specs.Form.{layout_form}

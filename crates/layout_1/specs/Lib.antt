@@ -7,3 +7,4 @@ pub mod State
 pub mod Standing
 pub mod InUse
 pub mod Refusals
+pub mod Loading

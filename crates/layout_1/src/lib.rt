@@ -8,11 +8,11 @@
 //!
 //! The contract that the layer above uses is that of [`load`]. It syncs, reads, and writes nothing:
 //!
-//! - Ok gives a count and a graph, and the slot and the journal that they come from: the content has that checkpoint and those records
-//!   (`IsInUse` of specs/InUse.antt), and the changes of the records lead to the state.
-//! - NotFormatted comes only where the magic isn't there, BadVersion where it is and the version is another, Damaged and Memory where both
-//!   are right (specs/Fronts.antt); of the three, each comes only where the content stands for no state. Device comes only where a
-//!   call of the device failed.
+//! - Ok gives a count and a graph, and the slot and the journal that they come from (`IsLoaded` of specs/Loading.antt): the content has
+//!   that checkpoint and those records (`IsInUse` of specs/InUse.antt), and the changes of the records lead to the state.
+//! - A refusal tells why (`IsNotLoaded`). NotFormatted comes only where the magic isn't there, BadVersion where it is and the version
+//!   is another, Damaged and Memory where both are right (specs/Fronts.antt); of the three, each comes only where the content stands for
+//!   no state. Device comes only where a call of the device failed.
 //!
 //! Nothing writes this layout any more: `migrate` reads an old device by it.
 //!

@@ -1,13 +1,6 @@
 //! Opening: what stands on a device.
-ghost use Rattle.std.specs.Prelude.{◌≡◌, ◌≢◌, ◌≤◌, ◌<◌, ◌+◌, ◌*◌, ◌^◌, ◌↔◌, ℕ, List, length, IsTrue, IfOk, IfErr, OnOk, OnErr, IsErrOf, Some, None};
-ghost use Rattle.disk_trait.specs.Disk.{IsSameDevice, IsSettled, OnlyRead};
-ghost use Rattle.layout_1.specs.Layout.{device_len, worn_limit, journal_of};
-ghost use Rattle.layout_1.specs.State.{counted, after};
-ghost use Rattle.layout_1.specs.Standing.{StandsForNone};
-ghost use Rattle.layout_1.specs.Fronts.{HasThisVersion};
-ghost use Rattle.layout_1.specs.Refusals.{IsFormatFault, IsNoDeviceFault, TellsOf};
-ghost use Rattle.layout_1.specs.InUse.{IsInUse};
-ghost use Rattle.layout_1.specs.Records.{entries_of};
+ghost use Rattle.std.specs.Prelude.{IfOk, IfErr};
+ghost use Rattle.layout_1.specs.Loading.{IsLoaded, IsNotLoaded};
 
 use crate::form::Layout1;
 use disk_trait::Disk;
@@ -20,21 +13,8 @@ pub type Loaded = layout_parts::Loaded<Change, ()>;
 
 /// What stands on a device. It syncs, and writes nothing.
 pub fn load<D: Disk>(alloc: Global, disk: &mut D) -> Result<Loaded, OpenRefused>
-    ensures ran { IsSameDevice (D.view disk.old) (D.view disk.new) }
-    ensures no_failure { OnOk result ((D.view disk.new).failures ≡ (D.view disk.old).failures) }
-    ensures reads { IsTrue (D.view disk.old).keeps_model → OnlyRead (D.view disk.old) (D.view disk.new) }
-    ensures served { IfErr result (λ e. IsNoDeviceFault e → (D.view disk.new).failures ≡ (D.view disk.old).failures) }
-    ensures device { IsErrOf result OpenRefused.Device → (D.view disk.old).failures < (D.view disk.new).failures }
-    ensures long { OnOk result (length (D.view disk.old).content ≡ device_len) }
-    ensures slot { IfOk result (λ l. l.slot < 2) }
-    ensures area { IfOk result (λ l. l.journal.area ≡ journal_of l.slot) }
-    ensures fits { IfOk result (λ l. l.count ≤ worn_limit) }
-    ensures folds { IfOk result (λ l. after (counted l.base_count l.base.value) (entries_of l.journal.groups) ≡ Some (counted l.count l.graph)) }
-    ensures in_use { IsTrue (D.view disk.old).keeps_model → IfOk result (λ l. IsInUse l.slot l.epoch l.other_gate (counted l.base_count l.base.value) l.journal.groups (D.view disk.old).content) }
-    ensures settled { IsTrue (D.view disk.old).keeps_model → OnOk result (IsSettled (D.view disk.new)) }
-    ensures this_version { IsTrue (D.view disk.old).keeps_model → OnOk result (HasThisVersion (D.view disk.old).content) }
-    ensures tells { IsTrue (D.view disk.old).keeps_model → IfErr result (λ e. TellsOf e (D.view disk.old).content) }
-    ensures refused { IsTrue (D.view disk.old).keeps_model → IfErr result (λ e. IsFormatFault e → StandsForNone (D.view disk.old).content) }
+    ensures ok { IfOk result (IsLoaded (D.view disk.old) (D.view disk.new)) }
+    ensures refused { IfErr result (IsNotLoaded (D.view disk.old) (D.view disk.new)) }
 {
     layout_parts::load::<Layout1, D>(alloc, disk)
 }

@@ -1,5 +1,5 @@
 -- Requests after requests: what layout_parts proves of entries, by the form of this layout.
-use Rattle.std.proofs.Common.{◌≡◌, ℕ, ◌+◌, List, [], ◌∷◌, ◌++◌, length, Some}
+use Rattle.std.proofs.Common.{◌≡◌, ◌+◌, List, [], ◌∷◌, ◌++◌, length, Some}
 use Rattle.std.specs.Option.{option_and_then}
 use Rattle.graph_edits.specs.Edges.{Network, most_edges}
 use Rattle.graph_edits.specs.declared.edits.Op.{Op}

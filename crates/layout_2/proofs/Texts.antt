@@ -1,5 +1,5 @@
 -- The sizes of a checkpoint's text.
-use Rattle.std.proofs.Common.{◌≡◌, ℕ, ◌+◌, ◌*◌, ◌<◌, length, ◌∙◌, arith}
+use Rattle.std.proofs.Common.{◌≡◌, ℕ, ◌+◌, ◌*◌, ◌<◌, length}
 use Rattle.std.specs.FinMap.{entries}
 use Rattle.layout_parts.proofs.Texts as parts
 use Rattle.layout_2.specs.Layout.{checkpoint_room, tickets_len, sessions}

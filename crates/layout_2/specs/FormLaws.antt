@@ -1,5 +1,5 @@
 -- What the form of layout 2 keeps.
-use Rattle.std.proofs.Common.{◌≡◌, ◌↔◌, ℕ, List, [], ◌∷◌, ◌++◌, length, refl, sym, ◌∙◌, ap, arith}
+use Rattle.std.proofs.Common.{refl, sym, ◌∙◌, ap, arith}
 use Rattle.std.proofs.lemmas.List.{map-append}
 use Rattle.requests.specs.Tickets.{tickets_after}
 use Rattle.requests.specs.Requests.{asked_by}
@@ -7,7 +7,7 @@ use Rattle.requests.proofs.TicketLemmas.{after_append}
 use Rattle.journal.specs.RequestForm.{request_is_form}
 use Rattle.layout_parts.specs.Forms.{IsLayoutForm}
 use Rattle.layout_2.specs.Form.{layout_form}
-use Rattle.layout_2.specs.Tickets.{asked, AreTickets, AreInTurn}
+use Rattle.layout_2.specs.Tickets.{asked}
 use Rattle.layout_2.specs.TicketTexts.{tickets_wide, words, same_tickets}
 
 pub layout_is_form : IsLayoutForm layout_form

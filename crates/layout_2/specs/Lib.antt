@@ -10,3 +10,4 @@ pub mod Standing
 pub mod InUse
 pub mod Slots
 pub mod Refusals
+pub mod Loading

@@ -1,7 +1,7 @@
 //! The last ticket of each session.
-ghost use Rattle.std.specs.Prelude.{◌≡◌, ◌<◌, ◌≤◌, ◌*◌, ◌^◌, ◌↔◌, length, IsTrue, IfSome};
+ghost use Rattle.std.specs.Prelude.{◌≡◌, ◌<◌, ◌*◌, ◌^◌, ◌↔◌, length, IsTrue};
 ghost use Rattle.std.specs.List.{AllByRecursion};
-ghost use Rattle.layout_2.specs.Layout.{sessions, worn_limit};
+ghost use Rattle.layout_2.specs.Layout.{sessions};
 ghost use Rattle.layout_2.specs.Tickets.{tickets_text, IsNext, AreTickets};
 
 use crate::layout::{TICKET_LEN, WORN_LIMIT};

@@ -14,7 +14,7 @@ use Rattle.layout_parts.specs.Heads.{head_text, HasHeadIn, IsNewestIn}
 use Rattle.layout_parts.specs.Refusals.{version_of, header_with}
 use Rattle.layout_parts.specs.Sizes.{slot_room, slot_start, header}
 use Rattle.layout_parts.specs.Forms.{LayoutForm, IsLayoutForm}
-use Rattle.layout_parts.specs.State.{State, checkpoint_text}
+use Rattle.layout_parts.specs.State.{State}
 use Rattle.layout_parts.specs.Slots.{HasCheckpoint}
 use Rattle.layout_parts.specs.Standing.{StandsBy, StandsFor}
 use Rattle.layout_parts.proofs.Texts.{length_text}

@@ -11,3 +11,5 @@ pub mod OneStateLemmas
 pub mod NewestLemmas
 pub mod BaseLemmas
 pub mod OpenLemmas
+pub mod LoadLemmas
+pub mod OldForms

@@ -1,5 +1,5 @@
 -- What is read of a device, and what it stands for.
-use Rattle.std.proofs.Common.{◌≡◌, ◌↔◌, ℕ, ◌+◌, ◌<◌, ◌≤◌, List, length, Option, Some, None, refl, sym, ◌∙◌, ap, subst, arith}
+use Rattle.std.proofs.Common.{◌≡◌, ℕ, ◌+◌, ◌<◌, ◌≤◌, List, length, Option, Some, None, refl, sym, ◌∙◌, ap, subst, arith}
 use Rattle.std.specs.Option.{option_map}
 use Rattle.graph_edits.specs.Edges.{Network}
 use Rattle.graph_edits.specs.Changes.{fold_within}
@@ -32,18 +32,6 @@ only_damaged P Memory fault first second third = absurd fault
 module _ {E T : Type 0} {F : EntryForm E} (form : LayoutForm F T) where
   pub none_before : (a b : DiskView) → OnlyRead a b → StandsForNone form b.content → StandsForNone form a.content
   none_before a b read none = subst (λ (l : List ℕ). StandsForNone form l) read.content none
-
-  -- what was read, handed on
-  pub loaded_is : (slot epoch other_gate count : ℕ) (graph : Network) (tickets : T) (slot' epoch' other_gate' count' : ℕ) (graph' : Network) (tickets' : T) (groups : List (List E)) (image : List ℕ)
-      → (slot ≡ slot') × (epoch ≡ epoch') × (other_gate ≡ other_gate') × (count ≡ count') × (graph ≡ graph') × (tickets ≡ tickets')
-      → IsInUse form slot' epoch' other_gate' (state_with count' graph' tickets') groups image → IsInUse form slot epoch other_gate (state_with count graph tickets) groups image
-  loaded_is slot epoch other_gate count graph tickets slot' epoch' other_gate' count' graph' tickets' groups image same is =
-      subst (λ k. IsInUse form k epoch other_gate (state_with count graph tickets) groups image) (sym same.0)
-      (subst (λ k. IsInUse form slot' k other_gate (state_with count graph tickets) groups image) (sym same.1)
-      (subst (λ k. IsInUse form slot' epoch' k (state_with count graph tickets) groups image) (sym same.2)
-      (subst (λ k. IsInUse form slot' epoch' other_gate' (state_with k graph tickets) groups image) (sym same.3)
-      (subst (λ (h : Network). IsInUse form slot' epoch' other_gate' (state_with count' h tickets) groups image) (sym same.4)
-      (subst (λ (ts : T). IsInUse form slot' epoch' other_gate' (state_with count' graph' ts) groups image) (sym same.5) is)))))
 
   module _ (slot epoch other_gate : ℕ) (base : State T) (image : List ℕ) (has : HasBase form slot epoch other_gate base image) where
     with_records : (groups : List (List E)) → Spells F (journal_of form.sizes slot) groups image → StandsBy form slot epoch base groups image

@@ -1,9 +1,11 @@
 -- Reads after reads, and what the front of a device tells.
-use Rattle.std.proofs.Common.{IsTrue, ◌≡◌, ◌≤◌, ℕ, List, length, take, drop, refl, sym, ◌∙◌, ap, subst, arith}
+use Rattle.std.proofs.Common.{Result, IsTrue, ◌≡◌, ◌<◌, ◌≤◌, ℕ, List, length, take, drop, sym, ◌∙◌, ap, subst, arith}
 use Rattle.std.proofs.lemmas.List.{take-take, drop-take}
-use Rattle.disk_trait.specs.Disk.{DiskView, IsSameDevice, IsSettled, OnlyRead, read_on, bytes_at}
+use Rattle.disk_trait.specs.declared.disk.DeviceFault.{DeviceFault}
+use Rattle.disk_trait.specs.Disk.{DiskView, IsSameDevice, IsSettled, OnlyRead, IsDeviceCall, only_read, ran_on, read_on, bytes_at}
 use Rattle.layout_parts.specs.declared.refusals.OpenRefused.{OpenRefused}
 use Rattle.layout_parts.specs.declared.refusals.OpenRefused.TheVariants.{NotFormatted, BadVersion, Damaged, Device, Memory}
+use Rattle.layout_parts.specs.Reading.{IsRead, IsNotRead}
 use Rattle.layout_parts.specs.Refusals.{HasMagic, TellsOfLayout}
 
 pub still : (a b : DiskView) → IsSameDevice a b → IsTrue a.keeps_model → IsTrue b.keeps_model
@@ -11,6 +13,31 @@ still a b same model = subst IsTrue (sym same.model) model
 
 pub read_twice : (a b c : DiskView) → IsSameDevice a b → IsTrue a.keeps_model → (IsTrue a.keeps_model → OnlyRead a b) → (IsTrue b.keeps_model → OnlyRead b c) → OnlyRead a c
 read_twice a b c same model first second = read_on a b c (first model) (second (still a b same model))
+
+-- the same, with what else is said of a device that was read
+pub is_read_on : (a b c : DiskView) → IsRead a b → IsRead b c → IsRead a c
+is_read_on a b c first second = record {
+  ran = ran_on a b c first.ran second.ran;
+  no_failure = second.no_failure ∙ first.no_failure;
+  reads = λ model. read_twice a b c first.ran model first.reads second.reads;
+}
+
+-- a read was refused after others
+pub not_read_on : (a b c : DiskView) (why : OpenRefused) → IsRead a b → IsNotRead b c why → IsNotRead a c why
+not_read_on a b c why first second = record {
+  ran = ran_on a b c first.ran second.ran;
+  device = λ is. subst (λ n. n < c.failures) first.no_failure (second.device is);
+  served = λ no_fault. second.served no_fault ∙ first.no_failure;
+  reads = λ model. read_twice a b c first.ran model first.reads second.reads;
+}
+
+-- a sync that was served is a read
+pub synced : (a b : DiskView) (result : Result (Unit {0}) DeviceFault) → IsDeviceCall 0 0 a b result → b.failures ≡ a.failures → IsRead a b
+synced a b result call served = record { ran = call.ran; no_failure = served; reads = only_read a b result call }
+
+-- what was read is refused for another reason than the device
+pub read_refused : (a b : DiskView) (why : OpenRefused) → IsRead a b → (why ≡ Device → ⊥) → IsNotRead a b why
+read_refused a b why read other = record { ran = read.ran; device = λ is. absurd (other is); served = λ no_fault. read.no_failure; reads = read.reads }
 
 -- what is settled stays so
 pub settled_on : (a b : DiskView) → OnlyRead a b → IsSettled a → IsSettled b

@@ -19,6 +19,10 @@ pub record LayoutForm {E : Type 0} (entries : EntryForm E) (T : Type 0) : Type 1
   -- entries may come in this order, from tickets on
   pub AreInTurn : T → List E → Type 0
 
+-- no tickets have this text
+abbrev pub SpellsNoTickets : {E T : Type 0} {entries : EntryForm E} → LayoutForm entries T → List ℕ → Type 0
+SpellsNoTickets {T = T} form text = (tickets : T) → form.AreTickets tickets → form.tickets_text tickets ≡ text → ⊥
+
 -- what a form keeps
 pub record IsLayoutForm {E T : Type 0} {entries : EntryForm E} (form : LayoutForm entries T) : Type 0 where
   pub fit : AreSizes form.sizes

@@ -1,9 +1,12 @@
 pub mod Ascending
 pub mod EdgeTexts
 pub mod Refusals
+pub mod Reading
 pub mod Heads
+pub mod Choosing
 pub mod Sizes
 pub mod Forms
 pub mod State
 pub mod Standing
 pub mod Slots
+pub mod Loading

@@ -1,5 +1,5 @@
 -- The sizes of a layout, and where things stand on its devices.
-use Rattle.std.specs.Prelude.{◌<◌, ◌≤◌, ◌+◌, ◌*◌, ◌^◌, ℕ, List, ◌++◌}
+use Rattle.std.specs.Prelude.{◌<◌, ◌≤◌, ◌+◌, ◌*◌, ◌^◌, ℕ, List}
 use Rattle.journal.specs.declared.area.Area.{Area}
 use Rattle.layout_parts.specs.declared.sizes.Sizes.{Sizes}
 use Rattle.layout_parts.specs.Heads.{slots_start, start_of, epoch_in}

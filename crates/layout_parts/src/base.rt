@@ -1,12 +1,13 @@
 //! Reading the checkpoint of the slot in use.
-ghost use Rattle.std.specs.Prelude.{◌≡◌, ◌≢◌, ◌≤◌, ◌<◌, ◌+◌, ◌*◌, ◌^◌, ◌↔◌, ℕ, List, length, IsTrue, IfOk, IfErr, OnOk, IsErrOf};
-ghost use Rattle.disk_trait.specs.Disk.{IsSameDevice, OnlyRead, bytes_at};
+ghost use Rattle.std.specs.Prelude.{◌≡◌, ◌≤◌, ◌<◌, ◌+◌, ◌*◌, ◌↔◌, length, IsTrue, IfOk, IfErr, OnOk};
+ghost use Rattle.disk_trait.specs.Disk.{bytes_at};
 ghost use Rattle.requests.specs.Tickets.{worn_limit};
 ghost use Rattle.layout_parts.specs.Sizes.{device_len, slot_room, header};
 ghost use Rattle.layout_parts.specs.State.{state_with, IsLawful};
 ghost use Rattle.layout_parts.specs.Standing.{StandsForNone};
-ghost use Rattle.layout_parts.specs.Refusals.{IsFormatFault, IsFrontFault, IsNoDeviceFault};
-ghost use Rattle.layout_parts.specs.Heads.{HasHeadIn, IsNewestIn};
+ghost use Rattle.layout_parts.specs.Refusals.{IsFormatFault, IsFrontFault};
+ghost use Rattle.layout_parts.specs.Reading.{IsRead, IsNotRead};
+ghost use Rattle.layout_parts.specs.Choosing.{HasHead, IsChosen};
 ghost use Rattle.layout_parts.specs.Slots.{HasCheckpoint};
 
 use crate::edges::read_edges;
@@ -23,7 +24,8 @@ use std::alloc::Global;
 
 // Whether a head's numbers are within the limits, on a device for so many nodes.
 fn is_sound(head: &SlotHead, sizes: &Sizes, nodes: u16) -> bool
-    ensures { IsTrue result ↔ ((head.now.epoch ≤ worn_limit) × (head.now.count ≤ worn_limit) × (head.now.nodes ≡ nodes) × (head.now.edges ≤ sizes.now.most_edges)) }
+    ensures { IsTrue result ↔ ((head.now.epoch ≤ worn_limit) × (head.now.count ≤ worn_limit)
+        × (head.now.nodes ≡ nodes) × (head.now.edges ≤ sizes.now.most_edges)) }
 {
     head.epoch <= WORN_LIMIT
         && head.count <= WORN_LIMIT
@@ -42,11 +44,8 @@ pub(crate) fn read_base<L: Layout, D: Disk>(
     requires slot { chosen.slot < 2 }
     requires some { 1 ≤ nodes }
     requires few { nodes ≤ L.form.sizes.most_nodes }
-    ensures ran { IsSameDevice (D.view disk.old) (D.view disk.new) }
-    ensures no_failure { OnOk result ((D.view disk.new).failures ≡ (D.view disk.old).failures) }
-    ensures reads { IsTrue (D.view disk.old).keeps_model → OnlyRead (D.view disk.old) (D.view disk.new) }
-    ensures served { IfErr result (λ e. IsNoDeviceFault e → (D.view disk.new).failures ≡ (D.view disk.old).failures) }
-    ensures device { IsErrOf result OpenRefused.Device → (D.view disk.old).failures < (D.view disk.new).failures }
+    ensures read { OnOk result (IsRead (D.view disk.old) (D.view disk.new)) }
+    ensures not_read { IfErr result (IsNotRead (D.view disk.old) (D.view disk.new)) }
     ensures later { IfErr result (λ e. ¬ (IsFrontFault e)) }
     ensures epoch { OnOk result (chosen.head.epoch ≤ worn_limit) }
     ensures count { OnOk result (chosen.head.count ≤ worn_limit) }
@@ -54,11 +53,12 @@ pub(crate) fn read_base<L: Layout, D: Disk>(
     ensures lawful { IfOk result (λ r. IsLawful L.form.sizes r.0) }
     ensures tickets { IfOk result (λ r. L.form.AreTickets r.1) }
     ensures text { IsTrue (D.view disk.old).keeps_model
-        → HasHeadIn (slot_room L.form.sizes) chosen.slot chosen.head.gate chosen.head.epoch chosen.head.count chosen.head.nodes chosen.head.edges (D.view disk.old).content
-        → IfOk result (λ r. HasCheckpoint L.form chosen.slot chosen.head.epoch (state_with chosen.head.count r.0 r.1) (D.view disk.old).content) }
-    ensures refused { IsTrue (D.view disk.old).keeps_model → bytes_at (D.view disk.old).content 0 10 ≡ header L.form.sizes nodes
-        → HasHeadIn (slot_room L.form.sizes) chosen.slot chosen.head.gate chosen.head.epoch chosen.head.count chosen.head.nodes chosen.head.edges (D.view disk.old).content
-        → IsNewestIn (slot_room L.form.sizes) chosen.slot chosen.other_gate (D.view disk.old).content
+        → HasHead (slot_room L.form.sizes) chosen.slot chosen.head (D.view disk.old).content
+        → IfOk result (λ r. HasCheckpoint L.form chosen.slot chosen.head.epoch
+        (state_with chosen.head.count r.0 r.1) (D.view disk.old).content) }
+    ensures refused { IsTrue (D.view disk.old).keeps_model
+        → bytes_at (D.view disk.old).content 0 10 ≡ header L.form.sizes nodes
+        → IsChosen (slot_room L.form.sizes) chosen (D.view disk.old).content
         → IfErr result (λ e. IsFormatFault e → StandsForNone L.form (D.view disk.old).content) }
 {
     let sizes = L::sizes();
@@ -66,10 +66,7 @@ pub(crate) fn read_base<L: Layout, D: Disk>(
         return Err(OpenRefused::Damaged);
     }
     let behind = sizes.slot_start(chosen.slot) + HEAD_LEN;
-    let tickets = match L::read_tickets(disk, behind) {
-        Ok(tickets) => tickets,
-        Err(refused) => return Err(refused),
-    };
+    let tickets = L::read_tickets(disk, behind)?;
     let edges = chosen.head.edges as usize;
     let bytes = read_bytes(alloc, disk, behind + sizes.tickets_len, EDGE_LEN * edges)?;
     match read_edges(alloc, nodes, edges, &bytes) {

@@ -1,10 +1,10 @@
 //! Reading the edges of a checkpoint.
-ghost use Rattle.std.specs.Prelude.{◌≡◌, ◌≢◌, ◌⊎◌, ◌≤◌, ◌<◌, ◌+◌, ◌*◌, ◌^◌, ◌++◌, ◌∷◌, [], ◌↔◌, ℕ, List, length, get_or, IsTrue, IfOk, IfErr, IfSome, OnOk, OnErr, IsErrOf, None, Some};
+ghost use Rattle.std.specs.Prelude.{◌≡◌, ◌≤◌, ◌<◌, ◌+◌, ◌*◌, ◌++◌, ◌∷◌, [], ◌↔◌, length, IsTrue, IfOk, OnOk, OnErr, IsErrOf, None, Some};
 ghost use Rattle.std.specs.List.{AllByRecursion};
 ghost use Rattle.std.specs.FinMap.{entries};
-ghost use Rattle.graph_edits.specs.Edges.{EdgeMap, most_nodes, most_edges, pair_cmp};
-ghost use Rattle.layout_parts.specs.EdgeTexts.{edge_text, edges_text, IsEdge};
-ghost use Rattle.layout_parts.specs.Ascending.{AllBelow, IsBefore, IsAfterLast, last_key};
+ghost use Rattle.graph_edits.specs.Edges.{most_nodes, most_edges, pair_cmp};
+ghost use Rattle.layout_parts.specs.EdgeTexts.{edge_text, edges_text, IsEdge, ListsNoEdges};
+ghost use Rattle.layout_parts.specs.Ascending.{AllBelow, IsAfterLast};
 
 use crate::layout::EDGE_LEN;
 use crate::refusals::OpenRefused;
@@ -88,7 +88,8 @@ fn add_edge(graph: &mut Graph, edge: Edge) -> Result<(), OpenRefused>
     requires last { AllBelow pair_cmp (edge.a, edge.b) (entries graph.old.edges) }
     requires room { length (entries graph.old.edges) < most_edges }
     ensures nodes { OnOk result (graph.new.nodes ≡ graph.old.nodes) }
-    ensures edges { OnOk result (entries graph.new.edges ≡ entries graph.old.edges ++ ((edge.a, edge.b), edge.weight) ∷ []) }
+    ensures edges { OnOk result (entries graph.new.edges
+        ≡ entries graph.old.edges ++ ((edge.a, edge.b), edge.weight) ∷ []) }
     ensures memory { OnErr result (result ≡ Err OpenRefused.Memory) }
 {
     match graph.add(edge.a, edge.b, edge.weight) {
@@ -112,8 +113,9 @@ pub fn read_edges(
     ensures count { IfOk result (λ graph. length (entries graph.edges) ≡ edges) }
     ensures text { IfOk result (λ graph. edges_text graph.edges ≡ bytes.now) }
     ensures sound { IfOk result (λ graph. AllByRecursion (λ e. IsEdge nodes e) (entries graph.edges)) }
-    ensures damaged { IsErrOf result OpenRefused.Damaged → (map : EdgeMap) → AllByRecursion (λ e. IsEdge nodes e) (entries map) → edges_text map ≡ bytes.now → ⊥ }
-    ensures others { ¬ (IsErrOf result OpenRefused.NotFormatted) × ¬ (IsErrOf result OpenRefused.BadVersion) × ¬ (IsErrOf result OpenRefused.Device) }
+    ensures damaged { IsErrOf result OpenRefused.Damaged → ListsNoEdges nodes bytes.now }
+    ensures others { ¬ (IsErrOf result OpenRefused.NotFormatted)
+        × ¬ (IsErrOf result OpenRefused.BadVersion) × ¬ (IsErrOf result OpenRefused.Device) }
 {
     let degrees = degrees_of(alloc, nodes, edges, bytes)?;
     let mut graph = Graph::with_room(alloc, &degrees)?;
@@ -125,10 +127,7 @@ pub fn read_edges(
         if !edge.is_next(nodes, last) {
             return Err(OpenRefused::Damaged);
         }
-        match add_edge(&mut graph, edge) {
-            Ok(()) => {}
-            Err(refused) => return Err(refused),
-        }
+        add_edge(&mut graph, edge)?;
         last = Some((edge.a, edge.b));
         rest = behind;
     }

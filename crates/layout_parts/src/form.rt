@@ -1,13 +1,14 @@
 //! What makes a layout.
-ghost use Rattle.std.specs.Prelude.{◌≡◌, ◌≤◌, ◌<◌, ◌+◌, ◌↔◌, [], ◌∷◌, ℕ, List, length, IsTrue, Ok, IfOk, IfErr, OnOk, OnErr, IsErrOf};
-ghost use Rattle.disk_trait.specs.Disk.{IsSameDevice, OnlyRead, bytes_at};
+ghost use Rattle.std.specs.Prelude.{◌≡◌, ◌≤◌, ◌<◌, ◌+◌, ◌↔◌, [], ◌∷◌, ℕ, List, length, IsTrue, Ok, IfOk, IfErr, OnOk};
+ghost use Rattle.disk_trait.specs.Disk.{bytes_at};
 ghost use Rattle.graph_edits.specs.Changes.{after_within, IsRefusedAs};
 ghost use Rattle.journal.specs.Forms.{EntryForm};
 ghost use Rattle.journal.specs.Records.{Spells};
 ghost use Rattle.journal.specs.declared.area.Area.{Area};
-ghost use Rattle.layout_parts.specs.Forms.{LayoutForm, IsLayoutForm};
+ghost use Rattle.layout_parts.specs.Forms.{LayoutForm, IsLayoutForm, SpellsNoTickets};
 ghost use Rattle.layout_parts.specs.Sizes.{AreSizes};
-ghost use Rattle.layout_parts.specs.Refusals.{IsFormatFault, IsFrontFault, IsNoDeviceFault};
+ghost use Rattle.layout_parts.specs.Refusals.{IsFormatFault, IsFrontFault};
+ghost use Rattle.layout_parts.specs.Reading.{IsRead, IsNotRead};
 
 use crate::refusals::OpenRefused;
 use crate::sizes::Sizes;
@@ -38,15 +39,16 @@ pub trait Layout {
     /// The tickets whose text begins at `at`. Damaged where none have this text.
     fn read_tickets<D: Disk>(disk: &mut D, at: usize) -> Result<Self::Tickets, OpenRefused>
         requires { at + form.sizes.tickets_len ≤ length (D.view disk.old).content }
-        ensures ran { IsSameDevice (D.view disk.old) (D.view disk.new) }
-        ensures no_failure { OnOk result ((D.view disk.new).failures ≡ (D.view disk.old).failures) }
-        ensures reads { IsTrue (D.view disk.old).keeps_model → OnlyRead (D.view disk.old) (D.view disk.new) }
-        ensures served { IfErr result (λ e. IsNoDeviceFault e → (D.view disk.new).failures ≡ (D.view disk.old).failures) }
-        ensures device { IsErrOf result OpenRefused.Device → (D.view disk.old).failures < (D.view disk.new).failures }
+        ensures read { OnOk result (IsRead (D.view disk.old) (D.view disk.new)) }
+        ensures not_read { IfErr result (IsNotRead (D.view disk.old) (D.view disk.new)) }
         ensures later { IfErr result (λ e. ¬ (IsFrontFault e)) }
         ensures are { IfOk result (λ tickets. form.AreTickets tickets) }
-        ensures text { IsTrue (D.view disk.old).keeps_model → IfOk result (λ tickets. form.tickets_text tickets ≡ bytes_at (D.view disk.old).content at form.sizes.tickets_len) }
-        ensures refused { IsTrue (D.view disk.old).keeps_model → IfErr result (λ e. IsFormatFault e → (tickets : Self.Tickets) → form.AreTickets tickets → form.tickets_text tickets ≡ bytes_at (D.view disk.old).content at form.sizes.tickets_len → ⊥) };
+        ensures text { IsTrue (D.view disk.old).keeps_model
+            → IfOk result (λ tickets. form.tickets_text tickets
+            ≡ bytes_at (D.view disk.old).content at form.sizes.tickets_len) }
+        ensures refused { IsTrue (D.view disk.old).keeps_model
+            → IfErr result (λ e. IsFormatFault e
+            → SpellsNoTickets form (bytes_at (D.view disk.old).content at form.sizes.tickets_len)) };
 
     /// Takes the ticket of an entry, where the entry may come next. Else it answers false.
     fn take_ticket(tickets: &mut Self::Tickets, entry: &Self::Entry) -> bool
@@ -55,11 +57,14 @@ pub trait Layout {
 
     /// Makes the change of an entry in the graph itself. Where an op is refused, or memory is, the graph isn't used any more.
     fn replay(graph: &mut Graph, entry: &Self::Entry) -> Result<(), EditRefused>
-        ensures ok { OnOk result (after_within form.sizes.most_edges graph.old (form.change_of entry.now) ≡ Ok graph.new) }
-        ensures refused { IfErr result (IsRefusedAs (after_within form.sizes.most_edges graph.old (form.change_of entry.now))) };
+        ensures ok { OnOk result (after_within form.sizes.most_edges graph.old (form.change_of entry.now)
+            ≡ Ok graph.new) }
+        ensures refused { IfErr result
+            (IsRefusedAs (after_within form.sizes.most_edges graph.old (form.change_of entry.now))) };
 
     /// The form of the entries' texts is theirs.
-    ghost same_entries: { (area : Area) (groups : List (List Self.Entry)) (image : List ℕ) → Spells Self.Entry.form area groups image ↔ Spells entries area groups image };
+    ghost same_entries: { (area : Area) (groups : List (List Self.Entry)) (image : List ℕ)
+        → Spells Self.Entry.form area groups image ↔ Spells entries area groups image };
 
     /// What a form keeps holds of this one.
     ghost is_form: { IsLayoutForm form };

@@ -1,9 +1,11 @@
 //! The heads of the two slots, and which slot is in use.
-ghost use Rattle.std.specs.Prelude.{◌≡◌, ◌≢◌, ◌≤◌, ◌<◌, ◌+◌, ◌*◌, ◌^◌, ◌↔◌, ℕ, List, length, IsTrue, IfOk, IfErr, IfSome, OnOk, OnErr, IsErrOf, None};
+ghost use Rattle.std.specs.Prelude.{◌≡◌, ◌≤◌, ◌<◌, ◌+◌, ◌*◌, ◌^◌, ◌↔◌, ℕ, List, length, IsTrue, IfOk, IfErr, IfSome, OnOk, OnErr, None};
 ghost use Rattle.std.specs.Int.{w16, w32, w64, to_be_bytes};
 ghost use Rattle.disk_trait.specs.Disk.{IsSameDevice, OnlyRead};
-ghost use Rattle.layout_parts.specs.Refusals.{IsFormatFault, IsFrontFault, IsNoDeviceFault};
-ghost use Rattle.layout_parts.specs.Heads.{head_text, start_of, HasHeadIn, IsNewestIn, HasNoNewest};
+ghost use Rattle.layout_parts.specs.Refusals.{IsFormatFault, IsFrontFault};
+ghost use Rattle.layout_parts.specs.Reading.{IsRead, IsNotRead};
+ghost use Rattle.layout_parts.specs.Heads.{head_text, start_of, HasNoNewest};
+ghost use Rattle.layout_parts.specs.Choosing.{HasHead, HaveHeads, IsChosen, IsChoice};
 
 use crate::layout::{OPEN_GATE, SLOTS_START};
 use crate::reading::read_array;
@@ -78,7 +80,8 @@ fn read_head<D: Disk>(disk: &mut D, room: usize, slot: usize) -> Result<SlotHead
     ensures reads { IsTrue (D.view disk.old).keeps_model → OnlyRead (D.view disk.old) (D.view disk.new) }
     ensures no_failure { OnOk result ((D.view disk.new).failures ≡ (D.view disk.old).failures) }
     ensures fault { OnErr result ((D.view disk.old).failures < (D.view disk.new).failures) }
-    ensures head { IsTrue (D.view disk.old).keeps_model → IfOk result (λ head. HasHeadIn room slot head.gate head.epoch head.count head.nodes head.edges (D.view disk.old).content) }
+    ensures head { IsTrue (D.view disk.old).keeps_model
+        → IfOk result (λ head. HasHead room slot head (D.view disk.old).content) }
 {
     let bytes = read_array::<D, 23>(disk, SLOTS_START + room * slot)?;
     Ok(head_of(bytes[0], &bytes[1..]))
@@ -94,10 +97,7 @@ fn is_newest(head: &SlotHead, other: &SlotHead) -> bool
 // The slot in use, by the heads of both.
 fn choose(first: SlotHead, second: SlotHead) -> Option<Chosen>
     ensures slot { IfSome result (λ c. c.slot < 2) }
-    ensures found { (room : ℕ) (image : List ℕ) → HasHeadIn room 0 first.gate first.epoch first.count first.nodes first.edges image → HasHeadIn room 1 second.gate second.epoch second.count second.nodes second.edges image
-        → IfSome result (λ c. HasHeadIn room c.slot c.head.gate c.head.epoch c.head.count c.head.nodes c.head.edges image × IsNewestIn room c.slot c.other_gate image) }
-    ensures none { (room : ℕ) (image : List ℕ) → HasHeadIn room 0 first.gate first.epoch first.count first.nodes first.edges image → HasHeadIn room 1 second.gate second.epoch second.count second.nodes second.edges image
-        → result ≡ None → HasNoNewest room image }
+    ensures choice { (room : ℕ) (image : List ℕ) → HaveHeads room first second image → IsChoice room result image }
 {
     if is_newest(&first, &second) {
         return Some(Chosen {
@@ -120,15 +120,14 @@ fn choose(first: SlotHead, second: SlotHead) -> Option<Chosen>
 pub fn choose_slot<D: Disk>(disk: &mut D, room: usize) -> Result<Chosen, OpenRefused>
     requires room { room < 2 ^ 32 }
     requires within { start_of room 1 + 23 ≤ length (D.view disk.old).content }
-    ensures ran { IsSameDevice (D.view disk.old) (D.view disk.new) }
-    ensures no_failure { OnOk result ((D.view disk.new).failures ≡ (D.view disk.old).failures) }
-    ensures reads { IsTrue (D.view disk.old).keeps_model → OnlyRead (D.view disk.old) (D.view disk.new) }
-    ensures served { IfErr result (λ e. IsNoDeviceFault e → (D.view disk.new).failures ≡ (D.view disk.old).failures) }
-    ensures device { IsErrOf result OpenRefused.Device → (D.view disk.old).failures < (D.view disk.new).failures }
+    ensures read { OnOk result (IsRead (D.view disk.old) (D.view disk.new)) }
+    ensures not_read { IfErr result (IsNotRead (D.view disk.old) (D.view disk.new)) }
     ensures slot { IfOk result (λ c. c.slot < 2) }
-    ensures ok { IsTrue (D.view disk.old).keeps_model → IfOk result (λ c. HasHeadIn room c.slot c.head.gate c.head.epoch c.head.count c.head.nodes c.head.edges (D.view disk.old).content × IsNewestIn room c.slot c.other_gate (D.view disk.old).content) }
+    ensures ok { IsTrue (D.view disk.old).keeps_model
+        → IfOk result (λ c. IsChosen room c (D.view disk.old).content) }
     ensures later { IfErr result (λ e. ¬ (IsFrontFault e)) }
-    ensures refused { IsTrue (D.view disk.old).keeps_model → IfErr result (λ e. IsFormatFault e → HasNoNewest room (D.view disk.old).content) }
+    ensures refused { IsTrue (D.view disk.old).keeps_model
+        → IfErr result (λ e. IsFormatFault e → HasNoNewest room (D.view disk.old).content) }
 {
     let first = read_head(disk, room, 0)?;
     let second = read_head(disk, room, 1)?;

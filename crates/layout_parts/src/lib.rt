@@ -11,11 +11,11 @@
 //!
 //! The contract that the layers above use is that of [`load`]. It syncs, reads, and writes nothing:
 //!
-//! - Ok gives a count, a graph and tickets, and the slot and the journal that they come from: the content has that checkpoint and those
-//!   records (`IsInUse`), and the entries of the records are in turn and lead to the state.
-//! - NotFormatted comes only where the magic isn't there, BadVersion where it is and the version is another, Damaged and Memory where
-//!   both are right (specs/Refusals.antt); of the three faults of the format, each comes only where the content stands for no state.
-//!   Device comes only where a call of the device failed.
+//! - Ok gives a count, a graph and tickets, and the slot and the journal that they come from (`IsLoaded` of specs/Loading.antt): the
+//!   content has that checkpoint and those records (`IsInUse`), and the entries of the records are in turn and lead to the state.
+//! - A refusal tells why (`IsNotLoaded`). NotFormatted comes only where the magic isn't there, BadVersion where it is and the version
+//!   is another, Damaged and Memory where both are right (specs/Refusals.antt); of the three faults of the format, each comes only where
+//!   the content stands for no state. Device comes only where a call of the device failed.
 //!
 //! ```text
 //! let loaded = load::<Layout2, _>(alloc, &mut disk)?;
@@ -26,12 +26,14 @@
 #![tactic(auto)]
 
 mod base;
+mod checkpoint;
 mod edges;
 mod form;
 mod header;
 mod heads;
 mod laws;
 pub mod layout;
+mod loaded;
 mod opening;
 mod reading;
 mod refusals;
@@ -41,7 +43,8 @@ pub use edges::read_edges;
 pub use form::Layout;
 pub use heads::{Chosen, SlotHead, choose_slot, u64_of};
 pub use laws::standing_law;
-pub use opening::{Loaded, load};
+pub use loaded::Loaded;
+pub use opening::load;
 pub use reading::{header_nodes, read_array, read_bytes};
 pub use refusals::OpenRefused;
 pub use sizes::Sizes;

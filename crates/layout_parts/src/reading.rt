@@ -1,7 +1,8 @@
 //! Reading bytes of a device, and its header.
-ghost use Rattle.std.specs.Prelude.{◌≡◌, ◌≢◌, ◌≤◌, ◌<◌, ◌+◌, ◌*◌, ◌^◌, ℕ, List, length, get_or, IsTrue, IfOk, IfErr, OnOk, OnErr, IsErrOf};
+ghost use Rattle.std.specs.Prelude.{◌≡◌, ◌≢◌, ◌≤◌, ◌<◌, ◌+◌, length, IsTrue, IfOk, IfErr, OnOk, OnErr, IsErrOf};
 ghost use Rattle.disk_trait.specs.Disk.{IsSameDevice, OnlyRead, bytes_at};
-ghost use Rattle.layout_parts.specs.Refusals.{magic, version_of, header_with, IsFormatFault, IsFrontFault, IsNoDeviceFault, TellsOfLayout};
+ghost use Rattle.layout_parts.specs.Refusals.{magic, version_of, header_with, IsFormatFault, IsFrontFault, TellsOfLayout};
+ghost use Rattle.layout_parts.specs.Reading.{IsRead, IsNotRead};
 
 use crate::layout::MAGIC;
 use crate::refusals::OpenRefused;
@@ -15,7 +16,8 @@ pub fn read_array<D: Disk, const N: usize>(disk: &mut D, at: usize) -> Result<[u
     ensures no_failure { OnOk result ((D.view disk.new).failures ≡ (D.view disk.old).failures) }
     ensures reads { IsTrue (D.view disk.old).keeps_model → OnlyRead (D.view disk.old) (D.view disk.new) }
     ensures fault { OnErr result ((D.view disk.old).failures < (D.view disk.new).failures) }
-    ensures bytes { IsTrue (D.view disk.old).keeps_model → IfOk result (λ bytes. bytes ≡ bytes_at (D.view disk.old).content at N) }
+    ensures bytes { IsTrue (D.view disk.old).keeps_model
+        → IfOk result (λ bytes. bytes ≡ bytes_at (D.view disk.old).content at N) }
 {
     let mut bytes = [0; N];
     disk.read(at, &mut bytes)?;
@@ -30,15 +32,13 @@ pub fn read_bytes<D: Disk>(
     len: usize,
 ) -> Result<Vec<u8>, OpenRefused>
     requires { at + len ≤ length (D.view disk.old).content }
-    ensures ran { IsSameDevice (D.view disk.old) (D.view disk.new) }
-    ensures no_failure { OnOk result ((D.view disk.new).failures ≡ (D.view disk.old).failures) }
-    ensures reads { IsTrue (D.view disk.old).keeps_model → OnlyRead (D.view disk.old) (D.view disk.new) }
-    ensures served { IfErr result (λ e. IsNoDeviceFault e → (D.view disk.new).failures ≡ (D.view disk.old).failures) }
-    ensures device { IsErrOf result OpenRefused.Device → (D.view disk.old).failures < (D.view disk.new).failures }
+    ensures read { OnOk result (IsRead (D.view disk.old) (D.view disk.new)) }
+    ensures not_read { IfErr result (IsNotRead (D.view disk.old) (D.view disk.new)) }
     ensures no_fault { IfErr result (λ e. ¬ (IsFormatFault e)) }
     ensures later { IfErr result (λ e. ¬ (IsFrontFault e)) }
     ensures size { IfOk result (λ bytes. length bytes.items ≡ len) }
-    ensures bytes { IsTrue (D.view disk.old).keeps_model → IfOk result (λ bytes. bytes.items ≡ bytes_at (D.view disk.old).content at len) }
+    ensures bytes { IsTrue (D.view disk.old).keeps_model
+        → IfOk result (λ bytes. bytes.items ≡ bytes_at (D.view disk.old).content at len) }
 {
     let mut bytes = vec![in alloc; 0; len]?;
     disk.read(at, bytes.as_mut_slice())?;
@@ -49,9 +49,11 @@ pub fn read_bytes<D: Disk>(
 pub fn header_nodes(front: &[u8; 10], digit: u8) -> Result<u16, OpenRefused>
     ensures ok { IfOk result (λ nodes. front.now ≡ header_with (version_of digit) nodes) }
     ensures not_formatted { IsErrOf result OpenRefused.NotFormatted → bytes_at front.now 0 6 ≢ magic }
-    ensures bad_version { IsErrOf result OpenRefused.BadVersion → (bytes_at front.now 0 6 ≡ magic) × (bytes_at front.now 6 2 ≢ version_of digit) }
+    ensures bad_version { IsErrOf result OpenRefused.BadVersion
+        → (bytes_at front.now 0 6 ≡ magic) × (bytes_at front.now 6 2 ≢ version_of digit) }
     ensures tells { IfErr result (λ e. TellsOfLayout (version_of digit) e front.now) }
-    ensures others { ¬ (IsErrOf result OpenRefused.Damaged) × ¬ (IsErrOf result OpenRefused.Device) × ¬ (IsErrOf result OpenRefused.Memory) }
+    ensures others { ¬ (IsErrOf result OpenRefused.Damaged)
+        × ¬ (IsErrOf result OpenRefused.Device) × ¬ (IsErrOf result OpenRefused.Memory) }
 {
     if !front.starts_with(&MAGIC) {
         return Err(OpenRefused::NotFormatted);

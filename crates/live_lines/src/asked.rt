@@ -1,6 +1,7 @@
 // What a line asks for.
-ghost use Rattle.std.specs.Prelude.{◌≡◌, ◌≢◌, ◌∷◌, ◌<◌, ◌^◌, [], ℕ, List, Option, IfOk, IfSome, IsSomeAnd, None, Some, decimal, map};
+ghost use Rattle.std.specs.Prelude.{◌≡◌, ◌≢◌, ◌∷◌, ◌<◌, ◌^◌, [], ℕ, List, Option, IfOk, decimal};
 ghost use Rattle.graph_edits.specs.declared.edits.Op.{Op};
+ghost use Rattle.written_values.specs.Reading.{IfRead, Reads, ReadsPair, texts_of};
 ghost use Rattle.live_lines.specs.declared.asked.Asked.{Asked};
 ghost use Rattle.live_lines.specs.declared.words.Word.{Word};
 ghost use Rattle.live_lines.specs.Lines.{AddressAsks, AsksBehind, AsksJust, HopAsks, IsAskedIn, IsTicket, LaunchAsks, MayEdit, NodeAsks, RouteAsks, TablesAsks, WordsAsk, edit_words, ticket_word};
@@ -65,8 +66,8 @@ pub enum Asked {
 
 /// A session that has an editor.
 fn session_in(alloc: Global, text: &str, editors: u8) -> Result<Option<u8>, AllocError>
-    ensures found { IfOk result (λ o. IfSome o (λ session. (text.now ≡ decimal session) × (session < editors))) }
-    ensures only { (session : ℕ) → session < editors → text.now ≡ decimal session → IfOk result (λ o. o ≡ Some session) }
+    ensures found { IfRead result (λ session. (text.now ≡ decimal session) × (session < editors)) }
+    ensures only { (session : ℕ) → session < editors → text.now ≡ decimal session → Reads result session }
 {
     match number(alloc, text, u8::MAX as u64)? {
         Some(session) if session < editors as u64 => Ok(Some(session as u8)),
@@ -76,8 +77,8 @@ fn session_in(alloc: Global, text: &str, editors: u8) -> Result<Option<u8>, Allo
 
 /// A ticket, or `-` for the next one.
 fn ticket_in(alloc: Global, text: &str) -> Result<Option<Option<u64>>, AllocError>
-    ensures found { IfOk result (λ o. IfSome o (λ ticket. (text.now ≡ ticket_word ticket) × IsTicket ticket)) }
-    ensures only { (ticket : Option ℕ) → IsTicket ticket → text.now ≡ ticket_word ticket → IfOk result (λ o. o ≡ Some ticket) }
+    ensures found { IfRead result (λ ticket. (text.now ≡ ticket_word ticket) × IsTicket ticket) }
+    ensures only { (ticket : Option ℕ) → IsTicket ticket → text.now ≡ ticket_word ticket → Reads result ticket }
 {
     if text == "-" {
         return Ok(Some(None));
@@ -94,8 +95,10 @@ fn edit_in(
     words: &[&str],
     editors: u8,
 ) -> Result<Option<(u8, Option<u64>, Change)>, AllocError>
-    ensures found { IfOk result (λ o. IfSome o (λ edit. (map (λ x. x.now) words.now ≡ edit_words edit.0 edit.1 edit.2) × MayEdit editors edit.0 edit.1 edit.2)) }
-    ensures only { (session : ℕ) (ticket : Option ℕ) (ops : List Op) → MayEdit editors session ticket ops → map (λ x. x.now) words.now ≡ edit_words session ticket ops → IfOk result (λ o. o ≡ Some (session, ticket, ops)) }
+    ensures found { IfRead result (λ edit. (texts_of words.now ≡ edit_words edit.0 edit.1 edit.2)
+        × MayEdit editors edit.0 edit.1 edit.2) }
+    ensures only { (session : ℕ) (ticket : Option ℕ) (ops : List Op) → MayEdit editors session ticket ops
+        → texts_of words.now ≡ edit_words session ticket ops → Reads result (session, ticket, ops) }
 {
     let [session, ticket, ops @ ..] = words else {
         return Ok(None);
@@ -115,7 +118,7 @@ fn edit_in(
 /// What is asked for behind `edit`.
 #[tactic(auto, using(crate::proofs::Asking::edit_asked, crate::proofs::Asking::no_edit))]
 fn edit_of(alloc: Global, words: &[&str], editors: u8) -> Result<Asked, AllocError>
-    ensures { IfOk result (AsksJust (AsksBehind editors Word.Edit (map (λ x. x.now) words.now))) }
+    ensures { IfOk result (AsksJust (AsksBehind editors Word.Edit (texts_of words.now))) }
 {
     match edit_in(alloc, words, editors)? {
         Some((session, ticket, change)) => Ok(Asked::Edit {
@@ -130,7 +133,7 @@ fn edit_of(alloc: Global, words: &[&str], editors: u8) -> Result<Asked, AllocErr
 /// What is asked for behind `resume`.
 #[tactic(auto, using(crate::proofs::Asking::resume_asked, crate::proofs::Asking::no_resume))]
 fn resume_of(alloc: Global, words: &[&str], editors: u8) -> Result<Asked, AllocError>
-    ensures { IfOk result (AsksJust (AsksBehind editors Word.Resume (map (λ x. x.now) words.now))) }
+    ensures { IfOk result (AsksJust (AsksBehind editors Word.Resume (texts_of words.now))) }
 {
     let [session] = words else {
         return Ok(Asked::NotUnderstood);
@@ -143,9 +146,10 @@ fn resume_of(alloc: Global, words: &[&str], editors: u8) -> Result<Asked, AllocE
 
 /// The nodes that two words are.
 fn nodes_in(alloc: Global, words: &[&str]) -> Result<Option<(u16, u16)>, AllocError>
-    ensures found { IfOk result (λ o. IfSome o (λ ends. map (λ x. x.now) words.now ≡ decimal ends.0 ∷ decimal ends.1 ∷ [])) }
-    ensures fits { IfOk result (λ o. IfSome o (λ ends. (ends.0 < 2 ^ 16) × (ends.1 < 2 ^ 16))) }
-    ensures only { (from to : ℕ) → from < 2 ^ 16 → to < 2 ^ 16 → map (λ x. x.now) words.now ≡ decimal from ∷ decimal to ∷ [] → IfOk result (λ o. o ≡ Some (from, to)) }
+    ensures found { IfRead result (λ ends. texts_of words.now ≡ decimal ends.0 ∷ decimal ends.1 ∷ []) }
+    ensures fits { IfRead result (λ ends. (ends.0 < 2 ^ 16) × (ends.1 < 2 ^ 16)) }
+    ensures only { (from to : ℕ) → from < 2 ^ 16 → to < 2 ^ 16
+        → texts_of words.now ≡ decimal from ∷ decimal to ∷ [] → Reads result (from, to) }
 {
     let [from, to] = words else {
         return Ok(None);
@@ -162,7 +166,7 @@ fn nodes_in(alloc: Global, words: &[&str]) -> Result<Option<(u16, u16)>, AllocEr
 /// What is asked for behind `route`.
 #[tactic(auto, using(crate::proofs::Asking::route_asked, crate::proofs::Asking::no_route))]
 fn route_of(alloc: Global, words: &[&str]) -> Result<Asked, AllocError>
-    ensures { IfOk result (AsksJust (RouteAsks (map (λ x. x.now) words.now))) }
+    ensures { IfOk result (AsksJust (RouteAsks (texts_of words.now))) }
 {
     match nodes_in(alloc, words)? {
         Some((from, to)) => Ok(Asked::Route { from, to }),
@@ -173,7 +177,7 @@ fn route_of(alloc: Global, words: &[&str]) -> Result<Asked, AllocError>
 /// What is asked for behind `address`.
 #[tactic(auto, using(crate::proofs::Asking::address_asked, crate::proofs::Asking::no_address))]
 fn address_of(alloc: Global, words: &[&str]) -> Result<Asked, AllocError>
-    ensures { IfOk result (AsksJust (AddressAsks (map (λ x. x.now) words.now))) }
+    ensures { IfOk result (AsksJust (AddressAsks (texts_of words.now))) }
 {
     let [text] = words else {
         return Ok(Asked::NotUnderstood);
@@ -189,8 +193,9 @@ fn node_and_digits<'a>(
     alloc: Global,
     words: &[&'a str],
 ) -> Result<Option<(u16, &'a str)>, AllocError>
-    ensures found { IfOk result (λ o. IfSome o (λ p. (map (λ x. x.now) words.now ≡ decimal p.0 ∷ p.1.now ∷ []) × (p.0 < 2 ^ 16))) }
-    ensures only { (node : ℕ) (digits : List ℕ) → node < 2 ^ 16 → map (λ x. x.now) words.now ≡ decimal node ∷ digits ∷ [] → IfOk result (λ o. IsSomeAnd o (λ p. (p.0 ≡ node) × (p.1.now ≡ digits))) }
+    ensures found { IfRead result (λ p. (texts_of words.now ≡ decimal p.0 ∷ p.1.now ∷ []) × (p.0 < 2 ^ 16)) }
+    ensures only { (node : ℕ) (digits : List ℕ) → node < 2 ^ 16
+        → texts_of words.now ≡ decimal node ∷ digits ∷ [] → ReadsPair result node digits }
 {
     let [first, digits] = words else {
         return Ok(None);
@@ -203,7 +208,7 @@ fn node_and_digits<'a>(
 
 /// What is asked for behind `launch`.
 fn launch_in(alloc: Global, words: &[&str]) -> Result<Asked, AllocError>
-    ensures { IfOk result (AsksJust (NodeAsks LaunchAsks (map (λ x. x.now) words.now))) }
+    ensures { IfOk result (AsksJust (NodeAsks LaunchAsks (texts_of words.now))) }
 {
     match node_and_digits(alloc, words)? {
         Some((from, digits)) => Ok(launch_of(from, digits.as_bytes())),
@@ -213,7 +218,7 @@ fn launch_in(alloc: Global, words: &[&str]) -> Result<Asked, AllocError>
 
 /// What is asked for behind `hop`.
 fn hop_in(alloc: Global, words: &[&str]) -> Result<Asked, AllocError>
-    ensures { IfOk result (AsksJust (NodeAsks HopAsks (map (λ x. x.now) words.now))) }
+    ensures { IfOk result (AsksJust (NodeAsks HopAsks (texts_of words.now))) }
 {
     match node_and_digits(alloc, words)? {
         Some((at, digits)) => Ok(hop_of(at, digits.as_bytes())),
@@ -224,7 +229,7 @@ fn hop_in(alloc: Global, words: &[&str]) -> Result<Asked, AllocError>
 /// What is asked for behind `tables`.
 #[tactic(auto, using(crate::proofs::Asking::tables_asked, crate::proofs::Asking::no_tables))]
 fn tables_of(alloc: Global, words: &[&str]) -> Result<Asked, AllocError>
-    ensures { IfOk result (AsksJust (TablesAsks (map (λ x. x.now) words.now))) }
+    ensures { IfOk result (AsksJust (TablesAsks (texts_of words.now))) }
 {
     let [folder] = words else {
         return Ok(Asked::NotUnderstood);
@@ -238,8 +243,8 @@ fn tables_of(alloc: Global, words: &[&str]) -> Result<Asked, AllocError>
 
 /// What is asked for by a first word alone.
 fn alone(words: &[&str], asked: Asked) -> Asked
-    ensures empty { map (λ x. x.now) words.now ≡ [] → result ≡ asked }
-    ensures others { map (λ x. x.now) words.now ≢ [] → result ≡ Asked.NotUnderstood }
+    ensures empty { texts_of words.now ≡ [] → result ≡ asked }
+    ensures others { texts_of words.now ≢ [] → result ≡ Asked.NotUnderstood }
 {
     if words.is_empty() {
         asked
@@ -251,7 +256,7 @@ fn alone(words: &[&str], asked: Asked) -> Asked
 /// What is asked for behind a first word.
 #[tactic(auto, using(crate::proofs::Asking::alone_asked))]
 fn behind(alloc: Global, first: Word, words: &[&str], editors: u8) -> Result<Asked, AllocError>
-    ensures { IfOk result (AsksJust (AsksBehind editors first (map (λ x. x.now) words.now))) }
+    ensures { IfOk result (AsksJust (AsksBehind editors first (texts_of words.now))) }
 {
     match first {
         Word::Edit => edit_of(alloc, words, editors),
@@ -269,7 +274,7 @@ fn behind(alloc: Global, first: Word, words: &[&str], editors: u8) -> Result<Ask
 /// What words ask for.
 #[tactic(auto, using(crate::proofs::Asking::words_asked, crate::proofs::Asking::no_words, crate::proofs::Asking::nothing_asked))]
 fn asked_by(alloc: Global, words: &[&str], editors: u8) -> Result<Asked, AllocError>
-    ensures { IfOk result (AsksJust (WordsAsk editors (map (λ x. x.now) words.now))) }
+    ensures { IfOk result (AsksJust (WordsAsk editors (texts_of words.now))) }
 {
     let Some((text, others)) = words.split_first() else {
         return Ok(Asked::NotUnderstood);

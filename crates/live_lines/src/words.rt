@@ -1,7 +1,8 @@
 // The words of a line.
-ghost use Rattle.std.specs.Prelude.{◌≡◌, ◌↔◌, IfOk, IfSome, IsTrue, Some, map};
+ghost use Rattle.std.specs.Prelude.{◌≡◌, ◌↔◌, IfOk, IfSome, IsTrue, Some};
 ghost use Rattle.live_lines.specs.declared.words.Word.{Word};
 ghost use Rattle.live_lines.specs.Lines.{IsFolder, word_text};
+ghost use Rattle.written_values.specs.Reading.{texts_of};
 ghost use Rattle.written_values.specs.Scripts.{words_of};
 
 use std::alloc::{AllocError, Global};
@@ -57,7 +58,7 @@ pub(crate) fn is_folder(word: &str) -> bool
 
 /// A line, cut at each blank.
 pub(crate) fn words_in<'a>(alloc: Global, line: &'a str) -> Result<Vec<&'a str>, AllocError>
-    ensures { IfOk result (λ words. map (λ x. x.now) words.items ≡ words_of line.entry.now) }
+    ensures { IfOk result (λ words. texts_of words.items ≡ words_of line.entry.now) }
 {
     line.split(' ').collect(alloc)
 }

@@ -79,10 +79,7 @@ pub fn bring_over<O: Disk, N: Disk>(
     if new.len() != DEVICE_LEN {
         return Err(MigrateRefused::BadLength);
     }
-    let (count, graph) = match read_old(alloc, old) {
-        Ok(held) => held,
-        Err(refused) => return Err(refused),
-    };
+    let (count, graph) = read_old(alloc, old)?;
     let edges = graph.edges();
     match write_state(alloc, new, count, &graph) {
         Ok(()) => Ok(Moved { count, edges }),
@@ -111,8 +108,6 @@ pub fn migrate<O: Disk, N: Disk>(
     ensures ran_old { IsSameDevice (O.view old.old) (O.view old.new) }
     ensures ran_new { IsSameDevice (N.view new.old) (N.view new.new) }
 {
-    match bring_over(alloc, old, new) {
-        Ok(moved) => Ok(moved.count),
-        Err(refused) => Err(refused),
-    }
+    let moved = bring_over(alloc, old, new)?;
+    Ok(moved.count)
 }

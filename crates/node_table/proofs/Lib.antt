@@ -3,3 +3,4 @@ pub mod Serving
 pub mod OnTheWay
 pub mod LocalForms
 pub mod Builds
+pub mod OldForms

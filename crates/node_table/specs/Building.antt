@@ -1,5 +1,5 @@
 -- What each step of a build does to the tables.
-use Rattle.std.specs.Prelude.{◌≡◌, ℕ, ◌<◌, ◌≤◌, ◌==◌, Bool, true, false, cond, Option, Some, None, List, [], ◌∷◌, ◌++◌, length, nat_eq, slice_get, IsPermutation}
+use Rattle.std.specs.Prelude.{◌≡◌, ℕ, ◌<◌, ◌≤◌, ◌==◌, Bool, true, false, cond, Option, Some, None, List, [], ◌∷◌, ◌++◌, length, nat_eq, slice_get, slice_index_or, IsPermutation}
 use Rattle.std.specs.List.{All, IsDistinct}
 use Rattle.std.specs.List.Sorted.{IsStrictlyIncreasing}
 use Rattle.std.specs.declared.vec.Vec.{Vec}
@@ -11,13 +11,22 @@ use Rattle.heavy_labels.specs.declared.numbered_member.NumberedMember.{NumberedM
 use Rattle.node_table.specs.declared.parts.Parts.{Parts}
 use Rattle.node_table.specs.declared.parts.Entry.{Entry}
 use Rattle.node_table.specs.declared.parts.Listed.{Listed}
-use Rattle.node_table.specs.Tables.{nodes_of, or_none, or_false}
-use Rattle.node_table.specs.Columns.{IsColumn, IsBuiltBetween}
-use Rattle.node_table.specs.RowLists.{Row, nodes_in, entry_in, label_in}
+use Rattle.node_table.specs.Tables.{nodes_of, or_false, value_at}
+use Rattle.node_table.specs.Columns.{AreRowsWithin, IsBuiltBetween}
+use Rattle.node_table.specs.RowLists.{Row, nodes_in}
 
 -- the list at a place, empty where there is none
 abbrev pub items_at : {X A : Type 0} → List (Vec X A) → ℕ → List X
 items_at vs x = elim (slice_get vs x) [ None ↦ [] | Some v ↦ v.items ]
+
+-- two tables say the same of all but one place
+abbrev pub AgreeBut : {X : Type 0} → ℕ → (ℕ → X) → (ℕ → X) → Type 0
+AgreeBut at old new = (x : ℕ) → (x ≡ at → ⊥) → new x ≡ old x
+
+-- The lists grow: at each place more stands behind what stood there
+pub record GrowBy {X A : Type 0} (old new : List (Vec X A)) (more : ℕ → List X) : Type 0 where
+  pub size : length new ≡ length old
+  pub items : (x : ℕ) → items_at new x ≡ items_at old x ++ more x
 
 -- the entries of a node's rows
 abbrev pub entries_for : ℕ → List Row → List Entry
@@ -58,12 +67,16 @@ abbrev pub limit_by : Bool → List (Option Near) → ℕ → Option ℕ
 limit_by true nearest x = None
 limit_by false nearest x = near_limit nearest x
 
+-- the limit of the tree of r under these landmarks
+abbrev pub limit_for : List Bool → List (Option Near) → ℕ → ℕ → Option ℕ
+limit_for flags nearest r = limit_by (slice_index_or flags r false) nearest
+
 -- the rows of the tree of r
 pub record AreRowsOf (m : Network) (p : Parts) (r : ℕ) (ws : List Row) : Type 0 where
   pub apart : IsDistinct nat_eq (nodes_in ws)
   pub inside : All (λ w. w.node < m.nodes) ws
   pub root : All (λ w. w.entry.root ≡ r) ws
-  pub column : IsColumn m (limit_by (or_false (slice_get p.landmarks.items r)) p.nearest.items) r (entry_in ws) (label_in ws)
+  pub column : AreRowsWithin m (limit_by (or_false (slice_get p.landmarks.items r)) p.nearest.items) r ws
 
 -- the tables after the rows of the tree of r, which are listed as ls
 pub record IsWith (p : Parts) (r : ℕ) (ws : List Row) (ls : List Listed) (q : Parts) : Type 0 where
@@ -72,13 +85,12 @@ pub record IsWith (p : Parts) (r : ℕ) (ws : List Row) (ls : List Listed) (q : 
   pub landmarks : q.landmarks.items ≡ p.landmarks.items
   pub ports : q.ports.items ≡ p.ports.items
   pub nearest : q.nearest.items ≡ p.nearest.items
-  pub entries_length : length q.entries.items ≡ length p.entries.items
-  pub entries : (x : ℕ) → items_at q.entries.items x ≡ items_at p.entries.items x ++ entries_for x ws
+  pub entries : GrowBy p.entries.items q.entries.items (λ x. entries_for x ws)
   pub directories_length : length q.directories.items ≡ length p.directories.items
   pub directory : IsDirectoryAfter (or_false (slice_get p.landmarks.items r)) ls (items_at p.directories.items r) (items_at q.directories.items r)
-  pub other_directories : (x : ℕ) → (x ≡ r → ⊥) → items_at q.directories.items x ≡ items_at p.directories.items x
+  pub other_directories : AgreeBut r (items_at p.directories.items) (items_at q.directories.items)
   pub homes_length : length q.homes.items ≡ length p.homes.items
-  pub homes : (v : ℕ) → or_none (slice_get q.homes.items v) ≡ home_after (or_none (slice_get p.nearest.items v)) r ls v (or_none (slice_get p.homes.items v))
+  pub homes : (v : ℕ) → value_at q.homes.items v ≡ home_after (value_at p.nearest.items v) r ls v (value_at p.homes.items v)
 
 -- the tables of a build that holds the trees of the roots from j to below k
 pub record IsBuildOf (m : Network) (flags : List Bool) (nearest : List (Option Near)) (generation : ℕ) (p : Parts) (j k : ℕ) : Type 0 where
@@ -110,12 +122,11 @@ pub record IsJoined (p q t : Parts) : Type 0 where
   pub landmarks : t.landmarks.items ≡ p.landmarks.items
   pub ports : t.ports.items ≡ p.ports.items
   pub nearest : t.nearest.items ≡ p.nearest.items
-  pub entries_length : length t.entries.items ≡ length p.entries.items
-  pub entries : (x : ℕ) → items_at t.entries.items x ≡ items_at p.entries.items x ++ items_at q.entries.items x
+  pub entries : GrowBy p.entries.items t.entries.items (items_at q.entries.items)
   pub directories_length : length t.directories.items ≡ length p.directories.items
   pub directories : (x : ℕ) → items_at t.directories.items x ≡ first_list (items_at p.directories.items x) (items_at q.directories.items x)
   pub homes_length : length t.homes.items ≡ length p.homes.items
-  pub homes : (v : ℕ) → or_none (slice_get t.homes.items v) ≡ first_some (or_none (slice_get p.homes.items v)) (or_none (slice_get q.homes.items v))
+  pub homes : (v : ℕ) → value_at t.homes.items v ≡ first_some (value_at p.homes.items v) (value_at q.homes.items v)
 
 -- wherever the roots of q begin where those of p end, the tables t hold the trees of both ranges
 abbrev pub JoinsRanges : Parts → Parts → Parts → Type 0

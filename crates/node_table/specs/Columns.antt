@@ -4,7 +4,9 @@ use Rattle.std.specs.Option.{option_map}
 use Rattle.std.specs.List.Sorted.{IsStrictlyIncreasing}
 use Rattle.graph_edits.specs.Edges.{Network, weight_in}
 use Rattle.graph_edits.specs.Walks.{IsLeast}
+use Rattle.distances.specs.Reach.{IsTree}
 use Rattle.distances.specs.Search.{is_below}
+use Rattle.distances.specs.Workspace.{reached_of}
 use Rattle.route_tree.specs.Rose.{Tree}
 use Rattle.route_tree.specs.Growth.{subtrees, first_or}
 use Rattle.route_tree.specs.declared.member.Member.{Member}
@@ -21,6 +23,7 @@ use Rattle.distances.specs.declared.linked.Linked.{Linked}
 use Rattle.node_table.specs.Ports.{neighbours, port_to}
 use Rattle.node_table.specs.Tables.{tables, ports_at, entries_at, directory_at, first_entry, first_listed, roots_of, nodes_of}
 use Rattle.node_table.specs.Checks.{up_port, down_port, IsListed}
+use Rattle.node_table.specs.RowLists.{Row, entry_in, label_in}
 
 -- the port at a node to its parent
 abbrev pub up_by : Network → ℕ → Option ℕ → Option ℕ
@@ -94,6 +97,14 @@ pub record IsColumn (m : Network) (limit : ℕ → Option ℕ) (r : ℕ) (f : �
   pub laid : IsLaid m f members
   pub lines : (d : Tree) (p : Place) (above : Line) → Among (p ∷ above) (tree_lines (first_or d (subtrees members)))
       → (e : Entry) × ((f p.node ≡ Some e) × ((record_of e.tree_record ≡ p.tree_record) × (g p.node ≡ Some p.label)))
+
+-- the rows are the tree of r: those of its nodes have the entries and the labels
+abbrev pub AreRowsWithin : Network → (ℕ → Option ℕ) → ℕ → List Row → Type 0
+AreRowsWithin m limit r ws = IsColumn m limit r (entry_in ws) (label_in ws)
+
+-- what was reached is the tree of r under a limit that lets r in
+abbrev pub IsTreeWithin : Network → (ℕ → Option ℕ) → ℕ → List Linked → Type 0
+IsTreeWithin m limit r reached = IsTree m.edges r limit (reached_of reached) × (is_below 0 (limit r) ≡ true)
 
 -- the distance at which the tree of r ends: at the nearest landmark's, but for a landmark's own tree
 abbrev pub limit_in : Parts → ℕ → ℕ → Option ℕ

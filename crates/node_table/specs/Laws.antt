@@ -30,6 +30,14 @@ abbrev pub NearestIsRight : Network → (ℕ → Bool) → ℕ → Option Near �
 NearestIsRight m landmark x None = (a : ℕ) (ys : List ℕ) → a < m.nodes → landmark a ≡ true → IsWalk m.edges a ys x → ⊥
 NearestIsRight m landmark x (Some q) = IsNearestLandmark m landmark x q
 
+-- a node has an entry for a root exactly where it is in the root's tree
+abbrev pub HasTrees : Network → Parts → Type 0
+HasTrees m p = (x r : ℕ) → IsSome ((tables p).entry x r) ↔ IsInTree m (tables p).landmark r x
+
+-- the nearest landmark of each node is right
+abbrev pub HasNearest : Network → Parts → Type 0
+HasNearest m p = (x : ℕ) → NearestIsRight m (tables p).landmark x ((tables p).nearest x)
+
 -- a scheme that keeps the rules serves the network
 abbrev pub CheckedServes : Type 0
 CheckedServes = (m : Network) (p : Parts) → IsSound m → IsChecked m p → Serves m (tables p)
@@ -38,13 +46,13 @@ CheckedServes = (m : Network) (p : Parts) → IsSound m → IsChecked m p → Se
 abbrev pub EntriesAreExact : Type 0
 EntriesAreExact = (m : Network) (p : Parts) → IsSound m → IsChecked m p → (x r : ℕ) (e : Entry) → (tables p).entry x r ≡ Some e → IsLeast m.edges (λ s. s ≡ r) x e.distance
 
--- a node has an entry for a root exactly where it is in the root's tree
+-- its entries are those of the trees
 abbrev pub EntriesAreTrees : Type 0
-EntriesAreTrees = (m : Network) (p : Parts) → IsSound m → IsChecked m p → (x r : ℕ) → IsSome ((tables p).entry x r) ↔ IsInTree m (tables p).landmark r x
+EntriesAreTrees = (m : Network) (p : Parts) → IsSound m → IsChecked m p → HasTrees m p
 
--- the nearest landmark of every node is right
+-- its nearest landmarks are right
 abbrev pub NearestAreRight : Type 0
-NearestAreRight = (m : Network) (p : Parts) → IsSound m → IsChecked m p → (x : ℕ) → NearestIsRight m (tables p).landmark x ((tables p).nearest x)
+NearestAreRight = (m : Network) (p : Parts) → IsSound m → IsChecked m p → HasNearest m p
 
 -- Where the rules hold, so many are the roots in whose tree x is: an ascending list of that length has just these.
 abbrev pub AreTreesOf : Parts → ℕ → ℕ → Type 0

@@ -3,6 +3,8 @@ pub mod Local
 pub mod Ports
 pub mod Service
 pub mod Tables
+pub mod KnownNearest
+pub mod Schemes
 pub mod Trails
 pub mod Laws
 pub mod Columns

@@ -1,5 +1,6 @@
 -- Rows of one root's tree, a row for each member.
 use Rattle.std.specs.Prelude.{◌≡◌, ℕ, ◌<◌, ◌==◌, cond, Option, Some, None, List, [], ◌∷◌, length, map, slice_index, slice_index_or}
+use Rattle.std.specs.List.{All}
 use Rattle.std.specs.Option.{option_map}
 use Rattle.distances.specs.declared.reach.Reached.{Reached}
 use Rattle.distances.specs.declared.linked.Linked.{Linked}
@@ -48,6 +49,11 @@ row_by r ks table n = record { node = n.node; entry = entry_by r ks table n; lab
 -- the rows of what was numbered, in its order
 abbrev pub rows_by : ℕ → List Linked → List ℕ → List NumberedMember → List Row
 rows_by r ks table ns = map (row_by r ks table) ns
+
+-- Each numbered node has a place in the table, and there it was reached.
+pub record AreReached (ks : List Linked) (table : List ℕ) (ns : List NumberedMember) : Type 0 where
+  pub places : All (λ n. n.node < length table) ns
+  pub reached : All (λ n. slice_index table n.node < length ks) ns
 
 -- the nodes of rows
 abbrev pub nodes_in : List Row → List ℕ

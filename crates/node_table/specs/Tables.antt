@@ -1,5 +1,6 @@
 -- What a scheme's lists say: the first place of a list counts, and a place that is not there is empty.
-use Rattle.std.specs.Prelude.{ℕ, ◌==◌, Bool, false, cond, Option, Some, None, List, [], ◌∷◌, map, slice_get}
+use Rattle.std.specs.Prelude.{◌≡◌, ℕ, ◌==◌, Bool, false, cond, MatchOption, Option, Some, None, List, [], ◌∷◌, map, slice_get}
+use denote.Ref.{Bor}
 use Rattle.std.specs.List.{All}
 use Rattle.std.specs.List.Sorted.{IsStrictlyIncreasing}
 use Rattle.heavy_labels.specs.Label.{Label}
@@ -23,6 +24,14 @@ pub record Tables : Type 0 where
 abbrev pub or_none : {X : Type 0} → Option (Option X) → Option X
 or_none None = None
 or_none (Some o) = o
+
+-- the value at a place, and none where the place isn't there
+abbrev pub value_at : {X : Type 0} → List (Option X) → ℕ → Option X
+value_at os x = or_none (slice_get os x)
+
+-- what was found is a reference to the value, and nothing where there is no value
+abbrev pub RefersTo : {X : Type 0} → Option X → Option (Bor X) → Type 0
+RefersTo value found = MatchOption found (value ≡ None) (λ there. value ≡ Some there.now)
 
 -- the flag at a place, and false where the place isn't there
 abbrev pub or_false : Option Bool → Bool
@@ -66,10 +75,10 @@ tables p = record {
   generation = p.generation;
   landmark = λ x. or_false (slice_get p.landmarks.items x);
   over = λ x k. slice_get (ports_at p x) k;
-  nearest = λ x. or_none (slice_get p.nearest.items x);
+  nearest = λ x. value_at p.nearest.items x;
   entry = λ x r. first_entry r (entries_at p x);
   listed = λ u v. first_listed v (directory_at p u);
-  home = λ x. or_none (slice_get p.homes.items x);
+  home = λ x. value_at p.homes.items x;
 }
 
 -- every list of entries strictly ascends by root, and every directory by node

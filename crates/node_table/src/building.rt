@@ -1,16 +1,14 @@
 // Schemes out of graphs.
-ghost use Rattle.std.specs.Prelude.{◌≡◌, ◌<◌, ◌≤◌, ◌+◌, ◌++◌, ◌∷◌, ◌↔◌, IsSome, ◌==◌, [], ℕ, None, Some, true, false, cond, All, IfOk, OnOk, length, map, nat_eq, slice_get, slice_index, slice_index_or};
+ghost use Rattle.std.specs.Prelude.{◌≡◌, ◌<◌, ◌≤◌, ◌+◌, ◌++◌, ◌∷◌, ◌==◌, [], ℕ, None, cond, All, IfOk, OnOk, length, map, nat_eq};
 ghost use Rattle.std.specs.List.{IsDistinct};
 ghost use Rattle.std.specs.List.Sorted.{IsNonDecreasingBy, IsPermutation};
-ghost use Rattle.distances.specs.Nearest.{IsNearestOf};
-ghost use Rattle.node_table.specs.Building.{IsDirectoryAfter, IsDirectoryOf, IsWith, IsBuildOf, entries_for, has_home, home_after, home_by, items_at, limit_by, listed_member};
-ghost use Rattle.node_table.specs.Checks.{IsChecked};
-ghost use Rattle.node_table.specs.Columns.{IsColumn};
-ghost use Rattle.node_table.specs.Laws.{IsInTree, NearestIsRight};
-ghost use Rattle.node_table.specs.RowLists.{entry_in, label_in, nodes_numbered, rows_by};
+ghost use Rattle.node_table.specs.Building.{AgreeBut, GrowBy, IsDirectoryAfter, IsDirectoryOf, IsWith, IsBuildOf, entries_for, has_home, home_after, home_by, items_at, limit_for, listed_member};
+ghost use Rattle.node_table.specs.Columns.{AreRowsWithin};
+ghost use Rattle.node_table.specs.KnownNearest.{CanBuild, KnowsNearest};
 ghost use Rattle.node_table.specs.Ports.{neighbours};
-ghost use Rattle.node_table.specs.Service.{Serves};
-ghost use Rattle.node_table.specs.Tables.{tables, or_none};
+ghost use Rattle.node_table.specs.RowLists.{AreReached, nodes_numbered, rows_by};
+ghost use Rattle.node_table.specs.Schemes.{IsSchemeUnder};
+ghost use Rattle.node_table.specs.Tables.{value_at};
 
 use crate::columns::{entry_of, number_reached};
 use crate::laws::graph_is_sound;
@@ -41,8 +39,7 @@ fn push_entry(list: &mut Vec<Entry>, entry: Entry) -> Result<(), AllocError>
 /// The lists with an entry more at one place.
 fn push_at(lists: &mut Vec<Vec<Entry>>, at: usize, entry: Entry) -> Result<(), AllocError>
     requires { at < length lists.old.items }
-    ensures length { OnOk result (length lists.new.items ≡ length lists.old.items) }
-    ensures items { OnOk result ((x : ℕ) → items_at lists.new.items x ≡ items_at lists.old.items x ++ cond (at == x) (entry ∷ []) []) }
+    ensures { OnOk result (GrowBy lists.old.items lists.new.items (λ x. cond (at == x) (entry ∷ []) [])) }
 {
     push_entry(&mut lists[at], entry)?;
     Ok(())
@@ -57,10 +54,9 @@ fn add_entries(
     numbered: &[NumberedMember],
 ) -> Result<(), AllocError>
     requires entries { All (λ n. n.node < length entries.old.items) numbered.now }
-    requires places { All (λ n. n.node < length places.now) numbered.now }
-    requires reached { All (λ n. slice_index places.now n.node < length reached.now) numbered.now }
-    ensures length { OnOk result (length entries.new.items ≡ length entries.old.items) }
-    ensures items { OnOk result ((x : ℕ) → items_at entries.new.items x ≡ items_at entries.old.items x ++ entries_for x (rows_by root reached.now places.now numbered.now)) }
+    requires reached { AreReached reached.now places.now numbered.now }
+    ensures { OnOk result (GrowBy entries.old.items entries.new.items
+        (λ x. entries_for x (rows_by root reached.now places.now numbered.now))) }
 {
     for member in numbered {
         let entry = entry_of(root, reached, places, member);
@@ -119,7 +115,8 @@ fn is_home(near: Option<Near>, root: u16) -> bool
 /// The home label of a node, if its nearest landmark is the root of the tree in which it has that label.
 fn set_home(homes: &mut [Option<Label>], at: usize, near: Option<Near>, root: u16, label: &Label)
     requires { at < length homes.old }
-    ensures { (v : ℕ) → or_none (slice_get homes.new v) ≡ cond (at == v) (home_by near root label.now (or_none (slice_get homes.old v))) (or_none (slice_get homes.old v)) }
+    ensures { (v : ℕ) → value_at homes.new v
+        ≡ cond (at == v) (home_by near root label.now (value_at homes.old v)) (value_at homes.old v) }
 {
     if !is_home(near, root) {
         return;
@@ -136,7 +133,8 @@ fn set_homes(
 )
     requires homes { All (λ n. n.node < length homes.old) numbered.now }
     requires nearest { All (λ n. n.node < length nearest.now) numbered.now }
-    ensures { (v : ℕ) → or_none (slice_get homes.new v) ≡ home_after (or_none (slice_get nearest.now v)) root (map listed_member numbered.now) v (or_none (slice_get homes.old v)) }
+    ensures { (v : ℕ) → value_at homes.new v
+        ≡ home_after (value_at nearest.now v) root (map listed_member numbered.now) v (value_at homes.old v) }
 {
     for member in numbered {
         let at = member.node as usize;
@@ -155,8 +153,9 @@ fn set_directory(
     requires root { root < length directories.old.items }
     requires apart { IsDistinct nat_eq (nodes_numbered numbered.items) }
     ensures length { OnOk result (length directories.new.items ≡ length directories.old.items) }
-    ensures here { OnOk result (IsDirectoryAfter landmark (map listed_member numbered.items) (items_at directories.old.items root) (items_at directories.new.items root)) }
-    ensures others { OnOk result ((x : ℕ) → (x ≡ root → ⊥) → items_at directories.new.items x ≡ items_at directories.old.items x) }
+    ensures here { OnOk result (IsDirectoryAfter landmark (map listed_member numbered.items)
+        (items_at directories.old.items root) (items_at directories.new.items root)) }
+    ensures others { OnOk result (AgreeBut root (items_at directories.old.items) (items_at directories.new.items)) }
 {
     if landmark {
         return Ok(());
@@ -180,10 +179,10 @@ fn add_rows(
     requires entries { All (λ n. n.node < length parts.old.entries.items) numbered.items }
     requires homes { All (λ n. n.node < length parts.old.homes.items) numbered.items }
     requires nearest { All (λ n. n.node < length parts.old.nearest.items) numbered.items }
-    requires places { All (λ n. n.node < length places.now) numbered.items }
-    requires reached { All (λ n. slice_index places.now n.node < length reached.now) numbered.items }
+    requires reached { AreReached reached.now places.now numbered.items }
     requires apart { IsDistinct nat_eq (nodes_numbered numbered.items) }
-    ensures { OnOk result (IsWith parts.old root (rows_by root reached.now places.now numbered.items) (map listed_member numbered.items) parts.new) }
+    ensures { OnOk result (IsWith parts.old root
+        (rows_by root reached.now places.now numbered.items) (map listed_member numbered.items) parts.new) }
 {
     let members = numbered.as_slice();
     add_entries(&mut parts.entries, root, reached, places, members)?;
@@ -210,18 +209,16 @@ fn root_members<A: Allocator>(
     scratch: A,
 ) -> Result<Numbered, AllocError>
     requires inside { root < graph.now.nodes }
-    requires same_size { length landmarks.now ≡ graph.now.nodes }
-    requires nodes { length nearest.now.nearest ≡ graph.now.nodes }
-    requires nearest { (v : ℕ) → IsNearestOf graph.now.edges landmarks.now v (slice_index_or nearest.now.nearest v None) }
+    requires known { KnowsNearest graph.now landmarks.now nearest.now.nearest }
     requires workspace { workspace.old.nodes ≡ graph.now.nodes }
     requires places { length places.old ≡ graph.now.nodes }
     ensures workspace { workspace.new.nodes ≡ workspace.old.nodes }
     ensures apart { IfOk result (λ numbered. IsDistinct nat_eq (nodes_numbered numbered.items)) }
     ensures inside { IfOk result (λ numbered. All (λ n. n.node < graph.now.nodes) numbered.items) }
-    ensures places { IfOk result (λ numbered. All (λ n. n.node < length places.new) numbered.items) }
-    ensures reached { IfOk result (λ numbered. All (λ n. slice_index places.new n.node < length workspace.new.members) numbered.items) }
-    ensures column { IfOk result (λ numbered. IsColumn graph.now (limit_by (slice_index_or landmarks.now root false) nearest.now.nearest) root
-        (entry_in (rows_by root workspace.new.members places.new numbered.items)) (label_in (rows_by root workspace.new.members places.new numbered.items))) }
+    ensures reached { IfOk result (λ numbered. AreReached workspace.new.members places.new numbered.items) }
+    ensures column { IfOk result (λ numbered.
+        AreRowsWithin graph.now (limit_for landmarks.now nearest.now.nearest root) root
+        (rows_by root workspace.new.members places.new numbered.items)) }
 {
     graph_is_sound(graph);
     if landmarks.holds(root) {
@@ -279,7 +276,7 @@ fn no_directories(alloc: Global, nodes: u16) -> Result<Vec<Vec<Listed>>, AllocEr
 /// No home label for any node.
 fn no_homes(alloc: Global, nodes: u16) -> Result<Vec<Option<Label>>, AllocError>
     ensures length { IfOk result (λ all. length all.items ≡ nodes) }
-    ensures none { IfOk result (λ all. (v : ℕ) → or_none (slice_get all.items v) ≡ None) }
+    ensures none { IfOk result (λ all. (v : ℕ) → value_at all.items v ≡ None) }
 {
     let mut all = Vec::with_capacity(alloc, nodes as usize)?;
     for _x in 0..nodes {
@@ -324,10 +321,9 @@ fn empty_parts(
     generation: u64,
     first: u16,
 ) -> Result<Parts, AllocError>
-    requires same_size { length landmarks.now ≡ graph.now.nodes }
-    requires nodes { length nearest.now.nearest ≡ graph.now.nodes }
-    requires nearest { (v : ℕ) → IsNearestOf graph.now.edges landmarks.now v (slice_index_or nearest.now.nearest v None) }
-    ensures { IfOk result (λ parts. IsBuildOf graph.now landmarks.now nearest.now.nearest generation parts first first) }
+    requires { KnowsNearest graph.now landmarks.now nearest.now.nearest }
+    ensures { IfOk result (λ parts.
+        IsBuildOf graph.now landmarks.now nearest.now.nearest generation parts first first) }
 {
     let nodes = graph.nodes();
     Ok(Parts {
@@ -357,15 +353,14 @@ fn add_root<A: Allocator>(
     scratch: A,
 ) -> Result<(), AllocError>
     requires inside { root < graph.now.nodes }
-    requires same_size { length landmarks.now ≡ graph.now.nodes }
-    requires nodes { length nearest.now.nearest ≡ graph.now.nodes }
-    requires nearest { (v : ℕ) → IsNearestOf graph.now.edges landmarks.now v (slice_index_or nearest.now.nearest v None) }
+    requires known { KnowsNearest graph.now landmarks.now nearest.now.nearest }
     requires workspace { workspace.old.nodes ≡ graph.now.nodes }
     requires places { length places.old ≡ graph.now.nodes }
     requires order { first ≤ root }
     requires built { IsBuildOf graph.now landmarks.now nearest.now.nearest parts.old.generation parts.old first root }
     ensures workspace { workspace.new.nodes ≡ workspace.old.nodes }
-    ensures built { OnOk result (IsBuildOf graph.now landmarks.now nearest.now.nearest parts.old.generation parts.new first (root + 1)) }
+    ensures built { OnOk result
+        (IsBuildOf graph.now landmarks.now nearest.now.nearest parts.old.generation parts.new first (root + 1)) }
 {
     let numbered = root_members(
         alloc, graph, landmarks, nearest, workspace, places, root, scratch,
@@ -384,13 +379,10 @@ fn add_roots<A: Allocator + Clone>(
     last: u16,
     scratch: A,
 ) -> Result<(), AllocError>
-    requires same_size { length landmarks.now ≡ graph.now.nodes }
-    requires nodes { length nearest.now.nearest ≡ graph.now.nodes }
-    requires nearest { (v : ℕ) → IsNearestOf graph.now.edges landmarks.now v (slice_index_or nearest.now.nearest v None) }
-    requires order { first ≤ last }
-    requires inside { last ≤ graph.now.nodes }
+    requires range { CanBuild graph.now landmarks.now nearest.now.nearest first last }
     requires built { IsBuildOf graph.now landmarks.now nearest.now.nearest parts.old.generation parts.old first first }
-    ensures { OnOk result (IsBuildOf graph.now landmarks.now nearest.now.nearest parts.old.generation parts.new first last) }
+    ensures { OnOk result
+        (IsBuildOf graph.now landmarks.now nearest.now.nearest parts.old.generation parts.new first last) }
 {
     let nodes = graph.nodes();
     let mut workspace = Workspace::new(alloc, nodes)?;
@@ -425,12 +417,9 @@ pub fn build_between<A: Allocator + Clone>(
     last: u16,
     scratch: A,
 ) -> Result<PartialScheme, AllocError>
-    requires same_size { length landmarks.now ≡ graph.now.nodes }
-    requires nodes { length nearest.now.nearest ≡ graph.now.nodes }
-    requires nearest { (v : ℕ) → IsNearestOf graph.now.edges landmarks.now v (slice_index_or nearest.now.nearest v None) }
-    requires order { first ≤ last }
-    requires inside { last ≤ graph.now.nodes }
-    ensures { IfOk result (λ partial. IsBuildOf graph.now landmarks.now nearest.now.nearest generation partial first last) }
+    requires { CanBuild graph.now landmarks.now nearest.now.nearest first last }
+    ensures { IfOk result (λ partial.
+        IsBuildOf graph.now landmarks.now nearest.now.nearest generation partial first last) }
 {
     let mut parts = empty_parts(alloc, graph, landmarks, nearest, generation, first)?;
     add_roots(
@@ -450,12 +439,7 @@ pub fn build<A: Allocator + Clone>(
     scratch: A,
 ) -> Result<Scheme, AllocError>
     requires same_size { length landmarks.now ≡ graph.now.nodes }
-    ensures checked { IfOk result (λ scheme. IsChecked graph.now scheme) }
-    ensures serves { IfOk result (λ scheme. Serves graph.now (tables scheme)) }
-    ensures landmarks { IfOk result (λ scheme. scheme.landmarks.items ≡ landmarks.now) }
-    ensures generation { IfOk result (λ scheme. scheme.generation ≡ generation) }
-    ensures trees { IfOk result (λ scheme. (x r : ℕ) → IsSome ((tables scheme).entry x r) ↔ IsInTree graph.now (tables scheme).landmark r x) }
-    ensures nearest { IfOk result (λ scheme. (x : ℕ) → NearestIsRight graph.now (tables scheme).landmark x ((tables scheme).nearest x)) }
+    ensures { IfOk result (λ scheme. IsSchemeUnder graph.now landmarks.now generation scheme) }
 {
     let nearest = from_landmarks(alloc, graph, landmarks)?;
     let whole = build_between(

@@ -1,17 +1,15 @@
 // The tree of one root, as numbered members, and the entry of each.
-ghost use Rattle.std.specs.Prelude.{◌≡◌, ◌<◌, ◌≤◌, ℕ, Option, true, IfOk, length, map, nat_eq, slice_index};
+ghost use Rattle.std.specs.Prelude.{◌≡◌, ◌<◌, ◌≤◌, ℕ, Option, IfOk, length, map, nat_eq, slice_index};
 ghost use Rattle.std.specs.List.{All, IsDistinct};
-ghost use Rattle.distances.specs.Reach.{IsTree};
-ghost use Rattle.distances.specs.Search.{is_below};
-ghost use Rattle.distances.specs.Workspace.{reached_of, AreLinked};
+ghost use Rattle.distances.specs.Workspace.{AreLinked};
 ghost use Rattle.heavy_labels.specs.Numbered.{Brief, IsListed, seen, head_brief};
 ghost use Rattle.heavy_labels.specs.Numbering.{tree_lines};
 ghost use Rattle.route_tree.specs.Growth.{subtrees, first_or};
 ghost use Rattle.route_tree.specs.Members.{AreMembers};
 ghost use Rattle.route_tree.specs.Places.{HasPlaces};
 ghost use Rattle.route_tree.specs.Rose.{Tree};
-ghost use Rattle.node_table.specs.Columns.{linked_member, IsColumn};
-ghost use Rattle.node_table.specs.RowLists.{ArePlaces, entry_by, entry_in, label_in, nodes_linked, nodes_numbered, rows_by};
+ghost use Rattle.node_table.specs.Columns.{linked_member, AreRowsWithin, IsTreeWithin};
+ghost use Rattle.node_table.specs.RowLists.{ArePlaces, AreReached, entry_by, nodes_linked, nodes_numbered, rows_by};
 
 use crate::parts::Entry;
 use bumpalo::Bump;
@@ -57,7 +55,9 @@ fn numbered<A: Allocator>(
 ) -> Result<Numbered, AllocError>
     requires members { AreMembers members.now }
     requires places { HasPlaces members.now places.now }
-    ensures lines { IfOk result (λ all. (d : Tree) (b : Brief) → IsListed b (map head_brief (tree_lines (first_or d (subtrees members.now)))) → IsListed b (map seen all.items)) }
+    ensures lines { IfOk result (λ all. (d : Tree) (b : Brief)
+        → IsListed b (map head_brief (tree_lines (first_or d (subtrees members.now))))
+        → IsListed b (map seen all.items)) }
     ensures nodes { IfOk result (λ all. map (λ n. n.node) all.items ≡ map (λ a. a.node) members.now) }
 {
     let arena = Bump::new(scratch);
@@ -109,14 +109,14 @@ pub(crate) fn number_reached<A: Allocator>(
 ) -> Result<Numbered, AllocError>
     requires inside { root < graph.now.nodes }
     requires places { length places.old ≡ graph.now.nodes }
-    requires tree { (limit : ℕ → Option ℕ) × (IsTree graph.now.edges root limit (reached_of reached.now) × (is_below 0 (limit root) ≡ true)) }
+    requires tree { (limit : ℕ → Option ℕ) × IsTreeWithin graph.now limit root reached.now }
     requires ports { AreLinked graph.now reached.now }
     ensures apart { IfOk result (λ numbered. IsDistinct nat_eq (nodes_numbered numbered.items)) }
     ensures inside { IfOk result (λ numbered. All (λ n. n.node < graph.now.nodes) numbered.items) }
-    ensures places { IfOk result (λ numbered. All (λ n. n.node < length places.new) numbered.items) }
-    ensures reached { IfOk result (λ numbered. All (λ n. slice_index places.new n.node < length reached.now) numbered.items) }
-    ensures column { IfOk result (λ numbered. (limit : ℕ → Option ℕ) → IsTree graph.now.edges root limit (reached_of reached.now) → is_below 0 (limit root) ≡ true
-        → IsColumn graph.now limit root (entry_in (rows_by root reached.now places.new numbered.items)) (label_in (rows_by root reached.now places.new numbered.items))) }
+    ensures reached { IfOk result (λ numbered. AreReached reached.now places.new numbered.items) }
+    ensures column { IfOk result (λ numbered. (limit : ℕ → Option ℕ)
+        → IsTreeWithin graph.now limit root reached.now
+        → AreRowsWithin graph.now limit root (rows_by root reached.now places.new numbered.items)) }
 {
     let _sound = graph.nodes();
     let members = members(alloc, reached)?;

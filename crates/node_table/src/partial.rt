@@ -1,11 +1,9 @@
 // What a build has of a range of roots: it is joined with what stands behind, and finished when no root is left.
-ghost use Rattle.std.specs.Prelude.{◌≡◌, ◌<◌, ◌++◌, ◌↔◌, ℕ, IsSome, IfOk, OnOk, length, slice_get};
-ghost use Rattle.node_table.specs.Building.{AreAsLong, IsJoined, JoinsRanges, first_list, first_some, items_at};
-ghost use Rattle.node_table.specs.Checks.{IsChecked};
+ghost use Rattle.std.specs.Prelude.{◌≡◌, ◌<◌, ◌++◌, ℕ, IfOk, OnOk, length};
+ghost use Rattle.node_table.specs.Building.{AgreeBut, AreAsLong, GrowBy, IsJoined, JoinsRanges, first_list, first_some, items_at};
 ghost use Rattle.node_table.specs.Columns.{IsBuiltBetween};
-ghost use Rattle.node_table.specs.Laws.{IsInTree, NearestIsRight};
-ghost use Rattle.node_table.specs.Service.{Serves};
-ghost use Rattle.node_table.specs.Tables.{tables, or_none};
+ghost use Rattle.node_table.specs.Schemes.{IsSchemeUnder};
+ghost use Rattle.node_table.specs.Tables.{value_at};
 
 use crate::laws::graph_is_sound;
 use crate::parts::{Entry, Listed, Parts};
@@ -52,12 +50,7 @@ impl PartialScheme {
     /// The scheme of what has the trees of all roots. An `Err` means that memory was refused.
     pub fn finish(self, alloc: Global, graph: &Graph) -> Result<Scheme, AllocError>
         requires { IsBuiltBetween graph.now self 0 graph.now.nodes }
-        ensures checked { IfOk result (λ scheme. IsChecked graph.now scheme) }
-        ensures serves { IfOk result (λ scheme. Serves graph.now (tables scheme)) }
-        ensures landmarks { IfOk result (λ scheme. scheme.landmarks.items ≡ self.landmarks.items) }
-        ensures generation { IfOk result (λ scheme. scheme.generation ≡ self.generation) }
-        ensures trees { IfOk result (λ scheme. (x r : ℕ) → IsSome ((tables scheme).entry x r) ↔ IsInTree graph.now (tables scheme).landmark r x) }
-        ensures nearest { IfOk result (λ scheme. (x : ℕ) → NearestIsRight graph.now (tables scheme).landmark x ((tables scheme).nearest x)) }
+        ensures { IfOk result (λ scheme. IsSchemeUnder graph.now self.landmarks.items self.generation scheme) }
     {
         graph_is_sound(graph);
         let scheme = Scheme::with_numbers_apart(alloc, self.parts)?;
@@ -98,8 +91,7 @@ fn join_entries(
     mut next: Vec<Vec<Entry>>,
 ) -> Result<Vec<Vec<Entry>>, AllocError>
     requires { length lists.items ≡ length next.items }
-    ensures length { IfOk result (λ joined. length joined.items ≡ length lists.items) }
-    ensures items { IfOk result (λ joined. (x : ℕ) → items_at joined.items x ≡ items_at lists.items x ++ items_at next.items x) }
+    ensures { IfOk result (λ joined. GrowBy lists.items joined.items (items_at next.items)) }
 {
     for x in 0..lists.len() {
         append_at(&mut lists, &mut next, x)?;
@@ -117,9 +109,10 @@ fn append_at(
     requires there { at < length next.old.items }
     ensures length { OnOk result (length lists.new.items ≡ length lists.old.items) }
     ensures left { OnOk result (length next.new.items ≡ length next.old.items) }
-    ensures joined { OnOk result (items_at lists.new.items at ≡ items_at lists.old.items at ++ items_at next.old.items at) }
-    ensures others { OnOk result ((x : ℕ) → (x ≡ at → ⊥) → items_at lists.new.items x ≡ items_at lists.old.items x) }
-    ensures rest { OnOk result ((x : ℕ) → (x ≡ at → ⊥) → items_at next.new.items x ≡ items_at next.old.items x) }
+    ensures joined { OnOk result (items_at lists.new.items at
+        ≡ items_at lists.old.items at ++ items_at next.old.items at) }
+    ensures others { OnOk result (AgreeBut at (items_at lists.old.items) (items_at lists.new.items)) }
+    ensures rest { OnOk result (AgreeBut at (items_at next.old.items) (items_at next.new.items)) }
 {
     append(&mut lists[at], &mut next[at])
 }
@@ -150,9 +143,10 @@ fn choose_at(lists: &mut Vec<Vec<Listed>>, next: &mut Vec<Vec<Listed>>, at: usiz
     requires there { at < length next.old.items }
     ensures length { length lists.new.items ≡ length lists.old.items }
     ensures left { length next.new.items ≡ length next.old.items }
-    ensures joined { items_at lists.new.items at ≡ first_list (items_at lists.old.items at) (items_at next.old.items at) }
-    ensures others { (x : ℕ) → (x ≡ at → ⊥) → items_at lists.new.items x ≡ items_at lists.old.items x }
-    ensures rest { (x : ℕ) → (x ≡ at → ⊥) → items_at next.new.items x ≡ items_at next.old.items x }
+    ensures joined { items_at lists.new.items at
+        ≡ first_list (items_at lists.old.items at) (items_at next.old.items at) }
+    ensures others { AgreeBut at (items_at lists.old.items) (items_at lists.new.items) }
+    ensures rest { AgreeBut at (items_at next.old.items) (items_at next.new.items) }
 {
     choose(&mut lists[at], &mut next[at]);
 }
@@ -170,7 +164,7 @@ fn choose(list: &mut Vec<Listed>, other: &mut Vec<Listed>)
 fn join_homes(mut homes: Vec<Option<Label>>, mut next: Vec<Option<Label>>) -> Vec<Option<Label>>
     requires { length homes.items ≡ length next.items }
     ensures length { length result.items ≡ length homes.items }
-    ensures items { (v : ℕ) → or_none (slice_get result.items v) ≡ first_some (or_none (slice_get homes.items v)) (or_none (slice_get next.items v)) }
+    ensures items { (v : ℕ) → value_at result.items v ≡ first_some (value_at homes.items v) (value_at next.items v) }
 {
     for v in 0..homes.len() {
         choose_home_at(&mut homes, &mut next, v);
@@ -184,9 +178,10 @@ fn choose_home_at(homes: &mut Vec<Option<Label>>, next: &mut Vec<Option<Label>>,
     requires there { at < length next.old.items }
     ensures length { length homes.new.items ≡ length homes.old.items }
     ensures left { length next.new.items ≡ length next.old.items }
-    ensures joined { or_none (slice_get homes.new.items at) ≡ first_some (or_none (slice_get homes.old.items at)) (or_none (slice_get next.old.items at)) }
-    ensures others { (x : ℕ) → (x ≡ at → ⊥) → or_none (slice_get homes.new.items x) ≡ or_none (slice_get homes.old.items x) }
-    ensures rest { (x : ℕ) → (x ≡ at → ⊥) → or_none (slice_get next.new.items x) ≡ or_none (slice_get next.old.items x) }
+    ensures joined { value_at homes.new.items at
+        ≡ first_some (value_at homes.old.items at) (value_at next.old.items at) }
+    ensures others { AgreeBut at (value_at homes.old.items) (value_at homes.new.items) }
+    ensures rest { AgreeBut at (value_at next.old.items) (value_at next.new.items) }
 {
     choose_home(&mut homes[at], &mut next[at]);
 }

@@ -1,7 +1,7 @@
 // What a scheme's lists say of one node: a place that isn't there is empty.
-ghost use Rattle.std.specs.Prelude.{◌≡◌, ◌↔◌, IsTrue, MatchOption, Some, None, slice_get};
+ghost use Rattle.std.specs.Prelude.{◌≡◌, ◌↔◌, IsTrue, slice_get};
 ghost use Rattle.std.specs.List.Sorted.{IsStrictlyIncreasing};
-ghost use Rattle.node_table.specs.Tables.{directory_at, entries_at, nodes_of, or_false, or_none, ports_at, roots_of, tables};
+ghost use Rattle.node_table.specs.Tables.{RefersTo, directory_at, entries_at, nodes_of, or_false, ports_at, roots_of, tables, value_at};
 
 use crate::parts::{Entry, Listed, Near};
 use crate::scheme::Scheme;
@@ -16,7 +16,7 @@ fn flag_at(flags: &[bool], x: u16) -> bool
 }
 
 fn near_at(nearest: &[Option<Near>], x: u16) -> Option<Near>
-    ensures { result ≡ or_none (slice_get nearest.now x) }
+    ensures { result ≡ value_at nearest.now x }
 {
     let i = x as usize;
     if i < nearest.len() { nearest[i] } else { None }
@@ -39,7 +39,7 @@ impl Scheme {
 
     /// A node's label in the tree of its nearest landmark.
     pub fn home_label(&self, x: u16) -> Option<&Label>
-        ensures { MatchOption result ((tables self.now).home x ≡ None) (λ l. (tables self.now).home x ≡ Some l.now) }
+        ensures { RefersTo ((tables self.now).home x) result }
     {
         let homes = &self.parts().homes;
         let i = x as usize;

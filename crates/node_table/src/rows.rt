@@ -3,7 +3,7 @@ ghost use Rattle.std.specs.Prelude.{◌≡◌, ◌<◌, ◌==◌, ℕ, cond, is_
 ghost use Rattle.node_table.specs.declared.packet.Move.TheVariants.{Delivered};
 ghost use Rattle.node_table.specs.declared.packet.Refused.TheVariants.{Stray, Unreachable};
 ghost use Rattle.node_table.specs.Service.{decide as packet_given, forward_over, node_step as move_given, one_less, packet_by};
-ghost use Rattle.node_table.specs.Tables.{Tables, tables};
+ghost use Rattle.node_table.specs.Tables.{RefersTo, Tables, tables};
 
 use crate::packet::{Address, Home, Move, Packet, Refused};
 use crate::scheme::Scheme;
@@ -38,8 +38,7 @@ pub trait NodeRows {
 
     /// The label of a member of the node's own tree, where the node's directory lists the member.
     fn label(&self, member: u16) -> Option<&Label>
-        ensures { MatchOption result ((shown self.now).listed (place self.now) member ≡ None)
-            (λ l. (shown self.now).listed (place self.now) member ≡ Some l.now) };
+        ensures { RefersTo ((shown self.now).listed (place self.now) member) result };
 
     /// The node behind a port.
     fn over(&self, port: u16) -> Option<u16>

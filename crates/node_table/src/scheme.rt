@@ -1,9 +1,9 @@
-ghost use Rattle.std.specs.Prelude.{◌≡◌, ◌<◌, ◌≤◌, ◌^◌, ℕ, None, Some, IfOk, length, MatchOption, slice_get};
+ghost use Rattle.std.specs.Prelude.{◌≡◌, ◌<◌, ◌≤◌, ◌^◌, ℕ, IfOk, length, slice_get};
 ghost use Rattle.node_table.specs.Checks.{distance_of};
 ghost use Rattle.node_table.specs.Laws.{AreTreesOf};
 ghost use Rattle.node_table.specs.Ports.{index_of};
 ghost use Rattle.node_table.specs.Service.{address_given, decide as packet_given, home_of, node_step as move_given, IsOfGeneration};
-ghost use Rattle.node_table.specs.Tables.{AreAscending, entries_at, first_entry, first_listed, directory_at, nodes_of, or_none, roots_of, tables, ports_at};
+ghost use Rattle.node_table.specs.Tables.{AreAscending, RefersTo, entries_at, first_entry, first_listed, directory_at, nodes_of, roots_of, tables};
 
 use crate::numbers_apart::NumbersApart;
 use crate::packet::{Address, Home, Move, Packet, Refused};
@@ -110,7 +110,7 @@ impl Scheme {
     /// A node's first entry for a root.
     #[tactic(auto, using(crate::proofs::Basics::Searches::root_within, crate::proofs::Basics::Searches::entry_found, crate::proofs::Basics::Searches::entry_missing))]
     pub fn entry(&self, x: u16, root: u16) -> Option<&Entry>
-        ensures { MatchOption result (first_entry root (entries_at self.now x) ≡ None) (λ e. first_entry root (entries_at self.now x) ≡ Some e.now) }
+        ensures { RefersTo (first_entry root (entries_at self.now x)) result }
     {
         let (place, _) = self.place_of_entry(x, root);
         match place {
@@ -132,7 +132,7 @@ impl Scheme {
     /// A node's first label in a directory.
     #[tactic(auto, using(crate::proofs::Basics::Searches::node_within, crate::proofs::Basics::Searches::listed_found, crate::proofs::Basics::Searches::listed_missing))]
     pub fn listed(&self, u: u16, v: u16) -> Option<&Label>
-        ensures { MatchOption result (first_listed v (directory_at self.now u) ≡ None) (λ l. first_listed v (directory_at self.now u) ≡ Some l.now) }
+        ensures { RefersTo (first_listed v (directory_at self.now u)) result }
     {
         match self.place_of_label(u, v) {
             Some(i) => Some(&self.directory_of(u)[i].label),

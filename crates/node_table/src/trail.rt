@@ -1,9 +1,7 @@
 // How a scheme carries a packet from end to end.
-ghost use Rattle.std.specs.Prelude.{◌≡◌, ◌⊎◌, ◌++◌, ◌∷◌, [], ◌+◌, ◌-◌, ◌^◌, min, IfOk, IfErr, OnOk};
-ghost use Rattle.node_table.specs.declared.packet.Refused.{Refused};
-ghost use Rattle.node_table.specs.declared.trail.CarryRefused.TheVariants.{Memory};
+ghost use Rattle.std.specs.Prelude.{◌≡◌, ◌++◌, ◌∷◌, [], ◌+◌, ◌-◌, ◌^◌, min, IfOk, IfErr, OnOk};
 ghost use Rattle.node_table.specs.Tables.{tables};
-ghost use Rattle.node_table.specs.Trails.{IsTrailOf, IsRefusedOnWay, as_carried, IsCarriedWhereConnected, IsUnreachableWhereApart};
+ghost use Rattle.node_table.specs.Trails.{IsTrailOf, IsCarryRefusal, as_carried, IsCarriedWhereConnected, IsUnreachableWhereApart};
 
 use crate::packet::{Address, Move, Packet, Refused};
 use crate::scheme::Scheme;
@@ -92,7 +90,7 @@ impl Scheme {
     /// at the greatest u64, which only a scheme of made-up tables can reach.
     pub fn carry(&self, alloc: Global, u: u16, to: &Address) -> Result<Trail, CarryRefused>
         ensures trail { IfOk result (λ trail. IsTrailOf (tables self.now) u to.now trail) }
-        ensures refused { IfErr result (λ e. (e ≡ Memory) ⊎ ((r : Refused) × ((e ≡ as_carried r) × IsRefusedOnWay (tables self.now) u to.now r))) }
+        ensures refused { IfErr result (IsCarryRefusal (tables self.now) u to.now) }
         ensures connected { IsCarriedWhereConnected self.now u to.now result }
         ensures apart { IsUnreachableWhereApart self.now u to.now result }
     {

@@ -53,7 +53,9 @@ impl Wire for Address {
 // The landmark and label that bytes from the flag on spell, or why they spell none.
 fn read_home(bytes: &[u8]) -> Result<Option<Home>, WireRefused>
     requires { length bytes.now ≡ HOME_SIZE }
-    ensures { MatchResult result (λ home. (home_refusal bytes.now ≡ None) × (IsHome home × (bytes.now ≡ home_text home))) (λ refused. home_refusal bytes.now ≡ Some refused) }
+    ensures { MatchResult result
+        (λ home. (home_refusal bytes.now ≡ None) × (IsHome home × (bytes.now ≡ home_text home)))
+        (λ refused. home_refusal bytes.now ≡ Some refused) }
 {
     let flag = bytes[0];
     let rest = &bytes[1..];

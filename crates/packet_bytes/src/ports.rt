@@ -51,7 +51,9 @@ fn ports_of(count: usize, bytes: &[u8]) -> ArrayVec<u16, MOST_LIGHTS>
 /// The ports that the bytes spell, or why they spell none.
 pub(crate) fn read_ports(bytes: &[u8]) -> Result<ArrayVec<u16, MOST_LIGHTS>, WireRefused>
     requires { length bytes.now ≡ PORTS_SIZE }
-    ensures { MatchResult result (λ ports. (ports_refusal bytes.now ≡ None) × ((bytes.now ≡ ports_text ports.items) × ArePorts ports.items)) (λ e. ports_refusal bytes.now ≡ Some e) }
+    ensures { MatchResult result
+        (λ ports. (ports_refusal bytes.now ≡ None) × ((bytes.now ≡ ports_text ports.items) × ArePorts ports.items))
+        (λ e. ports_refusal bytes.now ≡ Some e) }
 {
     let count = bytes[0] as usize;
     if count > MOST_LIGHTS {

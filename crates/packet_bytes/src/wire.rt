@@ -41,5 +41,6 @@ pub trait Wire: Sized {
 
     /// The value whose spelling the bytes are, or the first case that refuses them.
     fn from_bytes(bytes: &[u8]) -> Result<Self, WireRefused>
-        ensures { MatchResult result (λ value. (refusal bytes.now ≡ None) × Spells bytes.now value) (λ refused. refusal bytes.now ≡ Some refused) };
+        ensures { MatchResult result (λ value. (refusal bytes.now ≡ None) × Spells bytes.now value)
+            (λ refused. refusal bytes.now ≡ Some refused) };
 }

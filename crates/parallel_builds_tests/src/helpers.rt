@@ -19,10 +19,7 @@ pub(crate) fn got<T, E: Drop>(rt: &impl Abort, answer: Result<T, E>) -> T {
 
 /// The graph of a table.
 pub(crate) fn graph_of(rt: &impl Abort, alloc: Global, nodes: u16, edges: &[Edge]) -> Graph {
-    match sample_networks::graph_of(alloc, nodes, edges) {
-        Ok(graph) => graph,
-        Err(refused) => panic!(rt; "{refused}"),
-    }
+    got(rt, sample_networks::graph_of(alloc, nodes, edges))
 }
 
 /// These nodes as landmarks.

@@ -1,22 +1,8 @@
 // Want of memory, and of threads. Run by `./refuse-memory`, each allocation refused in turn, whichever worker asks for it: a build
 // that is refused memory says so, and made again it gives the whole scheme. What else a test allocates it asks for again where it
 // is refused.
-use crate::helpers::{Edge, built, expect_same, graph_of, landmarks_at};
-
-/// A ring of nine nodes with two chords.
-const RING: [Edge; 11] = [
-    (0, 1, 2),
-    (1, 2, 1),
-    (2, 3, 3),
-    (3, 4, 1),
-    (4, 5, 2),
-    (5, 6, 1),
-    (6, 7, 4),
-    (7, 8, 1),
-    (8, 0, 2),
-    (1, 5, 3),
-    (3, 7, 2),
-];
+use crate::helpers::{built, expect_same, graph_of, landmarks_at};
+use sample_networks::RING;
 
 #[test]
 fn builds_in_threads_after_a_want_of_memory(rt: HostRuntime) {

@@ -1,5 +1,6 @@
 -- What a line that begins with a word asks for.
-use Rattle.std.proofs.Common.{◌≡◌, ◌≢◌, inl, inr, ℕ, List, ◌++◌, get_or, drop, Option, refl, sym, ap, subst, ◌∙◌, arith}
+use Rattle.std.proofs.Common.{◌≡◌, ◌≢◌, inl, inr, eqb, false, ℕ, List, ◌++◌, get_or, drop, Option, refl, sym, ap, subst, arith}
+use Rattle.std.proofs.lemmas.Bool.Decides.{nat_tests}
 use Rattle.packet_bytes.specs.Layout.{address_size, packet_size}
 use Rattle.packet_bytes.specs.Refusals.{address_refusal, packet_refusal}
 use Rattle.packet_bytes.specs.Spelling.{SpellsAddress, SpellsPacket}
@@ -9,8 +10,10 @@ use Rattle.router_lines.specs.declared.line.Asked.TheVariants.{Address, Launch, 
 use Rattle.router_lines.specs.Lines.{AreDigitsOf, Asks, HasNoBytes, IsAskedIn, IsHop, IsLaunch, IsUnread, address_word, hop_word, launch_word, tables_word}
 
 -- lists that begin otherwise are others
-other_front : (a b : List ℕ) (m n : ℕ) → get_or a 0 0 ≡ m → get_or b 0 0 ≡ n → m ≢ n → a ≡ b → ⊥
-other_front a b m n am bn other e = other (sym am ∙ ap (λ (l : List ℕ). get_or l 0 0) e ∙ bn)
+other_front : (a b : List ℕ) → eqb (get_or a 0 0) (get_or b 0 0) ≡ false → a ≡ b → ⊥
+other_front a b other same =
+    let first : get_or a 0 0 ≡ get_or b 0 0 = ap (λ (l : List ℕ). get_or l 0 0) same in
+    grind (arith, nat_tests, first, other)
 
 no_value : {X : Type 0} (size : ℕ) (spells : List ℕ → X → Type 0) (digits : List ℕ) (x : X) → HasNoBytes size digits → AreDigitsOf size spells digits x → ⊥
 no_value size spells digits x none are = none.1 are.bytes are.decoded
@@ -18,21 +21,6 @@ no_value size spells digits x none are = none.1 are.bytes are.decoded
 no_refusal : (size : ℕ) (refusal : List ℕ → Option WireRefused) (digits : List ℕ) (e : WireRefused) → HasNoBytes size digits → IsUnread size refusal digits e → ⊥
 no_refusal size refusal digits e none (inl u) = u.1 none.0
 no_refusal size refusal digits e none (inr u) = none.1 u.1.0 u.1.1.0
-
-l-is-not-a : ◌≢◌ {A = ℕ} 108 97
-l-is-not-a e = omega (arith, e)
-
-l-is-not-t : ◌≢◌ {A = ℕ} 108 116
-l-is-not-t e = omega (arith, e)
-
-l-is-not-h : ◌≢◌ {A = ℕ} 108 104
-l-is-not-h e = omega (arith, e)
-
-h-is-not-a : ◌≢◌ {A = ℕ} 104 97
-h-is-not-a e = omega (arith, e)
-
-h-is-not-t : ◌≢◌ {A = ℕ} 104 116
-h-is-not-t e = omega (arith, e)
 
 -- no other digits stand behind the word
 launch_digits : (digits others : List ℕ) → launch_word ++ digits ≡ launch_word ++ others → digits ≡ others
@@ -42,20 +30,20 @@ hop_digits : (digits others : List ℕ) → hop_word ++ digits ≡ hop_word ++ o
 hop_digits digits others e = ap (λ (l : List ℕ). drop 4 l) e
 
 nothing_to_launch : (digits : List ℕ) → HasNoBytes address_size digits → (asked : Asked) → Asks (launch_word ++ digits) asked → ⊥
-nothing_to_launch digits none Address e = other_front (launch_word ++ digits) address_word 108 97 refl refl l-is-not-a e
-nothing_to_launch digits none Tables e = other_front (launch_word ++ digits) tables_word 108 116 refl refl l-is-not-t e
+nothing_to_launch digits none Address e = other_front (launch_word ++ digits) address_word refl e
+nothing_to_launch digits none Tables e = other_front (launch_word ++ digits) tables_word refl e
 nothing_to_launch digits none (Launch a) (others, (e, are)) = no_value address_size SpellsAddress digits a none (subst (λ (d : List ℕ). AreDigitsOf address_size SpellsAddress d a) (sym (launch_digits digits others e)) are)
-nothing_to_launch digits none (Hop k) (others, (e, are)) = other_front (launch_word ++ digits) (hop_word ++ others) 108 104 refl refl l-is-not-h e
+nothing_to_launch digits none (Hop k) (others, (e, are)) = other_front (launch_word ++ digits) (hop_word ++ others) refl e
 nothing_to_launch digits none (Unread w) (others, inl u) = no_refusal address_size address_refusal digits w none (subst (λ (d : List ℕ). IsUnread address_size address_refusal d w) (sym (launch_digits digits others u.0)) u.1)
-nothing_to_launch digits none (Unread w) (others, inr u) = other_front (launch_word ++ digits) (hop_word ++ others) 108 104 refl refl l-is-not-h u.0
+nothing_to_launch digits none (Unread w) (others, inr u) = other_front (launch_word ++ digits) (hop_word ++ others) refl u.0
 nothing_to_launch digits none NotUnderstood e = e
 
 nothing_to_hop : (digits : List ℕ) → HasNoBytes packet_size digits → (asked : Asked) → Asks (hop_word ++ digits) asked → ⊥
-nothing_to_hop digits none Address e = other_front (hop_word ++ digits) address_word 104 97 refl refl h-is-not-a e
-nothing_to_hop digits none Tables e = other_front (hop_word ++ digits) tables_word 104 116 refl refl h-is-not-t e
-nothing_to_hop digits none (Launch a) (others, (e, are)) = other_front (launch_word ++ others) (hop_word ++ digits) 108 104 refl refl l-is-not-h (sym e)
+nothing_to_hop digits none Address e = other_front (hop_word ++ digits) address_word refl e
+nothing_to_hop digits none Tables e = other_front (hop_word ++ digits) tables_word refl e
+nothing_to_hop digits none (Launch a) (others, (e, are)) = other_front (launch_word ++ others) (hop_word ++ digits) refl (sym e)
 nothing_to_hop digits none (Hop k) (others, (e, are)) = no_value packet_size SpellsPacket digits k none (subst (λ (d : List ℕ). AreDigitsOf packet_size SpellsPacket d k) (sym (hop_digits digits others e)) are)
-nothing_to_hop digits none (Unread w) (others, inl u) = other_front (launch_word ++ others) (hop_word ++ digits) 108 104 refl refl l-is-not-h (sym u.0)
+nothing_to_hop digits none (Unread w) (others, inl u) = other_front (launch_word ++ others) (hop_word ++ digits) refl (sym u.0)
 nothing_to_hop digits none (Unread w) (others, inr u) = no_refusal packet_size packet_refusal digits w none (subst (λ (d : List ℕ). IsUnread packet_size packet_refusal d w) (sym (hop_digits digits others u.0)) u.1)
 nothing_to_hop digits none NotUnderstood e = e
 

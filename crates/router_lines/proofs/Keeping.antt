@@ -1,17 +1,13 @@
 -- What a table more keeps of a shelf.
-use Rattle.std.proofs.Common.{◌≡◌, ◌≢◌, ◌⊎◌, inl, inr, ℕ, zero, suc, ◌-◌, ◌<◌, ◌≤◌, ◌==◌, false, length, drop, Some, Result, Ok, Err, List, [], ◌∷◌, refl, sym, subst, arith, length-drop}
+use Rattle.std.proofs.Common.{◌≡◌, ◌≢◌, ◌⊎◌, inl, inr, ℕ, zero, suc, ◌-◌, ◌<◌, ◌≤◌, length, drop, Some, Result, Ok, Err, List, [], ◌∷◌, refl, sym, subst, arith, length-drop}
 use Rattle.std.specs.List.{All, AllPairs}
-use Rattle.std.proofs.lemmas.Bool.{cases_lt, eq-eqb, lt-ltb, le-ltb}
-use Rattle.std.proofs.lemmas.Bool.Decides.{nat_tests}
+use Rattle.std.proofs.lemmas.Bool.{cases_lt, eq-eqb, lt-ltb, le-ltb, ne_eqb}
 use Rattle.std.proofs.lemmas.List.Elements.{All-nil, All-cons, All-head, All-tail, All-drop}
 use Rattle.std.proofs.lemmas.List.Kept.{AllPairs-cons}
 use Rattle.router_table.specs.Table.{Table}
 use Rattle.std.specs.Prelude.{OnOk, OnErr}
 use Rattle.router_lines.specs.declared.shelf.LoadRefused.{LoadRefused}
 use Rattle.router_lines.specs.Shelves.{IsOf, IsOlder, IsPut, IsShelf, Shelf, most_tables, newest, table_in, with_table}
-
-unequal : (x n : ℕ) → x ≢ n → (x == n) ≡ false
-unequal x n other = grind (arith, nat_tests)
 
 older_tail : (b : Table) (bs : List Table) → AllPairs IsOlder (b ∷ bs) → AllPairs IsOlder bs
 older_tail b bs h = λ i j d lt within. h (suc i) (suc j) d (omega arith) (omega arith)
@@ -30,7 +26,7 @@ module _ (a : Table) where
   by_first Q b bs behind for before = first (cases_lt b.head.generation a.head.generation)
     where
       other : b.head.generation ≢ a.head.generation → a.head.generation ≤ b.head.generation → (a ∷ b ∷ bs) ≡ with_table a (b ∷ bs)
-      other apart le = rw (le-ltb b.head.generation a.head.generation le, unequal b.head.generation a.head.generation apart) refl
+      other apart le = rw (le-ltb b.head.generation a.head.generation le, ne_eqb b.head.generation a.head.generation apart) refl
 
       same : b.head.generation ≡ a.head.generation → (a ∷ bs) ≡ with_table a (b ∷ bs)
       same e = rw (le-ltb b.head.generation a.head.generation (omega (arith, e)), eq-eqb b.head.generation a.head.generation e) refl
@@ -72,7 +68,7 @@ module _ (a : Table) where
   found_with [] = rw (eq-eqb a.head.generation a.head.generation refl) refl
   found_with (b ∷ bs) =
       by_first (λ ts. table_in ts a.head.generation ≡ Some a) b bs
-      (λ lt. rw (unequal b.head.generation a.head.generation (λ e. omega (arith, lt, e))) (found_with bs))
+      (λ lt. rw (ne_eqb b.head.generation a.head.generation (λ e. omega (arith, lt, e))) (found_with bs))
       (λ _. rw (eq-eqb a.head.generation a.head.generation refl) refl)
       (λ _. rw (eq-eqb a.head.generation a.head.generation refl) refl)
 

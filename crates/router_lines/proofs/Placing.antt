@@ -1,27 +1,13 @@
 -- Where a table goes among those of a shelf.
-use Rattle.std.proofs.Common.{◌≡◌, ◌≢◌, ℕ, zero, suc, ◌-◌, ◌<◌, ◌≤◌, ◌==◌, nat_lt, true, false, length, drop, Some, Result, Ok, Err, List, [], ◌∷◌, refl, sym, ap, subst, ◌∙◌, arith}
+use Rattle.std.proofs.Common.{◌≡◌, ℕ, zero, suc, ◌-◌, ◌<◌, ◌≤◌, nat_lt, true, false, length, drop, Some, List, [], ◌∷◌, refl, sym, ap, subst, ◌∙◌, arith}
 use Rattle.std.specs.List.{insert, remove}
-use Rattle.std.proofs.lemmas.Bool.{eq-eqb, lt-ltb, le-ltb}
-use Rattle.std.proofs.lemmas.Bool.Decides.{nat_tests}
+use Rattle.std.proofs.lemmas.Bool.{eq-eqb, lt-ltb, le-ltb, ne_eqb}
 use Rattle.std.proofs.lemmas.List.Edits.{length-insert, length-remove}
 use Rattle.router_table.specs.Table.{Table}
-use Rattle.std.specs.Prelude.{OnOk}
-use Rattle.router_lines.specs.declared.shelf.LoadRefused.{LoadRefused}
 use Rattle.router_lines.proofs.Keeping.{found_with}
 use Rattle.router_lines.specs.Shelves.{IsAt, IsPlaceOf, IsPut, IsTooOld, most_tables, newest, table_in, with_table}
 
-unequal : (x n : ℕ) → x ≢ n → (x == n) ≡ false
-unequal x n other = grind (arith, nat_tests)
-
--- what an Ok says, said otherwise
-pub on_ok : {A B : Type 0} (r : Result (Unit {0}) LoadRefused) → (A → B) → OnOk r A → OnOk r B
-on_ok (Ok u) f h = f h
-on_ok (Err e) f h = h
-
 module _ (a : Table) where
-  generation : ℕ
-  generation = a.head.generation
-
   in_rest : (b : Table) (bs : List Table) (p : ℕ) → IsPlaceOf (b ∷ bs) a.head.generation (suc p) → IsPlaceOf bs a.head.generation p
   in_rest b bs p is = record { within = omega (arith, is.within); older = λ k d lt. is.older (suc k) d (omega arith); newer = λ d lt. is.newer d (omega arith) }
 
@@ -38,7 +24,7 @@ module _ (a : Table) where
   pub placed_new : (bs : List Table) (p : ℕ) → IsPlaceOf bs a.head.generation p → (IsAt bs a.head.generation p → ⊥) → with_table a bs ≡ insert bs p a
   placed_new [] zero is other = refl
   placed_new [] (suc p) is other = absurd (omega (arith, is.within))
-  placed_new (b ∷ bs) zero is other = rw (newer_first b bs is, unequal b.head.generation a.head.generation (λ e. other (omega arith, λ d. e))) refl
+  placed_new (b ∷ bs) zero is other = rw (newer_first b bs is, ne_eqb b.head.generation a.head.generation (λ e. other (omega arith, λ d. e))) refl
   placed_new (b ∷ bs) (suc p) is other = rw (older_first b bs p is) (ap (λ (ts : List Table). b ∷ ts) (placed_new bs p (in_rest b bs p is) (λ at. other (at_rest b bs p at))))
 
   -- one of the same generation is replaced

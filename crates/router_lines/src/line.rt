@@ -26,7 +26,8 @@ pub enum Asked {
 /// What stands behind a word at the front of a line.
 #[tactic(auto, using(crate::proofs::Fronts::short_front, crate::proofs::Fronts::front_of_other, crate::proofs::Fronts::front_and_rest))]
 fn behind<'a>(line: &'a [u8], word: &[u8]) -> Option<&'a [u8]>
-    ensures { MatchOption result ((rest : List ℕ) → line.now ≢ word.now ++ rest) (λ rest. line.now ≡ word.now ++ rest.now) }
+    ensures { MatchOption result ((rest : List ℕ) → line.now ≢ word.now ++ rest)
+        (λ rest. line.now ≡ word.now ++ rest.now) }
 {
     if line.len() < word.len() {
         return None;
@@ -37,7 +38,8 @@ fn behind<'a>(line: &'a [u8], word: &[u8]) -> Option<&'a [u8]>
 
 /// The file that a line names behind `load `.
 pub fn file_in(line: &[u8]) -> Option<&[u8]>
-    ensures { MatchOption result ((file : List ℕ) → line.now ≢ load_word ++ file) (λ file. line.now ≡ load_word ++ file.now) }
+    ensures { MatchOption result ((file : List ℕ) → line.now ≢ load_word ++ file)
+        (λ file. line.now ≡ load_word ++ file.now) }
 {
     behind(line, b"load ")
 }

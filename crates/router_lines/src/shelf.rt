@@ -146,7 +146,8 @@ fn put(tables: &mut Vec<RouterTable>, table: RouterTable) -> Result<(), LoadRefu
 
 /// The table of a generation.
 fn table_of(tables: &[RouterTable], generation: u64) -> Option<&RouterTable>
-    ensures { MatchOption result (table_in tables.now generation ≡ None) (λ a. table_in tables.now generation ≡ Some a.now) }
+    ensures { MatchOption result (table_in tables.now generation ≡ None)
+        (λ a. table_in tables.now generation ≡ Some a.now) }
 {
     for table in tables {
         if table.head().generation == generation {

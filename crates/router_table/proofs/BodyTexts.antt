@@ -1,35 +1,29 @@
 -- Heads, lists and bodies: what was read is what was written, and what was written is read again.
-use Rattle.std.proofs.Common.{◌≡◌, ◌≢◌, ℕ, zero, suc, ◌+◌, ◌-◌, ◌^◌, ◌<◌, ◌≤◌, ◌==◌, Bool, true, false, cond, ltb, eqb, List, [], ◌∷◌, ◌++◌, length, take, drop, Option, Some, None, IfSome, MatchOption, refl, sym, ap, subst, ◌∙◌, append_assoc, arith}
+use Rattle.std.proofs.Common.{◌≡◌, ◌≢◌, ℕ, ◌^◌, ◌<◌, ◌≤◌, ◌==◌, Bool, true, false, eqb, List, [], ◌++◌, length, take, drop, Option, Some, None, MatchOption, refl, sym, ap, subst, ◌∙◌, arith}
 use Rattle.std.specs.Int.{w16, w64, to_be_bytes}
-use Rattle.std.specs.List.{flat_map}
 use Rattle.std.proofs.lemmas.Bool.{eqb-true}
-use Rattle.std.proofs.lemmas.List.{append-nil, drop_at, length-append, nil_from_length, take_at, take-append-drop}
+use Rattle.std.proofs.lemmas.List.{append-nil, drop_at, nil_from_length, take_at, take-append-drop, take-take}
+use Rattle.std.proofs.lemmas.Option.{cond_some, same_Some}
 use Rattle.node_table.specs.declared.packet.Address.{Address}
 use Rattle.node_table.specs.declared.packet.Home.{Home}
 use Rattle.node_table.specs.declared.parts.Listed.{Listed}
 use Rattle.packet_bytes.specs.declared.wire.WireRefused.{WireRefused}
 use Rattle.packet_bytes.specs.Layout.{address_size}
-use Rattle.packet_bytes.specs.Refusals.{address_refusal, home_refusal}
+use Rattle.packet_bytes.specs.Refusals.{address_refusal}
 use Rattle.packet_bytes.specs.Spelling.{IsHome, SpellsAddress, address_text}
 use Rattle.packet_bytes.proofs.Spellings.{addresses_are_read, one_address}
 use Rattle.router_table.specs.declared.head.Head.{Head}
 use Rattle.router_table.specs.declared.tree_entry.TreeEntry.{TreeEntry}
 use Rattle.router_table.specs.Order.{IsHead, IsHomeAmong, IsTable}
-use Rattle.router_table.specs.Reading.{◌>>=◌, GaveNothing, IsHeadIn, IsHeadWith, IsTableIn, entry_at, list_at, lists_at, member_at, number_at, numbers_at}
+use Rattle.router_table.specs.Reading.{GaveNothing, IsHeadIn, IsHeadWith, IsTableIn, entry_at, list_at, lists_at, member_at, number_at, numbers_at}
 use Rattle.router_table.specs.declared.refused.ReadRefused.{ReadRefused}
 use Rattle.router_table.specs.declared.refused.ReadRefused.TheVariants.{NoTable, UnknownVersion, CutShort, TooLong, Damaged, NotInOrder, Memory}
 use Rattle.router_table.specs.Refusals.{IsBodyRefused, head_size}
 use Rattle.router_table.specs.Spelling.{number, letters, version, router_text, head_text, list_text, lists_text, entry_text, member_text, body_text}
 use Rattle.router_table.specs.Table.{Table, address_of}
 use Rattle.router_table.proofs.Fits.{few_ports, few_entries, few_members, ports_fit, entries_fit, members_fit}
-use Rattle.router_table.proofs.ItemTexts.{IsNumber, EntryFits, MemberFits, number_item, entry_item, member_item}
-use Rattle.router_table.proofs.Taking.{IsBytes, IsBytes-drop, Takes, Takes-then, bind_some, some_is, passed_some, u16_takes, u16_again, number_takes, number_again, wide64, list_takes, list_again}
-
-pub take_take : {X : Type 0} (i n : ℕ) (xs : List X) → i ≤ n → take i (take n xs) ≡ take i xs
-take_take zero n xs le = refl
-take_take (suc i) zero xs le = absurd (omega arith)
-take_take (suc i) (suc n) [] le = refl
-take_take (suc i) (suc n) (x ∷ xs) le = ap (λ (ys : List _). x ∷ ys) (take_take i n xs (omega arith))
+use Rattle.router_table.proofs.ItemTexts.{entry_item, member_item}
+use Rattle.router_table.proofs.Taking.{IsBytes, IsBytes-drop, bind_some, half, list_again, list_takes, long}
 
 -- ---- heads
 
@@ -51,32 +45,31 @@ sized bytes none = go (length bytes == address_size) refl none
 length_address : (h : Head) → IsHead h → length (address_text (address_of h)) ≡ 42
 length_address h ok = sized (address_text (address_of h)) (addresses_are_read _ (address_of h) (spells h ok))
 
+abbrev Numbers : Type 0
+Numbers = ℕ × ℕ × ℕ × List ℕ
+
 abbrev numbers_text : ℕ → ℕ → ℕ → List ℕ → List ℕ
 numbers_text generation nodes node rest = to_be_bytes w64 generation ++ (number nodes ++ (number node ++ rest))
 
-pub numbers_take : (bytes : List ℕ) (g n x : ℕ) (rest : List ℕ) → IsBytes bytes → numbers_at bytes ≡ Some (g, n, x, rest) → bytes ≡ numbers_text g n x rest
+numbers_take : (bytes : List ℕ) (x : Numbers) → IsBytes bytes → numbers_at bytes ≡ Some x → bytes ≡ numbers_text x.0 x.1 x.2 x.3
 unfolding numbers_at
-numbers_take bytes g n x rest ok e =
-    let a = bind_some (number_at w64 bytes) _ (g, n, x, rest) e in
-    let b = bind_some (number_at w16 a.0.1) _ (g, n, x, rest) a.2 in
-    let c = bind_some (number_at w16 b.0.1) _ (g, n, x, rest) b.2 in
-    let ta = number_takes w64 (2 ^ 64) wide64 bytes a.0.0 a.0.1 ok a.1 in
-    let tb = u16_takes a.0.1 b.0.0 b.0.1 ta.rest_fits b.1 in
-    let tc = u16_takes b.0.1 c.0.0 c.0.1 tb.rest_fits c.1 in
-    let made : ℕ × ℕ × ℕ × List ℕ = (a.0.0, b.0.0, c.0.0, c.0.1) in
-    subst (λ (y : ℕ × ℕ × ℕ × List ℕ). bytes ≡ numbers_text y.0 y.1 y.2 y.3) (some_is made (g, n, x, rest) c.2)
+numbers_take bytes x ok e =
+    let a = bind_some (number_at w64 bytes) _ x e in
+    let b = bind_some (number_at w16 a.0.1) _ x a.2 in
+    let c = bind_some (number_at w16 b.0.1) _ x b.2 in
+    let ta = long.takes bytes a.0 ok a.1 in
+    let tb = half.takes a.0.1 b.0 ta.rest_fits b.1 in
+    let tc = half.takes b.0.1 c.0 tb.rest_fits c.1 in
+    subst (λ (y : Numbers). bytes ≡ numbers_text y.0 y.1 y.2 y.3) (same_Some (a.0.0, b.0.0, c.0.0, c.0.1) x c.2)
     (ta.parts ∙ ap (λ (t : List ℕ). to_be_bytes w64 a.0.0 ++ t) (tb.parts ∙ ap (λ (t : List ℕ). number b.0.0 ++ t) tc.parts))
 
 numbers_again : (g n x : ℕ) (rest : List ℕ) → g < 2 ^ 64 → n < 2 ^ 16 → x < 2 ^ 16 → numbers_at (numbers_text g n x rest) ≡ Some (g, n, x, rest)
 unfolding numbers_at
-numbers_again g n x rest lg ln lx = rw (number_again w64 (2 ^ 64) wide64 g (number n ++ (number x ++ rest)) lg, u16_again n (number x ++ rest) ln, u16_again x rest lx) refl
+numbers_again g n x rest lg ln lx = rw (long.again g (number n ++ (number x ++ rest)) lg, half.again n (number x ++ rest) ln, half.again x rest lx) refl
 
 pub router_again : (h : Head) → IsHead h → numbers_at (router_text h) ≡ Some (h.generation, h.nodes, h.node, address_text (address_of h))
 unfolding router_text
 router_again h ok = numbers_again h.generation h.nodes h.node (address_text (address_of h)) ok.generation ok.nodes (omega (arith, ok.node, ok.nodes))
-
-abbrev Numbers : Type 0
-Numbers = ℕ × ℕ × ℕ × List ℕ
 
 none_some : {X : Type 0} {x : X} {o : Option X} → o ≡ None → o ≡ Some x → ⊥
 none_some e f = cc
@@ -87,7 +80,7 @@ no_numbers bytes none h ok same = none_some none (ap numbers_at same ∙ router_
 pub same_numbers : (bytes : List ℕ) (g n x : ℕ) (rest : List ℕ) (h : Head) → numbers_at bytes ≡ Some (g, n, x, rest) → IsHead h → bytes ≡ router_text h
     → (h.generation ≡ g) × (h.nodes ≡ n) × (h.node ≡ x) × (address_text (address_of h) ≡ rest)
 same_numbers bytes g n x rest h found ok same =
-    let e : (h.generation, h.nodes, h.node, address_text (address_of h)) ≡ (g, n, x, rest) = some_is {A = Numbers} _ _ (sym (router_again h ok) ∙ ap numbers_at (sym same) ∙ found) in
+    let e : (h.generation, h.nodes, h.node, address_text (address_of h)) ≡ (g, n, x, rest) = same_Some {A = Numbers} _ _ (sym (router_again h ok) ∙ ap numbers_at (sym same) ∙ found) in
     (ap (λ (y : Numbers). y.0) e, ap (λ (y : Numbers). y.1) e, ap (λ (y : Numbers). y.2) e, ap (λ (y : Numbers). y.3) e)
 
 pub no_address : (bytes : List ℕ) (g n x : ℕ) (rest : List ℕ) (refused : WireRefused) → numbers_at bytes ≡ Some (g, n, x, rest) → address_refusal rest ≡ Some refused → (h : Head) → IsHead h → bytes ≢ router_text h
@@ -106,7 +99,7 @@ unfolding router_text
 its_address bytes g n x rest a h ok found spelled with =
     let same : router_text h ≡ numbers_text g n x (address_text (record { generation = g; node = x; home = a.home })) = ap router_text with.same_head in
     let address : record { generation = g; node = x; home = a.home } ≡ a = λ i. record { generation = sym with.same_generation i; node = sym with.same_node i; home = a.home } in
-    numbers_take bytes g n x rest ok found ∙ ap (numbers_text g n x) (spelled.text ∙ ap address_text (sym address)) ∙ sym same
+    numbers_take bytes (g, n, x, rest) ok found ∙ ap (numbers_text g n x) (spelled.text ∙ ap address_text (sym address)) ∙ sym same
 
 its_head : (bytes : List ℕ) (g n x : ℕ) (rest : List ℕ) (a : Address) (h : Head) → numbers_at bytes ≡ Some (g, n, x, rest) → SpellsAddress rest a → IsHeadWith g n x a h → (k : Head) → IsHead k → bytes ≡ router_text k → k ≡ h
 its_head bytes g n x rest a h found spelled with k ok same =
@@ -131,21 +124,22 @@ length_head h ok = omega (arith, length_router h ok)
 
 -- ---- lists
 
-pub lists_take : (bytes : List ℕ) (ports : List ℕ) (entries : List TreeEntry) (directory : List Listed) → IsBytes bytes → lists_at bytes ≡ Some (ports, entries, directory) → bytes ≡ lists_text ports entries directory
+abbrev pub Lists : Type 0
+Lists = List ℕ × List TreeEntry × List Listed
+
+lists_take : (bytes : List ℕ) (x : Lists) → IsBytes bytes → lists_at bytes ≡ Some x → bytes ≡ lists_text x.0 x.1 x.2
 unfolding lists_at lists_text
-lists_take bytes ports entries directory ok e =
-    let all : List ℕ × List TreeEntry × List Listed = (ports, entries, directory) in
-    let a = bind_some (list_at (number_at w16) bytes) _ all e in
-    let b = bind_some (list_at entry_at a.0.1) _ all a.2 in
-    let c = bind_some (list_at member_at b.0.1) _ all b.2 in
-    let made : List ℕ × List TreeEntry × List Listed = (a.0.0, b.0.0, c.0.0) in
-    let g = passed_some (eqb (length c.0.1) 0) made all c.2 in
-    let ta = list_takes number IsNumber (number_at w16) number_item bytes a.0.0 a.0.1 ok a.1 in
-    let tb = list_takes entry_text EntryFits entry_at entry_item a.0.1 b.0.0 b.0.1 ta.rest_fits b.1 in
-    let tc = list_takes member_text MemberFits member_at member_item b.0.1 c.0.0 c.0.1 tb.rest_fits c.1 in
+lists_take bytes x ok e =
+    let a = bind_some (list_at (number_at w16) bytes) _ x e in
+    let b = bind_some (list_at entry_at a.0.1) _ x a.2 in
+    let c = bind_some (list_at member_at b.0.1) _ x b.2 in
+    let g = cond_some (eqb (length c.0.1) 0) (a.0.0, b.0.0, c.0.0) x c.2 in
+    let ta = list_takes half bytes a.0 ok a.1 in
+    let tb = list_takes entry_item a.0.1 b.0 ta.rest_fits b.1 in
+    let tc = list_takes member_item b.0.1 c.0 tb.rest_fits c.1 in
     let nothing : c.0.1 ≡ [] = nil_from_length c.0.1 (eqb-true _ _ g.0) in
     let last : b.0.1 ≡ list_text member_text c.0.0 = tc.parts ∙ ap (λ (t : List ℕ). list_text member_text c.0.0 ++ t) nothing ∙ append-nil (list_text member_text c.0.0) in
-    subst (λ (y : List ℕ × List TreeEntry × List Listed). bytes ≡ list_text number y.0 ++ (list_text entry_text y.1 ++ list_text member_text y.2)) g.1
+    subst (λ (y : Lists). bytes ≡ list_text number y.0 ++ (list_text entry_text y.1 ++ list_text member_text y.2)) g.1
     (ta.parts ∙ ap (λ (t : List ℕ). list_text number a.0.0 ++ t) (tb.parts ∙ ap (λ (t : List ℕ). list_text entry_text b.0.0 ++ t) last))
 
 pub lists_again : (a : Table) → IsTable a → lists_at (lists_text a.ports a.entries a.directory) ≡ Some (a.ports, a.entries, a.directory)
@@ -153,10 +147,10 @@ unfolding lists_at lists_text
 lists_again a ok =
     let members = list_text member_text a.directory in
     let entries = list_text entry_text a.entries ++ members in
-    let last : list_at member_at members ≡ Some (a.directory, []) = ap (list_at member_at) (sym (append-nil members)) ∙ list_again member_text MemberFits member_at member_item a.directory [] (few_members a ok) (members_fit a ok) in
+    let last : list_at member_at members ≡ Some (a.directory, []) = ap (list_at member_at) (sym (append-nil members)) ∙ list_again member_item a.directory [] (few_members a ok) (members_fit a ok) in
     rw (
-      list_again number IsNumber (number_at w16) number_item a.ports entries (few_ports a ok) (ports_fit a ok),
-      list_again entry_text EntryFits entry_at entry_item a.entries members (few_entries a ok) (entries_fit a ok),
+      list_again half a.ports entries (few_ports a ok) (ports_fit a ok),
+      list_again entry_item a.entries members (few_entries a ok) (entries_fit a ok),
       last,
     ) refl
 
@@ -199,9 +193,9 @@ body_text_read : (body : List ℕ) (a : Table) → IsBytes body → take 8 body 
 unfolding body_text head_text
 body_text_read body a ok front long router lists =
     let head = take head_size body in
-    let first : take 8 head ≡ letters ++ version = take_take 8 head_size body (omega arith) ∙ front in
+    let first : take 8 head ≡ letters ++ version = take-take 8 head_size body (omega arith) ∙ front in
     let text : head ≡ head_text a.head = sym (take-append-drop 8 head) ∙ ap (λ (t : List ℕ). t ++ drop 8 head) first ∙ ap (λ (t : List ℕ). (letters ++ version) ++ t) router in
-    sym (take-append-drop head_size body) ∙ ap (λ (t : List ℕ). t ++ drop head_size body) text ∙ ap (λ (t : List ℕ). head_text a.head ++ t) (lists_take (drop head_size body) a.ports a.entries a.directory (IsBytes-drop head_size body ok) lists)
+    sym (take-append-drop head_size body) ∙ ap (λ (t : List ℕ). t ++ drop head_size body) text ∙ ap (λ (t : List ℕ). head_text a.head ++ t) (lists_take (drop head_size body) (a.ports, a.entries, a.directory) (IsBytes-drop head_size body ok) lists)
 
 pub body_read : (body front rest : List ℕ) (a : Table) → IsBytes body → take 8 body ≡ letters ++ version → head_size ≤ length body → front ≡ take head_size body → rest ≡ drop head_size body
     → IsHeadIn (drop 8 front) a.head → lists_at rest ≡ Some (a.ports, a.entries, a.directory) → IsTableIn body a
@@ -213,7 +207,7 @@ body_read body front rest a ok first long front_is rest_is head lists =
       only = λ (b : Table) (fits : IsTable b) (same : body ≡ body_text b). (
           let parts = body_parts b fits in
           let heads : b.head ≡ a.head = head.only b.head fits.head (ap (λ (t : List ℕ). drop 8 t) (front_is ∙ ap (λ (t : List ℕ). take head_size t) same ∙ parts.0) ∙ (head_front b.head).1) in
-          let all : (b.ports, b.entries, b.directory) ≡ (a.ports, a.entries, a.directory) = some_is {A = List ℕ × List TreeEntry × List Listed} _ _
+          let all : (b.ports, b.entries, b.directory) ≡ (a.ports, a.entries, a.directory) = same_Some {A = Lists} _ _
           (sym (ap lists_at (ap (λ (t : List ℕ). drop head_size t) same ∙ parts.1) ∙ lists_again b fits) ∙ found) in
           λ i. record { head = heads i; ports = (all i).0; entries = (all i).1; directory = (all i).2 });
     }

@@ -1,12 +1,12 @@
 -- How many items there are in order, and that what is in order has bytes.
-use Rattle.std.proofs.Common.{◌≡◌, ℕ, zero, suc, ◌+◌, ◌-◌, ◌^◌, ◌<◌, ◌≤◌, length, get_or, List, [], ◌∷◌, Option, Some, None, IfSome, refl, sym, subst, arith}
-use Rattle.std.specs.List.{All, AllByRecursion}
+use Rattle.std.proofs.Common.{◌≡◌, ℕ, zero, suc, ◌+◌, ◌^◌, ◌<◌, ◌≤◌, length, get_or, List, [], ◌∷◌, Option, Some, None, IfSome, subst, arith}
+use Rattle.std.specs.List.{AllByRecursion}
 use Rattle.std.proofs.lemmas.List.Elements.{recursion_from_All}
 use Rattle.heavy_labels.specs.declared.tree_record.Record.{Record}
 use Rattle.node_table.specs.declared.parts.Listed.{Listed}
 use Rattle.router_table.specs.declared.tree_entry.TreeEntry.{TreeEntry}
 use Rattle.router_table.specs.Items.{AreInOrder}
-use Rattle.router_table.specs.Order.{AreLists, IsHead, IsRecord, IsTable}
+use Rattle.router_table.specs.Order.{IsRecord, IsTable}
 use Rattle.router_table.specs.Spelling.{no_port}
 use Rattle.router_table.specs.Table.{Table}
 use Rattle.router_table.proofs.ItemTexts.{EntryFits, HasBytes, IsNumber, MemberFits}

@@ -1,14 +1,13 @@
 -- The form of tables that were written, and that these are read, each as the one table that it is of.
-use Rattle.std.proofs.Common.{◌≡◌, ℕ, zero, suc, ◌+◌, ◌-◌, ◌*◌, ◌^◌, ◌<◌, ◌≤◌, Bool, true, false, cond, ltb, List, [], ◌∷◌, ◌++◌, length, get_or, take, drop, Option, Some, None, refl, sym, ap, subst, ◌∙◌, append_assoc, arith}
-use Rattle.std.specs.Int.{w16, from_be_bytes, to_be_bytes}
+use Rattle.std.proofs.Common.{◌≡◌, ℕ, suc, ◌-◌, ◌*◌, ◌^◌, ◌<◌, ◌≤◌, false, ltb, List, [], ◌∷◌, ◌++◌, length, take, drop, Option, Some, None, refl, sym, ap, subst, ◌∙◌, append_assoc, arith}
+use Rattle.std.specs.Int.{w16, from_be_bytes}
 use Rattle.std.specs.List.{flat_map}
 use Rattle.std.proofs.lemmas.Bool.{le-ltb}
 use Rattle.std.proofs.lemmas.List.{drop_at, length-append, take-append-drop, take_at}
 use Rattle.std.proofs.lemmas.List.Concat.{flat_map-cons}
 use Rattle.std.proofs.lemmas.Nat.{from_be_bytes-to_be_bytes_2}
+use Rattle.std.proofs.lemmas.Option.{none-some, same_Some}
 use Rattle.sha2.proofs.Facts256.{length-sha256}
-use Rattle.node_table.specs.declared.packet.Address.{Address}
-use Rattle.node_table.specs.declared.packet.Home.{Home}
 use Rattle.node_table.specs.declared.parts.Listed.{Listed}
 use Rattle.packet_bytes.specs.Spelling.{SpellsAddress, address_text}
 use Rattle.packet_bytes.proofs.Spellings.{one_address}
@@ -18,13 +17,12 @@ use Rattle.router_table.specs.declared.refused.ReadRefused.{ReadRefused}
 use Rattle.router_table.specs.declared.refused.ReadRefused.TheVariants.{NoTable, UnknownVersion, CutShort, TooLong, Damaged, NotInOrder, Memory}
 use Rattle.router_table.specs.Laws.{OneTable, TablesAreRead}
 use Rattle.router_table.specs.Order.{IsHead, IsTable}
-use Rattle.router_table.specs.Reading.{◌>>=◌, IsTableIn, lists_at}
-use Rattle.router_table.specs.Refusals.{HasDigest, HasForm, HasLetters, HasVersion, IsBodyOf, IsBodyRefused, IsLong, IsRefusedFor, IsShort, behind, behind_body, behind_directory, behind_items, behind_members, body_in, digest_in, digest_size, entry_size, head_size}
-use Rattle.router_table.specs.Spelling.{SpellsTable, body_text, digest_of, entry_text, head_text, list_text, lists_text, member_text, number, router_text, table_text}
+use Rattle.router_table.specs.Reading.{IsTableIn, lists_at}
+use Rattle.router_table.specs.Refusals.{HasDigest, HasLetters, HasVersion, IsBodyOf, IsBodyRefused, IsLong, IsRefusedFor, IsShort, behind, behind_body, behind_directory, behind_items, behind_members, body_in, digest_in, digest_size, entry_size, head_size}
+use Rattle.router_table.specs.Spelling.{SpellsTable, body_text, digest_of, entry_text, head_text, list_text, lists_text, member_text, number, router_text}
 use Rattle.router_table.specs.Table.{Table, address_of}
 use Rattle.router_table.proofs.Fits.{few_ports, few_entries, few_members}
-use Rattle.router_table.proofs.Taking.{some_is}
-use Rattle.router_table.proofs.BodyTexts.{body_parts, head_front, length_head, lists_again, router_again, same_numbers, spells}
+use Rattle.router_table.proofs.BodyTexts.{Lists, body_parts, head_front, length_head, lists_again, router_again, same_numbers, spells}
 
 -- ---- sizes
 
@@ -129,16 +127,13 @@ version_text bytes a spelled = ap (λ (t : List ℕ). take 2 (drop 6 t)) spelled
 digest_text : (bytes : List ℕ) (a : Table) → SpellsTable bytes a → HasDigest bytes
 digest_text bytes a spelled = (let both = body_of_text bytes a spelled in both.1 ∙ ap digest_of (sym both.0))
 
-none_some : {x : List ℕ} → None ≡ Some x → ⊥
-none_some e = cc
-
 not_short : (rest : List ℕ) (o : Option (List ℕ)) → o ≡ Some rest → length rest ≡ digest_size → IsShort o → ⊥
-not_short rest None e len short = none_some e
-not_short rest (Some r) e len short = omega (arith, short, len, ap length (some_is r rest e))
+not_short rest None e len short = none-some rest e
+not_short rest (Some r) e len short = omega (arith, short, len, ap length (same_Some r rest e))
 
 not_long : (rest : List ℕ) (o : Option (List ℕ)) → o ≡ Some rest → length rest ≡ digest_size → IsLong o → ⊥
 not_long rest None e len long = long
-not_long rest (Some r) e len long = omega (arith, long, len, ap length (some_is r rest e))
+not_long rest (Some r) e len long = omega (arith, long, len, ap length (same_Some r rest e))
 
 pub tables_are_read : TablesAreRead
 tables_are_read bytes a NoTable spelled refused = absurd (refused (letters_text bytes a spelled))
@@ -166,7 +161,7 @@ one_table bytes a b sa sb =
     sym (ap (λ (t : List ℕ). drop 8 t) pa.0 ∙ (head_front a.head).1) ∙ ap (λ (t : List ℕ). drop 8 (take head_size t)) bodies ∙ ap (λ (t : List ℕ). drop 8 t) pb.0 ∙ (head_front b.head).1 in
     let head = same_head a.head b.head sa.fits.head sb.fits.head heads in
     let lists : lists_text a.ports a.entries a.directory ≡ lists_text b.ports b.entries b.directory = sym pa.1 ∙ ap (λ (t : List ℕ). drop head_size t) bodies ∙ pb.1 in
-    let all : (a.ports, a.entries, a.directory) ≡ (b.ports, b.entries, b.directory) = some_is {A = List ℕ × List TreeEntry × List Listed} _ _ (sym (lists_again a sa.fits) ∙ ap lists_at lists ∙ lists_again b sb.fits) in
+    let all : (a.ports, a.entries, a.directory) ≡ (b.ports, b.entries, b.directory) = same_Some {A = Lists} _ _ (sym (lists_again a sa.fits) ∙ ap lists_at lists ∙ lists_again b sb.fits) in
     λ i. record { head = head i; ports = (all i).0; entries = (all i).1; directory = (all i).2 }
 
 -- ---- what was refused

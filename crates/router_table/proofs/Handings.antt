@@ -1,8 +1,7 @@
 -- A table says of its node what the tables of all nodes say, so packets go by it as by them.
-use Rattle.std.proofs.Common.{◌≡◌, ℕ, zero, suc, ◌+◌, ◌-◌, ◌<◌, ◌≤◌, ◌==◌, nat_lt, ◌&&◌, Bool, true, false, cond, List, [], ◌∷◌, length, map, Option, Some, None, refl, sym, ap, subst, ◌∙◌, arith}
-use Rattle.std.specs.Prelude.{Result, Ok, Err, is_some, option_map, slice_get}
+use Rattle.std.proofs.Common.{◌≡◌, ℕ, ◌+◌, ◌-◌, ◌<◌, ◌==◌, nat_lt, ◌&&◌, Bool, true, false, cond, List, [], ◌∷◌, length, map, Option, Some, None, refl, sym, ap, subst, ◌∙◌, arith}
+use Rattle.std.specs.Prelude.{Result, Ok, Err, is_some, option_map}
 use Rattle.std.proofs.lemmas.Bool.Decides.{nat_tests}
-use Rattle.graph_edits.specs.Edges.{Network}
 use Rattle.heavy_labels.specs.Label.{Label}
 use Rattle.heavy_labels.specs.Numbering.{Step, arrived, port, no_parent, no_light, step}
 use Rattle.heavy_labels.specs.Stepped.{record_of}
@@ -17,11 +16,11 @@ use Rattle.node_table.specs.declared.packet.Refused.TheVariants.{NoNode, Stray, 
 use Rattle.node_table.specs.declared.parts.Entry.{Entry}
 use Rattle.node_table.specs.declared.parts.Listed.{Listed}
 use Rattle.node_table.specs.declared.parts.Parts.{Parts}
-use Rattle.node_table.specs.Service.{Arrives, Carries, address, address_given, by_directory, decide, forward_over, home_of, move_at, move_by, node_step, one_less, packet_by, through_home}
+use Rattle.node_table.specs.Service.{Carries, address, address_given, by_directory, decide, forward_over, move_at, move_by, node_step, one_less, packet_by, through_home}
 use Rattle.node_table.specs.Tables.{Tables, directory_at, entries_at, first_entry, first_listed, tables}
 use Rattle.node_table.proofs.Serving.Moves.{forward_is}
 use Rattle.router_table.specs.declared.tree_entry.TreeEntry.{TreeEntry}
-use Rattle.router_table.specs.Handing.{AreTablesOf, Hands, IsHandedOver, WasHanded, hopped, launched}
+use Rattle.router_table.specs.Handing.{AreTablesOf, Hands, WasHanded, hopped, launched}
 use Rattle.router_table.specs.Items.{item_at}
 use Rattle.router_table.specs.Laws.{ApartIsUnreachable, HandingEnds, TablesCarry}
 use Rattle.router_table.specs.Table.{IsTableOf, Table, address_of, entry_for, label_for, shown, shown_entry, table_at, tree_entry}

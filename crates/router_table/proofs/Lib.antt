@@ -8,3 +8,4 @@ pub mod Fits
 pub mod BodyTexts
 pub mod FormTexts
 pub mod Handings
+pub mod OldForms

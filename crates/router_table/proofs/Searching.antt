@@ -1,27 +1,24 @@
 -- What a search by halving finds.
-use Rattle.std.proofs.Common.{◌≡◌, ◌≢◌, ◌⊎◌, ℕ, zero, suc, ◌+◌, ◌-◌, ◌<◌, ◌≤◌, ◌==◌, length, get_or, map, cond, Bool, true, false, List, [], ◌∷◌, Option, Some, None, refl, sym, ap, subst, ◌∙◌, arith, inl, inr}
+use Rattle.std.proofs.Common.{◌≡◌, ◌≢◌, ◌⊎◌, ℕ, zero, suc, ◌+◌, ◌-◌, ◌<◌, ◌≤◌, length, get_or, map, List, [], ◌∷◌, Some, None, refl, sym, ap, subst, ◌∙◌, arith, inl, inr}
 use Rattle.std.specs.List.Sorted.{IsNonDecreasingBy, IsPartitionPoint, IsStrictlyIncreasing}
 use Rattle.std.specs.Ordering.{nat_cmp, ordering_index}
 use Rattle.std.specs.declared.cmp.Ordering.TheVariants.{Less, Equal, Greater}
-use Rattle.std.proofs.lemmas.Bool.{cases_lt, eq-eqb}
+use Rattle.std.proofs.lemmas.Bool.{cases_lt, eq-eqb, ne_eqb}
 use Rattle.std.proofs.lemmas.Cmp.{ranked}
 use Rattle.std.proofs.lemmas.List.{get_or-map, length-map}
 use Rattle.std.proofs.lemmas.Bool.Decides.{nat_tests}
 use Rattle.router_table.specs.Items.{item_at}
 
-unequal : (x n : ℕ) → x ≢ n → (x == n) ≡ false
-unequal x n other = grind (arith, nat_tests)
-
 -- the first item under a number stands at a place
 first_at : {X : Type 0} (key : X → ℕ) (n : ℕ) (xs : List X) (i : ℕ) (d : X) → i < length xs → key (get_or xs i d) ≡ n → ((j : ℕ) → j < i → key (get_or xs j d) ≢ n) → item_at key n xs ≡ Some (get_or xs i d)
 first_at key n [] i d lt is before = absurd (omega arith)
 first_at key n (x ∷ xs) zero d lt is before = rw (eq-eqb (key x) n is) refl
-first_at key n (x ∷ xs) (suc i) d lt is before = rw (unequal (key x) n (before 0 (omega arith))) (first_at key n xs i d (omega arith) is (λ j l. before (suc j) (omega arith)))
+first_at key n (x ∷ xs) (suc i) d lt is before = rw (ne_eqb (key x) n (before 0 (omega arith))) (first_at key n xs i d (omega arith) is (λ j l. before (suc j) (omega arith)))
 
 -- no item is under it
 none_at : {X : Type 0} (key : X → ℕ) (n : ℕ) (xs : List X) → ((j : ℕ) (d : X) → j < length xs → key (get_or xs j d) ≢ n) → item_at key n xs ≡ None
 none_at key n [] others = refl
-none_at key n (x ∷ xs) others = rw (unequal (key x) n (others 0 x (omega arith))) (none_at key n xs (λ j d lt. others (suc j) d (omega arith)))
+none_at key n (x ∷ xs) others = rw (ne_eqb (key x) n (others 0 x (omega arith))) (none_at key n xs (λ j d lt. others (suc j) d (omega arith)))
 
 module _ {X : Type 0} (key : X → ℕ) (n : ℕ) (xs : List X) (up : IsStrictlyIncreasing (map key xs)) where
   pub next_rises : (i : ℕ) (d : X) → i + 1 < length xs → key (get_or xs i d) < key (get_or xs (i + 1) d)

@@ -1,5 +1,5 @@
 -- Packets that are handed from table to table.
-use Rattle.std.specs.Prelude.{◌≡◌, ◌⊎◌, ℕ, ◌<◌, ◌≤◌, Ok, Err, List, [], ◌∷◌, length}
+use Rattle.std.specs.Prelude.{◌≡◌, ℕ, ◌<◌, Ok, List, [], ◌∷◌}
 use Rattle.graph_edits.specs.Edges.{Network}
 use Rattle.node_table.specs.declared.packet.Address.{Address}
 use Rattle.node_table.specs.declared.packet.Packet.{Packet}

@@ -1,5 +1,5 @@
 -- What holds of all tables: statements that `table_laws` proves.
-use Rattle.std.specs.Prelude.{◌≡◌, ℕ, ◌+◌, ◌<◌, ◌≤◌, Ok, Err, List, [], ◌∷◌, length}
+use Rattle.std.specs.Prelude.{◌≡◌, ℕ, ◌+◌, ◌<◌, Err, List, ◌∷◌, length}
 use Rattle.graph_edits.specs.Edges.{Network}
 use Rattle.graph_edits.specs.Walks.{IsWalk}
 use Rattle.node_table.specs.declared.packet.Packet.{Packet}

@@ -1,5 +1,5 @@
 -- Tables that are in order.
-use Rattle.std.specs.Prelude.{ℕ, ◌<◌, ◌^◌, Option, IfSome, List, length}
+use Rattle.std.specs.Prelude.{ℕ, ◌<◌, ◌^◌, Option, IfSome, length}
 use Rattle.std.specs.List.{All}
 use Rattle.heavy_labels.specs.declared.tree_record.Record.{Record}
 use Rattle.node_table.specs.declared.packet.Home.{Home}

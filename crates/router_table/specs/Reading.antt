@@ -35,6 +35,11 @@ abbrev pub Gives : {X Y : Type 0} → (X → Y) → Result X ReadRefused → Opt
 Gives view (Ok x) found = found ≡ Some (view x)
 Gives view (Err e) found = GaveNothing e found
 
+-- What a function returned, as `view` sees it, is what is found, and it returned nothing where nothing is.
+abbrev pub Finds : {X Y : Type 0} → (X → Y) → Option X → Option Y → Type 0
+Finds view (Some x) found = found ≡ Some (view x)
+Finds view None found = found ≡ None
+
 -- a number of so many bytes
 abbrev pub number_at : Width → List ℕ → Option (ℕ × List ℕ)
 number_at w bytes = if nat_lt (length bytes) (byte_len w) then None else Some (from_be_bytes w (take (byte_len w) bytes), drop (byte_len w) bytes)

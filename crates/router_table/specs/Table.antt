@@ -1,9 +1,7 @@
 -- What a router keeps of a generation, and when that is what the tables of all nodes say of it.
-use Rattle.std.specs.Prelude.{◌≡◌, ℕ, false, Option, Some, None, List, map, option_map, slice_get}
+use Rattle.std.specs.Prelude.{◌≡◌, ℕ, false, Option, None, List, map, option_map, slice_get}
 use Rattle.heavy_labels.specs.Label.{Label}
-use Rattle.distances.specs.declared.nearest.Near.{Near}
 use Rattle.node_table.specs.declared.packet.Address.{Address}
-use Rattle.node_table.specs.declared.packet.Home.{Home}
 use Rattle.node_table.specs.declared.parts.Entry.{Entry}
 use Rattle.node_table.specs.declared.parts.Listed.{Listed}
 use Rattle.node_table.specs.declared.parts.Parts.{Parts}

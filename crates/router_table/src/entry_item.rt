@@ -1,6 +1,6 @@
 // Entries as bytes.
-ghost use Rattle.std.specs.Prelude.{◌≡◌, ◌++◌, ◌<◌, ◌^◌, ◌==◌, Some, None, refl, MatchOption, OnOk};
-ghost use Rattle.router_table.specs.Reading.{entry_at, port_from, record_at, record_with};
+ghost use Rattle.std.specs.Prelude.{◌≡◌, ◌++◌, ◌<◌, ◌^◌, ◌==◌, refl, OnOk};
+ghost use Rattle.router_table.specs.Reading.{Finds, entry_at, port_from, record_at, record_with};
 ghost use Rattle.router_table.specs.Spelling.{entry_text, port_number, record_text};
 
 use crate::item::Item;
@@ -96,7 +96,7 @@ fn made_of(
 /// The record at the front, and the bytes behind it.
 #[tactic(auto, unfolding(crate::specs::Reading::record_at))]
 fn record_of(bytes: &[u8]) -> Option<(Record, &[u8])>
-    ensures { MatchOption result (record_at bytes.now ≡ None) (λ x. record_at bytes.now ≡ Some (x.0, x.1.now)) }
+    ensures { Finds (λ x. (x.0, x.1.now)) result (record_at bytes.now) }
 {
     let (first, rest) = u16_at(bytes)?;
     let (last, rest) = u16_at(rest)?;

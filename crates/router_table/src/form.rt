@@ -1,5 +1,6 @@
 // The form of a table in bytes, whatever its values: letters, version, size and digest.
-ghost use Rattle.std.specs.Prelude.{◌≡◌, ◌↔◌, ◌+◌, ◌<◌, ◌≤◌, ◌^◌, length, None, Some, IfSome, IsTrue, MatchOption, MatchResult};
+ghost use Rattle.std.specs.Prelude.{◌≡◌, ◌↔◌, ◌+◌, ◌<◌, ◌≤◌, ◌^◌, length, IfSome, IsTrue, MatchResult};
+ghost use Rattle.router_table.specs.Reading.{Finds};
 ghost use Rattle.router_table.specs.Refusals.{HasLetters, HasVersion, IsBodyOf, IsFormRefused, behind, behind_body, behind_directory, behind_items, behind_members};
 ghost use Rattle.router_table.specs.Spelling.{digest_of};
 
@@ -44,7 +45,7 @@ pub(crate) fn digest(bytes: &[u8]) -> [u8; DIGEST_SIZE]
 
 /// The bytes behind so many.
 fn past(count: usize, bytes: &[u8]) -> Option<&[u8]>
-    ensures rest { MatchOption result (behind count bytes.now ≡ None) (λ rest. behind count bytes.now ≡ Some rest.now) }
+    ensures rest { Finds (λ rest. rest.now) result (behind count bytes.now) }
     ensures shorter { IfSome result (λ rest. length rest.now + count ≡ length bytes.now) }
 {
     if bytes.len() < count {
@@ -57,7 +58,7 @@ fn past(count: usize, bytes: &[u8]) -> Option<&[u8]>
 #[tactic(auto, unfolding(crate::specs::Refusals::behind_items))]
 fn past_items(size: usize, bytes: &[u8]) -> Option<&[u8]>
     requires { size < 2 ^ 16 }
-    ensures rest { MatchOption result (behind_items size bytes.now ≡ None) (λ rest. behind_items size bytes.now ≡ Some rest.now) }
+    ensures rest { Finds (λ rest. rest.now) result (behind_items size bytes.now) }
     ensures shorter { IfSome result (λ rest. length rest.now ≤ length bytes.now) }
 {
     let (count, rest) = u16_at(bytes)?;
@@ -66,7 +67,7 @@ fn past_items(size: usize, bytes: &[u8]) -> Option<&[u8]>
 
 /// The bytes behind so many members of a directory.
 fn past_members(count: u16, bytes: &[u8]) -> Option<&[u8]>
-    ensures rest { MatchOption result (behind_members count bytes.now ≡ None) (λ rest. behind_members count bytes.now ≡ Some rest.now) }
+    ensures rest { Finds (λ rest. rest.now) result (behind_members count bytes.now) }
     ensures shorter { IfSome result (λ rest. length rest.now ≤ length bytes.now) }
 {
     let mut rest = bytes;
@@ -85,7 +86,7 @@ fn past_members(count: u16, bytes: &[u8]) -> Option<&[u8]>
 /// The bytes behind a directory.
 #[tactic(auto, unfolding(crate::specs::Refusals::behind_directory))]
 fn past_directory(bytes: &[u8]) -> Option<&[u8]>
-    ensures rest { MatchOption result (behind_directory bytes.now ≡ None) (λ rest. behind_directory bytes.now ≡ Some rest.now) }
+    ensures rest { Finds (λ rest. rest.now) result (behind_directory bytes.now) }
     ensures shorter { IfSome result (λ rest. length rest.now ≤ length bytes.now) }
 {
     let (count, rest) = u16_at(bytes)?;
@@ -95,7 +96,7 @@ fn past_directory(bytes: &[u8]) -> Option<&[u8]>
 /// The bytes behind a table's body.
 #[tactic(auto, unfolding(crate::specs::Refusals::behind_body))]
 fn past_body(bytes: &[u8]) -> Option<&[u8]>
-    ensures rest { MatchOption result (behind_body bytes.now ≡ None) (λ rest. behind_body bytes.now ≡ Some rest.now) }
+    ensures rest { Finds (λ rest. rest.now) result (behind_body bytes.now) }
     ensures shorter { IfSome result (λ rest. length rest.now + HEAD_SIZE ≤ length bytes.now) }
 {
     let ports = past(HEAD_SIZE, bytes)?;

@@ -1,8 +1,8 @@
 // What stands in the lists of a table: under a number, and in bytes of its own.
-ghost use Rattle.std.specs.Prelude.{◌≡◌, ◌++◌, ◌↔◌, ◌<◌, ◌^◌, ℕ, List, Option, None, Some, IsTrue, MatchOption, OnOk, length};
-ghost use Rattle.std.specs.Int.{w16, to_be_bytes};
+ghost use Rattle.std.specs.Prelude.{◌≡◌, ◌++◌, ◌<◌, ◌^◌, ℕ, List, Option, OnOk, length};
+ghost use Rattle.std.specs.Int.{w16};
 ghost use Rattle.std.specs.List.{All};
-ghost use Rattle.router_table.specs.Reading.{Gives, items_at, list_at, number_at};
+ghost use Rattle.router_table.specs.Reading.{Finds, Gives, items_at, list_at, number_at};
 ghost use Rattle.router_table.specs.Spelling.{list_text, number};
 
 use crate::numbers::{put_u16, u16_at};
@@ -34,7 +34,7 @@ pub(crate) trait Item: Sized + Drop {
 
     /// Reads it from the front, and answers the bytes behind it. None where the bytes don't begin so.
     fn take(bytes: &[u8]) -> Option<(Self, &[u8])>
-        ensures { MatchOption result (found bytes.now ≡ None) (λ x. found bytes.now ≡ Some (x.0, x.1.now)) };
+        ensures { Finds (λ x. (x.0, x.1.now)) result (found bytes.now) };
 }
 
 impl Item for u16 {

@@ -1,8 +1,8 @@
 // Members of a directory as bytes.
-ghost use Rattle.std.specs.Prelude.{◌≡◌, ◌++◌, ◌≤◌, Some, None, MatchOption, OnOk};
+ghost use Rattle.std.specs.Prelude.{◌≡◌, ◌++◌, ◌≤◌, OnOk};
 ghost use Rattle.std.specs.List.{flat_map};
 ghost use Rattle.std.specs.Int.{w16};
-ghost use Rattle.router_table.specs.Reading.{items_at, label_at, member_at, number_at};
+ghost use Rattle.router_table.specs.Reading.{Finds, items_at, label_at, member_at, number_at};
 ghost use Rattle.router_table.specs.Spelling.{label_text, member_text, number};
 
 use crate::item::Item;
@@ -60,7 +60,7 @@ fn put_label(out: &mut Vec<u8>, label: &Label) -> Result<(), AllocError>
 /// So many ports from the front, and the bytes behind them.
 fn ports_of(count: u8, bytes: &[u8]) -> Option<(ArrayVec<u16, MOST_LIGHTS>, &[u8])>
     requires { count ≤ MOST_LIGHTS }
-    ensures { MatchOption result (items_at (number_at w16) count bytes.now ≡ None) (λ x. items_at (number_at w16) count bytes.now ≡ Some (x.0.items, x.1.now)) }
+    ensures { Finds (λ x. (x.0.items, x.1.now)) result (items_at (number_at w16) count bytes.now) }
 {
     let mut ports = ArrayVec::new();
     let mut rest = bytes;
@@ -77,7 +77,7 @@ fn ports_of(count: u8, bytes: &[u8]) -> Option<(ArrayVec<u16, MOST_LIGHTS>, &[u8
 /// The label at the front, and the bytes behind it.
 #[tactic(auto, unfolding(crate::specs::Reading::label_at))]
 fn label_of(bytes: &[u8]) -> Option<(Label, &[u8])>
-    ensures { MatchOption result (label_at bytes.now ≡ None) (λ x. label_at bytes.now ≡ Some (x.0, x.1.now)) }
+    ensures { Finds (λ x. (x.0, x.1.now)) result (label_at bytes.now) }
 {
     let (first, rest) = u16_at(bytes)?;
     let (count, rest) = u8_at(rest)?;

@@ -1,13 +1,13 @@
 // Numbers at the front of bytes, their first byte the highest, and at their end.
-ghost use Rattle.std.specs.Prelude.{◌≡◌, ◌++◌, OnOk, None, Some, MatchOption};
+ghost use Rattle.std.specs.Prelude.{◌≡◌, ◌++◌, OnOk};
 ghost use Rattle.std.specs.Int.{w16, w64, to_be_bytes};
-ghost use Rattle.router_table.specs.Reading.{byte_at, number_at};
+ghost use Rattle.router_table.specs.Reading.{Finds, byte_at, number_at};
 
 use std::alloc::AllocError;
 
 /// The `u16` at the front, and the bytes behind it.
 pub(crate) fn u16_at(bytes: &[u8]) -> Option<(u16, &[u8])>
-    ensures { MatchOption result (number_at w16 bytes.now ≡ None) (λ x. number_at w16 bytes.now ≡ Some (x.0, x.1.now)) }
+    ensures { Finds (λ x. (x.0, x.1.now)) result (number_at w16 bytes.now) }
 {
     if bytes.len() < 2 {
         return None;
@@ -19,7 +19,7 @@ pub(crate) fn u16_at(bytes: &[u8]) -> Option<(u16, &[u8])>
 
 /// The `u64` at the front, and the bytes behind it.
 pub(crate) fn u64_at(bytes: &[u8]) -> Option<(u64, &[u8])>
-    ensures { MatchOption result (number_at w64 bytes.now ≡ None) (λ x. number_at w64 bytes.now ≡ Some (x.0, x.1.now)) }
+    ensures { Finds (λ x. (x.0, x.1.now)) result (number_at w64 bytes.now) }
 {
     if bytes.len() < 8 {
         return None;
@@ -33,7 +33,7 @@ pub(crate) fn u64_at(bytes: &[u8]) -> Option<(u64, &[u8])>
 
 /// The byte at the front, and the bytes behind it.
 pub(crate) fn u8_at(bytes: &[u8]) -> Option<(u8, &[u8])>
-    ensures { MatchOption result (byte_at bytes.now ≡ None) (λ x. byte_at bytes.now ≡ Some (x.0, x.1.now)) }
+    ensures { Finds (λ x. (x.0, x.1.now)) result (byte_at bytes.now) }
 {
     match bytes {
         [] => None,

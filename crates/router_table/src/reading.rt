@@ -1,7 +1,7 @@
 // Tables out of bytes.
-ghost use Rattle.std.specs.Prelude.{◌≡◌, ◌≢◌, ◌≤◌, ◌++◌, MatchOption, MatchResult, None, Some, length, take};
+ghost use Rattle.std.specs.Prelude.{◌≡◌, ◌≢◌, ◌≤◌, ◌++◌, MatchOption, MatchResult, length, take};
 ghost use Rattle.router_table.specs.Fields.{table_of};
-ghost use Rattle.router_table.specs.Reading.{Gives, IsHeadIn, IsHeadWith, IsTableIn, lists_at, numbers_at};
+ghost use Rattle.router_table.specs.Reading.{Finds, Gives, IsHeadIn, IsHeadWith, IsTableIn, lists_at, numbers_at};
 ghost use Rattle.router_table.specs.Order.{IsHead};
 ghost use Rattle.router_table.specs.declared.head.Head.{Head};
 ghost use Rattle.router_table.specs.Refusals.{IsBodyRefused};
@@ -38,7 +38,7 @@ fn lists_of(
 /// The generation, the number of nodes and the node at the front, and the bytes behind them.
 #[tactic(auto, unfolding(crate::specs::Reading::numbers_at))]
 fn numbers_of(bytes: &[u8]) -> Option<(u64, u16, u16, &[u8])>
-    ensures { MatchOption result (numbers_at bytes.now ≡ None) (λ x. numbers_at bytes.now ≡ Some (x.0, x.1, x.2, x.3.now)) }
+    ensures { Finds (λ x. (x.0, x.1, x.2, x.3.now)) result (numbers_at bytes.now) }
 {
     let (generation, rest) = u64_at(bytes)?;
     let (nodes, rest) = u16_at(rest)?;
@@ -48,7 +48,8 @@ fn numbers_of(bytes: &[u8]) -> Option<(u64, u16, u16, &[u8])>
 
 /// Who the router is: the node of the address, which has to be of the same generation.
 fn head_with(generation: u64, nodes: u16, node: u16, address: Address) -> Option<Head>
-    ensures { MatchOption result ((address.generation ≡ generation → address.node ≡ node → ⊥)) (IsHeadWith generation nodes node address) }
+    ensures { MatchOption result ((address.generation ≡ generation → address.node ≡ node → ⊥))
+        (IsHeadWith generation nodes node address) }
 {
     if address.generation != generation || address.node != node {
         return None;

@@ -107,7 +107,8 @@ impl RouterTable {
 
     /// The table of these fields, where they are in order.
     fn in_order(fields: Fields) -> Option<RouterTable>
-        ensures { MatchOption result (IsTable (table_of fields) → ⊥) (λ table. (table ≡ table_of fields) × IsTable table) }
+        ensures { MatchOption result (IsTable (table_of fields) → ⊥)
+            (λ table. (table ≡ table_of fields) × IsTable table) }
     {
         if fields.are_in_order() {
             Some(RouterTable { fields })
@@ -146,7 +147,8 @@ impl RouterTable {
     /// Where the router is to be found.
     pub fn address(&self) -> Address
         ensures address { result ≡ address_of self.now.head }
-        ensures same { (t : Tables) → IsTableOf t self.now.head.node self.now → Ok result ≡ address_given t self.now.head.node }
+        ensures same { (t : Tables) → IsTableOf t self.now.head.node self.now
+            → Ok result ≡ address_given t self.now.head.node }
     {
         address_in(&self.fields.head)
     }
@@ -155,7 +157,8 @@ impl RouterTable {
     #[tactic(auto, using(crate::proofs::Handings::same_launch))]
     pub fn launch(&self, to: &Address) -> Result<Packet, Refused>
         ensures packet { result ≡ launched self.now to.now }
-        ensures same { (t : Tables) → IsTableOf t self.now.head.node self.now → result ≡ packet_given t self.now.head.node to.now }
+        ensures same { (t : Tables) → IsTableOf t self.now.head.node self.now
+            → result ≡ packet_given t self.now.head.node to.now }
     {
         packet_from(self, to)
     }
@@ -164,7 +167,8 @@ impl RouterTable {
     #[tactic(auto, using(crate::proofs::Handings::same_hop))]
     pub fn hop(&self, packet: &Packet) -> Result<Move, Refused>
         ensures moved { result ≡ hopped self.now packet.now }
-        ensures same { (t : Tables) → IsTableOf t self.now.head.node self.now → result ≡ move_given t self.now.head.node packet.now }
+        ensures same { (t : Tables) → IsTableOf t self.now.head.node self.now
+            → result ≡ move_given t self.now.head.node packet.now }
     {
         move_from(self, packet)
     }

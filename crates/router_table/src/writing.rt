@@ -57,7 +57,8 @@ fn put_head(out: &mut Vec<u8>, head: &Head) -> Result<(), AllocError>
 #[tactic(auto, unfolding(crate::specs::Spelling::lists_text))]
 fn put_lists(out: &mut Vec<u8>, fields: &Fields) -> Result<(), AllocError>
     requires { IsTable (table_of fields.now) }
-    ensures { OnOk result (out.new.items ≡ out.old.items ++ lists_text fields.now.ports.items fields.now.entries.items fields.now.directory.items) }
+    ensures { OnOk result (out.new.items
+        ≡ out.old.items ++ lists_text fields.now.ports.items fields.now.entries.items fields.now.directory.items) }
 {
     put_list(out, fields.ports.as_slice())?;
     put_list(out, fields.entries.as_slice())?;

@@ -2,3 +2,4 @@ pub mod WordLemmas
 pub mod RangeLemmas
 pub mod Addresses
 pub mod Routes
+pub mod OldForms

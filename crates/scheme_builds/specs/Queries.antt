@@ -31,6 +31,10 @@ abbrev pub IsRouteIn : Parts → ℕ → ℕ → Route → Type 0
 IsRouteIn p u v (Along trail) = IsTrailOf (tables p) u (address (tables p) v) trail
 IsRouteIn p u v Unreachable = decide (tables p) u (address (tables p) v) ≡ Err NotReached
 
+-- the same of the scheme by these words
+abbrev pub IsRouteBy : Network → List ℕ → ℕ → ℕ → ℕ → Route → Type 0
+IsRouteBy m words generation u v route = (p : Parts) × (IsSchemeOf m words generation p × IsRouteIn p u v route)
+
 -- what the checks say of a scheme: nothing where all rules hold, else the first that fails
 abbrev pub IsFaultIn : Network → Parts → Option Fault → Type 0
 IsFaultIn m p None = IsChecked m p

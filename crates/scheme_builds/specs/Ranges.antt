@@ -10,9 +10,13 @@ use Rattle.node_table.specs.Building.{IsBuildOf}
 abbrev pub bound_at : Network → ℕ → ℕ → ℕ
 bound_at m size i = min (i * size) m.nodes
 
--- what a build has of the range i, unless memory was refused
+-- what a build has of the roots from the first to below the last, unless memory was refused
+abbrev pub HasBuilt : Network → List Bool → List (Option Near) → ℕ → ℕ → ℕ → Result Parts AllocError → Type 0
+HasBuilt m flags nearest generation first last made = IfOk made (λ p. IsBuildOf m flags nearest generation p first last)
+
+-- the same of the roots of the range i
 abbrev pub IsRange : Network → List Bool → List (Option Near) → ℕ → ℕ → ℕ → Result Parts AllocError → Type 0
-IsRange m flags nearest generation size i made = IfOk made (λ p. IsBuildOf m flags nearest generation p (bound_at m size i) (bound_at m size (i + 1)))
+IsRange m flags nearest generation size i made = HasBuilt m flags nearest generation (bound_at m size i) (bound_at m size (i + 1)) made
 
 -- the same of the range i and of those that follow it, in their order
 abbrev pub AreRanges : Network → List Bool → List (Option Near) → ℕ → ℕ → ℕ → List (Result Parts AllocError) → Type 0

@@ -11,7 +11,7 @@
 //! [`scheme_of_in_threads`] promises the same. A build grows a tree for each root, one after the other, and none of them looks at
 //! another: so the roots are cut into ranges, each worker builds its range in a thread of its own, and the ranges are joined in the order
 //! of the roots. Where no thread can be made, the caller builds that range itself. The tables are the same, whatever the number of
-//! workers (a test holds it). [`scheme_in_threads`] takes landmarks, and has clause by clause the contract of [`node_table::build`].
+//! workers (a test holds it). [`scheme_in_threads`] takes landmarks, and has the contract of [`node_table::build`].
 //! [`workers_here`] says how many workers pay on this machine, and [`workers_for`] how many pay where there are so many processors.
 //!
 //! ```text

@@ -1,10 +1,9 @@
 // A scheme for each query, and what is asked of it.
 ghost use Rattle.std.specs.Prelude.{◌≡◌, ◌<◌, IfOk, count_by};
-ghost use Rattle.node_table.specs.declared.parts.Parts.{Parts};
 ghost use Rattle.node_table.specs.Checks.{IsChecked};
 ghost use Rattle.scheme_builds.specs.Carrying.{IsCarried};
 ghost use Rattle.scheme_builds.specs.Schemes.{IsSchemeOf};
-ghost use Rattle.scheme_builds.specs.Queries.{IsCheckAnswer, IsRouteAnswer, IsRouteIn};
+ghost use Rattle.scheme_builds.specs.Queries.{IsCheckAnswer, IsRouteAnswer, IsRouteBy};
 
 use crate::ranges::SCRATCH_LEN;
 use crate::schemes::scheme_of;
@@ -88,7 +87,7 @@ pub fn carry_packet(
     requires from { from < graph.now.nodes }
     requires to { to < graph.now.nodes }
     ensures answer { IsRouteAnswer graph.now from to result }
-    ensures scheme { IfOk result (λ route. (p : Parts) × (IsSchemeOf graph.now words.now generation p × IsRouteIn p from to route)) }
+    ensures scheme { IfOk result (λ route. IsRouteBy graph.now words.now generation from to route) }
 {
     let scheme = built(alloc, graph, words, generation)?;
     match carry_in(alloc, graph, &scheme, from, to) {

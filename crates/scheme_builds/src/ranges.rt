@@ -1,8 +1,7 @@
 // Ranges of roots, each built by a worker, and joined in the order of the roots.
-ghost use Rattle.std.specs.Prelude.{◌≡◌, ◌<◌, ◌≤◌, ◌*◌, ℕ, None, IfOk, length, slice_index_or};
-ghost use Rattle.distances.specs.Nearest.{IsNearestOf};
-ghost use Rattle.node_table.specs.Building.{IsBuildOf};
-ghost use Rattle.scheme_builds.specs.Ranges.{AreRanges, IsRange};
+ghost use Rattle.std.specs.Prelude.{◌<◌, ◌≤◌, ◌*◌, length};
+ghost use Rattle.node_table.specs.KnownNearest.{CanBuild, KnowsNearest};
+ghost use Rattle.scheme_builds.specs.Ranges.{AreRanges, HasBuilt, IsRange};
 
 use crate::workers::LEAST_SHARED;
 use core::thread::Stack;
@@ -35,10 +34,10 @@ struct RangePromise {
 }
 
 impl Promise<Result<PartialScheme, AllocError>> for RangePromise {
-    ghost use Rattle.std.specs.Prelude.{IfOk};
-    ghost use Rattle.node_table.specs.Building.{IsBuildOf};
+    ghost use Rattle.scheme_builds.specs.Ranges.{HasBuilt};
 
-    ghost kept_by = { λ p r. IfOk r (λ made. IsBuildOf p.graph.value p.landmarks.value p.nearest.value.nearest p.generation made p.first p.last) };
+    ghost kept_by = { λ p made. HasBuilt p.graph.value p.landmarks.value p.nearest.value.nearest
+        p.generation p.first p.last made };
 }
 
 /// What a build has of the roots from `first` on and below `last`. The trees are grown over a heap of this call's own.
@@ -51,12 +50,8 @@ fn build_roots(
     first: u16,
     last: u16,
 ) -> Result<PartialScheme, AllocError>
-    requires same_size { length landmarks.now ≡ graph.now.nodes }
-    requires nodes { length nearest.now.nearest ≡ graph.now.nodes }
-    requires nearest { (v : ℕ) → IsNearestOf graph.now.edges landmarks.now v (slice_index_or nearest.now.nearest v None) }
-    requires order { first ≤ last }
-    requires inside { last ≤ graph.now.nodes }
-    ensures { IfOk result (λ made. IsBuildOf graph.now landmarks.now nearest.now.nearest generation made first last) }
+    requires { CanBuild graph.now landmarks.now nearest.now.nearest first last }
+    ensures { HasBuilt graph.now landmarks.now nearest.now.nearest generation first last result }
 {
     let heap = LocalHeap::new(alloc, SCRATCH_LEN)?;
     build_between(
@@ -75,20 +70,16 @@ fn build_apart<R: Threads + Wait>(
     first: u16,
     last: u16,
 ) -> Result<PartialScheme, AllocError>
-    requires same_size { length landmarks.now ≡ graph.now.nodes }
-    requires nodes { length nearest.now.nearest ≡ graph.now.nodes }
-    requires nearest { (v : ℕ) → IsNearestOf graph.now.edges landmarks.now v (slice_index_or nearest.now.nearest v None) }
-    requires order { first ≤ last }
-    requires inside { last ≤ graph.now.nodes }
-    ensures { IfOk result (λ made. IsBuildOf graph.now landmarks.now nearest.now.nearest generation made first last) }
+    requires { CanBuild graph.now landmarks.now nearest.now.nearest first last }
+    ensures { HasBuilt graph.now landmarks.now nearest.now.nearest generation first last result }
 {
     thread::scope(
         thread::scope_env(),
         rt,
         |scope| -> Result<PartialScheme, AllocError>
-            requires { (length landmarks.now ≡ graph.now.nodes) × (length nearest.now.nearest ≡ graph.now.nodes)
-                × ((v : ℕ) → IsNearestOf graph.now.edges landmarks.now v (slice_index_or nearest.now.nearest v None)) × (first ≤ last) × (last ≤ graph.now.nodes) }
-            ensures { IfOk result (λ made. IsBuildOf graph.entry.now landmarks.entry.now nearest.entry.now.nearest generation made first last) }
+            requires { CanBuild graph.now landmarks.now nearest.now.nearest first last }
+            ensures { HasBuilt graph.entry.now landmarks.entry.now nearest.entry.now.nearest
+                generation first last result }
         {
             let promise = RangePromise {
                 graph: Snapshot::of(graph),
@@ -99,9 +90,9 @@ fn build_apart<R: Threads + Wait>(
                 last,
             };
             let job = || -> Result<PartialScheme, AllocError>
-                requires { (length landmarks.now ≡ graph.now.nodes) × (length nearest.now.nearest ≡ graph.now.nodes)
-                    × ((v : ℕ) → IsNearestOf graph.now.edges landmarks.now v (slice_index_or nearest.now.nearest v None)) × (first ≤ last) × (last ≤ graph.now.nodes) }
-                ensures { IfOk result (λ made. IsBuildOf graph.entry.now landmarks.entry.now nearest.entry.now.nearest generation made first last) }
+                requires { CanBuild graph.now landmarks.now nearest.now.nearest first last }
+                ensures { HasBuilt graph.entry.now landmarks.entry.now nearest.entry.now.nearest
+                    generation first last result }
             { build_roots(alloc, graph, landmarks, nearest, generation, first, last) };
             match Stack::new()
                 .stack_size(STACK_LEN)
@@ -125,9 +116,7 @@ fn build_range<R: Threads + Wait>(
     size: u16,
     i: usize,
 ) -> Result<PartialScheme, AllocError>
-    requires same_size { length landmarks.now ≡ graph.now.nodes }
-    requires nodes { length nearest.now.nearest ≡ graph.now.nodes }
-    requires nearest { (v : ℕ) → IsNearestOf graph.now.edges landmarks.now v (slice_index_or nearest.now.nearest v None) }
+    requires { KnowsNearest graph.now landmarks.now nearest.now.nearest }
     ensures { IsRange graph.now landmarks.now nearest.now.nearest generation size i result }
 {
     let nodes = graph.nodes() as usize;
@@ -168,7 +157,7 @@ fn join_ranges(
     requires some { 0 < length made.items }
     requires all { graph.now.nodes ≤ length made.items * size }
     requires ranges { AreRanges graph.now landmarks.now nearest.now.nearest generation size 0 made.items }
-    ensures { IfOk result (λ whole. IsBuildOf graph.now landmarks.now nearest.now.nearest generation whole 0 graph.now.nodes) }
+    ensures { HasBuilt graph.now landmarks.now nearest.now.nearest generation 0 graph.now.nodes result }
 {
     let count = made.len();
     let mut whole = made.remove(0)?;
@@ -191,10 +180,8 @@ pub(crate) fn build_ranges<R: Threads + Wait + Sync>(
     size: u16,
 ) -> Result<PartialScheme, AllocError>
     requires some { 0 < size }
-    requires same_size { length landmarks.now ≡ graph.now.nodes }
-    requires nodes { length nearest.now.nearest ≡ graph.now.nodes }
-    requires nearest { (v : ℕ) → IsNearestOf graph.now.edges landmarks.now v (slice_index_or nearest.now.nearest v None) }
-    ensures { IfOk result (λ whole. IsBuildOf graph.now landmarks.now nearest.now.nearest generation whole 0 graph.now.nodes) }
+    requires known { KnowsNearest graph.now landmarks.now nearest.now.nearest }
+    ensures { HasBuilt graph.now landmarks.now nearest.now.nearest generation 0 graph.now.nodes result }
 {
     let count = graph.nodes().div_ceil(size);
     let made = thread::map_indices(
@@ -202,8 +189,7 @@ pub(crate) fn build_ranges<R: Threads + Wait + Sync>(
         alloc,
         count as usize,
         &|i: usize| -> Result<PartialScheme, AllocError>
-            requires { (length landmarks.now ≡ graph.now.nodes) × (length nearest.now.nearest ≡ graph.now.nodes)
-                × ((v : ℕ) → IsNearestOf graph.now.edges landmarks.now v (slice_index_or nearest.now.nearest v None)) }
+            requires { KnowsNearest graph.now landmarks.now nearest.now.nearest }
             ensures { IsRange graph.entry.now landmarks.entry.now nearest.entry.now.nearest generation size i result }
         { build_range(rt, alloc, graph, landmarks, nearest, generation, size, i) },
     )?;

@@ -1,10 +1,7 @@
 // A scheme out of a graph, built in several threads.
-ghost use Rattle.std.specs.Prelude.{◌≡◌, ◌↔◌, ℕ, IsSome, IfOk, length};
+ghost use Rattle.std.specs.Prelude.{◌≡◌, IfOk, length};
+ghost use Rattle.node_table.specs.Schemes.{IsSchemeUnder};
 ghost use Rattle.scheme_builds.specs.Schemes.{IsSchemeOf};
-ghost use Rattle.node_table.specs.Checks.{IsChecked};
-ghost use Rattle.node_table.specs.Laws.{IsInTree, NearestIsRight};
-ghost use Rattle.node_table.specs.Service.{Serves};
-ghost use Rattle.node_table.specs.Tables.{tables};
 
 use crate::ranges::build_ranges;
 use crate::words::first_words;
@@ -30,12 +27,7 @@ pub fn scheme_in_threads<R: Threads + Wait + Sync>(
     workers: u16,
 ) -> Result<Scheme, AllocError>
     requires same_size { length landmarks.now ≡ graph.now.nodes }
-    ensures checked { IfOk result (λ scheme. IsChecked graph.now scheme) }
-    ensures serves { IfOk result (λ scheme. Serves graph.now (tables scheme)) }
-    ensures landmarks { IfOk result (λ scheme. scheme.landmarks.items ≡ landmarks.now) }
-    ensures generation { IfOk result (λ scheme. scheme.generation ≡ generation) }
-    ensures trees { IfOk result (λ scheme. (x r : ℕ) → IsSome ((tables scheme).entry x r) ↔ IsInTree graph.now (tables scheme).landmark r x) }
-    ensures nearest { IfOk result (λ scheme. (x : ℕ) → NearestIsRight graph.now (tables scheme).landmark x ((tables scheme).nearest x)) }
+    ensures { IfOk result (λ scheme. IsSchemeUnder graph.now landmarks.now generation scheme) }
 {
     let nearest = from_landmarks(alloc, graph, landmarks)?;
     let size = graph.nodes().div_ceil(at_most(workers)).max(1);

@@ -14,10 +14,7 @@ use std::process::Abort;
 
 /// The graph of a table.
 pub(crate) fn graph_of(rt: &impl Abort, alloc: Global, nodes: u16, edges: &[Edge]) -> Graph {
-    match sample_networks::graph_of(alloc, nodes, edges) {
-        Ok(graph) => graph,
-        Err(refused) => panic!(rt; "{refused}"),
-    }
+    got(rt, sample_networks::graph_of(alloc, nodes, edges))
 }
 
 /// The nearest landmarks of a graph, where the nodes with a flag are the landmarks.

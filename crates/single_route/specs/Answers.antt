@@ -5,7 +5,7 @@ use Rattle.graph_edits.specs.Edges.{Network, network_code}
 use Rattle.graph_edits.specs.Walks.{IsWalk}
 use Rattle.node_table.specs.declared.trail.Trail.{Trail}
 use Rattle.node_table.specs.Trails.{IsGoodTrail}
-use Rattle.single_route.specs.LandmarkTrails.{IsTrailBetween}
+use Rattle.single_route.specs.LandmarkTrails.{IsApart, IsTrailBetween}
 use Rattle.single_route.specs.declared.no_trail.NoTrail.{NoTrail}
 use Rattle.single_route.specs.declared.no_trail.NoTrail.TheVariants.{NoNode, Unreachable, Memory}
 
@@ -25,5 +25,5 @@ pub record IsAnswer (m : Network) (flags : List Bool) (u v : ℕ) (answer : Resu
   pub good : IfOk answer (λ trail. IsGoodTrail m u v trail)
   pub no_node : (answer ≡ Err NoNode) ↔ ((m.nodes ≤ u) ⊎ (m.nodes ≤ v))
   pub connected : (xs : List ℕ) → u < m.nodes → v < m.nodes → IsWalk m.edges u xs v → MatchResult answer (λ trail. IsGoodTrail m u v trail) (λ e. e ≡ Memory)
-  pub unreachable : answer ≡ Err Unreachable → (xs : List ℕ) → IsWalk m.edges u xs v → ⊥
-  pub apart : u < m.nodes → v < m.nodes → ((xs : List ℕ) → IsWalk m.edges u xs v → ⊥) → IsErrAnd answer (λ e. (e ≡ Unreachable) ⊎ (e ≡ Memory))
+  pub unreachable : answer ≡ Err Unreachable → IsApart m.edges u v
+  pub apart : u < m.nodes → v < m.nodes → IsApart m.edges u v → IsErrAnd answer (λ e. (e ≡ Unreachable) ⊎ (e ≡ Memory))

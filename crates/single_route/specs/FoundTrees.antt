@@ -1,9 +1,10 @@
 -- A tree as a search lists it, and whose tree it is.
-use Rattle.std.specs.Prelude.{◌≡◌, ◌==◌, ℕ, Bool, List, map}
+use Rattle.std.specs.Prelude.{◌≡◌, ◌==◌, ℕ, Bool, true, List, map}
 use Rattle.std.specs.List.{All, Contains, list_any}
 use Rattle.graph_edits.specs.Edges.{EdgeMap}
 use Rattle.distances.specs.Search.{IsAscending}
 use Rattle.distances.specs.Reach.{IsParent, settled_of}
+use Rattle.distances.specs.Workspace.{reached_of}
 use Rattle.distances.specs.declared.linked.Linked.{Linked}
 use Rattle.distances.specs.declared.reach.Reached.{Reached}
 use Rattle.single_route.specs.LandmarkTrees.{IsMemberAt}
@@ -24,6 +25,10 @@ pub record IsTreeFor (m : EdgeMap) (flags : List Bool) (u v : ℕ) (tree : List 
   pub tree_is : IsTreeOf m flags root tree
   pub from : HasMember u tree
   pub to : HasMember v tree
+
+-- where one was found, the members are the tree in which a packet goes from u to v
+abbrev pub IsFoundFor : EdgeMap → List Bool → ℕ → ℕ → List Linked → Bool → Type 0
+IsFoundFor m flags u v members found = found ≡ true → IsTreeFor m flags u v (reached_of members)
 
 -- whether one of the members has this node
 abbrev pub has_node : List Linked → ℕ → Bool

@@ -26,6 +26,10 @@ pub record IsTreePath (Parent : ℕ → ℕ → Type 0) (u v : ℕ) (nodes : Lis
   pub apart : (x : ℕ) → Contains up x → Contains down x → ⊥
   pub listed : nodes ≡ up ++ at ∷ reverse down
 
+-- no walk leads from u to v
+abbrev pub IsApart : EdgeMap → ℕ → ℕ → Type 0
+IsApart m u v = (xs : List ℕ) → IsWalk m u xs v → ⊥
+
 -- v is in u's own tree: u is no landmark, and v is nearer to u than to every landmark
 abbrev pub IsInOwnTree : EdgeMap → List Bool → ℕ → ℕ → Type 0
 IsInOwnTree m flags u v = (IsLandmark flags u → ⊥) × ((xs : List ℕ) × (IsWalk m u xs v × IsNearer m flags v (walk_length m u xs)))

@@ -1,9 +1,8 @@
 // Routes in a network with landmarks.
-ghost use Rattle.std.specs.Prelude.{◌≡◌, ◌<◌, ℕ, List, IfOk, MatchOption, None, length, slice_index_or};
-ghost use Rattle.graph_edits.specs.Walks.{IsWalk};
-ghost use Rattle.distances.specs.Nearest.{IsNearestOf};
+ghost use Rattle.std.specs.Prelude.{◌≡◌, ◌<◌, IfOk, MatchOption, length};
+ghost use Rattle.node_table.specs.KnownNearest.{KnowsNearest};
 ghost use Rattle.single_route.specs.Answers.{IsAnswer};
-ghost use Rattle.single_route.specs.LandmarkTrails.{IsTrailBetween};
+ghost use Rattle.single_route.specs.LandmarkTrails.{IsApart, IsTrailBetween};
 
 use crate::no_trail::NoTrail;
 use crate::paths::path_between;
@@ -29,8 +28,8 @@ pub struct Routes<'g> {
 }
 
 impl<'g> Model for Routes<'g> {
-    ghost use Rattle.std.specs.Prelude.{◌≡◌, ℕ, None, length, slice_index_or};
-    ghost use Rattle.distances.specs.Nearest.{IsNearestOf};
+    ghost use Rattle.std.specs.Prelude.{◌≡◌};
+    ghost use Rattle.node_table.specs.KnownNearest.{KnowsNearest};
     ghost use Rattle.single_route.specs.Answers.{Routes, routes_code};
 
     ghost Value = { Routes };
@@ -40,9 +39,7 @@ impl<'g> Model for Routes<'g> {
     ghost view = { λ r. record { graph = r.graph.now; flags = r.landmarks.now } };
 
     ghost invariant = { λ r. (r.workspace.nodes ≡ r.graph.now.nodes)
-        × (length r.landmarks.now ≡ r.graph.now.nodes)
-        × (length r.nearest.nearest ≡ r.graph.now.nodes)
-        × ((v : ℕ) → IsNearestOf r.graph.now.edges r.landmarks.now v (slice_index_or r.nearest.nearest v None)) };
+        × KnowsNearest r.graph.now r.landmarks.now r.nearest.nearest };
 }
 
 impl<'g> Routes<'g> {
@@ -103,13 +100,12 @@ fn trail_in(
     to: u16,
 ) -> Result<Option<Trail>, AllocError>
     requires workspace { workspace.old.nodes ≡ graph.now.nodes }
-    requires landmarks { length landmarks.now ≡ graph.now.nodes }
-    requires nodes { length nearest.now.nearest ≡ graph.now.nodes }
-    requires nearest { (v : ℕ) → IsNearestOf graph.now.edges landmarks.now v (slice_index_or nearest.now.nearest v None) }
+    requires known { KnowsNearest graph.now landmarks.now nearest.now.nearest }
     requires from { from < graph.now.nodes }
     requires to { to < graph.now.nodes }
     ensures workspace { workspace.new.nodes ≡ workspace.old.nodes }
-    ensures trail { IfOk result (λ found. MatchOption found ((xs : List ℕ) → IsWalk graph.now.edges from xs to → ⊥) (λ trail. IsTrailBetween graph.now landmarks.now from to trail)) }
+    ensures trail { IfOk result (λ found. MatchOption found (IsApart graph.now.edges from to)
+        (λ trail. IsTrailBetween graph.now landmarks.now from to trail)) }
 {
     let _sound = graph.nodes();
     if !find_tree(workspace, graph, landmarks, nearest, from, to)? {

@@ -1,10 +1,8 @@
 // The tree in which a packet goes.
-ghost use Rattle.std.specs.Prelude.{◌≡◌, ◌<◌, ℕ, List, IfOk, None, false, length, slice_index_or, true};
-ghost use Rattle.graph_edits.specs.Walks.{IsWalk};
-ghost use Rattle.distances.specs.Nearest.{IsNearestOf};
-ghost use Rattle.distances.specs.Workspace.{reached_of};
-ghost use Rattle.single_route.specs.FoundTrees.{IsTreeFor, has_node};
-ghost use Rattle.single_route.specs.LandmarkTrails.{IsInOwnTree};
+ghost use Rattle.std.specs.Prelude.{◌≡◌, ◌<◌, IfOk, false};
+ghost use Rattle.node_table.specs.KnownNearest.{KnowsNearest};
+ghost use Rattle.single_route.specs.FoundTrees.{IsFoundFor, has_node};
+ghost use Rattle.single_route.specs.LandmarkTrails.{IsApart, IsInOwnTree};
 
 use clusters::cluster_in;
 use distances::{Linked, Nearest, Workspace};
@@ -30,12 +28,10 @@ fn find_own_tree(
     to: u16,
 ) -> Result<bool, AllocError>
     requires workspace { workspace.old.nodes ≡ graph.now.nodes }
-    requires landmarks { length landmarks.now ≡ graph.now.nodes }
-    requires nodes { length nearest.now.nearest ≡ graph.now.nodes }
-    requires nearest { (v : ℕ) → IsNearestOf graph.now.edges landmarks.now v (slice_index_or nearest.now.nearest v None) }
+    requires known { KnowsNearest graph.now landmarks.now nearest.now.nearest }
     requires from { from < graph.now.nodes }
     ensures workspace { workspace.new.nodes ≡ workspace.old.nodes }
-    ensures tree { IfOk result (λ own. own ≡ true → IsTreeFor graph.now.edges landmarks.now from to (reached_of workspace.new.members)) }
+    ensures tree { IfOk result (IsFoundFor graph.now.edges landmarks.now from to workspace.new.members) }
     ensures other { IfOk result (λ own. own ≡ false → IsInOwnTree graph.now.edges landmarks.now from to → ⊥) }
 {
     let _sound = graph.nodes();
@@ -57,15 +53,13 @@ fn find_landmark_tree(
     to: u16,
 ) -> Result<bool, AllocError>
     requires workspace { workspace.old.nodes ≡ graph.now.nodes }
-    requires landmarks { length landmarks.now ≡ graph.now.nodes }
-    requires nodes { length nearest.now.nearest ≡ graph.now.nodes }
-    requires nearest { (v : ℕ) → IsNearestOf graph.now.edges landmarks.now v (slice_index_or nearest.now.nearest v None) }
+    requires known { KnowsNearest graph.now landmarks.now nearest.now.nearest }
     requires from { from < graph.now.nodes }
     requires to { to < graph.now.nodes }
     requires other { IsInOwnTree graph.now.edges landmarks.now from to → ⊥ }
     ensures workspace { workspace.new.nodes ≡ workspace.old.nodes }
-    ensures tree { IfOk result (λ found. found ≡ true → IsTreeFor graph.now.edges landmarks.now from to (reached_of workspace.new.members)) }
-    ensures apart { IfOk result (λ found. found ≡ false → (xs : List ℕ) → IsWalk graph.now.edges from xs to → ⊥) }
+    ensures tree { IfOk result (IsFoundFor graph.now.edges landmarks.now from to workspace.new.members) }
+    ensures apart { IfOk result (λ found. found ≡ false → IsApart graph.now.edges from to) }
 {
     let Some(near) = nearest.of(to) else {
         return Ok(false);
@@ -85,14 +79,12 @@ pub(crate) fn find_tree(
     to: u16,
 ) -> Result<bool, AllocError>
     requires workspace { workspace.old.nodes ≡ graph.now.nodes }
-    requires landmarks { length landmarks.now ≡ graph.now.nodes }
-    requires nodes { length nearest.now.nearest ≡ graph.now.nodes }
-    requires nearest { (v : ℕ) → IsNearestOf graph.now.edges landmarks.now v (slice_index_or nearest.now.nearest v None) }
+    requires known { KnowsNearest graph.now landmarks.now nearest.now.nearest }
     requires from { from < graph.now.nodes }
     requires to { to < graph.now.nodes }
     ensures workspace { workspace.new.nodes ≡ workspace.old.nodes }
-    ensures tree { IfOk result (λ found. found ≡ true → IsTreeFor graph.now.edges landmarks.now from to (reached_of workspace.new.members)) }
-    ensures apart { IfOk result (λ found. found ≡ false → (xs : List ℕ) → IsWalk graph.now.edges from xs to → ⊥) }
+    ensures tree { IfOk result (IsFoundFor graph.now.edges landmarks.now from to workspace.new.members) }
+    ensures apart { IfOk result (λ found. found ≡ false → IsApart graph.now.edges from to) }
 {
     if find_own_tree(workspace, graph, landmarks, nearest, from, to)? {
         return Ok(true);

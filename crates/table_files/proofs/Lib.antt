@@ -1,1 +1,2 @@
 pub mod PutFiles
+pub mod OldForms

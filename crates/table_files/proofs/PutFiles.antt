@@ -1,6 +1,6 @@
 -- Files of tables, one behind the other.
-use Rattle.std.proofs.Common.{◌≡◌, ◌≢◌, ◌≤◌, ◌⊎◌, ◌∙◌, ap, arith, inl, inr, refl, sym, subst, ℕ, zero, suc, ◌+◌, ◌<◌, List, [], ◌∷◌, ◌++◌, All, length, length-append, append_assoc, map, max, get_or, take, Result, Ok, Err, IfErr, IsErrAnd}
-use Rattle.std.specs.Prelude.{sum_by, fold}
+use Rattle.std.proofs.Common.{◌≡◌, ◌≢◌, ◌≤◌, ◌⊎◌, ◌∙◌, ap, arith, inl, inr, refl, sym, subst, ℕ, zero, suc, ◌+◌, ◌<◌, List, [], ◌∷◌, ◌++◌, length, length-append, append_assoc, map, max, get_or, take, Result, Ok, Err, IfErr, IsErrAnd}
+use Rattle.std.specs.Prelude.{sum_by}
 use Rattle.std.proofs.lemmas.List.{append-nil, map-append, take_all, take_more}
 use Rattle.std.proofs.lemmas.List.Elements.{All-get_or, All-nil, All-push}
 use Rattle.std.proofs.lemmas.List.Sums.{fold-append, sum_by-append}
@@ -8,12 +8,14 @@ use Rattle.graph_edits.specs.Edges.{below}
 use Rattle.node_table.specs.declared.parts.Parts.{Parts}
 use Rattle.router_table.specs.Order.{IsTable}
 use Rattle.router_table.specs.Table.{table_at}
+use Rattle.command_output.specs.Printing.{Ends, Known}
+use Rattle.command_output.specs.declared.ended.Ended.{Ended}
 use Rattle.command_output.specs.declared.fault.Fault.{Fault}
 use Rattle.command_output.specs.declared.fault.Fault.TheVariants as told
 use Rattle.command_output.specs.RouteLines.{tables_text}
 use Rattle.table_files.specs.declared.totals.Totals.{Totals}
 use Rattle.table_files.specs.Files.{HasPut, IsPutFault, Put}
-use Rattle.table_files.specs.Tables.{AreInOrder, AreThere, HasPutSome, IsPuttingFault, IsTotalOf, MayMiss, asked_nodes, bytes_in, file_of, files_of, put_text}
+use Rattle.table_files.specs.Tables.{AreThere, HasPutSome, IsPuttingFault, IsTotalOf, MayMiss, asked_nodes, bytes_in, file_of, files_of, put_text}
 
 -- nothing was put
 pub none_put : (puts : List Put) → HasPut puts puts []
@@ -80,6 +82,13 @@ pub handed_up : {T : Type 0} (r : Result T Fault) (P : Fault → Type 0) (fault 
 handed_up (Ok x) P fault is has = absurd is
 handed_up (Err e) P fault is has = subst P (sym is) has
 
+-- and a command ends so by it
+pub ends_by : {W : Type 0} (r : Result Ended Fault) (Prints : Ended → Known → Known → Type 0) (MayFail : Fault → Type 0) (contents : W → Known) (old new : W) (fault : Fault) → IsErrAnd r (λ e. e ≡ fault)
+    → MayFail fault → (fault ≢ told.Output → new ≡ old) → Ends Prints MayFail contents old new r
+ends_by (Ok ended) Prints MayFail contents old new fault is may kept = absurd is
+ends_by (Err e) Prints MayFail contents old new fault is may kept =
+    record { printed = tt; fault = subst MayFail (sym is) may; untouched = λ other. kept (subst (λ (f : Fault). f ≢ told.Output) is other) }
+
 named_putting : (p : Parts) (node : ℕ) (fault : Fault) → IsPutFault fault ⊎ MayMiss p node fault → IsPuttingFault fault
 named_putting p node told.TableFile is = tt
 named_putting p node told.Memory is = tt
@@ -124,14 +133,4 @@ line_missed p folder nodes old new put = record {
   files = put ∙ ap (λ (ns : List ℕ). old ++ files_of p folder ns) (sym (take_all (length nodes) nodes (omega arith)));
   internal = λ is. absurd (cc);
   output = λ is. refl;
-}
-
--- memory ran out before any was put
-pub nothing_put : (p : Parts) (folder nodes : List ℕ) (puts : List Put) → HasPutSome p folder nodes (HasPut puts puts) told.Memory
-nothing_put p folder nodes puts = record {
-  named = tt;
-  count = 0;
-  files = none_put puts;
-  internal = λ is. absurd (cc);
-  output = λ is. absurd (cc);
 }

@@ -1,5 +1,5 @@
 -- Files of routers' tables, where they stand, and what was put.
-use Rattle.std.specs.Prelude.{◌≡◌, ℕ, ◌+◌, List, [], ◌∷◌, ◌++◌, codes, decimal}
+use Rattle.std.specs.Prelude.{◌≡◌, ℕ, List, [], ◌∷◌, ◌++◌, codes, decimal}
 use Rattle.std.specs.String.{string_bytes}
 use Rattle.command_output.specs.declared.fault.Fault.{Fault}
 use Rattle.command_output.specs.declared.fault.Fault.TheVariants as told
@@ -17,6 +17,10 @@ put_of file = record { path = string_bytes file.path; bytes = file.bytes.items }
 -- these files were put, in this order, and nothing else
 abbrev pub HasPut : List Put → List Put → List Put → Type 0
 HasPut old new puts = new ≡ old ++ puts
+
+-- the same of a place of files, by what was put there before and what is put there now
+abbrev pub PutBy : {T : Type 0} → (T → List Put) → T → T → List Put → Type 0
+PutBy puts old new files = HasPut (puts old) (puts new) files
 
 -- the faults of a file that is to be put
 abbrev pub IsPutFault : Fault → Type 0

@@ -1,5 +1,5 @@
 -- What is put and printed of the tables of a scheme's nodes, and why that ends.
-use Rattle.std.specs.Prelude.{◌≡◌, ◌⊎◌, ℕ, ◌<◌, List, [], ◌∷◌, ◌++◌, Option, All, length, map, take, sum_by, fold, max}
+use Rattle.std.specs.Prelude.{◌≡◌, ◌⊎◌, ℕ, ◌<◌, List, [], ◌∷◌, Result, All, length, map, take, sum_by, fold, max}
 use Rattle.std.specs.Io.KnownBytes.{Appends}
 use Rattle.graph_edits.specs.Edges.{below}
 use Rattle.node_table.specs.declared.parts.Parts.{Parts}
@@ -11,6 +11,7 @@ use Rattle.command_output.specs.declared.ended.Ended.TheVariants.{Done, Refused}
 use Rattle.command_output.specs.declared.fault.Fault.{Fault}
 use Rattle.command_output.specs.declared.fault.Fault.TheVariants as told
 use Rattle.command_output.specs.Lines.{line}
+use Rattle.command_output.specs.Printing.{Ends, Known}
 use Rattle.command_output.specs.RouteLines.{absent_text, tables_text}
 use Rattle.table_files.specs.declared.totals.Totals.{Totals}
 use Rattle.table_files.specs.Files.{Put, table_path}
@@ -60,7 +61,7 @@ put_text generation puts = tables_text generation (length puts) (bytes_in puts) 
 -- ---- the answer, of a scheme
 
 -- The tables of these nodes were put, each is in order, and their line was printed.
-pub record HasPutAll (p : Parts) (generation : ℕ) (folder nodes : List ℕ) (put : List Put → Type 0) (ended : Ended) (old new : Option (List ℕ)) : Type 0 where
+pub record HasPutAll (p : Parts) (generation : ℕ) (folder nodes : List ℕ) (put : List Put → Type 0) (ended : Ended) (old new : Known) : Type 0 where
   pub there : AreThere p.nodes nodes
   pub ends : ended ≡ Done
   pub order : AreInOrder p nodes
@@ -68,14 +69,14 @@ pub record HasPutAll (p : Parts) (generation : ℕ) (folder nodes : List ℕ) (p
   pub printed : Appends old new (line (put_text generation (files_of p folder nodes)))
 
 -- A node isn't there: nothing was put, and that was printed.
-pub record LacksNode (p : Parts) (nodes : List ℕ) (put : List Put → Type 0) (ended : Ended) (old new : Option (List ℕ)) : Type 0 where
+pub record LacksNode (p : Parts) (nodes : List ℕ) (put : List Put → Type 0) (ended : Ended) (old new : Known) : Type 0 where
   pub lacks : ¬ AreThere p.nodes nodes
   pub ends : ended ≡ Refused
   pub nothing : put []
   pub printed : Appends old new (line absent_text)
 
 -- one of the two, of the nodes that are asked for
-abbrev pub AnswersTables : Parts → ℕ → List ℕ → List ℕ → (List Put → Type 0) → Ended → Option (List ℕ) → Option (List ℕ) → Type 0
+abbrev pub AnswersTables : Parts → ℕ → List ℕ → List ℕ → (List Put → Type 0) → Ended → Known → Known → Type 0
 AnswersTables p generation folder named put ended old new =
     HasPutAll p generation folder (asked_nodes named p.nodes) put ended old new ⊎ LacksNode p named put ended old new
 
@@ -111,3 +112,19 @@ LacksAndFails p named put fault = ¬ AreThere p.nodes named × put [] × (fault 
 -- one of the two, of the nodes that are asked for
 abbrev pub EndsPutting : Parts → List ℕ → List ℕ → (List Put → Type 0) → Fault → Type 0
 EndsPutting p folder named put fault = HasPutSome p folder (asked_nodes named p.nodes) put fault ⊎ LacksAndFails p named put fault
+
+-- ---- a command that puts tables, of a scheme
+
+-- so ends one that puts the tables of these nodes
+abbrev pub EndsPutAll : {W : Type 0} → Parts → ℕ → List ℕ → List ℕ → (List Put → Type 0)
+    → (W → Known) → W → W → Result Ended Fault → Type 0
+EndsPutAll p generation folder nodes put contents old new result =
+    Ends (λ ended before after. HasPutAll p generation folder nodes put ended before after)
+    (λ fault. HasPutSome p folder nodes put fault) contents old new result
+
+-- and one that puts those of the nodes that are asked for
+abbrev pub EndsPutAsked : {W : Type 0} → Parts → ℕ → List ℕ → List ℕ → (List Put → Type 0)
+    → (W → Known) → W → W → Result Ended Fault → Type 0
+EndsPutAsked p generation folder named put contents old new result =
+    Ends (λ ended before after. AnswersTables p generation folder named put ended before after)
+    (λ fault. EndsPutting p folder named put fault) contents old new result

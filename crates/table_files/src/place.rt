@@ -92,9 +92,7 @@ impl TableFiles for HostTables<'_> {
     ghost puts = { λ tables. map put_of tables.put.items };
 
     fn put(&mut self, file: TableFile) -> Result<(), Fault> {
-        write_file(self.files, &file)?;
-        self.put = self.put.with_entry(&file);
-        Ok(())
+        put_file(self.files, &mut self.put, file)
     }
 }
 
@@ -104,10 +102,23 @@ impl<R: Files<File = File> + AllocGlobal> TableFiles for SystemTables<'_, R> {
     ghost puts = { λ tables. map put_of tables.put.items };
 
     fn put(&mut self, file: TableFile) -> Result<(), Fault> {
-        write_file(self.files, &file)?;
-        self.put = self.put.with_entry(&file);
-        Ok(())
+        put_file(self.files, &mut self.put, file)
     }
+}
+
+// Puts a file in the place of what stands by its path, and lists it.
+fn put_file<R: Files<File = File> + AllocGlobal>(
+    files: &R,
+    list: &mut Log<TableFile>,
+    file: TableFile,
+) -> Result<(), Fault>
+    ensures put { OnOk result (map put_of list.new.items ≡ map put_of list.old.items ++ put_of file ∷ []) }
+    ensures kept { OnErr result (list.new ≡ list.old) }
+    ensures fault { IfErr result (λ fault. IsPutFault fault) }
+{
+    write_file(files, &file)?;
+    *list = list.with_entry(&file);
+    Ok(())
 }
 
 // Puts a file in the place of what stands by its path.

@@ -1,14 +1,14 @@
 //! The tables of a scheme's nodes, put one after the other.
-ghost use Rattle.std.specs.Prelude.{◌≡◌, ◌≢◌, ◌<◌, ◌⊎◌, ◌++◌, ◌∷◌, [], ◌↔◌, All, IfErr, IfOk, IsTrue, OnErr, length};
+ghost use Rattle.std.specs.Prelude.{◌≡◌, ◌≢◌, ◌<◌, ◌⊎◌, ◌∷◌, [], ◌↔◌, IfErr, IfOk, IsTrue, OnErr, length};
 ghost use Rattle.router_table.specs.Order.{IsTable};
-ghost use Rattle.router_table.specs.Spelling.{SpellsTable, table_text};
+ghost use Rattle.router_table.specs.Spelling.{SpellsTable};
 ghost use Rattle.router_table.specs.Table.{table_at};
 ghost use Rattle.graph_edits.specs.Edges.{below};
 ghost use Rattle.command_output.specs.Lines.{line};
 ghost use Rattle.command_output.specs.RouteLines.{absent_text};
-ghost use Rattle.std.specs.Io.KnownBytes.{Appends};
-ghost use Rattle.table_files.specs.Files.{HasPut, IsPutFault, put_of};
-ghost use Rattle.table_files.specs.Tables.{AnswersTables, AreInOrder, AreThere, EndsPutting, HasPutAll, HasPutSome, IsTotalOf, LacksAndFails, LacksNode, MayMiss, asked_nodes, file_of, files_of};
+ghost use Rattle.command_output.specs.Printing.{PrintsText};
+ghost use Rattle.table_files.specs.Files.{IsPutFault, PutBy, put_of};
+ghost use Rattle.table_files.specs.Tables.{AreInOrder, AreThere, EndsPutAll, EndsPutAsked, HasPutSome, IsTotalOf, MayMiss, asked_nodes, file_of, files_of};
 
 use crate::place::{TableFile, TableFiles, path_of};
 use crate::totals::Totals;
@@ -82,7 +82,7 @@ fn put_table<T: TableFiles>(
     node: u16,
 ) -> Result<usize, Fault>
     requires { node < scheme.now.nodes }
-    ensures put { IfOk result (λ len. T.puts tables.new ≡ T.puts tables.old ++ file_of scheme.now folder.now node ∷ []) }
+    ensures put { IfOk result (λ _. PutBy T.puts tables.old tables.new (file_of scheme.now folder.now node ∷ [])) }
     ensures len { IfOk result (λ len. len ≡ length (file_of scheme.now folder.now node).bytes) }
     ensures order { IfOk result (λ _. IsTable (table_at scheme.now node)) }
     ensures kept { OnErr result (T.puts tables.new ≡ T.puts tables.old) }
@@ -103,10 +103,11 @@ fn put_tables<T: TableFiles>(
     nodes: &[u16],
 ) -> Result<Totals, Fault>
     requires { AreThere scheme.now.nodes nodes.now }
-    ensures put { IfOk result (λ _. HasPut (T.puts tables.old) (T.puts tables.new) (files_of scheme.now folder.now nodes.now)) }
+    ensures put { IfOk result (λ _. PutBy T.puts tables.old tables.new (files_of scheme.now folder.now nodes.now)) }
     ensures order { IfOk result (λ _. AreInOrder scheme.now nodes.now) }
     ensures totals { IfOk result (λ totals. IsTotalOf totals (files_of scheme.now folder.now nodes.now)) }
-    ensures fault { IfErr result (λ fault. (fault ≢ Fault.Output) × HasPutSome scheme.now folder.now nodes.now (HasPut (T.puts tables.old) (T.puts tables.new)) fault) }
+    ensures fault { IfErr result (λ fault. (fault ≢ Fault.Output)
+        × HasPutSome scheme.now folder.now nodes.now (PutBy T.puts tables.old tables.new) fault) }
 {
     let mut totals = Totals::none();
     for node in nodes {
@@ -119,7 +120,7 @@ fn put_tables<T: TableFiles>(
 // Prints that a node isn't there.
 fn print_absent<O: Write>(out: &mut O) -> Result<Ended, Fault>
     ensures ended { IfOk result (λ ended. ended ≡ Ended.Refused) }
-    ensures printed { IfOk result (λ _. Appends (O.contents out.old) (O.contents out.new) (line absent_text)) }
+    ensures printed { IfOk result (λ _. PrintsText O.contents out.old out.new (line absent_text)) }
     ensures fault { IfErr result (λ fault. fault ≡ Fault.Output) }
 {
     print_line(out, AbsentLine)?;
@@ -137,9 +138,8 @@ fn put_all<T: TableFiles, O: Write>(
     out: &mut O,
 ) -> Result<Ended, Fault>
     requires { AreThere scheme.now.nodes nodes.now }
-    ensures answer { IfOk result (λ ended. HasPutAll scheme.now generation folder.now nodes.now (HasPut (T.puts tables.old) (T.puts tables.new)) ended (O.contents out.old) (O.contents out.new)) }
-    ensures fault { IfErr result (λ fault. HasPutSome scheme.now folder.now nodes.now (HasPut (T.puts tables.old) (T.puts tables.new)) fault) }
-    ensures untouched { IfErr result (λ fault. fault ≢ Fault.Output → out.new ≡ out.old) }
+    ensures { EndsPutAll scheme.now generation folder.now nodes.now (PutBy T.puts tables.old tables.new)
+        O.contents out.old out.new result }
 {
     let totals = put_tables(alloc, tables, scheme, folder, nodes)?;
     print_line(
@@ -165,9 +165,8 @@ pub fn put_asked<T: TableFiles, O: Write>(
     named: &[u16],
     out: &mut O,
 ) -> Result<Ended, Fault>
-    ensures answer { IfOk result (λ ended. AnswersTables scheme.now generation folder.now named.now (HasPut (T.puts tables.old) (T.puts tables.new)) ended (O.contents out.old) (O.contents out.new)) }
-    ensures fault { IfErr result (λ fault. EndsPutting scheme.now folder.now named.now (HasPut (T.puts tables.old) (T.puts tables.new)) fault) }
-    ensures untouched { IfErr result (λ fault. fault ≢ Fault.Output → out.new ≡ out.old) }
+    ensures { EndsPutAsked scheme.now generation folder.now named.now (PutBy T.puts tables.old tables.new)
+        O.contents out.old out.new result }
 {
     let count = scheme.parts().nodes;
     if !are_there(named, count) {

@@ -1,6 +1,7 @@
 -- Lists that are written as texts.
-use Rattle.std.proofs.Common.{◌≡◌, ◌∙◌, ◌<◌, ◌≤◌, ◌^◌, ◌==◌, arith, ℕ, zero, suc, refl, sym, ap, ap₂, List, [], ◌∷◌, ◌++◌, map, length, take, get_or, false, Option, None, Some, Bor, codes, decimal}
+use Rattle.std.proofs.Common.{◌≡◌, ◌∙◌, ◌<◌, ◌≤◌, ◌^◌, ◌+◌, ◌==◌, arith, All, ℕ, zero, suc, refl, sym, ap, ap₂, List, [], ◌∷◌, ◌++◌, map, length, take, get_or, false, Option, None, Some, Bor, codes, decimal}
 use Rattle.std.proofs.lemmas.Fmt.{decimal_is_IsNumeral}
+use Rattle.std.proofs.lemmas.List.Elements.{recursion_from_All}
 use Rattle.std.proofs.lemmas.Str.Parse.{digit_at}
 use Rattle.graph_edits.specs.declared.edits.Op.{Op}
 use Rattle.written_values.specs.OpText.{op_text}
@@ -9,8 +10,11 @@ use Rattle.written_values.specs.declared.line.ScriptLine.TheVariants.{Edit, Rout
 use Rattle.std.specs.List.{AllByRecursion}
 use Rattle.written_values.specs.Scripts.{IsChange, MayStand, line_words, without_empty_last, words_of}
 
+some_same : {A : Type 0} (o : Option A) (a b : A) → o ≡ Some a → o ≡ Some b → a ≡ b
+some_same o a b is other = cc
+
 -- where the one list reads as the other is written, each place does
-pub read_at : {A B C : Type 0} (P : B → Type 0) (f : A → C) (g : B → C) (bs : List B) (xs : List A) (i : ℕ) (d : A) → i < length xs → AllByRecursion P bs → map g bs ≡ map f xs
+read_at : {A B C : Type 0} (P : B → Type 0) (f : A → C) (g : B → C) (bs : List B) (xs : List A) (i : ℕ) (d : A) → i < length xs → AllByRecursion P bs → map g bs ≡ map f xs
     → (b : B) × P b × (f (get_or xs i d) ≡ g b) × (take (suc i) bs ≡ take i bs ++ b ∷ [])
 read_at P f g bs [] i d lt fit same = absurd (omega arith)
 read_at P f g [] (x ∷ xs) i d lt fit same = absurd (cc)
@@ -19,6 +23,29 @@ read_at P f g (b ∷ bs) (x ∷ xs) (suc i) d lt fit same =
     let rest : map g bs ≡ map f xs = cc in
     let next = read_at P f g bs xs i d (omega arith) fit.1 rest in
     (next.0, next.1, next.2, ap (λ taken. b ∷ taken) next.3)
+
+-- the place that no text stands at
+abbrev pub nowhere : Bor (List ℕ)
+nowhere = record { ref_ptr = (0, 0); now = [] }
+
+-- A loop reads the text at place i, as the only item that is written so, or as none. Where all texts are written as these
+-- items are, one is read there, and it is theirs.
+module _ {B C : Type 0} (P : B → Type 0) (f : Bor (List ℕ) → C) (g : B → C) (xs : List (Bor (List ℕ))) (i : ℕ) (found : Option B) (lt : i < length xs)
+    (only : (b : B) → P b → f (get_or xs i nowhere) ≡ g b → found ≡ Some b) (bs : List B) (fit : All P bs) (same : map g bs ≡ map f xs) where
+  next : (b : B) × P b × (f (get_or xs i nowhere) ≡ g b) × (take (suc i) bs ≡ take i bs ++ b ∷ [])
+  next = read_at P f g bs xs i nowhere lt (recursion_from_All P bs fit) same
+
+  its_own : found ≡ Some next.0
+  its_own = only next.0 next.1 next.2
+
+  pub none_missed : ((b : B) → found ≡ Some b → ⊥) → ⊥
+  none_missed none = none next.0 its_own
+
+  pub one_read : (b : B) (old new : List B) → found ≡ Some b → old ≡ take i bs → new ≡ old ++ b ∷ [] → new ≡ take (i + 1) bs
+  one_read b old new is before pushed =
+      let one : b ≡ next.0 = some_same found b next.0 is its_own in
+      let one_more : suc i ≡ i + 1 = omega arith in
+      pushed ∙ ap₂ (λ (read : List B) (x : B). read ++ x ∷ []) before one ∙ sym next.3 ∙ ap (λ n. take n bs) one_more
 
 -- an empty last part goes
 pub empty_goes : (parts : List (List ℕ)) (last : List ℕ) → length last ≡ 0 → without_empty_last (parts ++ last ∷ []) ≡ parts

@@ -3,12 +3,10 @@ ghost use Rattle.std.specs.Prelude.{◌≡◌, ◌<◌, ◌↔◌, ℕ, List, Al
 ghost use Rattle.written_values.specs.declared.words.LandmarkWords.{LandmarkWords};
 ghost use Rattle.written_values.specs.WordsText.{AreNodes, IsAsked, nodes_text, words_text};
 ghost use Rattle.written_values.specs.Reading.{IfRead, ReadsList, ReadsWords};
-ghost use Rattle.written_values.specs.Words.{AreDrawn, AreWords, AreZeroAt, IsWithin, first_state, state_after};
+ghost use Rattle.written_values.specs.Words.{AreWords, AreZeroAt, IsWithin};
 
+use crate::draws::Draws;
 use crate::op_words::{node, number};
-use rand_core::SeedableRng;
-use rand_core::utils::NextWord;
-use rand_xoshiro::Xoshiro256PlusPlus;
 use std::alloc::{AllocError, Global};
 
 /// Which word each node has.
@@ -84,7 +82,8 @@ impl LandmarkWords {
             LandmarkWords::Greatest => vec![in alloc; u64::MAX; nodes as usize],
             LandmarkWords::ZeroAt(named) => zero_at(alloc, named, nodes),
             LandmarkWords::Drawn(seed) => {
-                drawn(alloc, &mut Xoshiro256PlusPlus::seed_from_u64(*seed), nodes)
+                let mut draws = Draws::seeded(*seed);
+                draws.next(alloc, nodes)
             }
         }
     }
@@ -97,22 +96,6 @@ fn zero_at(alloc: Global, named: &[u16], nodes: u16) -> Result<Vec<u64>, AllocEr
     let mut words = vec![in alloc; u64::MAX; nodes as usize]?;
     for node in named {
         words[*node as usize] = 0;
-    }
-    Ok(words)
-}
-
-/// The generator's next words, one for each of so many nodes.
-fn drawn(
-    alloc: Global,
-    generator: &mut Xoshiro256PlusPlus,
-    nodes: u16,
-) -> Result<Vec<u64>, AllocError>
-    ensures words { IfOk result (λ words. AreDrawn generator.old nodes words.items) }
-    ensures left { IfOk result (λ _. generator.new ≡ state_after generator.old nodes) }
-{
-    let mut words = Vec::with_capacity(alloc, nodes as usize)?;
-    for _ in 0..nodes {
-        words.push(generator.next_word())?;
     }
     Ok(words)
 }

@@ -1,6 +1,6 @@
 -- Steps of a build: lists at places, entries and home labels of one more row, and the limits of trees.
 use Rattle.std.proofs.Common.{◌≡◌, ℕ, zero, suc, ◌+◌, ◌<◌, ◌≤◌, ◌==◌, Bool, true, false, cond, nat_lt, sym, refl, ap, subst, ◌∙◌, arith, List, [], ◌∷◌, ◌++◌, length, map, take, get_or, append_assoc, add-one, IsPermutation}
-use Rattle.std.specs.Prelude.{Option, Some, None, nat_eq, slice_get, slice_index, slice_index_or}
+use Rattle.std.specs.Prelude.{Option, Some, None, nat_eq, slice_index, slice_index_or}
 use Rattle.std.specs.List.{IsDistinct}
 use Rattle.std.specs.List.Sorted.{IsNonDecreasingBy}
 use Rattle.std.proofs.lemmas.List.{get_or-map, map-append}
@@ -20,7 +20,7 @@ use Rattle.heavy_labels.specs.declared.numbered_member.NumberedMember.{NumberedM
 use Rattle.distances.specs.declared.linked.Linked.{Linked}
 use Rattle.node_table.specs.declared.parts.Entry.{Entry}
 use Rattle.node_table.specs.declared.parts.Listed.{Listed}
-use Rattle.node_table.specs.Tables.{nodes_of, or_none}
+use Rattle.node_table.specs.Tables.{nodes_of, value_at}
 use Rattle.node_table.specs.RowLists.{Row, entry_by, nodes_numbered, row_by, rows_by}
 use Rattle.node_table.specs.Building.{items_at, entries_for, home_by, home_after, listed_member, IsDirectoryOf}
 use Rattle.node_table.proofs.Builds.MadeRows.{listed_row}
@@ -94,21 +94,21 @@ home_append near r [] l v o = refl
 home_append near r (u ∷ ls) l v o = home_append near r ls l v (cond (u.node == v) (home_by near r u.label o) o)
 
 -- a home label set for the node of a numbered member
-home_next : (nearest : List (Option Near)) (r : ℕ) (ns : List NumberedMember) (i : ℕ) (n : NumberedMember) (v : ℕ) (o now : Option Label) (near : Option Near) → i < length ns → n ≡ get_or ns i n → near ≡ or_none (slice_get nearest n.node)
-    → now ≡ cond (n.node == v) (home_by near r n.label (home_after (or_none (slice_get nearest v)) r (map listed_member (take i ns)) v o)) (home_after (or_none (slice_get nearest v)) r (map listed_member (take i ns)) v o)
-    → now ≡ home_after (or_none (slice_get nearest v)) r (map listed_member (take (i + 1) ns)) v o
+home_next : (nearest : List (Option Near)) (r : ℕ) (ns : List NumberedMember) (i : ℕ) (n : NumberedMember) (v : ℕ) (o now : Option Label) (near : Option Near) → i < length ns → n ≡ get_or ns i n → near ≡ value_at nearest n.node
+    → now ≡ cond (n.node == v) (home_by near r n.label (home_after (value_at nearest v) r (map listed_member (take i ns)) v o)) (home_after (value_at nearest v) r (map listed_member (take i ns)) v o)
+    → now ≡ home_after (value_at nearest v) r (map listed_member (take (i + 1) ns)) v o
 home_next nearest r ns i n v o now near l e is h =
     h ∙ same (n.node == v) refl
-    ∙ sym (ap (λ z. home_after (or_none (slice_get nearest v)) r z v o) (map_next listed_member ns i n l e) ∙ home_append (or_none (slice_get nearest v)) r (map listed_member (take i ns)) (listed_member n) v o)
+    ∙ sym (ap (λ z. home_after (value_at nearest v) r z v o) (map_next listed_member ns i n l e) ∙ home_append (value_at nearest v) r (map listed_member (take i ns)) (listed_member n) v o)
   where
     before : Option Label
-    before = home_after (or_none (slice_get nearest v)) r (map listed_member (take i ns)) v o
+    before = home_after (value_at nearest v) r (map listed_member (take i ns)) v o
 
-    same : (b : Bool) → (n.node == v) ≡ b → cond b (home_by near r n.label before) before ≡ cond b (home_by (or_none (slice_get nearest v)) r n.label before) before
-    same true t = ap (λ z. home_by z r n.label before) (is ∙ ap (λ z. or_none (slice_get nearest z)) (eqb-true n.node v t))
+    same : (b : Bool) → (n.node == v) ≡ b → cond b (home_by near r n.label before) before ≡ cond b (home_by (value_at nearest v) r n.label before) before
+    same true t = ap (λ z. home_by z r n.label before) (is ∙ ap (λ z. value_at nearest z) (eqb-true n.node v t))
     same false t = refl
 
-pub near_is : (nearest : List (Option Near)) (i : ℕ) → slice_index_or nearest i None ≡ or_none (slice_get nearest i)
+pub near_is : (nearest : List (Option Near)) (i : ℕ) → slice_index_or nearest i None ≡ value_at nearest i
 near_is [] i = refl
 near_is (o ∷ nearest) zero = refl
 near_is (o ∷ nearest) (suc i) = near_is nearest i
@@ -189,11 +189,11 @@ added_more A old now new r ks table ns i n entry l e is h k x =
 
 pub homes_more : (nearest : List (Option Near)) (r : ℕ) (ns : List NumberedMember) (i : ℕ) (n : NumberedMember) (old now new : List (Option Label)) (near : Option Near) → i < length ns → n ≡ get_or ns i n
     → near ≡ slice_index_or nearest n.node None
-    → ((v : ℕ) → or_none (slice_get now v) ≡ home_after (or_none (slice_get nearest v)) r (map listed_member (take i ns)) v (or_none (slice_get old v)))
-    → ((v : ℕ) → or_none (slice_get new v) ≡ cond (n.node == v) (home_by near r n.label (or_none (slice_get now v))) (or_none (slice_get now v)))
-    → (v : ℕ) → or_none (slice_get new v) ≡ home_after (or_none (slice_get nearest v)) r (map listed_member (take (i + 1) ns)) v (or_none (slice_get old v))
+    → ((v : ℕ) → value_at now v ≡ home_after (value_at nearest v) r (map listed_member (take i ns)) v (value_at old v))
+    → ((v : ℕ) → value_at new v ≡ cond (n.node == v) (home_by near r n.label (value_at now v)) (value_at now v))
+    → (v : ℕ) → value_at new v ≡ home_after (value_at nearest v) r (map listed_member (take (i + 1) ns)) v (value_at old v)
 homes_more nearest r ns i n old now new near l e is h k v =
-    home_next nearest r ns i n v (or_none (slice_get old v)) (or_none (slice_get new v)) near l e (is ∙ near_is nearest n.node)
+    home_next nearest r ns i n v (value_at old v) (value_at new v) near l e (is ∙ near_is nearest n.node)
     (k v ∙ ap (λ z. cond (n.node == v) (home_by near r n.label z) z) (h v))
 
 pub flag_false : (flags : List Bool) (r : ℕ) → (IsLandmark flags r → ⊥) → slice_index_or flags r false ≡ false

@@ -1,10 +1,10 @@
 -- Two tables joined place by place: the places so far are made of both, the others are as they were.
 use Rattle.std.proofs.Common.{◌≡◌, ℕ, zero, suc, ◌+◌, ◌<◌, ◌≤◌, ◌⊎◌, inl, inr, Bool, true, false, nat_lt, refl, sym, ap, subst, ◌∙◌, arith, List, [], ◌∷◌, length, get_or}
-use Rattle.std.specs.Prelude.{Option, None, slice_get}
+use Rattle.std.specs.Prelude.{Option, None}
 use Rattle.std.proofs.Math.ListN.{set}
 use Rattle.std.proofs.lemmas.Bool.Decides.{nat_tests}
 use Rattle.std.specs.declared.vec.Vec.{Vec}
-use Rattle.node_table.specs.Tables.{or_none}
+use Rattle.node_table.specs.Tables.{value_at}
 use Rattle.node_table.specs.Building.{items_at}
 
 -- below n what stands now is made of both, and from n on it is what stood there; what is left of the second is all from n on
@@ -48,19 +48,19 @@ items_past (v ∷ vs) zero l = absurd (omega (arith, l))
 items_past (v ∷ vs) (suc x) l = items_past vs x (omega (arith, l))
 
 -- no value stands past the end
-pub values_past : {X : Type 0} (os : List (Option X)) (x : ℕ) → length os ≤ x → or_none (slice_get os x) ≡ None
+pub values_past : {X : Type 0} (os : List (Option X)) (x : ℕ) → length os ≤ x → value_at os x ≡ None
 values_past [] x l = refl
 values_past (o ∷ os) zero l = absurd (omega (arith, l))
 values_past (o ∷ os) (suc x) l = values_past os x (omega (arith, l))
 
 -- the value that was set
-pub value_set : {X : Type 0} (os : List (Option X)) (i : ℕ) (o : Option X) → i < length os → or_none (slice_get (set os i o) i) ≡ o
+pub value_set : {X : Type 0} (os : List (Option X)) (i : ℕ) (o : Option X) → i < length os → value_at (set os i o) i ≡ o
 value_set [] i o l = absurd (omega (arith, l))
 value_set (u ∷ os) zero o l = refl
 value_set (u ∷ os) (suc i) o l = value_set os i o (omega (arith, l))
 
 -- the others stay
-pub value_other : {X : Type 0} (os : List (Option X)) (i x : ℕ) (o : Option X) → (x ≡ i → ⊥) → or_none (slice_get (set os i o) x) ≡ or_none (slice_get os x)
+pub value_other : {X : Type 0} (os : List (Option X)) (i x : ℕ) (o : Option X) → (x ≡ i → ⊥) → value_at (set os i o) x ≡ value_at os x
 value_other [] i x o n = refl
 value_other (u ∷ os) zero zero o n = absurd (n refl)
 value_other (u ∷ os) zero (suc x) o n = refl
@@ -68,7 +68,7 @@ value_other (u ∷ os) (suc i) zero o n = refl
 value_other (u ∷ os) (suc i) (suc x) o n = value_other os i x o (λ e. n (ap suc e))
 
 -- the value at a place of the list
-pub value_is : {X : Type 0} (os : List (Option X)) (i : ℕ) (d : Option X) → i < length os → or_none (slice_get os i) ≡ get_or os i d
+pub value_is : {X : Type 0} (os : List (Option X)) (i : ℕ) (d : Option X) → i < length os → value_at os i ≡ get_or os i d
 value_is [] i d l = absurd (omega (arith, l))
 value_is (o ∷ os) zero d l = refl
 value_is (o ∷ os) (suc i) d l = value_is os i d (omega (arith, l))

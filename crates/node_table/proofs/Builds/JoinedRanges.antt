@@ -10,7 +10,7 @@ use Rattle.distances.specs.declared.nearest.Near.{Near}
 use Rattle.heavy_labels.specs.Label.{Label}
 use Rattle.node_table.specs.declared.parts.Parts.{Parts}
 use Rattle.node_table.specs.declared.parts.Entry.{Entry}
-use Rattle.node_table.specs.Tables.{tables, entries_at, directory_at, first_entry, first_listed, roots_of, nodes_of, or_none, or_false}
+use Rattle.node_table.specs.Tables.{tables, entries_at, directory_at, first_entry, first_listed, roots_of, nodes_of, value_at, or_false}
 use Rattle.node_table.specs.Checks.{IsListed}
 use Rattle.node_table.specs.Columns.{IsColumn, HasColumn, IsBuiltBetween, AreBelow, AreFrom, limit_in}
 use Rattle.node_table.specs.Building.{items_at, first_list, first_some, IsJoined, IsBuildOf}
@@ -76,19 +76,19 @@ module _ (m : Network) (p q t : Parts) (a b c : ℕ) (ab : a ≤ b) (bc : b ≤ 
   landmark_q x = landmark_p x ∙ ap (λ z. or_false (slice_get z x)) (sym flags)
 
   nearest_p : (v : ℕ) → (tables t).nearest v ≡ (tables p).nearest v
-  nearest_p v = ap (λ z. or_none (slice_get z v)) w.nearest
+  nearest_p v = ap (λ z. value_at z v) w.nearest
 
   nearest_q : (v : ℕ) → (tables t).nearest v ≡ (tables q).nearest v
-  nearest_q v = nearest_p v ∙ ap (λ z. or_none (slice_get z v)) (sym near)
+  nearest_q v = nearest_p v ∙ ap (λ z. value_at z v) (sym near)
 
   roots_t : (x : ℕ) → roots_of (entries_at t x) ≡ roots_of (entries_at p x) ++ roots_of (entries_at q x)
-  roots_t x = ap roots_of (w.entries x) ∙ roots_append (entries_at p x) (entries_at q x)
+  roots_t x = ap roots_of (w.entries.items x) ∙ roots_append (entries_at p x) (entries_at q x)
 
   first_p : (r x : ℕ) → r < b → first_entry r (entries_at t x) ≡ first_entry r (entries_at p x)
-  first_p r x l = ap (first_entry r) (w.entries x) ∙ first_left r (entries_at p x) (entries_at q x) (none_from b r (entries_at q x) l (k.from x))
+  first_p r x l = ap (first_entry r) (w.entries.items x) ∙ first_left r (entries_at p x) (entries_at q x) (none_from b r (entries_at q x) l (k.from x))
 
   first_q : (r x : ℕ) → b ≤ r → first_entry r (entries_at t x) ≡ first_entry r (entries_at q x)
-  first_q r x l = ap (first_entry r) (w.entries x) ∙ first_right r (entries_at p x) (entries_at q x) (none_under b r (entries_at p x) l (h.below x))
+  first_q r x l = ap (first_entry r) (w.entries.items x) ∙ first_right r (entries_at p x) (entries_at q x) (none_under b r (entries_at p x) l (h.below x))
 
   directory_p : (u : ℕ) → u < b → directory_at t u ≡ directory_at p u
   directory_p u l = w.directories u ∙ ap (first_list (directory_at p u)) (k.fresh_before u l) ∙ list_left (directory_at p u)
@@ -158,7 +158,7 @@ module _ (m : Network) (p q t : Parts) (a b c : ℕ) (ab : a ≤ b) (bc : b ≤ 
     neighbours_are = λ x i. ap (λ z. items_at z x) w.ports ∙ h.neighbours_are x i;
     nearest = ap length w.nearest ∙ h.nearest;
     nearest_is = λ v. subst (λ o. IsNearestOf m.edges t.landmarks.items v o) (sym (nearest_p v)) (subst (λ z. IsNearestOf m.edges z v ((tables p).nearest v)) (sym w.landmarks) (h.nearest_is v));
-    entries = w.entries_length ∙ h.entries;
+    entries = w.entries.size ∙ h.entries;
     directories = w.directories_length ∙ h.directories;
     homes = w.homes_length ∙ h.homes;
     ascend = λ x. subst IsStrictlyIncreasing (sym (roots_t x)) (increasing_both b (roots_of (entries_at p x)) (roots_of (entries_at q x)) (h.ascend x) (k.ascend x) (h.below x) (k.from x));

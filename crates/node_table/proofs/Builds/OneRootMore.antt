@@ -18,7 +18,7 @@ use Rattle.heavy_labels.specs.declared.numbered_member.NumberedMember.{NumberedM
 use Rattle.node_table.specs.declared.parts.Parts.{Parts}
 use Rattle.node_table.specs.declared.parts.Entry.{Entry}
 use Rattle.node_table.specs.declared.parts.Listed.{Listed}
-use Rattle.node_table.specs.Tables.{tables, entries_at, directory_at, first_entry, first_listed, roots_of, nodes_of, or_none, or_false}
+use Rattle.node_table.specs.Tables.{tables, entries_at, directory_at, first_entry, first_listed, roots_of, nodes_of, value_at, or_false}
 use Rattle.node_table.specs.Checks.{IsListed}
 use Rattle.node_table.specs.Columns.{IsColumn, HasColumn, IsBuiltBetween, AreBelow, AreFrom, limit_in}
 use Rattle.node_table.specs.RowLists.{Row, nodes_in, nodes_numbered, row_at, row_by, rows_by, entry_in, label_in}
@@ -208,7 +208,7 @@ home_here q r (w ∷ ws) v e a = go (w.node == v) refl (home_here q r ws v e a.1
 
 -- ---- limits
 
-limit_same : (b : Bool) (nearest : List (Option Near)) (x : ℕ) → limit_by b nearest x ≡ cond b None (option_map (λ q. q.distance) (or_none (slice_get nearest x)))
+limit_same : (b : Bool) (nearest : List (Option Near)) (x : ℕ) → limit_by b nearest x ≡ cond b None (option_map (λ q. q.distance) (value_at nearest x))
 limit_same true nearest x = refl
 limit_same false nearest x = ap (λ o. option_map (λ (q : Near). q.distance) o) (near_is nearest x)
 
@@ -231,14 +231,14 @@ module _ (m : Network) (p q : Parts) (j k : ℕ) (ws : List Row) (le : j ≤ k) 
   landmark_same r = ap (λ z. or_false (slice_get z r)) w.landmarks
 
   nearest_same : (v : ℕ) → (tables q).nearest v ≡ (tables p).nearest v
-  nearest_same v = ap (λ z. or_none (slice_get z v)) w.nearest
+  nearest_same v = ap (λ z. value_at z v) w.nearest
 
   more_roots : (x : ℕ) (e : Entry) → IsIn e (entries_for x ws) → e.root ≡ k
   more_roots x e i = roots_for k x ws rows.root e i
 
   -- an older root is found as before
   first_old : (r x : ℕ) → (r ≡ k → ⊥) → first_entry r (entries_at q x) ≡ first_entry r (entries_at p x)
-  first_old r x n = ap (first_entry r) (w.entries x) ∙ first_left r (entries_at p x) (entries_for x ws) (none (entries_for x ws) (more_roots x))
+  first_old r x n = ap (first_entry r) (w.entries.items x) ∙ first_left r (entries_at p x) (entries_for x ws) (none (entries_for x ws) (more_roots x))
     where
       none : (es : List Entry) → ((e : Entry) → IsIn e es → e.root ≡ k) → first_entry r es ≡ None
       none [] f = refl
@@ -247,7 +247,7 @@ module _ (m : Network) (p q : Parts) (j k : ℕ) (ws : List Row) (le : j ≤ k) 
   -- and the new one by its row
   first_new : (x : ℕ) → first_entry k (entries_at q x) ≡ entry_in ws x
   first_new x =
-      ap (first_entry k) (w.entries x) ∙ first_right k (entries_at p x) (entries_for x ws) (none_below k (entries_at p x) (h.below x)) ∙ found (entry_cases x ws apart_rows)
+      ap (first_entry k) (w.entries.items x) ∙ first_right k (entries_at p x) (entries_for x ws) (none_below k (entries_at p x) (h.below x)) ∙ found (entry_cases x ws apart_rows)
     where
       found : ((entries_for x ws ≡ []) × (entry_in ws x ≡ None)) ⊎ IsOneEntry x ws (entries_for x ws) → first_entry k (entries_for x ws) ≡ entry_in ws x
       found (inl n) = ap (first_entry k) n.0 ∙ sym n.1
@@ -256,7 +256,7 @@ module _ (m : Network) (p q : Parts) (j k : ℕ) (ws : List Row) (le : j ≤ k) 
           ap (first_entry k) o.entries ∙ ap (λ b. cond b (Some o.entry) None) (eq-eqb o.entry.root k here) ∙ sym o.is
 
   still_ascends : (x : ℕ) → IsStrictlyIncreasing (roots_of (entries_at q x))
-  still_ascends x = subst (λ z. IsStrictlyIncreasing (roots_of z)) (sym (w.entries x)) (go (entry_cases x ws apart_rows))
+  still_ascends x = subst (λ z. IsStrictlyIncreasing (roots_of z)) (sym (w.entries.items x)) (go (entry_cases x ws apart_rows))
     where
       go : ((entries_for x ws ≡ []) × (entry_in ws x ≡ None)) ⊎ IsOneEntry x ws (entries_for x ws) → IsStrictlyIncreasing (roots_of (entries_at p x ++ entries_for x ws))
       go (inl n) = subst IsStrictlyIncreasing (sym (roots_append (entries_at p x) (entries_for x ws) ∙ ap (λ z. roots_of (entries_at p x) ++ roots_of z) n.0 ∙ nil (roots_of (entries_at p x)))) (h.ascend x)
@@ -270,7 +270,7 @@ module _ (m : Network) (p q : Parts) (j k : ℕ) (ws : List Row) (le : j ≤ k) 
           (increasing_push (roots_of (entries_at p x)) k (h.ascend x) (h.below x))
 
   still_below : (x : ℕ) → AreBelow (k + 1) (roots_of (entries_at q x))
-  still_below x = subst (λ z. AreBelow (k + 1) (roots_of z)) (sym (w.entries x)) (go (entry_cases x ws apart_rows))
+  still_below x = subst (λ z. AreBelow (k + 1) (roots_of z)) (sym (w.entries.items x)) (go (entry_cases x ws apart_rows))
     where
       nil : (xs : List ℕ) → xs ++ [] ≡ xs
       nil [] = refl
@@ -287,7 +287,7 @@ module _ (m : Network) (p q : Parts) (j k : ℕ) (ws : List Row) (le : j ≤ k) 
   limit_old r x = ap (λ b. cond b None (option_map (λ (z : Near). z.distance) ((tables p).nearest x))) (sym (landmark_same r)) ∙ ap (λ o. cond ((tables q).landmark r) None (option_map (λ (z : Near). z.distance) o)) (sym (nearest_same x))
 
   still_from : (x : ℕ) → AreFrom j (roots_of (entries_at q x))
-  still_from x = subst (λ z. AreFrom j z) (sym (ap roots_of (w.entries x) ∙ roots_append (entries_at p x) (entries_for x ws))) (from_both j (roots_of (entries_at p x)) (roots_of (entries_for x ws)) (h.from x) (all (entries_for x ws) (more_roots x)))
+  still_from x = subst (λ z. AreFrom j z) (sym (ap roots_of (w.entries.items x) ∙ roots_append (entries_at p x) (entries_for x ws))) (from_both j (roots_of (entries_at p x)) (roots_of (entries_for x ws)) (h.from x) (all (entries_for x ws) (more_roots x)))
     where
       all : (es : List Entry) → ((e : Entry) → IsIn e es → e.root ≡ k) → AreFrom j (roots_of es)
       all [] f = tt
@@ -365,7 +365,7 @@ module _ (m : Network) (p q : Parts) (j k : ℕ) (ws : List Row) (le : j ≤ k) 
     neighbours_are = λ x i. ap (λ z. items_at z x) w.ports ∙ h.neighbours_are x i;
     nearest = ap length w.nearest ∙ h.nearest;
     nearest_is = λ v. subst (λ o. IsNearestOf m.edges q.landmarks.items v o) (sym (nearest_same v)) (subst (λ z. IsNearestOf m.edges z v ((tables p).nearest v)) (sym w.landmarks) (h.nearest_is v));
-    entries = w.entries_length ∙ h.entries;
+    entries = w.entries.size ∙ h.entries;
     directories = w.directories_length ∙ h.directories;
     homes = w.homes_length ∙ h.homes;
     ascend = still_ascends;
@@ -406,7 +406,7 @@ rows_of m flags nearest generation p j k ks table ns h apart inside column =
 pub built_first : (m : Network) (p : Parts) → p.nodes ≡ m.nodes → length p.landmarks.items ≡ m.nodes → length p.ports.items ≡ m.nodes → ((x : ℕ) → x < m.nodes → items_at p.ports.items x ≡ neighbours m x)
     → length p.nearest.items ≡ m.nodes → ((v : ℕ) → IsNearestOf m.edges p.landmarks.items v (slice_index_or p.nearest.items v None))
     → length p.entries.items ≡ m.nodes → ((x : ℕ) → items_at p.entries.items x ≡ []) → length p.directories.items ≡ m.nodes → ((x : ℕ) → items_at p.directories.items x ≡ [])
-    → length p.homes.items ≡ m.nodes → ((v : ℕ) → or_none (slice_get p.homes.items v) ≡ None) → (j : ℕ) → IsBuiltBetween m p j j
+    → length p.homes.items ≡ m.nodes → ((v : ℕ) → value_at p.homes.items v ≡ None) → (j : ℕ) → IsBuiltBetween m p j j
 built_first m p nodes landmarks ports each nearest is entries none directories empty homes unset j = record {
   nodes = nodes;
   landmarks = landmarks;

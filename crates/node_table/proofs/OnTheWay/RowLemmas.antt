@@ -1,5 +1,5 @@
 -- A node's record, apart from the entry that holds it.
-use Rattle.std.proofs.Common.{◌≡◌, ℕ, true, false, refl, ap}
+use Rattle.std.proofs.Common.{◌≡◌, ℕ, true, refl, ap}
 use Rattle.std.specs.Prelude.{Option, Some, None, is_some, option_map}
 use Rattle.heavy_labels.specs.declared.tree_record.Record.{Record}
 use Rattle.heavy_labels.specs.Numbering.{step}

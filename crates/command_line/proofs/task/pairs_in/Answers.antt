@@ -1,34 +1,28 @@
 use Rattle.std.proofs.Common.{rules, inl, refl, ◌≡◌, ◌∙◌, ◌<◌, ◌^◌, ◌++◌, ◌∷◌, [], ℕ, All, Option, Some, None, IfSome, arith, ap, subst, decimal, map, take}
 use Rattle.std.proofs.lemmas.List.{take_all}
-use Rattle.std.proofs.lemmas.List.Elements.{All-push}
-use Rattle.std.specs.Borrow.{Bor}
-use Rattle.clap.specs.Walk.{Text, texts}
+use Rattle.std.proofs.lemmas.List.Elements.{All-push, recursion_from_All}
+use Rattle.clap.specs.Walk.{texts}
 use Rattle.command_line.specs.Asked.{IsPairInRange, nodes_of}
-use Rattle.command_line.proofs.Pairing.{never_odd, node_at, one_waits, two_pair, waiting}
-use Rattle.command_line.proofs.OneTask.{all_refused}
+use Rattle.command_line.proofs.Pairing.{each_node, never_odd, node_refused, one_waits, two_pair, waiting}
 use Rattle.command_line.specs.Readings.{ArePairTexts}
 use Rattle.command_line.proofs.task.pairs_in.Goals.{in-None, in-Some+in_ok-push-in-Some}
 use Rattle.command_line.proofs.task.pairs_in.Goals as goal
 
 pub returns-in_err-node : goal.returns-in_err-node
 returns-in_err-node c =
-    let given = c.args.given.now in
-    all_refused (ArePairTexts (texts given)) c.from_residual.result c.in_err-node.field-0.0 c.from_residual.ensures.1 c.in_err-node.ensures.refusals
-    (λ pairs asked.
-    let here = node_at pairs given c.loop-text.text-index (record { ref_ptr = (0, 0); now = [] }) (omega arith) asked.1 asked.0 in
-    c.in_err-node.ensures.only here.0 (here.2, here.1))
+    node_refused (ArePairTexts (texts c.args.given.now)) nodes_of c.args.given.now c.loop-text.text-index (omega arith) (λ pairs asked. (each_node pairs (recursion_from_All IsPairInRange pairs asked.1), asked.0))
+    c.from_residual.result c.in_err-node.field-0.0 c.from_residual.ensures.1 c.in_err-node.ensures.refusals c.in_err-node.ensures.only
 
 pub loop-text-preserved : goal.loop-text-preserved
 loop-text-preserved c =
     let given = c.args.given.now in
     let i = c.loop-text.text-index in
-    let d : Bor Text = record { ref_ptr = (0, 0); now = [] } in
     elim c.match-waits.branch [
       | in-None w ↦
           let waited : c.loop-text.waits ≡ None = search rules in
           let before : map decimal (nodes_of c.loop-text.pairs.items ++ []) ≡ texts (take i given) =
           subst (λ (o : Option ℕ). map decimal (nodes_of c.loop-text.pairs.items ++ waiting o) ≡ texts (take i given)) waited c.loop-text.invariant.read in
-          let after = one_waits c.loop-text.pairs.items c.in_ok-node.node given i d (omega arith) c.in_ok-node.ensures.found.0 before in
+          let after = one_waits c.loop-text.pairs.items c.in_ok-node.node given i (omega arith) c.in_ok-node.ensures.found.0 before in
           record {
             read = rw (w.pairs-is, w.waits-is) after;
             fits = rw (w.pairs-is) c.loop-text.invariant.fits;
@@ -39,7 +33,7 @@ loop-text-preserved c =
           let before : map decimal (nodes_of c.loop-text.pairs.items ++ w.in-Some.from ∷ []) ≡ texts (take i given) =
           subst (λ (o : Option ℕ). map decimal (nodes_of c.loop-text.pairs.items ++ waiting o) ≡ texts (take i given)) waited c.loop-text.invariant.read in
           let first : w.in-Some.from < 2 ^ 16 = subst (λ (o : Option ℕ). IfSome o (λ node. node < 2 ^ 16)) waited c.loop-text.invariant.waits in
-          let after = two_pair c.loop-text.pairs.items w.in-Some.from c.in_ok-node.node given i d (omega arith) c.in_ok-node.ensures.found.0 before in
+          let after = two_pair c.loop-text.pairs.items w.in-Some.from c.in_ok-node.node given i (omega arith) c.in_ok-node.ensures.found.0 before in
           let more : All IsPairInRange (c.loop-text.pairs.items ++ (w.in-Some.from, c.in_ok-node.node) ∷ []) =
           All-push IsPairInRange c.loop-text.pairs.items (w.in-Some.from, c.in_ok-node.node) c.loop-text.invariant.fits (first, omega arith) in
           record {

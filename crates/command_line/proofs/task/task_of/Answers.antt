@@ -1,127 +1,98 @@
-use Rattle.std.proofs.Common.{rules, inl, codes, Some, subst, ◌≡◌, ◌∙◌, sym}
-use Rattle.clap.specs.Words.{first_value, found_of}
-use Rattle.clap.specs.Walk.{Text, rows_of}
+use Rattle.std.proofs.Common.{rules, inl, codes, refl, ◌∙◌, ◌^◌}
+use Rattle.clap.specs.Walk.{Text}
+use Rattle.requests.specs.Tickets.{sessions}
 use Rattle.written_values.specs.declared.words.LandmarkWords.TheVariants.{Greatest}
-use Rattle.command_line.specs.Readings.{IsUnderstood}
+use Rattle.command_line.specs.Asked.{Gives}
+use Rattle.command_line.specs.Readings.{IsNumberBelow, rows_in, text_of}
 use Rattle.command_line.specs.declared.task.Task.TheVariants.{Check, Format, Migrate, Resume, Show}
 use Rattle.command_line.specs.declared.refused.WordsRefused.TheVariants.{Usage}
-use Rattle.command_line.proofs.Asking.{given, gives}
-use Rattle.command_line.proofs.OneTask.{answered_as, check_words, has_device, new_given, nodes_refused, none_made, none_missing, of_number, of_words, refused_as, refused_by, same_check, same_format, same_migrate, same_resume, same_show, session_refused}
+use Rattle.command_line.proofs.OneTask.{answered_as, named_as, none_made, none_missing, number_refused, one_text, refused_by, shape_begins, words_refused}
 use Rattle.command_line.proofs.task.task_of.Goals as goal
 
 pub returns-in_default : goal.returns-in_default
 returns-in_default c =
-    let f = found_of c.args.found.now in
-    refused_by c.args.name.now (rows_of f) Usage
+    let rows = rows_in c.args.found.now in
+    refused_by c.args.name.now rows Usage
     (λ task is.
-    let device = has_device c.args.name.now (rows_of f) task is in
-    none_made c.get_str.result _ device.0 c.in_default.not-Some (c.get_str.ensures ∙ given f _ _ device.1))
+    let begins = shape_begins c.args.name.now rows task is in
+    none_made c.text_given.result _ begins.1 c.in_default.not-Some (c.text_given.ensures ∙ begins.2))
 
 pub returns-in_ok-whole : goal.returns-in_ok-whole
 returns-in_ok-whole c =
-    let f = found_of c.args.found.now in
-    let named : c.args.name.now ≡ codes "format" = search rules in
-    let device : first_value f (codes "device") ≡ Some c.in-Some.device.now = search rules in
-    answered_as c.args.name.now (rows_of f) (Format c.in-Some.device c.in_ok-whole.field-0)
-    (named, gives f _ _ device, gives f _ _ c.in_ok-whole.ensures.found.0)
-    (λ task is fits. same_format c.args.name.now (rows_of f) c.in-Some.device c.in_ok-whole.field-0 task named (gives f _ _ device)
-    (λ n lt there. c.in_ok-whole.ensures.same n (given f _ _ there, lt)) is fits)
+    let rows = rows_in c.args.found.now in
+    let nodes = c.in_ok-whole.ensures in
+    let device : Gives rows (codes "device") c.in-Some.device.now = search rules in
+    named_as c.args.name.now (codes "format") rows _ (search rules) (answered_as (codes "format") rows (Format c.in-Some.device c.in_ok-whole.field-0) (refl, device, nodes.found.0)
+    (λ other n is fits. (one_text rows _ _ _ device is.1, nodes.same n (is.2, fits))))
 
 pub returns-in_err-whole : goal.returns-in_err-whole
 returns-in_err-whole c =
-    let f = found_of c.args.found.now in
-    let named : c.args.name.now ≡ codes "format" = search rules in
-    refused_as c.args.name.now (rows_of f) c.from_residual.result c.in_err-whole.field-0.0 c.from_residual.ensures.1
-    (of_number c.args.name.now (rows_of f) c.in_err-whole.field-0.0 c.in_err-whole.ensures.refusals
-    (nodes_refused c.args.name.now (rows_of f) c.in_err-whole.field-0.0 named (λ n lt there. c.in_err-whole.ensures.only n (given f _ _ there, lt))))
+    let rows = rows_in c.args.found.now in
+    let why = c.in_err-whole.ensures in
+    named_as c.args.name.now (codes "format") rows c.from_residual.result (search rules) (number_refused (IsNumberBelow (2 ^ 16) (text_of c.args.found.now (codes "nodes"))) (codes "format") rows
+    c.from_residual.result c.in_err-whole.field-0.0 c.from_residual.ensures.1 why.refusals why.only (λ other n is. (n, (is.2, is.3))))
 
 pub returns-then-eq-2 : goal.returns-then-eq-2
 returns-then-eq-2 c =
-    let f = found_of c.args.found.now in
-    let named : c.args.name.now ≡ codes "show" = search rules in
-    let device : first_value f (codes "device") ≡ Some c.in-Some.device.now = search rules in
-    answered_as c.args.name.now (rows_of f) (Show c.in-Some.device) (named, gives f _ _ device)
-    (λ task is fits. same_show c.args.name.now (rows_of f) c.in-Some.device task named (gives f _ _ device) is)
+    let rows = rows_in c.args.found.now in
+    let device : Gives rows (codes "device") c.in-Some.device.now = search rules in
+    named_as c.args.name.now (codes "show") rows _ (search rules) (answered_as (codes "show") rows (Show c.in-Some.device) (refl, device) (λ other is fits. one_text rows _ _ _ device is.1))
 
 pub returns-then-eq-3 : goal.returns-then-eq-3
-returns-then-eq-3 c =
-    let f = found_of c.args.found.now in
-    let named : c.args.name.now ≡ codes "edit" = search rules in
-    let device : first_value f (codes "device") ≡ Some c.in-Some.device.now = search rules in
-    subst (λ (name : Text). IsUnderstood name (rows_of f) c.edit_of.result) (sym named) (c.edit_of.ensures (gives f _ _ device))
+returns-then-eq-3 c = named_as c.args.name.now (codes "edit") (rows_in c.args.found.now) c.edit_of.result (search rules) (c.edit_of.ensures (search rules))
 
 pub returns-in_ok-session : goal.returns-in_ok-session
 returns-in_ok-session c =
-    let f = found_of c.args.found.now in
-    let named : c.args.name.now ≡ codes "resume" = search rules in
-    let device : first_value f (codes "device") ≡ Some c.in-Some.device.now = search rules in
-    answered_as c.args.name.now (rows_of f) (Resume c.in-Some.device c.in_ok-session.field-0)
-    (named, gives f _ _ device, gives f _ _ c.in_ok-session.ensures.found.0, c.in_ok-session.ensures.found.1)
-    (λ task is fits. same_resume c.args.name.now (rows_of f) c.in-Some.device c.in_ok-session.field-0 task named (gives f _ _ device)
-    (λ n lt there. c.in_ok-session.ensures.same n (given f _ _ there, lt)) is)
+    let rows = rows_in c.args.found.now in
+    let session = c.in_ok-session.ensures in
+    let device : Gives rows (codes "device") c.in-Some.device.now = search rules in
+    named_as c.args.name.now (codes "resume") rows _ (search rules) (answered_as (codes "resume") rows (Resume c.in-Some.device c.in_ok-session.field-0) (refl, device, session.found.0, session.found.1)
+    (λ other s is fits. (one_text rows _ _ _ device is.1, session.same s (is.2, is.3))))
 
 pub returns-in_err-session : goal.returns-in_err-session
 returns-in_err-session c =
-    let f = found_of c.args.found.now in
-    let named : c.args.name.now ≡ codes "resume" = search rules in
-    refused_as c.args.name.now (rows_of f) c.from_residual-in_err-session.result c.in_err-session.field-0.0 c.from_residual-in_err-session.ensures.1
-    (of_number c.args.name.now (rows_of f) c.in_err-session.field-0.0 c.in_err-session.ensures.refusals
-    (session_refused c.args.name.now (rows_of f) c.in_err-session.field-0.0 named (λ n lt there. c.in_err-session.ensures.only n (given f _ _ there, lt))))
+    let rows = rows_in c.args.found.now in
+    let why = c.in_err-session.ensures in
+    named_as c.args.name.now (codes "resume") rows c.from_residual-in_err-session.result (search rules) (number_refused (IsNumberBelow sessions (text_of c.args.found.now (codes "session"))) (codes "resume") rows
+    c.from_residual-in_err-session.result c.in_err-session.field-0.0 c.from_residual-in_err-session.ensures.1 why.refusals why.only (λ other s is. (s, (is.2, is.3))))
 
 pub returns-then-eq-5 : goal.returns-then-eq-5
-returns-then-eq-5 c =
-    let f = found_of c.args.found.now in
-    let named : c.args.name.now ≡ codes "route" = search rules in
-    let device : first_value f (codes "device") ≡ Some c.in-Some.device.now = search rules in
-    subst (λ (name : Text). IsUnderstood name (rows_of f) c.route_of.result) (sym named) (c.route_of.ensures (gives f _ _ device))
+returns-then-eq-5 c = named_as c.args.name.now (codes "route") (rows_in c.args.found.now) c.route_of.result (search rules) (c.route_of.ensures (search rules))
 
 pub returns-in_ok-words_asked : goal.returns-in_ok-words_asked
 returns-in_ok-words_asked c =
-    let f = found_of c.args.found.now in
-    let named : c.args.name.now ≡ codes "check" = search rules in
-    let device : first_value f (codes "device") ≡ Some c.in-Some.device.now = search rules in
-    answered_as c.args.name.now (rows_of f) (Check c.in-Some.device c.in_ok-words_asked.field-0)
-    (named, gives f _ _ device, (gives f _ _ c.in_ok-words_asked.ensures.found, c.in_ok-words_asked.ensures.fits))
-    (λ task is fits. same_check c.args.name.now (rows_of f) c.in-Some.device c.in_ok-words_asked.field-0 task named (gives f _ _ device)
-    (λ words asked there. c.in_ok-words_asked.ensures.same words asked (given f _ _ there)) is)
+    let rows = rows_in c.args.found.now in
+    let words = c.in_ok-words_asked.ensures in
+    let device : Gives rows (codes "device") c.in-Some.device.now = search rules in
+    named_as c.args.name.now (codes "check") rows _ (search rules) (answered_as (codes "check") rows (Check c.in-Some.device c.in_ok-words_asked.field-0) (refl, device, (words.found, words.fits))
+    (λ other asked is fits. (one_text rows _ _ _ device is.1, words.same asked is.2.1 is.2.0)))
 
 pub returns-in_err-words_asked : goal.returns-in_err-words_asked
 returns-in_err-words_asked c =
-    let f = found_of c.args.found.now in
-    let named : c.args.name.now ≡ codes "check" = search rules in
-    let device : first_value f (codes "device") ≡ Some c.in-Some.device.now = search rules in
-    refused_as c.args.name.now (rows_of f) c.from_residual-in_err-words_asked.result c.in_err-words_asked.field-0.0 c.from_residual-in_err-words_asked.ensures.1
-    (of_words c.args.name.now (rows_of f) c.in_err-words_asked.field-0.0 (Check c.in-Some.device Greatest) c.in_err-words_asked.ensures.cause
-    (λ task is. check_words c.args.name.now (rows_of f) named task is) (λ words. (named, gives f _ _ device, words)) (λ lacks. lacks))
+    let rows = rows_in c.args.found.now in
+    let device : Gives rows (codes "device") c.in-Some.device.now = search rules in
+    let result = c.from_residual-in_err-words_asked.result in
+    named_as c.args.name.now (codes "check") rows result (search rules) (words_refused (codes "check") rows result c.in_err-words_asked.field-0.0 (Check c.in-Some.device Greatest) c.from_residual-in_err-words_asked.ensures.1 c.in_err-words_asked.ensures.cause
+    (λ other asked is. is.2) (λ words. (refl, device, words)) (λ lacks. lacks))
 
 pub returns-in_ok-text : goal.returns-in_ok-text
 returns-in_ok-text c =
-    let f = found_of c.args.found.now in
-    let named : c.args.name.now ≡ codes "migrate" = search rules in
-    let device : first_value f (codes "device") ≡ Some c.in-Some.device.now = search rules in
-    answered_as c.args.name.now (rows_of f) (Migrate c.in-Some.device c.in_ok-text.field-0) (named, gives f _ _ device, gives f _ _ c.in_ok-text.ensures.found)
-    (λ task is fits. same_migrate c.args.name.now (rows_of f) c.in-Some.device c.in_ok-text.field-0 task named (gives f _ _ device) (gives f _ _ c.in_ok-text.ensures.found) is)
+    let rows = rows_in c.args.found.now in
+    let new = c.in_ok-text.ensures.found in
+    let device : Gives rows (codes "device") c.in-Some.device.now = search rules in
+    named_as c.args.name.now (codes "migrate") rows _ (search rules) (answered_as (codes "migrate") rows (Migrate c.in-Some.device c.in_ok-text.field-0) (refl, device, new)
+    (λ other made is fits. (one_text rows _ _ _ device is.1, one_text rows _ _ _ new is.2)))
 
 pub returns-in_err-text : goal.returns-in_err-text
 returns-in_err-text c =
-    let f = found_of c.args.found.now in
-    let named : c.args.name.now ≡ codes "migrate" = search rules in
-    refused_as c.args.name.now (rows_of f) c.from_residual-in_err-text.result c.in_err-text.field-0.0 c.from_residual-in_err-text.ensures.1
-    (of_number c.args.name.now (rows_of f) c.in_err-text.field-0.0 (inl c.in_err-text.ensures.refusal)
-    (λ task is.
-    let new = new_given c.args.name.now (rows_of f) named task is in
-    absurd (none_missing _ new.0 (given f _ _ new.1) c.in_err-text.ensures.none)))
+    let rows = rows_in c.args.found.now in
+    let why = c.in_err-text.ensures in
+    let result = c.from_residual-in_err-text.result in
+    named_as c.args.name.now (codes "migrate") rows result (search rules) (number_refused (λ (text : Text). Gives rows (codes "new") text) (codes "migrate") rows
+    result c.in_err-text.field-0.0 c.from_residual-in_err-text.ensures.1 (inl why.refusal) (λ text there. absurd (none_missing _ text there why.none)) (λ old new is. (new.now, is.2)))
 
 pub returns-then-eq-8 : goal.returns-then-eq-8
-returns-then-eq-8 c =
-    let f = found_of c.args.found.now in
-    let named : c.args.name.now ≡ codes "serve" = search rules in
-    let device : first_value f (codes "device") ≡ Some c.in-Some.device.now = search rules in
-    subst (λ (name : Text). IsUnderstood name (rows_of f) c.serve_of.result) (sym named) (c.serve_of.ensures (gives f _ _ device))
+returns-then-eq-8 c = named_as c.args.name.now (codes "serve") (rows_in c.args.found.now) c.serve_of.result (search rules) (c.serve_of.ensures (search rules))
 
 pub returns-then-eq-9 : goal.returns-then-eq-9
-returns-then-eq-9 c =
-    let f = found_of c.args.found.now in
-    let named : c.args.name.now ≡ codes "tables" = search rules in
-    let device : first_value f (codes "device") ≡ Some c.in-Some.device.now = search rules in
-    subst (λ (name : Text). IsUnderstood name (rows_of f) c.tables_of.result) (sym named) (c.tables_of.ensures (gives f _ _ device))
+returns-then-eq-9 c = named_as c.args.name.now (codes "tables") (rows_in c.args.found.now) c.tables_of.result (search rules) (c.tables_of.ensures (search rules))

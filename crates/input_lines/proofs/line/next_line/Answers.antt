@@ -1,6 +1,7 @@
 use Rattle.std.proofs.Common.{subst}
+use Rattle.std.proofs.lemmas.Result.{on_err_weaker, on_ok_weaker}
 use Rattle.input_lines.specs.Reading.{TakesPart}
-use Rattle.input_lines.proofs.ReadLemmas.{end_drops, fed_drops, fed_next, further_more, grown_read, grown_unfed, kept_drops, kept_further, longer_given, longer_next, on_err, on_ok, rest_drops}
+use Rattle.input_lines.proofs.ReadLemmas.{end_drops, fed_drops, fed_next, further_more, grown_read, grown_unfed, kept_drops, kept_further, longer_given, longer_next, rest_drops}
 use Rattle.input_lines.proofs.line.next_line.Goals as goal
 
 pub returns-in-Fed-clause-next : goal.returns-in-Fed-clause-next
@@ -25,13 +26,13 @@ pub returns-in-TooLong-clause-rest : goal.returns-in-TooLong-clause-rest
 returns-in-TooLong-clause-rest g c =
     let is = c.loop.invariant in
     let stays = subst (TakesPart _ _ _ _) c.in-TooLong.is c.in_ok-append_part.ensures.ok in
-    on_ok c.skip_longer.result (λ drops. rest_drops _ _ _ c.loop.line.items is.read is.unfed (kept_drops _ _ _ stays.1 drops)) c.skip_longer.ensures.rest
+    on_ok_weaker c.skip_longer.result (λ drops. rest_drops _ _ _ c.loop.line.items is.read is.unfed (kept_drops _ _ _ stays.1 drops)) c.skip_longer.ensures.rest
 
 pub returns-in-TooLong-clause-further : goal.returns-in-TooLong-clause-further
 returns-in-TooLong-clause-further g c =
     let is = c.loop.invariant in
     let stays = subst (TakesPart _ _ _ _) c.in-TooLong.is c.in_ok-append_part.ensures.ok in
-    on_err c.skip_longer.result (λ further. further_more _ _ _ c.loop.line.items is.read (kept_further _ _ _ stays.1 further)) c.skip_longer.ensures.further
+    on_err_weaker c.skip_longer.result (λ further. further_more _ _ _ c.loop.line.items is.read (kept_further _ _ _ stays.1 further)) c.skip_longer.ensures.further
 
 pub returns-in-AtEnd-clause-rest : goal.returns-in-AtEnd-clause-rest
 returns-in-AtEnd-clause-rest g c =

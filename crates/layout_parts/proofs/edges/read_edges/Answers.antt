@@ -42,9 +42,9 @@ loop-preserved c =
     let es = entries c.loop.graph.edges in
     let behind = c.split_at.result.1.now in
     let rest : c.loop.rest.now ≡ edge_text ((r.a, r.b), r.weight) ++ behind = split_rest c.loop.rest.now c.split_at.result.0.now behind (edge_text ((r.a, r.b), r.weight)) c.split_at.ensures.front c.split_at.ensures.back c.edge_of-edge.ensures in
-    let list : entries c.add_edge.new.graph.edges ≡ es ++ ((r.a, r.b), r.weight) ∷ [] = c.in-Ok.ensures.edges in
+    let list : entries c.add_edge.new.graph.edges ≡ es ++ ((r.a, r.b), r.weight) ∷ [] = c.in_ok-add_edge.ensures.edges in
     record {
-      nodes = c.in-Ok.ensures.nodes ∙ inv.nodes;
+      nodes = c.in_ok-add_edge.ensures.nodes ∙ inv.nodes;
       count = ap length list ∙ omega (arith, length-append es (((r.a, r.b), r.weight) ∷ []), inv.count);
       long = omega (arith, ap length rest, length-append (edge_text ((r.a, r.b), r.weight)) behind, inv.long);
       text = ap (λ (l : List ((ℕ × ℕ) × ℕ)). flat_map edge_text l ++ behind) list ∙ text_push es ((r.a, r.b), r.weight) c.loop.rest.now behind c.args.bytes.now inv.text rest;

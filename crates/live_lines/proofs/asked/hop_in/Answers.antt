@@ -1,12 +1,13 @@
-use Rattle.std.proofs.Common.{rules, ◌≡◌, ◌∷◌, ◌<◌, ◌^◌, [], ℕ, List, IsSomeAnd, decimal, map, Bor, subst}
+use Rattle.std.proofs.Common.{rules, ◌≡◌, ◌∷◌, ◌<◌, ◌^◌, [], ℕ, List, IsSomeAnd, decimal, subst}
+use Rattle.written_values.specs.Reading.{texts_of}
 use Rattle.live_lines.specs.Lines.{AsksJust, HopAsks}
 use Rattle.live_lines.proofs.Asking.{no_node, node_asked}
 use Rattle.live_lines.proofs.asked.hop_in.Goals as goal
 
 pub returns-in-Some : goal.returns-in-Some
 returns-in-Some c =
-    let words = map (λ (x : Bor (List ℕ)). x.now) c.args.words.now in
-    let found : (map (λ (x : Bor (List ℕ)). x.now) c.args.words.now ≡ decimal c.in-Some.at ∷ c.in-Some.digits.now ∷ []) × (c.in-Some.at < 2 ^ 16) = search rules in
+    let words = texts_of c.args.words.now in
+    let found : (texts_of c.args.words.now ≡ decimal c.in-Some.at ∷ c.in-Some.digits.now ∷ []) × (c.in-Some.at < 2 ^ 16) = search rules in
     let asks : AsksJust (HopAsks c.in-Some.at c.in-Some.digits.now) c.hop_of.result = subst (λ (ds : List ℕ). AsksJust (HopAsks c.in-Some.at ds) c.hop_of.result) c.as_bytes.ensures.value c.hop_of.ensures in
     node_asked HopAsks words c.in-Some.at c.in-Some.digits.now c.hop_of.result found.0 found.1
     (λ n ds lt same. subst (λ o. IsSomeAnd o (λ p. (p.0 ≡ n) × (p.1.now ≡ ds))) c.in-Some.is (c.in_ok-at.ensures.only n ds lt same))
@@ -14,5 +15,5 @@ returns-in-Some c =
 
 pub returns-in-None : goal.returns-in-None
 returns-in-None c =
-    no_node HopAsks (map (λ (x : Bor (List ℕ)). x.now) c.args.words.now)
+    no_node HopAsks (texts_of c.args.words.now)
     (λ n ds lt same. subst (λ o. IsSomeAnd o (λ p. (p.0 ≡ n) × (p.1.now ≡ ds))) c.in-None.is (c.in_ok-at.ensures.only n ds lt same))

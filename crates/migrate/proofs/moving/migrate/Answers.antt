@@ -1,4 +1,4 @@
 use Rattle.migrate.proofs.moving.migrate.Goals as goal
 
-pub returns-in-Ok-clause-ok : goal.returns-in-Ok-clause-ok
-returns-in-Ok-clause-ok g c old_model new_model = (c.in-Ok.moved.edges, c.in-Ok.ensures.ok old_model new_model)
+pub returns-clause-ok : goal.returns-clause-ok
+returns-clause-ok g c old_model new_model = (c.in_ok-moved.moved.edges, c.in_ok-moved.ensures.ok old_model new_model)

@@ -49,25 +49,22 @@ returns-clause-inside g c =
     (same_nodes (map (λ k. member_of c.args.graph.now k) (reached_of c.args.reached.now)) c.deref.result.now c.in_ok-numbered.numbered.items
     (c.deref.ensures.value ∙ c.in_ok-members.ensures ∙ members_are c.args.graph.now c.args.reached.now c.requires.ports) c.in_ok-numbered.ensures.nodes))
 
-pub returns-clause-places : goal.returns-clause-places
-returns-clause-places g c =
-    subst (λ n. All (λ (a : NumberedMember). a.node < n) c.in_ok-numbered.numbered.items) (sym (c.note_places.ensures.length ∙ c.requires.places))
-    (members_have (λ x. x < c.args.graph.now.nodes) c.in_ok-numbered.numbered.items
-    (numbers_inside c.args.graph.now c.nodes-sound.ensures.sound c.args.root c.requires.inside (reached_of c.args.reached.now) c.requires.tree c.in_ok-numbered.numbered.items
-    (same_nodes (map (λ k. member_of c.args.graph.now k) (reached_of c.args.reached.now)) c.deref.result.now c.in_ok-numbered.numbered.items
-    (c.deref.ensures.value ∙ c.in_ok-members.ensures ∙ members_are c.args.graph.now c.args.reached.now c.requires.ports) c.in_ok-numbered.ensures.nodes)))
-
 pub returns-clause-reached : goal.returns-clause-reached
 returns-clause-reached g c =
-    members_reached c.args.reached.now c.note_places.new.places c.in_ok-numbered.numbered.items c.note_places.ensures.places
-    (subst (λ xs. All (λ x. Contains xs x) (nodes_numbered c.in_ok-numbered.numbered.items)) (sym (nodes_are c.args.reached.now))
-    (numbers_reached c.args.graph.now c.nodes-sound.ensures.sound c.args.root c.requires.inside (reached_of c.args.reached.now) c.requires.tree c.in_ok-numbered.numbered.items
-    (same_nodes (map (λ k. member_of c.args.graph.now k) (reached_of c.args.reached.now)) c.deref.result.now c.in_ok-numbered.numbered.items
-    (c.deref.ensures.value ∙ c.in_ok-members.ensures ∙ members_are c.args.graph.now c.args.reached.now c.requires.ports) c.in_ok-numbered.ensures.nodes)))
+    let nodes = same_nodes (map (λ k. member_of c.args.graph.now k) (reached_of c.args.reached.now)) c.deref.result.now c.in_ok-numbered.numbered.items
+    (c.deref.ensures.value ∙ c.in_ok-members.ensures ∙ members_are c.args.graph.now c.args.reached.now c.requires.ports) c.in_ok-numbered.ensures.nodes in
+    record {
+      places = subst (λ n. All (λ (a : NumberedMember). a.node < n) c.in_ok-numbered.numbered.items) (sym (c.note_places.ensures.length ∙ c.requires.places))
+          (members_have (λ x. x < c.args.graph.now.nodes) c.in_ok-numbered.numbered.items
+          (numbers_inside c.args.graph.now c.nodes-sound.ensures.sound c.args.root c.requires.inside (reached_of c.args.reached.now) c.requires.tree c.in_ok-numbered.numbered.items nodes));
+      reached = members_reached c.args.reached.now c.note_places.new.places c.in_ok-numbered.numbered.items c.note_places.ensures.places
+          (subst (λ xs. All (λ x. Contains xs x) (nodes_numbered c.in_ok-numbered.numbered.items)) (sym (nodes_are c.args.reached.now))
+          (numbers_reached c.args.graph.now c.nodes-sound.ensures.sound c.args.root c.requires.inside (reached_of c.args.reached.now) c.requires.tree c.in_ok-numbered.numbered.items nodes));
+    }
 
 pub returns-clause-column : goal.returns-clause-column
-returns-clause-column g c limit tree below =
-    column_of c.args.graph.now c.nodes-sound.ensures.sound c.args.root c.requires.inside limit (reached_of c.args.reached.now) tree below
+returns-clause-column g c limit tree =
+    column_of c.args.graph.now c.nodes-sound.ensures.sound c.args.root c.requires.inside limit (reached_of c.args.reached.now) tree.0 tree.1
     c.deref.result.now (c.deref.ensures.value ∙ c.in_ok-members.ensures ∙ members_are c.args.graph.now c.args.reached.now c.requires.ports)
     c.in_ok-numbered.numbered.items c.in_ok-numbered.numbered.items refl c.in_ok-numbered.ensures.lines
     (same_nodes c.deref.result.now c.deref.result.now c.in_ok-numbered.numbered.items refl c.in_ok-numbered.ensures.nodes)

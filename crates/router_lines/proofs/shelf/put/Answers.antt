@@ -1,6 +1,7 @@
 use Rattle.std.proofs.Common.{◌≡◌, ◌<◌, length, rules, arith}
+use Rattle.std.proofs.lemmas.Result.{on_ok_weaker}
 use Rattle.router_lines.specs.Shelves.{IsAt, IsPlaceOf, most_tables}
-use Rattle.router_lines.proofs.Placing.{on_ok, put_full}
+use Rattle.router_lines.proofs.Placing.{put_full}
 use Rattle.router_lines.proofs.shelf.put.Goals as goal
 
 pub returns-clause-loaded : goal.returns-clause-loaded
@@ -12,4 +13,4 @@ returns-clause-loaded c =
     let later : 0 < p = omega (arith, c.if-place-eq0.false) in
     let is : IsPlaceOf bs a.head.generation p = rw (← c.as_slice.ensures.value, ← c.head.ensures) c.place_of-place.ensures in
     let other : IsAt bs a.head.generation p → ⊥ = λ at. search (rules, at) in
-    on_ok c.put_for_oldest.result (λ e. put_full a bs c.put_for_oldest.new.tables.items p full later is other e) c.put_for_oldest.ensures.loaded
+    on_ok_weaker c.put_for_oldest.result (λ e. put_full a bs c.put_for_oldest.new.tables.items p full later is other e) c.put_for_oldest.ensures.loaded

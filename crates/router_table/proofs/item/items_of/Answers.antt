@@ -1,4 +1,3 @@
-use Rattle.std.proofs.Common.{◌≡◌, ◌++◌, ◌∷◌, []}
 use Rattle.router_table.specs.Reading.{items_at}
 use Rattle.router_table.proofs.Lists.{goes_on, ends, is_done}
 use Rattle.router_table.proofs.item.items_of.Goals as goal

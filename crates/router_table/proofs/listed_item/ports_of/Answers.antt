@@ -1,4 +1,4 @@
-use Rattle.std.proofs.Common.{arith, length-append}
+use Rattle.std.proofs.Common.{arith}
 use Rattle.std.specs.Int.{w16}
 use Rattle.router_table.specs.Reading.{items_at, number_at}
 use Rattle.router_table.proofs.Lists.{goes_on, ends, is_done}

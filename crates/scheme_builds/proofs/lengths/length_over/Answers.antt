@@ -1,9 +1,8 @@
-use Rattle.std.proofs.Common.{◌≡◌, ◌≤◌, ◌+◌, ◌-◌, ◌^◌, ◌∙◌, ℕ, List, [], ◌∷◌, length, drop, min, sym, ap, subst, refl, arith}
-use Rattle.std.proofs.lemmas.List.{drop_more}
+use Rattle.std.proofs.Common.{◌≡◌, ◌≤◌, ◌+◌, ◌-◌, ◌^◌, ◌∙◌, ℕ, List, length, drop, min, sym, ap, arith}
 use Rattle.std.proofs.Math.Seq.{drop-length}
-use Rattle.graph_edits.specs.Edges.{Network, weight_in}
+use Rattle.graph_edits.specs.Edges.{Network}
 use Rattle.graph_edits.specs.Walks.{walk_length}
-use Rattle.scheme_builds.specs.Lengths.{hop_in, length_in}
+use Rattle.scheme_builds.specs.Lengths.{length_in}
 use Rattle.scheme_builds.proofs.lengths.length_over.Goals as goal
 
 -- nothing is left to go

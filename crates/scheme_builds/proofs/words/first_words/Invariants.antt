@@ -1,4 +1,4 @@
-use Rattle.std.proofs.Common.{◌≡◌, vec_len, length}
+use Rattle.std.proofs.Common.{◌≡◌, length}
 use Rattle.scheme_builds.specs.Words.{first_of}
 use Rattle.scheme_builds.proofs.words.first_words.Given as goal
 

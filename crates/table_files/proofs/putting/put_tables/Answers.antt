@@ -1,4 +1,4 @@
-use Rattle.std.proofs.Common.{arith, ◌≡◌, ◌≢◌, ◌∙◌, ◌+◌, ap, subst, List, ℕ}
+use Rattle.std.proofs.Common.{arith, ◌≢◌, ◌∙◌, ◌+◌, ap, subst, List, ℕ}
 use Rattle.std.proofs.lemmas.List.{take_all}
 use Rattle.std.proofs.lemmas.List.Elements.{All-more}
 use Rattle.router_table.specs.Order.{IsTable}

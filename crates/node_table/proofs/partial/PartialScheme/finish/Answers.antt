@@ -1,4 +1,4 @@
-use Rattle.std.proofs.Common.{◌≡◌, ◌∙◌, sym, subst}
+use Rattle.std.proofs.Common.{◌≡◌, ◌∙◌, sym, ap, subst}
 use Rattle.graph_edits.specs.Edges.{Network, IsSound}
 use Rattle.node_table.specs.declared.parts.Parts.{Parts}
 use Rattle.node_table.specs.Checks.{IsChecked}
@@ -10,17 +10,18 @@ use Rattle.node_table.proofs.partial.PartialScheme.finish.Goals as goal
 checked_as : (m : Network) → IsSound m → (p q : Parts) → q ≡ p → IsBuiltBetween m p 0 m.nodes → IsChecked m q
 checked_as m s p q e h = subst (IsChecked m) (sym e) (built_checked m s p h)
 
-pub returns-clause-checked : goal.returns-clause-checked
-returns-clause-checked c = checked_as c.args.graph.now c.graph_is_sound.ensures c.args.self c.in_ok-scheme.scheme (c.in_ok-scheme.ensures ∙ c.self.view_is) c.requires
-
-pub returns-clause-serves : goal.returns-clause-serves
-returns-clause-serves c =
-    serves_law c.args.graph.now c.in_ok-scheme.scheme c.graph_is_sound.ensures (checked_as c.args.graph.now c.graph_is_sound.ensures c.args.self c.in_ok-scheme.scheme (c.in_ok-scheme.ensures ∙ c.self.view_is) c.requires)
-
-pub returns-clause-trees : goal.returns-clause-trees
-returns-clause-trees c x r =
-    trees_law c.args.graph.now c.in_ok-scheme.scheme c.graph_is_sound.ensures (checked_as c.args.graph.now c.graph_is_sound.ensures c.args.self c.in_ok-scheme.scheme (c.in_ok-scheme.ensures ∙ c.self.view_is) c.requires) x r
-
-pub returns-clause-nearest : goal.returns-clause-nearest
-returns-clause-nearest c x =
-    nearest_law c.args.graph.now c.in_ok-scheme.scheme c.graph_is_sound.ensures (checked_as c.args.graph.now c.graph_is_sound.ensures c.args.self c.in_ok-scheme.scheme (c.in_ok-scheme.ensures ∙ c.self.view_is) c.requires) x
+pub returns : goal.returns
+returns c =
+    let m = c.args.graph.now in
+    let scheme = c.in_ok-scheme.scheme in
+    let sound = c.graph_is_sound.ensures in
+    let is = c.in_ok-scheme.ensures ∙ c.self.view_is in
+    let checked = checked_as m sound c.args.self scheme is c.requires in
+    record {
+      checked = checked;
+      serves = serves_law m scheme sound checked;
+      landmarks = ap (λ (p : Parts). p.landmarks.items) is;
+      generation = ap (λ (p : Parts). p.generation) is;
+      trees = trees_law m scheme sound checked;
+      nearest = nearest_law m scheme sound checked;
+    }
