@@ -1,5 +1,6 @@
 -- Words that ask for a task ask for that one alone.
-use Rattle.std.proofs.Common.{◌≡◌, ◌≢◌, ◌≤◌, ◌<◌, ◌∙◌, ◌⊎◌, inl, inr, arith, ℕ, suc, refl, sym, ap, List, [], ◌∷◌, map, length, All, bytes_eq, codes, Bool, true, false, subst, Option, Some, None, option_map, Result, Ok, Err, IfErr, IsErrAnd}
+use Rattle.std.proofs.Common.{◌≡◌, ◌≢◌, ◌≤◌, ◌<◌, ◌∙◌, ◌⊎◌, inl, inr, arith, ℕ, refl, sym, ap, List, [], ◌∷◌, map, length, All, bytes_eq, codes, Bool, true, false, subst, Option, Some, None, option_map, Result, Ok, Err, IfErr, IsErrAnd}
+use Rattle.std.proofs.lemmas.List.{length-map}
 use Rattle.std.proofs.lemmas.List.Elements.{All-nil}
 use Rattle.std.specs.Borrow.{Bor}
 use Rattle.std.specs.Global.{Vec}
@@ -36,6 +37,7 @@ name_of (Migrate old new) = codes "migrate"
 name_of (Serve device editors forwarders places live words) = codes "serve"
 name_of (Tables device folder nodes words) = codes "tables"
 
+-- the first, where the test holds, or else the second
 abbrev where_so : Bool → Type 0 → Type 0 → Type 0
 where_so true here others = here
 where_so false here others = others
@@ -53,6 +55,7 @@ Each P name =
     (where_so (bytes_eq name (codes "serve")) ((device : Bor Text) (editors forwarders places : ℕ) (live : Option ℕ) (words : LandmarkWords) → P (Serve device editors forwarders places live words))
     (where_so (bytes_eq name (codes "tables")) ((device folder : Bor Text) (nodes : Vec ℕ) (words : LandmarkWords) → P (Tables device folder nodes words)) (Unit {0})))))))))
 
+-- then it holds of a task that has the name
 by_each : (P : Task → Type 0) (task : Task) → Each P (name_of task) → P task
 by_each P (Format device nodes) each = each device nodes
 by_each P (Show device) each = each device
@@ -64,6 +67,7 @@ by_each P (Migrate old new) each = each old new
 by_each P (Serve device editors forwarders places live words) each = each device editors forwarders places live words
 by_each P (Tables device folder nodes words) each = each device folder nodes words
 
+-- a task that is asked for has the name
 task_named : (name : Text) (rows : List Row) (task : Task) → IsTask name rows task → name ≡ name_of task
 task_named name rows (Format device nodes) is = is.0
 task_named name rows (Show device) is = is.0
@@ -75,7 +79,7 @@ task_named name rows (Migrate old new) is = is.0
 task_named name rows (Serve device editors forwarders places live words) is = is.0
 task_named name rows (Tables device folder nodes words) is = is.0
 
--- each shape has the name, and names a device
+-- so has one that a command is shaped as, and it names a device
 pub shape_begins : (name : Text) (rows : List Row) (task : Task) → IsShapedAs name rows task → (name ≡ name_of task) × (device : Text) × Gives rows (codes "device") device
 shape_begins name rows (Format device nodes) is = (is.0, device.now, is.1)
 shape_begins name rows (Show device) is = (is.0, device.now, is.1)
@@ -87,9 +91,11 @@ shape_begins name rows (Migrate old new) is = (is.0, old.now, is.1)
 shape_begins name rows (Serve device editors forwarders places live words) is = (is.0, device.now, is.1)
 shape_begins name rows (Tables device folder nodes words) is = (is.0, device.now, is.1)
 
+-- what holds of each task of the command that is named holds of the one that is asked for
 by_task : (P : Task → Type 0) (name command : Text) (rows : List Row) (task : Task) → name ≡ command → IsTask name rows task → Each P command → P task
 by_task P name command rows task named is each = by_each P task (subst (Each P) (sym named ∙ task_named name rows task is) each)
 
+-- and what each shape gives is given
 by_shape : {Q : Type 0} (name : Text) (rows : List Row) (task : Task) → IsShapedAs name rows task → Each (λ t. IsShapedAs name rows t → Q) name → Q
 by_shape {Q} name rows task is each =
     let P : Task → Type 0 = λ t. IsShapedAs name rows t → Q in
@@ -114,20 +120,11 @@ shaped name rows (Tables device folder nodes words) is fits = (is.0, is.1, is.2,
 
 -- ---- why a command is no task
 
--- so many texts are so many ops
-same_lengths : (a b : List Op) → map op_text a ≡ map op_text b → length a ≡ length b
-same_lengths [] [] same = refl
-same_lengths [] (op ∷ b) same = absurd (cc)
-same_lengths (op ∷ a) [] same = absurd (cc)
-same_lengths (op ∷ a) (other ∷ b) same =
-    let rest : map op_text a ≡ map op_text b = cc in
-    ap suc (same_lengths a b rest)
-
 -- one list of texts is of one count of ops
 one_count : (given : Option (List Text)) (a b : List Op) → given ≡ Some (map op_text a) → given ≡ Some (map op_text b) → length a ≡ length b
 one_count given a b first second =
     let same : map op_text a ≡ map op_text b = cc in
-    same_lengths a b same
+    sym (length-map a op_text) ∙ ap length same ∙ length-map b op_text
 
 -- a command that lacks landmark words asks for no task
 no_words : (name : Text) (rows : List Row) (shape task : Task) → IsShapedAs name rows shape → IsLacking rows shape why.Words → IsTask name rows task → ⊥

@@ -8,5 +8,6 @@ pub mod Telling
 pub mod Rebuilding
 pub mod Crashing
 pub mod Listings
+pub mod GivenOut
 pub mod Answering
 pub mod OldForms

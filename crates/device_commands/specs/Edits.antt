@@ -11,7 +11,7 @@ use Rattle.generations.specs.declared.posting.Verdict.{Verdict}
 use Rattle.command_output.specs.declared.fault.Fault.{Fault}
 use Rattle.command_output.specs.declared.fault.Fault.TheVariants.{AlreadyIn, Device, Worn}
 use Rattle.device_commands.specs.Answer.{IsNew, IsTaken, last_ticket, state_after, ticket_of, verdict_of}
-use Rattle.device_commands.specs.Openings.{IsEditFault, IsUnwrittenFault, TellsOf}
+use Rattle.device_commands.specs.Openings.{IsEditFault, IsUnwrittenFault, OfContent, TellsOf}
 
 -- numbers have run out for a change that is new: its ticket is past the limit, or the graph takes it
 abbrev pub IsPastLimits : State → ℕ → Option ℕ → List Op → Type 0
@@ -52,7 +52,7 @@ pub record EditsState (session : ℕ) (named : Option ℕ) (change : List Op) (d
 pub record EditsDevice (session : ℕ) (named : Option ℕ) (change : List Op) (disk left : DiskView) (result : Result Verdict Fault) : Type 0 where
   -- the verdict is that of a state to which the ticket is new, also where the device doesn't keep the model
   pub of_one : IfOk result (λ verdict. (state : State) × IsNew state session named × (verdict ≡ verdict_of state change))
-  pub of_content : IsTrue disk.keeps_model → (state : State) → StandsFor state disk.content → EditsState session named change disk left result state
+  pub of_content : OfContent disk (λ state. EditsState session named change disk left result state)
   pub unwritten : IsTrue disk.keeps_model → IfErr result (λ fault. IsUnwrittenFault fault → OnlyRead disk left)
   pub tells : IsTrue disk.keeps_model → IfErr result (λ fault. TellsOf fault disk.content)
   pub device : IsErrOf result Device → disk.failures < left.failures

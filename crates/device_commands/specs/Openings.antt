@@ -13,6 +13,10 @@ use Rattle.command_output.specs.Lines.{listing_text}
 use Rattle.command_output.specs.declared.fault.Fault.{Fault}
 use Rattle.command_output.specs.declared.fault.Fault.TheVariants.{NodeCount, DeviceLength, NotFormatted, LayoutNotKnown, Damaged, Device, Memory, Internal, Worn, AlreadyIn}
 
+-- where a device keeps the model, this holds of the state for which its content stands
+abbrev pub OfContent : DiskView → (State → Type 0) → Type 0
+OfContent disk P = IsTrue disk.keeps_model → (state : State) → StandsFor state disk.content → P state
+
 -- the faults of formatting a device for so many nodes
 abbrev pub IsFormatFault : ℕ → Fault → Type 0
 IsFormatFault nodes NodeCount = ¬ ((1 ≤ nodes) × (nodes ≤ most_nodes))
@@ -96,7 +100,7 @@ pub record TellsNotOpened (disk left : DiskView) (told : Fault) : Type 0 where
 pub record AnswersOf {X : Type 0} (IsAnswer : State → X → Type 0) (disk left : DiskView) (result : Result X Fault) : Type 0 where
   -- where it doesn't keep the model, the answer is that of a state too
   pub of_one : IfOk result (λ answer. (state : State) × IsAnswer state answer)
-  pub of_content : IsTrue disk.keeps_model → (state : State) → StandsFor state disk.content → IfOk result (IsAnswer state)
+  pub of_content : OfContent disk (λ state. IfOk result (IsAnswer state))
   pub faults : IfErr result IsOpenFault
   pub reading : IsReading disk left result
 

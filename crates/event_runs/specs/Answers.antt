@@ -23,7 +23,7 @@ use Rattle.event_runs.specs.declared.event.Event.TheVariants.{Submit, Look, Take
 use Rattle.event_runs.specs.declared.reply.Reply.{Reply}
 use Rattle.event_runs.specs.declared.reply.Reply.TheVariants.{Submitted, NotSubmitted, Looked, Taken, Committed, NotCommitted, Posted, Rebuilt, NotRebuilt, Launched, NotRouted, Idle, NoActor, Memory}
 use Rattle.event_runs.specs.Trips.{Trip, sent, launch_by, hop_reply, hop_way}
-use Rattle.event_runs.specs.Machines.{Machine, held, waiting, settling, board_at, let_in, with_session, with_posted, grouped, committed, lost}
+use Rattle.event_runs.specs.Machines.{Machine, held, waiting, settling, board_at, let_in, with_session, with_seen, with_posted, grouped, committed, lost}
 
 -- a reply, and what the machine is then
 pub record Answer : Type 0 where
@@ -123,7 +123,7 @@ sees m at = further m m.seen at
 
 -- the machine after the forwarder has looked at so many
 abbrev pub looked : Machine → ℕ → Machine
-looked m at = record m { seen = sees m at }
+looked m at = with_seen m (sees m at)
 
 -- a packet that is sent has a number and a way
 abbrev pub launch_as : Machine → ℕ → ℕ → Result Packet Refused → Answer

@@ -83,6 +83,10 @@ let_in m session r = record m { sessions = slice_set m.sessions r.session sessio
 abbrev pub with_session : Machine → ℕ → Session → Machine
 with_session m s session = record m { sessions = slice_set m.sessions s session }
 
+-- the forwarder has seen so many postings
+abbrev pub with_seen : Machine → ℕ → Machine
+with_seen m seen = record m { seen = seen }
+
 -- one posting more
 abbrev pub with_posted : Machine → Notice → Machine
 with_posted m notice = record m { postings = m.postings ++ notice ∷ [] }

@@ -3,7 +3,7 @@ use Rattle.std.proofs.Common.{◌≡◌, ℕ, List, [], ◌∷◌, ◌++◌, map
 use Rattle.std.specs.List.{AllByRecursion}
 use Rattle.std.proofs.lemmas.List.{map-append}
 use Rattle.layout_2.specs.State.{State}
-use Rattle.run_laws.specs.Runs.{LeavesPrefix, Holds, IsRun, moment_of}
+use Rattle.run_laws.specs.Runs.{LeavesPrefix, Holds, IsRun}
 use Rattle.event_runs.specs.declared.event.Event.{Event}
 use Rattle.event_runs.specs.declared.reply.Reply.{Reply}
 use Rattle.run_laws.specs.Listed.{IsListed}
@@ -11,41 +11,30 @@ use Rattle.run_laws.specs.QueueLaws.{AnswersKeep, AcknowledgedStay}
 use Rattle.interleave.specs.declared.world.World.{World}
 use Rattle.interleave.specs.WorldWords.{lists_of, machine_of, world_view}
 use Rattle.interleave.specs.Desks.{WorldStep, WorldRun}
-use Rattle.interleave.specs.Crashes.{IsSafeSince}
+use Rattle.interleave.specs.Crashes.{HasWorlds, IsSafeSince, moment_at}
 use Rattle.interleave.proofs.Desks.{desks_push, desks_run}
 
--- where a world stands, as a moment
-abbrev pub moment_at : {D : Type 0} {V : _} → World D V → ℕ × ℕ
-moment_at w = moment_of (world_view w) (lists_of w)
-
--- a run, without what follows for acknowledged changes
-pub record RanSoFar {D : Type 0} {V : _} (old : World D V) (events : List Event) (replies : List Reply) (new : World D V) : Type 0 where
-  pub worlds : List (World D V)
-  pub steps : WorldRun old events replies worlds new
-  pub goes_on : IsTrue (world_view old).keeps_model → (first : State) (before : List (ℕ × ℕ)) → IsRun first (world_view old) (lists_of old) before
-      → IsRun first (world_view new) (lists_of new) (before ++ map (λ w. moment_of (world_view w) (lists_of w)) worlds)
-
 -- before the first event
-pub none_yet : {D : Type 0} {V : _} → (w : World D V) → RanSoFar w [] [] w
+pub none_yet : {D : Type 0} {V : _} → (w : World D V) → HasWorlds w [] [] w
 none_yet w = record {
-  worlds = [];
+  each = [];
   steps = refl;
   goes_on = λ model first before run. subst (λ (ms : List (ℕ × ℕ)). IsRun first (world_view w) (lists_of w) ms) (sym (append-nil before)) run;
 }
 
 -- one event more, by which the run of the store goes on
-pub one_more : {D : Type 0} {V : _} → (w v : World D V) (es : List Event) (rs : List Reply) (e : Event) (r : Reply) (k : World D V) → RanSoFar w es rs v → WorldStep e v r k
+pub one_more : {D : Type 0} {V : _} → (w v : World D V) (es : List Event) (rs : List Reply) (e : Event) (r : Reply) (k : World D V) → HasWorlds w es rs v → WorldStep e v r k
     → (IsTrue (world_view w).keeps_model → (first : State) (ms : List (ℕ × ℕ)) → IsRun first (world_view v) (lists_of v) ms → IsRun first (world_view k) (lists_of k) (ms ++ moment_at k ∷ []))
-    → RanSoFar w (es ++ e ∷ []) (rs ++ r ∷ []) k
+    → HasWorlds w (es ++ e ∷ []) (rs ++ r ∷ []) k
 one_more {D = D} {V = V} w v es rs e r k so_far step goes =
-    let f : World D V → ℕ × ℕ = λ x. moment_of (world_view x) (lists_of x) in
+    let f : World D V → ℕ × ℕ = λ x. moment_at x in
     record {
-      worlds = so_far.worlds ++ k ∷ [];
-      steps = desks_push w v es rs so_far.worlds e r k so_far.steps step;
+      each = so_far.each ++ k ∷ [];
+      steps = desks_push w v es rs so_far.each e r k so_far.steps step;
       goes_on = λ model first before run.
-          let all : (before ++ map f so_far.worlds) ++ f k ∷ [] ≡ before ++ map f (so_far.worlds ++ k ∷ []) =
-          append_assoc before (map f so_far.worlds) (f k ∷ []) ∙ ap (λ (ms : List (ℕ × ℕ)). before ++ ms) (sym (map-append f so_far.worlds (k ∷ []))) in
-          subst (λ (ms : List (ℕ × ℕ)). IsRun first (world_view k) (lists_of k) ms) all (goes model first (before ++ map f so_far.worlds) (so_far.goes_on model first before run));
+          let all : (before ++ map f so_far.each) ++ f k ∷ [] ≡ before ++ map f (so_far.each ++ k ∷ []) =
+          append_assoc before (map f so_far.each) (f k ∷ []) ∙ ap (λ (ms : List (ℕ × ℕ)). before ++ ms) (sym (map-append f so_far.each (k ∷ []))) in
+          subst (λ (ms : List (ℕ × ℕ)). IsRun first (world_view k) (lists_of k) ms) all (goes model first (before ++ map f so_far.each) (so_far.goes_on model first before run));
     }
 
 -- what is left since one of them
@@ -57,7 +46,7 @@ since stay first now w es rs ws listed run left = λ image was.
 
 -- a crash since each of the worlds of a run is safe, by the run's moments
 pub safe_each : {D : Type 0} {V : _} → AnswersKeep → AcknowledgedStay → (first : State) (now w : World D V) (es : List Event) (rs : List Reply) (ws : List (World D V)) → IsListed first (machine_of w) → WorldRun w es rs ws now
-    → Holds first (world_view now) (lists_of now) (map (λ x. moment_of (world_view x) (lists_of x)) (w ∷ ws)) → AllByRecursion (IsSafeSince first now) (w ∷ ws)
+    → Holds first (world_view now) (lists_of now) (map (λ x. moment_at x) (w ∷ ws)) → AllByRecursion (IsSafeSince first now) (w ∷ ws)
 safe_each keeps stay first now w [] [] [] listed run holds = (since stay first now w [] [] [] listed run holds.2, tt)
 safe_each keeps stay first now w [] [] (z ∷ ws) listed run holds = absurd run
 safe_each keeps stay first now w [] (y ∷ rs) ws listed run holds = absurd run

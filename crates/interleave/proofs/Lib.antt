@@ -5,3 +5,4 @@ pub mod Lists
 pub mod Steps
 pub mod Going
 pub mod Desks
+pub mod OldForms

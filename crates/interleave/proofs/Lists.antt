@@ -1,5 +1,5 @@
 -- The lists of a world, from its parts.
-use Rattle.std.proofs.Common.{◌≡◌, ℕ, zero, suc, List, [], ◌∷◌, take, drop, Bool, true, false, refl}
+use Rattle.std.proofs.Common.{◌≡◌, ℕ, zero, suc, List, [], ◌∷◌, take, drop, Bool, refl}
 use Rattle.requests.specs.declared.request.Request.{Request}
 use Rattle.layout_2.specs.State.{State}
 use Rattle.run_laws.specs.History.{Lists}
@@ -13,8 +13,3 @@ pub none_left : {A : Type 0} (n : ℕ) (l : List A) → drop n (take n l) ≡ []
 none_left zero l = refl
 none_left (suc n) [] = refl
 none_left (suc n) (x ∷ l) = none_left n l
-
--- what isn't true is false
-pub not_true : (b : Bool) → (b ≡ true → ⊥) → b ≡ false
-not_true true h = absurd (h refl)
-not_true false h = refl

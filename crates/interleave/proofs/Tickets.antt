@@ -3,12 +3,12 @@ use Rattle.std.proofs.Common.{◌≡◌, ◌<◌, ◌≤◌, ℕ, zero, suc, Boo
 use Rattle.std.specs.Option.{unwrap_or}
 use Rattle.std.proofs.Math.Seq.{drop-cons}
 use Rattle.std.proofs.lemmas.Bool.Decides.{nat_tests}
-use Rattle.std.proofs.lemmas.List.{take-append-drop}
+use Rattle.std.proofs.lemmas.List.{take-append-drop, take-take}
 use Rattle.std.proofs.lemmas.Option.{slice_get_within}
 use Rattle.requests.specs.declared.request.Request.{Request}
 use Rattle.requests.specs.Tickets.{sessions, worn_limit, last_of, raise, tickets_after}
 use Rattle.requests.specs.Requests.{asked_by}
-use Rattle.requests.proofs.TicketLemmas.{after_append, either_same}
+use Rattle.requests.proofs.TicketLemmas.{either_same}
 use Rattle.layout_2.specs.State.{State, asked, IsNext, AreInTurn}
 use Rattle.generations.specs.Boards.{BoardState}
 use Rattle.group_commit.specs.Laws.{TicketsStayBehind}
@@ -18,41 +18,23 @@ use Rattle.group_commit.proofs.TurnLemmas.{behind_at, behind_both, last_own, las
 use Rattle.intake.specs.declared.outcome.SubmitRefused.{SubmitRefused}
 use Rattle.intake.specs.declared.outcome.SubmitRefused.TheVariants.{Busy, AlreadyIn, OldTicket, Worn}
 use Rattle.intake.specs.Outcomes.{refusal_on, outcome_on, is_open}
+use Rattle.run_laws.proofs.Turns.{after_in_append, in_turn_first}
 use Rattle.event_runs.specs.declared.session.Session.{Session}
 use Rattle.event_runs.specs.Machines.{fresh_session}
 use Rattle.interleave.specs.Stores.{AreLasts}
 
 -- ---- requests in turn, in parts
 
-take_in : {A : Type 0} (d t : ℕ) (l : List A) → d ≤ t → take d (take t l) ≡ take d l
-take_in zero t l h = refl
-take_in (suc d) zero l h = absurd (omega arith)
-take_in (suc d) (suc t) [] h = refl
-take_in (suc d) (suc t) (x ∷ l) h = ap (λ r. x ∷ r) (take_in d t l (omega arith))
-
 -- what was taken is what is settled and what is held
 pub taken_parts : {A : Type 0} (d t : ℕ) (l : List A) → d ≤ t → take t l ≡ take d l ++ drop d (take t l)
-taken_parts d t l h = sym (take-append-drop d (take t l)) ∙ ap (λ r. r ++ drop d (take t l)) (take_in d t l h)
-
-turn_first : (ts : List ℕ) (xs ys : List Request) → AreInTurn ts (xs ++ ys) → AreInTurn ts xs
-turn_first ts [] ys h = (tt, tt)
-turn_first ts (x ∷ xs) ys h =
-    let rest = turn_first (raise ts (asked_by x)) xs ys (h.0.2, h.1.1) in
-    ((h.0.0, h.0.1, rest.0), (h.1.0, rest.1))
+taken_parts d t l h = sym (take-append-drop d (take t l)) ∙ ap (λ r. r ++ drop d (take t l)) (take-take d t l h)
 
 turn_rest : (ts : List ℕ) (xs ys : List Request) → AreInTurn ts (xs ++ ys) → AreInTurn (tickets_after ts (asked xs)) ys
 turn_rest ts [] ys h = h
 turn_rest ts (x ∷ xs) ys h = turn_rest (raise ts (asked_by x)) xs ys (h.0.2, h.1.1)
 
 turn_take : (ts : List ℕ) (n : ℕ) (l : List Request) → AreInTurn ts l → AreInTurn ts (take n l)
-turn_take ts n l h = turn_first ts (take n l) (drop n l) (subst (λ (r : List Request). AreInTurn ts r) (sym (take-append-drop n l)) h)
-
-asked_append : (xs ys : List Request) → asked (xs ++ ys) ≡ asked xs ++ asked ys
-asked_append [] ys = refl
-asked_append (x ∷ xs) ys = ap (λ r. asked_by x ∷ r) (asked_append xs ys)
-
-tickets_append : (ts : List ℕ) (xs ys : List Request) → tickets_after (tickets_after ts (asked xs)) (asked ys) ≡ tickets_after ts (asked (xs ++ ys))
-tickets_append ts xs ys = sym (after_append ts (asked xs) (asked ys)) ∙ ap (tickets_after ts) (sym (asked_append xs ys))
+turn_take ts n l h = in_turn_first ts (take n l) (drop n l) (subst (λ (r : List Request). AreInTurn ts r) (sym (take-append-drop n l)) h)
 
 behind_after : (ts us : List ℕ) (ps : List (ℕ × ℕ)) → AreBehind ts us → AreBehind (tickets_after ts ps) (tickets_after us ps)
 behind_after ts us [] h = h
@@ -71,7 +53,7 @@ next_here tickets starts l held done taken r turn behind split le lt is =
     subst (λ (x : List Request). AreInTurn starts x) (sym (take-append-drop taken l) ∙ ap (λ (x : List Request). take taken l ++ x) rest) turn in
     let next = turn_rest starts (take taken l) (r ∷ drop (suc taken) l) whole in
     let all : tickets_after (tickets_after starts (asked (take done l))) (asked held) ≡ then =
-    tickets_append starts (take done l) held ∙ ap (λ (x : List Request). tickets_after starts (asked x)) (ap (λ (x : List Request). take done l ++ x) split ∙ sym (taken_parts done taken l le)) in
+    sym (after_in_append starts (take done l) held) ∙ ap (λ (x : List Request). tickets_after starts (asked x)) (ap (λ (x : List Request). take done l ++ x) split ∙ sym (taken_parts done taken l le)) in
     let no_later = behind_at now then r.session (subst (λ (x : List ℕ). AreBehind now x) all (behind_after tickets (tickets_after starts (asked (take done l))) (asked held) behind)) in
     let above = next.0.1 in
     (next.0.0, omega (arith, no_later, above), next.1.0)
@@ -85,7 +67,7 @@ won_behind law state starts l held done taken turn behind split le =
     let parts : take taken l ≡ take done l ++ held = taken_parts done taken l le ∙ ap (λ (x : List Request). take done l ++ x) (sym split) in
     let whole : AreInTurn starts (take done l ++ held) = subst (λ (x : List Request). AreInTurn starts x) parts (turn_take starts taken l turn) in
     let stays = law state (tickets_after starts (asked (take done l))) held behind (turn_rest starts (take done l) held whole) in
-    subst (λ (x : List ℕ). AreBehind (settle state held).state.tickets x) (tickets_append starts (take done l) held ∙ ap (λ (x : List Request). tickets_after starts (asked x)) (sym parts)) stays.1
+    subst (λ (x : List ℕ). AreBehind (settle state held).state.tickets x) (sym (after_in_append starts (take done l) held) ∙ ap (λ (x : List Request). tickets_after starts (asked x)) (sym parts)) stays.1
 
 -- ---- submitting
 

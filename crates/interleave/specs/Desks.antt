@@ -9,9 +9,9 @@ use Rattle.event_runs.specs.declared.event.Event.{Event}
 use Rattle.event_runs.specs.declared.event.Event.TheVariants.{Commit}
 use Rattle.event_runs.specs.declared.reply.Reply.{Reply}
 use Rattle.event_runs.specs.declared.reply.Reply.TheVariants.{Committed, NotCommitted, Idle, Memory}
-use Rattle.event_runs.specs.Answers.{Answers}
 use Rattle.interleave.specs.declared.world.World.{World}
-use Rattle.interleave.specs.WorldWords.{desk_of, machine_of, world_store, world_view}
+use Rattle.interleave.specs.WorldWords.{desk_of, world_store, world_view}
+use Rattle.interleave.specs.Events.{WorldAnswers}
 
 -- how often a desk's disk has failed
 abbrev pub failures_of : {D : Type 0} {V : _} → Desk D V → ℕ
@@ -41,10 +41,14 @@ DeskCommits old reply new = ⊥
 
 -- an event of a world: a commit is answered by the desk, and at all other events the store stays, with its disk
 pub record WorldStep {D : Type 0} {V : _} (event : Event) (old : World D V) (reply : Reply) (new : World D V) : Type 0 where
+  -- its disk is the same device
   pub ran : IsSameDevice (world_view old) (world_view new)
+  -- the store stays but at a commit
   pub still : event ≢ Commit → world_store new ≡ world_store old
+  -- which the desk answers
   pub commits : event ≡ Commit → DeskCommits (desk_of old) reply (desk_of new)
-  pub answers : Answers event (machine_of old) reply (machine_of new)
+  -- the reply is one that the event may be answered
+  pub answers : WorldAnswers event old reply new
 
 -- so it is at each event in turn, with a world after each
 abbrev pub WorldRun : {D : Type 0} {V : _} → World D V → List Event → List Reply → List (World D V) → World D V → Type 0

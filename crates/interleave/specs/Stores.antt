@@ -19,6 +19,10 @@ use Rattle.interleave.specs.declared.stored.Stored.{Stored}
 abbrev pub trip_of : Way → Trip
 trip_of w = record { from = w.from; to = w.to; visited = w.visited.items; at = w.at; packet = w.packet; there = w.there }
 
+-- what was posted, as plain data
+abbrev pub postings_of : Stored → List Notice
+postings_of s = map notice_of s.postings.items
+
 -- the machine that stores this, beside a desk that has something due and a store in a state
 abbrev pub machine_with : Stored → Option Notice → State → Bool → Machine
 machine_with s due state down = record {
@@ -30,7 +34,7 @@ machine_with s due state down = record {
   taken = s.taken;
   done = s.done;
   groups = s.groups.items;
-  postings = map notice_of s.postings.items;
+  postings = postings_of s;
   due = due;
   state = state;
   down = down;

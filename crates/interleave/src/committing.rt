@@ -1,14 +1,15 @@
 // Events of the committer.
-ghost use Rattle.std.specs.Prelude.{◌≡◌, ◌↔◌, ◌++◌, ◌∷◌, [], List, IsTrue, IfOk, Some, true, false};
+ghost use Rattle.std.specs.Prelude.{◌≡◌, ◌↔◌, List, IsTrue, IfOk, Some, true, false};
 ghost use Rattle.std.specs.Arc.{arc_value};
 ghost use Rattle.disk_trait.specs.Disk.{IsSameDevice};
 ghost use Rattle.requests.specs.declared.request.Request.{Request as Asked};
 ghost use Rattle.layout_2.specs.State.{State};
 ghost use Rattle.scheme_builds.specs.Schemes.{IsSchemeOf};
 ghost use Rattle.generations.specs.Notices.{notice_of};
-ghost use Rattle.run_laws.specs.Happenings.{Happens, took};
+ghost use Rattle.run_laws.specs.Happenings.{took};
 ghost use Rattle.event_runs.specs.Machines.{with_posted};
-ghost use Rattle.event_runs.specs.Answers.{Exactly, OrMemory, CommitAnswers, RebuildAnswers, newest_number, post, take_one, number_of};
+ghost use Rattle.event_runs.specs.declared.event.Event.TheVariants as events;
+ghost use Rattle.event_runs.specs.Answers.{RebuildAnswers, newest_number, post, number_of};
 ghost use Rattle.run_laws.specs.Listed.{IsListed};
 ghost use Rattle.run_laws.specs.Ways.{AreOnWay};
 
@@ -27,14 +28,16 @@ use std::sync::Arc;
 
 impl<D: Disk> World<D> {
     ghost use Rattle.interleave.specs.WorldWords.{desk_of, lists_of, machine_of, world_store, world_view};
+    ghost use Rattle.interleave.specs.Crashes.{WorldHappens};
     ghost use Rattle.interleave.specs.Desks.{DeskCommits};
+    ghost use Rattle.interleave.specs.Events.{LeavesStore, WorldAnswers};
 
     /// The committer moves a request from the queue to the desk. It takes no memory.
     pub(crate) fn take(&mut self) -> Reply
         ensures store { world_store self.new ≡ world_store self.old }
         ensures lists { (more : List Asked) × (lists_of self.new ≡ took (lists_of self.old) more) }
         ensures number { number_of result ≡ 0 }
-        ensures answers { Exactly (take_one (machine_of self.old)) result (machine_of self.new) }
+        ensures answers { WorldAnswers events.Take self.old result self.new }
     {
         if self.stored.taken >= self.stored.asked.len()
             || self.desk.due().is_some()
@@ -53,9 +56,9 @@ impl<D: Disk> World<D> {
     /// The committer commits what is held.
     pub(crate) fn commit(&mut self, alloc: Global) -> Reply
         ensures ran { IsSameDevice (world_view self.old) (world_view self.new) }
-        ensures happens { IsTrue (world_view self.old).keeps_model → Happens (world_view self.old) (world_view self.new) (lists_of self.old) (lists_of self.new) (number_of result) }
+        ensures happens { WorldHappens self.old result self.new }
         ensures commits { DeskCommits (desk_of self.old) result (desk_of self.new) }
-        ensures answers { CommitAnswers (machine_of self.old) result (machine_of self.new) }
+        ensures answers { WorldAnswers events.Commit self.old result self.new }
     {
         if self.desk.held() == 0 {
             return Reply::Idle;
@@ -89,10 +92,8 @@ impl<D: Disk> World<D> {
 
     /// The committer posts what is due.
     pub(crate) fn post(&mut self) -> Reply
-        ensures store { world_store self.new ≡ world_store self.old }
-        ensures lists { lists_of self.new ≡ lists_of self.old }
-        ensures number { number_of result ≡ 0 }
-        ensures answers { OrMemory (post (machine_of self.old)) (machine_of self.old) result (machine_of self.new) }
+        ensures leaves { LeavesStore self.old result self.new }
+        ensures answers { WorldAnswers events.Post self.old result self.new }
     {
         if self.stored.postings.reserve(1).is_err() {
             return Reply::Memory;
@@ -140,9 +141,7 @@ impl<D: Disk> World<D> {
     /// the newest generation has this number already. Of the words the first count, one for each node, and for each that is missing
     /// the greatest.
     pub fn rebuild(&mut self, alloc: Global, words: &[u64]) -> Reply
-        ensures store { world_store self.new ≡ world_store self.old }
-        ensures lists { lists_of self.new ≡ lists_of self.old }
-        ensures number { number_of result ≡ 0 }
+        ensures leaves { LeavesStore self.old result self.new }
         ensures answers { RebuildAnswers words.now (machine_of self.old) result (machine_of self.new) }
         ensures listed { (first : State) → IsListed first (machine_of self.old) → IsListed first (machine_of self.new) }
         ensures ways { AreOnWay (machine_of self.old) → AreOnWay (machine_of self.new) }
@@ -154,9 +153,7 @@ impl<D: Disk> World<D> {
 
     /// The same, without what follows from the answer.
     pub(crate) fn build(&mut self, alloc: Global, words: &[u64]) -> Reply
-        ensures store { world_store self.new ≡ world_store self.old }
-        ensures lists { lists_of self.new ≡ lists_of self.old }
-        ensures number { number_of result ≡ 0 }
+        ensures leaves { LeavesStore self.old result self.new }
         ensures answers { RebuildAnswers words.now (machine_of self.old) result (machine_of self.new) }
     {
         if self.desk.store().is_down() {

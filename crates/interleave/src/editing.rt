@@ -1,6 +1,5 @@
 // Events of editors.
-ghost use Rattle.std.specs.Prelude.{◌≡◌};
-ghost use Rattle.event_runs.specs.Answers.{OrMemory, look, submit, number_of};
+ghost use Rattle.event_runs.specs.declared.event.Event.TheVariants as events;
 
 use crate::world::World;
 use disk_trait::Disk;
@@ -10,14 +9,12 @@ use intake::{SubmitRefused, outcome_of, refusal_of};
 use requests::Request;
 
 impl<D: Disk> World<D> {
-    ghost use Rattle.interleave.specs.WorldWords.{desk_of, lists_of, machine_of};
+    ghost use Rattle.interleave.specs.Events.{LeavesDesk, WorldAnswers};
 
     /// A session asks for a change.
     pub(crate) fn submit(&mut self, session: u8, ticket: u64, change: &Change) -> Reply
-        ensures desk { desk_of self.new ≡ desk_of self.old }
-        ensures lists { lists_of self.new ≡ lists_of self.old }
-        ensures number { number_of result ≡ 0 }
-        ensures answers { OrMemory (submit (machine_of self.old) (record { session = session; ticket = ticket; change = change.now })) (machine_of self.old) result (machine_of self.new) }
+        ensures leaves { LeavesDesk self.old result self.new }
+        ensures answers { WorldAnswers (events.Submit session ticket change.now) self.old result self.new }
     {
         let place = session as usize;
         if place >= self.stored.sessions.len() {
@@ -51,10 +48,8 @@ impl<D: Disk> World<D> {
 
     /// A session looks what became of its last change.
     pub(crate) fn look(&mut self, session: u8, at: usize) -> Reply
-        ensures desk { desk_of self.new ≡ desk_of self.old }
-        ensures lists { lists_of self.new ≡ lists_of self.old }
-        ensures number { number_of result ≡ 0 }
-        ensures answers { OrMemory (look (machine_of self.old) session at) (machine_of self.old) result (machine_of self.new) }
+        ensures leaves { LeavesDesk self.old result self.new }
+        ensures answers { WorldAnswers (events.Look session at) self.old result self.new }
     {
         let place = session as usize;
         if place >= self.stored.sessions.len() {

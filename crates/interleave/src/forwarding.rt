@@ -1,7 +1,9 @@
 // Events of the forwarder.
 ghost use Rattle.std.specs.Prelude.{◌≡◌, ◌≤◌, ◌<◌, ◌+◌, length, vec_len, vec_capacity, slice_get, Some, Ok};
 ghost use Rattle.forwarders.specs.Answers.{hop_at};
-ghost use Rattle.event_runs.specs.Answers.{OrMemory, hop, hop_as, launch, launch_as, number_of};
+ghost use Rattle.event_runs.specs.declared.event.Event.TheVariants as events;
+ghost use Rattle.event_runs.specs.Answers.{hop_as, launch_as};
+ghost use Rattle.event_runs.specs.Machines.{with_seen};
 ghost use Rattle.event_runs.specs.Trips.{Trip, hop_reply, hop_way, launch_by};
 ghost use Rattle.interleave.specs.Stores.{trip_of};
 
@@ -16,14 +18,13 @@ use node_table::{Move, Packet};
 use std::alloc::Global;
 
 impl<D: Disk> World<D> {
-    ghost use Rattle.interleave.specs.WorldWords.{desk_of, lists_of, machine_of};
+    ghost use Rattle.interleave.specs.WorldWords.{machine_of};
+    ghost use Rattle.interleave.specs.Events.{LeavesDesk, WorldAnswers, WorldOrMemory};
 
     /// A node sends a packet to another.
     pub(crate) fn launch(&mut self, alloc: Global, from: u16, to: u16, at: usize) -> Reply
-        ensures desk { desk_of self.new ≡ desk_of self.old }
-        ensures lists { lists_of self.new ≡ lists_of self.old }
-        ensures number { number_of result ≡ 0 }
-        ensures answers { OrMemory (launch (machine_of self.old) from to at) (machine_of self.old) result (machine_of self.new) }
+        ensures leaves { LeavesDesk self.old result self.new }
+        ensures answers { WorldAnswers (events.Launch from to at) self.old result self.new }
     {
         let seen = self.stored.further(self.stored.seen, at);
         let Ok(board) = self.stored.board(seen) else {
@@ -40,10 +41,9 @@ impl<D: Disk> World<D> {
 
     // A packet that its source has sent has a number and a way from now on. It was sent by a board that holds so many postings.
     fn file(&mut self, alloc: Global, seen: usize, from: u16, to: u16, packet: Packet) -> Reply
-        ensures desk { desk_of self.new ≡ desk_of self.old }
-        ensures lists { lists_of self.new ≡ lists_of self.old }
-        ensures number { number_of result ≡ 0 }
-        ensures answers { OrMemory (launch_as (record (machine_of self.old) { seen = seen }) from to (Ok packet)) (machine_of self.old) result (machine_of self.new) }
+        ensures leaves { LeavesDesk self.old result self.new }
+        ensures answers { WorldOrMemory (launch_as (with_seen (machine_of self.old) seen) from to (Ok packet))
+            self.old result self.new }
     {
         let Ok(visited) = Vec::from_slice(alloc, &[from]) else {
             return Reply::Memory;
@@ -66,10 +66,8 @@ impl<D: Disk> World<D> {
 
     /// A packet is carried on where it stands.
     pub(crate) fn hop(&mut self, packet: usize, at: usize) -> Reply
-        ensures desk { desk_of self.new ≡ desk_of self.old }
-        ensures lists { lists_of self.new ≡ lists_of self.old }
-        ensures number { number_of result ≡ 0 }
-        ensures answers { OrMemory (hop (machine_of self.old) packet at) (machine_of self.old) result (machine_of self.new) }
+        ensures leaves { LeavesDesk self.old result self.new }
+        ensures answers { WorldAnswers (events.Hop packet at) self.old result self.new }
     {
         if packet >= self.stored.ways.len() || !self.stored.ways[packet].there {
             return Reply::NoActor;
@@ -84,11 +82,11 @@ impl<D: Disk> World<D> {
     // A packet's way goes on by what a board says, which holds so many postings.
     fn carry_on(&mut self, packet: usize, seen: usize, board: &Board) -> Reply
         requires within { packet < length (machine_of self.old).ways }
-        ensures desk { desk_of self.new ≡ desk_of self.old }
-        ensures lists { lists_of self.new ≡ lists_of self.old }
-        ensures number { number_of result ≡ 0 }
+        ensures leaves { LeavesDesk self.old result self.new }
         ensures answers { (way : Trip) → slice_get (machine_of self.old).ways packet ≡ Some way
-            → OrMemory (hop_as (record (machine_of self.old) { seen = seen }) packet way (hop_at way.at way.packet board.now.shelf)) (machine_of self.old) result (machine_of self.new) }
+            → WorldOrMemory
+            (hop_as (with_seen (machine_of self.old) seen) packet way (hop_at way.at way.packet board.now.shelf))
+            self.old result self.new }
     {
         let way = &mut self.stored.ways[packet];
         if way.visited.reserve(1).is_err() {

@@ -1,11 +1,10 @@
 // What a world stores beside its desk.
 ghost use Rattle.std.specs.Prelude.{◌≡◌, map, take, max, min, length, IfOk};
-ghost use Rattle.std.specs.Option.{option_map};
 ghost use Rattle.requests.specs.Tickets.{last_of};
 ghost use Rattle.generations.specs.Notices.{notice_of};
 ghost use Rattle.generations.specs.Boards.{board_of};
 ghost use Rattle.event_runs.specs.Answers.{newest_number};
-ghost use Rattle.interleave.specs.Stores.{newer};
+ghost use Rattle.interleave.specs.Stores.{newer, postings_of};
 
 use event_runs::Session;
 use generations::{Board, Posting};
@@ -60,14 +59,15 @@ impl Stored {
 
     /// How many postings an actor has seen that has seen some and looks at so many.
     pub(crate) fn further(&self, seen: usize, at: usize) -> usize
-        ensures { result ≡ max seen (min at (length (map notice_of self.now.postings.items))) }
+        ensures { result ≡ max seen (min at (length (postings_of self.now))) }
     {
         seen.max(at.min(self.postings.len()))
     }
 
     /// The board after the first postings. It is refused where the owners of a scheme can't be counted.
     pub(crate) fn board(&self, seen: usize) -> Result<Board, AllocError>
-        ensures { IfOk result (λ board. board ≡ board_of self.now.starts self.now.start (take seen (map notice_of self.now.postings.items))) }
+        ensures { IfOk result (λ board.
+            board ≡ board_of self.now.starts self.now.start (take seen (postings_of self.now))) }
     {
         let postings = self.postings.as_slice();
         if seen < postings.len() {
@@ -79,7 +79,7 @@ impl Stored {
 
     /// The number of the newest generation.
     pub(crate) fn newest(&self) -> Option<u64>
-        ensures { result ≡ newest_number (map notice_of self.now.postings.items) }
+        ensures { result ≡ newest_number (postings_of self.now) }
     {
         newest_in(self.postings.as_slice())
     }

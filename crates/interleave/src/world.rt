@@ -1,16 +1,13 @@
 //! The world: a desk, and beside it a queue, sessions, postings and packets, without threads.
-ghost use Rattle.std.specs.Prelude.{◌≡◌, ◌≤◌, [], length, take, drop, replicate, IsTrue, IfOk, None, false};
+ghost use Rattle.std.specs.Prelude.{◌≡◌, ◌≤◌, [], length, take, drop, replicate, IfOk, None};
 ghost use Rattle.disk_trait.specs.Disk.{Unchanged};
 ghost use Rattle.requests.specs.Tickets.{sessions as all_sessions, tickets_after};
 ghost use Rattle.layout_2.specs.State.{asked as asked_all, AreInTurn};
 ghost use Rattle.checkpoint.specs.Kept.{kept_props};
-ghost use Rattle.checkpoint.specs.StoreWords.{state_of, view_of, is_down};
+ghost use Rattle.checkpoint.specs.StoreWords.{state_of};
 ghost use Rattle.group_commit.specs.DeskWords.{store_of, held_of, due_of};
 ghost use Rattle.group_commit.specs.Turns.{AreBehind, in_turn_prop};
-ghost use Rattle.run_laws.specs.Runs.{IsRun};
-ghost use Rattle.event_runs.specs.Machines.{begun, fresh_session};
-ghost use Rattle.run_laws.specs.Listed.{IsListed};
-ghost use Rattle.run_laws.specs.Ways.{AreOnWay};
+ghost use Rattle.event_runs.specs.Machines.{fresh_session};
 ghost use Rattle.interleave.specs.Stores.{AreLasts, behind_prop};
 
 use crate::stored::Stored;
@@ -39,7 +36,7 @@ pub struct World<D: Disk> {
 }
 
 impl<D: Disk + Drop> World<D> {
-    ghost use Rattle.interleave.specs.WorldWords.{desk_of, lists_of, machine_of, world_view};
+    ghost use Rattle.interleave.specs.Begun.{HasBegun, IsFresh};
 
     /// A world at the beginning of a life: nothing was asked, posted or sent yet.
     pub fn new(
@@ -52,12 +49,7 @@ impl<D: Disk + Drop> World<D> {
         requires capacity { (1 ≤ capacity) × (capacity ≤ 64) }
         requires none_held { held_of desk ≡ [] }
         requires none_due { due_of desk ≡ None }
-        ensures desk { IfOk result (λ world. desk_of world ≡ desk) }
-        ensures machine { IfOk result (λ world. machine_of world ≡ begun capacity sessions (state_of (store_of desk)) (is_down (store_of desk))) }
-        ensures listed { IfOk result (λ world. IsListed (state_of (store_of desk)) (machine_of world)) }
-        ensures on_way { IfOk result (λ world. AreOnWay (machine_of world)) }
-        // A crash now leaves what was opened, where the device keeps the disk model and hasn't failed.
-        ensures run { IsTrue (view_of (store_of desk)).keeps_model → is_down (store_of desk) ≡ false → IfOk result (λ world. IsRun (state_of (store_of desk)) (world_view world) (lists_of world) []) }
+        ensures { IfOk result (λ world. HasBegun desk capacity sessions world) }
     {
         let sessions = fresh_sessions(alloc, sessions)?;
         Ok(World::with_sessions(alloc, desk, sessions, capacity))
@@ -75,11 +67,7 @@ impl<D: Disk + Drop> World<D> {
         requires capacity { (1 ≤ capacity) × (capacity ≤ 64) }
         requires none_held { held_of desk ≡ [] }
         requires none_due { due_of desk ≡ None }
-        ensures desk { desk_of result ≡ desk }
-        ensures machine { machine_of result ≡ begun capacity (length sessions.items) (state_of (store_of desk)) (is_down (store_of desk)) }
-        ensures listed { IsListed (state_of (store_of desk)) (machine_of result) }
-        ensures on_way { AreOnWay (machine_of result) }
-        ensures run { IsTrue (view_of (store_of desk)).keeps_model → is_down (store_of desk) ≡ false → IsRun (state_of (store_of desk)) (world_view result) (lists_of result) [] }
+        ensures { HasBegun desk capacity (length sessions.items) result }
     {
         history_law::<D>();
         lists_law();
@@ -93,8 +81,7 @@ impl<D: Disk + Drop> World<D> {
         requires fresh { sessions.items ≡ replicate (length sessions.items) fresh_session }
         requires none_held { held_of desk ≡ [] }
         requires none_due { due_of desk ≡ None }
-        ensures desk { desk_of result ≡ desk }
-        ensures machine { machine_of result ≡ begun capacity (length sessions.items) (state_of (store_of desk)) (is_down (store_of desk)) }
+        ensures fresh { IsFresh desk capacity (length sessions.items) result }
         ensures wide { length (state_of (store_of desk)).tickets ≡ all_sessions }
     {
         let starts = desk.starts();

@@ -11,6 +11,7 @@ use Rattle.event_runs.specs.Machines.{Machine, begun}
 use Rattle.event_runs.specs.Answers.{RebuildAnswers}
 use Rattle.run_laws.specs.History.{Whole, EndBy}
 use Rattle.run_laws.specs.Replies.{RunRoutes}
+use Rattle.run_laws.proofs.PrefixLemmas.{ends_more, ends_push, whole_ends, whole_push}
 use Rattle.life_chain.specs.Groups.{Given, nothing_given, with_group, given_after, given_by}
 use Rattle.life_chain.proofs.EventLemmas.{Tally, come_to, stored_after, gives, rebuild_keeps}
 
@@ -18,20 +19,7 @@ use Rattle.life_chain.proofs.EventLemmas.{Tally, come_to, stored_after, gives, r
 
 -- none of these groups is cut behind all of them
 behind : (n at : ℕ) (groups : List (ℕ × ℕ)) → EndBy n groups → n ≤ at → Whole at groups
-behind n at [] ends le = tt
-behind n at (g ∷ gs) ends le = ((λ x. let a = ends.0 in let b = x.1 in omega arith), behind n at gs ends.1 le)
-
-ends_later : (n k : ℕ) (groups : List (ℕ × ℕ)) → EndBy n groups → n ≤ k → EndBy k groups
-ends_later n k [] ends le = tt
-ends_later n k (g ∷ gs) ends le = ((let a = ends.0 in omega arith), ends_later n k gs ends.1 le)
-
-ends_with : (n : ℕ) (groups : List (ℕ × ℕ)) (g : ℕ × ℕ) → EndBy n groups → g.1 ≤ n → EndBy n (groups ++ g ∷ [])
-ends_with n [] g ends le = (le, tt)
-ends_with n (x ∷ xs) g ends le = (ends.0, ends_with n xs g ends.1 le)
-
-whole_with : (at : ℕ) (groups : List (ℕ × ℕ)) (g : ℕ × ℕ) → Whole at groups → ((g.0 < at) × (at < g.1) → ⊥) → Whole at (groups ++ g ∷ [])
-whole_with at [] g whole apart = (apart, tt)
-whole_with at (x ∷ xs) g whole apart = (whole.0, whole_with at xs g whole.1 apart)
+behind n at groups ends le = whole_ends at groups (ends_more n at groups ends le)
 
 whole_without : (at : ℕ) (groups : List (ℕ × ℕ)) (g : ℕ × ℕ) → Whole at (groups ++ g ∷ []) → Whole at groups × ((g.0 < at) × (at < g.1) → ⊥)
 whole_without at [] g whole = (tt, whole.0)
@@ -64,14 +52,14 @@ more_whole stored told f at whole = by (nat_le at stored.done) refl
     outside = subst (λ (p : ℕ × ℕ). (p.0 < at) × (at < p.1) → ⊥) (λ i. (f.done i, f.taken i)) split.1
 
     by : (b : Bool) → nat_le at stored.done ≡ b → Whole at (with_group told).groups
-    by true e = let le : at ≤ stored.done = grind (arith, nat_tests) in whole_with at told.groups (told.done, told.taken) (f.whole at split.0 (λ _. le)) outside
+    by true e = let le : at ≤ stored.done = grind (arith, nat_tests) in whole_push at told.groups (told.done, told.taken) (f.whole at split.0 (λ _. le)) outside
     by false e =
         let over : stored.done < at = grind (arith, nat_tests) in
         let le : told.taken ≤ at = subst (λ (n : ℕ). n ≤ at) f.taken (not_below at stored.taken (λ lt. split.1 (over, lt))) in
-        whole_with at told.groups (told.done, told.taken) (behind told.taken at told.groups f.ends le) outside
+        whole_push at told.groups (told.done, told.taken) (behind told.taken at told.groups f.ends le) outside
 
 group_ends : (g : Given) → EndBy g.taken g.groups → EndBy g.taken (with_group g).groups
-group_ends g ends = ends_with g.taken g.groups (g.done, g.taken) ends (omega arith)
+group_ends g ends = ends_push g.taken g.groups (g.done, g.taken) ends (omega arith)
 
 -- a commit had no memory
 no_memory : (stored told : Given) → Fits stored told → Fits stored (cond told.down told (with_group told))
@@ -84,7 +72,7 @@ no_memory stored told f = by told.down refl
       done = f.done;
       down = f.down;
       ends = group_ends told f.ends;
-      whole = λ at whole up. whole_with at told.groups (told.done, told.taken) (f.whole at whole up) (λ x. let le = up (f.down ∙ e) in let same = f.done in let lt = x.0 in omega arith);
+      whole = λ at whole up. whole_push at told.groups (told.done, told.taken) (f.whole at whole up) (λ x. let le = up (f.down ∙ e) in let same = f.done in let lt = x.0 in omega arith);
     }
 
 memory_fits : (event : Event) (stored told : Given) → Fits stored told → Fits stored (given_after told event Memory)
@@ -96,7 +84,7 @@ reply_fits event (Taken session ticket) stored told f = record {
   taken = ap (λ (n : ℕ). n + 1) f.taken;
   done = f.done;
   down = f.down;
-  ends = ends_later told.taken (told.taken + 1) told.groups f.ends (omega arith);
+  ends = ends_more told.taken (told.taken + 1) told.groups f.ends (omega arith);
   whole = f.whole;
 }
 reply_fits event (Committed accepted) stored told f = record {

@@ -26,7 +26,7 @@ use Rattle.run_laws.specs.Courses.{AreRoutedWell}
 use Rattle.run_laws.specs.Replies.{RunRoutes}
 use Rattle.interleave.specs.declared.world.World.{World}
 use Rattle.interleave.specs.WorldWords.{lists_of, machine_of, world_view}
-use Rattle.interleave.specs.Crashes.{HoldsSince, HasRun}
+use Rattle.interleave.specs.Crashes.{HoldsSince, HasWorlds}
 use Rattle.interleave.proofs.Desks.{desks_run}
 use Rattle.life_chain.specs.declared.life.Life.{Life}
 use Rattle.life_chain.specs.declared.report.LifeReport.{LifeReport}
@@ -117,21 +117,21 @@ read_same u v w read same = record {
 }
 
 -- what a crash leaves since the disk was handed over, where all that it might leave then stood for what was opened
-pub handed_is : {D : Type 0} → (model : Ghosts D) → AcknowledgedStay → (first : State) (disk : D) (started stopped : World D model) (events : List Event) (replies : List Reply) → HasRun started events replies stopped
+pub handed_is : {D : Type 0} → (model : Ghosts D) → AcknowledgedStay → (first : State) (disk : D) (started stopped : World D model) (events : List Event) (replies : List Reply) → HasWorlds started events replies stopped
     → IsTrue (world_view started).keeps_model → IsListed first (machine_of started) → lists_of started ≡ none_yet first → IsRun first (world_view started) (lists_of started) [] → OnlyRead (model.view disk) (world_view started)
     → IsRun first (model.view disk) (none_yet first) [] → (image : List ℕ) → (world_view stopped).left_since (model.view disk).clock image → HoldsSince first (machine_of started) (machine_of stopped) image
-handed_is model stay first disk started stopped events replies run kept listed none base read handed image left =
+handed_is model stay first disk started stopped events replies ran kept listed none base read handed image left =
     let clock : ℕ = (model.view disk).clock in
     let here : (i : List ℕ) → (world_view started).left_since clock i → IsPrefixState first (lists_of started) first.count i =
     λ i was. subst (λ (a : Lists). IsPrefixState first a first.count i) (sym none) (⊎_elim (handed.now i) (handed.now i) (read.since clock i (le_refl clock) was)) in
     let rises : first.count ≤ (lists_of started).state.count = subst (λ (a : Lists). first.count ≤ a.state.count) (sym none) (le_refl first.count) in
     let with_it : IsRun first (world_view started) (lists_of started) ((clock, first.count) ∷ []) = record { tied = base.tied; now = base.now; holds = (read.later, rises, here, tt) } in
-    let prefix : IsPrefixState first (lists_of stopped) first.count image = (run.goes_on kept first ((clock, first.count) ∷ []) with_it).holds.2 image left in
+    let prefix : IsPrefixState first (lists_of stopped) first.count image = (ran.goes_on kept first ((clock, first.count) ∷ []) with_it).holds.2 image left in
     let same : first.count ≡ (machine_of started).state.count = sym (ap (λ (a : Lists). a.state.count) none) in
     let safe : IsPrefixState first (history_of (machine_of stopped)) (machine_of started).state.count image = subst (λ (k : ℕ). IsPrefixState first (history_of (machine_of stopped)) k image) same prefix in
     record {
       prefix = safe;
-      acknowledged = stay first (machine_of started) events replies (machine_of stopped) safe.at listed (desks_run started stopped events replies run.worlds run.steps) safe.holds;
+      acknowledged = stay first (machine_of started) events replies (machine_of stopped) safe.at listed (desks_run started stopped events replies ran.each ran.steps) safe.holds;
     }
 
 -- a life that opened to this state

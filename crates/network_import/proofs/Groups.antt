@@ -1,5 +1,5 @@
 -- Groups, one behind another.
-use Rattle.std.proofs.Common.{arith, [], ◌∷◌, ◌≡◌, ◌+◌, ◌-◌, ◌<◌, ◌≤◌, ◌^◌, ◌∙◌, ◌++◌, sym, ap, subst, refl, ℕ, zero, suc, List, length, length-append, length-take, take, drop, Some, Err}
+use Rattle.std.proofs.Common.{arith, [], ◌∷◌, ◌≡◌, ◌+◌, ◌<◌, ◌≤◌, ◌^◌, ◌∙◌, ◌++◌, sym, ap, subst, refl, ℕ, zero, suc, List, length, length-append, length-take, take, drop, Some, Err}
 use Rattle.std.specs.Prelude.{option_and_then}
 use Rattle.std.proofs.lemmas.List.{length-map, map-append, take-append-drop, take_all}
 use Rattle.std.proofs.lemmas.List.Concat.{flat_map-append}

@@ -1,9 +1,9 @@
 -- Ops in two parts, and the places of those that are refused.
-use Rattle.std.proofs.Common.{arith, ◌≡◌, ◌+◌, ◌<◌, ◌≤◌, ◌∙◌, sym, ap, subst, refl, ℕ, List, [], ◌∷◌, ◌++◌, length, take, drop, get_or, Option, Some, None, Result, Ok, Err}
+use Rattle.std.proofs.Common.{arith, ◌≡◌, ◌+◌, ◌<◌, ◌≤◌, ◌∙◌, sym, ap, subst, ℕ, List, [], ◌∷◌, ◌++◌, length, take, drop, get_or, Option, Some, None, Result, Ok, Err}
 use Rattle.layout_parts.proofs.Results.{ok_is}
 use Rattle.graph_edits.specs.declared.edits.Op.{Op}
 use Rattle.graph_edits.specs.declared.edits.Code.{Code}
-use Rattle.graph_edits.specs.Edges.{EdgeMap, Network, most_edges}
+use Rattle.graph_edits.specs.Edges.{EdgeMap, Network}
 use Rattle.graph_edits.specs.declared.edits.EditRefused.{EditRefused}
 use Rattle.graph_edits.specs.declared.edits.EditRefused.TheVariants.{Op as EditOp, Memory as EditMemory}
 use Rattle.graph_edits.specs.Changes.{IsRefusedAs, after, edges_after, edges_after_op, fold, or_refused_at, refusal_at}

@@ -19,32 +19,6 @@ use Rattle.network_import.proofs.Groups.{taken_both, taken_none}
 
 -- ---- one group
 
--- a store that isn't touched leaves its state, or some other one
-pub untouched_leaves_either : {D : Type 0} {V : _} → (old new : Store D V) (next : State) → new ≡ old → IsTrue (view_of old).keeps_model → is_down old ≡ false
-    → LeavesOnly (view_of old) (view_of new) (λ image. StandsFor (state_of old) image ⊎ StandsFor next image)
-untouched_leaves_either old new next same model up =
-    subst (λ s. LeavesOnly (view_of old) (view_of s) (λ image. StandsFor (state_of old) image ⊎ StandsFor next image)) (sym same)
-    (started (view_of old) (λ image. StandsFor (state_of old) image ⊎ StandsFor next image) (λ image left. inl (stands_now old model up image left)))
-
--- a roll after a refused commit is a roll
-pub rolled_leaves : {D : Type 0} {V : _} → (old mid rolled : Store D V) → mid ≡ old → IsTrue (view_of old).keeps_model → (IsTrue (view_of mid).keeps_model → LeavesOnly (view_of mid) (view_of rolled) (StandsFor (state_of mid)))
-    → LeavesOnly (view_of old) (view_of rolled) (StandsFor (state_of old))
-rolled_leaves old mid rolled same model rolls = subst (λ s. IsTrue (view_of s).keeps_model → LeavesOnly (view_of s) (view_of rolled) (StandsFor (state_of s))) same rolls model
-
--- .. and nothing else may follow
-pub only_rolled : {D : Type 0} {V : _} → (old rolled : Store D V) (next : State) → LeavesOnly (view_of old) (view_of rolled) (StandsFor (state_of old))
-    → LeavesOnly (view_of old) (view_of rolled) (λ image. StandsFor (state_of old) image ⊎ StandsFor next image)
-only_rolled old rolled next run = weaker (view_of old) (view_of rolled) (StandsFor (state_of old)) (λ image. StandsFor (state_of old) image ⊎ StandsFor next image) run (λ image stands. inl stands)
-
--- .. or a commit that leaves the state or the next
-pub then_commits : {D : Type 0} {V : _} → (old rolled new : Store D V) (next : State) → state_of rolled ≡ state_of old
-    → LeavesOnly (view_of old) (view_of rolled) (StandsFor (state_of old))
-    → LeavesOnly (view_of rolled) (view_of new) (λ image. StandsFor (state_of rolled) image ⊎ StandsFor next image)
-    → LeavesOnly (view_of old) (view_of new) (λ image. StandsFor (state_of old) image ⊎ StandsFor next image)
-then_commits old rolled new next state first second =
-    joined (view_of old) (view_of rolled) (view_of new) (StandsFor (state_of old)) (λ image. StandsFor (state_of rolled) image ⊎ StandsFor next image) (λ image. StandsFor (state_of old) image ⊎ StandsFor next image)
-    first second (λ image stands. inl stands) (λ image stands. subst (λ (s : State). StandsFor s image ⊎ StandsFor next image) state stands)
-
 -- a group that isn't begun leaves the state
 pub not_begun : {D : Type 0} {V : _} → (store : Store D V) (group : List Edge) → IsTrue (view_of store).keeps_model → is_down store ≡ false → LeavesOnly (view_of store) (view_of store) (StandsForOneMore (state_of store) group)
 not_begun store group model up = started (view_of store) (StandsForOneMore (state_of store) group) (λ image left. inl (stands_now store model up image left))

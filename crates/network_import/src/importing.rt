@@ -1,11 +1,12 @@
 // Importing edges.
-ghost use Rattle.std.specs.Prelude.{◌≡◌, ◌≤◌, ◌<◌, IfErr, IsErrOf, IsTrue, OnErr, OnOk, false, true, length};
-ghost use Rattle.disk_trait.specs.Disk.{IsSameDevice, LeavesOnly};
-ghost use Rattle.checkpoint.specs.StoreWords.{IsDurable, is_down, state_of, view_of};
-ghost use Rattle.network_import.specs.Imported.{FitsBehind, HasTaken, IsCutOff, IsGroupRefused, IsLeft, StandsForFront, StandsForOneMore, adds, group_edges, moved_behind};
+ghost use Rattle.std.specs.Prelude.{◌≡◌, ◌≤◌, IfErr, IsTrue, OnErr, OnOk, false, length};
+ghost use Rattle.disk_trait.specs.Disk.{LeavesOnly};
+ghost use Rattle.checkpoint.specs.StoreWords.{is_down, state_of, view_of};
+ghost use Rattle.network_import.specs.Imported.{FitsBehind, HasTaken, IsGroupRefused, IsLeft, StandsForOneMore, adds, group_edges, moved_behind};
+ghost use Rattle.network_import.specs.Leaves.{LeavesFronts, LeavesStore};
 
 use crate::changes::requests_in;
-use crate::committing::commit_rolling;
+use crate::committing::commit_group;
 use crate::judging::judge;
 use crate::refused::ImportRefused;
 use checkpoint::{Store, WORN_LIMIT};
@@ -34,10 +35,7 @@ fn take_group<D: Disk>(
     ensures ok { OnOk result (HasTaken (state_of store.old) edges.now (length edges.now) (state_of store.new)) }
     ensures err { OnErr result (state_of store.new ≡ state_of store.old) }
     ensures refused { IfErr result (λ refused. IsGroupRefused (state_of store.old).graph (adds edges.now) refused) }
-    ensures device { IsErrOf result ImportRefused.Device → (view_of store.old).failures < (view_of store.new).failures }
-    ensures lost { IsErrOf result ImportRefused.Device → is_down store.new ≡ true }
-    ensures stays_up { ¬ (IsErrOf result ImportRefused.Device) → is_down store.new ≡ false }
-    ensures ran { IsSameDevice (view_of store.old) (view_of store.new) }
+    ensures leaves { LeavesStore store.old store.new result }
     ensures any_moment { IsTrue (view_of store.old).keeps_model
         → LeavesOnly (view_of store.old) (view_of store.new) (StandsForOneMore (state_of store.old) edges.now) }
 {
@@ -48,7 +46,7 @@ fn take_group<D: Disk>(
     }
     let requests = requests_in(alloc, edges, last)?;
     judge(alloc, store.graph(), &requests)?;
-    commit_rolling(alloc, store, &requests)
+    commit_group(alloc, store, &requests)
 }
 
 // The same of a group with so many edges in front of it.
@@ -77,17 +75,10 @@ pub fn import<D: Disk, P: Progress>(
     requires { is_down store.old ≡ false }
     ensures ok { OnOk result (HasTaken (state_of store.old) edges.now (length edges.now) (state_of store.new)) }
     ensures left { IfErr result (λ refused. IsLeft (state_of store.old) edges.now (state_of store.new) refused) }
-    ensures device { IsErrOf result ImportRefused.Device → (view_of store.old).failures < (view_of store.new).failures }
-    ensures lost { IsErrOf result ImportRefused.Device → is_down store.new ≡ true }
-    ensures stays_up { ¬ (IsErrOf result ImportRefused.Device) → is_down store.new ≡ false }
-    ensures ran { IsSameDevice (view_of store.old) (view_of store.new) }
+    ensures leaves { LeavesStore store.old store.new result }
 
-    // On a disk that keeps the disk model: what a crash leaves at any moment of the call, and behind it.
-    ensures any_moment { IsTrue (view_of store.old).keeps_model
-        → LeavesOnly (view_of store.old) (view_of store.new) (StandsForFront (state_of store.old) edges.now) }
-    ensures durable { IsTrue (view_of store.old).keeps_model → ¬ (IsErrOf result ImportRefused.Device) → IsDurable store.new }
-    ensures cut_off { IsTrue (view_of store.old).keeps_model → IsErrOf result ImportRefused.Device
-        → IsCutOff (state_of store.old) edges.now (state_of store.new) (view_of store.new) }
+    // What a crash leaves at any moment of the call, and behind it.
+    ensures crashes { IsTrue (view_of store.old).keeps_model → LeavesFronts store.old store.new edges.now result }
 {
     let mut done = 0;
     while done < edges.len() {

@@ -9,7 +9,7 @@
 //!
 //! # The contract
 //!
-//! It stands on the clauses of `Store::commit` and `Store::roll` of the crate `checkpoint` (`specs/Imported`):
+//! It stands on the clauses of `commit_rolling` of the crate `group_commit` (`specs/Imported`):
 //!
 //! | Answer | What it says |
 //! |---|---|
@@ -19,9 +19,9 @@
 //!
 //! The requests are of session 0, each under the ticket behind the one before, and its last ticket goes on by as many.
 //!
-//! These clauses hold on any disk. On one that keeps the disk model, others say what a crash leaves:
+//! This holds on any disk. On one that keeps the disk model, the record `LeavesFronts` says what a crash leaves (`specs/Leaves`):
 //!
-//! | Clause | What it says |
+//! | Field | What it says |
 //! |---|---|
 //! | `any_moment` | a crash at any moment of the call leaves the state after a beginning of the groups (`StandsForFront`) |
 //! | `durable` | behind any answer but `Device`, a crash leaves the store's state |

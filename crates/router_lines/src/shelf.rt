@@ -1,6 +1,7 @@
 // The tables of a router's newest generations.
-ghost use Rattle.std.specs.Prelude.{◌≡◌, ◌-◌, ◌<◌, ◌≤◌, ◌↔◌, ◌∷◌, [], IfErr, IfOk, IsOk, IsTrue, MatchOption, None, OnErr, OnOk, Some, length, slice_index_or};
+ghost use Rattle.std.specs.Prelude.{◌≡◌, ◌-◌, ◌<◌, ◌≤◌, ◌↔◌, ◌∷◌, [], IfErr, IfOk, IsOk, IsTrue, OnErr, OnOk, length, slice_index_or};
 ghost use Rattle.std.specs.List.{insert, remove};
+ghost use Rattle.router_table.specs.Reading.{Finds};
 ghost use Rattle.router_lines.specs.Shelves.{IsAt, IsLoaded, IsNotLoaded, IsNotPut, IsPlaceOf, IsPut, generations_of, table_in};
 ghost use Rattle.router_lines.specs.Answers.{IsAnswerTo, IsLoadedBy, moved_by, newest_address, sent_by};
 
@@ -146,8 +147,7 @@ fn put(tables: &mut Vec<RouterTable>, table: RouterTable) -> Result<(), LoadRefu
 
 /// The table of a generation.
 fn table_of(tables: &[RouterTable], generation: u64) -> Option<&RouterTable>
-    ensures { MatchOption result (table_in tables.now generation ≡ None)
-        (λ a. table_in tables.now generation ≡ Some a.now) }
+    ensures { Finds (λ a. a.now) result (table_in tables.now generation) }
 {
     for table in tables {
         if table.head().generation == generation {

@@ -2,6 +2,7 @@
 use Rattle.std.proofs.Common.{◌≡◌, ◌≢◌, ◌≤◌, ◌<◌, ◌+◌, ℕ, Bool, true, false, List, [], ◌∷◌, ◌++◌, length, take, drop, map, Some, refl, sym, ap, ◌∙◌, subst, append-nil, arith, length-append, le_refl}
 use Rattle.std.specs.Option.{option_map}
 use Rattle.std.specs.List.{range_with_len}
+use Rattle.std.proofs.lemmas.Bool.{false_from_ne_true}
 use Rattle.std.proofs.lemmas.List.{take-append-le, take-append-drop, take-take, take-map}
 use Rattle.std.proofs.lemmas.List.FromFn.{length-range_with_len}
 use Rattle.node_table.specs.declared.parts.Parts.{Parts}
@@ -51,13 +52,9 @@ marks_counted first requests =
     let many : length (counts_of (settle first requests).marks) ≡ length (settle first requests).accepted = ap (λ (l : List ℕ). length l) is ∙ length-range_with_len (first.count + 1) (length (settle first requests).accepted) in
     is ∙ ap (range_with_len (first.count + 1)) (sym many)
 
-not_true : (b : Bool) → (b ≡ true → ⊥) → b ≡ false
-not_true true h = absurd (h refl)
-not_true false h = refl
-
 -- while the store is up no failure was told
 none_failed : (first : State) (told : List Notice) (requests : List Request) (done taken : ℕ) (state : State) (down : Bool) → AreListed first told requests done taken state down → down ≡ false → says_down told ≡ false
-none_failed first told requests done taken state down is up = not_true (says_down told) (λ e. (let d = is.ended e in cc))
+none_failed first told requests done taken state down is up = false_from_ne_true (says_down told) (λ e. (let d = is.ended e in cc))
 
 no_marks : (told : List Notice) (p : Notice) (ms : List Mark) → marks_in (told ++ p ∷ []) ≡ marks_in told ++ [] → marks_in told ≡ ms → marks_in (told ++ p ∷ []) ≡ ms
 no_marks told p ms e is = e ∙ (append-nil (marks_in told) ∙ is)

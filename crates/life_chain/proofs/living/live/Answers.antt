@@ -1,4 +1,4 @@
-use Rattle.std.proofs.Common.{◌≡◌, ◌++◌, [], ◌∷◌, ℕ, List, length, subst, sym, ap, ◌∙◌, IsTrue, Bool, false}
+use Rattle.std.proofs.Common.{◌≡◌, [], ◌∷◌, ℕ, List, length, subst, sym, ap, ◌∙◌, IsTrue, Bool, false}
 use Rattle.std.specs.Option.{option_map}
 use Rattle.std.proofs.lemmas.List.{length-replicate}
 use Rattle.disk_trait.specs.Disk.{OnlyRead}
@@ -13,13 +13,12 @@ use Rattle.event_runs.specs.Machines.{Machine, begun, fresh_session}
 use Rattle.event_runs.specs.Answers.{RebuildAnswers}
 use Rattle.run_laws.specs.Listed.{IsListed}
 use Rattle.run_laws.specs.OneLife.{history_of}
-use Rattle.run_laws.specs.Queues.{all_let_in}
 use Rattle.run_laws.specs.Ways.{AreOnWay}
 use Rattle.run_laws.specs.Replies.{RunRoutes}
 use Rattle.interleave.specs.declared.stored.Stored.{Stored}
 use Rattle.interleave.specs.Stores.{machine_with}
 use Rattle.interleave.specs.WorldWords.{lists_of, machine_of, world_view, world_store, desk_of}
-use Rattle.interleave.specs.Crashes.{HasRun}
+use Rattle.interleave.specs.Runs.{HasRun}
 use Rattle.life_chain.specs.declared.life.Life.{Life}
 use Rattle.life_chain.specs.declared.report.LifeReport.{LifeReport}
 use Rattle.life_chain.specs.Reports.{opened_of}
@@ -62,12 +61,12 @@ returns-clause-lived g c model =
     let down : Bool = is_down (world_store end) in
     let left = c.crash-disk.result in
     let many : length c.in-Ok-parts_of.sessions.items ≡ life.sessions = ap length c.in-Ok-parts_of.ensures.sessions ∙ length-replicate life.sessions fresh_session in
-    let store_is : world_store world ≡ store = ap (λ d. store_of d) c.with_sessions-world.ensures.desk ∙ c.new.ensures.store in
+    let store_is : world_store world ≡ store = ap (λ d. store_of d) c.with_sessions-world.ensures.fresh.given ∙ c.new.ensures.store in
     let machine_is : machine_of world ≡ start =
-    c.with_sessions-world.ensures.machine ∙ (ap (λ st. begun life.capacity (length c.in-Ok-parts_of.sessions.items) (state_of st) (is_down st)) c.new.ensures.store
+    c.with_sessions-world.ensures.fresh.machine ∙ (ap (λ st. begun life.capacity (length c.in-Ok-parts_of.sessions.items) (state_of st) (is_down st)) c.new.ensures.store
     ∙ (ap (λ (b : Bool). begun life.capacity (length c.in-Ok-parts_of.sessions.items) s b) opened.up ∙ ap (λ (n : ℕ). begun life.capacity n s false) many)) in
-    let built_is : world_store built ≡ store = c.rebuild-rebuilt.ensures.store ∙ store_is in
-    let lists_is : lists_of armed ≡ none_yet s = c.arm.ensures.lists ∙ (c.rebuild-rebuilt.ensures.lists ∙ ap (λ (m : Machine). history_of m) machine_is) in
+    let built_is : world_store built ≡ store = c.rebuild-rebuilt.ensures.leaves.store ∙ store_is in
+    let lists_is : lists_of armed ≡ none_yet s = c.arm.ensures.lists ∙ (c.rebuild-rebuilt.ensures.leaves.lists ∙ ap (λ (m : Machine). history_of m) machine_is) in
     let model_store : IsTrue (view_of store).keeps_model = subst IsTrue (sym opened.ran.model) model in
     let model_built : IsTrue (world_view built).keeps_model = subst (λ st. IsTrue (view_of st).keeps_model) (sym built_is) model_store in
     let model_armed : IsTrue (world_view armed).keeps_model = subst IsTrue (sym c.arm.ensures.same.model) model_built in
@@ -82,16 +81,13 @@ returns-clause-lived g c model =
     let listed_built : IsListed s (machine_of built) = c.rebuild-rebuilt.ensures.listed s (subst (λ st. IsListed (state_of st) (machine_of world)) c.new.ensures.store c.with_sessions-world.ensures.listed) in
     let listed_armed : IsListed s (machine_of armed) = subst (λ (m : Machine). IsListed s m) (sym c.arm.ensures.machine) listed_built in
     let ways_armed : AreOnWay (machine_of armed) = subst (λ (m : Machine). AreOnWay m) (sym c.arm.ensures.machine) (c.rebuild-rebuilt.ensures.ways c.with_sessions-world.ensures.on_way) in
-    let answers : RunRoutes s (machine_of armed) life.events.items replies.items (machine_of end) =
-    subst (λ (l : List Event). RunRoutes s (machine_of armed) l replies.items (machine_of end)) c.as_slice-2.ensures.value (c.run_into.ensures.ways s listed_armed ways_armed).1 in
-    let asked_is : (machine_of end).asked ≡ (machine_of armed).asked ++ all_let_in life.events.items replies.items =
-    subst (λ (l : List Event). (machine_of end).asked ≡ (machine_of armed).asked ++ all_let_in l replies.items) c.as_slice-2.ensures.value c.run_into.ensures.asked in
-    let run : HasRun armed life.events.items replies.items end = subst (λ (l : List Event). HasRun armed l replies.items end) c.as_slice-2.ensures.value c.run_into.ensures.worlds in
+    let run : HasRun armed life.events.items replies.items end = subst (λ (l : List Event). HasRun armed l replies.items end) c.as_slice-2.ensures.value c.run_into.ensures.run in
+    let answers : RunRoutes s (machine_of armed) life.events.items replies.items (machine_of end) = run.machine.routes s listed_armed ways_armed in
     let read : OnlyRead (g.D.Disk.view disk) (world_view armed) =
     read_same (g.D.Disk.view disk) (world_view built) (world_view armed) (subst (λ st. OnlyRead (g.D.Disk.view disk) (view_of st)) (sym built_is) (opened.of_model model).reads) c.arm.ensures.same in
     let reported : machine_of end ≡ machine_with report.stored due state down = ap (λ (x : Stored). machine_with x due state down) (sym c.into_parts-stored.ensures.stored) in
     let answered : IsAnswered s life report (machine_of armed) (machine_of end) =
-    answered_is s life report (machine_of armed) (machine_of end) reported rebuilt asked_is answers (c.run_into.ensures.lists s listed_armed) (c.run_into.ensures.routed_well s listed_armed ways_armed) in
+    answered_is s life report (machine_of armed) (machine_of end) reported rebuilt run.machine.asked answers (run.machine.lists s listed_armed) (run.machine.routed_well s listed_armed ways_armed) in
     let fits = life_fits s life.capacity life.sessions life.words.items reply (machine_of armed) life.events.items replies.items (machine_of end) rebuilt answers in
     let disk_is : c.into_disk-2.result ≡ disk_of (world_store end) = c.into_disk-2.ensures ∙ ap (λ st. disk_of st) (c.into_store.ensures ∙ ap (λ d. store_of d) c.into_parts-stored.ensures.desk) in
     let crashed : HasCrashed g.D.Disk (disk_of (world_store end)) left =
@@ -100,22 +96,22 @@ returns-clause-lived g c model =
     lived_is g.D.Disk g.C.Crash.by_word disk left s life report opened_is (record {
       opened = (opened.of_model model).stands;
       started = armed;
-      worlds = run.worlds;
+      worlds = run.worlds.each;
       stopped = end;
       answered = answered;
       run_on = record {
         read = read;
         served = c.arm.ensures.same.failures ∙ (ap (λ st. (view_of st).failures) built_is ∙ opened.no_failure);
         keeps_model = model_armed;
-        ran = run.steps;
+        ran = run.worlds.steps;
         crashed = crashed;
         word = subst (λ d. g.C.Crash.by_word d life.word left) disk_is c.crash-disk.ensures.by_word;
       };
       safe = record {
         handed = λ stands image was.
             safe_is s life report (machine_of end) fits (machine_of armed) image
-            (handed_is g.D.Disk c.acknowledged_law.ensures.later s disk armed end life.events.items replies.items run model_armed listed_armed lists_is armed_run read (c.history_law.ensures.begins s disk stands) image was);
-        since = all_as (λ w safe image was. safe_is s life report (machine_of end) fits (machine_of w) image (safe image was)) (armed ∷ run.worlds) (run.safe model_armed s armed_run listed_armed);
-        now = λ image is. safe_is s life report (machine_of end) fits (machine_of end) image (c.run_into.ensures.acknowledged model_armed s [] armed_run listed_armed image is);
+            (handed_is g.D.Disk c.acknowledged_law.ensures.later s disk armed end life.events.items replies.items run.worlds model_armed listed_armed lists_is armed_run read (c.history_law.ensures.begins s disk stands) image was);
+        since = all_as (λ w safe image was. safe_is s life report (machine_of end) fits (machine_of w) image (safe image was)) (armed ∷ run.worlds.each) (run.safe model_armed s armed_run listed_armed);
+        now = λ image is. safe_is s life report (machine_of end) fits (machine_of end) image (run.acknowledged model_armed s [] armed_run listed_armed image is);
       };
     })

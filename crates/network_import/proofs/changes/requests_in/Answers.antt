@@ -1,4 +1,4 @@
-use Rattle.std.proofs.Common.{rules, arith, [], ◌∷◌, ◌≡◌, ◌≤◌, ◌<◌, ◌+◌, ◌*◌, ◌∙◌, ◌++◌, sym, ap, subst, length, length-append, ℕ, List, append_assoc, map, min, take, drop}
+use Rattle.std.proofs.Common.{rules, arith, [], ◌∷◌, ◌≡◌, ◌<◌, ◌+◌, ◌*◌, ◌∙◌, ◌++◌, sym, ap, subst, length, length-append, List, append_assoc, min, drop}
 use Rattle.std.proofs.lemmas.List.{append-nil, map-append, take-append-drop}
 use Rattle.std.proofs.lemmas.List.Concat.{flat_map-append}
 use Rattle.edge_lists.specs.declared.edge.Edge.{Edge}

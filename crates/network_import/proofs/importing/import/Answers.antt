@@ -65,39 +65,21 @@ loop-done-preserved g c =
     let front = c.loop-done.invariant.front in
     let next : d + s ≡ front_of edges (k + 1) = next_front edges k d s front more some in
     record {
-      up = c.in-Ok.ensures.stays_up (λ e. cc);
+      up = c.in-Ok.ensures.leaves.stays_up (λ e. cc);
       groups = k + 1;
       front = next;
       taken = taken_both old mid new edges group d s is fits c.loop-done.invariant.taken taken;
-      ran = ran_on (view_of c.args.store.now) (view_of c.loop-done.store) (view_of c.take_group.new.store) c.loop-done.invariant.ran c.take_group.ensures.ran;
+      ran = ran_on (view_of c.args.store.now) (view_of c.loop-done.store) (view_of c.take_group.new.store) c.loop-done.invariant.ran c.take_group.ensures.leaves.ran;
       any_moment = λ model.
           let still : IsTrue (view_of c.loop-done.store).keeps_model = subst IsTrue (sym c.loop-done.invariant.ran.model) model in
           front_more (view_of c.args.store.now) (view_of c.loop-done.store) (view_of c.take_group.new.store) old mid edges group k d s is fits front next c.loop-done.invariant.taken
           (c.loop-done.invariant.any_moment model) (c.take_group.ensures.any_moment still);
     }
 
--- what an error leaves
+-- ---- what a crash leaves
 
-pub returns-in-Err-clause-any_moment : goal.returns-in-Err-clause-any_moment
-returns-in-Err-clause-any_moment g c model =
-    let d = c.loop-done.done in
-    let s = c.min-some.result in
-    let edges = c.args.edges.now in
-    let group = take (d + s - d) (drop d edges) in
-    let old = state_of c.args.store.now in
-    let mid = state_of c.loop-done.store in
-    let k = c.loop-done.invariant.groups in
-    let some : s ≡ min 1024 (length edges - d) = c.min-some.ensures in
-    let more : d < length edges = omega arith in
-    let fits : d + s ≤ length edges = omega (arith, some, more) in
-    let back : d + s - d ≡ s = omega arith in
-    let is : group ≡ take s (drop d edges) = ap (λ (j : ℕ). take j (drop d edges)) back in
-    let still : IsTrue (view_of c.loop-done.store).keeps_model = subst IsTrue (sym c.loop-done.invariant.ran.model) model in
-    front_more (view_of c.args.store.now) (view_of c.loop-done.store) (view_of c.take_group.new.store) old mid edges group k d s is fits c.loop-done.invariant.front
-    (next_front edges k d s c.loop-done.invariant.front more some) c.loop-done.invariant.taken (c.loop-done.invariant.any_moment model) (c.take_group.ensures.any_moment still)
-
-pub returns-in-Err-clause-cut_off : goal.returns-in-Err-clause-cut_off
-returns-in-Err-clause-cut_off g c model device =
+pub returns-in-Err-clause-crashes : goal.returns-in-Err-clause-crashes
+returns-in-Err-clause-crashes g c model =
     let d = c.loop-done.done in
     let s = c.min-some.result in
     let edges = c.args.edges.now in
@@ -105,22 +87,33 @@ returns-in-Err-clause-cut_off g c model device =
     let old = state_of c.args.store.now in
     let mid = state_of c.loop-done.store in
     let new = state_of c.take_group.new.store in
+    let first = view_of c.args.store.now in
+    let now = view_of c.loop-done.store in
+    let disk = view_of c.take_group.new.store in
     let k = c.loop-done.invariant.groups in
+    let front = c.loop-done.invariant.front in
     let some : s ≡ min 1024 (length edges - d) = c.min-some.ensures in
+    let more : d < length edges = omega arith in
+    let fits : d + s ≤ length edges = omega (arith, some, more) in
     let back : d + s - d ≡ s = omega arith in
-    let is : group ≡ take 1024 (drop d edges) = ap (λ (j : ℕ). take j (drop d edges)) back ∙ group_is edges d s some in
+    let is : group ≡ take s (drop d edges) = ap (λ (j : ℕ). take j (drop d edges)) back in
     let same : new ≡ mid = c.in-Err.ensures.err in
-    let still : IsTrue (view_of c.loop-done.store).keeps_model = subst IsTrue (sym c.loop-done.invariant.ran.model) model in
-    cut_off_at old mid new edges group k d (view_of c.loop-done.store) (view_of c.take_group.new.store) c.loop-done.invariant.front same is c.loop-done.invariant.taken (c.take_group.ensures.any_moment still)
+    let still : IsTrue now.keeps_model = subst IsTrue (sym c.loop-done.invariant.ran.model) model in
+    let run = c.take_group.ensures.any_moment still in
+    record {
+      any_moment = front_more first now disk old mid edges group k d s is fits front (next_front edges k d s front more some) c.loop-done.invariant.taken (c.loop-done.invariant.any_moment model) run;
+      durable = λ served.
+          let told : c.moved.result ≡ moved_behind d c.in-Err.refused = c.moved.ensures in
+          let up : is_down c.take_group.new.store ≡ false = c.in-Err.ensures.leaves.stays_up (λ e.
+          let device : c.in-Err.refused ≡ Device = cc in
+          served (ap (λ (x : ImportRefused). Err x) (told ∙ ap (moved_behind d) device))) in
+          up_durable c.args.store.now c.take_group.new.store (ran_on first now disk c.loop-done.invariant.ran c.take_group.ensures.leaves.ran) up model;
+      cut_off = λ device. cut_off_at old mid new edges group k d now disk front same (is ∙ group_is edges d s some) c.loop-done.invariant.taken run;
+    }
 
-pub returns-in-Err-clause-durable : goal.returns-in-Err-clause-durable
-returns-in-Err-clause-durable g c model served =
-    let ran = ran_on (view_of c.args.store.now) (view_of c.loop-done.store) (view_of c.take_group.new.store) c.loop-done.invariant.ran c.take_group.ensures.ran in
-    let told : c.moved.result ≡ moved_behind c.loop-done.done c.in-Err.refused = c.moved.ensures in
-    let up : is_down c.take_group.new.store ≡ false = c.in-Err.ensures.stays_up (λ e.
-    let same : c.in-Err.refused ≡ Device = cc in
-    served (ap (λ (x : ImportRefused). Err x) (told ∙ ap (moved_behind c.loop-done.done) same))) in
-    up_durable c.args.store.now c.take_group.new.store ran up model
-
-pub returns-clause-durable : goal.returns-clause-durable
-returns-clause-durable g c model served = up_durable c.args.store.now c.loop-done.store c.loop-done.invariant.ran c.loop-done.invariant.up model
+pub returns-clause-crashes : goal.returns-clause-crashes
+returns-clause-crashes g c model = record {
+  any_moment = c.loop-done.invariant.any_moment model;
+  durable = λ served. up_durable c.args.store.now c.loop-done.store c.loop-done.invariant.ran c.loop-done.invariant.up model;
+  cut_off = λ device. absurd (cc);
+}

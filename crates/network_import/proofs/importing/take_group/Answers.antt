@@ -11,8 +11,8 @@ use Rattle.network_import.proofs.RowsOfRequests.{row_in_turn}
 use Rattle.network_import.proofs.StoreLeaves.{not_begun, one_more, some_after}
 use Rattle.network_import.proofs.importing.take_group.Goals as goal
 
-pub commit_rolling-requires-clause-in_turn : goal.commit_rolling-requires-clause-in_turn
-commit_rolling-requires-clause-in_turn g c =
+pub commit_group-requires-clause-in_turn : goal.commit_group-requires-clause-in_turn
+commit_group-requires-clause-in_turn g c =
     let last = get_or c.starts-starts.result 0 0 in
     let rs = c.deref-2.result.now in
     let same : rs ≡ c.in_ok-requests.requests.items = c.deref-2.ensures.value in
@@ -28,12 +28,12 @@ returns-clause-ok g c =
     let last = get_or c.starts-starts.result 0 0 in
     let rs = c.deref-2.result.now in
     let old = state_of c.args.store.now in
-    let new = state_of c.commit_rolling.new.store in
+    let new = state_of c.commit_group.new.store in
     let same : rs ≡ c.in_ok-requests.requests.items = c.deref-2.ensures.value in
     let wide : 0 < length c.args.store.now.tickets = first_of (omega arith, search rules) in
     let at : last_of c.args.store.now.tickets 0 ≡ last = ap (λ (ts : List ℕ). last_of ts 0) (sym c.starts-starts.ensures) in
     let row : AreInRow last rs = subst (AreInRow last) (sym same) c.in_ok-requests.ensures.row in
-    on_ok_weaker c.commit_rolling.result (λ leads. taken_by old new c.args.edges.now rs last wide at (ap ops_of same ∙ c.in_ok-requests.ensures.ops) row leads) c.commit_rolling.ensures.ok
+    on_ok_weaker c.commit_group.result (λ leads. taken_by old new c.args.edges.now rs last wide at (ap ops_of same ∙ c.in_ok-requests.ensures.ops) row leads) c.commit_group.ensures.ok
 
 pub returns-clause-any_moment : goal.returns-clause-any_moment
 returns-clause-any_moment g c model =
@@ -47,7 +47,7 @@ returns-clause-any_moment g c model =
     let accepted : IsSome (fold old.graph (changes_of rs)) = search rules in
     let next = some_after old rs accepted in
     let taken = taken_by old next.0 c.args.edges.now rs last wide at (ap ops_of same ∙ c.in_ok-requests.ensures.ops) row next.1 in
-    one_more (view_of c.args.store.now) (view_of c.commit_rolling.new.store) old next.0 c.args.edges.now taken (c.commit_rolling.ensures.any_moment model next.0 next.1)
+    one_more (view_of c.args.store.now) (view_of c.commit_group.new.store) old next.0 c.args.edges.now taken (c.commit_group.ensures.any_moment model c.requires.up next.0 next.1)
 
 pub returns-then-last-gt-WORN_LIMIT-clause-any_moment : goal.returns-then-last-gt-WORN_LIMIT-clause-any_moment
 returns-then-last-gt-WORN_LIMIT-clause-any_moment g c model = not_begun c.args.store.now c.args.edges.now model c.requires.up

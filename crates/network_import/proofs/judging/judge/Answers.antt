@@ -1,4 +1,4 @@
-use Rattle.std.proofs.Common.{arith, ◌≡◌, ◌≤◌, ◌<◌, ◌+◌, ◌∙◌, ◌++◌, sym, ap, subst, length, length-append, take, drop, get_or, ℕ, List, Some}
+use Rattle.std.proofs.Common.{arith, ◌≡◌, ◌≤◌, ◌<◌, ◌+◌, ◌∙◌, ◌++◌, sym, ap, subst, length, length-append, take, drop, get_or, List}
 use Rattle.std.proofs.Common.{[], ◌∷◌, Ok}
 use Rattle.std.proofs.lemmas.Result.{IfErr-at_err}
 use Rattle.graph_edits.specs.declared.edits.EditRefused.{EditRefused}

@@ -7,10 +7,11 @@ use Rattle.committer.specs.Outboxes.{with_due}
 use Rattle.committer.proofs.Answering.{marks_of_some, told_either}
 use Rattle.group_commit.specs.Settling.{settle}
 use Rattle.group_commit.specs.DeskWords.{store_of as desk_store, held_of as desk_held}
-use Rattle.committer.proofs.Settles.{settles, marks_said, down_said}
+use Rattle.committer.proofs.Settles.{settles, down_said}
 use Rattle.committer.proofs.Logs.{same_starts, marks_lawful, told_marks, down_lawful, told_down}
 use Rattle.committer.proofs.Crashing.{moved, kept_model, up_leaves, down_leaves}
-use Rattle.committer.proofs.Listings.{relisted, committed_listed, failed_listed}
+use Rattle.committer.proofs.Listings.{relisted, failed_listed}
+use Rattle.committer.proofs.GivenOut.{given_listed, given_out}
 use Rattle.committer.proofs.committer.Committer.commit.Goals as goal
 
 pub tell-requires-clause-lawful : goal.tell-requires-clause-lawful
@@ -18,22 +19,21 @@ tell-requires-clause-lawful g c =
     let old = c.args.self.now in
     let s = state_of (desk_store old.desk) in
     let rs = desk_held old.desk in
-    let said = marks_said _ c.in-Some.marks (settle s rs).marks c.in-Some.ensures.given c.in-Ok.ensures.ok.marks in
-    marks_lawful old.outbox (notice_of c.in-Some.marks) (settle s rs).marks (length (settle s rs).accepted) (settle s rs).state _ _ _ _ _ old.tied c.requires.up c.requires.nothing_due said (settles s rs)
+    let out = given_out old.desk c.commit.new.self c.paid.new.self _ c.in-Some.marks c.in-Ok.ensures.ok (c.in-Ok.ensures.refused.stays_up c.requires.up (λ e. cc)) c.paid.ensures.store c.paid.ensures.held c.in-Some.ensures.given in
+    marks_lawful old.outbox (notice_of c.in-Some.marks) (settle s rs).marks (length (settle s rs).accepted) (settle s rs).state _ _ _ _ _ old.tied c.requires.up c.requires.nothing_due out.said (settles s rs)
 
 pub invariant_of-self : goal.invariant_of-self
 invariant_of-self g c =
     let old = c.args.self.now in
     let s = state_of (desk_store old.desk) in
     let rs = desk_held old.desk in
-    let said = marks_said _ c.in-Some.marks (settle s rs).marks c.in-Some.ensures.given c.in-Ok.ensures.ok.marks in
-    let up = ap is_down c.paid.ensures.store ∙ c.in-Ok.ensures.refused.stays_up c.requires.up (λ e. cc) in
+    let out = given_out old.desk c.commit.new.self c.paid.new.self _ c.in-Some.marks c.in-Ok.ensures.ok (c.in-Ok.ensures.refused.stays_up c.requires.up (λ e. cc)) c.paid.ensures.store c.paid.ensures.held c.in-Some.ensures.given in
     record {
       at_outbox = ap is_some c.paid.ensures.due;
       same_starts = same_starts _ old.outbox c.tell.new.self (notice_of c.in-Some.marks) c.tell.result old.same_starts c.tell.ensures;
-      tied = told_marks old.outbox c.tell.new.self (notice_of c.in-Some.marks) c.tell.result (settle s rs).marks (length (settle s rs).accepted) (settle s rs).state _ _ _ _ _ _ _ _ old.tied c.requires.up c.requires.nothing_due said (settles s rs) c.tell.ensures
-          (c.paid.ensures.held ∙ c.in-Ok.ensures.ok.none_held) (ap state_of c.paid.ensures.store ∙ c.in-Ok.ensures.ok.state) up;
-      whole = up_leaves (desk_store c.paid.new.self) (desk_held c.paid.new.self) up;
+      tied = told_marks old.outbox c.tell.new.self (notice_of c.in-Some.marks) c.tell.result (settle s rs).marks (length (settle s rs).accepted) (settle s rs).state _ _ _ _ _ _ _ _ old.tied c.requires.up c.requires.nothing_due out.said (settles s rs) c.tell.ensures
+          out.held out.state out.up;
+      whole = up_leaves (desk_store c.paid.new.self) (desk_held c.paid.new.self) out.up;
     }
 
 pub tell-posted-requires-clause-lawful : goal.tell-posted-requires-clause-lawful
@@ -61,14 +61,12 @@ invariant_of-self-in-Err-Device g c =
 pub returns-then-tell-clause-ok : goal.returns-then-tell-clause-ok
 returns-then-tell-clause-ok g c =
     let old = c.args.self.now in
-    let s = state_of (desk_store old.desk) in
-    let rs = desk_held old.desk in
-    let said = marks_said _ c.in-Some.marks (settle s rs).marks c.in-Some.ensures.given c.in-Ok.ensures.ok.marks in
+    let out = given_out old.desk c.commit.new.self c.paid.new.self _ c.in-Some.marks c.in-Ok.ensures.ok (c.in-Ok.ensures.refused.stays_up c.requires.up (λ e. cc)) c.paid.ensures.store c.paid.ensures.held c.in-Some.ensures.given in
     record {
       number = c.in-Ok.ensures.ok.number;
-      state = ap state_of c.paid.ensures.store ∙ c.in-Ok.ensures.ok.state;
-      held = c.paid.ensures.held ∙ c.in-Ok.ensures.ok.none_held;
-      posts = marks_of_some rs (settle s rs).marks old.outbox _ (notice_of c.in-Some.marks) c.requires.some said c.if-tell.ensures;
+      state = out.state;
+      held = out.held;
+      posts = marks_of_some (desk_held old.desk) _ old.outbox _ (notice_of c.in-Some.marks) c.requires.some out.said c.if-tell.ensures;
     }
 
 pub returns-then-tell-clause-any_moment : goal.returns-then-tell-clause-any_moment
@@ -78,13 +76,10 @@ pub returns-then-tell-clause-goes_on : goal.returns-then-tell-clause-goes_on
 returns-then-tell-clause-goes_on g c = record {
   nodes = search rules;
   ran = search rules;
-  listed = λ first is.
+  listed =
       let old = c.args.self.now in
-      let s = state_of (desk_store old.desk) in
-      let rs = desk_held old.desk in
-      let said = marks_said _ c.in-Some.marks (settle s rs).marks c.in-Some.ensures.given c.in-Ok.ensures.ok.marks in
-      committed_listed first old.outbox c.tell.new.self (notice_of c.in-Some.marks) c.tell.result rs _ old.taker.got _ s _ _ _ is c.requires.up c.requires.nothing_due said c.tell.ensures
-      (c.paid.ensures.held ∙ c.in-Ok.ensures.ok.none_held) refl (ap state_of c.paid.ensures.store ∙ c.in-Ok.ensures.ok.state) (ap is_down c.paid.ensures.store ∙ c.in-Ok.ensures.refused.stays_up c.requires.up (λ e. cc));
+      let out = given_out old.desk c.commit.new.self c.paid.new.self _ c.in-Some.marks c.in-Ok.ensures.ok (c.in-Ok.ensures.refused.stays_up c.requires.up (λ e. cc)) c.paid.ensures.store c.paid.ensures.held c.in-Some.ensures.given in
+      given_listed old c.paid.new.self c.tell.new.self c.in-Some.marks c.tell.result c.requires.up c.requires.nothing_due out c.tell.ensures;
 }
 
 -- ---- or they are due
@@ -92,14 +87,8 @@ returns-then-tell-clause-goes_on g c = record {
 pub returns-else-tell-clause-board : goal.returns-else-tell-clause-board
 returns-else-tell-clause-board g c _ =
     let old = c.args.self.now in
-    let s = state_of (desk_store old.desk) in
-    let rs = desk_held old.desk in
-    let said = marks_said _ c.in-Some.marks (settle s rs).marks c.in-Some.ensures.given c.in-Ok.ensures.ok.marks in
-    record {
-      state = ap state_of c.paid.ensures.store ∙ c.in-Ok.ensures.ok.state;
-      held = c.paid.ensures.held ∙ c.in-Ok.ensures.ok.none_held;
-      posts = c.if-tell.ensures ∙ ap (with_due old.outbox) said;
-    }
+    let out = given_out old.desk c.commit.new.self c.paid.new.self _ c.in-Some.marks c.in-Ok.ensures.ok (c.in-Ok.ensures.refused.stays_up c.requires.up (λ e. cc)) c.paid.ensures.store c.paid.ensures.held c.in-Some.ensures.given in
+    record { state = out.state; held = out.held; posts = c.if-tell.ensures ∙ ap (with_due old.outbox) out.said }
 
 pub returns-else-tell-clause-any_moment : goal.returns-else-tell-clause-any_moment
 returns-else-tell-clause-any_moment g c model up = moved (desk_store c.args.self.now.desk) (desk_store c.commit.new.self) (desk_store c.paid.new.self) _ c.paid.ensures.store (c.commit.ensures.any_moment model up)
@@ -108,13 +97,10 @@ pub returns-else-tell-clause-goes_on : goal.returns-else-tell-clause-goes_on
 returns-else-tell-clause-goes_on g c = record {
   nodes = search rules;
   ran = search rules;
-  listed = λ first is.
+  listed =
       let old = c.args.self.now in
-      let s = state_of (desk_store old.desk) in
-      let rs = desk_held old.desk in
-      let said = marks_said _ c.in-Some.marks (settle s rs).marks c.in-Some.ensures.given c.in-Ok.ensures.ok.marks in
-      committed_listed first old.outbox c.tell.new.self (notice_of c.in-Some.marks) c.tell.result rs _ old.taker.got _ s _ _ _ is c.requires.up c.requires.nothing_due said c.tell.ensures
-      (c.paid.ensures.held ∙ c.in-Ok.ensures.ok.none_held) refl (ap state_of c.paid.ensures.store ∙ c.in-Ok.ensures.ok.state) (ap is_down c.paid.ensures.store ∙ c.in-Ok.ensures.refused.stays_up c.requires.up (λ e. cc));
+      let out = given_out old.desk c.commit.new.self c.paid.new.self _ c.in-Some.marks c.in-Ok.ensures.ok (c.in-Ok.ensures.refused.stays_up c.requires.up (λ e. cc)) c.paid.ensures.store c.paid.ensures.held c.in-Some.ensures.given in
+      given_listed old c.paid.new.self c.tell.new.self c.in-Some.marks c.tell.result c.requires.up c.requires.nothing_due out c.tell.ensures;
 }
 
 -- ---- the device failed

@@ -1,5 +1,6 @@
 use Rattle.std.proofs.Common.{◌≡◌, ◌⊎◌, ⊎_elim, ◌++◌, ◌∷◌, [], List, length, take, subst, sym, ap, ◌∙◌, refl, true, false, IsTrue}
 use Rattle.std.specs.Prelude.{Err}
+use Rattle.std.proofs.lemmas.Bool.{false_from_ne_true}
 use Rattle.std.proofs.lemmas.List.{length-take-le}
 use Rattle.disk_trait.specs.Disk.{LeavesOnly}
 use Rattle.requests.specs.declared.request.Request.{Request}
@@ -14,7 +15,7 @@ use Rattle.group_commit.specs.DeskWords.{store_of, held_of}
 use Rattle.run_laws.specs.History.{settled}
 use Rattle.run_laws.specs.Happenings.{state_held, IsEither, won, lost}
 use Rattle.interleave.specs.WorldWords.{lists_of, world_view}
-use Rattle.interleave.proofs.Lists.{lists_are, none_left, not_true}
+use Rattle.interleave.proofs.Lists.{lists_are, none_left}
 use Rattle.interleave.proofs.Tickets.{won_behind}
 use Rattle.interleave.proofs.world.World.commit.Goals as goal
 
@@ -38,7 +39,7 @@ returns-in-Ok-clause-happens g c model =
     let a = lists_of world in
     let w = view_of new in
     let long : world.stored.taken ≡ length a.taken = sym (length-take-le world.stored.taken world.stored.asked.items world.within) in
-    let up : is_down (store_of desk) ≡ false = not_true (is_down (store_of desk)) (λ e. let d = c.commit.ensures.refused.down.1 e in let is = c.in-Ok.is in cc) in
+    let up : is_down (store_of desk) ≡ false = false_from_ne_true (is_down (store_of desk)) (λ e. let d = c.commit.ensures.refused.down.1 e in let is = c.in-Ok.is in cc) in
     let leaves : LeavesOnly v w (IsEither a) = subst (λ (l : List Request). LeavesOnly v w (λ image. StandsFor a.state image ⊎ StandsFor (settled a.state l) image)) world.split (c.commit.ensures.any_moment model up) in
     let state : state_of new ≡ state_held a = c.in-Ok.ensures.ok.state ∙ ap (λ l. settled a.state l) world.split in
     let down : is_down new ≡ false = c.commit.ensures.refused.stays_up up (λ h. let is = c.in-Ok.is in cc) in
@@ -62,7 +63,7 @@ returns-in-Err-Device-clause-happens g c model =
     let w = view_of new in
     let is : c.commit.result ≡ Err Device = c.in-Err-Device.is ∙ ap Err c.in-Err-Device.field-0-is in
     let long : world.stored.taken ≡ length a.taken = sym (length-take-le world.stored.taken world.stored.asked.items world.within) in
-    let up : is_down (store_of desk) ≡ false = not_true (is_down (store_of desk)) (λ e. let d = c.commit.ensures.refused.down.1 e in cc) in
+    let up : is_down (store_of desk) ≡ false = false_from_ne_true (is_down (store_of desk)) (λ e. let d = c.commit.ensures.refused.down.1 e in cc) in
     let leaves : LeavesOnly v w (IsEither a) = subst (λ (l : List Request). LeavesOnly v w (λ image. StandsFor a.state image ⊎ StandsFor (settled a.state l) image)) world.split (c.commit.ensures.any_moment model up) in
     let groups : c.add-in-Err-Device.new.list.items ≡ a.groups ++ (a.done, length a.taken) ∷ [] =
     c.add-in-Err-Device.ensures.items ∙ ap (λ l. l ++ (world.stored.done, world.stored.taken) ∷ []) c.reserve.ensures.items ∙ ap (λ k. a.groups ++ (a.done, k) ∷ []) long in
@@ -76,7 +77,7 @@ returns-in-Err-Device-clause-happens g c model =
 pub returns-in-Ok-clause-commits : goal.returns-in-Ok-clause-commits
 returns-in-Ok-clause-commits g c =
     let store = store_of c.args.self.now.desk in
-    let up : is_down store ≡ false = not_true (is_down store) (λ e. let d = c.commit.ensures.refused.down.1 e in let is = c.in-Ok.is in cc) in
+    let up : is_down store ≡ false = false_from_ne_true (is_down store) (λ e. let d = c.commit.ensures.refused.down.1 e in let is = c.in-Ok.is in cc) in
     record {
       served = c.in-Ok.ensures.ok.no_failure;
       durable = c.in-Ok.ensures.ok.durable;

@@ -1,9 +1,8 @@
 use Rattle.std.proofs.Common.{◌≡◌, ◌≤◌, ℕ, List, length, replicate, sym, ap, ◌∙◌, subst}
 use Rattle.std.proofs.lemmas.List.{length-replicate}
-use Rattle.checkpoint.specs.StoreWords.{state_of, is_down}
-use Rattle.group_commit.specs.DeskWords.{store_of}
 use Rattle.event_runs.specs.declared.session.Session.{Session}
-use Rattle.event_runs.specs.Machines.{fresh_session, begun}
+use Rattle.event_runs.specs.Machines.{fresh_session}
+use Rattle.interleave.specs.Begun.{HasBegun}
 use Rattle.interleave.proofs.world.World.new.Goals as goal
 
 many : (xs : List Session) (n : ℕ) → xs ≡ replicate n fresh_session → length xs ≡ n
@@ -20,7 +19,7 @@ with_sessions-requires-clause-fresh g c =
     let n : length xs ≡ c.args.sessions = many xs c.args.sessions c.in_ok-sessions.ensures in
     c.in_ok-sessions.ensures ∙ ap (λ (k : ℕ). replicate k fresh_session) (sym n)
 
-pub returns-clause-machine : goal.returns-clause-machine
-returns-clause-machine g c =
+pub returns : goal.returns
+returns g c =
     let n : length c.in_ok-sessions.sessions.items ≡ c.args.sessions = many c.in_ok-sessions.sessions.items c.args.sessions c.in_ok-sessions.ensures in
-    c.with_sessions.ensures.machine ∙ ap (λ (k : ℕ). begun c.args.capacity k (state_of (store_of c.args.desk)) (is_down (store_of c.args.desk))) n
+    subst (λ (k : ℕ). HasBegun c.args.desk c.args.capacity k c.with_sessions.result) n c.with_sessions.ensures

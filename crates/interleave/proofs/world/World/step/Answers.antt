@@ -1,9 +1,12 @@
-use Rattle.std.proofs.Common.{sym, subst}
+use Rattle.std.proofs.Common.{rules, sym, subst}
 use Rattle.event_runs.specs.declared.event.Event.{Event}
-use Rattle.event_runs.specs.Answers.{Answers}
-use Rattle.interleave.specs.WorldWords.{machine_of}
+use Rattle.interleave.specs.Events.{WorldAnswers}
 use Rattle.interleave.proofs.world.World.step.Goals as goal
 
-pub returns-in-Launch-clause-answers : goal.returns-in-Launch-clause-answers
-returns-in-Launch-clause-answers g c =
-    subst (λ (e : Event). Answers e (machine_of c.args.self.now) c.launch.result (machine_of c.launch.new.self)) (sym c.in-Launch.is) c.launch.ensures.answers
+pub returns-in-Launch-clause-step : goal.returns-in-Launch-clause-step
+returns-in-Launch-clause-step g c = record {
+  ran = search rules;
+  still = search rules;
+  commits = search rules;
+  answers = subst (λ (e : Event). WorldAnswers e c.args.self.now c.launch.result c.launch.new.self) (sym c.in-Launch.is) c.launch.ensures.answers;
+}

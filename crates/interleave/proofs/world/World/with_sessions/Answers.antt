@@ -11,22 +11,19 @@ use Rattle.run_laws.specs.Ways.{AreOnWay}
 use Rattle.interleave.specs.WorldWords.{lists_of, world_view}
 use Rattle.interleave.proofs.world.World.with_sessions.Goals as goal
 
-pub returns-clause-listed : goal.returns-clause-listed
-returns-clause-listed g c =
-    let store = store_of c.args.desk in
-    subst (λ (m : Machine). IsListed (state_of store) m) (sym c.fresh.ensures.machine)
-    (c.lists_law.ensures.begins (state_of store) c.args.capacity (length c.args.sessions.items) (is_down store) c.fresh.ensures.wide c.requires.sessions.1)
-
-pub returns-clause-on_way : goal.returns-clause-on_way
-returns-clause-on_way g c =
-    let store = store_of c.args.desk in
-    subst (λ (m : Machine). AreOnWay m) (sym c.fresh.ensures.machine) (c.ways_law.ensures.begun c.args.capacity (length c.args.sessions.items) (state_of store) (is_down store))
-
-pub returns-clause-run : goal.returns-clause-run
-returns-clause-run g c model up =
+pub returns : goal.returns
+returns g c =
     let store = store_of c.args.desk in
     let s : State = state_of store in
     let w = c.fresh.result in
-    let base : IsRun s (view_of store) (opened s) [] = c.history_law.ensures.begins s (disk_of store) (stands_now store model up) in
-    let lists : lists_of w ≡ opened s = ap history_of c.fresh.ensures.machine ∙ ap (λ (d : Bool). record (opened s) { down = d }) up in
-    subst (λ (l : Lists). IsRun s (world_view w) l []) (sym lists) (subst (λ d. IsRun s (view_of (store_of d)) (opened s) []) (sym c.fresh.ensures.desk) base)
+    let fresh = c.fresh.ensures.fresh in
+    record {
+      fresh = fresh;
+      listed = subst (λ (m : Machine). IsListed s m) (sym fresh.machine)
+          (c.lists_law.ensures.begins s c.args.capacity (length c.args.sessions.items) (is_down store) c.fresh.ensures.wide c.requires.sessions.1);
+      on_way = subst (λ (m : Machine). AreOnWay m) (sym fresh.machine) (c.ways_law.ensures.begun c.args.capacity (length c.args.sessions.items) s (is_down store));
+      run = λ model up.
+          let base : IsRun s (view_of store) (opened s) [] = c.history_law.ensures.begins s (disk_of store) (stands_now store model up) in
+          let lists : lists_of w ≡ opened s = ap history_of fresh.machine ∙ ap (λ (d : Bool). record (opened s) { down = d }) up in
+          subst (λ (l : Lists). IsRun s (world_view w) l []) (sym lists) (subst (λ d. IsRun s (view_of (store_of d)) (opened s) []) (sym fresh.given) base);
+    }

@@ -1,0 +1,17 @@
+//! Waiting for what other threads do.
+use std::sync::atomic::{AtomicU64, Ordering};
+use std::thread;
+
+// More turns than any test needs.
+const TURNS: usize = 4_000_000;
+
+/// Waits until the word is this number or more. Gives whether it came before the turns ran out.
+pub fn comes(word: &AtomicU64, least: u64) -> bool {
+    for _ in 0..TURNS {
+        if word.load(Ordering::SeqCst) >= least {
+            return true;
+        }
+        thread::yield_now();
+    }
+    false
+}
