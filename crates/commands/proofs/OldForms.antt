@@ -22,11 +22,13 @@ use Rattle.table_files.specs.Files.{Put}
 use Rattle.commands.specs.declared.devices.Access.{Access}
 use Rattle.commands.specs.declared.outcome.Outcome.{Outcome}
 use Rattle.commands.specs.declared.outcome.Outcome.TheVariants.{Told, Untold}
-use Rattle.commands.specs.Endings.{IsFaultFor, MayEnd}
+use Rattle.commands.specs.Endings.{IsCheckDeviceFault, IsCheckEnd, IsFaultFor, IsReadingEnd, IsRouteDeviceFault, IsRouteEnd, MayEnd}
 use Rattle.commands.specs.Outcomes.{IsOutcome, IsOutcomeOf}
 use Rattle.commands.specs.Printed.{AnswersWords, PrintedFor}
 use Rattle.commands.specs.Queries.{AnswersIn, AnswersOf}
-use Rattle.commands.specs.Runs.{Ends, EndsAfter, EndsTask, RunsTask, RunsWords, Says}
+use Rattle.command_output.specs.Printing.{Ends}
+use Rattle.commands.specs.Runs.{EndsAfter, EndsTask, RunsTask, RunsWords, Says}
+use Rattle.commands.specs.SchemeAnswers.{AreNodes}
 use Rattle.commands.specs.ServedScripts.{AskLive, AskService, IsLiveService, IsService}
 
 -- ---- commands
@@ -92,3 +94,16 @@ pub old_device : {T : Type 0} (asked : LandmarkWords) (IsAnswer : LandmarkWords 
     × (IsTrue disk.keeps_model → (state : State) → StandsFor state disk.content → IsErrOf r told.Words → ¬ IsWithin asked state.graph.nodes)
     × IfOk r (λ answer. (state : State) × (answer.0 ≡ state.count) × IsAnswer asked state answer.1) × IfErr r (λ fault. MayFail asked fault) × IsReading disk left r
 old_device asked IsAnswer MayFail disk left r answers = (answers.generation, answers.answer, answers.not_within, answers.of_one, answers.fault, answers.reading)
+
+-- reading, no_node and not_within of `IsRouteEnd`
+pub old_route_end : (pairs : List (ℕ × ℕ)) (asked : LandmarkWords) (disk left : DiskView) (fault : Fault) → IsRouteEnd pairs asked disk left fault
+    → IsReadingEnd (IsRouteDeviceFault asked) disk left fault
+    × (IsTrue disk.keeps_model → (state : State) → StandsFor state disk.content → fault ≡ told.NoNode → IsWithin asked state.graph.nodes × ¬ AreNodes state.graph.nodes pairs)
+    × (IsTrue disk.keeps_model → (state : State) → StandsFor state disk.content → fault ≡ told.Words → ¬ IsWithin asked state.graph.nodes)
+old_route_end pairs asked disk left fault ends = (ends.asking.reading, ends.no_node, ends.asking.not_within)
+
+-- reading and not_within of `IsCheckEnd`
+pub old_check_end : (asked : LandmarkWords) (disk left : DiskView) (fault : Fault) → IsCheckEnd asked disk left fault
+    → IsReadingEnd (IsCheckDeviceFault asked) disk left fault
+    × (IsTrue disk.keeps_model → (state : State) → StandsFor state disk.content → fault ≡ told.Words → ¬ IsWithin asked state.graph.nodes)
+old_check_end asked disk left fault ends = (ends.reading, ends.not_within)

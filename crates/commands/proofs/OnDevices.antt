@@ -7,33 +7,35 @@ use Rattle.std.specs.Io.KnownBytes.{Appends}
 use Rattle.disk_trait.specs.declared.disk.Disk.{Ghosts}
 use Rattle.disk_trait.specs.Disk.{DiskView, OnlyRead}
 use Rattle.graph_edits.specs.declared.edits.Op.{Op}
-use Rattle.requests.specs.Tickets.{last_of, worn_limit}
+use Rattle.requests.specs.Tickets.{last_of}
 use Rattle.layout_2.specs.State.{State}
-use Rattle.layout_2.specs.Standing.{KeepsThrough, StandsFor}
+use Rattle.layout_2.specs.Standing.{KeepsThrough}
 use Rattle.generations.specs.declared.posting.Verdict.{Verdict}
-use Rattle.written_values.specs.Words.{IsWithin}
 use Rattle.written_values.specs.declared.words.LandmarkWords.{LandmarkWords}
 use Rattle.scheme_builds.specs.declared.queries.Checked.{Checked}
 use Rattle.scheme_builds.specs.declared.queries.Route.{Route}
+use Rattle.command_output.specs.Printing.{Known}
 use Rattle.command_output.specs.declared.ended.Ended.{Ended}
 use Rattle.command_output.specs.declared.ended.Ended.TheVariants.{Done}
 use Rattle.command_output.specs.declared.fault.Fault.{Fault}
 use Rattle.command_output.specs.declared.fault.Fault.TheVariants as told
 use Rattle.command_output.specs.Lines.{line, listing_text, ticket_text}
-use Rattle.device_commands.specs.Answer.{IsNew, IsTaken, last_ticket, state_after, ticket_of, verdict_of}
-use Rattle.device_commands.specs.Openings.{IsEditFault, IsReading, IsUnwrittenFault, TellsOf}
-use Rattle.commands.specs.Devices.{EndsBy, IsFileFault, OfOpened}
-use Rattle.commands.specs.Endings.{IsCheckDeviceFault, IsCheckEnd, IsEditEnd, IsReadingEnd, IsRouteDeviceFault, IsRouteEnd}
-use Rattle.commands.specs.Printed.{PrintsCheck, PrintsListing, PrintsRoutes, PrintsTicket, PrintsVerdict, ended_by, verdict_text}
+use Rattle.device_commands.specs.Answer.{IsNew, state_after, verdict_of}
+use Rattle.device_commands.specs.Edits.{IsPastLimits}
+use Rattle.device_commands.specs.Openings.{IsEditFault, IsReading, IsUnwrittenFault, OfContent, TellsOf}
+use Rattle.commands.specs.Devices.{Ending, EndsBy, IsAnswerOf, IsFileFault, OfOpened, Printing}
+use Rattle.commands.specs.Endings.{IsAskingEnd, IsCheckDeviceFault, IsEditEnd, IsReadingEnd, IsRouteDeviceFault, IsRouteEnd}
+use Rattle.commands.specs.Queries.{AnswersOf, AreRoutesIn, IsCheckIn, LacksNodeOf}
+use Rattle.commands.specs.Printed.{IsOnlyRead, PrintsCheck, PrintsListing, PrintsRoutes, PrintsTicket, PrintsVerdict, ended_by, verdict_text}
 use Rattle.commands.specs.Runs.{EndsAt, EndsOn}
-use Rattle.commands.specs.SchemeAnswers.{AreNodes, AreRoutesOf, IsCheckOf, checks_text, ended_after, ended_at, routes_text}
+use Rattle.commands.specs.SchemeAnswers.{AreRoutesOf, checks_text, ended_after, ended_at, routes_text}
 
 -- ---- what was printed
 
 -- of a listing
-pub listing_printed : {X : Type 0} (bytes : X → List ℕ) (r : Result Ended Fault) (answer : Result X Fault) (disk left : DiskView) (old new : Option (List ℕ))
+pub listing_printed : {X : Type 0} (bytes : X → List ℕ) (r : Result Ended Fault) (answer : Result X Fault) (disk left : DiskView) (old new : Known)
     → IfOk answer (λ text. (state : State) × (bytes text ≡ listing_text state.count state.graph))
-    → (IsTrue disk.keeps_model → (state : State) → StandsFor state disk.content → IfOk answer (λ text. bytes text ≡ listing_text state.count state.graph))
+    → OfContent disk (λ state. IfOk answer (λ text. bytes text ≡ listing_text state.count state.graph))
     → (IsTrue disk.keeps_model → OnlyRead disk left)
     → IfOk r (λ ended. IsOkAnd answer (λ text. (ended ≡ Done) × Appends old new (bytes text))) → IfOk r (λ ended. PrintsListing disk left ended old new)
 listing_printed bytes (Ok ended) (Ok text) disk left old new one this reads printed = (
@@ -47,9 +49,9 @@ listing_printed bytes (Ok ended) (Err fault) disk left old new one this reads pr
 listing_printed bytes (Err fault) answer disk left old new one this reads printed = tt
 
 -- of a ticket
-pub ticket_printed : (r : Result Ended Fault) (answer : Result ℕ Fault) (session : ℕ) (disk left : DiskView) (old new : Option (List ℕ))
+pub ticket_printed : (r : Result Ended Fault) (answer : Result ℕ Fault) (session : ℕ) (disk left : DiskView) (old new : Known)
     → IfOk answer (λ ticket. (state : State) × (ticket ≡ last_of state.tickets session))
-    → (IsTrue disk.keeps_model → (state : State) → StandsFor state disk.content → IfOk answer (λ ticket. ticket ≡ last_of state.tickets session))
+    → OfContent disk (λ state. IfOk answer (λ ticket. ticket ≡ last_of state.tickets session))
     → (IsTrue disk.keeps_model → OnlyRead disk left)
     → IfOk r (λ ended. IsOkAnd answer (λ ticket. (ended ≡ Done) × Appends old new (line (ticket_text session ticket)))) → IfOk r (λ ended. PrintsTicket session disk left ended old new)
 ticket_printed (Ok ended) (Ok ticket) session disk left old new one this reads printed = (
@@ -63,11 +65,11 @@ ticket_printed (Ok ended) (Err fault) session disk left old new one this reads p
 ticket_printed (Err fault) answer session disk left old new one this reads printed = tt
 
 -- of a verdict
-pub verdict_printed : (r : Result Ended Fault) (answer : Result Verdict Fault) (session : ℕ) (named : Option ℕ) (change : List Op) (disk left : DiskView) (old new : Option (List ℕ))
+pub verdict_printed : (r : Result Ended Fault) (answer : Result Verdict Fault) (session : ℕ) (named : Option ℕ) (change : List Op) (disk left : DiskView) (old new : Known)
     → IfOk answer (λ verdict. (state : State) × IsNew state session named × (verdict ≡ verdict_of state change))
-    → (IsTrue disk.keeps_model → (state : State) → StandsFor state disk.content → OnOk answer (IsNew state session named))
-    → (IsTrue disk.keeps_model → (state : State) → StandsFor state disk.content → IfOk answer (λ verdict. verdict ≡ verdict_of state change))
-    → (IsTrue disk.keeps_model → (state : State) → StandsFor state disk.content → OnOk answer (KeepsThrough left (state_after state session named change)))
+    → OfContent disk (λ state. OnOk answer (IsNew state session named))
+    → OfContent disk (λ state. IfOk answer (λ verdict. verdict ≡ verdict_of state change))
+    → OfContent disk (λ state. OnOk answer (KeepsThrough left (state_after state session named change)))
     → IfOk r (λ ended. IsOkAnd answer (λ verdict. (ended ≡ ended_by verdict) × Appends old new (line (verdict_text verdict)))) → IfOk r (λ ended. PrintsVerdict session named change disk left ended old new)
 verdict_printed (Ok ended) (Ok verdict) session named change disk left old new one fresh this keeps_after printed = (
   record {
@@ -80,43 +82,38 @@ verdict_printed (Ok ended) (Ok verdict) session named change disk left old new o
 verdict_printed (Ok ended) (Err fault) session named change disk left old new one fresh this keeps_after printed = absurd printed
 verdict_printed (Err fault) answer session named change disk left old new one fresh this keeps_after printed = tt
 
--- of routes
-pub routes_printed : (r : Result Ended Fault) (answer : Result (ℕ × Vec Route) Fault) (pairs : List (ℕ × ℕ)) (asked : LandmarkWords) (disk left : DiskView) (old new : Option (List ℕ))
-    → IfOk answer (λ found. (state : State) × (found.0 ≡ state.count) × AreRoutesOf state.graph asked pairs found.1.items)
-    → (IsTrue disk.keeps_model → (state : State) → StandsFor state disk.content → IfOk answer (λ found. found.0 ≡ state.count))
-    → (IsTrue disk.keeps_model → (state : State) → StandsFor state disk.content → IfOk answer (λ found. AreRoutesOf state.graph asked pairs found.1.items))
-    → (IsTrue disk.keeps_model → OnlyRead disk left)
-    → IfOk r (λ ended. IsOkAnd answer (λ found. (ended ≡ ended_after found.1.items) × Appends old new (routes_text found.0 found.1.items)))
-    → IfOk r (λ ended. PrintsRoutes pairs asked disk left ended old new)
-routes_printed (Ok ended) (Ok found) pairs asked disk left old new one count routes reads printed = (
+-- of an answer about a graph
+found_printed : {T U : Type 0} (view : T → U) (asked : LandmarkWords) (IsAnswer : LandmarkWords → State → U → Type 0) (Named : LandmarkWords → Fault → Type 0) (ended_of : U → Ended) (text_of : ℕ → U → List ℕ) (r : Result Ended Fault) (answer : Result (ℕ × T) Fault) (disk left : DiskView) (old new : Known)
+    → AnswersOf asked (λ words state found. IsAnswer words state (view found)) Named disk left answer
+    → IfOk r (λ ended. IsOkAnd answer (λ found. (ended ≡ ended_of (view found.1)) × Appends old new (text_of found.0 (view found.1))))
+    → IfOk r (λ ended. IsAnswerOf disk (λ state. (x : U) × IsAnswer asked state x × (ended ≡ ended_of x) × Appends old new (text_of state.count x)) × IsOnlyRead disk left)
+found_printed view asked IsAnswer Named ended_of text_of (Ok ended) (Ok found) disk left old new by printed = (
   record {
-    of_one = (one.0, (found.1.items, one.2, printed.0, subst (λ (n : ℕ). Appends old new (routes_text n found.1.items)) one.1 printed.1));
+    of_one =
+        let one = by.of_one in
+        (one.0, (view found.1, one.2, printed.0, subst (λ (n : ℕ). Appends old new (text_of n (view found.1))) one.1 printed.1));
     of_this = λ keeps state stands.
-        (found.1.items, routes keeps state stands, printed.0, subst (λ (n : ℕ). Appends old new (routes_text n found.1.items)) (count keeps state stands) printed.1);
+        (view found.1, by.answer keeps state stands, printed.0, subst (λ (n : ℕ). Appends old new (text_of n (view found.1))) (by.generation keeps state stands) printed.1);
   },
-  reads,
+  by.reading.reads,
 )
-routes_printed (Ok ended) (Err fault) pairs asked disk left old new one count routes reads printed = absurd printed
-routes_printed (Err fault) answer pairs asked disk left old new one count routes reads printed = tt
+found_printed view asked IsAnswer Named ended_of text_of (Ok ended) (Err fault) disk left old new by printed = absurd printed
+found_printed view asked IsAnswer Named ended_of text_of (Err fault) answer disk left old new by printed = tt
 
--- of a check
-pub check_printed : (r : Result Ended Fault) (answer : Result (ℕ × Checked) Fault) (asked : LandmarkWords) (disk left : DiskView) (old new : Option (List ℕ))
-    → IfOk answer (λ found. (state : State) × (found.0 ≡ state.count) × IsCheckOf state.graph state.count asked found.1)
-    → (IsTrue disk.keeps_model → (state : State) → StandsFor state disk.content → IfOk answer (λ found. found.0 ≡ state.count))
-    → (IsTrue disk.keeps_model → (state : State) → StandsFor state disk.content → IfOk answer (λ found. IsCheckOf state.graph state.count asked found.1))
-    → (IsTrue disk.keeps_model → OnlyRead disk left)
+-- as of routes
+pub routes_printed : (r : Result Ended Fault) (answer : Result (ℕ × Vec Route) Fault) (pairs : List (ℕ × ℕ)) (asked : LandmarkWords) (disk left : DiskView) (old new : Known)
+    → AnswersOf asked (AreRoutesIn pairs) IsRouteDeviceFault disk left answer → IfOk r (λ ended. IsOkAnd answer (λ found. (ended ≡ ended_after found.1.items) × Appends old new (routes_text found.0 found.1.items)))
+    → IfOk r (λ ended. PrintsRoutes pairs asked disk left ended old new)
+routes_printed r answer pairs asked disk left old new by printed =
+    found_printed (λ (routes : Vec Route). routes.items) asked (λ words state routes. AreRoutesOf state.graph words pairs routes) IsRouteDeviceFault ended_after routes_text r answer disk left old new by printed
+
+-- and of a check
+pub check_printed : (r : Result Ended Fault) (answer : Result (ℕ × Checked) Fault) (asked : LandmarkWords) (disk left : DiskView) (old new : Known)
+    → AnswersOf asked IsCheckIn IsCheckDeviceFault disk left answer
     → IfOk r (λ ended. IsOkAnd answer (λ found. (ended ≡ ended_at found.1.fault) × Appends old new (line (checks_text found.0 found.1.landmarks found.1.fault))))
     → IfOk r (λ ended. PrintsCheck asked disk left ended old new)
-check_printed (Ok ended) (Ok found) asked disk left old new one count check reads printed = (
-  record {
-    of_one = (one.0, (found.1, one.2, printed.0, subst (λ (n : ℕ). Appends old new (line (checks_text n found.1.landmarks found.1.fault))) one.1 printed.1));
-    of_this = λ keeps state stands.
-        (found.1, check keeps state stands, printed.0, subst (λ (n : ℕ). Appends old new (line (checks_text n found.1.landmarks found.1.fault))) (count keeps state stands) printed.1);
-  },
-  reads,
-)
-check_printed (Ok ended) (Err fault) asked disk left old new one count check reads printed = absurd printed
-check_printed (Err fault) answer asked disk left old new one count check reads printed = tt
+check_printed r answer asked disk left old new by printed =
+    found_printed (λ (checked : Checked). checked) asked IsCheckIn IsCheckDeviceFault (λ checked. ended_at checked.fault) (λ n checked. line (checks_text n checked.landmarks checked.fault)) r answer disk left old new by printed
 
 -- ---- why it ends
 
@@ -136,34 +133,29 @@ reading_end (Err fault) Named disk left named reading = record {
   reads = reading.reads;
 }
 
--- routes
-pub route_end : {X : Type 0} (answer : Result X Fault) (pairs : List (ℕ × ℕ)) (asked : LandmarkWords) (disk left : DiskView) → IfErr answer (IsRouteDeviceFault asked) → IsReading disk left answer
-    → (IsTrue disk.keeps_model → (state : State) → StandsFor state disk.content → IsErrOf answer told.NoNode → IsWithin asked state.graph.nodes × ¬ AreNodes state.graph.nodes pairs)
-    → (IsTrue disk.keeps_model → (state : State) → StandsFor state disk.content → IsErrOf answer told.Words → ¬ IsWithin asked state.graph.nodes)
-    → IfErr answer (λ fault. IsRouteEnd pairs asked disk left fault)
-route_end (Ok x) pairs asked disk left named reading no_node not_within = tt
-route_end (Err fault) pairs asked disk left named reading no_node not_within = record {
-  reading = reading_end (Err fault) (IsRouteDeviceFault asked) disk left named reading;
-  no_node = λ keeps state stands is. no_node keeps state stands (ap (λ (f : Fault). Err f) is);
-  not_within = λ keeps state stands is. not_within keeps state stands (ap (λ (f : Fault). Err f) is);
+-- a question about a graph
+pub asking_end : {T : Type 0} (asked : LandmarkWords) (IsAnswer : LandmarkWords → State → T → Type 0) (Named : LandmarkWords → Fault → Type 0) (disk left : DiskView) (answer : Result (ℕ × T) Fault) → AnswersOf asked IsAnswer Named disk left answer
+    → IfErr answer (λ fault. IsAskingEnd Named asked disk left fault)
+asking_end asked IsAnswer Named disk left (Ok x) by = tt
+asking_end asked IsAnswer Named disk left (Err fault) by = record {
+  reading = reading_end (Err fault) (Named asked) disk left by.fault by.reading;
+  not_within = λ keeps state stands is. by.not_within keeps state stands (ap (λ (f : Fault). Err f) is);
 }
 
--- a check
-pub check_end : {X : Type 0} (answer : Result X Fault) (asked : LandmarkWords) (disk left : DiskView) → IfErr answer (IsCheckDeviceFault asked) → IsReading disk left answer
-    → (IsTrue disk.keeps_model → (state : State) → StandsFor state disk.content → IsErrOf answer told.Words → ¬ IsWithin asked state.graph.nodes)
-    → IfErr answer (λ fault. IsCheckEnd asked disk left fault)
-check_end (Ok x) asked disk left named reading not_within = tt
-check_end (Err fault) asked disk left named reading not_within = record {
-  reading = reading_end (Err fault) (IsCheckDeviceFault asked) disk left named reading;
-  not_within = λ keeps state stands is. not_within keeps state stands (ap (λ (f : Fault). Err f) is);
+-- as about routes
+pub route_end : (answer : Result (ℕ × Vec Route) Fault) (pairs : List (ℕ × ℕ)) (asked : LandmarkWords) (disk left : DiskView) → AnswersOf asked (AreRoutesIn pairs) IsRouteDeviceFault disk left answer → LacksNodeOf asked pairs disk answer
+    → IfErr answer (λ fault. IsRouteEnd pairs asked disk left fault)
+route_end (Ok x) pairs asked disk left by lacks = tt
+route_end (Err fault) pairs asked disk left by lacks = record {
+  asking = asking_end asked (AreRoutesIn pairs) IsRouteDeviceFault disk left (Err fault) by;
+  no_node = λ keeps state stands is. lacks keeps state stands (ap (λ (f : Fault). Err f) is);
 }
 
 -- a change
 pub edit_end : {X : Type 0} (answer : Result X Fault) (session : ℕ) (named_ticket : Option ℕ) (change : List Op) (disk left : DiskView) → IfErr answer IsEditFault
     → (IsTrue disk.keeps_model → IfErr answer (λ fault. TellsOf fault disk.content))
-    → (IsTrue disk.keeps_model → (state : State) → StandsFor state disk.content → IsErrOf answer told.AlreadyIn → ¬ IsNew state session named_ticket)
-    → (IsTrue disk.keeps_model → (state : State) → StandsFor state disk.content → IsErrOf answer told.Worn
-    → IsNew state session named_ticket × ((worn_limit < ticket_of (last_ticket state session) named_ticket) ⊎ IsTaken state change))
+    → OfContent disk (λ state. IsErrOf answer told.AlreadyIn → ¬ IsNew state session named_ticket)
+    → OfContent disk (λ state. IsErrOf answer told.Worn → IsPastLimits state session named_ticket change)
     → (IsErrOf answer told.Device → disk.failures < left.failures)
     → (IsTrue disk.keeps_model → IfErr answer (λ fault. IsUnwrittenFault fault → OnlyRead disk left))
     → IfErr answer (λ fault. IsEditEnd session named_ticket change disk left fault)
@@ -184,14 +176,14 @@ pub opened_ok : {D : Type 0} (model : Ghosts D) (opened : D → Type 0) (disk le
 opened_ok model opened disk left (Ok ended) P was holds = record { disk = disk; was = was; left = left; holds = holds }
 opened_ok model opened disk left (Err fault) P was holds = tt
 
-pub opened_err : {D : Type 0} (model : Ghosts D) (opened : D → Type 0) (disk left : D) (r : Result Ended Fault) (Ends : DiskView → DiskView → Fault → Type 0) → opened disk
+pub opened_err : {D : Type 0} (model : Ghosts D) (opened : D → Type 0) (disk left : D) (r : Result Ended Fault) (Ends : Ending) → opened disk
     → IfErr r (λ fault. (fault ≡ told.Output) ⊎ Ends (model.view disk) (model.view left) fault) → IfErr r (λ fault. EndsBy model opened Ends fault)
 opened_err model opened disk left (Ok ended) Ends was ends = tt
 opened_err model opened disk left (Err fault) Ends was ends =
     ⊎_elim (λ is. inr (inl is)) (λ why. inr (inr (record { disk = disk; was = was; left = left; holds = why }))) ends
 
 -- a command that ends so on the device that was opened ends so on the device by its path
-pub ends_at : {D W : Type 0} (model : Ghosts D) (opened : D → Type 0) (Prints : DiskView → DiskView → Ended → Option (List ℕ) → Option (List ℕ) → Type 0) (MayFail : DiskView → DiskView → Fault → Type 0) (contents : W → Option (List ℕ)) (old new : W) (disk left : D) (r : Result Ended Fault)
+pub ends_at : {D W : Type 0} (model : Ghosts D) (opened : D → Type 0) (Prints : Printing) (MayFail : Ending) (contents : W → Known) (old new : W) (disk left : D) (r : Result Ended Fault)
     → opened disk → EndsOn Prints MayFail (λ d. model.view d) disk left contents old new r → EndsAt model opened Prints MayFail contents old new r
 ends_at model opened Prints MayFail contents old new disk left r was ends = record {
   printed = opened_ok model opened disk left r (λ ended before after. Prints before after ended (contents old) (contents new)) was ends.printed;
@@ -200,7 +192,7 @@ ends_at model opened Prints MayFail contents old new disk left r was ends = reco
 }
 
 -- and one whose device can't be had tells that
-pub not_had : {D W : Type 0} (model : Ghosts D) (opened : D → Type 0) (Prints : DiskView → DiskView → Ended → Option (List ℕ) → Option (List ℕ) → Type 0) (MayFail : DiskView → DiskView → Fault → Type 0) (contents : W → Option (List ℕ)) (old : W) (r : Result Ended Fault) (fault : Fault)
+pub not_had : {D W : Type 0} (model : Ghosts D) (opened : D → Type 0) (Prints : Printing) (MayFail : Ending) (contents : W → Known) (old : W) (r : Result Ended Fault) (fault : Fault)
     → IsErrAnd r (λ e. e ≡ fault) → IsFileFault fault → EndsAt model opened Prints MayFail contents old old r
 not_had model opened Prints MayFail contents old (Ok ended) fault is why = absurd is
 not_had model opened Prints MayFail contents old (Err e) fault is why = record {

@@ -9,6 +9,7 @@ use Rattle.disk_trait.specs.declared.disk.Disk.{Ghosts}
 use Rattle.command_line.specs.Asked.{IsAskedFor}
 use Rattle.command_line.specs.declared.task.Task.{Task}
 use Rattle.command_line.specs.declared.task.Task.TheVariants.{Serve}
+use Rattle.command_output.specs.Printing.{Known}
 use Rattle.command_output.specs.declared.ended.Ended.{Ended}
 use Rattle.command_output.specs.declared.fault.Fault.{Fault}
 use Rattle.command_output.specs.declared.fault.Fault.TheVariants as told
@@ -25,45 +26,35 @@ use Rattle.commands.specs.declared.devices.Access.{Access}
 use Rattle.commands.specs.declared.devices.Access.TheVariants.{ToChange}
 use Rattle.commands.specs.declared.outcome.Outcome.{Outcome}
 use Rattle.commands.specs.declared.outcome.Outcome.TheVariants.{Answered, Told, Untold}
-use Rattle.commands.specs.Devices.{IsFileFault}
 use Rattle.commands.specs.Endings.{EndsServe, IsFaultFor, MayEnd}
-use Rattle.commands.specs.Outcomes.{IsEndOf, IsLiveOutcome, IsOutcome, IsOutcomeOf, IsServiceOutcome, IsToldSo}
-use Rattle.commands.specs.Printed.{PrintedFor, PrintsServed}
+use Rattle.commands.specs.Outcomes.{AnswersOrTells, IsEndOf, IsLiveOutcome, IsOutcome, IsOutcomeOf, IsServiceOutcome, IsToldSo}
+use Rattle.commands.specs.Printed.{AnswersWords, PrintedFor}
 use Rattle.commands.specs.Runs.{EndsScript}
 use Rattle.commands.specs.ServedScripts.{IsLiveService}
 
--- what was answered for a task, or may end it, is its outcome
-pub told_so : {D : Type 0} (model : Ghosts D) (opened : List ℕ → Access → D → Type 0) (put : List Put → Type 0) (task : Task) (given old new told_old told_new : Option (List ℕ)) (r : Result Ended Fault) (outcome : Outcome)
-    → IsToldSo r told_old told_new outcome → IfOk r (λ ended. PrintedFor model opened put task given ended old new) → IfErr r (λ fault. MayEnd model opened put task given old new fault)
-    → IsOutcomeOf model opened put task given old new told_old told_new outcome
-told_so model opened put task given old new told_old told_new (Ok ended) (Answered answered) is printed ends = (subst (λ (e : Ended). PrintedFor model opened put task given e old new) (sym is.0) printed, is.1)
-told_so model opened put task given old new told_old told_new (Ok ended) (Told fault) is printed ends = absurd is
-told_so model opened put task given old new told_old told_new (Ok ended) (Untold fault) is printed ends = absurd is
-told_so model opened put task given old new told_old told_new (Err fault) (Answered answered) is printed ends = absurd is
-told_so model opened put task given old new told_old told_new (Err fault) (Told came) is printed ends = (subst (λ (e : Fault). MayEnd model opened put task given old new e) (sym is.0) ends, is.1)
-told_so model opened put task given old new told_old told_new (Err fault) (Untold came) is printed ends = subst (λ (e : Fault). MayEnd model opened put task given old new e) (sym is) ends
+-- what was answered, or the fault that came, is the outcome of a run that tells its fault
+pub told_so : (Answers : Ended → Type 0) (MayFail : Fault → Type 0) (told_old told_new : Known) (r : Result Ended Fault) (outcome : Outcome) → IsToldSo r told_old told_new outcome → IfOk r Answers → IfErr r MayFail
+    → AnswersOrTells Answers MayFail told_old told_new outcome
+told_so Answers MayFail told_old told_new (Ok ended) (Answered answered) is answers fails = (subst Answers (sym is.0) answers, is.1)
+told_so Answers MayFail told_old told_new (Ok ended) (Told fault) is answers fails = absurd is
+told_so Answers MayFail told_old told_new (Ok ended) (Untold fault) is answers fails = absurd is
+told_so Answers MayFail told_old told_new (Err fault) (Answered answered) is answers fails = absurd is
+told_so Answers MayFail told_old told_new (Err fault) (Told came) is answers fails = (subst MayFail (sym is.0) fails, is.1)
+told_so Answers MayFail told_old told_new (Err fault) (Untold came) is answers fails = subst MayFail (sym is) fails
 
--- and so for a service over a script
-pub served_so : {D : Type 0} (model : Ghosts D) (opened : D → Type 0) (given : Option (List ℕ)) (editors : ℕ) (words : LandmarkWords) (old new told_old told_new : Option (List ℕ)) (r : Result Ended Fault) (outcome : Outcome)
-    → IsToldSo r told_old told_new outcome → IfOk r (λ ended. PrintsServed model opened given editors ended old new) → IfErr r (λ fault. EndsServe model opened given editors words fault)
-    → IsServiceOutcome model opened None given editors words old new told_old told_new outcome
-served_so model opened given editors words old new told_old told_new (Ok ended) (Answered answered) is printed ends = (subst (λ (e : Ended). PrintsServed model opened given editors e old new) (sym is.0) printed, is.1)
-served_so model opened given editors words old new told_old told_new (Ok ended) (Told fault) is printed ends = absurd is
-served_so model opened given editors words old new told_old told_new (Ok ended) (Untold fault) is printed ends = absurd is
-served_so model opened given editors words old new told_old told_new (Err fault) (Answered answered) is printed ends = absurd is
-served_so model opened given editors words old new told_old told_new (Err fault) (Told came) is printed ends = (subst (λ (e : Fault). EndsServe model opened given editors words e) (sym is.0) ends, is.1)
-served_so model opened given editors words old new told_old told_new (Err fault) (Untold came) is printed ends = subst (λ (e : Fault). EndsServe model opened given editors words e) (sym is) ends
+-- an outcome says also what follows from its answers and from its faults
+pub so_too : (Answers Others : Ended → Type 0) (MayFail May : Fault → Type 0) (told_old told_new : Known) (outcome : Outcome) → ((ended : Ended) → Answers ended → Others ended) → ((fault : Fault) → MayFail fault → May fault)
+    → AnswersOrTells Answers MayFail told_old told_new outcome → AnswersOrTells Others May told_old told_new outcome
+so_too Answers Others MayFail May told_old told_new (Answered ended) answers fails is = (answers ended is.0, is.1)
+so_too Answers Others MayFail May told_old told_new (Told fault) answers fails is = (fails fault is.0, is.1)
+so_too Answers Others MayFail May told_old told_new (Untold fault) answers fails is = fails fault is
 
 -- the outcome of a service is one of the task
-pub service_so : {D : Type 0} (model : Ghosts D) (opened : List ℕ → Access → D → Type 0) (put : List Put → Type 0) (device : Bor Text) (editors forwarders places : ℕ) (live : Option ℕ) (words : LandmarkWords) (given old new told_old told_new : Option (List ℕ)) (outcome : Outcome)
+pub service_so : {D : Type 0} (model : Ghosts D) (opened : List ℕ → Access → D → Type 0) (put : List Put → Type 0) (device : Bor Text) (editors forwarders places : ℕ) (live : Option ℕ) (words : LandmarkWords) (given old new told_old told_new : Known) (outcome : Outcome)
     → IsServiceOutcome model (opened device.now ToChange) live given editors words old new told_old told_new outcome
     → IsOutcomeOf model opened put (Serve device editors forwarders places live words) given old new told_old told_new outcome
-service_so model opened put device editors forwarders places None words given old new told_old told_new (Answered ended) is = is
-service_so model opened put device editors forwarders places None words given old new told_old told_new (Told fault) is = is
-service_so model opened put device editors forwarders places None words given old new told_old told_new (Untold fault) is = is
-service_so model opened put device editors forwarders places (Some rounds) words given old new told_old told_new (Answered ended) is = is
-service_so model opened put device editors forwarders places (Some rounds) words given old new told_old told_new (Told fault) is = is
-service_so model opened put device editors forwarders places (Some rounds) words given old new told_old told_new (Untold fault) is = is
+service_so model opened put device editors forwarders places None words given old new told_old told_new outcome is = is
+service_so model opened put device editors forwarders places (Some rounds) words given old new told_old told_new outcome is = is
 
 -- a service that isn't live has no rounds
 pub not_live : (device : Bor Text) (editors forwarders places : ℕ) (live : Option ℕ) (words : LandmarkWords) → ¬ IsLiveService (Serve device editors forwarders places live words) → live ≡ None
@@ -71,21 +62,21 @@ not_live device editors forwarders places None words other = refl
 not_live device editors forwarders places (Some rounds) words other = absurd (other tt)
 
 -- the outcome of a task that is asked for is one of the words
-pub asked_so : {D : Type 0} (model : Ghosts D) (opened : List ℕ → Access → D → Type 0) (put : List Put → Type 0) (words : List Text) (task : Task) (given old new told_old told_new : Option (List ℕ)) (outcome : Outcome) → IsAskedFor words task
+pub asked_so : {D : Type 0} (model : Ghosts D) (opened : List ℕ → Access → D → Type 0) (put : List Put → Type 0) (words : List Text) (task : Task) (given old new told_old told_new : Known) (outcome : Outcome) → IsAskedFor words task
     → IsOutcomeOf model opened put task given old new told_old told_new outcome → IsOutcome model opened put words given old new told_old told_new outcome
-asked_so model opened put words task given old new told_old told_new (Answered ended) asked is = ((task, asked, is.0), is.1)
-asked_so model opened put words task given old new told_old told_new (Told fault) asked is = (inr (task, asked, is.0), is.1)
-asked_so model opened put words task given old new told_old told_new (Untold fault) asked is = inr (task, asked, is)
+asked_so model opened put words task given old new told_old told_new outcome asked is =
+    so_too (λ ended. PrintedFor model opened put task given ended old new) (λ ended. AnswersWords model opened put words given ended old new)
+    (λ fault. MayEnd model opened put task given old new fault) (λ fault. IsFaultFor model opened put words given old new fault)
+    told_old told_new outcome (λ ended printed. (task, asked, printed)) (λ fault ends. inr (task, asked, ends)) is
 
 -- and so is a fault of theirs
-pub refused_so : {D : Type 0} (model : Ghosts D) (opened : List ℕ → Access → D → Type 0) (put : List Put → Type 0) (words : List Text) (given old new told_old told_new : Option (List ℕ)) (fault : Fault) (outcome : Outcome)
+pub refused_so : {D : Type 0} (model : Ghosts D) (opened : List ℕ → Access → D → Type 0) (put : List Put → Type 0) (words : List Text) (given old new told_old told_new : Known) (fault : Fault) (outcome : Outcome)
     → (let r : Result Ended Fault = Err fault in IsToldSo r told_old told_new outcome) → IsFaultFor model opened put words given old new fault → IsOutcome model opened put words given old new told_old told_new outcome
-refused_so model opened put words given old new told_old told_new fault (Answered ended) is why = absurd is
-refused_so model opened put words given old new told_old told_new fault (Told came) is why = (subst (λ (e : Fault). IsFaultFor model opened put words given old new e) (sym is.0) why, is.1)
-refused_so model opened put words given old new told_old told_new fault (Untold came) is why = subst (λ (e : Fault). IsFaultFor model opened put words given old new e) (sym is) why
+refused_so model opened put words given old new told_old told_new fault outcome is why =
+    told_so (λ ended. AnswersWords model opened put words given ended old new) (λ f. IsFaultFor model opened put words given old new f) told_old told_new (Err fault) outcome is tt why
 
 -- what holds behind each fault but the output's holds behind the one that was told
-pub told_behind : (P : Type 0) (told_old told_new : Option (List ℕ)) (r : Result Ended Fault) (outcome : Outcome) → IsToldSo r told_old told_new outcome → IfErr r (λ fault. fault ≢ told.Output → P)
+pub told_behind : (P : Type 0) (told_old told_new : Known) (r : Result Ended Fault) (outcome : Outcome) → IsToldSo r told_old told_new outcome → IfErr r (λ fault. fault ≢ told.Output → P)
     → (fault : Fault) → fault ≢ told.Output → (outcome ≡ Told fault) ⊎ (outcome ≡ Untold fault) → P
 told_behind P told_old told_new (Ok ended) (Answered answered) is behind fault other (inl same) = absurd (cc)
 told_behind P told_old told_new (Ok ended) (Answered answered) is behind fault other (inr same) = absurd (cc)
@@ -109,18 +100,8 @@ untold_so served.Printed outcome fault is same = absurd (cc)
 untold_so (served.Told came) outcome fault is same = absurd (cc)
 untold_so (served.Untold came) outcome fault is same = cc
 
--- a fault before any line is answered
-pub early_so : {D : Type 0} (model : Ghosts D) (opened : D → Type 0) (given : Option (List ℕ)) (editors : ℕ) (words : LandmarkWords) (old told_old told_new : Option (List ℕ)) (fault : Fault) (outcome : Outcome)
-    → (let r : Result Ended Fault = Err fault in IsToldSo r told_old told_new outcome) → (fault ≡ told.Memory) ⊎ IsFileFault fault → IsLiveOutcome model opened given editors words old old told_old told_new outcome
-early_so model opened given editors words old told_old told_new fault (Answered ended) is why = absurd is
-early_so model opened given editors words old told_old told_new fault (Told came) is why =
-    let early : (came ≡ told.Memory) ⊎ IsFileFault came = subst (λ (e : Fault). (e ≡ told.Memory) ⊎ IsFileFault e) (sym is.0) why in (inl (refl, early), is.1)
-early_so model opened given editors words old told_old told_new fault (Untold came) is why =
-    let early : (came ≡ told.Memory) ⊎ IsFileFault came = subst (λ (e : Fault). (e ≡ told.Memory) ⊎ IsFileFault e) (sym is) why in
-    inl (refl, early)
-
 -- the end of one that ran
-live_end : {D : Type 0} (model : Ghosts D) (opened : D → Type 0) (given : Option (List ℕ)) (editors : ℕ) (words : LandmarkWords) (old new told_old told_new : Option (List ℕ)) (disk : D) (back : Option D) (ended : Served) (outcome : Outcome)
+live_end : {D : Type 0} (model : Ghosts D) (opened : D → Type 0) (given : Known) (editors : ℕ) (words : LandmarkWords) (old new told_old told_new : Known) (disk : D) (back : Option D) (ended : Served) (outcome : Outcome)
     → IsEndOf ended outcome → opened disk → PrintsTo (Bytes given) editors old new ended → HasToldSo told_old told_new ended → IfSome (fault_of ended) (λ fault. IsServeEnd model disk words back fault) → IsLeftBy model disk back
     → IsLiveOutcome model opened given editors words old new told_old told_new outcome
 live_end model opened given editors words old new told_old told_new disk back served.Printed outcome is was prints tells ends left =
@@ -146,18 +127,18 @@ live_end model opened given editors words old new told_old told_new disk back (s
       record { disk = disk; was = was; back = back; holds = (ends, left) },
     ))
 
-pub live_so : {D : Type 0} (model : Ghosts D) (opened : D → Type 0) (given read : Option (List ℕ)) (editors : ℕ) (words : LandmarkWords) (old new told_old told_new : Option (List ℕ)) (disk : D) (back : Option D) (ended : Served) (outcome : Outcome)
+pub live_so : {D : Type 0} (model : Ghosts D) (opened : D → Type 0) (given read : Known) (editors : ℕ) (words : LandmarkWords) (old new told_old told_new : Known) (disk : D) (back : Option D) (ended : Served) (outcome : Outcome)
     → read ≡ given → IsEndOf ended outcome → opened disk → PrintsTo (Bytes read) editors old new ended → HasToldSo told_old told_new ended → IfSome (fault_of ended) (λ fault. IsServeEnd model disk words back fault) → IsLeftBy model disk back
     → IsLiveOutcome model opened given editors words old new told_old told_new outcome
 live_so model opened given read editors words old new told_old told_new disk back ended outcome same is was prints tells ends left =
-    live_end model opened given editors words old new told_old told_new disk back ended outcome is was (subst (λ (g : Option (List ℕ)). PrintsTo (Bytes g) editors old new ended) same prints) tells ends left
+    live_end model opened given editors words old new told_old told_new disk back ended outcome is was (subst (λ (g : Known). PrintsTo (Bytes g) editors old new ended) same prints) tells ends left
 
-nothing_before : (known : Option (List ℕ)) → prepend_known [] known ≡ known
+nothing_before : (known : Known) → prepend_known [] known ≡ known
 nothing_before None = refl
 nothing_before (Some xs) = refl
 
 -- a reader in front of another one, from which nothing was read yet, gives what that one does
-pub fresh_reader : {T A : Type 0} (remaining : T → Option (List ℕ)) (r : BufReader T A) (from : T) → reader_inner r ≡ from → reader_buffer r ≡ [] → reader_capacity r ≡ 8192
+pub fresh_reader : {T A : Type 0} (remaining : T → Known) (r : BufReader T A) (from : T) → reader_inner r ≡ from → reader_buffer r ≡ [] → reader_capacity r ≡ 8192
     → reader_remaining remaining r ≡ remaining from
 fresh_reader {T} remaining r from inner empty capacity =
     ap (λ (n : ℕ). if n == 0 then None else prepend_known (reader_buffer r) (remaining (reader_inner r))) capacity
@@ -168,7 +149,7 @@ fresh_reader {T} remaining r from inner empty capacity =
 -- ---- a service over a script
 
 -- a fault that is handed on ends it
-pub script_ends : {D W : Type 0} (model : Ghosts D) (opened : D → Type 0) (given : Option (List ℕ)) (editors : ℕ) (words : LandmarkWords) (contents : W → Option (List ℕ)) (old new : W) (r : Result Ended Fault) (fault : Fault)
+pub script_ends : {D W : Type 0} (model : Ghosts D) (opened : D → Type 0) (given : Known) (editors : ℕ) (words : LandmarkWords) (contents : W → Known) (old new : W) (r : Result Ended Fault) (fault : Fault)
     → IsErrAnd r (λ e. e ≡ fault) → EndsServe model opened given editors words fault → (fault ≢ told.Output → new ≡ old) → EndsScript model opened given editors words contents old new r
 script_ends model opened given editors words contents old new (Ok ended) fault is why kept = absurd is
 script_ends model opened given editors words contents old new (Err e) fault is why kept = record {

@@ -4,18 +4,17 @@ use Rattle.clap.specs.Walk.{Text}
 use Rattle.disk_trait.specs.declared.disk.Disk.{Ghosts}
 use Rattle.disk_trait.specs.Disk.{DiskView, OnlyRead}
 use Rattle.graph_edits.specs.declared.edits.Op.{Op}
-use Rattle.requests.specs.Tickets.{worn_limit}
 use Rattle.layout_2.specs.Layout.{device_len}
-use Rattle.layout_2.specs.State.{State}
-use Rattle.layout_2.specs.Standing.{StandsFor}
 use Rattle.node_table.specs.declared.parts.Parts.{Parts}
 use Rattle.written_values.specs.Words.{IsWithin}
 use Rattle.written_values.specs.declared.words.LandmarkWords.{LandmarkWords}
 use Rattle.written_values.specs.declared.words.LandmarkWords.TheVariants.{Greatest, ZeroAt, Drawn}
+use Rattle.command_output.specs.Printing.{Known}
 use Rattle.command_output.specs.declared.fault.Fault.{Fault}
 use Rattle.command_output.specs.declared.fault.Fault.TheVariants as told
-use Rattle.device_commands.specs.Answer.{IsNew, IsTaken, last_ticket, ticket_of}
-use Rattle.device_commands.specs.Openings.{IsEditFault, IsFormatFault, IsOpenFault, IsUnwrittenFault, TellsOf}
+use Rattle.device_commands.specs.Answer.{IsNew}
+use Rattle.device_commands.specs.Edits.{IsPastLimits}
+use Rattle.device_commands.specs.Openings.{IsEditFault, IsFormatFault, IsOpenFault, IsUnwrittenFault, OfContent, TellsOf}
 use Rattle.device_commands.specs.Moves.{IsMoveFault, TellsOfOld}
 use Rattle.service_threads.specs.Kept.{IsLeftBy}
 use Rattle.service_lines.specs.ServedLines.{IsServeEnd}
@@ -26,10 +25,9 @@ use Rattle.command_line.specs.declared.refused.WordsRefused.{WordsRefused}
 use Rattle.command_line.specs.declared.refused.WordsRefused.TheVariants as why
 use Rattle.command_line.specs.declared.task.Task.{Task}
 use Rattle.command_line.specs.declared.task.Task.TheVariants.{Format, Show, Edit, Resume, Route, Check, Migrate, Serve, Tables}
-use Rattle.commands.specs.declared.devices.Access.{Access}
 use Rattle.commands.specs.declared.devices.Access.TheVariants.{ToRead, ToChange, Anew, New}
-use Rattle.commands.specs.Devices.{EndsBy, IsAnswerOf, IsFileFault, OfOpened, OfServed}
-use Rattle.commands.specs.SchemeAnswers.{AreNodes}
+use Rattle.commands.specs.Devices.{EndsBy, IsAnswerOf, IsFileFault, OfOpened, OfServed, Opening}
+use Rattle.commands.specs.Queries.{LacksNode}
 use Rattle.commands.specs.ServedScripts.{IsScriptFault}
 use Rattle.table_files.specs.Files.{Put}
 use Rattle.commands.specs.SchemeAnswers.{IsSchemeBy}
@@ -68,9 +66,8 @@ pub record IsReadingEnd (Named : Fault → Type 0) (disk left : DiskView) (fault
 pub record IsEditEnd (session : ℕ) (ticket : Option ℕ) (change : List Op) (disk left : DiskView) (fault : Fault) : Type 0 where
   pub named : IsEditFault fault
   pub tells : IsTrue disk.keeps_model → TellsOf fault disk.content
-  pub already_in : IsTrue disk.keeps_model → (state : State) → StandsFor state disk.content → fault ≡ told.AlreadyIn → ¬ IsNew state session ticket
-  pub worn : IsTrue disk.keeps_model → (state : State) → StandsFor state disk.content → fault ≡ told.Worn
-      → IsNew state session ticket × ((worn_limit < ticket_of (last_ticket state session) ticket) ⊎ IsTaken state change)
+  pub already_in : OfContent disk (λ state. fault ≡ told.AlreadyIn → ¬ IsNew state session ticket)
+  pub worn : OfContent disk (λ state. fault ≡ told.Worn → IsPastLimits state session ticket change)
   pub device : fault ≡ told.Device → disk.failures < left.failures
   pub unwritten : IsTrue disk.keeps_model → IsUnwrittenFault fault → OnlyRead disk left
 
@@ -86,16 +83,19 @@ IsRouteDeviceFault words told.NoNode = Unit {0}
 IsRouteDeviceFault words told.Words = NamesNodes words
 IsRouteDeviceFault words fault = IsOpenFault fault
 
--- Routes aren't found: a node lacks only where the state has not both nodes of each pair.
-pub record IsRouteEnd (pairs : List (ℕ × ℕ)) (asked : LandmarkWords) (disk left : DiskView) (fault : Fault) : Type 0 where
-  pub reading : IsReadingEnd (IsRouteDeviceFault asked) disk left fault
-  pub no_node : IsTrue disk.keeps_model → (state : State) → StandsFor state disk.content → fault ≡ told.NoNode → IsWithin asked state.graph.nodes × ¬ AreNodes state.graph.nodes pairs
-  pub not_within : IsTrue disk.keeps_model → (state : State) → StandsFor state disk.content → fault ≡ told.Words → ¬ IsWithin asked state.graph.nodes
+-- A question about a device's graph isn't answered: the words aren't understood only where they name a node that the state hasn't.
+pub record IsAskingEnd (Named : LandmarkWords → Fault → Type 0) (asked : LandmarkWords) (disk left : DiskView) (fault : Fault) : Type 0 where
+  pub reading : IsReadingEnd (Named asked) disk left fault
+  pub not_within : OfContent disk (λ state. fault ≡ told.Words → ¬ IsWithin asked state.graph.nodes)
 
 -- No scheme is checked.
-pub record IsCheckEnd (asked : LandmarkWords) (disk left : DiskView) (fault : Fault) : Type 0 where
-  pub reading : IsReadingEnd (IsCheckDeviceFault asked) disk left fault
-  pub not_within : IsTrue disk.keeps_model → (state : State) → StandsFor state disk.content → fault ≡ told.Words → ¬ IsWithin asked state.graph.nodes
+abbrev pub IsCheckEnd : LandmarkWords → DiskView → DiskView → Fault → Type 0
+IsCheckEnd asked disk left fault = IsAskingEnd IsCheckDeviceFault asked disk left fault
+
+-- Routes aren't found: a node lacks only where the state has not both nodes of each pair.
+pub record IsRouteEnd (pairs : List (ℕ × ℕ)) (asked : LandmarkWords) (disk left : DiskView) (fault : Fault) : Type 0 where
+  pub asking : IsAskingEnd IsRouteDeviceFault asked disk left fault
+  pub no_node : OfContent disk (λ state. fault ≡ told.NoNode → LacksNode asked pairs state.graph.nodes)
 
 -- A device isn't brought over.
 pub record IsMoveEnd (from from_left to to_left : DiskView) (fault : Fault) : Type 0 where
@@ -105,16 +105,16 @@ pub record IsMoveEnd (from from_left to to_left : DiskView) (fault : Fault) : Ty
   pub device : fault ≡ told.Device → (from.failures < from_left.failures) ⊎ (to.failures < to_left.failures)
 
 -- No script is run: it is none, the device can't be had, or the service ended by this fault.
-abbrev pub EndsServe : {D : Type 0} → Ghosts D → (D → Type 0) → Option (List ℕ) → ℕ → LandmarkWords → Fault → Type 0
+abbrev pub EndsServe : {D : Type 0} → Ghosts D → (D → Type 0) → Known → ℕ → LandmarkWords → Fault → Type 0
 EndsServe model opened given editors words fault =
     IsScriptFault given editors fault ⊎ IsFileFault fault ⊎ OfServed opened (λ disk back. IsServeEnd model disk words back fault × IsLeftBy model disk back)
 
 -- unless the output failed, answers to the first lines that a reader gives were printed, in their order, and nothing else
-abbrev pub BeginsAnswers : Option (List ℕ) → ℕ → Option (List ℕ) → Option (List ℕ) → Fault → Type 0
+abbrev pub BeginsAnswers : Known → ℕ → Known → Known → Fault → Type 0
 BeginsAnswers given editors old new fault = fault ≢ told.Output → (count : ℕ) × HasPrinted (Bytes given) editors old new count
 
 -- No lines are answered, since memory ran out or the device can't be had; or the live service ended by this fault.
-abbrev pub EndsLive : {D : Type 0} → Ghosts D → (D → Type 0) → Option (List ℕ) → ℕ → LandmarkWords → Option (List ℕ) → Option (List ℕ) → Fault → Type 0
+abbrev pub EndsLive : {D : Type 0} → Ghosts D → (D → Type 0) → Known → ℕ → LandmarkWords → Known → Known → Fault → Type 0
 EndsLive model opened given editors words old new fault =
     ((new ≡ old) × ((fault ≡ told.Memory) ⊎ IsFileFault fault))
     ⊎ (BeginsAnswers given editors old new fault × OfServed opened (λ disk back. IsServeEnd model disk words back fault × IsLeftBy model disk back))
@@ -158,7 +158,7 @@ IsRouteFault words fault = IsWordsFault words fault
 -- ---- why a run ends
 
 -- the faults that may end a task that is under way, and what a live service has printed by then
-abbrev pub MayEnd : {D : Type 0} → Ghosts D → (List ℕ → Access → D → Type 0) → (List Put → Type 0) → Task → Option (List ℕ) → Option (List ℕ) → Option (List ℕ) → Fault → Type 0
+abbrev pub MayEnd : {D : Type 0} → Ghosts D → Opening D → (List Put → Type 0) → Task → Known → Known → Known → Fault → Type 0
 MayEnd model opened put (Format device nodes) given old new fault = EndsBy model (opened device.now Anew) (IsFormatEnd nodes) fault
 MayEnd model opened put (Show device) given old new fault = EndsBy model (opened device.now ToRead) (IsReadingEnd IsOpenFault) fault
 MayEnd model opened put (Edit device session ticket change) given old new fault = EndsBy model (opened device.now ToChange) (IsEditEnd session ticket change) fault
@@ -173,7 +173,7 @@ MayEnd model opened put (Tables device folder nodes words) given old new fault =
 
 -- The words are no task that is in range, and the fault is the one for what is wrong with them, or memory ran out while they were read;
 -- or they ask for a task, and the fault is one that may end it.
-abbrev pub IsFaultFor : {D : Type 0} → Ghosts D → (List ℕ → Access → D → Type 0) → (List Put → Type 0) → List Text → Option (List ℕ) → Option (List ℕ) → Option (List ℕ) → Fault → Type 0
+abbrev pub IsFaultFor : {D : Type 0} → Ghosts D → Opening D → (List Put → Type 0) → List Text → Known → Known → Known → Fault → Type 0
 IsFaultFor model opened put words given old new fault =
     ((refused : WordsRefused) × (fault ≡ words_fault refused) × IsRefusedFor words refused × ((task : Task) → IsAskedFor words task → IsInRange task → fault ≡ told.Memory))
     ⊎ ((task : Task) × IsAskedFor words task × MayEnd model opened put task given old new fault)

@@ -5,13 +5,14 @@ use Rattle.clap.specs.Walk.{Text}
 use Rattle.disk_trait.specs.declared.disk.Disk.{Ghosts}
 use Rattle.command_line.specs.declared.task.Task.{Task}
 use Rattle.command_output.specs.Faults.{status_at, status_of, told_text}
+use Rattle.command_output.specs.Printing.{Known}
 use Rattle.command_output.specs.declared.ended.Ended.{Ended}
 use Rattle.command_output.specs.declared.ended.Ended.TheVariants.{Done}
 use Rattle.command_output.specs.declared.fault.Fault.{Fault}
 use Rattle.service_lines.specs.declared.served.Served.{Served}
 use Rattle.service_lines.specs.declared.served.Served.TheVariants as served
 use Rattle.written_values.specs.declared.words.LandmarkWords.{LandmarkWords}
-use Rattle.commands.specs.declared.devices.Access.{Access}
+use Rattle.commands.specs.Devices.{Opening}
 use Rattle.commands.specs.declared.outcome.Outcome.{Outcome}
 use Rattle.commands.specs.declared.outcome.Outcome.TheVariants.{Answered, Told, Untold}
 use Rattle.commands.specs.Endings.{EndsLive, EndsServe, IsFaultFor, MayEnd}
@@ -28,34 +29,43 @@ status_in (Untold fault) = status_of fault
 abbrev pub AnyPut : List Put → Type 0
 AnyPut puts = Unit {0}
 
--- What a run of these words, with what its reader gives, has printed on a writer, and told on another: the answer to what they ask
--- for, or a fault that may end it, told where that could be written.
-abbrev pub IsOutcome : {D : Type 0} → Ghosts D → (List ℕ → Access → D → Type 0) → (List Put → Type 0) → List Text → Option (List ℕ) → Option (List ℕ) → Option (List ℕ) → Option (List ℕ) → Option (List ℕ) → Outcome → Type 0
-IsOutcome model opened put words given old new told_old told_new (Answered ended) = AnswersWords model opened put words given ended old new × (told_new ≡ told_old)
-IsOutcome model opened put words given old new told_old told_new (Told fault) = IsFaultFor model opened put words given old new fault × Appends told_old told_new (told_text fault)
-IsOutcome model opened put words given old new told_old told_new (Untold fault) = IsFaultFor model opened put words given old new fault
+-- A run ended so: the answer was printed and nothing was told, or a fault that may end it was told where that could be written.
+abbrev pub AnswersOrTells : (Ended → Type 0) → (Fault → Type 0) → Known → Known → Outcome → Type 0
+AnswersOrTells Answers MayFail told_old told_new (Answered ended) = Answers ended × (told_new ≡ told_old)
+AnswersOrTells Answers MayFail told_old told_new (Told fault) = MayFail fault × Appends told_old told_new (told_text fault)
+AnswersOrTells Answers MayFail told_old told_new (Untold fault) = MayFail fault
+
+-- What a run of these words, with what its reader gives, has printed on a writer, and told on another.
+abbrev pub IsOutcome : {D : Type 0} → Ghosts D → Opening D → (List Put → Type 0) → List Text → Known → Known → Known → Known → Known → Outcome → Type 0
+IsOutcome model opened put words given old new told_old told_new outcome =
+    AnswersOrTells (λ ended. AnswersWords model opened put words given ended old new) (λ fault. IsFaultFor model opened put words given old new fault)
+    told_old told_new outcome
 
 -- the same of a task that is asked for
-abbrev pub IsOutcomeOf : {D : Type 0} → Ghosts D → (List ℕ → Access → D → Type 0) → (List Put → Type 0) → Task → Option (List ℕ) → Option (List ℕ) → Option (List ℕ) → Option (List ℕ) → Option (List ℕ) → Outcome → Type 0
-IsOutcomeOf model opened put task given old new told_old told_new (Answered ended) = PrintedFor model opened put task given ended old new × (told_new ≡ told_old)
-IsOutcomeOf model opened put task given old new told_old told_new (Told fault) = MayEnd model opened put task given old new fault × Appends told_old told_new (told_text fault)
-IsOutcomeOf model opened put task given old new told_old told_new (Untold fault) = MayEnd model opened put task given old new fault
+abbrev pub IsOutcomeOf : {D : Type 0} → Ghosts D → Opening D → (List Put → Type 0) → Task → Known → Known → Known → Known → Known → Outcome → Type 0
+IsOutcomeOf model opened put task given old new told_old told_new outcome =
+    AnswersOrTells (λ ended. PrintedFor model opened put task given ended old new) (λ fault. MayEnd model opened put task given old new fault)
+    told_old told_new outcome
 
--- and of a live service
-abbrev pub IsLiveOutcome : {D : Type 0} → Ghosts D → (D → Type 0) → Option (List ℕ) → ℕ → LandmarkWords → Option (List ℕ) → Option (List ℕ) → Option (List ℕ) → Option (List ℕ) → Outcome → Type 0
-IsLiveOutcome model opened given editors words old new told_old told_new (Answered ended) = PrintsLive model opened given editors ended old new × (told_new ≡ told_old)
-IsLiveOutcome model opened given editors words old new told_old told_new (Told fault) = EndsLive model opened given editors words old new fault × Appends told_old told_new (told_text fault)
-IsLiveOutcome model opened given editors words old new told_old told_new (Untold fault) = EndsLive model opened given editors words old new fault
+-- of a service over a script
+abbrev pub IsScriptOutcome : {D : Type 0} → Ghosts D → (D → Type 0) → Known → ℕ → LandmarkWords → Known → Known → Known → Known → Outcome → Type 0
+IsScriptOutcome model opened given editors words old new told_old told_new outcome =
+    AnswersOrTells (λ ended. PrintsServed model opened given editors ended old new) (λ fault. EndsServe model opened given editors words fault)
+    told_old told_new outcome
+
+-- of a live service
+abbrev pub IsLiveOutcome : {D : Type 0} → Ghosts D → (D → Type 0) → Known → ℕ → LandmarkWords → Known → Known → Known → Known → Outcome → Type 0
+IsLiveOutcome model opened given editors words old new told_old told_new outcome =
+    AnswersOrTells (λ ended. PrintsLive model opened given editors ended old new) (λ fault. EndsLive model opened given editors words old new fault)
+    told_old told_new outcome
 
 -- and of any service
-abbrev pub IsServiceOutcome : {D : Type 0} → Ghosts D → (D → Type 0) → Option ℕ → Option (List ℕ) → ℕ → LandmarkWords → Option (List ℕ) → Option (List ℕ) → Option (List ℕ) → Option (List ℕ) → Outcome → Type 0
-IsServiceOutcome model opened None given editors words old new told_old told_new (Answered ended) = PrintsServed model opened given editors ended old new × (told_new ≡ told_old)
-IsServiceOutcome model opened None given editors words old new told_old told_new (Told fault) = EndsServe model opened given editors words fault × Appends told_old told_new (told_text fault)
-IsServiceOutcome model opened None given editors words old new told_old told_new (Untold fault) = EndsServe model opened given editors words fault
+abbrev pub IsServiceOutcome : {D : Type 0} → Ghosts D → (D → Type 0) → Option ℕ → Known → ℕ → LandmarkWords → Known → Known → Known → Known → Outcome → Type 0
+IsServiceOutcome model opened None given editors words old new told_old told_new outcome = IsScriptOutcome model opened given editors words old new told_old told_new outcome
 IsServiceOutcome model opened (Some rounds) given editors words old new told_old told_new outcome = IsLiveOutcome model opened given editors words old new told_old told_new outcome
 
 -- the outcome is what was answered, or the fault that came, told where that could be written
-abbrev pub IsToldSo : Result Ended Fault → Option (List ℕ) → Option (List ℕ) → Outcome → Type 0
+abbrev pub IsToldSo : Result Ended Fault → Known → Known → Outcome → Type 0
 IsToldSo (Ok ended) told_old told_new (Answered answered) = (answered ≡ ended) × (told_new ≡ told_old)
 IsToldSo (Err fault) told_old told_new (Told told) = (told ≡ fault) × Appends told_old told_new (told_text told)
 IsToldSo (Err fault) told_old told_new (Untold told) = told ≡ fault

@@ -7,8 +7,8 @@ use Rattle.disk_trait.specs.declared.disk.Disk.{Ghosts}
 use Rattle.disk_trait.specs.Disk.{DiskView, OnlyRead}
 use Rattle.graph_edits.specs.Edges.{Network}
 use Rattle.graph_edits.specs.declared.edits.Op.{Op}
-use Rattle.layout_2.specs.State.{State, first_state}
-use Rattle.layout_2.specs.Standing.{KeepsThrough, StandsFor}
+use Rattle.layout_2.specs.State.{first_state}
+use Rattle.layout_2.specs.Standing.{KeepsThrough}
 use Rattle.requests.specs.Tickets.{last_of}
 use Rattle.generations.specs.declared.posting.Verdict.{Verdict}
 use Rattle.generations.specs.declared.posting.Verdict.TheVariants.{Accepted, Refused}
@@ -17,6 +17,7 @@ use Rattle.migrate.specs.declared.moving.Moved.{Moved}
 use Rattle.node_table.specs.declared.parts.Parts.{Parts}
 use Rattle.scheme_builds.specs.declared.queries.Checked.{Checked}
 use Rattle.scheme_builds.specs.declared.queries.Route.{Route as Found}
+use Rattle.command_output.specs.Printing.{Known}
 use Rattle.command_output.specs.declared.ended.Ended.{Ended}
 use Rattle.command_output.specs.declared.ended.Ended.TheVariants.{Done, Refused as EndedRefused}
 use Rattle.command_output.specs.Lines.{accepted_text, formatted_text, line, listing_text, migrated_text, refused_text, ticket_text}
@@ -24,15 +25,15 @@ use Rattle.command_line.specs.Asked.{IsAskedFor}
 use Rattle.command_line.specs.declared.task.Task.{Task}
 use Rattle.command_line.specs.declared.task.Task.TheVariants.{Format, Show, Edit, Resume, Route, Check, Migrate, Serve, Tables}
 use Rattle.device_commands.specs.Answer.{IsNew, state_after, verdict_of}
+use Rattle.device_commands.specs.Openings.{OfContent}
 use Rattle.written_values.specs.declared.line.ScriptLine.{ScriptLine}
 use Rattle.written_values.specs.declared.words.LandmarkWords.{LandmarkWords}
 use Rattle.service_threads.specs.Kept.{IsLeftBy}
 use Rattle.service_lines.specs.ServedLines.{IsServed}
 use Rattle.live_service.specs.Inputs.{Bytes}
 use Rattle.live_service.specs.Prints.{AreAllLines, HasPrinted}
-use Rattle.commands.specs.declared.devices.Access.{Access}
 use Rattle.commands.specs.declared.devices.Access.TheVariants.{ToRead, ToChange, Anew, New}
-use Rattle.commands.specs.Devices.{IsAnswerOf, OfOpened, OfServed}
+use Rattle.commands.specs.Devices.{IsAnswerOf, OfOpened, OfServed, Opening}
 use Rattle.commands.specs.ServedScripts.{IsScriptOf}
 use Rattle.table_files.specs.Files.{Put}
 use Rattle.table_files.specs.Tables.{AnswersTables}
@@ -55,59 +56,59 @@ abbrev pub IsOnlyRead : DiskView → DiskView → Type 0
 IsOnlyRead disk left = IsTrue disk.keeps_model → OnlyRead disk left
 
 -- `format`: how many nodes, and a device that was formatted for them
-abbrev pub PrintsFormatted : ℕ → DiskView → DiskView → Ended → Option (List ℕ) → Option (List ℕ) → Type 0
+abbrev pub PrintsFormatted : ℕ → DiskView → DiskView → Ended → Known → Known → Type 0
 PrintsFormatted nodes disk left ended old new =
     (ended ≡ Done) × Appends old new (line (formatted_text nodes)) × (IsTrue disk.keeps_model → KeepsThrough left (first_state nodes))
 
 -- `show`: the listing of the device's state
-abbrev pub PrintsListing : DiskView → DiskView → Ended → Option (List ℕ) → Option (List ℕ) → Type 0
+abbrev pub PrintsListing : DiskView → DiskView → Ended → Known → Known → Type 0
 PrintsListing disk left ended old new = IsAnswerOf disk (λ state. (ended ≡ Done) × Appends old new (listing_text state.count state.graph)) × IsOnlyRead disk left
 
 -- `edit`: what becomes of the change in that state, to which its ticket is new, and a device that stands for the state behind it
-abbrev pub PrintsVerdict : ℕ → Option ℕ → List Op → DiskView → DiskView → Ended → Option (List ℕ) → Option (List ℕ) → Type 0
+abbrev pub PrintsVerdict : ℕ → Option ℕ → List Op → DiskView → DiskView → Ended → Known → Known → Type 0
 PrintsVerdict session ticket change disk left ended old new =
     IsAnswerOf disk (λ state. IsNew state session ticket × (ended ≡ ended_by (verdict_of state change)) × Appends old new (line (verdict_text (verdict_of state change))))
-    × (IsTrue disk.keeps_model → (state : State) → StandsFor state disk.content → KeepsThrough left (state_after state session ticket change))
+    × OfContent disk (λ state. KeepsThrough left (state_after state session ticket change))
 
 -- `resume`: the last ticket of a session in that state
-abbrev pub PrintsTicket : ℕ → DiskView → DiskView → Ended → Option (List ℕ) → Option (List ℕ) → Type 0
+abbrev pub PrintsTicket : ℕ → DiskView → DiskView → Ended → Known → Known → Type 0
 PrintsTicket session disk left ended old new =
     IsAnswerOf disk (λ state. (ended ≡ Done) × Appends old new (line (ticket_text session (last_of state.tickets session)))) × IsOnlyRead disk left
 
 -- `route`: for each pair of nodes what becomes of a packet in that state's graph
-abbrev pub PrintsRoutes : List (ℕ × ℕ) → LandmarkWords → DiskView → DiskView → Ended → Option (List ℕ) → Option (List ℕ) → Type 0
+abbrev pub PrintsRoutes : List (ℕ × ℕ) → LandmarkWords → DiskView → DiskView → Ended → Known → Known → Type 0
 PrintsRoutes pairs words disk left ended old new =
     IsAnswerOf disk (λ state. (routes : List Found) × AreRoutesOf state.graph words pairs routes × (ended ≡ ended_after routes) × Appends old new (routes_text state.count routes)) × IsOnlyRead disk left
 
 -- `check`: what the checks say of a scheme of that graph
-abbrev pub PrintsCheck : LandmarkWords → DiskView → DiskView → Ended → Option (List ℕ) → Option (List ℕ) → Type 0
+abbrev pub PrintsCheck : LandmarkWords → DiskView → DiskView → Ended → Known → Known → Type 0
 PrintsCheck words disk left ended old new =
     IsAnswerOf disk (λ state. (checked : Checked) × IsCheckOf state.graph state.count words checked × (ended ≡ ended_at checked.fault)
     × Appends old new (line (checks_text state.count checked.landmarks checked.fault))) × IsOnlyRead disk left
 
 -- `migrate`: how much the old device held, and a new one that holds the same
-abbrev pub PrintsMoved : DiskView → DiskView → DiskView → Ended → Option (List ℕ) → Option (List ℕ) → Type 0
+abbrev pub PrintsMoved : DiskView → DiskView → DiskView → Ended → Known → Known → Type 0
 PrintsMoved from to left ended old new = (ended ≡ Done) × (moved : Moved) × ((graph : Network) × (moved.edges ≡ len graph.edges)) × Appends old new (line (migrated_text moved.count moved.edges))
     × (IsTrue from.keeps_model → IsTrue to.keeps_model → HasMoved moved from.content left)
 
 -- `serve`: the lines of answers to the script that a reader gives
-abbrev pub PrintsServed : {D : Type 0} → Ghosts D → (D → Type 0) → Option (List ℕ) → ℕ → Ended → Option (List ℕ) → Option (List ℕ) → Type 0
+abbrev pub PrintsServed : {D : Type 0} → Ghosts D → (D → Type 0) → Known → ℕ → Ended → Known → Known → Type 0
 PrintsServed model opened given editors ended old new =
     (ended ≡ Done) × (lines : List ScriptLine) × IsScriptOf given editors lines × OfServed opened (λ disk back. IsServed lines old new × IsLeftBy model disk back)
 
 -- `serve --live`: a line for each line that a reader gives, an answer to it, in their order
-abbrev pub PrintsLive : {D : Type 0} → Ghosts D → (D → Type 0) → Option (List ℕ) → ℕ → Ended → Option (List ℕ) → Option (List ℕ) → Type 0
+abbrev pub PrintsLive : {D : Type 0} → Ghosts D → (D → Type 0) → Known → ℕ → Ended → Known → Known → Type 0
 PrintsLive model opened given editors ended old new =
     (ended ≡ Done) × ((count : ℕ) × HasPrinted (Bytes given) editors old new count × AreAllLines (Bytes given) count) × OfServed opened (λ disk back. IsLeftBy model disk back)
 
 -- `tables`: the files of the tables that a scheme of that graph has of nodes, and their line, or that a node isn't there
-abbrev pub PrintsTables : LandmarkWords → List ℕ → List ℕ → (List Put → Type 0) → DiskView → DiskView → Ended → Option (List ℕ) → Option (List ℕ) → Type 0
+abbrev pub PrintsTables : LandmarkWords → List ℕ → List ℕ → (List Put → Type 0) → DiskView → DiskView → Ended → Known → Known → Type 0
 PrintsTables words folder named put disk left ended old new =
     IsAnswerOf disk (λ state. (p : Parts) × IsSchemeBy state.graph state.count words p × AnswersTables p state.count folder named put ended old new) × IsOnlyRead disk left
 
 -- A command that ends so has printed the answer to its task, and nothing else: of the device that it opened. The script of a service is
 -- what a reader gives, and the files of `tables` are those that were put.
-abbrev pub PrintedFor : {D : Type 0} → Ghosts D → (List ℕ → Access → D → Type 0) → (List Put → Type 0) → Task → Option (List ℕ) → Ended → Option (List ℕ) → Option (List ℕ) → Type 0
+abbrev pub PrintedFor : {D : Type 0} → Ghosts D → Opening D → (List Put → Type 0) → Task → Known → Ended → Known → Known → Type 0
 PrintedFor model opened put (Format device nodes) given ended old new = OfOpened model (opened device.now Anew) (λ disk left. PrintsFormatted nodes disk left ended old new)
 PrintedFor model opened put (Show device) given ended old new = OfOpened model (opened device.now ToRead) (λ disk left. PrintsListing disk left ended old new)
 PrintedFor model opened put (Edit device session ticket change) given ended old new = OfOpened model (opened device.now ToChange) (λ disk left. PrintsVerdict session ticket change disk left ended old new)
@@ -121,5 +122,5 @@ PrintedFor model opened put (Serve device editors forwarders places (Some rounds
 PrintedFor model opened put (Tables device folder nodes words) given ended old new = OfOpened model (opened device.now ToRead) (λ disk left. PrintsTables words folder.now nodes.items put disk left ended old new)
 
 -- the answer to a task that the words ask for was printed, and nothing else
-abbrev pub AnswersWords : {D : Type 0} → Ghosts D → (List ℕ → Access → D → Type 0) → (List Put → Type 0) → List Text → Option (List ℕ) → Ended → Option (List ℕ) → Option (List ℕ) → Type 0
+abbrev pub AnswersWords : {D : Type 0} → Ghosts D → Opening D → (List Put → Type 0) → List Text → Known → Ended → Known → Known → Type 0
 AnswersWords model opened put words given ended old new = (task : Task) × IsAskedFor words task × PrintedFor model opened put task given ended old new

@@ -1,10 +1,9 @@
 -- What an answer about a graph promises, of a graph and of a device.
-use Rattle.std.specs.Prelude.{◌≡◌, ℕ, Bool, List, Result, Ok, IfErr, IfOk, IsErrOf, IsTrue}
+use Rattle.std.specs.Prelude.{◌≡◌, ℕ, Bool, List, Result, Ok, IfErr, IfOk, IsErrOf}
 use Rattle.std.specs.Global.{Vec}
 use Rattle.disk_trait.specs.Disk.{DiskView}
 use Rattle.graph_edits.specs.Edges.{Network}
 use Rattle.layout_2.specs.State.{State}
-use Rattle.layout_2.specs.Standing.{StandsFor}
 use Rattle.node_table.specs.declared.parts.Parts.{Parts}
 use Rattle.scheme_builds.specs.declared.queries.Checked.{Checked}
 use Rattle.scheme_builds.specs.declared.queries.Route.{Route}
@@ -13,7 +12,7 @@ use Rattle.written_values.specs.Words.{IsWithin}
 use Rattle.written_values.specs.declared.words.LandmarkWords.{LandmarkWords}
 use Rattle.command_output.specs.declared.fault.Fault.{Fault}
 use Rattle.command_output.specs.declared.fault.Fault.TheVariants as told
-use Rattle.device_commands.specs.Openings.{IsReading}
+use Rattle.device_commands.specs.Openings.{IsReading, OfContent}
 use Rattle.commands.specs.SchemeAnswers.{AreChosenBy, AreNodes, AreRoutesOf, AreRoutesUnder, IsCheckOf, IsSchemeBy}
 
 -- ---- of a graph
@@ -64,11 +63,11 @@ IsOfState IsAnswer asked state answer = (answer.0 ≡ state.count) × IsAnswer a
 pub record AnswersOf {T : Type 0} (asked : LandmarkWords) (IsAnswer : LandmarkWords → State → T → Type 0)
     (MayFail : LandmarkWords → Fault → Type 0) (disk left : DiskView) (result : Result (ℕ × T) Fault) : Type 0 where
   -- it names the state's generation
-  pub generation : IsTrue disk.keeps_model → (state : State) → StandsFor state disk.content → IfOk result (λ answer. answer.0 ≡ state.count)
+  pub generation : OfContent disk (λ state. IfOk result (λ answer. answer.0 ≡ state.count))
   -- and answers about its graph
-  pub answer : IsTrue disk.keeps_model → (state : State) → StandsFor state disk.content → IfOk result (λ answer. IsAnswer asked state answer.1)
+  pub answer : OfContent disk (λ state. IfOk result (λ answer. IsAnswer asked state answer.1))
   -- the words aren't understood only where they name a node that the state hasn't
-  pub not_within : IsTrue disk.keeps_model → (state : State) → StandsFor state disk.content → IsErrOf result told.Words → ¬ IsWithin asked state.graph.nodes
+  pub not_within : OfContent disk (λ state. IsErrOf result told.Words → ¬ IsWithin asked state.graph.nodes)
   -- also of a disk that doesn't keep the model the answer is that of a state
   pub of_one : IfOk result (λ answer. (state : State) × (answer.0 ≡ state.count) × IsAnswer asked state answer.1)
   -- whatever is told is one of these faults
@@ -78,4 +77,4 @@ pub record AnswersOf {T : Type 0} (asked : LandmarkWords) (IsAnswer : LandmarkWo
 
 -- where the device keeps the model, and a node is told to lack, the state lacks a node of the pairs
 abbrev pub LacksNodeOf : {T : Type 0} → LandmarkWords → List (ℕ × ℕ) → DiskView → Result T Fault → Type 0
-LacksNodeOf asked pairs disk result = IsTrue disk.keeps_model → (state : State) → StandsFor state disk.content → IsErrOf result told.NoNode → LacksNode asked pairs state.graph.nodes
+LacksNodeOf asked pairs disk result = OfContent disk (λ state. IsErrOf result told.NoNode → LacksNode asked pairs state.graph.nodes)

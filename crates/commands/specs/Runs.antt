@@ -1,65 +1,33 @@
 -- What a command and a run promise: what is printed, which fault ends it, and what it leaves alone.
-use Rattle.std.specs.Prelude.{◌≡◌, ◌≢◌, ◌≤◌, ◌⊎◌, ℕ, List, [], Option, Result, IfErr, IfOk, IsErrOf, IsOkAnd, IsTrue}
+use Rattle.std.specs.Prelude.{◌≡◌, ◌≢◌, ◌≤◌, ◌⊎◌, ℕ, List, [], Option, Result, IsErrOf, IsOkAnd}
 use Rattle.std.specs.Io.KnownBytes.{Appends}
 use Rattle.clap.specs.Walk.{Text}
 use Rattle.disk_trait.specs.declared.disk.Disk.{Ghosts}
 use Rattle.disk_trait.specs.Disk.{DiskView, LeavesOnly}
 use Rattle.graph_edits.specs.declared.edits.Op.{Op}
-use Rattle.layout_2.specs.State.{State}
 use Rattle.layout_2.specs.Standing.{KeepsThrough, StandsFor}
 use Rattle.command_line.specs.declared.task.Task.{Task}
 use Rattle.command_output.specs.Faults.{IsNotUnderstood, status_of}
+use Rattle.command_output.specs.Printing.{Ends, Known}
 use Rattle.command_output.specs.declared.ended.Ended.{Ended}
 use Rattle.command_output.specs.declared.ended.Ended.TheVariants.{Done, Refused}
 use Rattle.command_output.specs.declared.fault.Fault.{Fault}
 use Rattle.command_output.specs.declared.fault.Fault.TheVariants as told
 use Rattle.device_commands.specs.Answer.{state_after}
+use Rattle.device_commands.specs.Openings.{OfContent}
 use Rattle.node_table.specs.declared.parts.Parts.{Parts}
-use Rattle.table_files.specs.Files.{HasPut, Put}
+use Rattle.table_files.specs.Files.{Put}
 use Rattle.table_files.specs.Tables.{AnswersTables, EndsPutting}
 use Rattle.written_values.specs.declared.words.LandmarkWords.{LandmarkWords}
-use Rattle.commands.specs.declared.devices.Access.{Access}
 use Rattle.commands.specs.declared.outcome.Outcome.{Outcome}
 use Rattle.commands.specs.declared.outcome.Outcome.TheVariants.{Told, Untold}
-use Rattle.commands.specs.Devices.{EndsBy, IsFileFault, OfOpened}
+use Rattle.commands.specs.Devices.{Ending, EndsBy, IsFileFault, OfOpened, Opening, Printing}
 use Rattle.commands.specs.Endings.{EndsServe, EndsTables, IsFaultFor, IsMoveEnd, IsTablesEnd, MayEnd}
 use Rattle.commands.specs.Outcomes.{IsLiveOutcome, IsOutcome, IsOutcomeOf, IsServiceOutcome}
 use Rattle.commands.specs.Printed.{AnswersWords, PrintedFor, PrintsMoved, PrintsServed, PrintsTables}
 use Rattle.commands.specs.ServedScripts.{AskLive, AskService, AskTables, IsLiveService, IsService}
 
--- ---- what stood on a writer and what stands on it, and so of files
-
--- what a reader gives or what stands on a writer, where that is known
-abbrev pub Known : Type 0
-Known = Option (List ℕ)
-
--- what a command prints that ends so: of what a device was and is, and of what stood on the writer and stands there
-abbrev pub Printing : Type 1
-Printing = DiskView → DiskView → Ended → Known → Known → Type 0
-
--- which fault ends it: of what a device was and is
-abbrev pub Ending : Type 1
-Ending = DiskView → DiskView → Fault → Type 0
-
--- this text was printed, and nothing else
-abbrev pub PrintsText : {W : Type 0} → (W → Known) → W → W → List ℕ → Type 0
-PrintsText contents old new text = Appends (contents old) (contents new) text
-
--- these files were put, in this order, and nothing else
-abbrev pub PutBy : {T : Type 0} → (T → List Put) → T → T → List Put → Type 0
-PutBy puts old new files = HasPut (puts old) (puts new) files
-
 -- ---- a command
-
--- How a command ends that prints its answer on a writer.
-pub record Ends {W : Type 0} (Prints : Ended → Known → Known → Type 0) (MayFail : Fault → Type 0)
-    (contents : W → Known) (old new : W) (result : Result Ended Fault) : Type 0 where
-  -- what it printed is the answer
-  pub printed : IfOk result (λ ended. Prints ended (contents old) (contents new))
-  -- or one of these faults ended it
-  pub fault : IfErr result MayFail
-  -- only where the output failed may a part be printed
-  pub untouched : IfErr result (λ fault. fault ≢ told.Output → new ≡ old)
 
 -- so ends one that prints what was answered: it ends by that answer, and prints its text, or tells its fault
 abbrev pub EndsAfter : {X W : Type 0} → Result X Fault → (X → Ended) → (X → List ℕ) → (W → Known) → W → W → Result Ended Fault → Type 0
@@ -122,7 +90,7 @@ EndsScript model opened given editors words contents old new result =
     (λ fault. EndsServe model opened given editors words fault) contents old new result
 
 -- any task that is no service
-abbrev pub EndsTask : {D W : Type 0} → Ghosts D → (List ℕ → Access → D → Type 0) → (List Put → Type 0) → Task → Known
+abbrev pub EndsTask : {D W : Type 0} → Ghosts D → Opening D → (List Put → Type 0) → Task → Known
     → (W → Known) → W → W → Result Ended Fault → Type 0
 EndsTask model opened put task given contents old new result =
     Ends (λ ended before after. PrintedFor model opened put task given ended before after)
@@ -131,8 +99,8 @@ EndsTask model opened put task given contents old new result =
 -- At any moment of a change, whatever ends it: a crash leaves the state before the change or the one after it.
 abbrev pub ChangesWholly : ℕ → Option ℕ → List Op → DiskView → DiskView → Type 0
 ChangesWholly session ticket change disk left =
-    IsTrue disk.keeps_model → (state : State) → StandsFor state disk.content → KeepsThrough disk state
-    → LeavesOnly disk left (λ image. StandsFor state image ⊎ StandsFor (state_after state session ticket change) image)
+    OfContent disk (λ state. KeepsThrough disk state
+    → LeavesOnly disk left (λ image. StandsFor state image ⊎ StandsFor (state_after state session ticket change) image))
 
 -- ---- a run
 
@@ -156,7 +124,7 @@ pub record Runs {R W E : Type 0} (EndsSo : Known → Known → Known → Known �
   pub unread : ¬ MayRead → rest ≡ script
 
 -- so runs what these words ask for
-abbrev pub RunsWords : {D R W E : Type 0} → Ghosts D → (List ℕ → Access → D → Type 0) → (List Put → Type 0) → List Text
+abbrev pub RunsWords : {D R W E : Type 0} → Ghosts D → Opening D → (List Put → Type 0) → List Text
     → (R → Known) → R → R → (W → Known) → W → W → (E → Known) → E → E → Outcome → Type 0
 RunsWords model opened put words remaining script rest contents old new shown err_old err_new result =
     Runs (λ given before after told_before told_after outcome. IsOutcome model opened put words given before after told_before told_after outcome)
@@ -164,7 +132,7 @@ RunsWords model opened put words remaining script rest contents old new shown er
     remaining script rest contents old new shown err_old err_new result
 
 -- and a task
-abbrev pub RunsTask : {D R W E : Type 0} → Ghosts D → (List ℕ → Access → D → Type 0) → (List Put → Type 0) → Task
+abbrev pub RunsTask : {D R W E : Type 0} → Ghosts D → Opening D → (List Put → Type 0) → Task
     → (R → Known) → R → R → (W → Known) → W → W → (E → Known) → E → E → Outcome → Type 0
 RunsTask model opened put task remaining script rest contents old new shown err_old err_new result =
     Runs (λ given before after told_before told_after outcome. IsOutcomeOf model opened put task given before after told_before told_after outcome)
@@ -188,7 +156,7 @@ abbrev pub PutsOnlyAsked : {T : Type 0} → List Text → (T → List Put) → T
 PutsOnlyAsked words puts old new = ¬ AskTables words → ¬ AskLive words → puts new ≡ puts old
 
 -- What the exit status of a run says.
-pub record Says {D W : Type 0} (model : Ghosts D) (opened : List ℕ → Access → D → Type 0) (put : List Put → Type 0)
+pub record Says {D W : Type 0} (model : Ghosts D) (opened : Opening D) (put : List Put → Type 0)
     (words : List Text) (given : Known) (contents : W → Known) (old new : W) (code : ℕ) : Type 0 where
   -- there are three of them
   pub status : code ≤ 2

@@ -1,7 +1,8 @@
 -- Which script a service runs, which words ask for one, which for tables, and which tasks may run.
-use Rattle.std.specs.Prelude.{◌<◌, ℕ, List, Option, Some, All, IfSome}
+use Rattle.std.specs.Prelude.{◌<◌, ℕ, List, Some, All, IfSome}
 use Rattle.clap.specs.Walk.{Text}
 use Rattle.requests.specs.Tickets.{sessions}
+use Rattle.command_output.specs.Printing.{Known}
 use Rattle.command_output.specs.declared.fault.Fault.{Fault}
 use Rattle.command_output.specs.declared.fault.Fault.TheVariants as told
 use Rattle.written_values.specs.Scripts.{IsWritten, MayStand}
@@ -12,11 +13,11 @@ use Rattle.command_line.specs.declared.task.Task.{Task}
 use Rattle.command_line.specs.declared.task.Task.TheVariants.{Edit, Resume, Serve, Tables}
 
 -- the lines of what a reader gives, where that is known: each may stand in a script for so many editors
-abbrev pub IsScriptOf : Option (List ℕ) → ℕ → List ScriptLine → Type 0
+abbrev pub IsScriptOf : Known → ℕ → List ScriptLine → Type 0
 IsScriptOf given editors lines = IfSome given (λ text. IsWritten text lines) × All (MayStand editors) lines
 
 -- what a reader gives, where that is known, is no script for so many editors
-abbrev pub IsNoScript : Option (List ℕ) → ℕ → Type 0
+abbrev pub IsNoScript : Known → ℕ → Type 0
 IsNoScript given editors = IfSome given (λ text. (lines : List ScriptLine) → All (MayStand editors) lines → IsWritten text lines → ⊥)
 
 -- the faults of a script that can't be read
@@ -26,7 +27,7 @@ IsReadFault told.Output = Unit {0}
 IsReadFault fault = ⊥
 
 -- and of what is no script
-abbrev pub IsScriptFault : Option (List ℕ) → ℕ → Fault → Type 0
+abbrev pub IsScriptFault : Known → ℕ → Fault → Type 0
 IsScriptFault given editors told.Script = IsNoScript given editors
 IsScriptFault given editors fault = IsReadFault fault
 

@@ -3,10 +3,11 @@ ghost use Rattle.std.specs.Prelude.{◌≡◌, ◌<◌, IfErr, OnOk};
 ghost use Rattle.std.specs.String.{string_bytes};
 ghost use Rattle.requests.specs.Tickets.{sessions};
 ghost use Rattle.command_output.specs.Lines.{line, migrated_text, ticket_text};
+ghost use Rattle.command_output.specs.Printing.{PrintsText};
 ghost use Rattle.device_commands.specs.Openings.{IsOpenFault};
 ghost use Rattle.commands.specs.Endings.{IsEditEnd, IsFormatEnd, IsReadingEnd};
 ghost use Rattle.commands.specs.Printed.{PrintsFormatted, PrintsListing, PrintsTicket, PrintsVerdict, ended_by, verdict_text};
-ghost use Rattle.commands.specs.Runs.{ChangesWholly, EndsAfter, EndsMoveOn, EndsOn, PrintsText};
+ghost use Rattle.commands.specs.Runs.{ChangesWholly, EndsAfter, EndsMoveOn, EndsOn};
 
 use command_output::{
     AcceptedLine, Ended, Fault, Formatted, MigratedLine, RefusedLine, TicketLine, print_line,

@@ -8,9 +8,10 @@ ghost use Rattle.commands.specs.Devices.{IsFileOf};
 ghost use Rattle.commands.specs.Endings.{IsEditEnd, IsFormatEnd, IsReadingEnd, words_fault};
 ghost use Rattle.commands.specs.Outcomes.{AnyPut};
 ghost use Rattle.commands.specs.Printed.{PrintsFormatted, PrintsListing, PrintsTicket, PrintsVerdict};
-ghost use Rattle.commands.specs.Runs.{EndsAt, EndsMoveAt, EndsTask, PutBy, PutsOnlyAsked, RunsService, RunsTask, RunsWords, Says, UnlessOutput};
+ghost use Rattle.commands.specs.Runs.{EndsAt, EndsMoveAt, EndsTask, PutsOnlyAsked, RunsService, RunsTask, RunsWords, Says, UnlessOutput};
 ghost use Rattle.commands.specs.ServedScripts.{AskService, IsLiveService, IsOfTables, IsService, MayRun};
 ghost use Rattle.service_threads.specs.Config.{IsServiceConfig};
+ghost use Rattle.table_files.specs.Files.{PutBy};
 
 use crate::devices::{Access, Devices, FileDevices};
 use crate::on_device::{edit_on, format_on, migrate_on, resume_on, show_on};
@@ -35,7 +36,8 @@ use written_values::LandmarkWords;
 
 /// Does what the words ask for on files, and answers the exit status: 0 done, 1 refused, 2 not understood.
 ///
-/// What is asked for is printed on `out`, and a fault is told on `err`. The words are judged before any file is opened. `serve` alone reads `script`, and reads it to its end.
+/// What is asked for is printed on `out`, and a fault is told on `err`. The words are judged before any file is opened. `serve` alone
+/// reads `script`, and reads it to its end.
 pub fn run_words<'a, R, S, O, E>(
     rt: &'a R,
     words: &[&str],

@@ -3,10 +3,11 @@ ghost use Rattle.std.specs.Prelude.{◌≡◌, length, IfOk, IfErr, IsErrOf, OnO
 ghost use Rattle.checkpoint.specs.StoreWords.{state_of};
 ghost use Rattle.written_values.specs.Words.{AreWords, IsWithin};
 ghost use Rattle.command_output.specs.Lines.{line};
+ghost use Rattle.command_output.specs.Printing.{PrintsText};
 ghost use Rattle.commands.specs.Endings.{IsCheckDeviceFault, IsCheckEnd, IsRouteDeviceFault, IsRouteEnd, IsRouteFault, IsQueryFault, IsWordsFault};
 ghost use Rattle.commands.specs.Printed.{PrintsCheck, PrintsRoutes};
 ghost use Rattle.commands.specs.Queries.{AnswersIn, AnswersOf, AreRoutesIn, IsCheckIn, IsOfState, LacksNode, LacksNodeOf};
-ghost use Rattle.commands.specs.Runs.{EndsAfter, EndsAt, EndsOn, PrintsText};
+ghost use Rattle.commands.specs.Runs.{EndsAfter, EndsAt, EndsOn};
 ghost use Rattle.commands.specs.SchemeAnswers.{AreRoutesOf, IsCheckOf, answered_text, checks_text, ended_after, ended_at, is_along, routes_text};
 
 use crate::checking::check_in_thread;

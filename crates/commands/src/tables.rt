@@ -1,8 +1,9 @@
 //! The command `tables`.
 ghost use Rattle.checkpoint.specs.StoreWords.{state_of};
+ghost use Rattle.table_files.specs.Files.{PutBy};
 ghost use Rattle.commands.specs.Endings.{IsCheckDeviceFault, IsQueryFault};
 ghost use Rattle.commands.specs.Queries.{AnswersIn, AnswersOf, IsOfState, IsSchemeIn};
-ghost use Rattle.commands.specs.Runs.{EndsPutFound, EndsTablesAt, EndsTablesOn, PutBy};
+ghost use Rattle.commands.specs.Runs.{EndsPutFound, EndsTablesAt, EndsTablesOn};
 ghost use Rattle.commands.specs.SchemeAnswers.{IsSchemeBy};
 
 use crate::building::scheme_in_thread;
@@ -67,7 +68,7 @@ fn scheme_of_device<R: Threads + Wait + Sync + AllocGlobal, D: Disk>(
 }
 
 // Puts the tables of a scheme that was found.
-#[tactic(auto, using(crate::proofs::Tabling::none_put))]
+#[tactic(auto, using(table_files::proofs::PutFiles::none_put))]
 fn put_found<T: TableFiles, O: Write>(
     alloc: Global,
     tables: &mut T,
@@ -104,7 +105,7 @@ fn tables_on<R: Threads + Wait + Sync + AllocGlobal, D: Disk, T: TableFiles, O: 
 }
 
 /// The same of the device by a path.
-#[tactic(auto, using(crate::proofs::Tabling::none_put))]
+#[tactic(auto, using(table_files::proofs::PutFiles::none_put))]
 pub(crate) fn run_tables<R, F, T, O>(
     rt: &R,
     devices: &F,

@@ -3,6 +3,7 @@
 use crate::helpers::{SECOND_SLOT, fails, last_tickets, left, opened, same};
 use crate::rolls::{LACKS, full, full_but, give_sized};
 use disk_trait::{CrashDisk, Plan};
+use stand_ins::CRASH_WORDS;
 use std::alloc::Global;
 use std::process::Abort;
 
@@ -12,8 +13,6 @@ type Found = (u64, [u64; 3], Option<u32>);
 const BEFORE: Found = (6784, [6783, 1, 0], Some(1));
 
 const BEHIND: Found = (6806, [6805, 1, 0], Some(1));
-
-const WORDS: [u64; 5] = [0, 1, 7, 256, 257];
 
 // The gate of the other slot before, what meets the commit, and whether the group is there after a crash by each of the words. Until its
 // record's gate is on its way it can't be; from then on the gate's byte decides, which is 1 where the crash leaves what was written or
@@ -69,7 +68,7 @@ fn found(rt: &impl Abort, alloc: Global, full: &[u8], gate: u8, plan: Plan, word
 fn each_call_of_a_rolling_commit_fails_and_stops(rt: HostRuntime) {
     let before = full(&rt, rt.alloc());
     for (gate, plan, there) in &CALLS {
-        for (word, there) in WORDS.iter().zip(there.iter()) {
+        for (word, there) in CRASH_WORDS.iter().zip(there.iter()) {
             let state = if *there { BEHIND } else { BEFORE };
             let after = found(&rt, rt.alloc(), &before, *gate, *plan, *word);
             same(

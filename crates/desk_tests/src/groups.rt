@@ -1,13 +1,14 @@
 // Groups of requests: their marks, their bytes, their tickets, and a want of memory.
 use crate::helpers::{
-    Ask, JOURNAL, accepted, bytes_are, commit, commit_at_last, formatted, fresh, give,
-    last_tickets, left, marks_are, opened, refused, request, same, settle, whole,
+    Ask, JOURNAL, accepted, commit, commit_at_last, formatted, fresh, give, got, last_tickets,
+    left, marks_are, opened, refused, request, same, settle, whole,
 };
 use checkpoint::WORN_LIMIT;
 use disk_trait::{CrashDisk, Plan};
 use generations::Mark;
 use graph_edits::{Code, Op};
 use group_commit::{DeskRefused, MOST_HELD};
+use stand_ins::has_spelled;
 
 #[test]
 fn refusals_have_their_numbers(rt: HostRuntime) {
@@ -46,7 +47,9 @@ fn commits_a_group_as_one_record(rt: HostRuntime) {
         let mut desk = fresh(&rt, rt.alloc());
         settle(&rt, rt.alloc(), &mut desk, asked, *number, marks);
         same(&rt, left(&desk), (*number as u64, *weight), "the store");
-        bytes_are(&rt, &mut desk.into_store().into_disk(), JOURNAL, bytes);
+        let mut disk = desk.into_store().into_disk();
+        let found = got(&rt, has_spelled(&mut disk, JOURNAL, bytes));
+        same(&rt, found, true, bytes);
     }
 }
 

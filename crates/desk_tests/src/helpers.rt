@@ -1,5 +1,5 @@
 // What the tests share: disks, desks, requests, marks and bytes.
-use checkpoint::{DEVICE_LEN, Store, format};
+use checkpoint::DEVICE_LEN;
 use disk_trait::{Disk, MemDisk};
 use generations::{Mark, Posting, Verdict};
 use graph_edits::{Change, Code, Op};
@@ -36,31 +36,14 @@ pub(crate) fn got<T, E: Drop>(rt: &impl Abort, answer: Result<T, E>) -> T {
     }
 }
 
-// A disk; made once more where memory was refused.
-pub(crate) fn blank(rt: &impl Abort, alloc: Global) -> MemDisk {
-    match MemDisk::new(alloc, DEVICE_LEN) {
-        Ok(disk) => disk,
-        Err(_) => got(rt, MemDisk::new(alloc, DEVICE_LEN)),
-    }
-}
-
 // A disk formatted for five nodes.
 pub(crate) fn formatted(rt: &impl Abort, alloc: Global) -> MemDisk {
-    let mut disk = blank(rt, alloc);
-    got(rt, format(&mut disk, 5));
-    disk
+    got(rt, stand_ins::formatted(alloc, 5))
 }
 
-// A desk over a disk; opened once more where memory was refused.
+// A desk over a disk.
 pub(crate) fn opened(rt: &impl Abort, alloc: Global, disk: MemDisk) -> Desk<MemDisk> {
-    let store = match Store::open(alloc, disk) {
-        Ok(store) => store,
-        Err((_, disk)) => match Store::open(alloc, disk) {
-            Ok(store) => store,
-            Err(_) => panic!(rt; "not opened"),
-        },
-    };
-    Desk::new(store)
+    Desk::new(stand_ins::opened(alloc, disk).ok().expect(rt, "a store"))
 }
 
 // A desk over a fresh device for five nodes.
@@ -149,30 +132,8 @@ pub(crate) fn settle(
 // The byte at a place.
 pub(crate) fn byte_at(rt: &impl Abort, disk: &mut MemDisk, at: usize) -> u8 {
     let mut byte = [0];
-    assert!(rt; at < disk.len());
-    got(rt, disk.read(at, &mut byte));
+    got(rt, stand_ins::read_at(disk, at, &mut byte));
     byte[0]
-}
-
-// The bytes from `at` on are these, two hexadecimal digits each.
-pub(crate) fn bytes_are(rt: &impl Abort, disk: &mut MemDisk, at: usize, text: &str) {
-    let mut at = at;
-    let mut high = None;
-    for digit in text.as_bytes() {
-        let low = match *digit {
-            b' ' => continue,
-            b'0'..=b'9' => *digit - b'0',
-            letter => letter.wrapping_sub(b'a').wrapping_add(10),
-        };
-        let Some(first) = high else {
-            high = Some(low);
-            continue;
-        };
-        let want = u8::wrapping_mul(first, 16).wrapping_add(low);
-        same(rt, (at, byte_at(rt, disk, at)), (at, want), "a byte");
-        at = at.wrapping_add(1);
-        high = None;
-    }
 }
 
 // The bytes of a disk from one place up to another; read once more where memory was refused.
@@ -202,9 +163,8 @@ pub(crate) fn whole(rt: &impl Abort, alloc: Global, disk: &mut MemDisk) -> Vec<u
 
 // A disk of these bytes, all settled.
 pub(crate) fn copied(rt: &impl Abort, alloc: Global, bytes: &[u8]) -> MemDisk {
-    let mut disk = blank(rt, alloc);
-    assert!(rt; bytes.len() <= disk.len());
-    got(rt, disk.write_at(0, bytes));
+    let mut disk = got(rt, stand_ins::blank(alloc, DEVICE_LEN));
+    got(rt, stand_ins::put(&mut disk, 0, bytes));
     got(rt, disk.sync());
     disk
 }

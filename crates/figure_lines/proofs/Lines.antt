@@ -44,3 +44,7 @@ pub array_sent : {A : Type 0} (f : A → Data) (xs : List A) (n : ℕ) (a b c d 
 array_sent {A = A} f xs n a b c d all begins taken ends =
     let each = subst (λ (ys : List A). WritesEach (λ x. SendsValue (f x)) ys b c) (take_all n xs all) taken in
     (b, subst (λ n. Logs a b (seq_begins (Some n))) (sym (as_many f xs)) begins, each_item f xs b c d each ends)
+
+-- a key and its value were sent, and what stands behind them
+pub member_sent : {Key Rest : Log → Type 0} {Value : Log → Log → Type 0} (b : Log) → (named : Log) × Key named × Value named b → Rest b → (named mid : Log) × Key named × Value named mid × Rest mid
+member_sent b one rest = (one.0, b, one.1, one.2, rest)

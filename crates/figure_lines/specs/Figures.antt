@@ -1,5 +1,6 @@
 -- Figures, and how a list of them is printed.
-use Rattle.std.specs.Prelude.{ℕ, Option, Some, None, List, [], ◌∷◌, ◌++◌, codes, decimal}
+use Rattle.std.specs.Prelude.{◌≡◌, ℕ, Option, Some, None, List, [], ◌∷◌, ◌++◌, codes, decimal, map}
+use Rattle.std.specs.Global.{Vec}
 use Rattle.std.specs.List.{flat_map}
 use Rattle.std.specs.String.{string_bytes}
 use Rattle.csv.specs.Writing.{default_writer, row_text}
@@ -21,6 +22,10 @@ said_as name value unit = record { name = name; value = value; unit = unit }
 -- what a figure says
 abbrev pub said : Figure → Said
 said figure = said_as (string_bytes figure.name) (string_bytes figure.value) figure.unit.now
+
+-- figures that say this were put behind the old ones
+abbrev pub ArePut : Vec Figure → Vec Figure → List Said → Type 0
+ArePut old new more = map said new.items ≡ map said old.items ++ more
 
 -- a whole number of a unit
 abbrev pub whole : List ℕ → ℕ → List ℕ → Said

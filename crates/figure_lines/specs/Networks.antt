@@ -1,5 +1,6 @@
 -- A network, in the forms in which it is exported.
 use Rattle.std.specs.Prelude.{◌≡◌, ℕ, suc, ◌+◌, ◌%◌, ◌==◌, ◌||◌, cond, Bool, Option, Some, None, List, [], ◌∷◌, ◌++◌, codes, count_by, decimal, length, map, nat_lt, slice_get, slice_index, take, unwrap_or}
+use Rattle.std.specs.Borrow.{Bor}
 use Rattle.std.specs.List.{flat_map}
 use Rattle.std.specs.Option.{option_map}
 use Rattle.distances.specs.Nearest.{IsNearestOf, near_at}
@@ -18,6 +19,10 @@ edge_at edge = ((edge.a, edge.b), edge.weight)
 -- the edge to a neighbour, where that is the greater node
 abbrev pub edge_up : ℕ → ℕ × ℕ → List ((ℕ × ℕ) × ℕ)
 edge_up node neighbour = cond (nat_lt node neighbour.0) (((node, neighbour.0), neighbour.1) ∷ []) []
+
+-- the names behind references
+abbrev pub names_of : List (Bor (List ℕ)) → List (List ℕ)
+names_of names = map (λ x. x.now) names
 
 -- what a node is called: its name, or its number where it has none
 abbrev pub label_of : List (List ℕ) → ℕ → List ℕ

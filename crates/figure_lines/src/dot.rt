@@ -1,7 +1,7 @@
 //! A network in the language of graphviz.
-ghost use Rattle.std.specs.Prelude.{◌≡◌, ◌++◌, IfOk, OnOk, decimal, map};
+ghost use Rattle.std.specs.Prelude.{◌≡◌, ◌++◌, IfOk, OnOk, decimal};
 ghost use Rattle.std.specs.List.{flat_map};
-ghost use Rattle.figure_lines.specs.Networks.{colour_text, dot_text, edge_line, escaped_byte, label_of, mark_text, node_line, node_lines, quoted, shape_of};
+ghost use Rattle.figure_lines.specs.Networks.{colour_text, dot_text, edge_line, escaped_byte, label_of, mark_text, names_of, node_line, node_lines, quoted, shape_of};
 
 use crate::marks::Mark;
 use crate::networks::label;
@@ -16,7 +16,7 @@ pub fn network_dot(
     names: &[&str],
     marks: &[Option<Mark>],
 ) -> Result<Vec<u8>, AllocError>
-    ensures { IfOk result (λ text. text.items ≡ dot_text (map (λ x. x.now) names.now) marks.now edges.now) }
+    ensures { IfOk result (λ text. text.items ≡ dot_text (names_of names.now) marks.now edges.now) }
 {
     let mut text = Vec::new(alloc);
     push(&mut text, "graph network {\n")?;
@@ -38,7 +38,7 @@ fn push_nodes(
     names: &[&str],
     marks: &[Option<Mark>],
 ) -> Result<(), AllocError>
-    ensures { OnOk result (text.new.items ≡ text.old.items ++ node_lines (map (λ x. x.now) names.now) 0 marks.now) }
+    ensures { OnOk result (text.new.items ≡ text.old.items ++ node_lines (names_of names.now) 0 marks.now) }
 {
     for node in 0..marks.len() {
         push_node(alloc, text, names, node, marks[node])?;
@@ -53,7 +53,7 @@ fn push_node(
     node: usize,
     mark: Option<Mark>,
 ) -> Result<(), AllocError>
-    ensures { OnOk result (text.new.items ≡ text.old.items ++ node_line (map (λ x. x.now) names.now) node mark) }
+    ensures { OnOk result (text.new.items ≡ text.old.items ++ node_line (names_of names.now) node mark) }
 {
     push(text, "    ")?;
     push_label(alloc, text, names, node)?;
@@ -69,7 +69,7 @@ fn push_mark(
     node: usize,
     mark: Option<Mark>,
 ) -> Result<(), AllocError>
-    ensures { OnOk result (text.new.items ≡ text.old.items ++ mark_text (map (λ x. x.now) names.now) node mark) }
+    ensures { OnOk result (text.new.items ≡ text.old.items ++ mark_text (names_of names.now) node mark) }
 {
     let Some(mark) = mark else {
         return Ok(());
@@ -107,8 +107,7 @@ fn push_edges(
     names: &[&str],
     edges: &[Edge],
 ) -> Result<(), AllocError>
-    ensures { OnOk result (text.new.items
-        ≡ text.old.items ++ flat_map (edge_line (map (λ x. x.now) names.now)) edges.now) }
+    ensures { OnOk result (text.new.items ≡ text.old.items ++ flat_map (edge_line (names_of names.now)) edges.now) }
 {
     for edge in edges {
         push_edge(alloc, text, names, *edge)?;
@@ -122,7 +121,7 @@ fn push_edge(
     names: &[&str],
     edge: Edge,
 ) -> Result<(), AllocError>
-    ensures { OnOk result (text.new.items ≡ text.old.items ++ edge_line (map (λ x. x.now) names.now) edge) }
+    ensures { OnOk result (text.new.items ≡ text.old.items ++ edge_line (names_of names.now) edge) }
 {
     push(text, "    ")?;
     push_label(alloc, text, names, edge.a as usize)?;
@@ -147,7 +146,7 @@ fn push_label(
     names: &[&str],
     node: usize,
 ) -> Result<(), AllocError>
-    ensures { OnOk result (text.new.items ≡ text.old.items ++ quoted (label_of (map (λ x. x.now) names.now) node)) }
+    ensures { OnOk result (text.new.items ≡ text.old.items ++ quoted (label_of (names_of names.now) node)) }
 {
     let name = label(alloc, names, node)?;
     push(text, "\"")?;

@@ -1,6 +1,6 @@
 //! A figure.
-ghost use Rattle.std.specs.Prelude.{◌≡◌, ◌++◌, ◌∷◌, [], IfOk, OnOk, map};
-ghost use Rattle.figure_lines.specs.Figures.{said, thousandths as said_thousandths, whole as said_whole};
+ghost use Rattle.std.specs.Prelude.{◌≡◌, ◌∷◌, [], IfOk, OnOk};
+ghost use Rattle.figure_lines.specs.Figures.{ArePut, said, thousandths as said_thousandths, whole as said_whole};
 
 use serde::{Described, Serialize, Serializer};
 use spreads::Thousandths;
@@ -73,8 +73,7 @@ pub(crate) fn push_whole(
     value: u64,
     unit: &'static str,
 ) -> Result<(), AllocError>
-    ensures { OnOk result (map said figures.new.items
-        ≡ map said figures.old.items ++ said_whole name.now value unit.entry.now ∷ []) }
+    ensures { OnOk result (ArePut figures.old figures.new (said_whole name.now value unit.entry.now ∷ [])) }
 {
     figures.push(whole(alloc, name, value, unit)?)?;
     Ok(())
@@ -88,8 +87,7 @@ pub(crate) fn push_thousandths(
     value: Option<u64>,
     unit: &'static str,
 ) -> Result<(), AllocError>
-    ensures { OnOk result (map said figures.new.items
-        ≡ map said figures.old.items ++ said_thousandths name.now value unit.entry.now ∷ []) }
+    ensures { OnOk result (ArePut figures.old figures.new (said_thousandths name.now value unit.entry.now ∷ [])) }
 {
     figures.push(thousandths(alloc, name, value, unit)?)?;
     Ok(())

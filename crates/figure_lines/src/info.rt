@@ -3,7 +3,7 @@ ghost use Rattle.std.specs.Prelude.{◌≡◌, IfOk, OnOk, codes};
 ghost use Rattle.std.specs.String.{string_bytes};
 ghost use Rattle.serde_json.specs.Events.{SendsValue};
 ghost use Rattle.figure_lines.specs.Info.{info_data, tickets_data, ticket_data};
-ghost use Rattle.figure_lines.specs.Json.{SendsMember, json_line, whole_number};
+ghost use Rattle.figure_lines.specs.Json.{SendsMember, json_line};
 
 use crate::json::{json_text, send_number};
 use device_info::{DeviceInfo, Held};

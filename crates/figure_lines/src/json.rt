@@ -1,5 +1,5 @@
 //! Lines of JSON, and what is sent for them.
-ghost use Rattle.std.specs.Prelude.{◌≡◌, IfOk, OnOk};
+ghost use Rattle.std.specs.Prelude.{IfOk, OnOk};
 ghost use Rattle.std.specs.String.{string_bytes};
 ghost use Rattle.figure_lines.specs.Json.{IsLineOf, SendsMember, whole_number};
 

@@ -7,7 +7,7 @@ ghost use Rattle.serde_json.specs.Data.{array, string};
 ghost use Rattle.serde_json.specs.Events.{SendsValue};
 ghost use Rattle.figure_lines.specs.Csv.{HasRows};
 ghost use Rattle.figure_lines.specs.Json.{items_by, json_line};
-ghost use Rattle.figure_lines.specs.Networks.{edge_at, edge_data, edge_row, edge_rows, edge_up, label_of, network_data};
+ghost use Rattle.figure_lines.specs.Networks.{edge_at, edge_data, edge_row, edge_rows, edge_up, label_of, names_of, network_data};
 
 use crate::json::{json_text, send_number};
 use crate::printed::{new_writer, write_row, written};
@@ -61,7 +61,7 @@ fn push_edge(
 
 /// What a node is called: its name, or its number where it has none.
 pub(crate) fn label(alloc: Global, names: &[&str], node: usize) -> Result<String, AllocError>
-    ensures { IfOk result (λ text. string_bytes text ≡ label_of (map (λ x. x.now) names.now) node) }
+    ensures { IfOk result (λ text. string_bytes text ≡ label_of (names_of names.now) node) }
 {
     match names.get(node) {
         Some(name) => String::from_str(alloc, *name),
@@ -71,7 +71,7 @@ pub(crate) fn label(alloc: Global, names: &[&str], node: usize) -> Result<String
 
 /// The edges as CSV, under a row of names.
 pub fn network_csv(alloc: Global, edges: &[Edge], names: &[&str]) -> Result<Vec<u8>, AllocError>
-    ensures { IfOk result (λ text. text.items ≡ edge_rows (map (λ x. x.now) names.now) edges.now) }
+    ensures { IfOk result (λ text. text.items ≡ edge_rows (names_of names.now) edges.now) }
 {
     let mut writer = new_writer(alloc);
     write_row(&mut writer, "a", "b", "weight")?;
@@ -88,7 +88,7 @@ fn write_edge(
     edge: Edge,
 ) -> Result<(), AllocError>
     ensures { (text : List ℕ) → HasRows writer.old text
-        → OnOk result (HasRows writer.new (text ++ edge_row (map (λ x. x.now) names.now) edge)) }
+        → OnOk result (HasRows writer.new (text ++ edge_row (names_of names.now) edge)) }
 {
     let a = label(alloc, names, edge.a as usize)?;
     let b = label(alloc, names, edge.b as usize)?;
@@ -105,11 +105,10 @@ struct NetworkObject<'a, 'b> {
 }
 
 impl<'a, 'b> Described for NetworkObject<'a, 'b> {
-    ghost use Rattle.std.specs.Prelude.{map};
     ghost use Rattle.serde_json.specs.Events.{SendsValue};
-    ghost use Rattle.figure_lines.specs.Networks.{network_data};
+    ghost use Rattle.figure_lines.specs.Networks.{names_of, network_data};
 
-    ghost writes = { λ network. SendsValue (network_data network.nodes network.edges.now (map (λ x. x.now) network.names.now)) };
+    ghost writes = { λ network. SendsValue (network_data network.nodes network.edges.now (names_of network.names.now)) };
 }
 
 impl<'a, 'b> Serialize for NetworkObject<'a, 'b> {
@@ -146,7 +145,7 @@ fn send_edge<S: Serializer>(out: &mut S, edge: Edge) -> Result<(), S::Error>
 
 fn send_names<S: Serializer>(out: &mut S, names: &[&str]) -> Result<(), S::Error>
     ensures { OnOk result
-        (SendsValue (array (items_by string (map (λ x. x.now) names.now))) (S.written out.old) (S.written out.new)) }
+        (SendsValue (array (items_by string (names_of names.now))) (S.written out.old) (S.written out.new)) }
 {
     out.begin_seq(Some(names.len()))?;
     for name in names {
@@ -162,8 +161,7 @@ pub fn network_json(
     edges: &[Edge],
     names: &[&str],
 ) -> Result<String, AllocError>
-    ensures { IfOk result (λ text. string_bytes text
-        ≡ json_line (network_data nodes edges.now (map (λ x. x.now) names.now))) }
+    ensures { IfOk result (λ text. string_bytes text ≡ json_line (network_data nodes edges.now (names_of names.now))) }
 {
     let network = NetworkObject {
         edges,

@@ -1,6 +1,6 @@
 //! The figures of a scheme's tables.
-ghost use Rattle.std.specs.Prelude.{◌≡◌, ◌++◌, ◌∷◌, [], IfOk, OnOk, fold, map, max};
-ghost use Rattle.figure_lines.specs.Figures.{said};
+ghost use Rattle.std.specs.Prelude.{◌≡◌, ◌∷◌, [], IfOk, OnOk, fold, map, max};
+ghost use Rattle.figure_lines.specs.Figures.{ArePut, said};
 ghost use Rattle.figure_lines.specs.Schemes.{AreSchemeFigures, cell_figure, cell_name, full_figures, length_figures, node_figures, share, spread_figures};
 ghost use Rattle.std.specs.String.{string_bytes};
 
@@ -28,7 +28,7 @@ pub fn scheme_figures_of(alloc: Global, scheme: &Scheme) -> Result<Vec<Figure>, 
 
 // How many nodes and landmarks there are.
 fn push_nodes(alloc: Global, figures: &mut Vec<Figure>, scheme: &Scheme) -> Result<(), AllocError>
-    ensures { OnOk result (map said figures.new.items ≡ map said figures.old.items ++ node_figures scheme.now) }
+    ensures { OnOk result (ArePut figures.old figures.new (node_figures scheme.now)) }
 {
     push_whole(
         alloc,
@@ -64,8 +64,7 @@ fn push_spread(
     spread: &Spread,
     unit: &'static str,
 ) -> Result<(), AllocError>
-    ensures { OnOk result (map said figures.new.items
-        ≡ map said figures.old.items ++ spread_figures name.now spread.now unit.entry.now) }
+    ensures { OnOk result (ArePut figures.old figures.new (spread_figures name.now spread.now unit.entry.now)) }
 {
     let mean_name = format!(in alloc; "{name}_mean")?;
     let mean = share_of(spread.sum, spread.count);
@@ -91,7 +90,7 @@ fn push_cell(
     name: &str,
     cell: Cell,
 ) -> Result<(), AllocError>
-    ensures { OnOk result (map said figures.new.items ≡ map said figures.old.items ++ cell_figure name.now cell ∷ []) }
+    ensures { OnOk result (ArePut figures.old figures.new (cell_figure name.now cell ∷ [])) }
 {
     let cell_name = name_of(alloc, name, cell)?;
     push_whole(
@@ -115,7 +114,7 @@ fn name_of(alloc: Global, name: &str, cell: Cell) -> Result<String, AllocError>
 
 // How many bytes the tables take.
 fn push_lengths(alloc: Global, figures: &mut Vec<Figure>, lengths: &[u64]) -> Result<(), AllocError>
-    ensures { OnOk result (map said figures.new.items ≡ map said figures.old.items ++ length_figures lengths.now) }
+    ensures { OnOk result (ArePut figures.old figures.new (length_figures lengths.now)) }
 {
     let sum = sum_of(lengths);
     let mean = share_of(sum, lengths.len());
@@ -143,7 +142,7 @@ fn greatest_of(lengths: &[u64]) -> u64
 
 // Full tables are all as long.
 fn push_full(alloc: Global, figures: &mut Vec<Figure>, nodes: u16) -> Result<(), AllocError>
-    ensures { OnOk result (map said figures.new.items ≡ map said figures.old.items ++ full_figures nodes) }
+    ensures { OnOk result (ArePut figures.old figures.new (full_figures nodes)) }
 {
     let each = full_length(nodes);
     push_whole(alloc, figures, "full_table", each, "bytes")?;

@@ -1,7 +1,7 @@
 //! The figures of what was measured in a scheme.
-ghost use Rattle.std.specs.Prelude.{◌≡◌, ◌++◌, ◌∷◌, [], IfOk, OnOk, length, map};
-ghost use Rattle.figure_lines.specs.Figures.{said};
-ghost use Rattle.figure_lines.specs.Ways.{AreWayFigures, exact_figure, mean_of as mean_in, pair_figures, stretch_figures};
+ghost use Rattle.std.specs.Prelude.{◌≡◌, IfOk, OnOk, map};
+ghost use Rattle.figure_lines.specs.Figures.{ArePut, said};
+ghost use Rattle.figure_lines.specs.Ways.{AreWayFigures, mean_of as mean_in, stretch_figures};
 
 use crate::figure::{Figure, push_thousandths, push_whole};
 use crate::schemes::share_of;
@@ -37,7 +37,7 @@ fn push_stretches(
     figures: &mut Vec<Figure>,
     stretches: &[u64],
 ) -> Result<(), AllocError>
-    ensures { OnOk result (map said figures.new.items ≡ map said figures.old.items ++ stretch_figures stretches.now) }
+    ensures { OnOk result (ArePut figures.old figures.new (stretch_figures stretches.now)) }
 {
     push_thousandths(alloc, figures, "stretch_mean", mean_of(stretches), "times")?;
     push_thousandths(

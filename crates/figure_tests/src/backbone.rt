@@ -2,10 +2,10 @@
 // `draw:7` choose, the figures and the way were found by another program, written from docs/FORMATS.md; all ways are
 // measured beside the slow count.
 use crate::helpers::{
-    Edge as Joined, got, graph_of, measured_at, same, same_number, same_text, scheme_at,
+    Edge as Joined, got, graph_of, measured_at, new_store, same, same_number, same_text, scheme_at,
 };
 use crate::slow::{Distances, distance, distances_of, expect_sizes, expect_ways};
-use checkpoint::{DEVICE_LEN, Store, format};
+use checkpoint::Store;
 use disk_trait::MemDisk;
 use edge_lists::{Edge, Names, edge_list, read_edge_list};
 use figure_lines::{
@@ -180,16 +180,6 @@ fn edges_in<'a>(rt: &impl Abort, alloc: Global, names: &mut Names<'a>, text: &'a
     }
 }
 
-/// A store of a new device for the cities.
-fn new_store(rt: &impl Abort, alloc: Global) -> Store<MemDisk> {
-    let mut disk = got(rt, MemDisk::new(alloc, DEVICE_LEN));
-    got(rt, format(&mut disk, 46));
-    match Store::open(alloc, disk) {
-        Ok(store) => store,
-        Err(_) => panic!(rt; "a store"),
-    }
-}
-
 /// Imports edges into a store.
 fn imported(
     rt: &impl Abort,
@@ -263,7 +253,7 @@ fn backbone_is_imported_once(rt: HostRuntime) {
     let rt = &rt;
     expect_cities(rt, alloc);
     let edges = listed(rt, alloc);
-    let mut store = new_store(rt, alloc);
+    let mut store = new_store(rt, alloc, 46);
     imports(rt, alloc, &mut store, &edges);
     imports_no_more(rt, alloc, &mut store, &edges);
 }

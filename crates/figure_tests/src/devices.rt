@@ -1,6 +1,8 @@
 // What a device holds, and figures as they are printed.
-use crate::helpers::{PATH, SQUARE, got, graph_of, measured_at, same, same_text, scheme_at};
-use checkpoint::{DEVICE_LEN, Store, format};
+use crate::helpers::{
+    PATH, SQUARE, got, graph_of, measured_at, new_store, same, same_text, scheme_at,
+};
+use checkpoint::{DEVICE_LEN, Store};
 use device_info::{DeviceInfo, info_of, info_text};
 use disk_trait::MemDisk;
 use figure_lines::{
@@ -16,9 +18,7 @@ use std::process::Abort;
 
 /// A formatted device of five nodes.
 fn formatted(rt: &impl Abort, alloc: Global) -> MemDisk {
-    let mut disk = got(rt, MemDisk::new(alloc, DEVICE_LEN));
-    got(rt, format(&mut disk, 5));
-    disk
+    got(rt, stand_ins::formatted(alloc, 5))
 }
 
 /// Sees that what a device holds is told so as lines.
@@ -98,17 +98,15 @@ fn after(
     desk.into_store()
 }
 
-/// The store of a new device.
-fn new_store(rt: &impl Abort, alloc: Global) -> Store<MemDisk> {
-    match Store::open(alloc, formatted(rt, alloc)) {
-        Ok(store) => store,
-        Err(_) => panic!(rt; "no store"),
-    }
-}
-
 /// The store of a new device after a change of session 0 and one of session 3.
 fn with_two(rt: &impl Abort, alloc: Global) -> Store<MemDisk> {
-    let store = after(rt, alloc, new_store(rt, alloc), (0, 1), &[Op::Add(0, 1, 1)]);
+    let store = after(
+        rt,
+        alloc,
+        new_store(rt, alloc, 5),
+        (0, 1),
+        &[Op::Add(0, 1, 1)],
+    );
     let ops = [Op::Add(1, 2, 3), Op::Set(0, 1, 2)];
     after(rt, alloc, store, (3, 9), &ops)
 }

@@ -1,12 +1,15 @@
 -- New rows for some nodes, made beside those of a graph before they are put in their place.
-use Rattle.std.specs.Prelude.{Vec, ℕ, ◌<◌, T, List, [], ◌∷◌, map, Option, Some, None, slice_set, refl}
+use Rattle.std.specs.Prelude.{Vec, ℕ, ◌<◌, T, List, [], ◌∷◌, map, Option, Some, None, Result, slice_set, refl}
 use Rattle.std.specs.Ordering.{nat_cmp}
 use Rattle.std.specs.List.{All}
 use Rattle.std.specs.FinMap.{is_sorted}
 use Rattle.std.specs.Coded.{Coded, coded×, code_by}
 use Rattle.std.specs.declared.alloc.Global.{Global}
-use Rattle.graph_edits.specs.Edges.{Network, network_code, below, neighbours_of}
-use Rattle.graph_edits.specs.Rows.{Row, AreRows, put_both, cut_both}
+use Rattle.graph_edits.specs.declared.edits.Op.{Op}
+use Rattle.graph_edits.specs.declared.edits.Code.{Code}
+use Rattle.graph_edits.specs.Changes.{edges_after}
+use Rattle.graph_edits.specs.Edges.{EdgeMap, Network, network_code, below, neighbours_of}
+use Rattle.graph_edits.specs.Rows.{Row, AreRows, edges_from, put_both, cut_both}
 
 -- nodes, each with its new row
 abbrev pub Slots : Type 0
@@ -26,6 +29,10 @@ pub record AreSlots (n : ℕ) (es : Slots) : Type 0 where
 abbrev pub rows_with : List Row → ℕ → ℕ → Option ℕ → List Row
 rows_with rows a b (Some w) = put_both rows a b w
 rows_with rows a b None = cut_both rows a b
+
+-- what ops make of the edges that the rows of so many nodes have
+abbrev pub edited_edges : ℕ → List Row → List Op → Result EdgeMap (ℕ × Code)
+edited_edges nodes rows ops = edges_after nodes (edges_from 0 rows) 0 ops
 
 -- the rows of a network
 abbrev pub rows_of : Network → List Row

@@ -2,9 +2,9 @@
 ghost use Rattle.std.specs.Prelude.{◌≡◌, ◌≢◌, ℕ, ◌+◌, ◌<◌, ◌≤◌, T, None, Ok, IfOk, IsOk, OnOk, length, slice_set};
 ghost use Rattle.std.specs.Ordering.{nat_cmp};
 ghost use Rattle.std.specs.FinMap.{put, is_sorted};
-ghost use Rattle.graph_edits.specs.Changes.{after, edges_after, err_of, first_node, second_node, op_weight, HasEndsIn};
+ghost use Rattle.graph_edits.specs.Changes.{after, err_of, first_node, second_node, op_weight, HasEndsIn};
 ghost use Rattle.graph_edits.specs.Rows.{lists, row_of, edges_from, cut_row, HasAt, AreRows};
-ghost use Rattle.graph_edits.specs.Placed.{placed, rows_with, AreSlots};
+ghost use Rattle.graph_edits.specs.Placed.{placed, rows_with, edited_edges, AreSlots};
 
 use crate::edits::{Change, Op};
 use crate::graph::Graph;
@@ -69,11 +69,11 @@ fn rewrite_all(
 ) -> Result<(), AllocError>
     requires slots { AreSlots (length base.now) rows.old.items }
     requires rows { AreRows (placed (lists base.now) rows.old.items) edges.old }
-    requires accepted { err_of (edges_after (length base.now) (edges_from 0 (placed (lists base.now) rows.old.items)) 0 ops.now)
+    requires accepted { err_of (edited_edges (length base.now) (placed (lists base.now) rows.old.items) ops.now)
         ≡ None }
     ensures slots { OnOk result (AreSlots (length base.now) rows.new.items) }
     ensures rows { OnOk result (AreRows (placed (lists base.now) rows.new.items) edges.new) }
-    ensures edges { OnOk result (edges_after (length base.now) (edges_from 0 (placed (lists base.now) rows.old.items)) 0 ops.now
+    ensures edges { OnOk result (edited_edges (length base.now) (placed (lists base.now) rows.old.items) ops.now
         ≡ Ok (edges_from 0 (placed (lists base.now) rows.new.items))) }
 {
     for op in ops {

@@ -1,5 +1,5 @@
 // Damaged devices, judged by a slow reader.
-use checkpoint::{DEVICE_LEN, OpenRefused, Store, format};
+use checkpoint::{DEVICE_LEN, OpenRefused, Store};
 use disk_trait::{Disk, MemDisk};
 use graph_edits::{Change, Op};
 use group_commit::{Desk, MOST_HELD};

@@ -1,13 +1,14 @@
 // Lives whose answers are written out, calls that go on where others ended, failures of the device in an opening, a commit and a roll, tickets over crashes, drawn lives, and
 // lives of which an allocation is refused.
-use checkpoint::{DEVICE_LEN, OpenRefused, format};
-use disk_trait::{Disk, MemDisk, Plan};
+use checkpoint::{DEVICE_LEN, OpenRefused};
+use disk_trait::{MemDisk, Plan};
 use event_runs::{Event, Reply};
 use forwarders::Refused as RouteRefused;
 use graph_edits::{Change, Code, Op};
 use group_commit::DeskRefused;
 use intake::{Outcome, SubmitRefused};
 use life_chain::{Life, LifeReport, LivesReport, lives, lives_in_memory, lives_on};
+use stand_ins::CRASH_WORDS;
 use std::alloc::{AllocError, Global};
 use std::fmt::Debug;
 use std::process::Abort;

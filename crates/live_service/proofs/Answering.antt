@@ -16,7 +16,7 @@ use Rattle.live_lines.specs.declared.answer.Answer.{Answer}
 use Rattle.live_lines.specs.declared.answer.Answer.TheVariants.{Settled}
 use Rattle.live_lines.specs.Answers.{Fits}
 use Rattle.live_service.specs.Inputs.{Input, Bytes, Script}
-use Rattle.live_service.specs.OneList.{IsSaidAt, IsSaidBy}
+use Rattle.live_service.specs.OneList.{AnswersBy, IsSaidAt, IsSaidBy}
 use Rattle.live_service.specs.Streams.{IsAskedAt, IsAnswerAt}
 
 -- an answer that fits what the line at a place asks for is one to that line
@@ -26,15 +26,14 @@ fit (Bytes (Some xs)) editors place asked answer fits by = record { asked = aske
 fit (Script script) editors place asked answer fits by = record { line = by.line; at = by.at; fits = subst (λ (a : Asked). Fits a answer) by.asks fits }
 
 -- and where each list that goes on from what is known says it, it is one by that
-pub answers : (known : Beginning) (input : Input) (editors place : ℕ) (asked : Asked) (answer : Answer) → ∥ IsAskedAt input editors place asked ∥₁ → Fits asked answer → IsSaidBy known asked answer
-    → ∥ IsSaidAt known input editors place answer ∥₁
-answers known input editors place asked answer by fits said = ∥∥₁_map by (λ asks. record { asked = asked; by = asks; fits = fits; said = said })
+pub answers : (known : Beginning) (input : Input) (editors place : ℕ) (asked : Asked) (answer : Answer) → ∥ IsAskedAt input editors place asked ∥₁ → AnswersBy known asked answer → ∥ IsSaidAt known input editors place answer ∥₁
+answers known input editors place asked answer by is = ∥∥₁_map by (λ asks. record { asked = asked; by = asks; fits = is.fits; said = is.said })
 
 -- .. and what is known was given out
-pub answers_known : (known seen : Beginning) (input : Input) (editors place : ℕ) (asked : Asked) (answer : Answer) → known ≡ seen → ∥ IsAskedAt input editors place asked ∥₁ → Fits asked answer → IsSaidBy seen asked answer
+pub answers_known : (known seen : Beginning) (input : Input) (editors place : ℕ) (asked : Asked) (answer : Answer) → known ≡ seen → ∥ IsAskedAt input editors place asked ∥₁ → AnswersBy seen asked answer
     → ∥ IsSaidAt known input editors place answer ∥₁
-answers_known known seen input editors place asked answer same by fits said =
-    answers known input editors place asked answer by fits (subst (λ (b : Beginning). IsSaidBy b asked answer) (sym same) said)
+answers_known known seen input editors place asked answer same by is =
+    answers known input editors place asked answer by (subst (λ (b : Beginning). AnswersBy b asked answer) (sym same) is)
 
 -- ---- marks
 

@@ -1,5 +1,5 @@
 -- How a live service ends.
-use Rattle.std.proofs.Common.{◌≡◌, ⊎_elim, refl, sym, subst, List, ℕ, Option, Some, None, Result, Ok, Err, IfErr, IfOk, OnOk, IsErrOf, false, arith}
+use Rattle.std.proofs.Common.{◌≡◌, ◌≢◌, ⊎_elim, refl, sym, subst, List, ℕ, Option, Some, None, Result, Ok, Err, IfErr, IfOk, OnOk, IsErrOf, false, arith}
 use Rattle.std.specs.Prelude.{IfSome}
 use Rattle.disk_trait.specs.declared.disk.Disk.{Ghosts}
 use Rattle.disk_trait.specs.Disk.{DiskView, IsSameDevice}
@@ -17,19 +17,37 @@ use Rattle.service_lines.specs.declared.served.Served.{Served}
 use Rattle.service_lines.specs.declared.served.Served.TheVariants as served
 use Rattle.service_workers.specs.declared.stop_cause.StopCause.{StopCause}
 use Rattle.service_workers.specs.declared.stop_cause.StopCause.TheVariants as cause
-use Rattle.generations.specs.Beginnings.{Beginning}
+use Rattle.generations.specs.Beginnings.{Beginning, Opening}
 use Rattle.live_service.specs.Inputs.{Input}
 use Rattle.live_service.specs.Ends.{IsFinish, IsLater, fault_of}
 use Rattle.live_service.specs.Prints.{HasPrinted}
 use Rattle.live_service.specs.Runs.{HasEnded, HasRun, IsFaultOf, IsPrintEnd, IsRun, PrintsSo, PrintsTo}
-use Rattle.live_service.specs.ServedList.{HasPrintedOn, HasServedOn}
+use Rattle.live_service.specs.ServedList.{EndsServed, HasPrintedOn, HasServedOn}
 use Rattle.live_service.specs.declared.printed.Printed.{Printed}
 use Rattle.live_service.proofs.PrintedLines.{none_printed}
 use Rattle.live_service.proofs.SaidLines.{printed_of}
 
--- want of memory isn't a failure of the device
-pub memory_alone : {T : Type 0} → IsErrOf {T = T} (Err cause.Memory) cause.Device → ⊥
-memory_alone is = absurd (cc)
+-- ---- an engine that took nothing
+
+cause_of : {T : Type 0} (a b : StopCause) → IsErrOf {T = T} (Err a) b → a ≡ b
+cause_of a b is = cc
+
+-- it stopped, and not since the device failed
+pub stopped_early : {D : Type 0} {V : _} → (opening : Opening) (store : Store D V) (input : Input) (editors : ℕ) (c : StopCause) (new : DiskView) → c ≢ cause.Device → HasSettledSome (state_of store) (view_of store) new
+    → EndsServed opening store input editors (Err c) new
+stopped_early opening store input editors c new other settled =
+    record { disk = record { settled = settled; device = λ is. absurd (other (cause_of c cause.Device is)) }; named = tt; all = tt }
+
+not_memory : cause.Memory ≢ cause.Device
+not_memory is = cc
+
+-- .. and want of memory is no such failure
+pub memory_early : {D : Type 0} {V : _} → (opening : Opening) (store back : Store D V) (input : Input) (editors : ℕ) → is_down store ≡ false → back ≡ store → EndsServed opening store input editors (Err cause.Memory) (view_of back)
+memory_early opening store back input editors up same =
+    stopped_early opening store input editors cause.Memory (view_of back) not_memory
+    (subst (λ s. HasSettledSome (state_of store) (view_of store) (view_of s)) (sym same) (some_settled store up))
+
+-- ---- faults
 
 -- the fault that is told of threads that stopped
 pub cause_later : (c : StopCause) → IsLater (told_fault (stop_fault c))
@@ -103,7 +121,7 @@ pub prints_to : (input : Input) (editors : ℕ) (old new : Option (List ℕ)) (p
 prints_to input editors old new printed ended so end =
     record {
       answers = λ unfailed.
-          (printed.count, printed_of printed.known input editors old new printed.count (so.answers (λ is. unfailed (end.output is))), end.whole);
+          (printed.count, printed_of printed.known input editors old new printed.count (so (λ is. unfailed (end.output is))), end.whole);
     }
 
 -- .. and by what is known of the list, where no fault ended it
@@ -112,7 +130,7 @@ pub prints_on : {D : Type 0} {V : _} → (store : Store D V) (input : Input) (ed
 prints_on store input editors old new printed ended back so end on is = record {
   known = printed.known;
   count = printed.count;
-  printed = so.answers (λ failed. not_printed ended told.Output (end.output failed) is);
+  printed = so (λ failed. not_printed ended told.Output (end.output failed) is);
   whole = end.whole is;
   on = on is;
 }

@@ -1,6 +1,6 @@
 -- The one list of a service that no fault ended.
 use Rattle.std.proofs.Common.{◌≡◌, Bool, true, inl, inr, ◌<◌, ◌++◌, ◌∷◌, [], ℕ, zero, suc, List, Option, Some, None, Result, Ok, Err, IfOk, OnOk, IsTrue, length, sym, ap, subst, ◌∙◌, arith}
-use Rattle.std.specs.Prelude.{IfSome, IsOk, IsOkAnd, IsSomeAnd, slice_index_or}
+use Rattle.std.specs.Prelude.{IfSome, IsOk, IsOkAnd, IsSome, IsSomeAnd, slice_index_or}
 use Rattle.std.specs.Io.KnownBytes.{Appends}
 use mathlib.Core.Logic.{∥∥₁_map}
 use Rattle.disk_trait.specs.declared.disk.Disk.{Ghosts}
@@ -8,6 +8,7 @@ use Rattle.disk_trait.specs.Disk.{DiskView, IsSameDevice, LeavesOnly, OnlyRead, 
 use Rattle.requests.specs.declared.request.Request.{Request}
 use Rattle.layout_2.specs.State.{State}
 use Rattle.layout_2.specs.Standing.{KeepsThrough, OneState, StandsFor}
+use Rattle.checkpoint.specs.Opening.{IsOpened}
 use Rattle.checkpoint.specs.declared.store.Store.{Store}
 use Rattle.checkpoint.specs.StoreWords.{state_of, view_of}
 use Rattle.node_table.specs.declared.parts.Parts.{Parts}
@@ -20,7 +21,7 @@ use Rattle.forwarders.specs.Arrivals.{IsLawfulList}
 use Rattle.forwarders.proofs.Published.{Among}
 use Rattle.committer.specs.declared.committer.Committer.{Committer}
 use Rattle.committer.specs.CommitterWords.{store_of, got_of, posts_of}
-use Rattle.committer.specs.Listed.{IsListedFrom, StaysListed}
+use Rattle.committer.specs.Listed.{IsListedFrom}
 use Rattle.settled_lists.specs.Posted.{ArePosted}
 use Rattle.intake.specs.Turns.{of}
 use Rattle.service_workers.specs.declared.stop_cause.StopCause.{StopCause}
@@ -32,52 +33,49 @@ use Rattle.live_service.specs.Inputs.{Input}
 use Rattle.live_service.specs.OneList.{AreAnswersIn, AreSaid, IsSaidIn}
 use Rattle.live_service.specs.Prints.{AreAllLines}
 use Rattle.live_service.specs.Submits.{ArePutInOrder}
-use Rattle.live_service.specs.ServedList.{AreOfOneList, HasAnswered, HasAnsweredScript, HasGatheredOn, HasPrintedOn, HasServedAll, HasServedOn}
+use Rattle.live_service.specs.ServedList.{AreOfOneList, EndsServed, HasAnswered, HasAnsweredScript, HasGatheredOn, HasPrintedOn, HasServedAll, HasServedOn}
 
 -- ---- the committer
 
 -- what a committer posted that nothing stopped, and the store that it gives back
 pub served_all : {D R : Type 0} {V : _} → (first now : Committer D R V) (store : Store D V) (input : Input) (editors : ℕ) (own : Result (Unit {0}) StopCause) (result : Result Beginning StopCause) (opening : Opening) (board : Beginning)
-    → IsListedFrom (state_of (store_of first)) first → OnOk own (IsOnCourse first now) → OnOk own ((posts_of now).opening ≡ opening) → board ≡ record { opening = (posts_of now).opening; log = (posts_of now).posted }
+    → IsServedDisk (store_of first) result (view_of store) → IsListedFrom (state_of (store_of first)) first → OnOk own (IsOnCourse first now) → OnOk own ((posts_of now).opening ≡ opening) → board ≡ record { opening = (posts_of now).opening; log = (posts_of now).posted }
     → OnOk result (IsOk own) → IfOk result (λ b. b ≡ board) → OnOk result ((session : ℕ) → ArePutInOrder input editors (of session (got_of now))) → store ≡ store_of now
-    → IfOk result (λ b. (b.opening ≡ opening) × HasServedAll (store_of first) input editors b (view_of store))
-served_all first now store input editors own (Err e) opening board listed on named is ok same put left = tt
-served_all first now store input editors (Err e) (Ok b) opening board listed on named is ok same put left = absurd (cc)
-served_all first now store input editors (Ok u) (Ok b) opening board listed on named is ok same put left =
-    let all = on.listed (state_of (store_of first)) listed in
-    subst (λ (c : Beginning). (c.opening ≡ opening) × HasServedAll (store_of first) input editors c (view_of store)) (sym (same ∙ is))
-    (subst (λ s. ((posts_of now).opening ≡ opening) × HasServedAll (store_of first) input editors (record { opening = (posts_of now).opening; log = (posts_of now).posted }) (view_of s)) (sym left)
-    (named, record { taken = got_of now; begins = all.begins; posted = on_course_posted first now on (state_of (store_of first)) listed; settled = on.settled; stands = on.stands; of_input = put }))
+    → EndsServed opening (store_of first) input editors result (view_of store)
+served_all first now store input editors own (Err e) opening board disk listed on named is ok same put left = record { disk = disk; named = tt; all = tt }
+served_all first now store input editors (Err e) (Ok b) opening board disk listed on named is ok same put left = absurd (cc)
+served_all first now store input editors (Ok u) (Ok b) opening board disk listed on named is ok same put left =
+    let whole = on.listed (state_of (store_of first)) listed in
+    record {
+      disk = disk;
+      named = ap (λ (c : Beginning). c.opening) (same ∙ is) ∙ named;
+      all = subst (λ (c : Beginning). HasServedAll (store_of first) input editors c (view_of store)) (sym (same ∙ is))
+          (subst (λ s. HasServedAll (store_of first) input editors (record { opening = (posts_of now).opening; log = (posts_of now).posted }) (view_of s)) (sym left)
+          (record { taken = got_of now; begins = whole.begins; posted = on_course_posted first now on (state_of (store_of first)) listed; settled = on.settled; stands = on.stands; of_input = put }));
+    }
 
 -- each session's requests were put by lines of the input, where an engine ended so that asks for all of that
 pub put_of_all : (result : Result Beginning StopCause) (all : Bool) (P : Type 0) → OnOk result (all ≡ true) → (all ≡ true → P) → OnOk result P
 put_of_all (Ok b) all P is then = then is
 put_of_all (Err e) all P is then = tt
 
--- it is listed still behind a call that leaves the store
-pub listed_still : {D R : Type 0} {V : _} → (old new : Committer D R V) → store_of new ≡ store_of old → StaysListed old new → IsListedFrom (state_of (store_of old)) old → IsListedFrom (state_of (store_of new)) new
-listed_still old new same stays listed = subst (λ s. IsListedFrom (state_of s) new) (sym same) (stays (state_of (store_of old)) listed)
-
--- the same from an equal store
-pub served_from : {D : Type 0} {V : _} → (store from : Store D V) (input : Input) (editors : ℕ) (new : DiskView) (result : Result Beginning StopCause) (opening : Opening) → from ≡ store
-    → IfOk result (λ b. (b.opening ≡ opening) × HasServedAll from input editors b new) → IfOk result (λ b. (b.opening ≡ opening) × HasServedAll store input editors b new)
-served_from store from input editors new result opening same is = subst (λ s. IfOk result (λ b. (b.opening ≡ opening) × HasServedAll s input editors b new)) same is
-
--- .. and of an equal view
-pub served_view : {D : Type 0} {V : _} → (store : Store D V) (input : Input) (editors : ℕ) (old new : DiskView) (result : Result Beginning StopCause) (opening : Opening) → new ≡ old
-    → IfOk result (λ b. (b.opening ≡ opening) × HasServedAll store input editors b old) → IfOk result (λ b. (b.opening ≡ opening) × HasServedAll store input editors b new)
-served_view store input editors old new result opening same is = subst (λ v. IfOk result (λ b. (b.opening ≡ opening) × HasServedAll store input editors b v)) (sym same) is
-
 -- what is known is of the engine's board
 pub same_board : (engine : Result Beginning StopCause) (known opening : Opening) → known ≡ opening → IfOk engine (λ b. b.opening ≡ opening) → IfOk engine (λ b. known ≡ b.opening)
 same_board (Ok b) known opening same is = same ∙ sym is
 same_board (Err e) known opening same is = tt
 
+-- what an engine left of its disk, where that came back
+pub served_disk : {D : Type 0} {V : _} → (opening : Opening) (store : Store D V) (input : Input) (editors : ℕ) (engine : Result Beginning StopCause) (back : Option D)
+    → IfSome back (λ d. EndsServed opening store input editors engine (V.view d)) → IfSome back (λ d. IsServedDisk store engine (V.view d))
+served_disk opening store input editors engine (Some d) ends = ends.disk
+served_disk opening store input editors engine None ends = tt
+
 -- the board of an engine that nothing stopped has all that was known
-pub served_on : {D : Type 0} {V : _} → (store : Store D V) (input : Input) (editors : ℕ) (engine : Result Beginning StopCause) (known : Beginning) (back : Option D) → IsOkAnd engine (λ board. GoesOn known board)
-    → IfOk engine (λ board. IsSomeAnd back (λ d. HasServedAll store input editors board (V.view d))) → HasServedOn store input editors known back
-served_on store input editors (Ok board) known back on all = record { board = board; on = on; all = all }
-served_on store input editors (Err e) known back on all = absurd on
+pub served_on : {D : Type 0} {V : _} → (opening : Opening) (store : Store D V) (input : Input) (editors : ℕ) (engine : Result Beginning StopCause) (known : Beginning) (back : Option D) → IsOkAnd engine (λ board. GoesOn known board)
+    → IfSome back (λ d. EndsServed opening store input editors engine (V.view d)) → OnOk engine (IsSome back) → HasServedOn store input editors known back
+served_on opening store input editors (Ok board) known (Some d) on ends there = record { board = board; on = on; all = ends.all }
+served_on opening store input editors (Ok board) known None on ends there = absurd (cc)
+served_on opening store input editors (Err e) known back on ends there = absurd on
 
 -- ---- a whole list
 
@@ -128,43 +126,37 @@ opened_leaves state disk opened new taken reads keeps model done =
     joined disk opened new (StandsFor state) (StandsForBeginning state taken) (StandsForBeginning state taken) (reading_leaves disk opened (StandsFor state) reads keeps) (done.any_moment model)
     (λ image here. (0, omega arith, here)) (λ image here. here)
 
--- a device that was opened, and what a service left of it that nothing stopped
-pub record IsOpened {D : Type 0} {V : _} (disk : D) (store : Store D V) : Type 0 where
-  pub held : IsTrue (V.view disk).keeps_model → StandsFor (state_of store) (V.view disk).content
-  pub reads : IsTrue (V.view disk).keeps_model → OnlyRead (V.view disk) (view_of store)
-  pub ran : IsSameDevice (V.view disk) (view_of store)
-
--- what is left of it
-pub opened_left : {D T : Type 0} {V : _} → (disk : D) (store : Store D V) (engine : Result T StopCause) (back : Option D) → OneState → IsOpened disk store → IfSome back (λ d. IsServedDisk store engine (V.view d)) → IsLeftBy V disk back
+-- what is left of a device that was opened
+pub opened_left : {D T : Type 0} {V : _} → (disk : D) (store : Store D V) (engine : Result T StopCause) (back : Option D) → OneState → IsOpened (V.view disk) store → IfSome back (λ d. IsServedDisk store engine (V.view d)) → IsLeftBy V disk back
 opened_left {V = V} disk store engine back one opened left = record {
   ran = served_same disk store engine back opened.ran left;
   any_moment = λ model state stands keeps.
-      served_leaves state disk store engine back (one (state_of store) state (V.view disk).content (opened.held model) stands) (opened.reads model) keeps (subst IsTrue (sym opened.ran.model) model) left;
+      served_leaves state disk store engine back (one (state_of store) state (V.view disk).content (opened.of_model model).stands stands) (opened.of_model model).reads keeps (subst IsTrue (sym opened.ran.model) model) left;
 }
 
 -- .. and of one that was only read
 pub read_left : {D : Type 0} (model : Ghosts D) (disk back : D) → IsSameDevice (model.view disk) (model.view back) → (IsTrue (model.view disk).keeps_model → OnlyRead (model.view disk) (model.view back)) → IsLeftBy model disk (Some back)
 read_left model disk back same reads = record { ran = same; any_moment = λ keeps_model state stands keeps. read_leaves state (model.view disk) (model.view back) (reads keeps_model) keeps }
 
-of_one_list : {D : Type 0} {V : _} → (disk back : D) (store : Store D V) (known board : Beginning) (input : Input) (editors : ℕ) (answers : List Answer) → IsOpened disk store → HasServedAll store input editors board (V.view back)
+of_one_list : {D : Type 0} {V : _} → (disk back : D) (store : Store D V) (known board : Beginning) (input : Input) (editors : ℕ) (answers : List Answer) → IsOpened (V.view disk) store → HasServedAll store input editors board (V.view back)
     → GoesOn known board → AreSaid known input editors answers → AreOfOneList V disk back input editors answers
 of_one_list {V = V} disk back store known board input editors answers opened all on said =
     let still : IsTrue (V.view disk).keeps_model → IsTrue (view_of store).keeps_model = λ model. subst IsTrue (sym opened.ran.model) model in
     record {
       first = state_of store;
-      held = opened.held;
+      held = λ model. (opened.of_model model).stands;
       taken = all.taken;
       board = board;
       begins = all.begins;
       of_input = all.of_input;
       posted = all.posted;
       said = answers_in (state_of store) all.taken known board input editors answers all.begins all.posted on said;
-      any_moment = λ model keeps. opened_leaves (state_of store) (V.view disk) (view_of store) (V.view back) all.taken (opened.reads model) keeps (still model) all.settled;
+      any_moment = λ model keeps. opened_leaves (state_of store) (V.view disk) (view_of store) (V.view back) all.taken (opened.of_model model).reads keeps (still model) all.settled;
       left = λ model. all.stands (subst IsTrue (sym all.settled.same.model) (still model));
     }
 
 -- an input's answers are of one list
-pub answered : {D : Type 0} {V : _} → (disk : D) (store : Store D V) (input : Input) (editors : ℕ) (old new : Option (List ℕ)) (back : Option D) → IsOpened disk store → HasPrintedOn store input editors old new back
+pub answered : {D : Type 0} {V : _} → (disk : D) (store : Store D V) (input : Input) (editors : ℕ) (old new : Option (List ℕ)) (back : Option D) → IsOpened (V.view disk) store → HasPrintedOn store input editors old new back
     → IsSomeAnd back (λ d. HasAnswered V disk d input editors old new)
 answered {V = V} disk store input editors old new back opened has = of back has.on.all
   where
@@ -178,7 +170,7 @@ answered {V = V} disk store input editors old new back opened has = of back has.
     }
 
 -- .. and so are a script's
-pub script_answered : {D : Type 0} {V : _} → (disk : D) (store : Store D V) (input : Input) (editors : ℕ) (old new : Option (List ℕ)) (back : Option D) → IsOpened disk store → HasGatheredOn store input editors old new back
+pub script_answered : {D : Type 0} {V : _} → (disk : D) (store : Store D V) (input : Input) (editors : ℕ) (old new : Option (List ℕ)) (back : Option D) → IsOpened (V.view disk) store → HasGatheredOn store input editors old new back
     → IsSomeAnd back (λ d. HasAnsweredScript V disk d input editors old new)
 script_answered {V = V} disk store input editors old new back opened has = of back has.on.all
   where

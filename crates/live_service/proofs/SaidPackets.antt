@@ -18,13 +18,13 @@ use Rattle.forwarders.specs.Arrivals.{IsPublished}
 use Rattle.forwarders.proofs.Published.{published_there}
 use Rattle.service_workers.specs.declared.forwarding.Carried.{Carried}
 use Rattle.service_workers.specs.declared.forwarding.Carried.TheVariants as carried
-use Rattle.service_workers.specs.declared.forwarding.Trip.{Trip}
-use Rattle.service_workers.specs.Forwarded.{IsCarried}
+use Rattle.service_workers.specs.Forwarded.{HoldsOf, IsCarried}
 use Rattle.service_workers.proofs.PacketsOnWay.{address_is, address_none, no_node_by, ok_by}
 use Rattle.live_lines.specs.declared.asked.Asked.TheVariants as asks
 use Rattle.live_lines.specs.declared.answer.Answer.{Answer}
+use Rattle.live_lines.specs.Answers.{Fits}
 use Rattle.live_lines.specs.declared.answer.Answer.TheVariants.{Along, Unreachable, NoNode, Told, Sent, Moved, NotCarried, Gone}
-use Rattle.live_service.specs.OneList.{IsRefusal, IsSaidBy}
+use Rattle.live_service.specs.OneList.{AnswersBy, GivesIn, IsGone, IsRefusal, IsSaidBy}
 
 -- ---- routes
 
@@ -34,10 +34,10 @@ answer_of (carried.Along generation nodes length) = Along generation nodes lengt
 answer_of (carried.Unreachable generation) = Unreachable generation
 answer_of carried.NoNode = NoNode
 
-pub route_said : (known : Beginning) (trip : Trip) (from to : ℕ) (given : Carried) → trip ≡ record { from = from; to = to } → IsCarried known trip given → IsSaidBy known (asks.Route from to) (answer_of given)
-route_said known trip from to (carried.Along generation nodes length) same is = subst (λ (t : Trip). IsCarried known t (carried.Along generation nodes length)) same is
-route_said known trip from to (carried.Unreachable generation) same is = subst (λ (t : Trip). IsCarried known t (carried.Unreachable generation)) same is
-route_said known trip from to carried.NoNode same is = subst (λ (t : Trip). IsCarried known t carried.NoNode) same is
+pub route_said : (known : Beginning) (from to : ℕ) (given came : Carried) → given ≡ came → IsCarried known (record { from = from; to = to }) given → IsSaidBy known (asks.Route from to) (answer_of came)
+route_said known from to given (carried.Along generation nodes length) same is = subst (λ (c : Carried). IsCarried known (record { from = from; to = to }) c) same is
+route_said known from to given (carried.Unreachable generation) same is = subst (λ (c : Carried). IsCarried known (record { from = from; to = to }) c) same is
+route_said known from to given carried.NoNode same is = subst (λ (c : Carried). IsCarried known (record { from = from; to = to }) c) same is
 
 -- ---- refusals
 
@@ -93,60 +93,57 @@ no_address_said known generation node is all lawful are_named on =
     let found = no_node_by (λ t. address_given t node) (scheme_of generation (board_after known).shelf) (sym is) in
     (generation, found.0, published_there all known generation found.0 on found.1, λ inside. address_none (tables found.0) node found.2 inside)
 
+-- ---- what a board's scheme gives, each list gives that goes on from there
+
+gives_said : {A : Type 0} (known : Beginning) (generation : ℕ) (ask : Tables → Result A scheme.Refused) (a : A) → Ok a ≡ by ask (scheme_of generation (board_after known).shelf)
+    → HoldsOf known (λ all. GivesIn all generation ask (Ok a))
+gives_said known generation ask a is all lawful are_named on =
+    let found = ok_by ask (scheme_of generation (board_after known).shelf) a (sym is) in
+    (found.0, published_there all known generation found.0 on found.1, found.2)
+
+refuses_said : {A : Type 0} (known : Beginning) (generation : ℕ) (ask : Tables → Result A scheme.Refused) (e : scheme.Refused) → Err (named e) ≡ by ask (scheme_of generation (board_after known).shelf)
+    → HoldsOf known (λ all. GivesIn all generation ask (Err e))
+refuses_said known generation ask e is all lawful are_named on =
+    let found = err_by ask (scheme_of generation (board_after known).shelf) e is in
+    (found.0, published_there all known generation found.0 on found.1, found.2)
+
+gone_said : {A : Type 0} (known : Beginning) (generation : ℕ) (ask : Tables → Result A scheme.Refused) → Err refused.GenerationGone ≡ by ask (scheme_of generation (board_after known).shelf) → HoldsOf known (λ all. IsGone all generation)
+gone_said known generation ask is all lawful are_named on = (known, on, gone_by ask (scheme_of generation (board_after known).shelf) is)
+
+-- so each answer to a refusal is said
+no_step_said : {A : Type 0} (P : Answer → Type 0) (known : Beginning) (generation : ℕ) (ask : Tables → Result A scheme.Refused) → ((e : scheme.Refused) → HoldsOf known (λ all. GivesIn all generation ask (Err e)) → P (NotCarried e))
+    → (HoldsOf known (λ all. IsGone all generation) → P Gone) → (why : Refused) (answer : Answer) → IsRefusal why answer → Err why ≡ by ask (scheme_of generation (board_after known).shelf) → P answer
+no_step_said P known generation ask refuses gone refused.GenerationGone answer so is = subst P (sym so) (gone (gone_said known generation ask is))
+no_step_said P known generation ask refuses gone refused.NoNode answer so is = subst P (sym so) (refuses by_scheme.NoNode (refuses_said known generation ask by_scheme.NoNode is))
+no_step_said P known generation ask refuses gone refused.Unreachable answer so is = subst P (sym so) (refuses by_scheme.Unreachable (refuses_said known generation ask by_scheme.Unreachable is))
+no_step_said P known generation ask refuses gone refused.Stray answer so is = subst P (sym so) (refuses by_scheme.Stray (refuses_said known generation ask by_scheme.Stray is))
+no_step_said P known generation ask refuses gone refused.Spent answer so is = subst P (sym so) (refuses by_scheme.Spent (refuses_said known generation ask by_scheme.Spent is))
+no_step_said P known generation ask refuses gone refused.BoardShut answer so is = absurd so
+
 -- ---- launches
 
 pub launch_said : (known : Beginning) (from : ℕ) (to : Address) (packet : Packet) → Ok packet ≡ launch_at from to (board_after known).shelf → IsSaidBy known (asks.Launch from to) (Sent packet)
-launch_said known from to packet is all lawful are_named on =
-    let found = ok_by (λ t. decide t from to) (scheme_of to.generation (board_after known).shelf) packet (sym is) in
-    (found.0, published_there all known to.generation found.0 on found.1, found.2)
+launch_said known from to packet is = gives_said known to.generation (λ t. decide t from to) packet is
 
-launch_refused_by : (known : Beginning) (from : ℕ) (to : Address) (e : scheme.Refused) → Err (named e) ≡ launch_at from to (board_after known).shelf → IsSaidBy known (asks.Launch from to) (NotCarried e)
-launch_refused_by known from to e is all lawful are_named on =
-    let found = err_by (λ t. decide t from to) (scheme_of to.generation (board_after known).shelf) e is in
-    (found.0, published_there all known to.generation found.0 on found.1, found.2)
-
-launch_gone : (known : Beginning) (from : ℕ) (to : Address) → Err refused.GenerationGone ≡ launch_at from to (board_after known).shelf → IsSaidBy known (asks.Launch from to) Gone
-launch_gone known from to is all lawful are_named on = (known, on, gone_by (λ t. decide t from to) (scheme_of to.generation (board_after known).shelf) is)
-
-pub no_launch_said : (known : Beginning) (from : ℕ) (to : Address) (why : Refused) (answer : Answer) → IsRefusal why answer → Err why ≡ launch_at from to (board_after known).shelf → IsSaidBy known (asks.Launch from to) answer
-no_launch_said known from to refused.GenerationGone answer so is = subst (λ (a : Answer). IsSaidBy known (asks.Launch from to) a) (sym so) (launch_gone known from to is)
-no_launch_said known from to refused.NoNode answer so is = subst (λ (a : Answer). IsSaidBy known (asks.Launch from to) a) (sym so) (launch_refused_by known from to by_scheme.NoNode is)
-no_launch_said known from to refused.Unreachable answer so is = subst (λ (a : Answer). IsSaidBy known (asks.Launch from to) a) (sym so) (launch_refused_by known from to by_scheme.Unreachable is)
-no_launch_said known from to refused.Stray answer so is = subst (λ (a : Answer). IsSaidBy known (asks.Launch from to) a) (sym so) (launch_refused_by known from to by_scheme.Stray is)
-no_launch_said known from to refused.Spent answer so is = subst (λ (a : Answer). IsSaidBy known (asks.Launch from to) a) (sym so) (launch_refused_by known from to by_scheme.Spent is)
-no_launch_said known from to refused.BoardShut answer so is = absurd so
+-- where no packet is sent
+pub no_launch : (known : Beginning) (from : ℕ) (to : Address) (why : Refused) (o : Option Answer) → IfSome o (λ answer. (from : ℕ) (to : Address) → Fits (asks.Launch from to) answer) → IfSome o (λ answer. IsRefusal why answer)
+    → Err why ≡ launch_at from to (board_after known).shelf → IfSome o (λ answer. AnswersBy known (asks.Launch from to) answer)
+no_launch known from to why None fits so is = tt
+no_launch known from to why (Some answer) fits so is = record {
+  fits = fits from to;
+  said = no_step_said (λ a. IsSaidBy known (asks.Launch from to) a) known to.generation (λ t. decide t from to) (λ e said. said) (λ said. said) why answer so is;
+}
 
 -- ---- hops
 
 pub hop_said : (known : Beginning) (at : ℕ) (packet : Packet) (move : Move) → Ok move ≡ hop_at at packet (board_after known).shelf → IsSaidBy known (asks.Hop at packet) (Moved move)
-hop_said known at packet move is all lawful are_named on =
-    let found = ok_by (λ t. node_step t at packet) (scheme_of packet.generation (board_after known).shelf) move (sym is) in
-    (found.0, published_there all known packet.generation found.0 on found.1, found.2)
+hop_said known at packet move is = gives_said known packet.generation (λ t. node_step t at packet) move is
 
-hop_refused_by : (known : Beginning) (at : ℕ) (packet : Packet) (e : scheme.Refused) → Err (named e) ≡ hop_at at packet (board_after known).shelf → IsSaidBy known (asks.Hop at packet) (NotCarried e)
-hop_refused_by known at packet e is all lawful are_named on =
-    let found = err_by (λ t. node_step t at packet) (scheme_of packet.generation (board_after known).shelf) e is in
-    (found.0, published_there all known packet.generation found.0 on found.1, found.2)
-
-hop_gone : (known : Beginning) (at : ℕ) (packet : Packet) → Err refused.GenerationGone ≡ hop_at at packet (board_after known).shelf → IsSaidBy known (asks.Hop at packet) Gone
-hop_gone known at packet is all lawful are_named on = (known, on, gone_by (λ t. node_step t at packet) (scheme_of packet.generation (board_after known).shelf) is)
-
-pub no_hop_said : (known : Beginning) (at : ℕ) (packet : Packet) (why : Refused) (answer : Answer) → IsRefusal why answer → Err why ≡ hop_at at packet (board_after known).shelf → IsSaidBy known (asks.Hop at packet) answer
-no_hop_said known at packet refused.GenerationGone answer so is = subst (λ (a : Answer). IsSaidBy known (asks.Hop at packet) a) (sym so) (hop_gone known at packet is)
-no_hop_said known at packet refused.NoNode answer so is = subst (λ (a : Answer). IsSaidBy known (asks.Hop at packet) a) (sym so) (hop_refused_by known at packet by_scheme.NoNode is)
-no_hop_said known at packet refused.Unreachable answer so is = subst (λ (a : Answer). IsSaidBy known (asks.Hop at packet) a) (sym so) (hop_refused_by known at packet by_scheme.Unreachable is)
-no_hop_said known at packet refused.Stray answer so is = subst (λ (a : Answer). IsSaidBy known (asks.Hop at packet) a) (sym so) (hop_refused_by known at packet by_scheme.Stray is)
-no_hop_said known at packet refused.Spent answer so is = subst (λ (a : Answer). IsSaidBy known (asks.Hop at packet) a) (sym so) (hop_refused_by known at packet by_scheme.Spent is)
-no_hop_said known at packet refused.BoardShut answer so is = absurd so
-
--- ---- where there may be no answer
-
-pub no_launch_some : (known : Beginning) (from : ℕ) (to : Address) (why : Refused) (o : Option Answer) → IfSome o (λ answer. IsRefusal why answer) → Err why ≡ launch_at from to (board_after known).shelf
-    → IfSome o (λ answer. IsSaidBy known (asks.Launch from to) answer)
-no_launch_some known from to why None so is = tt
-no_launch_some known from to why (Some answer) so is = no_launch_said known from to why answer so is
-
-pub no_hop_some : (known : Beginning) (at : ℕ) (packet : Packet) (why : Refused) (o : Option Answer) → IfSome o (λ answer. IsRefusal why answer) → Err why ≡ hop_at at packet (board_after known).shelf
-    → IfSome o (λ answer. IsSaidBy known (asks.Hop at packet) answer)
-no_hop_some known at packet why None so is = tt
-no_hop_some known at packet why (Some answer) so is = no_hop_said known at packet why answer so is
+-- where the packet isn't moved
+pub no_hop : (known : Beginning) (at : ℕ) (packet : Packet) (why : Refused) (o : Option Answer) → IfSome o (λ answer. (at : ℕ) (packet : Packet) → Fits (asks.Hop at packet) answer) → IfSome o (λ answer. IsRefusal why answer)
+    → Err why ≡ hop_at at packet (board_after known).shelf → IfSome o (λ answer. AnswersBy known (asks.Hop at packet) answer)
+no_hop known at packet why None fits so is = tt
+no_hop known at packet why (Some answer) fits so is = record {
+  fits = fits at packet;
+  said = no_step_said (λ a. IsSaidBy known (asks.Hop at packet) a) known packet.generation (λ t. node_step t at packet) (λ e said. said) (λ said. said) why answer so is;
+}

@@ -19,6 +19,13 @@ HasToldSo old new Printed = new ≡ old
 HasToldSo old new (Told fault) = Appends old new (told_text fault)
 HasToldSo old new (Untold fault) = Unit {0}
 
+-- What was told of how a service ended, on a writer for faults, between two values of it.
+pub record TellsEnd {E : Type 0} (contents : E → Option (List ℕ)) (has_failed : E → Bool) (old new : E) (ended : Served) : Type 0 where
+  -- the fault that ended it, unless telling it failed, and nothing where none did
+  pub said : HasToldSo (contents old) (contents new) ended
+  -- a fault that wasn't told couldn't be: a write of this writer has failed
+  pub untold : (fault : Fault) → ended ≡ Untold fault → IsTrue (has_failed new)
+
 -- a fault was told, or a write of the writer for faults has failed
 abbrev pub IsToldOrFailed : Option (List ℕ) → Option (List ℕ) → Bool → Fault → Type 0
 IsToldOrFailed old new has_failed fault = Appends old new (told_text fault) ⊎ IsTrue has_failed

@@ -1,11 +1,12 @@
 -- What the one list of postings says of what is asked for.
-use Rattle.std.specs.Prelude.{◌≡◌, ◌⊎◌, ◌<◌, ◌≤◌, ℕ, List, Some, None, Ok, Err, slice_get}
+use Rattle.std.specs.Prelude.{◌≡◌, ◌⊎◌, ◌<◌, ◌≤◌, ℕ, List, None, Result, Ok, Err}
 use Rattle.std.specs.List.{Contains}
 use Rattle.node_table.specs.declared.parts.Parts.{Parts}
 use Rattle.node_table.specs.declared.packet.Address.{Address}
 use Rattle.node_table.specs.declared.packet.Packet.{Packet}
+use Rattle.node_table.specs.declared.packet.Refused as scheme
 use Rattle.node_table.specs.declared.packet.Refused.TheVariants as by_scheme
-use Rattle.node_table.specs.Tables.{tables}
+use Rattle.node_table.specs.Tables.{Tables, tables}
 use Rattle.node_table.specs.Service.{address_given, decide, node_step}
 use Rattle.generations.specs.Boards.{scheme_of}
 use Rattle.requests.specs.Tickets.{last_of}
@@ -23,7 +24,7 @@ use Rattle.live_lines.specs.declared.answer.Answer.{Answer}
 use Rattle.live_lines.specs.declared.answer.Answer.TheVariants.{Settled, AlreadyIn, Along, Unreachable, NoNode, Told, Sent, Moved, NotCarried, Gone}
 use Rattle.live_lines.specs.Answers.{Fits}
 use Rattle.live_service.specs.Inputs.{Input}
-use Rattle.live_service.specs.Streams.{IsAskedAt}
+use Rattle.live_service.specs.Streams.{AreEachAt, IsAskedAt}
 
 -- ---- by a whole list
 
@@ -44,9 +45,13 @@ IsRouteIn all from to (Unreachable generation) = IsAnswerBy all (record { from =
 IsRouteIn all from to NoNode = IsAnswerBy all (record { from = from; to = to }) carried.NoNode
 IsRouteIn all from to other = Unit {0}
 
+-- what is asked of a generation's tables: by the scheme that the list has for the generation they give this
+abbrev pub GivesIn : {A : Type 0} → Beginning → ℕ → (Tables → Result A scheme.Refused) → Result A scheme.Refused → Type 0
+GivesIn all generation ask given = (p : Parts) × IsPublished all generation p × (ask (tables p) ≡ given)
+
 -- an address is the node's own by the scheme of the address's generation; or there is a scheme that has no such node
 abbrev pub IsAddressIn : Beginning → ℕ → Answer → Type 0
-IsAddressIn all node (Told a) = (p : Parts) × IsPublished all a.generation p × (address_given (tables p) node ≡ Ok a)
+IsAddressIn all node (Told a) = GivesIn all a.generation (λ t. address_given t node) (Ok a)
 IsAddressIn all node NoNode = (generation : ℕ) × (p : Parts) × IsPublished all generation p × (node < p.nodes → ⊥)
 IsAddressIn all node other = Unit {0}
 
@@ -54,19 +59,21 @@ IsAddressIn all node other = Unit {0}
 abbrev pub IsGone : Beginning → ℕ → Type 0
 IsGone all generation = (seen : Beginning) × GoesOn seen all × (scheme_of generation (board_after seen).shelf ≡ None)
 
+-- why a packet isn't carried is by the scheme of a generation; or the generation is gone
+abbrev pub IsRefusalIn : {A : Type 0} → Beginning → ℕ → (Tables → Result A scheme.Refused) → Answer → Type 0
+IsRefusalIn all generation ask (NotCarried why) = GivesIn all generation ask (Err why)
+IsRefusalIn all generation ask Gone = IsGone all generation
+IsRefusalIn all generation ask other = Unit {0}
+
 -- a packet that is sent, or why none is, is by the scheme of the address's generation
 abbrev pub IsLaunchIn : Beginning → ℕ → Address → Answer → Type 0
-IsLaunchIn all from to (Sent packet) = (p : Parts) × IsPublished all to.generation p × (decide (tables p) from to ≡ Ok packet)
-IsLaunchIn all from to (NotCarried why) = (p : Parts) × IsPublished all to.generation p × (decide (tables p) from to ≡ Err why)
-IsLaunchIn all from to Gone = IsGone all to.generation
-IsLaunchIn all from to other = Unit {0}
+IsLaunchIn all from to (Sent packet) = GivesIn all to.generation (λ t. decide t from to) (Ok packet)
+IsLaunchIn all from to other = IsRefusalIn all to.generation (λ t. decide t from to) other
 
 -- what a node does with a packet is by the scheme of the packet's generation
 abbrev pub IsHopIn : Beginning → ℕ → Packet → Answer → Type 0
-IsHopIn all at packet (Moved move) = (p : Parts) × IsPublished all packet.generation p × (node_step (tables p) at packet ≡ Ok move)
-IsHopIn all at packet (NotCarried why) = (p : Parts) × IsPublished all packet.generation p × (node_step (tables p) at packet ≡ Err why)
-IsHopIn all at packet Gone = IsGone all packet.generation
-IsHopIn all at packet other = Unit {0}
+IsHopIn all at packet (Moved move) = GivesIn all packet.generation (λ t. node_step t at packet) (Ok move)
+IsHopIn all at packet other = IsRefusalIn all packet.generation (λ t. node_step t at packet) other
 
 -- The answer to what is asked for is what the list says. Of a session's last ticket, of tables and of how the service stands nothing is
 -- said here.
@@ -87,16 +94,20 @@ IsRefusal refused.Stray answer = answer ≡ NotCarried by_scheme.Stray
 IsRefusal refused.Spent answer = answer ≡ NotCarried by_scheme.Spent
 IsRefusal refused.BoardShut answer = ⊥
 
--- an answer to what the line at a place asks for, which the list says
-pub record IsAnswerIn (all : Beginning) (input : Input) (editors place : ℕ) (answer : Answer) : Type 0 where
+-- An answer to what the line at a place asks for, which a list says: `Says` tells how.
+pub record IsAnswerOf (Says : Beginning → Asked → Answer → Type 0) (list : Beginning) (input : Input) (editors place : ℕ) (answer : Answer) : Type 0 where
   pub asked : Asked
   pub by : IsAskedAt input editors place asked
   pub fits : Fits asked answer
-  pub said : IsSaidIn all asked answer
+  pub said : Says list asked answer
+
+-- the list says it
+abbrev pub IsAnswerIn : Beginning → Input → ℕ → ℕ → Answer → Type 0
+IsAnswerIn all input editors place answer = IsAnswerOf IsSaidIn all input editors place answer
 
 -- each answer is to the line at its place, and the list says it
 abbrev pub AreAnswersIn : Beginning → Input → ℕ → List Answer → Type 0
-AreAnswersIn all input editors answers = (k : ℕ) (answer : Answer) → slice_get answers k ≡ Some answer → ∥ IsAnswerIn all input editors k answer ∥₁
+AreAnswersIn all input editors answers = AreEachAt (IsAnswerIn all input editors) answers
 
 -- ---- by a beginning of it that was seen
 
@@ -104,13 +115,17 @@ AreAnswersIn all input editors answers = (k : ℕ) (answer : Answer) → slice_g
 abbrev pub IsSaidBy : Beginning → Asked → Answer → Type 0
 IsSaidBy known asked answer = HoldsOf known (λ all. IsSaidIn all asked answer)
 
--- an answer to what the line at a place asks for, which each list says that goes on from here
-pub record IsSaidAt (known : Beginning) (input : Input) (editors place : ℕ) (answer : Answer) : Type 0 where
-  pub asked : Asked
-  pub by : IsAskedAt input editors place asked
+-- An answer to what is asked for, by what is known of the list.
+pub record AnswersBy (known : Beginning) (asked : Asked) (answer : Answer) : Type 0 where
+  -- it is of the kind that is asked for
   pub fits : Fits asked answer
+  -- each list says it that goes on from here
   pub said : IsSaidBy known asked answer
+
+-- an answer to what the line at a place asks for, which each list says that goes on from here
+abbrev pub IsSaidAt : Beginning → Input → ℕ → ℕ → Answer → Type 0
+IsSaidAt known input editors place answer = IsAnswerOf IsSaidBy known input editors place answer
 
 -- each answer is one to the line at its place
 abbrev pub AreSaid : Beginning → Input → ℕ → List Answer → Type 0
-AreSaid known input editors answers = (k : ℕ) (answer : Answer) → slice_get answers k ≡ Some answer → ∥ IsSaidAt known input editors k answer ∥₁
+AreSaid known input editors answers = AreEachAt (IsSaidAt known input editors) answers

@@ -1,5 +1,5 @@
 -- What a live service prints.
-use Rattle.std.specs.Prelude.{◌≡◌, ℕ, List, Option, Some, IfSome, length, slice_get}
+use Rattle.std.specs.Prelude.{◌≡◌, ℕ, List, Option, IfSome, length}
 use Rattle.std.specs.List.{flat_map}
 use Rattle.std.specs.Io.KnownBytes.{Appends}
 use Rattle.command_output.specs.Lines.{line}
@@ -7,7 +7,7 @@ use Rattle.input_lines.specs.Lines.{lines_in}
 use Rattle.live_lines.specs.declared.answer.Answer.{Answer}
 use Rattle.live_lines.specs.Answers.{answer_text}
 use Rattle.live_service.specs.Inputs.{Input, Bytes, Script}
-use Rattle.live_service.specs.Streams.{IsAnswerAt}
+use Rattle.live_service.specs.Streams.{AreEachAt, IsAnswerAt}
 use Rattle.live_service.specs.OneList.{AreSaid}
 use Rattle.generations.specs.Beginnings.{Beginning}
 
@@ -17,7 +17,7 @@ answers_text answers = flat_map (λ answer. line (answer_text answer)) answers
 
 -- each answer is to the line at its place
 abbrev pub AreAnswers : Input → ℕ → List Answer → Type 0
-AreAnswers input editors answers = (k : ℕ) (answer : Answer) → slice_get answers k ≡ Some answer → ∥ IsAnswerAt input editors k answer ∥₁
+AreAnswers input editors answers = AreEachAt (IsAnswerAt input editors) answers
 
 -- So many answers were printed, a line each, and nothing else: the k-th is to the k-th line.
 pub record HasPrinted (input : Input) (editors : ℕ) (old new : Option (List ℕ)) (count : ℕ) : Type 0 where

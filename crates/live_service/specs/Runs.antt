@@ -38,8 +38,8 @@ pub record IsPrintEnd (input : Input) (printed : Printed) (ended : Served) : Typ
   pub whole : ended ≡ served.Printed → AreAllLines input printed.count
 
 -- what was printed, unless the output failed: answers to so many lines, by what is known of the list of postings
-pub record PrintsSo (input : Input) (editors : ℕ) (old new : Option (List ℕ)) (printed : Printed) : Type 0 where
-  pub answers : printed.end ≢ Output → HasPrintedBy printed.known input editors old new printed.count
+abbrev pub PrintsSo : Input → ℕ → Option (List ℕ) → Option (List ℕ) → Printed → Type 0
+PrintsSo input editors old new printed = printed.end ≢ Output → HasPrintedBy printed.known input editors old new printed.count
 
 -- What a service prints that ended so: unless its output failed, answers to its first lines, and to all of them where
 -- no fault ended it.

@@ -1,5 +1,5 @@
 -- The one list of requests that a service took, and what it posted of it and left of its disk.
-use Rattle.std.specs.Prelude.{◌≡◌, ℕ, IsSomeAnd, IsTrue, List, Option, [], All, ◌<◌, length, map, Some}
+use Rattle.std.specs.Prelude.{◌≡◌, ℕ, IfOk, IsSomeAnd, IsTrue, List, Option, Result, [], All, ◌<◌, length, map, Some}
 use Rattle.std.specs.Io.KnownBytes.{Appends}
 use Rattle.disk_trait.specs.declared.disk.Disk.{Ghosts}
 use Rattle.disk_trait.specs.Disk.{DiskView, LeavesOnly}
@@ -13,7 +13,8 @@ use Rattle.generations.specs.Beginnings.{Beginning, GoesOn, Opening}
 use Rattle.generations.specs.Knowledges.{Knowledge}
 use Rattle.generations.specs.Posts.{Posts}
 use Rattle.settled_lists.specs.Posted.{ArePosted}
-use Rattle.service_threads.specs.Kept.{HasSettled, StandsForBeginning}
+use Rattle.service_threads.specs.Kept.{HasSettled, IsServedDisk, StandsForBeginning}
+use Rattle.service_workers.specs.declared.stop_cause.StopCause.{StopCause}
 use Rattle.service_workers.specs.declared.answer.Answer.{Answer as ScriptAnswer}
 use Rattle.service_lines.specs.ServedLines.{answers_text as script_text}
 use Rattle.live_lines.specs.declared.answer.Answer.{Answer}
@@ -49,6 +50,15 @@ pub record HasServedAll {D : Type 0} {V : _} (store : Store D V) (input : Input)
   pub settled : HasSettled (state_of store) taken (view_of store) new
   pub stands : IsTrue new.keeps_model → KeepsThrough new (settle (state_of store) taken).state
   pub of_input : (session : ℕ) → ArePutInOrder input editors (of session taken)
+
+-- An engine over a store ended so, at a board of this name.
+pub record EndsServed {D : Type 0} {V : _} (opening : Opening) (store : Store D V) (input : Input) (editors : ℕ) (result : Result Beginning StopCause) (new : DiskView) : Type 0 where
+  -- whatever ended it: requests were settled on the disk, which failed where that is the cause
+  pub disk : IsServedDisk store result new
+  -- where nothing stopped it, its board is that of this name
+  pub named : IfOk result (λ board. board.opening ≡ opening)
+  -- .. and all that it took was settled
+  pub all : IfOk result (λ board. HasServedAll store input editors board new)
 
 -- The board has all that was known, and the disk came back behind it.
 pub record HasServedOn {D : Type 0} {V : _} (store : Store D V) (input : Input) (editors : ℕ) (known : Beginning) (back : Option D) : Type 0 where

@@ -1,5 +1,5 @@
 -- What the lines of an input ask for, and which answers are of them.
-use Rattle.std.specs.Prelude.{◌≡◌, ◌⊎◌, ◌≤◌, ◌<◌, ℕ, List, Some, IfSome, length}
+use Rattle.std.specs.Prelude.{◌≡◌, ◌⊎◌, ◌≤◌, ◌<◌, ℕ, List, Some, IfSome, length, slice_get}
 use Rattle.input_lines.specs.Lines.{line_at, longest_line}
 use Rattle.live_lines.specs.declared.asked.Asked.{Asked}
 use Rattle.live_lines.specs.declared.asked.Asked.TheVariants.{NotUnderstood}
@@ -34,3 +34,7 @@ IsAskedAt (Script script) editors place asked = IsLineAsked script place asked
 abbrev pub IsAnswerAt : Input → ℕ → ℕ → Answer → Type 0
 IsAnswerAt (Bytes bytes) editors place answer = IfSome bytes (λ xs. IsAnswerTo xs editors place answer)
 IsAnswerAt (Script script) editors place answer = IsLineAnswer script place answer
+
+-- each answer is so at its place
+abbrev pub AreEachAt : (ℕ → Answer → Type 0) → List Answer → Type 0
+AreEachAt Is answers = (k : ℕ) (answer : Answer) → slice_get answers k ≡ Some answer → ∥ Is k answer ∥₁

@@ -3,6 +3,7 @@ use Rattle.std.specs.Prelude.{◌≡◌, ◌++◌, ◌∷◌, [], ◌<◌, ℕ, 
 use Rattle.requests.specs.declared.request.Request.{Request}
 use Rattle.intake.specs.Editors.{Editing}
 use Rattle.intake.specs.Ends.{Taking}
+use Rattle.service_workers.specs.Edited.{IsSameEditor}
 use Rattle.live_lines.specs.declared.asked.Asked.{Asked}
 use Rattle.live_lines.specs.declared.asked.Asked.TheVariants.{Edit}
 use Rattle.live_lines.specs.declared.answer.Answer.{Answer}
@@ -28,6 +29,13 @@ pub record ArePutInOrder (input : Input) (editors : ℕ) (requests : List Reques
 abbrev pub HasPutFor : Asked → Answer → Editing → Editing → Type 0
 HasPutFor (Edit session ticket change) (Settled s told verdict) old new = new.put ≡ old.put ++ record { session = s; ticket = told; change = change } ∷ []
 HasPutFor asked answer old new = new.put ≡ old.put
+
+-- An editor comes back from its thread.
+pub record ComesBack (input : Input) (editors : ℕ) (given back : Editing) : Type 0 where
+  -- it is the one that was given
+  pub same : IsSameEditor given back
+  -- what it put, lines of the input asked for, in their order
+  pub put : ArePutInOrder input editors back.put
 
 -- at the end of a queue that takes, all its editors, none of which has put anything
 pub record AreAllEditors (taker : Taking) (editors : List Editing) : Type 0 where

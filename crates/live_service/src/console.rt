@@ -1,7 +1,6 @@
 // The caller's end: it prints, and tells how the service ended.
-ghost use Rattle.std.specs.Prelude.{◌≡◌, ◌≢◌, IsTrue};
-ghost use Rattle.command_output.specs.declared.fault.Fault.{Fault};
-ghost use Rattle.live_service.specs.Ends.{HasToldSo, fault_of};
+ghost use Rattle.std.specs.Prelude.{◌≡◌};
+ghost use Rattle.live_service.specs.Ends.{TellsEnd, fault_of};
 
 use crate::exchange::Exchange;
 use crate::messages::Stream;
@@ -47,8 +46,7 @@ pub struct Terminal<'a, 'b, O, E> {
 
 /// Tells a fault, where there is one.
 pub fn told<E: FaultWriter>(err: &mut E, fault: Option<Fault>) -> Served
-    ensures told { HasToldSo (E.contents err.old) (E.contents err.new) result }
-    ensures untold { (fault : Fault) → result ≡ Served.Untold fault → IsTrue (E.has_failed err.new) }
+    ensures told { TellsEnd E.contents E.has_failed err.old err.new result }
     ensures fault { fault_of result ≡ fault }
 {
     match fault {
@@ -61,18 +59,15 @@ pub fn told<E: FaultWriter>(err: &mut E, fault: Option<Fault>) -> Served
 }
 
 impl<'a, 'b, J: Stream, O: Write, E: FaultWriter> Console<J> for Terminal<'a, 'b, O, E> {
-    ghost use Rattle.std.specs.Prelude.{◌≡◌, IsTrue};
-    ghost use Rattle.command_output.specs.declared.fault.Fault.{Fault};
-    ghost use Rattle.service_lines.specs.declared.served.Served.TheVariants.{Untold};
+    ghost use Rattle.std.specs.Prelude.{◌≡◌};
     ghost use Rattle.live_service.specs.Runs.{PrintsSo};
-    ghost use Rattle.live_service.specs.Ends.{HasToldSo};
+    ghost use Rattle.live_service.specs.Ends.{TellsEnd};
 
     ghost prints = { λ c d p. (d.out.ghost_name ≡ c.out.ghost_name) × (d.err.ghost_name ≡ c.err.ghost_name) × (d.err.now ≡ c.err.now)
         × PrintsSo J.input J.editors (O.contents c.out.now) (O.contents d.out.now) p };
 
     ghost finishes = { λ c d s. (d.out.ghost_name ≡ c.out.ghost_name) × (d.err.ghost_name ≡ c.err.ghost_name) × (d.out.now ≡ c.out.now)
-        × HasToldSo (E.contents c.err.now) (E.contents d.err.now) s
-        × ((fault : Fault) → s ≡ Untold fault → IsTrue (E.has_failed d.err.now)) };
+        × TellsEnd E.contents E.has_failed c.err.now d.err.now s };
 
     fn print<B: Naming, R: Wait>(self, rt: &R, exchange: &Exchange<J, B>) -> (Self, Printed) {
         let Terminal { alloc, out, err } = self;

@@ -2,8 +2,8 @@
 ghost use Rattle.std.specs.Prelude.{◌≡◌, [], IfSome};
 ghost use Rattle.service_workers.specs.Edited.{IsSameEditor};
 ghost use Rattle.live_lines.specs.Answers.{Fits};
-ghost use Rattle.live_service.specs.OneList.{IsSaidBy};
-ghost use Rattle.live_service.specs.Submits.{ArePutInOrder, HasPutFor};
+ghost use Rattle.live_service.specs.OneList.{AnswersBy};
+ghost use Rattle.live_service.specs.Submits.{ComesBack, HasPutFor};
 
 use crate::exchange::Exchange;
 use crate::messages::{Answered, Ask, Stream};
@@ -31,8 +31,7 @@ fn edited<B: Naming, R: Wait>(
     ticket: Option<u64>,
     change: Change,
 ) -> Option<(SessionEditor<B>, Answer)>
-    ensures fits { IfSome result (λ r. Fits (Asked.Edit session ticket change) r.1) }
-    ensures said { IfSome result (λ r. IsSaidBy r.0.editor.known (Asked.Edit session ticket change) r.1) }
+    ensures answers { IfSome result (λ r. AnswersBy r.0.editor.known (Asked.Edit session ticket change) r.1) }
     ensures same { IfSome result (λ r. IsSameEditor editor.editor r.0.editor) }
     ensures put { IfSome result (λ r. HasPutFor (Asked.Edit session ticket change) r.1 editor.editor r.0.editor) }
 {
@@ -66,8 +65,7 @@ fn answer_of<B: Naming, R: Wait>(
     editor: SessionEditor<B>,
     asked: Asked,
 ) -> Option<(SessionEditor<B>, Answer)>
-    ensures fits { IfSome result (λ r. Fits asked r.1) }
-    ensures said { IfSome result (λ r. IsSaidBy r.0.editor.known asked r.1) }
+    ensures answers { IfSome result (λ r. AnswersBy r.0.editor.known asked r.1) }
     ensures same { IfSome result (λ r. IsSameEditor editor.editor r.0.editor) }
     ensures put { IfSome result (λ r. HasPutFor asked r.1 editor.editor r.0.editor) }
 {
@@ -119,7 +117,7 @@ fn answer_each<J: Stream, B: Naming, R: Wait>(
     editor: SessionEditor<B>,
 ) -> Option<SessionEditor<B>>
     requires { editor.editor.put ≡ [] }
-    ensures { IfSome result (λ e. IsSameEditor editor.editor e.editor × ArePutInOrder J.input J.editors e.editor.put) }
+    ensures { IfSome result (λ e. ComesBack J.input J.editors editor.editor e.editor) }
 {
     let Some(mailbox) = exchange.sessions.get(editor.session() as usize) else {
         coordinator.stop(rt, StopCause::Internal);
@@ -156,7 +154,7 @@ pub fn edit_lines<J: Stream, B: Naming, R: Wait>(
     editor: SessionEditor<B>,
 ) -> Option<SessionEditor<B>>
     requires { editor.editor.put ≡ [] }
-    ensures { IfSome result (λ e. IsSameEditor editor.editor e.editor × ArePutInOrder J.input J.editors e.editor.put) }
+    ensures { IfSome result (λ e. ComesBack J.input J.editors editor.editor e.editor) }
 {
     let back = answer_each(rt, coordinator, exchange, editor);
     coordinator.leave(rt);

@@ -3,17 +3,16 @@ ghost use Rattle.std.specs.Prelude.{◌≡◌, ◌⊎◌, ◌+◌, ℕ, [], All,
 ghost use Rattle.atomic_table.specs.Seated.{TableId};
 ghost use Rattle.requests.specs.Tickets.{last_of};
 ghost use Rattle.layout_2.specs.State.{State};
-ghost use Rattle.intake.specs.Editors.{Editing};
 ghost use Rattle.intake.specs.Turns.{of};
 ghost use Rattle.checkpoint.specs.StoreWords.{state_of, view_of};
 ghost use Rattle.settled_lists.specs.Posted.{ArePosted};
 ghost use Rattle.committer.specs.CommitterWords.{got_of, posts_of, queue_of, store_of, taker_of};
-ghost use Rattle.committer.specs.Listed.{IsListedFrom, StaysListed};
-ghost use Rattle.service_workers.specs.Edited.{IsSameEditor};
-ghost use Rattle.service_threads.specs.Kept.{HasFailed, HasSettledSome, IsFresh, IsServedDisk};
+ghost use Rattle.committer.specs.Listed.{IsListedFrom};
+ghost use Rattle.service_threads.specs.Kept.{IsFresh};
 ghost use Rattle.live_service.specs.Seated.{IsSeated};
-ghost use Rattle.live_service.specs.ServedList.{HasServedAll};
-ghost use Rattle.live_service.specs.Submits.{AreAllEditors, ArePutInOrder};
+ghost use Rattle.live_service.specs.ServedList.{EndsServed};
+ghost use Rattle.live_service.specs.Submits.{AreAllEditors, ArePutInOrder, ComesBack};
+ghost use Rattle.live_service.specs.Taken.{TakesNoMore};
 
 use crate::editing::edit_lines;
 use crate::exchange::Exchange;
@@ -58,10 +57,9 @@ struct EditorPromise<J: Stream, B: Naming> {
 
 impl<J: Stream, B: Naming> Promise<Option<SessionEditor<B>>> for EditorPromise<J, B> {
     ghost use Rattle.std.specs.Prelude.{IfSome};
-    ghost use Rattle.service_workers.specs.Edited.{IsSameEditor};
-    ghost use Rattle.live_service.specs.Submits.{ArePutInOrder};
+    ghost use Rattle.live_service.specs.Submits.{ComesBack};
 
-    ghost kept_by = { λ p r. IfSome r (λ e. IsSameEditor p.editor.value.editor e.editor × ArePutInOrder J.input J.editors e.editor.put) };
+    ghost kept_by = { λ p r. IfSome r (λ e. ComesBack J.input J.editors p.editor.value.editor e.editor) };
 }
 
 // Starts the editors' threads. Where one can't be made all stop.
@@ -76,7 +74,8 @@ fn start_editors<'s, E, J: Stream + Send + Sync, B: Naming + Send + Sync + 's, R
     requires fresh { All (λ e. e.put ≡ []) (map (λ e. e.editor) editors.items) }
     requires none { handles.old.items ≡ [] }
     // They are at the editors' queue.
-    ensures queue { (q : TableId) → All (λ e. e.queue ≡ q) (map (λ e. e.editor) editors.items) → All (λ h. h.promise.editor.value.editor.queue ≡ q) handles.new.items }
+    ensures queue { (q : TableId) → All (λ e. e.queue ≡ q) (map (λ e. e.editor) editors.items)
+        → All (λ h. h.promise.editor.value.editor.queue ≡ q) handles.new.items }
 {
     for editor in editors {
         if handles.len() == handles.capacity() {
@@ -88,7 +87,7 @@ fn start_editors<'s, E, J: Stream + Send + Sync, B: Naming + Send + Sync + 's, R
         };
         let job = move || -> Option<SessionEditor<B>>
             requires { editor.editor.put ≡ [] }
-            ensures { IfSome result (λ e. IsSameEditor editor.editor e.editor × ArePutInOrder J.input J.editors e.editor.put) }
+            ensures { IfSome result (λ e. ComesBack J.input J.editors editor.editor e.editor) }
         { edit_lines(rt, coordinator, exchange, editor) };
         match scope.spawn_with(promise, job) {
             Ok(handle) => handles.push_reserved(handle),
@@ -189,7 +188,7 @@ fn has_left_none<B: Naming, D: Disk, Q: Wait + Drop>(
     requires posted { (first : State) × ArePosted first (got_of committer.old) board.now.log }
     requires queue { editor.editor.queue ≡ queue_of committer.old }
     ensures taken { result ≡ true → editor.editor.put ≡ of editor.editor.session (got_of committer.old) }
-    ensures same { (store_of committer.new ≡ store_of committer.old) × ((got_of committer.new ≡ got_of committer.old) × (queue_of committer.new ≡ queue_of committer.old)) }
+    ensures same { TakesNoMore committer.old committer.new }
 {
     let known = editor.known();
     let _watcher = committer.end(editor.into_editor());
@@ -208,8 +207,9 @@ fn ended_next<J: Stream, B: Naming, D: Disk, Q: Wait + Drop>(
     requires posted { (first : State) × ArePosted first (got_of committer.old) board.now.log }
     requires queue { IfSome back (λ e. e.editor.queue ≡ queue_of committer.old) }
     requires put { IfSome back (λ e. ArePutInOrder J.input J.editors e.editor.put) }
-    ensures more { (result ≡ ended) ⊎ ((result ≡ ended + 1) × ArePutInOrder J.input J.editors (of ended (got_of committer.old))) }
-    ensures same { (store_of committer.new ≡ store_of committer.old) × ((got_of committer.new ≡ got_of committer.old) × (queue_of committer.new ≡ queue_of committer.old)) }
+    ensures more { (result ≡ ended)
+        ⊎ ((result ≡ ended + 1) × ArePutInOrder J.input J.editors (of ended (got_of committer.old))) }
+    ensures same { TakesNoMore committer.old committer.new }
 {
     let Some(editor) = back else {
         return ended;
@@ -234,7 +234,8 @@ fn ended_editors<J: Stream, B: Naming, D: Disk, Q: Wait + Drop, R: Threads + Wai
     requires opening { served ≡ true → board.now.opening ≡ B.opening }
     requires posted { (first : State) × ArePosted first (got_of committer.old) board.now.log }
     requires queue { All (λ h. h.promise.editor.value.editor.queue ≡ queue_of committer.old) handles.items }
-    ensures put { (session : ℕ) → session < result → ArePutInOrder J.input J.editors (of session (got_of committer.old)) }
+    ensures put { (session : ℕ) → session < result
+        → ArePutInOrder J.input J.editors (of session (got_of committer.old)) }
     ensures store { store_of committer.new ≡ store_of committer.old }
 {
     let mut ended: usize = 0;
@@ -311,9 +312,7 @@ fn threads<
     requires fresh { IsFresh committer }
     requires listed { IsListedFrom (state_of (store_of committer)) committer }
     requires editors { AreAllEditors (taker_of committer) (map (λ e. e.editor) seats.editors.items) }
-    ensures settled { HasSettledSome (state_of (store_of committer)) (view_of (store_of committer)) (view_of result.1) }
-    ensures device { IsErrOf result.0 StopCause.Device → HasFailed (view_of (store_of committer)) (view_of result.1) }
-    ensures all { IfOk result.0 (λ board. (board.opening ≡ B.opening) × HasServedAll (store_of committer) J.input J.editors board (view_of result.1)) }
+    ensures { EndsServed B.opening (store_of committer) J.input J.editors result.0 (view_of result.1) }
 {
     thread::scope(
         thread::scope_env(),
@@ -323,9 +322,7 @@ fn threads<
             requires fresh { IsFresh committer }
             requires listed { IsListedFrom (state_of (store_of committer)) committer }
             requires editors { AreAllEditors (taker_of committer) (map (λ e. e.editor) seats.editors.items) }
-            ensures settled { HasSettledSome (state_of (store_of committer)) (view_of (store_of committer)) (view_of result.1) }
-            ensures device { IsErrOf result.0 StopCause.Device → HasFailed (view_of (store_of committer)) (view_of result.1) }
-            ensures all { IfOk result.0 (λ board. (board.opening ≡ B.opening) × HasServedAll (store_of committer) J.input J.editors board (view_of result.1)) }
+            ensures { EndsServed B.opening (store_of committer) J.input J.editors result.0 (view_of result.1) }
         {
             let mut committer = committer;
             let mut rebuilds = rebuilds;
@@ -410,9 +407,7 @@ fn run<
     requires fresh { IsFresh committer }
     requires listed { IsListedFrom (state_of (store_of committer)) committer }
     requires editors { AreAllEditors (taker_of committer) (map (λ e. e.editor) seats.editors.items) }
-    ensures settled { HasSettledSome (state_of (store_of committer)) (view_of (store_of committer)) (view_of result.1) }
-    ensures device { IsErrOf result.0 StopCause.Device → HasFailed (view_of (store_of committer)) (view_of result.1) }
-    ensures all { IfOk result.0 (λ board. (board.opening ≡ B.opening) × HasServedAll (store_of committer) J.input J.editors board (view_of result.1)) }
+    ensures { EndsServed B.opening (store_of committer) J.input J.editors result.0 (view_of result.1) }
 {
     let mut committer = committer;
     let Ok(mut rebuilds) = Rebuilds::new(alloc, source, rounds) else {
@@ -528,9 +523,7 @@ fn seat<
     hooks: &G,
     exchange: &Exchange<J, B>,
 ) -> (Result<History, StopCause>, Store<D>)
-    ensures settled { HasSettledSome (state_of parts.opened.store) (view_of parts.opened.store) (view_of result.1) }
-    ensures device { IsErrOf result.0 StopCause.Device → HasFailed (view_of parts.opened.store) (view_of result.1) }
-    ensures all { IfOk result.0 (λ board. (board.opening ≡ B.opening) × HasServedAll parts.opened.store J.input J.editors board (view_of result.1)) }
+    ensures { EndsServed B.opening parts.opened.store J.input J.editors result.0 (view_of result.1) }
 {
     let EngineParts {
         opened,
@@ -580,9 +573,7 @@ pub fn engine<
     hooks: &G,
     exchange: &Exchange<J, B>,
 ) -> (Result<History, StopCause>, D)
-    ensures settled { HasSettledSome (state_of parts.opened.store) (view_of parts.opened.store) (D.view result.1) }
-    ensures device { IsErrOf result.0 StopCause.Device → HasFailed (view_of parts.opened.store) (D.view result.1) }
-    ensures all { IfOk result.0 (λ board. (board.opening ≡ B.opening) × HasServedAll parts.opened.store J.input J.editors board (D.view result.1)) }
+    ensures { EndsServed B.opening parts.opened.store J.input J.editors result.0 (D.view result.1) }
 {
     let (result, store) = seat::<J, B, D, G, T, Q, R>(rt, alloc, parts, hooks, exchange);
     exchange.shut(rt);

@@ -1,7 +1,7 @@
 // A forwarder's thread.
 ghost use Rattle.std.specs.Prelude.{◌≡◌, ℕ, None, IfSome, IsTrue};
 ghost use Rattle.live_lines.specs.Answers.{Fits, Join};
-ghost use Rattle.live_service.specs.OneList.{IsRefusal, IsSaidBy};
+ghost use Rattle.live_service.specs.OneList.{AnswersBy, IsRefusal};
 
 use crate::exchange::Exchange;
 use crate::messages::{Answered, Ask, Stream};
@@ -32,7 +32,6 @@ fn join(nodes: &[u16], from: u16, to: u16) -> bool
 }
 
 // The answer to a route. Without one all stop.
-#[tactic(auto, using(crate::proofs::SaidPackets::route_said))]
 fn route<B: Naming, G: Hooks, R: Wait>(
     rt: &R,
     alloc: Global,
@@ -42,8 +41,7 @@ fn route<B: Naming, G: Hooks, R: Wait>(
     from: u16,
     to: u16,
 ) -> Option<Answer>
-    ensures fits { IfSome result (λ answer. Fits (Asked.Route from to) answer) }
-    ensures said { IfSome result (λ answer. IsSaidBy forwarder.new.forwarder (Asked.Route from to) answer) }
+    ensures { IfSome result (λ answer. AnswersBy forwarder.new.forwarder (Asked.Route from to) answer) }
 {
     let trip = Trip { from, to };
     match forwarder.route(rt, alloc, coordinator, hooks, trip)? {
@@ -77,8 +75,7 @@ fn address<B: Naming, R: Wait>(
     forwarder: &mut ForwarderOf<B>,
     node: u16,
 ) -> Option<Answer>
-    ensures fits { IfSome result (λ answer. Fits (Asked.Address node) answer) }
-    ensures said { IfSome result (λ answer. IsSaidBy forwarder.new.forwarder (Asked.Address node) answer) }
+    ensures { IfSome result (λ answer. AnswersBy forwarder.new.forwarder (Asked.Address node) answer) }
 {
     match forwarder.address(rt, coordinator, node)? {
         (generation, Ok(address)) if address.node == node => {
@@ -114,8 +111,7 @@ fn launch<B: Naming, R: Wait>(
     from: u16,
     to: Address,
 ) -> Option<Answer>
-    ensures fits { IfSome result (λ answer. Fits (Asked.Launch from to) answer) }
-    ensures said { IfSome result (λ answer. IsSaidBy forwarder.new.forwarder (Asked.Launch from to) answer) }
+    ensures { IfSome result (λ answer. AnswersBy forwarder.new.forwarder (Asked.Launch from to) answer) }
 {
     match forwarder.launch(rt, coordinator, from, &to)? {
         Ok(packet) => Some(Answer::Sent(packet)),
@@ -132,8 +128,7 @@ fn hop<B: Naming, G: Hooks, R: Wait>(
     at: u16,
     packet: Packet,
 ) -> Option<Answer>
-    ensures fits { IfSome result (λ answer. Fits (Asked.Hop at packet) answer) }
-    ensures said { IfSome result (λ answer. IsSaidBy forwarder.new.forwarder (Asked.Hop at packet) answer) }
+    ensures { IfSome result (λ answer. AnswersBy forwarder.new.forwarder (Asked.Hop at packet) answer) }
 {
     let generation = packet.generation;
     match forwarder.hop(rt, coordinator, at, packet)? {
@@ -154,8 +149,7 @@ fn answer_of<B: Naming, G: Hooks, R: Wait>(
     forwarder: &mut ForwarderOf<B>,
     asked: Asked,
 ) -> Option<Answer>
-    ensures fits { IfSome result (λ answer. Fits asked answer) }
-    ensures said { IfSome result (λ answer. IsSaidBy forwarder.new.forwarder asked answer) }
+    ensures { IfSome result (λ answer. AnswersBy forwarder.new.forwarder asked answer) }
 {
     match asked {
         Asked::Route { from, to } => route(rt, alloc, coordinator, hooks, forwarder, from, to),

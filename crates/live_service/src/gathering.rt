@@ -73,7 +73,8 @@ fn gather_each<J: Stream, B: Naming, R: Wait>(
 ) -> Printed
     requires { answers.old.items ≡ [] }
     ensures gathered { result.end ≡ PrintEnd.Whole → HasGathered J.input result.count answers.new.items }
-    ensures said { result.end ≡ PrintEnd.Whole → AreGatheredBy result.known J.input J.editors result.count answers.new.items }
+    ensures said { result.end ≡ PrintEnd.Whole
+        → AreGatheredBy result.known J.input J.editors result.count answers.new.items }
     ensures opening { result.known.opening ≡ B.opening }
 {
     let mut count: u64 = 0;
@@ -103,7 +104,8 @@ fn gather_all<J: Stream, B: Naming, R: Wait>(
     alloc: Global,
     exchange: &Exchange<J, B>,
 ) -> (Printed, String)
-    ensures text { result.0.end ≡ PrintEnd.Whole → HasText result.0.known J.input J.editors result.0.count (string_bytes result.1) }
+    ensures text { result.0.end ≡ PrintEnd.Whole
+        → HasText result.0.known J.input J.editors result.0.count (string_bytes result.1) }
     ensures opening { result.0.known.opening ≡ B.opening }
 {
     let mut answers = Vec::new(alloc);

@@ -31,7 +31,8 @@ fn asked_of(
     line: &[u8],
     editors: u8,
 ) -> Result<Option<Asked>, AllocError>
-    ensures asked { IfOk result (λ o. IfSome o (λ asked. (xs : List ℕ) (k : ℕ) → IsLineAt xs k next line.now → IsAskedBy xs editors k asked)) }
+    ensures asked { IfOk result (λ o. IfSome o (λ asked.
+        (xs : List ℕ) (k : ℕ) → IsLineAt xs k next line.now → IsAskedBy xs editors k asked)) }
     ensures some { IfOk result (λ o. IfSome o (λ asked. next ≢ NextLine.End)) }
     ensures end { IfOk result (λ o. o ≡ None → next ≡ NextLine.End) }
 {

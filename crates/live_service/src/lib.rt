@@ -12,7 +12,7 @@
 //! each round that changed the graph. [`serve_told`] does so too, tells a fault on a second writer, and answers how it ended
 //! ([`Served`]); [`serve_on`] answers the program's exit status instead: 0 also where changes were refused. Where no fault comes, the
 //! lines of answers were printed of which just those are verdicts whose line is an edit; a fault but that of the printing has printed
-//! nothing (`IsServed` and `IsServedSo` of `service_lines`).
+//! nothing (`ServesScript` and `FailsScript` of `specs/Services`).
 //!
 //! A fault is told on a `FaultWriter` of `command_output`, which `WatchedWriter` makes of any writer. Where one of these calls answers
 //! that a fault wasn't told, a write of this very writer has failed.

@@ -4,7 +4,7 @@ ghost use Rattle.std.specs.String.{string_bytes};
 ghost use Rattle.std.specs.Io.KnownBytes.{Appends, Keeps};
 ghost use Rattle.command_output.specs.Lines.{line};
 ghost use Rattle.live_lines.specs.Answers.{answer_text};
-ghost use Rattle.live_service.specs.Prints.{HasPrintedBy};
+ghost use Rattle.live_service.specs.Runs.{PrintsSo};
 
 use crate::exchange::Exchange;
 use crate::messages::{Answered, Stream};
@@ -67,7 +67,7 @@ fn print_each<J: Stream, B: Naming, O: Write, R: Wait>(
     exchange: &Exchange<J, B>,
     out: &mut O,
 ) -> Printed
-    ensures printed { result.end ≢ PrintEnd.Output → HasPrintedBy result.known J.input J.editors (O.contents out.old) (O.contents out.new) result.count }
+    ensures printed { PrintsSo J.input J.editors (O.contents out.old) (O.contents out.new) result }
     ensures opening { result.known.opening ≡ B.opening }
 {
     let mut count: u64 = 0;
@@ -100,7 +100,7 @@ pub fn print_all<J: Stream, B: Naming, O: Write, R: Wait>(
     exchange: &Exchange<J, B>,
     out: &mut O,
 ) -> Printed
-    ensures printed { result.end ≢ PrintEnd.Output → HasPrintedBy result.known J.input J.editors (O.contents out.old) (O.contents out.new) result.count }
+    ensures printed { PrintsSo J.input J.editors (O.contents out.old) (O.contents out.new) result }
     ensures opening { result.known.opening ≡ B.opening }
 {
     let printed = print_each(rt, alloc, exchange, out);

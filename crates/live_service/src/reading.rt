@@ -1,8 +1,7 @@
 // The reader's thread.
 ghost use Rattle.std.specs.Prelude.{◌≡◌, IfSome};
 ghost use Rattle.generations.specs.Beginnings.{Beginning};
-ghost use Rattle.live_lines.specs.Answers.{Fits};
-ghost use Rattle.live_service.specs.OneList.{IsSaidBy};
+ghost use Rattle.live_service.specs.OneList.{AnswersBy};
 ghost use Rattle.live_service.specs.Reads.{IsReadEnd};
 
 use crate::exchange::Exchange;
@@ -39,8 +38,7 @@ fn owned_by(asked: &Asked) -> Owner {
 
 // The answer to a line that is the reader's own.
 fn answer_of(asked: Asked) -> Option<Answer>
-    ensures fits { IfSome result (λ answer. Fits asked answer) }
-    ensures said { IfSome result (λ answer. (known : Beginning) → IsSaidBy known asked answer) }
+    ensures { IfSome result (λ answer. (known : Beginning) → AnswersBy known asked answer) }
 {
     match asked {
         Asked::Unread(refused) => Some(Answer::Unread(refused)),

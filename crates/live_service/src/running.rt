@@ -1,17 +1,16 @@
 // The threads of a service: the engine's, the reader's, and the caller's, which prints.
-ghost use Rattle.std.specs.Prelude.{◌≡◌, ◌≢◌, IfOk, IfSome, IsErrOf, IsOkAnd, IsSomeAnd, None, Some, false};
+ghost use Rattle.std.specs.Prelude.{◌≡◌, ◌≢◌, IfOk, IfSome, IsOkAnd, IsSome, None, OnOk, Some, false};
 ghost use Rattle.checkpoint.specs.StoreWords.{is_down, state_of};
 ghost use Rattle.command_output.specs.declared.fault.Fault.{Fault};
 ghost use Rattle.generations.specs.Beginnings.{GoesOn};
 ghost use Rattle.service_threads.specs.Faults.{stop_fault};
-ghost use Rattle.service_threads.specs.Kept.{IsServedDisk};
 ghost use Rattle.service_lines.specs.ServedLines.{told_fault};
 ghost use Rattle.service_lines.specs.declared.served.Served.{Served};
 ghost use Rattle.live_service.specs.Ends.{IsLater, fault_of};
 ghost use Rattle.live_service.specs.Reads.{IsReadEnd};
 ghost use Rattle.live_service.specs.Runs.{HasRun, IsFaultOf, IsPrintEnd};
 ghost use Rattle.live_service.specs.Seated.{IsSeated};
-ghost use Rattle.live_service.specs.ServedList.{HasServedAll, IsBoardOf};
+ghost use Rattle.live_service.specs.ServedList.{EndsServed, IsBoardOf};
 
 use crate::console::Console;
 use crate::engine::engine;
@@ -48,12 +47,9 @@ struct EnginePromise<J: Stream, B: Naming, D: Disk> {
 
 impl<J: Stream, B: Naming, D: Disk> Promise<(Result<History, StopCause>, D)>
     for EnginePromise<J, B, D> {
-    ghost use Rattle.std.specs.Prelude.{◌≡◌, IfOk};
-    ghost use Rattle.service_threads.specs.Kept.{IsServedDisk};
-    ghost use Rattle.live_service.specs.ServedList.{HasServedAll};
+    ghost use Rattle.live_service.specs.ServedList.{EndsServed};
 
-    ghost kept_by = { λ p r. IsServedDisk p.store.value r.0 (D.view r.1)
-        × IfOk r.0 (λ board. (board.opening ≡ B.opening) × HasServedAll p.store.value J.input J.editors board (D.view r.1)) };
+    ghost kept_by = { λ p r. EndsServed B.opening p.store.value J.input J.editors r.0 (D.view r.1) };
 }
 
 // What the reader's thread answers of its input.
@@ -160,9 +156,11 @@ fn join_engine<J: Stream, B: Naming, D: Disk, R: Threads>(
     rt: &R,
     engine: Option<PromisedHandle<(Result<History, StopCause>, D), EnginePromise<J, B, D>>>,
 ) -> (Result<History, StopCause>, Option<D>)
-    ensures disk { (store : Store D D.Disk) → IfSome engine (λ handle. handle.promise.store.value ≡ store) → IfSome result.1 (λ d. IsServedDisk store result.0 (D.view d)) }
+    // Whichever store it was started over.
+    ensures ends { (store : Store D D.Disk) → IfSome engine (λ handle. handle.promise.store.value ≡ store)
+        → IfSome result.1 (λ d. EndsServed B.opening store J.input J.editors result.0 (D.view d)) }
     ensures opening { IfOk result.0 (λ board. board.opening ≡ B.opening) }
-    ensures all { (store : Store D D.Disk) → IfSome engine (λ handle. handle.promise.store.value ≡ store) → IfOk result.0 (λ board. IsSomeAnd result.1 (λ d. HasServedAll store J.input J.editors board (D.view d))) }
+    ensures back { OnOk result.0 (IsSome result.1) }
 {
     match engine {
         Some(engine) => {
@@ -216,8 +214,7 @@ fn start_engine<
         requires config { IsSeated config.service }
         requires board { IsBoardOf B.opening (state_of store) writer readers.items }
         requires up { is_down store ≡ false }
-        ensures served { IsServedDisk store result.0 (D.view result.1) }
-        ensures all { IfOk result.0 (λ board. (board.opening ≡ B.opening) × HasServedAll store J.input J.editors board (D.view result.1)) }
+        ensures { EndsServed B.opening store J.input J.editors result.0 (D.view result.1) }
     {
         let opened = Opened {
             config,
@@ -272,7 +269,8 @@ pub(crate) fn threads<
         rt,
         |scope| -> (C, Served, Option<D>)
             requires given { L.has_given lines 0 }
-            ensures { HasRun C.prints C.finishes J.input J.editors parts.opened.store console result.0 result.1 result.2 }
+            ensures { HasRun C.prints C.finishes J.input J.editors parts.opened.store
+                console result.0 result.1 result.2 }
         {
             let engine_thread = start_engine(scope, rt, alloc, parts, hooks, exchange);
             if engine_thread.is_none() {

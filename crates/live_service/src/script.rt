@@ -1,16 +1,16 @@
 // A script on a device: the live service's engine runs it, and its answers are printed at the end.
-ghost use Rattle.std.specs.Prelude.{◌≡◌, ◌≢◌, ◌≤◌, ◌⊎◌, IfErr, IfOk, IsSomeAnd, IsTrue, OnOk, Some};
+ghost use Rattle.std.specs.Prelude.{◌≡◌, ◌≢◌, ◌≤◌, ◌⊎◌, IfErr, IfOk, IfSome, OnOk, Some};
 ghost use Rattle.command_output.specs.declared.fault.Fault.{Fault};
 ghost use Rattle.command_output.specs.Faults.{status_of};
 ghost use Rattle.written_values.specs.Scripts.{AreOfSessions};
 ghost use Rattle.service_threads.specs.Config.{IsServiceConfig};
 ghost use Rattle.service_threads.specs.Kept.{IsLeftBy};
-ghost use Rattle.service_lines.specs.ServedLines.{IsServed, IsServedSo, IsServeEnd};
+ghost use Rattle.service_lines.specs.ServedLines.{IsServed, IsServeEnd};
 ghost use Rattle.service_lines.specs.declared.served.Served.{Served};
-ghost use Rattle.live_service.specs.Ends.{IsToldOrFailed, fault_of};
+ghost use Rattle.live_service.specs.Ends.{IsToldOrFailed, TellsEnd, fault_of};
 ghost use Rattle.live_service.specs.Inputs.{Script};
 ghost use Rattle.live_service.specs.Runs.{HasServedScript};
-ghost use Rattle.live_service.specs.ServedList.{HasAnsweredScript};
+ghost use Rattle.live_service.specs.Services.{AnswersScript, FailsScript, ServesScript};
 
 use crate::gathering::Gatherer;
 use crate::messages::Stream;
@@ -62,7 +62,8 @@ where
     O: Write,
     requires { J.input ≡ Script script.items }
     ensures same_out { result.0.ghost_name ≡ gatherer.entry.out.ghost_name }
-    ensures served { HasServedScript O.contents script.items J.input J.editors opened.store gatherer.entry.out.now result.0.now result.1 result.2 }
+    ensures served { HasServedScript O.contents script.items J.input J.editors opened.store
+        gatherer.entry.out.now result.0.now result.1 result.2 }
 {
     let lines = ScriptSource {
         lines: script.into_iter(),
@@ -155,7 +156,8 @@ where
     ensures untouched { IfErr result.0 (λ fault. fault ≢ Fault.Output → out.new ≡ out.old) }
     ensures left { IsLeftBy D.Disk disk result.1 }
     // Where no fault comes, the device came back, and the answers are of one list of requests.
-    ensures one_list { OnOk result.0 (IsSomeAnd result.1 (λ d. HasAnsweredScript D.Disk disk d (Script script.items) config.editors (O.contents out.old) (O.contents out.new))) }
+    ensures one_list { OnOk result.0
+        (AnswersScript D.Disk disk result.1 script.items config.editors O.contents out.old out.new) }
 {
     standing_law();
     let (store, source) = match open_device(alloc, disk, &words) {
@@ -196,14 +198,12 @@ where
     E: FaultWriter,
     requires config { IsServiceConfig config }
     requires sessions { AreOfSessions config.editors script.items }
-    ensures so { IsServedSo D.Disk disk words result.1 script.items (O.contents out.old) (O.contents out.new) (E.contents err.old) (E.contents err.new) result.0 }
+    ensures done { result.0 ≡ Served.Printed
+        → ServesScript D.Disk disk result.1 script.items config.editors O.contents out.old out.new }
     ensures quiet { result.0 ≡ Served.Printed → err.new ≡ err.old }
-    // A fault that wasn't told couldn't be: a write of this writer has failed.
-    ensures untold { (fault : Fault) → result.0 ≡ Served.Untold fault → IsTrue (E.has_failed err.new) }
-    // No line is printed where the service gives no answers.
-    ensures untouched { (fault : Fault) → (result.0 ≡ Served.Told fault) ⊎ (result.0 ≡ Served.Untold fault) → fault ≢ Fault.Output → out.new ≡ out.old }
+    ensures fault { IfSome (fault_of result.0) (λ fault. FailsScript D.Disk disk words result.1 out.old out.new fault) }
+    ensures told { TellsEnd E.contents E.has_failed err.old err.new result.0 }
     ensures left { IsLeftBy D.Disk disk result.1 }
-    ensures one_list { result.0 ≡ Served.Printed → IsSomeAnd result.1 (λ d. HasAnsweredScript D.Disk disk d (Script script.items) config.editors (O.contents out.old) (O.contents out.new)) }
 {
     let (result, disk) = serve_lines(rt, alloc, disk, words, config, script, hooks, out);
     match result {
@@ -237,11 +237,13 @@ where
     requires config { IsServiceConfig config }
     requires sessions { AreOfSessions config.editors script.items }
     ensures few { result.0 ≤ 2 }
-    ensures done { result.0 ≡ 0 → IsServed script.items (O.contents out.old) (O.contents out.new) × (err.new ≡ err.old) }
-    ensures fault { (result.0 ≡ 0) ⊎ ((fault : Fault) × IsServeEnd D.Disk disk words result.1 fault × (result.0 ≡ status_of fault)
-        × (fault ≢ Fault.Output → out.new ≡ out.old) × IsToldOrFailed (E.contents err.old) (E.contents err.new) (E.has_failed err.new) fault) }
+    ensures done { result.0 ≡ 0
+        → ServesScript D.Disk disk result.1 script.items config.editors O.contents out.old out.new }
+    ensures quiet { result.0 ≡ 0 → err.new ≡ err.old }
+    ensures fault { (result.0 ≡ 0) ⊎ ((fault : Fault) × FailsScript D.Disk disk words result.1 out.old out.new fault
+        × (result.0 ≡ status_of fault)
+        × IsToldOrFailed (E.contents err.old) (E.contents err.new) (E.has_failed err.new) fault) }
     ensures left { IsLeftBy D.Disk disk result.1 }
-    ensures one_list { result.0 ≡ 0 → IsSomeAnd result.1 (λ d. HasAnsweredScript D.Disk disk d (Script script.items) config.editors (O.contents out.old) (O.contents out.new)) }
 {
     let (served, disk) = serve_told(rt, alloc, disk, words, config, script, hooks, out, err);
     match served {

@@ -1,14 +1,15 @@
 // The live service on a device.
-ghost use Rattle.std.specs.Prelude.{◌≡◌, IfSome, IsSomeAnd, IsTrue};
+ghost use Rattle.std.specs.Prelude.{◌≡◌, IfSome, IsTrue};
 ghost use Rattle.command_output.specs.declared.fault.Fault.{Fault};
 ghost use Rattle.service_threads.specs.Config.{IsServiceConfig};
 ghost use Rattle.service_threads.specs.Kept.{IsLeftBy};
 ghost use Rattle.service_lines.specs.ServedLines.{IsServeEnd};
 ghost use Rattle.service_lines.specs.declared.served.Served.{Served};
-ghost use Rattle.live_service.specs.Ends.{HasToldSo, fault_of};
+ghost use Rattle.live_service.specs.Ends.{HasToldSo, TellsEnd, fault_of};
 ghost use Rattle.live_service.specs.Inputs.{Bytes};
 ghost use Rattle.live_service.specs.Runs.{HasEnded, PrintsTo};
-ghost use Rattle.live_service.specs.ServedList.{HasAnswered, HasPrintedOn};
+ghost use Rattle.live_service.specs.ServedList.{HasPrintedOn};
+ghost use Rattle.live_service.specs.Services.{AnswersInput};
 
 use crate::console::{Terminal, told};
 use crate::input_source::InputSource;
@@ -51,10 +52,10 @@ where
     requires editors { opened.config.service.editors ≡ J.editors }
     requires input { J.input ≡ Bytes (S.remaining input) }
     ensures printed { PrintsTo J.input J.editors (O.contents out.old) (O.contents out.new) result.0 }
-    ensures told { HasToldSo (E.contents err.old) (E.contents err.new) result.0 }
-    ensures untold { (fault : Fault) → result.0 ≡ Served.Untold fault → IsTrue (E.has_failed err.new) }
+    ensures told { TellsEnd E.contents E.has_failed err.old err.new result.0 }
     ensures ended { HasEnded opened.store result.0 result.1 }
-    ensures one_list { result.0 ≡ Served.Printed → HasPrintedOn opened.store J.input J.editors (O.contents out.old) (O.contents out.new) result.1 }
+    ensures one_list { result.0 ≡ Served.Printed
+        → HasPrintedOn opened.store J.input J.editors (O.contents out.old) (O.contents out.new) result.1 }
 {
     let lines = InputSource::new(alloc, opened.config.service.editors, input);
     let terminal = Terminal { alloc, out, err };
@@ -101,7 +102,8 @@ where
     E: FaultWriter,
     requires config { IsServiceConfig config }
     // Lines of answers, the k-th to the k-th line of the input, where its bytes are known. Nothing is said where the output failed.
-    ensures printed { PrintsTo (Bytes (S.remaining input)) config.editors (O.contents out.old) (O.contents out.new) result.0 }
+    ensures printed { PrintsTo (Bytes (S.remaining input)) config.editors
+        (O.contents out.old) (O.contents out.new) result.0 }
     ensures told { HasToldSo (E.contents err.old) (E.contents err.new) result.0 }
     // A fault that wasn't told couldn't be: a write of this writer has failed.
     ensures untold { (fault : Fault) → result.0 ≡ Served.Untold fault → IsTrue (E.has_failed err.new) }
@@ -110,7 +112,8 @@ where
     // The very device comes back: a crash at any moment leaves the state after a beginning of the requests that were taken.
     ensures left { IsLeftBy D.Disk disk result.1 }
     // Where no fault ended it, the device came back, and the answers are of one list of requests.
-    ensures one_list { result.0 ≡ Served.Printed → IsSomeAnd result.1 (λ d. HasAnswered D.Disk disk d (Bytes (S.remaining input)) config.editors (O.contents out.old) (O.contents out.new)) }
+    ensures one_list { result.0 ≡ Served.Printed
+        → AnswersInput D.Disk disk result.1 (Bytes (S.remaining input)) config.editors O.contents out.old out.new }
 {
     standing_law();
     let (store, source) = match open_device(alloc, disk, &words) {

@@ -4,8 +4,7 @@ ghost use Rattle.node_table.specs.declared.parts.Parts.{Parts};
 ghost use Rattle.generations.specs.Beginnings.{Beginning, GoesOn, board_after};
 ghost use Rattle.generations.specs.Boards.{scheme_of};
 ghost use Rattle.generations.specs.Shelves.{plain};
-ghost use Rattle.live_lines.specs.Answers.{Fits};
-ghost use Rattle.live_service.specs.OneList.{IsSaidBy};
+ghost use Rattle.live_service.specs.OneList.{AnswersBy};
 ghost use Rattle.live_service.specs.Tables.{HasGeneration, HasNode, IsLookedBy, IsLookedOn, IsNewestOn, IsPutStep, IsTabled, IsTablesAnswer};
 
 use crate::exchange::Exchange;
@@ -81,7 +80,8 @@ enum Step {
 
 // The scheme of this number.
 fn scheme_in(places: &[Option<Shelved>], number: u64) -> Option<&Scheme>
-    ensures { MatchOption result (scheme_of number (map plain places.now) ≡ None) (λ s. scheme_of number (map plain places.now) ≡ Some s.now) }
+    ensures { MatchOption result (scheme_of number (map plain places.now) ≡ None)
+        (λ s. scheme_of number (map plain places.now) ≡ Some s.now) }
 {
     match places {
         [] => None,
@@ -222,7 +222,8 @@ fn put_one<T: TableFiles, B: Naming, R: Wait>(
 ) -> (BoardReader, Step)
     requires { HasNode reader.all generation node }
     ensures on { GoesOn reader.all result.0.all }
-    ensures step { IsPutStep reader.all result.0.all generation folder.now node (T.puts tables.old) (T.puts tables.new) result.1 }
+    ensures step { IsPutStep reader.all result.0.all generation folder.now node
+        (T.puts tables.old) (T.puts tables.new) result.1 }
 {
     match file_now(rt, alloc, coordinator, reader, generation, folder, node) {
         (reader, Looked::File(file)) => {
@@ -297,7 +298,8 @@ fn tables_of<T: TableFiles, B: Naming, R: Wait>(
     reader: TablesReader<B>,
     folder: &str,
 ) -> (TablesReader<B>, Option<Answer>)
-    ensures { IsTablesAnswer reader.reader.all result.0.reader.all folder.now (T.puts tables.old) (T.puts tables.new) result.1 }
+    ensures { IsTablesAnswer reader.reader.all result.0.reader.all folder.now
+        (T.puts tables.old) (T.puts tables.new) result.1 }
 {
     let TablesReader { reader, of } = reader;
     let (reader, newest) = newest_now(rt, coordinator, reader);
@@ -318,8 +320,7 @@ fn answer_of<T: TableFiles, B: Naming, R: Wait>(
     reader: TablesReader<B>,
     asked: Asked,
 ) -> Option<(TablesReader<B>, Answer)>
-    ensures fits { IfSome result (λ r. Fits asked r.1) }
-    ensures said { IfSome result (λ r. (known : Beginning) → IsSaidBy known asked r.1) }
+    ensures { IfSome result (λ r. (known : Beginning) → AnswersBy known asked r.1) }
 {
     match asked {
         Asked::Tables { folder } => {

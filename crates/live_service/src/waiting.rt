@@ -1,8 +1,7 @@
 // The thread that answers how a service stands.
 ghost use Rattle.std.specs.Prelude.{◌≡◌, IfSome};
 ghost use Rattle.generations.specs.Beginnings.{Beginning};
-ghost use Rattle.live_lines.specs.Answers.{Fits};
-ghost use Rattle.live_service.specs.OneList.{IsSaidBy};
+ghost use Rattle.live_service.specs.OneList.{AnswersBy};
 
 use crate::exchange::Exchange;
 use crate::messages::{Answered, Ask, Stream};
@@ -34,8 +33,7 @@ fn answer_of<B: Naming, R: Wait>(
     coordinator: &Coordinator<B>,
     asked: Asked,
 ) -> Option<Answer>
-    ensures fits { IfSome result (λ answer. Fits asked answer) }
-    ensures said { IfSome result (λ answer. (known : Beginning) → IsSaidBy known asked answer) }
+    ensures { IfSome result (λ answer. (known : Beginning) → AnswersBy known asked answer) }
 {
     match asked {
         Asked::State => {

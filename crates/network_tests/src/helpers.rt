@@ -2,7 +2,7 @@
 ghost use Rattle.std.specs.Prelude.{◌≡◌, false};
 ghost use Rattle.checkpoint.specs.StoreWords.{is_down};
 
-use checkpoint::{DEVICE_LEN, Store, format};
+use checkpoint::Store;
 use disk_trait::MemDisk;
 use edge_lists::Edge;
 use network_import::Progress;
@@ -33,19 +33,14 @@ impl Progress for Came {
 pub(crate) fn opened(rt: &impl Abort, alloc: Global, disk: MemDisk) -> Store<MemDisk>
     ensures { is_down result ≡ false }
 {
-    match Store::open(alloc, disk) {
-        Ok(store) => store,
-        Err(_) => panic!(rt; "no store"),
-    }
+    stand_ins::opened(alloc, disk).ok().expect(rt, "a store")
 }
 
 /// A new store for so many nodes.
 pub(crate) fn new_store(rt: &impl Abort, alloc: Global, nodes: u16) -> Store<MemDisk>
     ensures { is_down result ≡ false }
 {
-    let mut disk = got(rt, MemDisk::new(alloc, DEVICE_LEN));
-    got(rt, format(&mut disk, nodes));
-    opened(rt, alloc, disk)
+    opened(rt, alloc, got(rt, stand_ins::formatted(alloc, nodes)))
 }
 
 /// So many edges between 200 nodes: each joins its node to one that is a little further.

@@ -4,8 +4,8 @@
 ghost use Rattle.std.specs.Prelude.{◌≡◌, false};
 ghost use Rattle.checkpoint.specs.StoreWords.{is_down};
 
-use crate::helpers::{Came, has_up_to};
-use checkpoint::{DEVICE_LEN, Store, format};
+use crate::helpers::{Came, has_up_to, new_store};
+use checkpoint::Store;
 use disk_trait::MemDisk;
 use edge_lists::{Edge, Form, LineRefused, Names, Row, by_numbers, edge_list, read_edge_list};
 use network_import::{ImportRefused, import};
@@ -49,21 +49,7 @@ fn imported(rt: &impl Abort, alloc: Global, store: &mut Store<MemDisk>) -> Resul
 #[test]
 fn an_import_after_a_want_of_memory(rt: HostRuntime) {
     let alloc = rt.alloc();
-    let disk = match MemDisk::new(alloc, DEVICE_LEN) {
-        Ok(disk) => Ok(disk),
-        Err(_) => MemDisk::new(alloc, DEVICE_LEN),
-    };
-    let Ok(mut disk) = disk else {
-        panic!(rt; "no disk");
-    };
-    assert!(rt; format(&mut disk, 3).is_ok());
-    let store = match Store::open(alloc, disk) {
-        Ok(store) => Ok(store),
-        Err((_, disk)) => Store::open(alloc, disk),
-    };
-    let Ok(mut store) = store else {
-        panic!(rt; "no store");
-    };
+    let mut store = new_store(&rt, alloc, 3);
     let answer = imported(&rt, alloc, &mut store);
     assert_eq!(rt; answer, Ok(()));
     has_up_to(&rt, &store, &EDGES, 3);

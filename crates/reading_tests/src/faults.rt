@@ -3,10 +3,9 @@ use crate::helpers::{MOVED, NEW_LEN, PATH_EDGES, blank, has, holds, path, same, 
 use checkpoint::Store;
 use disk_trait::{CrashDisk, MemDisk, Plan};
 use migrate::{MigrateRefused, bring_over};
+use stand_ins::CRASH_WORDS;
 use std::alloc::Global;
 use std::process::Abort;
-
-const WORDS: [u64; 5] = [0, 1, 7, 256, 257];
 
 #[test]
 fn tells_each_fault_of_the_old_device(rt: HostRuntime) {
@@ -78,7 +77,7 @@ fn leaves_nothing_or_the_whole_of_each_stop(rt: HostRuntime) {
     let mut old = path(&rt, rt.alloc());
     for (call, bytes, whole) in &STOPS {
         let plan = Plan::Stop(*call, *bytes);
-        for (word, want) in WORDS.iter().zip(whole.iter()) {
+        for (word, want) in CRASH_WORDS.iter().zip(whole.iter()) {
             let left = is_left_whole(&rt, rt.alloc(), &mut old, plan, *word);
             same(
                 &rt,
@@ -93,7 +92,7 @@ fn leaves_nothing_or_the_whole_of_each_stop(rt: HostRuntime) {
 #[test]
 fn needs_ten_calls_of_the_new_device(rt: HostRuntime) {
     let mut old = path(&rt, rt.alloc());
-    for word in &WORDS {
+    for word in &CRASH_WORDS {
         let mut new = blank(&rt, rt.alloc(), NEW_LEN);
         new.fail_at(11);
         let answer = bring_over(rt.alloc(), &mut old, &mut new);

@@ -1,6 +1,8 @@
 // What the tests share: devices, their bytes, and what a store holds.
 use checkpoint::Store;
 use disk_trait::{Disk, MemDisk};
+use journal::Entry;
+use layout_parts::{Loaded, OpenRefused};
 use migrate::{MigrateRefused, Moved};
 use std::alloc::Global;
 use std::fmt::Debug;
@@ -48,6 +50,30 @@ pub(crate) type Edge = (u16, u16, u32);
 
 pub(crate) const PATH_EDGES: [Edge; 4] = [(0, 1, 1), (1, 2, 1), (2, 3, 1), (3, 4, 1)];
 
+// An open gate and epoch 8: an older slot, the rest of whose bytes count for nothing.
+pub(crate) const OLDER: [u8; 10] = [1, 0, 0, 0, 0, 0, 0, 0, 8, 0xff];
+
+// An open gate, epoch 10, count 4, five nodes, no edges: a newer one.
+pub(crate) const NEWER: [u8; 23] = [
+    1, 0, 0, 0, 0, 0, 0, 0, 10, 0, 0, 0, 0, 0, 0, 0, 4, 0, 5, 0, 0, 0, 0,
+];
+
+// What is loaded of a device: the slot, its epoch and the other one's gate; the count of its checkpoint, the count and the nodes; the
+// number of edges, and the weights of 0-1 and 1-2.
+pub(crate) type Stands = (
+    (usize, u64, u8),
+    (u64, u64, u16),
+    (usize, Option<u32>, Option<u32>),
+);
+
+// What is loaded of the first slot written by hand, in each layout, and of the newer one.
+pub(crate) const OF_FIRST: Stands = ((0, 9, 1), (2, 3, 5), (2, Some(7), Some(3)));
+
+pub(crate) const OF_NEWER: Stands = ((1, 10, 1), (4, 4, 5), (0, None, None));
+
+// How long a device is, what it begins with, and why it isn't loaded.
+pub(crate) type FrontRow<'a> = (usize, &'a [u8], OpenRefused);
+
 // What a migration answers.
 pub(crate) type Answer = Result<Moved, MigrateRefused>;
 
@@ -67,20 +93,15 @@ pub(crate) fn same<T: Copy + PartialEq + Debug>(rt: &impl Abort, found: T, want:
     assert_eq!(rt; found, want, "{name}");
 }
 
-// A disk of zeros, asked for again where memory was short.
-pub(crate) fn blank(rt: &impl Abort, alloc: Global, len: usize) -> MemDisk {
-    match MemDisk::new(alloc, len) {
-        Ok(disk) => disk,
-        Err(_) => got(rt, MemDisk::new(alloc, len)),
-    }
-}
-
+// Puts bytes on a disk.
 pub(crate) fn put(rt: &impl Abort, disk: &mut MemDisk, text: Text) {
     let (at, bytes) = text;
-    if disk.len() < bytes.len() || disk.len() - bytes.len() < at {
-        panic!(rt; "no place there");
-    }
-    got(rt, disk.write_at(at, bytes));
+    got(rt, stand_ins::put(disk, at, bytes));
+}
+
+// A disk of so many zeros.
+pub(crate) fn blank(rt: &impl Abort, alloc: Global, len: usize) -> MemDisk {
+    got(rt, stand_ins::blank(alloc, len))
 }
 
 // A disk of so many bytes: these texts, and zeros elsewhere.
@@ -107,10 +128,7 @@ pub(crate) fn path(rt: &impl Abort, alloc: Global) -> MemDisk {
 
 fn part(rt: &impl Abort, disk: &mut MemDisk, at: usize) -> [u8; 1024] {
     let mut bytes = [0; 1024];
-    if disk.len() < 1024 || disk.len() - 1024 < at {
-        panic!(rt; "no bytes there");
-    }
-    got(rt, disk.read(at, &mut bytes));
+    got(rt, stand_ins::read_at(disk, at, &mut bytes));
     bytes
 }
 
@@ -142,4 +160,31 @@ pub(crate) fn has(rt: &impl Abort, store: &Store<MemDisk>, count: u64, edges: &[
 pub(crate) fn holds(rt: &impl Abort, alloc: Global, disk: MemDisk, count: u64, edges: &[Edge]) {
     let store = got(rt, Store::open(alloc, disk));
     has(rt, &store, count, edges);
+}
+
+// What is loaded of a device.
+pub(crate) fn standing<E: Entry, T: Copy + Drop>(loaded: &Loaded<E, T>) -> Stands {
+    let graph = &loaded.graph;
+    (
+        (loaded.slot, loaded.epoch, loaded.other_gate),
+        (loaded.base_count, loaded.count, graph.nodes()),
+        (graph.edges(), graph.weight(1, 0), graph.weight(1, 2)),
+    )
+}
+
+// The device of such a row.
+pub(crate) fn begun(rt: &impl Abort, alloc: Global, row: &FrontRow) -> MemDisk {
+    let (len, front, _) = *row;
+    device(rt, alloc, len, &[(0, front)])
+}
+
+// Sees why it isn't loaded.
+pub(crate) fn expect_front(rt: &impl Abort, row: &FrontRow, refused: Option<OpenRefused>) {
+    let (len, front, want) = *row;
+    same(
+        rt,
+        (len, front, refused),
+        (len, front, Some(want)),
+        "a front",
+    );
 }

@@ -1,5 +1,8 @@
 // Images of layout 1 written by hand: what stands on them, and what their fronts tell.
-use crate::helpers::{FRONT, OLD_LEN, Text, device, got, same};
+use crate::helpers::{
+    FRONT, FrontRow, NEWER, OF_FIRST, OF_NEWER, OLD_LEN, OLDER, Text, begun, device, expect_front,
+    got, same, standing,
+};
 use layout_1::{Loaded, OpenRefused, layout_law, load, standing_law};
 use std::alloc::Global;
 use std::process::Abort;
@@ -11,14 +14,6 @@ const HEAD: [u8; 31] = [
 
 // A record of one change, which adds an edge from 1 to 2 with weight 3.
 const RECORD: [u8; 18] = [1, 0, 0, 0, 0x0c, 0, 1, 1, 1, 0, 1, 0, 2, 0, 0, 0, 3, 0];
-
-// An older slot, the rest of whose bytes count for nothing.
-const OLDER: [u8; 10] = [1, 0, 0, 0, 0, 0, 0, 0, 8, 0xff];
-
-// A newer one, with count 4 and no edges.
-const NEWER: [u8; 23] = [
-    1, 0, 0, 0, 0, 0, 0, 0, 10, 0, 0, 0, 0, 0, 0, 0, 4, 0, 5, 0, 0, 0, 0,
-];
 
 // What is loaded of the first slot, its record, and such a text where the second slot begins.
 fn loaded(rt: &impl Abort, alloc: Global, second: &[u8]) -> Loaded {
@@ -35,26 +30,14 @@ fn loaded(rt: &impl Abort, alloc: Global, second: &[u8]) -> Loaded {
 #[test]
 fn loads_images_written_by_hand(rt: HostRuntime) {
     let l = loaded(&rt, rt.alloc(), &OLDER);
-    same(&rt, (l.slot, l.epoch, l.other_gate), (0, 9, 1), "the slot");
-    let counts = (l.base_count, l.count, l.graph.nodes());
-    same(&rt, counts, (2, 3, 5), "the counts");
-    let edges = (l.graph.edges(), l.graph.weight(1, 0), l.graph.weight(1, 2));
-    same(&rt, edges, (2, Some(7), Some(3)), "the edges");
+    same(&rt, standing(&l), OF_FIRST, "the first slot");
     let l = loaded(&rt, rt.alloc(), &NEWER);
-    same(
-        &rt,
-        (l.slot, l.epoch, l.other_gate),
-        (1, 10, 1),
-        "the other slot",
-    );
-    let counts = (l.base_count, l.count, l.graph.edges());
-    same(&rt, counts, (4, 4, 0), "the other counts");
+    same(&rt, standing(&l), OF_NEWER, "the newer slot");
     standing_law();
     layout_law();
 }
 
-// How long a device is, what it begins with, and the refusal.
-const FRONTS: [(usize, &[u8], OpenRefused); 8] = [
+const FRONTS: [FrontRow<'static>; 8] = [
     (0, b"", OpenRefused::NotFormatted),
     (9, b"TZNODE01\x00", OpenRefused::NotFormatted),
     (10, b"TZNODF02\x00\x05", OpenRefused::NotFormatted),
@@ -67,14 +50,8 @@ const FRONTS: [(usize, &[u8], OpenRefused); 8] = [
 
 #[test]
 fn tells_the_front_first(rt: HostRuntime) {
-    for (len, front, want) in &FRONTS {
-        let mut disk = device(&rt, rt.alloc(), *len, &[(0, *front)]);
-        let refused = load(rt.alloc(), &mut disk).err();
-        same(
-            &rt,
-            (*len, *front, refused),
-            (*len, *front, Some(*want)),
-            "a front",
-        );
+    for row in &FRONTS {
+        let mut disk = begun(&rt, rt.alloc(), row);
+        expect_front(&rt, row, load(rt.alloc(), &mut disk).err());
     }
 }

@@ -1,5 +1,8 @@
 // Images of layout 2 written by hand: what stands on them, and what their fronts tell.
-use crate::helpers::{NEW_LEN, Text, device, got, same};
+use crate::helpers::{
+    FrontRow, NEW_LEN, NEWER, OF_FIRST, OF_NEWER, OLDER, Text, begun, device, expect_front, got,
+    same, standing,
+};
 use layout_2::{Loaded, OpenRefused, layout_law, load, standing_law};
 use std::alloc::Global;
 use std::process::Abort;
@@ -15,14 +18,6 @@ const EDGE: [u8; 8] = [0, 0, 0, 1, 0, 0, 0, 7];
 // A record of one request: session 63 adds an edge from 1 to 2 with weight 3 under ticket 259.
 const RECORD: [u8; 27] = [
     1, 0, 0, 0, 0x15, 0, 1, 63, 0, 0, 0, 0, 0, 0, 1, 3, 1, 1, 0, 1, 0, 2, 0, 0, 0, 3, 0,
-];
-
-// An older slot, the rest of whose bytes count for nothing.
-const OLDER: [u8; 10] = [1, 0, 0, 0, 0, 0, 0, 0, 8, 0xff];
-
-// A newer one, with count 4, no edges and no tickets.
-const NEWER: [u8; 23] = [
-    1, 0, 0, 0, 0, 0, 0, 0, 10, 0, 0, 0, 0, 0, 0, 0, 4, 0, 5, 0, 0, 0, 0,
 ];
 
 // What is loaded of the first slot, whose checkpoint has ticket 3 of session 0 and ticket 258 of session 63, its record, and such a text
@@ -44,29 +39,17 @@ fn loaded(rt: &impl Abort, alloc: Global, second: &[u8]) -> Loaded {
 #[test]
 fn loads_images_written_by_hand(rt: HostRuntime) {
     let l = loaded(&rt, rt.alloc(), &OLDER);
-    same(&rt, (l.slot, l.epoch, l.other_gate), (0, 9, 1), "the slot");
-    let counts = (l.base_count, l.count, l.graph.nodes());
-    same(&rt, counts, (2, 3, 5), "the counts");
-    let edges = (l.graph.edges(), l.graph.weight(1, 0), l.graph.weight(1, 2));
-    same(&rt, edges, (2, Some(7), Some(3)), "the edges");
+    same(&rt, standing(&l), OF_FIRST, "the first slot");
     let tickets = [l.tickets[0], l.tickets[1], l.tickets[63]];
     same(&rt, tickets, [3, 0, 259], "the tickets");
     let l = loaded(&rt, rt.alloc(), &NEWER);
-    same(
-        &rt,
-        (l.slot, l.epoch, l.other_gate),
-        (1, 10, 1),
-        "the other slot",
-    );
-    let counts = (l.base_count, l.count, l.graph.edges());
-    same(&rt, counts, (4, 4, 0), "the other counts");
+    same(&rt, standing(&l), OF_NEWER, "the newer slot");
     same(&rt, l.tickets[63], 0, "the other tickets");
     standing_law();
     layout_law();
 }
 
-// How long a device is, what it begins with, and the refusal.
-const FRONTS: [(usize, &[u8], OpenRefused); 8] = [
+const FRONTS: [FrontRow<'static>; 8] = [
     (0, b"", OpenRefused::NotFormatted),
     (9, b"TZNODE02\x00", OpenRefused::NotFormatted),
     (10, b"TZNODF01\x00\x05", OpenRefused::NotFormatted),
@@ -79,14 +62,8 @@ const FRONTS: [(usize, &[u8], OpenRefused); 8] = [
 
 #[test]
 fn tells_the_front_first(rt: HostRuntime) {
-    for (len, front, want) in &FRONTS {
-        let mut disk = device(&rt, rt.alloc(), *len, &[(0, *front)]);
-        let refused = load(rt.alloc(), &mut disk).err();
-        same(
-            &rt,
-            (*len, *front, refused),
-            (*len, *front, Some(*want)),
-            "a front",
-        );
+    for row in &FRONTS {
+        let mut disk = begun(&rt, rt.alloc(), row);
+        expect_front(&rt, row, load(rt.alloc(), &mut disk).err());
     }
 }

@@ -1,2 +1,3 @@
 pub mod Growing
 mod AskedOrders
+mod OldForms

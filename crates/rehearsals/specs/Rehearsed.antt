@@ -1,5 +1,5 @@
 -- What is printed of a rehearsal.
-use Rattle.std.specs.Prelude.{◌≡◌, ℕ, List}
+use Rattle.std.specs.Prelude.{◌≡◌, ◌≤◌, ◌-◌, ℕ, List, length}
 use Rattle.disk_trait.specs.declared.disk.Disk.{Ghosts}
 use Rattle.disk_trait.specs.declared.memory.MemDisk.{MemDisk}
 use Rattle.layout_2.specs.State.{first_state}
@@ -9,7 +9,12 @@ use Rattle.life_chain.specs.declared.report.LivesReport.{LivesReport}
 use Rattle.life_chain.specs.Chains.{AreChained, AreExactlyOnce}
 use Rattle.life_chain.specs.Lived.{AreLived}
 use Rattle.life_chain.specs.Words.{IsLeftByWord}
+use Rattle.rehearsals.specs.declared.asked.Rehearsal.{Rehearsal}
 use Rattle.rehearsals.specs.Reports.{report_text}
+
+-- a device can't have so many nodes
+abbrev pub IsOutOfRange : ℕ → Type 0
+IsOutOfRange nodes = ¬ ((1 ≤ nodes) × (nodes ≤ 16384))
 
 -- The report is that of these lives, of a device that was formatted for so many nodes, up to the disk that they left: all that is promised
 -- of such lives holds of it.
@@ -20,9 +25,12 @@ pub record IsReported {D : Type 0} (model : Ghosts D) (by_word : D → ℕ → D
   pub chained : AreChained lives report.lives.items
   pub exactly_once : AreExactlyOnce report.lives.items
 
--- The text is that of the report of these lives, of a device in memory.
-pub record IsRehearsed (model : Ghosts MemDisk) (nodes : ℕ) (lives : List Life) (whole : ℕ) (text : List ℕ) : Type 0 where
+-- The text is that of the report of a rehearsal's lives, of a device in memory.
+pub record IsRehearsed (model : Ghosts MemDisk) (rehearsal : Rehearsal) (text : List ℕ) : Type 0 where
   pub report : LivesReport
+  -- the device that the lives left
   pub left : MemDisk
-  pub reported : IsReported model IsLeftByWord nodes lives report left
-  pub printed : text ≡ report_text whole report
+  -- all that is promised of such lives holds of the report
+  pub reported : IsReported model IsLeftByWord rehearsal.nodes rehearsal.lives.items report left
+  -- all lines of each life but the last, which only opens, and of that one what it opened to
+  pub printed : text ≡ report_text (length rehearsal.lives.items - 1) report

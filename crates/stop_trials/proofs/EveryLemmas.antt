@@ -8,20 +8,39 @@ use Rattle.disk_trait.specs.declared.plan.Plan.{Plan}
 use Rattle.disk_trait.specs.declared.plan.Plan.TheVariants.{Stop as StopPlan}
 use Rattle.life_chain.specs.declared.life.Life.{Life}
 use Rattle.device_stops.specs.declared.stops.Stop.{Stop}
+use Rattle.rehearsals.specs.declared.asked.Rehearsal.{Rehearsal}
 use Rattle.stop_trials.specs.declared.trial.StopFound.{StopFound}
-use Rattle.stop_trials.specs.Arming.{armed_with}
+use Rattle.stop_trials.specs.Arming.{IsArmed, armed_with}
 use Rattle.stop_trials.specs.Trials.{IsLivedTo, IsStopFound, stop_of}
+use Rattle.stop_trials.proofs.ArmingLemmas.{again}
 
--- lives that another plan has armed are the same lives
-pub moved : (model : Ghosts MemDisk) (nodes n : ℕ) (before first : List Life) (found : StopFound) → nodes ≡ n → ((plan : Plan) → armed_with plan before ≡ armed_with plan first) → IsStopFound model nodes before found → IsStopFound model n first found
-moved model nodes n before first found e same is =
-    subst (λ (lives : List Life). IsLivedTo model n lives found.kind) (same (StopPlan found.stop.call found.stop.put))
-    (subst (λ (k : ℕ). IsLivedTo model k (armed_with (StopPlan found.stop.call found.stop.put) before) found.kind) e is)
+-- two rehearsals are the same, but for the plan of the last written life
+pub record AreAlike (old new : Rehearsal) : Type 0 where
+  pub nodes : new.nodes ≡ old.nodes
+  pub lives : (plan : Plan) → armed_with plan new.lives.items ≡ armed_with plan old.lives.items
 
-pub all_moved : (model : Ghosts MemDisk) (nodes n : ℕ) (before first : List Life) (tried : List StopFound) → nodes ≡ n → ((plan : Plan) → armed_with plan before ≡ armed_with plan first)
-    → AllByRecursion (IsStopFound model nodes before) tried → AllByRecursion (IsStopFound model n first) tried
-all_moved model nodes n before first [] e same all = tt
-all_moved model nodes n before first (found ∷ tried) e same all = (moved model nodes n before first found e same all.0, all_moved model nodes n before first tried e same all.1)
+-- so is one that was armed
+pub armed_alike : (plan : Plan) (old new : Rehearsal) → IsArmed plan old new → AreAlike old new
+armed_alike plan old new armed = record {
+  nodes = armed.nodes;
+  lives = λ other. ap (λ (lives : List Life). armed_with other lives) armed.lives ∙ again other plan old.lives.items;
+}
+
+-- .. and one that was armed after that
+pub alike_on : (first old new : Rehearsal) → AreAlike first old → AreAlike old new → AreAlike first new
+alike_on first old new was is = record { nodes = is.nodes ∙ was.nodes; lives = λ plan. is.lives plan ∙ was.lives plan }
+
+-- what lives that another plan has armed come to is what these come to
+pub moved : (model : Ghosts MemDisk) (first now : Rehearsal) (found : StopFound) → AreAlike first now → IsStopFound model now found → IsStopFound model first found
+moved model first now found alike is =
+    let plan : Plan = StopPlan found.stop.call found.stop.put in
+    subst (λ (lives : List Life). IsLivedTo model first.nodes lives found.kind) (alike.lives plan)
+    (subst (λ (n : ℕ). IsLivedTo model n (armed_with plan now.lives.items) found.kind) alike.nodes is)
+
+pub all_moved : (model : Ghosts MemDisk) (first now : Rehearsal) (tried : List StopFound) → AreAlike first now
+    → AllByRecursion (IsStopFound model now) tried → AllByRecursion (IsStopFound model first) tried
+all_moved model first now [] alike all = tt
+all_moved model first now (found ∷ tried) alike all = (moved model first now found alike all.0, all_moved model first now tried alike all.1)
 
 pub all_with : {X : Type 0} → (P : X → Type 0) (xs : List X) (x : X) → AllByRecursion P xs → P x → AllByRecursion P (xs ++ x ∷ [])
 all_with P [] x all is = (is, tt)

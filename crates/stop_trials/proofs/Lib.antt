@@ -2,3 +2,4 @@ mod ArmingLemmas
 mod CountLemmas
 mod KindLemmas
 mod EveryLemmas
+mod OldForms

@@ -13,6 +13,7 @@ use Rattle.device_stops.specs.declared.stops.Stop.{Stop}
 use Rattle.device_stops.specs.declared.watched.Watched.{Watched}
 use Rattle.device_stops.specs.Stops.{first_stops, stop_count}
 use Rattle.device_stops.specs.WatchedWords.{calls_made}
+use Rattle.rehearsals.specs.declared.asked.Rehearsal.{Rehearsal}
 use Rattle.rehearsals.specs.Rehearsed.{IsReported}
 use Rattle.stop_trials.specs.declared.trial.StopFound.{StopFound}
 use Rattle.stop_trials.specs.Arming.{armed_with, written}
@@ -26,9 +27,9 @@ pub record IsLivedTo (model : Ghosts MemDisk) (nodes : ℕ) (lives : List Life) 
   pub reported : IsReported model IsLeftByWord nodes lives report left
   pub told : IsKindOf report kind
 
--- What was found after a stop is what these lives came to, where the device of the last written one stops there.
-abbrev pub IsStopFound : Ghosts MemDisk → ℕ → List Life → StopFound → Type 0
-IsStopFound model nodes lives found = IsLivedTo model nodes (armed_with (plans.Stop found.stop.call found.stop.put) lives) found.kind
+-- What was found after a stop is what a rehearsal's lives came to, where the device of the last written one stops there.
+abbrev pub IsStopFound : Ghosts MemDisk → Rehearsal → StopFound → Type 0
+IsStopFound model rehearsal found = IsLivedTo model rehearsal.nodes (armed_with (plans.Stop found.stop.call found.stop.put) rehearsal.lives.items) found.kind
 
 -- the stop of a trial
 abbrev pub stop_of : StopFound → Stop
@@ -43,12 +44,17 @@ pub record AreCallsOf (model : Ghosts Watched) (nodes : ℕ) (lives : List Life)
   pub all : is_whole report ≡ true
   pub noted : calls ≡ calls_made left
 
--- The text is that of the trials at the first `most` stops of the calls that the last written life made of a device that doesn't fail. All
--- of these stops were tried, in their order, and each trial came to what is told of it.
-pub record IsTried (model : Ghosts MemDisk) (watched : Ghosts Watched) (nodes : ℕ) (lives : List Life) (most : ℕ) (text : List ℕ) : Type 0 where
+-- those that a rehearsal's last written life makes of a device that doesn't fail
+abbrev pub AreCallsUnstopped : Ghosts Watched → Rehearsal → List Call → Type 0
+AreCallsUnstopped model rehearsal calls = AreCallsOf model rehearsal.nodes (written (armed_with plans.None rehearsal.lives.items)) calls
+
+-- The text is that of the trials at the first `most` stops of the calls that the last written life made of a device that doesn't fail.
+pub record IsTried (model : Ghosts MemDisk) (watched : Ghosts Watched) (rehearsal : Rehearsal) (most : ℕ) (text : List ℕ) : Type 0 where
   pub calls : List Call
-  pub unstopped : AreCallsOf watched nodes (written (armed_with plans.None lives)) calls
+  pub unstopped : AreCallsUnstopped watched rehearsal calls
   pub tried : List StopFound
+  -- all of these stops were tried, in their order
   pub stops : map stop_of tried ≡ first_stops most calls
-  pub each : AllByRecursion (IsStopFound model nodes lives) tried
+  -- each trial came to what is told of it
+  pub each : AllByRecursion (IsStopFound model rehearsal) tried
   pub told : IsTrialsText (min (stop_count calls) (2 ^ 64 - 1)) tried text

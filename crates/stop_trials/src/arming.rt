@@ -1,6 +1,6 @@
 //! The plan of the last life that is written.
-ghost use Rattle.std.specs.Prelude.{◌≡◌, ◌≤◌, length};
-ghost use Rattle.stop_trials.specs.Arming.{armed_with};
+ghost use Rattle.std.specs.Prelude.{◌≤◌, length};
+ghost use Rattle.stop_trials.specs.Arming.{IsArmed};
 
 use disk_trait::Plan;
 use rehearsals::Rehearsal;
@@ -8,9 +8,7 @@ use rehearsals::Rehearsal;
 /// Gives the life before the last one, which only opens, this plan.
 pub(crate) fn arm_last(rehearsal: &mut Rehearsal, plan: Plan)
     requires { 2 ≤ length rehearsal.old.lives.items }
-    ensures nodes { rehearsal.new.nodes ≡ rehearsal.old.nodes }
-    ensures many { length rehearsal.new.lives.items ≡ length rehearsal.old.lives.items }
-    ensures lives { rehearsal.new.lives.items ≡ armed_with plan rehearsal.old.lives.items }
+    ensures { IsArmed plan rehearsal.old rehearsal.new }
 {
     let last = rehearsal.lives.len() - 2;
     rehearsal.lives[last].plan = plan;

@@ -25,7 +25,7 @@ pub fn try_every_stop<F: Fn(usize)>(
     requires { F.IsAlwaysCallable told }
     ensures none { length rehearsal.old.lives.items < 2 → IfOk result (λ text. IsTrialsText 0 [] (string_bytes text)) }
     ensures tried { 2 ≤ length rehearsal.old.lives.items →
-        IfOk result (λ text. IsTried ⟦<MemDisk as Disk>⟧ ⟦<Watched as Disk>⟧ rehearsal.old.nodes rehearsal.old.lives.items most (string_bytes text)) }
+        IfOk result (λ text. IsTried ⟦<MemDisk as Disk>⟧ ⟦<Watched as Disk>⟧ rehearsal.old most (string_bytes text)) }
 {
     if rehearsal.lives.len() < 2 {
         let none = trials_text(alloc, 0, &[])?;
@@ -47,7 +47,7 @@ pub fn try_stops<F: Fn(usize)>(
 ) -> Result<Vec<StopFound>, RehearseRefused>
     requires callable { F.IsAlwaysCallable told }
     requires some { 2 ≤ length rehearsal.old.lives.items }
-    ensures found { IfOk result (λ tried. AllByRecursion (IsStopFound ⟦<MemDisk as Disk>⟧ rehearsal.old.nodes rehearsal.old.lives.items) tried.items) }
+    ensures found { IfOk result (λ tried. AllByRecursion (IsStopFound ⟦<MemDisk as Disk>⟧ rehearsal.old) tried.items) }
     ensures stops { IfOk result (λ tried. map stop_of tried.items ≡ stops.now) }
 {
     let mut tried = Vec::new(alloc);

@@ -1,8 +1,8 @@
 //! The calls of the last life that is written.
-ghost use Rattle.std.specs.Prelude.{◌≡◌, ◌≤◌, IfOk, length};
+ghost use Rattle.std.specs.Prelude.{◌≤◌, IfOk, length};
 ghost use Rattle.disk_trait.specs.declared.plan.Plan.TheVariants as plans;
-ghost use Rattle.stop_trials.specs.Arming.{armed_with, written};
-ghost use Rattle.stop_trials.specs.Trials.{AreCallsOf};
+ghost use Rattle.stop_trials.specs.Arming.{IsArmed};
+ghost use Rattle.stop_trials.specs.Trials.{AreCallsOf, AreCallsUnstopped};
 
 use crate::arming::arm_last;
 use crate::found::is_whole;
@@ -16,10 +16,8 @@ use std::alloc::Global;
 /// where a device can't have so many nodes; or where memory ran out, also in a life.
 pub fn calls_of_last(alloc: Global, rehearsal: &mut Rehearsal) -> Result<Vec<Call>, RehearseRefused>
     requires { 2 ≤ length rehearsal.old.lives.items }
-    ensures calls { IfOk result (λ calls. AreCallsOf ⟦<Watched as Disk>⟧ rehearsal.old.nodes (written (armed_with plans.None rehearsal.old.lives.items)) calls.items) }
-    ensures nodes { rehearsal.new.nodes ≡ rehearsal.old.nodes }
-    ensures many { length rehearsal.new.lives.items ≡ length rehearsal.old.lives.items }
-    ensures lives { rehearsal.new.lives.items ≡ armed_with plans.None rehearsal.old.lives.items }
+    ensures calls { IfOk result (λ calls. AreCallsUnstopped ⟦<Watched as Disk>⟧ rehearsal.old calls.items) }
+    ensures armed { IsArmed plans.None rehearsal.old rehearsal.new }
 {
     arm_last(rehearsal, Plan::None);
     let written = &rehearsal.lives[..rehearsal.lives.len() - 1];

@@ -2,7 +2,6 @@
 ghost use Rattle.std.specs.Prelude.{◌≡◌, ◌++◌, IfOk, OnOk, Some, map};
 ghost use Rattle.std.specs.List.{flat_map};
 ghost use Rattle.std.specs.String.{string_bytes};
-ghost use Rattle.command_output.specs.Lines.{line};
 ghost use Rattle.stop_trials.specs.Texts.{IsTrialsText, count_line, head_text, kind_in};
 
 use crate::trial::StopFound;

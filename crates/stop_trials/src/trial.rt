@@ -1,7 +1,8 @@
 //! One trial.
 ghost use Rattle.std.specs.Prelude.{◌≡◌, ◌≤◌, IfOk, IsErrOf, length};
 ghost use Rattle.disk_trait.specs.declared.plan.Plan.TheVariants as plans;
-ghost use Rattle.stop_trials.specs.Arming.{armed_with};
+ghost use Rattle.rehearsals.specs.Rehearsed.{IsOutOfRange};
+ghost use Rattle.stop_trials.specs.Arming.{IsArmed};
 ghost use Rattle.stop_trials.specs.Trials.{IsLivedTo, IsStopFound};
 
 use crate::arming::arm_last;
@@ -27,12 +28,10 @@ pub fn try_stop(
     stop: Stop,
 ) -> Result<StopFound, RehearseRefused>
     requires { 2 ≤ length rehearsal.old.lives.items }
-    ensures found { IfOk result (λ found. IsStopFound ⟦<MemDisk as Disk>⟧ rehearsal.old.nodes rehearsal.old.lives.items found) }
+    ensures found { IfOk result (λ found. IsStopFound ⟦<MemDisk as Disk>⟧ rehearsal.old found) }
     ensures stop { IfOk result (λ found. found.stop ≡ stop) }
-    ensures nodes { rehearsal.new.nodes ≡ rehearsal.old.nodes }
-    ensures many { length rehearsal.new.lives.items ≡ length rehearsal.old.lives.items }
-    ensures lives { rehearsal.new.lives.items ≡ armed_with (plans.Stop stop.call stop.put) rehearsal.old.lives.items }
-    ensures out_of_range { IsErrOf result RehearseRefused.Nodes → ¬ ((1 ≤ rehearsal.old.nodes) × (rehearsal.old.nodes ≤ 16384)) }
+    ensures armed { IsArmed (plans.Stop stop.call stop.put) rehearsal.old rehearsal.new }
+    ensures out_of_range { IsErrOf result RehearseRefused.Nodes → IsOutOfRange rehearsal.old.nodes }
 {
     arm_last(rehearsal, Plan::Stop(stop.call, stop.put));
     let kind = lived(alloc, rehearsal.nodes, &rehearsal.lives)?;
@@ -42,7 +41,7 @@ pub fn try_stop(
 // Runs lives on a new device, and answers what the last two came to.
 fn lived(alloc: Global, nodes: u16, lives: &[Life]) -> Result<Kind, RehearseRefused>
     ensures lived { IfOk result (λ kind. IsLivedTo ⟦<MemDisk as Disk>⟧ nodes lives.now kind) }
-    ensures out_of_range { IsErrOf result RehearseRefused.Nodes → ¬ ((1 ≤ nodes) × (nodes ≤ 16384)) }
+    ensures out_of_range { IsErrOf result RehearseRefused.Nodes → IsOutOfRange nodes }
 {
     let report = run_lives(alloc, nodes, lives)?;
     match kind_of(&report) {

@@ -5,6 +5,7 @@ use checkpoint::{
 use disk_trait::{CrashDisk, Disk, MemDisk, Plan};
 use graph_edits::{Change, EditRefused, Graph, Op, Overlay};
 use requests::{Request, SESSIONS};
+use stand_ins::CRASH_WORDS;
 use std::alloc::{AllocError, Global};
 use std::fmt::Debug;
 use std::process::Abort;

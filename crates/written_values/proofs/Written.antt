@@ -14,7 +14,7 @@ some_same : {A : Type 0} (o : Option A) (a b : A) → o ≡ Some a → o ≡ Som
 some_same o a b is other = cc
 
 -- where the one list reads as the other is written, each place does
-read_at : {A B C : Type 0} (P : B → Type 0) (f : A → C) (g : B → C) (bs : List B) (xs : List A) (i : ℕ) (d : A) → i < length xs → AllByRecursion P bs → map g bs ≡ map f xs
+pub read_at : {A B C : Type 0} (P : B → Type 0) (f : A → C) (g : B → C) (bs : List B) (xs : List A) (i : ℕ) (d : A) → i < length xs → AllByRecursion P bs → map g bs ≡ map f xs
     → (b : B) × P b × (f (get_or xs i d) ≡ g b) × (take (suc i) bs ≡ take i bs ++ b ∷ [])
 read_at P f g bs [] i d lt fit same = absurd (omega arith)
 read_at P f g [] (x ∷ xs) i d lt fit same = absurd (cc)

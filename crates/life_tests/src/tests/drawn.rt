@@ -15,11 +15,7 @@ impl Drawer {
     // A number below a limit, none where the limit is 0.
     fn below(&mut self, limit: u16) -> u16 {
         let word = self.rng.next_u64();
-        if limit == 0 {
-            0
-        } else {
-            (word % limit as u64) as u16
-        }
+        u16::try_from(word.checked_rem(limit as u64).unwrap_or(0)).unwrap_or(0)
     }
 
     // A node, or one time in 32 one that isn't there.

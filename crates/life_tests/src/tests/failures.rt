@@ -86,7 +86,7 @@ fn device_fails_in_a_commit(rt: HostRuntime) {
 #[test]
 fn commits_without_a_failure(rt: HostRuntime) {
     // no fifth call is made
-    for word in WORDS {
+    for word in CRASH_WORDS {
         fails(&rt, rt.alloc(), life(&ASKS, Plan::Fail(5), word), &UP, 1);
     }
 }

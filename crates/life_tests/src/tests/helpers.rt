@@ -1,9 +1,6 @@
 // What the tests share: devices, lives as tables of their steps, and what a report shows.
 use super::*;
 
-// The words of crashes: as after the last sync, as a read gives, drawn bytes, zeros, and ones.
-pub(super) const WORDS: [u64; 5] = [0, 1, 7, 256, 257];
-
 // A path of five nodes.
 pub(super) const PATH: [Op; 4] = [
     Op::Add(0, 1, 1),
@@ -73,21 +70,6 @@ pub(super) fn same<T: Copy + PartialEq + Debug>(rt: &impl Abort, found: T, want:
     assert_eq!(rt; found, want, "{name}");
 }
 
-// A device of so many zeros, asked for again where memory was short.
-pub(super) fn blank(rt: &impl Abort, alloc: Global, len: usize) -> MemDisk {
-    match MemDisk::new(alloc, len) {
-        Ok(disk) => disk,
-        Err(_) => got(rt, MemDisk::new(alloc, len)),
-    }
-}
-
-// A device for so many nodes.
-pub(super) fn formatted(rt: &impl Abort, alloc: Global, nodes: u16) -> MemDisk {
-    let mut disk = blank(rt, alloc, DEVICE_LEN);
-    got(rt, format(&mut disk, nodes));
-    disk
-}
-
 // Session 0's editor, or another one's, asks for a change of these ops.
 pub(super) fn submit(rt: &impl Abort, session: u8, ticket: u64, ops: &[Op]) -> Event {
     let change = got(rt, Change::new(ops));
@@ -96,6 +78,11 @@ pub(super) fn submit(rt: &impl Abort, session: u8, ticket: u64, ops: &[Op]) -> E
         ticket,
         change,
     }
+}
+
+// A device for so many nodes.
+pub(super) fn formatted(rt: &impl Abort, alloc: Global, nodes: u16) -> MemDisk {
+    got(rt, stand_ins::formatted(alloc, nodes))
 }
 
 fn event(rt: &impl Abort, step: &Step) -> Event {

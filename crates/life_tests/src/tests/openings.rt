@@ -12,7 +12,7 @@ fn refused(rt: &impl Abort, alloc: Global, disk: MemDisk, want: OpenRefused) {
 #[test]
 fn refuses_what_is_no_store(rt: HostRuntime) {
     for len in [9, DEVICE_LEN] {
-        let disk = blank(&rt, rt.alloc(), len);
+        let disk = got(&rt, stand_ins::blank(rt.alloc(), len));
         refused(&rt, rt.alloc(), disk, OpenRefused::NotFormatted);
     }
 }

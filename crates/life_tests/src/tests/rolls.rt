@@ -49,10 +49,7 @@ fn record(rt: &impl Abort, alloc: Global, last: u64) -> Vec<u8> {
 }
 
 fn put(rt: &impl Abort, disk: &mut MemDisk, at: usize, bytes: &[u8]) {
-    if disk.len() < bytes.len() || disk.len() - bytes.len() < at {
-        panic!(rt; "no place there");
-    }
-    got(rt, disk.write_at(at, bytes));
+    got(rt, stand_ins::put(disk, at, bytes));
 }
 
 // A device for five nodes that has rolled once, with an edge, and so many records since.
@@ -158,7 +155,7 @@ const FAILED: Reply = Reply::NotCommitted(DeskRefused::Device);
 #[test]
 fn each_call_of_a_second_roll_fails(rt: HostRuntime) {
     for call in 1..7u64 {
-        for word in WORDS {
+        for word in CRASH_WORDS {
             rolls(&rt, rt.alloc(), Plan::Fail(call), word, FAILED, false);
         }
     }
@@ -175,7 +172,7 @@ const COMMITS: [(u64, [bool; 5]); 4] = [
 #[test]
 fn each_call_of_the_commit_behind_it_fails(rt: HostRuntime) {
     for (call, left) in &COMMITS {
-        for (word, is_in) in WORDS.iter().zip(left.iter()) {
+        for (word, is_in) in CRASH_WORDS.iter().zip(left.iter()) {
             rolls(&rt, rt.alloc(), Plan::Fail(*call), *word, FAILED, *is_in);
         }
     }
@@ -200,7 +197,7 @@ const STOPS: [(u64, usize); 9] = [
 #[test]
 fn a_second_roll_stops_inside_each_write(rt: HostRuntime) {
     for (call, most) in &STOPS {
-        for word in WORDS {
+        for word in CRASH_WORDS {
             rolls(
                 &rt,
                 rt.alloc(),

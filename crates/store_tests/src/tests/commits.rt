@@ -192,7 +192,7 @@ fn interrupts(
     want: Result<(), CommitRefused>,
     counts: &[u64; 5],
 ) {
-    for (word, count) in WORDS.iter().zip(counts.iter()) {
+    for (word, count) in CRASH_WORDS.iter().zip(counts.iter()) {
         let found = interrupted(rt, alloc, plan, *word);
         same(
             rt,

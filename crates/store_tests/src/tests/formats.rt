@@ -154,7 +154,7 @@ const TICKETS: [usize; 7] = [24, 30, 31, 279, 527, 534, 535];
 fn a_format_stops_inside_each_write(rt: HostRuntime) {
     let alloc = rt.alloc();
     let rt = &rt;
-    for word in &WORDS {
+    for word in &CRASH_WORDS {
         for (call, most) in &WRITES {
             for put in 0..=*most {
                 stops(rt, alloc, *call, put, *word);

@@ -86,7 +86,7 @@ fn the_largest_body_stops_at_its_ends(rt: HostRuntime) {
     let alloc = rt.alloc();
     let rt = &rt;
     let group = largest_group(rt, alloc);
-    for word in &WORDS {
+    for word in &CRASH_WORDS {
         let disk = with_edge(rt, alloc);
         // The first call writes 4 bytes of length, 9,858 of payload, and the next gate: none to 64 bytes, and all but 64 to all of them
         let disk = body_stops(rt, alloc, disk, &group, (0, 65), *word);
@@ -105,7 +105,7 @@ const BEHIND: [(Plan, [u64; 5]); 4] = [
 
 // Stops a commit by a plan, and sees its count after a crash by each of the words.
 fn record_stops(rt: &impl Abort, alloc: Global, group: &[Request], plan: Plan, counts: &[u64; 5]) {
-    for (word, count) in WORDS.iter().zip(counts.iter()) {
+    for (word, count) in CRASH_WORDS.iter().zip(counts.iter()) {
         let disk = stopped(rt, alloc, with_edge(rt, alloc), group, plan);
         let _disk = left(rt, alloc, disk, *word, *count).into_disk();
     }

@@ -1,5 +1,5 @@
 // What the tests share: devices, requests, calls that are made again where memory was short, and bytes on a device.
-ghost use Rattle.std.specs.Prelude.{◌≡◌, ◌≤◌, ◌+◌, length, IsTrue, IfOk, IsSome};
+ghost use Rattle.std.specs.Prelude.{IsTrue, IfOk, IsSome};
 ghost use Rattle.graph_edits.specs.Changes.{fold};
 ghost use Rattle.layout_2.specs.State.{changes_of, AreInTurn};
 
@@ -21,8 +21,6 @@ pub(super) const SECOND_EDGES: usize = 1_581_591;
 pub(super) const SECOND_AREA: usize = 2_109_440;
 
 pub(super) const ROOM: usize = 1_048_576;
-
-pub(super) const WORDS: [u64; 5] = [0, 1, 7, 256, 257];
 
 // Count, edges and the weight of one edge.
 pub(super) type Shown = (u64, usize, Option<u32>);
@@ -48,38 +46,24 @@ pub(super) fn same<T: Copy + PartialEq + Debug>(rt: &impl Abort, found: T, want:
 
 // ---- devices
 
-// A device of so many zeros, asked for again where memory was short.
+// A device of so many zeros.
 pub(super) fn blank(rt: &impl Abort, alloc: Global, len: usize) -> MemDisk {
-    match MemDisk::new(alloc, len) {
-        Ok(disk) => disk,
-        Err(_) => got(rt, MemDisk::new(alloc, len)),
-    }
+    got(rt, stand_ins::blank(alloc, len))
 }
 
+// A device for so many nodes.
 pub(super) fn formatted(rt: &impl Abort, alloc: Global, nodes: u16) -> MemDisk {
-    let mut disk = blank(rt, alloc, DEVICE_LEN);
-    got(rt, format(&mut disk, nodes));
-    disk
+    got(rt, stand_ins::formatted(alloc, nodes))
 }
 
-// The store of a device, asked for again where memory was short.
-pub(super) fn open_again(
-    alloc: Global,
-    disk: MemDisk,
-) -> Result<Store<MemDisk>, (OpenRefused, MemDisk)> {
-    match Store::open(alloc, disk) {
-        Err((OpenRefused::Memory, disk)) => Store::open(alloc, disk),
-        answer => answer,
-    }
-}
-
+// The store of a device.
 pub(super) fn opened(rt: &impl Abort, alloc: Global, disk: MemDisk) -> Store<MemDisk> {
-    got(rt, open_again(alloc, disk))
+    got(rt, stand_ins::opened(alloc, disk))
 }
 
 // Why a device can't be opened.
 fn refusal(alloc: Global, disk: MemDisk) -> Option<OpenRefused> {
-    match open_again(alloc, disk) {
+    match stand_ins::opened(alloc, disk) {
         Ok(_) => None,
         Err((refused, _)) => Some(refused),
     }
@@ -381,10 +365,7 @@ pub(super) fn reopened(rt: &impl Abort, alloc: Global, store: Store<MemDisk>) ->
 
 // Reads bytes of a device.
 fn reads(rt: &impl Abort, disk: &mut MemDisk, at: usize, bytes: &mut [u8]) {
-    if disk.len() < bytes.len() || disk.len() - bytes.len() < at {
-        panic!(rt; "no bytes there");
-    }
-    got(rt, disk.read(at, bytes));
+    got(rt, stand_ins::read_at(disk, at, bytes));
 }
 
 fn bytes<const N: usize>(rt: &impl Abort, disk: &mut MemDisk, at: usize) -> [u8; N] {
@@ -393,44 +374,14 @@ fn bytes<const N: usize>(rt: &impl Abort, disk: &mut MemDisk, at: usize) -> [u8;
     bytes
 }
 
-// The bytes that a text spells, at most 64, each by two hexadecimal digits; and how many they are.
-fn spelled(text: &str) -> ([u8; 64], usize)
-    ensures { result.1 ≤ 64 }
-{
-    let mut bytes = [0; 64];
-    let mut len = 0usize;
-    let mut high = None;
-    for digit in text.as_bytes() {
-        let low = match *digit {
-            b' ' => continue,
-            b'0'..=b'9' => *digit - b'0',
-            letter => letter.wrapping_sub(b'a').wrapping_add(10),
-        };
-        let Some(first) = high else {
-            high = Some(low);
-            continue;
-        };
-        if len < bytes.len() {
-            bytes[len] = u8::wrapping_mul(first, 16).wrapping_add(low);
-            len += 1;
-        }
-        high = None;
-    }
-    (bytes, len.min(64))
-}
-
 // Puts bytes on a device.
 pub(super) fn put(rt: &impl Abort, disk: &mut MemDisk, at: usize, bytes: &[u8]) {
-    if disk.len() < bytes.len() || disk.len() - bytes.len() < at {
-        panic!(rt; "no place there");
-    }
-    got(rt, disk.write_at(at, bytes));
+    got(rt, stand_ins::put(disk, at, bytes));
 }
 
 // Puts the bytes that a text spells.
 pub(super) fn put_text(rt: &impl Abort, disk: &mut MemDisk, at: usize, text: &str) {
-    let (bytes, len) = spelled(text);
-    put(rt, disk, at, &bytes[..len]);
+    got(rt, stand_ins::put_spelled(disk, at, text));
 }
 
 // A device with one byte changed.
@@ -442,10 +393,8 @@ pub(super) fn spoilt(rt: &impl Abort, disk: MemDisk, at: usize, byte: u8) -> Mem
 
 // Sees that a device has the bytes that a text spells.
 pub(super) fn shows(rt: &impl Abort, disk: &mut MemDisk, at: usize, text: &str) {
-    let (want, len) = spelled(text);
-    let mut found = [0; 64];
-    reads(rt, disk, at, &mut found[..len]);
-    assert!(rt; found[..len] == want[..len], "{text} at {at}");
+    let found = got(rt, stand_ins::has_spelled(disk, at, text));
+    same(rt, (at, found), (at, true), text);
 }
 
 // The same of a device that is used no more.
@@ -496,7 +445,7 @@ pub(super) fn store_of(
     disk: MemDisk,
     name: &str,
 ) -> Option<Store<MemDisk>> {
-    match open_again(alloc, disk) {
+    match stand_ins::opened(alloc, disk) {
         Ok(store) => Some(store),
         Err((refused, _)) => {
             same(rt, refused, OpenRefused::Damaged, name);

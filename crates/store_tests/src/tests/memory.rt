@@ -88,15 +88,18 @@ fn ends_used(rt: &impl Abort, store: Store<MemDisk>) {
     assert_used(rt, &store)
 }
 
+// The digest of a device before a call, and whether the device is opened again where memory was refused.
+type Left = (u64, bool);
+
 // The store after a refusal: the same, or that of the device as it was left.
 fn after_refusal(
     rt: &impl Abort,
     alloc: Global,
     store: Store<MemDisk>,
-    before: u64,
-    reopens: bool,
+    left: Left,
 ) -> Store<MemDisk> {
     assert_used(rt, &store);
+    let (before, reopens) = left;
     if !reopens {
         return store;
     }
@@ -143,13 +146,13 @@ fn takes_again(
     alloc: Global,
     store: Store<MemDisk>,
     group: &[Request],
-    left: (u64, bool),
+    left: Left,
 ) -> Store<MemDisk> {
     let mut store = store;
     let answer = commit_once(rt, alloc, &mut store, group);
     if answer.is_err() {
         same(rt, answer, Err(CommitRefused::Memory), "refused");
-        store = after_refusal(rt, alloc, store, left.0, left.1);
+        store = after_refusal(rt, alloc, store, left);
         got(rt, commit_once(rt, alloc, &mut store, group));
     }
     assert_committed(rt, &store);
@@ -174,7 +177,7 @@ fn a_commit_without_memory_writes_nothing(rt: HostRuntime) {
 fn rolls_again(rt: &impl Abort, alloc: Global, reopens: bool) {
     let mut disk = used_device(rt, alloc);
     let before = digest(rt, &mut disk);
-    let store = rolled_again(rt, alloc, opened(rt, alloc, disk), before, reopens);
+    let store = rolled_again(rt, alloc, opened(rt, alloc, disk), (before, reopens));
     let mut disk = store.into_disk();
     // an open gate, epoch 3, count 5, nodes 9, five edges, ticket 3 of session 0; and the first edge, 0-1 of weight 9
     let front = "01 0000000000000003 0000000000000005 0009 00000005 0000000000000003";
@@ -188,14 +191,13 @@ fn rolled_again(
     rt: &impl Abort,
     alloc: Global,
     store: Store<MemDisk>,
-    before: u64,
-    reopens: bool,
+    left: Left,
 ) -> Store<MemDisk> {
     let mut store = store;
     let answer = store.roll(alloc);
     if answer.is_err() {
         same(rt, answer, Err(RollRefused::Memory), "refused");
-        store = after_refusal(rt, alloc, store, before, reopens);
+        store = after_refusal(rt, alloc, store, left);
         got(rt, store.roll(alloc));
     }
     assert_used(rt, &store);

@@ -57,7 +57,7 @@ fn refuses_what_is_no_store(rt: HostRuntime) {
 
 // Why an opening is refused that has to be, and the device.
 fn refused(rt: &impl Abort, alloc: Global, disk: MemDisk) -> (OpenRefused, MemDisk) {
-    match open_again(alloc, disk) {
+    match stand_ins::opened(alloc, disk) {
         Ok(_) => panic!(rt; "opened though a call failed"),
         Err(refused) => refused,
     }

@@ -144,7 +144,7 @@ const DEVICE: Result<(), RollRefused> = Err(RollRefused::Device);
 fn each_call_of_a_roll_fails(rt: HostRuntime) {
     let alloc = rt.alloc();
     let rt = &rt;
-    for word in &WORDS {
+    for word in &CRASH_WORDS {
         // no call is left out, and none is made besides
         for call in 1..7u64 {
             rolls_by(rt, alloc, Plan::Fail(call), DEVICE, *word);
@@ -175,7 +175,7 @@ const STOPS: [(u64, usize); 16] = [
 
 #[test]
 fn a_roll_stops_inside_each_write(rt: HostRuntime) {
-    for word in &WORDS {
+    for word in &CRASH_WORDS {
         for (call, put) in &STOPS {
             rolls_by(&rt, rt.alloc(), Plan::Stop(*call, *put), DEVICE, *word);
         }

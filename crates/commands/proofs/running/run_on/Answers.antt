@@ -1,6 +1,6 @@
 use Rattle.std.proofs.Common.{refl}
 use Rattle.clap.specs.Walk.{texts}
-use Rattle.commands.specs.Runs.{PutBy}
+use Rattle.table_files.specs.Files.{PutBy}
 use Rattle.commands.proofs.Faults.{refused_for}
 use Rattle.commands.proofs.Serving.{may_run}
 use Rattle.commands.proofs.ToldRuns.{asked_so, refused_so}

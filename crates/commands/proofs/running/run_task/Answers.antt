@@ -3,7 +3,8 @@ use Rattle.command_line.specs.declared.task.Task.TheVariants.{Format, Show, Edit
 use Rattle.commands.specs.declared.devices.Access.TheVariants.{ToRead}
 use Rattle.commands.specs.Endings.{IsRouteEnd}
 use Rattle.commands.specs.Printed.{PrintsRoutes}
-use Rattle.commands.specs.Runs.{EndsAt, EndsTablesAt, PutBy}
+use Rattle.commands.specs.Runs.{EndsAt, EndsTablesAt}
+use Rattle.table_files.specs.Files.{PutBy}
 use Rattle.commands.specs.ServedScripts.{MayRun}
 use Rattle.commands.proofs.Faults.{ends_task}
 use Rattle.commands.proofs.running.run_task.Goals as goal

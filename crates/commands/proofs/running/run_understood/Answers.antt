@@ -1,7 +1,9 @@
 use Rattle.std.proofs.Common.{◌≡◌, refl, sym, subst}
 use Rattle.command_line.specs.declared.task.Task.{Task}
+use Rattle.commands.specs.Endings.{MayEnd}
 use Rattle.commands.specs.Outcomes.{IsOutcomeOf}
-use Rattle.commands.specs.Runs.{PutBy}
+use Rattle.commands.specs.Printed.{PrintedFor}
+use Rattle.table_files.specs.Files.{PutBy}
 use Rattle.commands.specs.ServedScripts.{IsLiveService, IsService}
 use Rattle.commands.proofs.ToldRuns.{not_live, service_so, told_behind, told_so}
 use Rattle.commands.proofs.running.run_understood.Goals as goal
@@ -30,12 +32,17 @@ returns-in-Serve-clause-unput g c other batch =
 
 pub returns-in_default-clause-runs : goal.returns-in_default-clause-runs
 returns-in_default-clause-runs g c =
+    let there = g.F.Devices.opened c.args.devices.now in
+    let put = PutBy g.T.TableFiles.puts c.args.tables.now c.run_task.new.tables in
     let given = g.S.Read.remaining c.args.script.now in
+    let old = g.O.Write.contents c.args.out.now in
+    let new = g.O.Write.contents c.run_task.new.out in
+    let told_old = g.E.FaultWriter.contents c.args.err.now in
+    let told_new = g.E.FaultWriter.contents c.told.new.err in
     let ends = c.run_task.ensures.ends given in
     record {
-      outcome = told_so g.F.Device.Disk (g.F.Devices.opened c.args.devices.now) (PutBy g.T.TableFiles.puts c.args.tables.now c.run_task.new.tables) c.args.task given
-          (g.O.Write.contents c.args.out.now) (g.O.Write.contents c.run_task.new.out) (g.E.FaultWriter.contents c.args.err.now) (g.E.FaultWriter.contents c.told.new.err)
+      outcome = told_so (λ ended. PrintedFor g.F.Device.Disk there put c.args.task given ended old new) (λ fault. MayEnd g.F.Device.Disk there put c.args.task given old new fault) told_old told_new
           c.run_task.result c.told.result c.told.ensures.told ends.printed ends.fault;
-      untouched = λ other. told_behind (c.run_task.new.out ≡ c.args.out.now) (g.E.FaultWriter.contents c.args.err.now) (g.E.FaultWriter.contents c.told.new.err) c.run_task.result c.told.result c.told.ensures.told ends.untouched;
+      untouched = λ other. told_behind (c.run_task.new.out ≡ c.args.out.now) told_old told_new c.run_task.result c.told.result c.told.ensures.told ends.untouched;
       unread = λ other. refl {a = c.args.script.now};
     }

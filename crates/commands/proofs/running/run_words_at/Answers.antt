@@ -1,6 +1,6 @@
 use Rattle.clap.specs.Walk.{texts}
 use Rattle.commands.specs.Devices.{IsFileOf}
-use Rattle.commands.specs.Runs.{PutBy}
+use Rattle.table_files.specs.Files.{PutBy}
 use Rattle.commands.proofs.Answering.{says}
 use Rattle.commands.proofs.running.run_words_at.Goals as goal
 

@@ -1,5 +1,6 @@
-use Rattle.commands.specs.Endings.{IsCheckEnd}
-use Rattle.commands.proofs.OnDevices.{check_end, check_printed, told_of}
+use Rattle.commands.specs.Endings.{IsCheckDeviceFault, IsCheckEnd}
+use Rattle.commands.specs.Queries.{IsCheckIn}
+use Rattle.commands.proofs.OnDevices.{asking_end, check_printed, told_of}
 use Rattle.commands.proofs.scheme_tasks.check_on.Goals as goal
 
 pub returns : goal.returns
@@ -8,9 +9,8 @@ returns g c =
     let disk = g.D.Disk.view c.args.disk in
     let left = g.D.Disk.view c.check_device-answer.result.1 in
     record {
-      printed = check_printed c.print_checked.result c.check_device-answer.result.0 c.args.asked.now disk left (g.O.Write.contents c.args.out.now) (g.O.Write.contents c.print_checked.new.out)
-          by.of_one by.generation by.answer by.reading.reads c.print_checked.ensures.printed;
+      printed = check_printed c.print_checked.result c.check_device-answer.result.0 c.args.asked.now disk left (g.O.Write.contents c.args.out.now) (g.O.Write.contents c.print_checked.new.out) by c.print_checked.ensures.printed;
       fault = told_of c.print_checked.result c.check_device-answer.result.0 (λ fault. IsCheckEnd c.args.asked.now disk left fault) c.print_checked.ensures.fault
-          (check_end c.check_device-answer.result.0 c.args.asked.now disk left by.fault by.reading by.not_within);
+          (asking_end c.args.asked.now IsCheckIn IsCheckDeviceFault disk left c.check_device-answer.result.0 by);
       untouched = c.print_checked.ensures.untouched;
     }

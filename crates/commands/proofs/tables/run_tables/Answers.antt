@@ -1,6 +1,6 @@
 use Rattle.commands.specs.declared.devices.Access.TheVariants.{ToRead}
 use Rattle.commands.specs.Printed.{PrintsTables}
-use Rattle.commands.specs.Runs.{PutBy}
+use Rattle.table_files.specs.Files.{PutBy}
 use Rattle.commands.proofs.OnDevices.{opened_ok}
 use Rattle.commands.proofs.Tabling.{tables_opened}
 use Rattle.commands.proofs.tables.run_tables.Goals as goal

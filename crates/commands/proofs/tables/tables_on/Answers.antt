@@ -1,5 +1,4 @@
-use Rattle.commands.specs.Runs.{PutBy}
-use Rattle.commands.proofs.OnDevices.{check_end}
+use Rattle.table_files.specs.Files.{PutBy}
 use Rattle.commands.proofs.Tabling.{tables_end, tables_printed}
 use Rattle.commands.proofs.tables.tables_on.Goals as goal
 
@@ -10,9 +9,7 @@ returns g c =
     let disk = g.D.Disk.view c.args.disk in
     let left = g.D.Disk.view c.scheme_of_device-answer.result.1 in
     record {
-      printed = tables_printed c.put_found.result c.scheme_of_device-answer.result.0 c.args.asked.now c.args.folder.now c.args.named.now put disk left (g.O.Write.contents c.args.out.now) (g.O.Write.contents c.put_found.new.out)
-          by.of_one by.generation by.answer by.reading.reads c.put_found.ensures.printed;
-      fault = tables_end c.put_found.result c.scheme_of_device-answer.result.0 c.args.asked.now c.args.folder.now c.args.named.now put disk left by.of_one by.answer by.reading.reads
-          (check_end c.scheme_of_device-answer.result.0 c.args.asked.now disk left by.fault by.reading by.not_within) c.put_found.ensures.fault;
+      printed = tables_printed c.put_found.result c.scheme_of_device-answer.result.0 c.args.asked.now c.args.folder.now c.args.named.now put disk left (g.O.Write.contents c.args.out.now) (g.O.Write.contents c.put_found.new.out) by c.put_found.ensures.printed;
+      fault = tables_end c.put_found.result c.scheme_of_device-answer.result.0 c.args.asked.now c.args.folder.now c.args.named.now put disk left by c.put_found.ensures.fault;
       untouched = c.put_found.ensures.untouched;
     }

@@ -5,19 +5,21 @@ use Rattle.live_service.proofs.Answering.{edit_said}
 use Rattle.live_service.proofs.OldTickets.{old_said}
 use Rattle.live_service.proofs.editing.edited.Goals as goal
 
-pub returns-in-Settled-clause-said : goal.returns-in-Settled-clause-said
-returns-in-Settled-clause-said g c =
+pub returns-in-Settled-clause-answers : goal.returns-in-Settled-clause-answers
+returns-in-Settled-clause-answers g c =
     let new = c.in_ok-editor.editor.editor in
     let of : c.args.session ≡ c.args.editor.editor.session = search rules in
     let end = subst (λ (e : EditEnd). IsEditEnd c.args.editor.editor c.in_ok-editor.ticket c.args.change new e) c.in-Settled.is c.in_ok-editor.ensures.ended in
-    edit_said new.known c.args.session c.args.ticket c.args.change c.in_ok-editor.ticket c.in-Settled.mark (end.0.told.0 ∙ sym of) end.1 end.0.told.1
+    let said = edit_said new.known c.args.session c.args.ticket c.args.change c.in_ok-editor.ticket c.in-Settled.mark (end.0.told.0 ∙ sym of) end.1 end.0.told.1 in
+    record { fits = search rules; said = said }
 
-pub returns-in-AlreadyIn-clause-said : goal.returns-in-AlreadyIn-clause-said
-returns-in-AlreadyIn-clause-said g c =
+pub returns-in-AlreadyIn-clause-answers : goal.returns-in-AlreadyIn-clause-answers
+returns-in-AlreadyIn-clause-answers g c =
     let new = c.in_ok-editor.editor.editor in
     let of : c.args.session ≡ c.args.editor.editor.session = search rules in
     let end = subst (λ (e : EditEnd). IsEditEnd c.args.editor.editor c.in_ok-editor.ticket c.args.change new e) c.in-AlreadyIn.is c.in_ok-editor.ensures.ended in
-    old_said g.B.Naming.opening new.known c.args.editor.editor c.args.session c.args.ticket c.args.change c.in_ok-editor.ticket c.in_ok-editor.editor.named of c.args.editor.start_is end.1
+    let said = old_said g.B.Naming.opening new.known c.args.editor.editor c.args.session c.args.ticket c.args.change c.in_ok-editor.ticket c.in_ok-editor.editor.named of c.args.editor.start_is end.1 in
+    record { fits = search rules; said = said }
 
 pub returns-in-Settled-clause-put : goal.returns-in-Settled-clause-put
 returns-in-Settled-clause-put g c =

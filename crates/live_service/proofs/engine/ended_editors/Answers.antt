@@ -14,11 +14,11 @@ loop-handle-preserved g c =
     let same = c.ended_next-ended.ensures.same in (
       All-rest (λ h. h.promise.editor.value.editor.queue ≡ queue_of c.args.committer.now) c.in-Some.handle (into_iter_items c.next.new.self) (into_iter_items c.loop-handle.handle-iterator) c.in-Some.ensures.steps.0 was.0,
       (
-        same.1.1 ∙ was.1.0,
+        same.queue ∙ was.1.0,
         (
-          same.1.0 ∙ was.1.1.0,
+          same.got ∙ was.1.1.0,
           (
-            same.0 ∙ was.1.1.1.0,
+            same.store ∙ was.1.1.1.0,
             each_more (λ session. ArePutInOrder g.J.Stream.input g.J.Stream.editors (of session (got_of c.args.committer.now))) c.loop-handle.ended c.ended_next-ended.result was.1.1.1.1
                 (subst (λ got. (c.ended_next-ended.result ≡ c.loop-handle.ended) ⊎ ((c.ended_next-ended.result ≡ c.loop-handle.ended + 1) × ArePutInOrder g.J.Stream.input g.J.Stream.editors (of c.loop-handle.ended got))) was.1.1.0 c.ended_next-ended.ensures.more),
           ),

@@ -1,5 +1,6 @@
-use Rattle.service_threads.proofs.Settling.{some_settled}
+use Rattle.std.proofs.Common.{refl}
+use Rattle.live_service.proofs.Ended.{memory_early}
 use Rattle.live_service.proofs.engine.seat.Goals as goal
 
-pub returns-in-Err-clause-settled : goal.returns-in-Err-clause-settled
-returns-in-Err-clause-settled g c = some_settled c.args.parts.opened.store c.args.parts.opened.up
+pub returns-in-Err : goal.returns-in-Err
+returns-in-Err g c = memory_early g.B.Naming.opening c.args.parts.opened.store c.args.parts.opened.store g.J.Stream.input g.J.Stream.editors c.args.parts.opened.up refl

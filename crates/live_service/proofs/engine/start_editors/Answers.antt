@@ -4,8 +4,7 @@ use Rattle.std.specs.Vec.Iter.{into_iter_items}
 use Rattle.std.specs.Prelude.{IfSome}
 use Rattle.intake.specs.Editors.{Editing}
 use Rattle.service_workers.specs.declared.session_editor.SessionEditor.{SessionEditor}
-use Rattle.service_workers.specs.Edited.{IsSameEditor}
-use Rattle.live_service.specs.Submits.{ArePutInOrder}
+use Rattle.live_service.specs.Submits.{ComesBack}
 use Rattle.live_service.proofs.engine.start_editors.Goals as goal
 
 pub loop-editor-preserved : goal.loop-editor-preserved
@@ -31,4 +30,4 @@ returns-in-Err g c = record { queue = λ q all. (c.loop-editor.invariant.1 q all
 
 pub spawn_with-requires-clause-keeps : goal.spawn_with-requires-clause-keeps
 spawn_with-requires-clause-keeps g c κs within r kept =
-    subst (λ (s : SessionEditor g.row.B.Denot g.B.Naming). IfSome r (λ (e : SessionEditor g.row.B.Denot g.B.Naming). IsSameEditor s.editor e.editor × ArePutInOrder g.J.Stream.input g.J.Stream.editors e.editor.put)) (sym c.of.ensures) kept
+    subst (λ (s : SessionEditor g.row.B.Denot g.B.Naming). IfSome r (λ (e : SessionEditor g.row.B.Denot g.B.Naming). ComesBack g.J.Stream.input g.J.Stream.editors s.editor e.editor)) (sym c.of.ensures) kept

@@ -1,12 +1,11 @@
 use Rattle.std.proofs.Common.{◌≡◌, ◌≢◌, ℕ, sym, subst, Some}
-use Rattle.std.specs.Prelude.{IsSomeAnd}
 use Rattle.command_output.specs.declared.fault.Fault.{Fault}
 use Rattle.command_output.specs.declared.fault.Fault.TheVariants.{Output}
 use Rattle.service_lines.specs.ServedLines.{IsServeEnd}
 use Rattle.service_lines.proofs.Telling.{told_end}
 use Rattle.live_service.specs.Ends.{fault_of}
 use Rattle.live_service.specs.Inputs.{Script}
-use Rattle.live_service.specs.ServedList.{HasAnsweredScript}
+use Rattle.live_service.specs.Services.{AnswersScript}
 use Rattle.live_service.proofs.Ended.{engine_ends, err_of, ok_of}
 use Rattle.live_service.proofs.OneListed.{opened_left, read_left, script_answered}
 use Rattle.live_service.proofs.script.serve_lines.Goals as goal
@@ -35,15 +34,14 @@ returns-clause-untouched g c =
 pub returns-clause-left : goal.returns-clause-left
 returns-clause-left g c =
     let ended = c.serve_script-served.ensures.engine_end in
-    opened_left c.args.disk c.in-Ok.opened.0 ended.0 c.serve_script-served.result.1 c.standing_law.ensures
-    (record { held = λ model. (c.in-Ok.ensures.opened.of_model model).stands; reads = λ model. (c.in-Ok.ensures.opened.of_model model).reads; ran = c.in-Ok.ensures.opened.ran }) ended.1.disk
+    opened_left c.args.disk c.in-Ok.opened.0 ended.0 c.serve_script-served.result.1 c.standing_law.ensures c.in-Ok.ensures.opened ended.1.disk
 
 pub returns-clause-one_list : goal.returns-clause-one_list
 returns-clause-one_list g c =
     let store = c.in-Ok.opened.0 in
     let back = c.serve_script-served.result.1 in
-    let new = g.O.Write.contents c.serve_script-served.new.out in
+    let text = g.O.Write.contents in
+    let new = c.serve_script-served.new.out in
     ok_of c.result_of.result (c.serve_script-served.result.0) _ c.result_of.ensures.printed
-    (λ is. subst (λ (n : ℕ). IsSomeAnd back (λ d. HasAnsweredScript g.D.Disk c.args.disk d (Script c.args.script.items) n (g.O.Write.contents c.args.out.now) new)) c.seated.ensures.editors
-    (script_answered c.args.disk store (Script c.args.script.items) c.seated.result.editors (g.O.Write.contents c.args.out.now) new back
-    (record { held = λ model. (c.in-Ok.ensures.opened.of_model model).stands; reads = λ model. (c.in-Ok.ensures.opened.of_model model).reads; ran = c.in-Ok.ensures.opened.ran }) (c.serve_script-served.ensures.one_list is)))
+    (λ is. subst (λ (n : ℕ). AnswersScript g.D.Disk c.args.disk back c.args.script.items n text c.args.out.now new) c.seated.ensures.editors
+    (script_answered c.args.disk store (Script c.args.script.items) c.seated.result.editors (text c.args.out.now) (text new) back c.in-Ok.ensures.opened (c.serve_script-served.ensures.one_list is)))

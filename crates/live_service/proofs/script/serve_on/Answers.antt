@@ -1,13 +1,19 @@
 use Rattle.std.proofs.Common.{inl, inr, subst}
-use Rattle.service_lines.specs.ServedLines.{IsServedSo}
+use Rattle.std.specs.Prelude.{IfSome}
+use Rattle.service_lines.specs.declared.served.Served.{Served}
+use Rattle.live_service.specs.Ends.{TellsEnd, fault_of}
+use Rattle.live_service.specs.Services.{FailsScript}
 use Rattle.live_service.proofs.script.serve_on.Goals as goal
 
 pub returns-in-Told-clause-fault : goal.returns-in-Told-clause-fault
 returns-in-Told-clause-fault g c =
-    let so = subst (IsServedSo g.D.Disk c.args.disk c.args.words c.serve_told-served.result.1 c.args.script.items (g.O.Write.contents c.args.out.now) (g.O.Write.contents c.serve_told-served.new.out) (g.E.FaultWriter.contents c.args.err.now) (g.E.FaultWriter.contents c.serve_told-served.new.err)) c.in-Told.is c.serve_told-served.ensures.so in
-    inr (c.in-Told.fault, so.0, c.status.ensures.value, c.serve_told-served.ensures.untouched c.in-Told.fault (inl c.in-Told.is), inl so.1)
+    let by = c.serve_told-served in
+    let fails = subst (λ (s : Served). IfSome (fault_of s) (λ fault. FailsScript g.D.Disk c.args.disk c.args.words by.result.1 c.args.out.now by.new.out fault)) c.in-Told.is by.ensures.fault in
+    let told = subst (λ (s : Served). TellsEnd g.E.FaultWriter.contents g.E.FaultWriter.has_failed c.args.err.now by.new.err s) c.in-Told.is by.ensures.told in
+    inr (c.in-Told.fault, fails, c.status.ensures.value, inl told.said)
 
 pub returns-in-Untold-clause-fault : goal.returns-in-Untold-clause-fault
 returns-in-Untold-clause-fault g c =
-    let is = subst (IsServedSo g.D.Disk c.args.disk c.args.words c.serve_told-served.result.1 c.args.script.items (g.O.Write.contents c.args.out.now) (g.O.Write.contents c.serve_told-served.new.out) (g.E.FaultWriter.contents c.args.err.now) (g.E.FaultWriter.contents c.serve_told-served.new.err)) c.in-Untold.is c.serve_told-served.ensures.so in
-    inr (c.in-Untold.fault, is, c.status-in-Untold.ensures.value, c.serve_told-served.ensures.untouched c.in-Untold.fault (inr c.in-Untold.is), inr (c.serve_told-served.ensures.untold c.in-Untold.fault c.in-Untold.is))
+    let by = c.serve_told-served in
+    let fails = subst (λ (s : Served). IfSome (fault_of s) (λ fault. FailsScript g.D.Disk c.args.disk c.args.words by.result.1 c.args.out.now by.new.out fault)) c.in-Untold.is by.ensures.fault in
+    inr (c.in-Untold.fault, fails, c.status-in-Untold.ensures.value, inr (by.ensures.told.untold c.in-Untold.fault c.in-Untold.is))

@@ -1,10 +1,10 @@
 use Rattle.std.proofs.Common.{◌∙◌, ℕ, ap, refl, sym, subst, Some}
-use Rattle.std.specs.Prelude.{IfSome, IsSomeAnd}
+use Rattle.std.specs.Prelude.{IfSome}
 use Rattle.service_lines.specs.ServedLines.{IsServeEnd}
 use Rattle.service_lines.proofs.Telling.{told_end}
 use Rattle.live_service.specs.Ends.{fault_of}
 use Rattle.live_service.specs.Inputs.{Bytes}
-use Rattle.live_service.specs.ServedList.{HasAnswered}
+use Rattle.live_service.specs.Services.{AnswersInput}
 use Rattle.live_service.proofs.Ended.{engine_ends, none_to, not_printed}
 use Rattle.live_service.proofs.OneListed.{answered, opened_left, read_left}
 use Rattle.live_service.proofs.serve.serve_live.Goals as goal
@@ -32,8 +32,7 @@ returns-clause-ended g c =
 pub returns-clause-left : goal.returns-clause-left
 returns-clause-left g c =
     let ended = c.serve_stream.ensures.ended in
-    opened_left c.args.disk c.in-Ok.opened.0 ended.0 c.serve_stream.result.1 c.standing_law.ensures
-    (record { held = λ model. (c.in-Ok.ensures.opened.of_model model).stands; reads = λ model. (c.in-Ok.ensures.opened.of_model model).reads; ran = c.in-Ok.ensures.opened.ran }) ended.1.disk
+    opened_left c.args.disk c.in-Ok.opened.0 ended.0 c.serve_stream.result.1 c.standing_law.ensures c.in-Ok.ensures.opened ended.1.disk
 
 pub returns-in-Err-clause-one_list : goal.returns-in-Err-clause-one_list
 returns-in-Err-clause-one_list g c is = absurd (not_printed c.told.result _ c.told.ensures.fault is)
@@ -42,6 +41,7 @@ pub returns-clause-one_list : goal.returns-clause-one_list
 returns-clause-one_list g c is =
     let store = c.in-Ok.opened.0 in
     let back = c.serve_stream.result.1 in
-    subst (λ (n : ℕ). IsSomeAnd back (λ d. HasAnswered g.D.Disk c.args.disk d (Bytes (g.S.Read.remaining c.args.input)) n (g.O.Write.contents c.args.out.now) (g.O.Write.contents c.serve_stream.new.out))) c.seated.ensures.editors
-    (answered c.args.disk store (Bytes (g.S.Read.remaining c.args.input)) c.seated.result.editors (g.O.Write.contents c.args.out.now) (g.O.Write.contents c.serve_stream.new.out) back
-    (record { held = λ model. (c.in-Ok.ensures.opened.of_model model).stands; reads = λ model. (c.in-Ok.ensures.opened.of_model model).reads; ran = c.in-Ok.ensures.opened.ran }) (c.serve_stream.ensures.one_list is))
+    let input = Bytes (g.S.Read.remaining c.args.input) in
+    let text = g.O.Write.contents in
+    subst (λ (n : ℕ). AnswersInput g.D.Disk c.args.disk back input n text c.args.out.now c.serve_stream.new.out) c.seated.ensures.editors
+    (answered c.args.disk store input c.seated.result.editors (text c.args.out.now) (text c.serve_stream.new.out) back c.in-Ok.ensures.opened (c.serve_stream.ensures.one_list is))

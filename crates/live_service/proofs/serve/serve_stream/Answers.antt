@@ -1,5 +1,5 @@
-use Rattle.std.proofs.Common.{rules, ⊎_elim, ap, sym, subst, IsTrue}
-use Rattle.live_service.specs.Ends.{HasToldSo}
+use Rattle.std.proofs.Common.{rules, ⊎_elim, ap, sym, subst}
+use Rattle.live_service.specs.Ends.{TellsEnd}
 use Rattle.live_service.specs.Runs.{PrintsSo, PrintsTo}
 use Rattle.live_service.specs.ServedList.{HasPrintedOn}
 use Rattle.live_service.proofs.Ended.{prints_on, ran_of, run_prints}
@@ -17,16 +17,11 @@ returns-clause-printed g c =
 pub returns-clause-told : goal.returns-clause-told
 returns-clause-told g c =
     let text = g.E.FaultWriter.contents in
+    let has_failed = g.E.FaultWriter.has_failed in
     let ended = c.serve_opened-terminal.result.1 in
-    let now = text c.serve_opened-terminal.result.0.err.now in
-    let told : HasToldSo (text c.args.err.now) now ended =
-    ⊎_elim (λ ran. subst (λ e. HasToldSo (text e) now ended) ran.printing.2 ran.finishing.3) (λ none. none.finishing.3) c.serve_opened-terminal.ensures.console in
-    search rules
-
-pub returns-clause-untold : goal.returns-clause-untold
-returns-clause-untold g c fault is =
-    let failed : IsTrue (g.E.FaultWriter.has_failed c.serve_opened-terminal.result.0.err.now) =
-    ⊎_elim (λ ran. ran.finishing.4 fault is) (λ none. none.finishing.4 fault is) c.serve_opened-terminal.ensures.console in
+    let now = c.serve_opened-terminal.result.0.err.now in
+    let told : TellsEnd text has_failed c.args.err.now now ended =
+    ⊎_elim (λ ran. subst (λ e. TellsEnd text has_failed e now ended) ran.printing.2 ran.finishing.3) (λ none. none.finishing.3) c.serve_opened-terminal.ensures.console in
     search rules
 
 pub returns-clause-one_list : goal.returns-clause-one_list

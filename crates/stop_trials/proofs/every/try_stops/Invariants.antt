@@ -1,17 +1,15 @@
 use Rattle.std.proofs.Common.{◌≡◌, length, map, take}
 use Rattle.std.specs.List.{AllByRecursion}
 use Rattle.disk_trait.specs.contracts.memory.MemDiskDisk.TheImpl.{ghosts}
-use Rattle.disk_trait.specs.declared.plan.Plan.{Plan}
-use Rattle.stop_trials.specs.Arming.{armed_with}
 use Rattle.stop_trials.specs.Trials.{IsStopFound, stop_of}
+use Rattle.stop_trials.proofs.EveryLemmas.{AreAlike}
 use Rattle.stop_trials.proofs.every.try_stops.Given as goal
 
 -- the stops so far were tried, of lives that are the first ones but for a plan
 abbrev pub invariant-loop-stop : goal.invariant-loop-stop
 invariant-loop-stop g l = record {
-  nodes : l.rehearsal.nodes ≡ l.initial.rehearsal.nodes;
   many : length l.rehearsal.lives.items ≡ length l.initial.rehearsal.lives.items;
-  lives : (plan : Plan) → armed_with plan l.rehearsal.lives.items ≡ armed_with plan l.initial.rehearsal.lives.items;
+  alike : AreAlike l.initial.rehearsal l.rehearsal;
   stops : map stop_of l.tried.items ≡ take l.stop-index l.stops;
-  found : AllByRecursion (IsStopFound ghosts l.initial.rehearsal.nodes l.initial.rehearsal.lives.items) l.tried.items;
+  found : AllByRecursion (IsStopFound ghosts l.initial.rehearsal) l.tried.items;
 }

@@ -1,4 +1,4 @@
-use Rattle.std.proofs.Common.{◌≡◌, ◌∙◌, ◌+◌, ap, sym, take, drop, get_or}
+use Rattle.std.proofs.Common.{◌∙◌, ◌+◌, ap, sym, take, drop, get_or}
 use Rattle.graph_edits.specs.declared.edits.Op.{Op}
 use Rattle.graph_edits.specs.declared.edits.Op.TheVariants.{Add}
 use Rattle.graph_edits.specs.Changes.{edges_after, edges_after_op, refusal_at, with_ops}
