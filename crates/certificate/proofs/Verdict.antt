@@ -32,25 +32,16 @@ rule_back k8 = refl
 one_rule : (j k : Rule) → number_of j ≡ number_of k → j ≡ k
 one_rule j k e = sym (rule_back j) ∙ ap rule_at e ∙ rule_back k
 
-most : (j : Rule) → number_of j ≤ 8
-most k1 = omega arith
-most k2 = omega arith
-most k3 = omega arith
-most k4 = omega arith
-most k5 = omega arith
-most k6 = omega arith
-most k7 = omega arith
-most k8 = omega arith
-
-least : (j : Rule) → 0 < number_of j
-least k1 = omega arith
-least k2 = omega arith
-least k3 = omega arith
-least k4 = omega arith
-least k5 = omega arith
-least k6 = omega arith
-least k7 = omega arith
-least k8 = omega arith
+-- the numbers are those from 1 to 8
+from_1_to_8 : (j : Rule) → (0 < number_of j) × (number_of j ≤ 8)
+from_1_to_8 k1 = (omega arith, omega arith)
+from_1_to_8 k2 = (omega arith, omega arith)
+from_1_to_8 k3 = (omega arith, omega arith)
+from_1_to_8 k4 = (omega arith, omega arith)
+from_1_to_8 k5 = (omega arith, omega arith)
+from_1_to_8 k6 = (omega arith, omega arith)
+from_1_to_8 k7 = (omega arith, omega arith)
+from_1_to_8 k8 = (omega arith, omega arith)
 
 fault_of : Rule → Fault
 fault_of k1 = Shape
@@ -79,7 +70,7 @@ abbrev pub HoldsTo : Network → Parts → ℕ → Type 0
 HoldsTo m p n = (j : Rule) → number_of j ≤ n → Holds m p j
 
 pub to_none : (m : Network) (p : Parts) → HoldsTo m p 0
-to_none m p j l = (let g = least j in absurd (omega (arith, l, g)))
+to_none m p j l = (let g = (from_1_to_8 j).0 in absurd (omega (arith, l, g)))
 
 pub to_next : (m : Network) (p : Parts) (n : ℕ) (k : Rule) → number_of k ≡ n + 1 → HoldsTo m p n → Holds m p k → HoldsTo m p (n + 1)
 to_next m p n k e h at j l = go (nat_lt (number_of j) (n + 1)) refl
@@ -124,7 +115,7 @@ unfolding HoldsFirst
 first_five m s p h = (s, h)
 
 pub all_eight : (m : Network) (p : Parts) → HoldsTo m p 8 → IsChecked m p
-all_eight m p h j = h j (most j)
+all_eight m p h j = h j (from_1_to_8 j).1
 
 pub first_fault : (m : Network) (p : Parts) (n : ℕ) (k : Rule) → number_of k ≡ n + 1 → HoldsTo m p n → (Holds m p k → ⊥) → IsFirstFault m p k
 first_fault m p n k e h not = (not, λ j l. h j (omega (arith, l, e)))

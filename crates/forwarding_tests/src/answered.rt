@@ -20,7 +20,8 @@ fn change(rt: &impl Abort, a: u16, b: u16) -> Change {
 
 // The one mark that accepts a change.
 fn accepted(alloc: Global, session: u8, ticket: u64, count: u64) -> Result<Vec<Mark>, AllocError>
-    ensures { IfOk result (λ v. v.items ≡ record { session = session; ticket = ticket; verdict = Accepted count } ∷ []) }
+    ensures { IfOk result (λ v.
+        v.items ≡ record { session = session; ticket = ticket; verdict = Accepted count } ∷ []) }
 {
     let mut marks = Vec::new(alloc);
     marks.push(Mark {
@@ -42,7 +43,8 @@ fn answer_next<R: Wait + Abort, W: Wait + Drop>(
     requires answered { IsAnswered taker.old writer.old settled }
     requires few { settled < 10000 }
     ensures opening { writer.new.opening ≡ writer.old.opening }
-    ensures answered { IfOk result (λ r. MatchOption r (IsAnswered taker.new writer.new settled) (λ _. IsAnswered taker.new writer.new (settled + 1))) }
+    ensures answered { IfOk result (λ r.
+        MatchOption r (IsAnswered taker.new writer.new settled) (λ _. IsAnswered taker.new writer.new (settled + 1))) }
 {
     let _kept = writer.kept();
     let Some(request) = taker.take(rt) else {

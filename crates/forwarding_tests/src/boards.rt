@@ -3,7 +3,8 @@ ghost use Rattle.std.specs.Prelude.{◌≡◌, ◌+◌, ◌<◌};
 ghost use Rattle.forwarding_tests.specs.InARow.{IsInARow};
 
 use crate::posted::{
-    empty_scheme, got, newest, one_reader, post_next, post_seen, post_up_to, same, two_readers,
+    empty_scheme, folds, got, mark, newest, one_reader, post_next, post_seen, post_up_to, same,
+    two_readers,
 };
 use generations::{Board, BoardReader, BoardWriter, MOST_SHELVED, Mark, Posting, Told, Verdict};
 use graph_edits::Code;
@@ -14,14 +15,6 @@ use std::sync::Wait;
 use std::test::Fail;
 use std::thread;
 use std::thread::Threads;
-
-fn mark(session: u8, ticket: u64, verdict: Verdict) -> Mark {
-    Mark {
-        session,
-        ticket,
-        verdict,
-    }
-}
 
 fn accepted(count: u64) -> Verdict {
     Verdict::Accepted { count }
@@ -60,11 +53,6 @@ fn expect_shelf(rt: &impl Abort, board: &Board) {
         let found = (shelved.number, shelved.scheme.parts().generation);
         same(rt, found, (number, number), "a generation");
     }
-}
-
-// Folds one posting.
-fn folds(rt: &impl Abort, board: &mut Board, posting: &Posting) {
-    got(rt, board.fold(posting));
 }
 
 // Folds marks, and sees what the board says of their sessions.

@@ -1,19 +1,11 @@
 // What a board says of the next ticket and of the last one.
-use crate::posted::{got, same};
-use generations::{Board, Mark, Posting, Verdict};
+use crate::posted::{folds, mark, same};
+use generations::{Board, Posting, Verdict};
 use graph_edits::Code;
 use intake::{Outcome, SubmitRefused, outcome_of, refusal_of};
 use requests::{SESSIONS, WORN_LIMIT};
 use std::process::Abort;
 use std::test::Fail;
-
-fn mark(session: u8, ticket: u64, verdict: Verdict) -> Mark {
-    Mark {
-        session,
-        ticket,
-        verdict,
-    }
-}
 
 /// Session, last ticket submitted, the next ticket, and why it is refused.
 const REFUSALS: [(u8, Option<u64>, u64, Option<SubmitRefused>); 11] = [
@@ -29,11 +21,6 @@ const REFUSALS: [(u8, Option<u64>, u64, Option<SubmitRefused>); 11] = [
     (0, Some(15), WORN_LIMIT + 1, Some(SubmitRefused::Worn)),
     (0, Some(14), WORN_LIMIT + 1, Some(SubmitRefused::Busy)),
 ];
-
-/// Folds one posting.
-fn folds(rt: &impl Abort, board: &mut Board, posting: &Posting) {
-    got(rt, board.fold(posting));
-}
 
 /// Why each next ticket is refused.
 fn expect_refusals(rt: &impl Abort, board: &Board) {

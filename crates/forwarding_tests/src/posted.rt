@@ -1,12 +1,11 @@
 // Schemes, and a board with some posted.
 ghost use Rattle.std.specs.Prelude.{◌≡◌, ◌+◌, ◌<◌, ◌≤◌, ◌++◌, ◌∷◌, [], IfOk};
 ghost use Rattle.generations.specs.Notices.{notice_of};
-ghost use Rattle.generations.specs.Lawful.{IsLawful};
 ghost use Rattle.generations.specs.Posts.{with_posted};
-ghost use Rattle.forwarding_tests.specs.InARow.{IsInARow};
+ghost use Rattle.forwarding_tests.specs.InARow.{IsInARow, MayFollow};
 
 use forwarders::{ByteMove, BytesRefused, Forwarder};
-use generations::{Board, BoardReader, BoardWriter, PostRefused, Posting, board};
+use generations::{Board, BoardReader, BoardWriter, Mark, PostRefused, Posting, Verdict, board};
 use node_table::{Parts, Scheme, build};
 use packet_bytes::PACKET_SIZE;
 use requests::SESSIONS;
@@ -37,6 +36,20 @@ pub(crate) fn popped<T: Drop>(rt: &impl Abort, list: &mut Vec<T>) -> T
         Some(last) => last,
         None => panic!(rt; "an empty list"),
     }
+}
+
+/// The mark of a session: what became of this ticket.
+pub(crate) fn mark(session: u8, ticket: u64, verdict: Verdict) -> Mark {
+    Mark {
+        session,
+        ticket,
+        verdict,
+    }
+}
+
+/// Folds one posting.
+pub(crate) fn folds(rt: &impl Abort, board: &mut Board, posting: &Posting) {
+    got(rt, board.fold(posting));
 }
 
 /// The scheme of these edges with one landmark.
@@ -137,7 +150,7 @@ pub(crate) fn post_now<R: Wait + Drop>(
     posting: Posting,
 )
     requires nothing_kept { writer.old.kept ≡ [] }
-    requires lawful { IsLawful writer.old.opening.starts writer.old.opening.count (writer.old.posted ++ notice_of posting ∷ []) }
+    requires lawful { MayFollow writer.old (notice_of posting) }
     ensures { writer.new ≡ with_posted writer.old (notice_of posting) }
 {
     match writer.post(posting) {
@@ -191,7 +204,7 @@ fn post_watched<R: Wait + Drop>(
     posting: Posting,
 ) -> BoardReader
     requires nothing_kept { writer.old.kept ≡ [] }
-    requires lawful { IsLawful writer.old.opening.starts writer.old.opening.count (writer.old.posted ++ notice_of posting ∷ []) }
+    requires lawful { MayFollow writer.old (notice_of posting) }
     ensures { writer.new ≡ with_posted writer.old (notice_of posting) }
 {
     match writer.post(posting) {

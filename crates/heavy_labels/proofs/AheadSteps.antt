@@ -11,7 +11,8 @@ use Rattle.route_tree.specs.Slots.{StandsAt}
 use Rattle.route_tree.specs.declared.member.Member.{Member}
 use Rattle.route_tree.proofs.Counting.{count_append}
 use Rattle.heavy_labels.specs.ByNode.{nobody, no_tree, node_at, tree_of, kids_of, AreByNode}
-use Rattle.heavy_labels.specs.Sizes.{AreParents, AreSizes, size_or_none}
+use Rattle.heavy_labels.specs.Sizes.{AreSizes, size_or_none}
+use Rattle.heavy_labels.specs.Measured.{AreMeasured}
 use Rattle.heavy_labels.specs.HeavyKids.{IsHeavyKid, IsHeavyOf, AreHeavy, IsAhead, AreCounted, AreBeside, AreAheadTo}
 use Rattle.heavy_labels.proofs.SizeSteps.{at_set, at_other, same_place}
 use Rattle.heavy_labels.proofs.KidSteps.{not_both, push_yes, push_no, kids_at, kid_at, kid_there, kids_later, place_inside, ascend_once, root_no, child_yes, child_no, child_of, size_at, kids_fit, heavy_is, heavy_inside, at_most_heavy, at_most_all, heaviest_fits}
@@ -319,7 +320,7 @@ light_half ms n is j l e ne =
 
 -- ---- the turn of the j-th member
 
-module _ (ms : List Member) (above sizes heavy is beside ahead : List ℕ) (j : ℕ) (a : AreMembers ms) (up : AreParents ms above) (ss : AreSizes ms 1 sizes) (o : AreByNode ms is) (hs : AreHeavy ms is heavy)
+module _ (ms : List Member) (above sizes heavy is beside ahead : List ℕ) (j : ℕ) (known : AreMeasured ms above sizes is) (hs : AreHeavy ms is heavy)
     (bs : AreBeside ms is j beside) (ahd : AreAheadTo ms is j ahead) (l : j < length is) (z : 0 < slice_index is j) where
   abbrev x : ℕ
   x = slice_index is j
@@ -328,33 +329,33 @@ module _ (ms : List Member) (above sizes heavy is beside ahead : List ℕ) (j : 
   p = slice_index above x
 
   pub place_there : x < length ms
-  place_there = place_inside ms is j o l
+  place_there = place_inside ms is j known.by_node l
 
   stands : StandsAt ms x (get_or ms x nobody).parent p
-  stands = up.each x nobody z place_there
+  stands = known.above.each x nobody z place_there
 
   pub parent_there : p < length ms
   parent_there = (let w = stands.before in let i = place_there in omega (arith, w, i))
 
   pub turn_heavy_beside : (new : List ℕ) → slice_index heavy p ≡ x → new ≡ beside → AreBeside ms is (j + 1) new
-  turn_heavy_beside new e q = subst (AreBeside ms is (j + 1)) (sym q) (heavy_beside ms is j p a o l stands sizes heavy ss hs beside e bs)
+  turn_heavy_beside new e q = subst (AreBeside ms is (j + 1)) (sym q) (heavy_beside ms is j p known.members known.by_node l stands sizes heavy known.sizes hs beside e bs)
 
   pub turn_heavy_ahead : (new : List ℕ) → slice_index heavy p ≡ x → new ≡ set ahead x 1 → AreAheadTo ms is (j + 1) new
-  turn_heavy_ahead new e q = subst (AreAheadTo ms is (j + 1)) (sym q) (noted ms is j p a o l stands ahead 1 (heavy_ahead ms is j p a o l stands sizes heavy ss hs e) ahd)
+  turn_heavy_ahead new e q = subst (AreAheadTo ms is (j + 1)) (sym q) (noted ms is j p known.members known.by_node l stands ahead 1 (heavy_ahead ms is j p known.members known.by_node l stands sizes heavy known.sizes hs e) ahd)
 
   pub turn_light_beside : (new : List ℕ) (v : ℕ) → slice_index heavy p ≢ x → v ≡ slice_index beside p + slice_index sizes x → new ≡ set beside p v → AreBeside ms is (j + 1) new
-  turn_light_beside new v e f q = subst (AreBeside ms is (j + 1)) (sym q) (light_beside ms is j p a o l stands sizes heavy ss hs beside v e f bs)
+  turn_light_beside new v e f q = subst (AreBeside ms is (j + 1)) (sym q) (light_beside ms is j p known.members known.by_node l stands sizes heavy known.sizes hs beside v e f bs)
 
   pub turn_light_ahead : (new : List ℕ) (v : ℕ) → slice_index heavy p ≢ x → v ≡ 1 + size_or_none sizes (slice_index heavy p) + slice_index beside p → new ≡ set ahead x v → AreAheadTo ms is (j + 1) new
   turn_light_ahead new v e f q =
-      subst (AreAheadTo ms is (j + 1)) (sym q) (noted ms is j p a o l stands ahead v
-      (subst (IsAhead (kids_of ms (node_at ms p) is) (kids_of ms (node_at ms p) (take j is))) (sym f) (light_ahead ms is j p a o l stands sizes heavy ss hs beside e bs)) ahd)
+      subst (AreAheadTo ms is (j + 1)) (sym q) (noted ms is j p known.members known.by_node l stands ahead v
+      (subst (IsAhead (kids_of ms (node_at ms p) is) (kids_of ms (node_at ms p) (take j is))) (sym f) (light_ahead ms is j p known.members known.by_node l stands sizes heavy known.sizes hs beside e bs)) ahd)
 
   pub turn_counts : size_or_none sizes (slice_index heavy p) + slice_index beside p ≤ 2 * length ms
-  turn_counts = counts_fit ms is j p a o l stands sizes heavy ss hs beside bs
+  turn_counts = counts_fit ms is j p known.members known.by_node l stands sizes heavy known.sizes hs beside bs
 
   pub turn_sum : slice_index beside p + slice_index sizes x ≤ 2 * length ms
-  turn_sum = sum_fits ms is j p a o l stands sizes heavy ss hs beside bs
+  turn_sum = sum_fits ms is j p known.members known.by_node l stands sizes heavy known.sizes hs beside bs
 
 -- no member was met
 pub none_beside : (ms : List Member) (is beside : List ℕ) → length beside ≡ length ms → ((k : ℕ) → k < length ms → slice_index beside k ≡ 0) → AreBeside ms is 0 beside

@@ -10,8 +10,9 @@ use Rattle.route_tree.specs.Growth.{is_parent}
 use Rattle.route_tree.specs.Members.{AreMembers}
 use Rattle.route_tree.specs.Slots.{StandsAt}
 use Rattle.route_tree.specs.declared.member.Member.{Member}
-use Rattle.heavy_labels.specs.ByNode.{nobody, no_tree, node_at, tree_of, kids_of, AreByNode}
-use Rattle.heavy_labels.specs.Sizes.{AreParents, AreSizes, size_or_none}
+use Rattle.heavy_labels.specs.ByNode.{nobody, no_tree, node_at, tree_of, kids_of}
+use Rattle.heavy_labels.specs.Sizes.{AreSizes, size_or_none}
+use Rattle.heavy_labels.specs.Measured.{AreMeasured}
 use Rattle.heavy_labels.specs.HeavyKids.{IsHeavyKid, IsHeavyOf, AreHeavy}
 use Rattle.heavy_labels.proofs.SizeSteps.{at_set, at_other, same_place}
 use Rattle.heavy_labels.proofs.OneMore.{heavy_taken, heavy_kept}
@@ -108,7 +109,7 @@ kept_met ms met heavy x p a lx s w h = record { length_is = h.length_is; each = 
 
 -- ---- the turn of the j-th member
 
-module _ (ms : List Member) (above sizes is heavy : List ℕ) (j : ℕ) (a : AreMembers ms) (up : AreParents ms above) (ss : AreSizes ms 1 sizes) (b : AreByNode ms is) (hs : AreHeavy ms (take j is) heavy) (l : j < length is) where
+module _ (ms : List Member) (above sizes is heavy : List ℕ) (j : ℕ) (known : AreMeasured ms above sizes is) (hs : AreHeavy ms (take j is) heavy) (l : j < length is) where
   abbrev x : ℕ
   x = slice_index is j
 
@@ -116,21 +117,21 @@ module _ (ms : List Member) (above sizes is heavy : List ℕ) (j : ℕ) (a : Are
   p = slice_index above x
 
   pub turn_inside : x < length ms
-  turn_inside = place_inside ms is j b l
+  turn_inside = place_inside ms is j known.by_node l
 
   front_inside : AreInside ms (take j is)
   front_inside k w =
       let n = length-take j is in
       let same : slice_index (take j is) k ≡ slice_index is k = get_or-take j is k 0 (omega (arith, n, w)) in
-      let i = place_inside ms is k b (omega (arith, n, w)) in
+      let i = place_inside ms is k known.by_node (omega (arith, n, w)) in
       omega (arith, same, i)
 
   pub turn_root : x ≡ 0 → AreHeavy ms (take (j + 1) is) heavy
-  turn_root z = subst (λ met. AreHeavy ms met heavy) (sym (take_more is j 0 l)) (root_met ms (take j is) heavy x a z hs)
+  turn_root z = subst (λ met. AreHeavy ms met heavy) (sym (take_more is j 0 l)) (root_met ms (take j is) heavy x known.members z hs)
 
   module _ (z : 0 < x) where
     s : StandsAt ms x (get_or ms x nobody).parent p
-    s = up.each x nobody z turn_inside
+    s = known.above.each x nobody z turn_inside
 
     pub parent_there : p < length ms
     parent_there = (let w = s.before in let i = turn_inside in omega (arith, w, i))
@@ -143,17 +144,17 @@ module _ (ms : List Member) (above sizes is heavy : List ℕ) (j : ℕ) (a : Are
         go (inr r) = (let w = front_inside r.at r.there in let e = r.is in omega (arith, w, e))
 
     greatest : size_or_none sizes (slice_index heavy p) ≡ heaviest (kids_of ms (node_at ms p) (take j is))
-    greatest = met_size ms (take j is) sizes (node_at ms p) (slice_index heavy p) a ss front_inside (hs.each p parent_there)
+    greatest = met_size ms (take j is) sizes (node_at ms p) (slice_index heavy p) known.members known.sizes front_inside (hs.each p parent_there)
 
     pub turn_taken : (new : List ℕ) → size_or_none sizes (slice_index heavy p) < slice_index sizes x → new ≡ set heavy p x → AreHeavy ms (take (j + 1) is) new
     turn_taken new w e =
         subst (AreHeavy ms (take (j + 1) is)) (sym e) (subst (λ met. AreHeavy ms met (set heavy p x)) (sym (take_more is j 0 l))
-        (taken_met ms (take j is) heavy x p a turn_inside s (let g = greatest in let n = size_at ms sizes x a ss turn_inside in omega (arith, g, n, w)) hs))
+        (taken_met ms (take j is) heavy x p known.members turn_inside s (let g = greatest in let n = size_at ms sizes x known.members known.sizes turn_inside in omega (arith, g, n, w)) hs))
 
     pub turn_kept : (new : List ℕ) → slice_index sizes x ≤ size_or_none sizes (slice_index heavy p) → new ≡ heavy → AreHeavy ms (take (j + 1) is) new
     turn_kept new w e =
         subst (AreHeavy ms (take (j + 1) is)) (sym e) (subst (λ met. AreHeavy ms met heavy) (sym (take_more is j 0 l))
-        (kept_met ms (take j is) heavy x p a turn_inside s (let g = greatest in let n = size_at ms sizes x a ss turn_inside in omega (arith, g, n, w)) hs))
+        (kept_met ms (take j is) heavy x p known.members turn_inside s (let g = greatest in let n = size_at ms sizes x known.members known.sizes turn_inside in omega (arith, g, n, w)) hs))
 
 -- no member was met, and none has a heavy one
 pub none_met : (ms : List Member) (heavy : List ℕ) → length heavy ≡ length ms → ((k : ℕ) → k < length ms → slice_index heavy k ≡ 0) → AreHeavy ms [] heavy

@@ -1,9 +1,7 @@
 // How far each member's number is ahead of its parent's.
-ghost use Rattle.std.specs.Prelude.{◌≡◌, ◌<◌, ◌+◌, IfOk, length};
-ghost use Rattle.route_tree.specs.Members.{AreMembers};
-ghost use Rattle.heavy_labels.specs.ByNode.{AreByNode};
+ghost use Rattle.std.specs.Prelude.{◌<◌, ◌+◌, IfOk, length};
 ghost use Rattle.heavy_labels.specs.HeavyKids.{AreAheadTo, AreBeside, AreHeavy};
-ghost use Rattle.heavy_labels.specs.Sizes.{AreParents, AreSizes};
+ghost use Rattle.heavy_labels.specs.Measured.{AreMeasured};
 
 use crate::sizes::heavy_size;
 use route_tree::Member;
@@ -22,11 +20,7 @@ fn note_ahead(
     j: usize,
 )
     requires there { j < length by_node.now }
-    requires members { AreMembers members.now }
-    requires above { AreParents members.now above.now }
-    requires length { length sizes.now ≡ length members.now }
-    requires sizes { AreSizes members.now 1 sizes.now }
-    requires by_node { AreByNode members.now by_node.now }
+    requires measured { AreMeasured members.now above.now sizes.now by_node.now }
     requires heavy { AreHeavy members.now by_node.now heavy.now }
     requires beside { AreBeside members.now by_node.now j beside.old }
     requires ahead { AreAheadTo members.now by_node.now j ahead.old }
@@ -56,11 +50,7 @@ pub(crate) fn numbers_ahead<A: Allocator + Clone>(
     heavy: &[u16],
     by_node: &[u16],
 ) -> Result<Vec<u16, A>, AllocError>
-    requires members { AreMembers members.now }
-    requires above { AreParents members.now above.now }
-    requires length { length sizes.now ≡ length members.now }
-    requires sizes { AreSizes members.now 1 sizes.now }
-    requires by_node { AreByNode members.now by_node.now }
+    requires measured { AreMeasured members.now above.now sizes.now by_node.now }
     requires heavy { AreHeavy members.now by_node.now heavy.now }
     ensures { IfOk result (λ ahead. AreAheadTo members.now by_node.now (length by_node.now) ahead.items) }
 {

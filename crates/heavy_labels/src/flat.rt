@@ -8,9 +8,10 @@ ghost use Rattle.heavy_labels.specs.ByNode.{AreByNode, tree_of};
 ghost use Rattle.heavy_labels.specs.FlatNumbers.{AreFlat, IsLabelAt, label_below, label_over, port_or_none, tree_brief};
 ghost use Rattle.heavy_labels.specs.HeavyKids.{AreAheadTo, AreHeavy};
 ghost use Rattle.heavy_labels.specs.Label.{Label};
+ghost use Rattle.heavy_labels.specs.Measured.{AreMeasured};
 ghost use Rattle.heavy_labels.specs.Numbered.{Brief, IsListed, head_brief, seen};
 ghost use Rattle.heavy_labels.specs.Numbering.{lights_at, tree_lines};
-ghost use Rattle.heavy_labels.specs.Sizes.{AreParents, AreSizes};
+ghost use Rattle.heavy_labels.specs.Sizes.{AreSizes};
 
 use crate::ahead::numbers_ahead;
 use crate::by_node::places_by_node;
@@ -47,11 +48,7 @@ fn label_at(
     at: usize,
 ) -> Label
     requires there { at < length members.now }
-    requires members { AreMembers members.now }
-    requires above { AreParents members.now above.now }
-    requires length { length sizes.now ≡ length members.now }
-    requires sizes { AreSizes members.now 1 sizes.now }
-    requires by_node { AreByNode members.now by_node.now }
+    requires measured { AreMeasured members.now above.now sizes.now by_node.now }
     requires heavy { AreHeavy members.now by_node.now heavy.now }
     requires ahead { AreAheadTo members.now by_node.now (length by_node.now) ahead.now }
     requires flat { AreFlat members.now above.now heavy.now ahead.now at (map seen out.now) }
@@ -125,11 +122,7 @@ fn list_member(
     at: usize,
 ) -> Result<(), AllocError>
     requires there { at < length members.now }
-    requires members { AreMembers members.now }
-    requires above { AreParents members.now above.now }
-    requires length { length sizes.now ≡ length members.now }
-    requires sizes { AreSizes members.now 1 sizes.now }
-    requires by_node { AreByNode members.now by_node.now }
+    requires measured { AreMeasured members.now above.now sizes.now by_node.now }
     requires heavy { AreHeavy members.now by_node.now heavy.now }
     requires ahead { AreAheadTo members.now by_node.now (length by_node.now) ahead.now }
     requires flat { AreFlat members.now above.now heavy.now ahead.now at (map seen out.old.items) }

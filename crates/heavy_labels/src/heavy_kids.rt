@@ -1,9 +1,7 @@
 // Which child of each member is the heavy one.
-ghost use Rattle.std.specs.Prelude.{◌≡◌, ◌<◌, ◌+◌, IfOk, length, take};
-ghost use Rattle.route_tree.specs.Members.{AreMembers};
-ghost use Rattle.heavy_labels.specs.ByNode.{AreByNode};
+ghost use Rattle.std.specs.Prelude.{◌<◌, ◌+◌, IfOk, length, take};
 ghost use Rattle.heavy_labels.specs.HeavyKids.{AreHeavy};
-ghost use Rattle.heavy_labels.specs.Sizes.{AreParents, AreSizes};
+ghost use Rattle.heavy_labels.specs.Measured.{AreMeasured};
 
 use crate::sizes::heavy_size;
 use route_tree::Member;
@@ -19,11 +17,7 @@ fn meet(
     j: usize,
 )
     requires there { j < length by_node.now }
-    requires members { AreMembers members.now }
-    requires above { AreParents members.now above.now }
-    requires length { length sizes.now ≡ length members.now }
-    requires sizes { AreSizes members.now 1 sizes.now }
-    requires by_node { AreByNode members.now by_node.now }
+    requires measured { AreMeasured members.now above.now sizes.now by_node.now }
     requires heavy { AreHeavy members.now (take j by_node.now) heavy.old }
     ensures { AreHeavy members.now (take (j + 1) by_node.now) heavy.new }
 {
@@ -45,11 +39,7 @@ pub(crate) fn heavy_children<A: Allocator>(
     sizes: &[u16],
     by_node: &[u16],
 ) -> Result<Vec<u16, A>, AllocError>
-    requires members { AreMembers members.now }
-    requires above { AreParents members.now above.now }
-    requires length { length sizes.now ≡ length members.now }
-    requires sizes { AreSizes members.now 1 sizes.now }
-    requires by_node { AreByNode members.now by_node.now }
+    requires measured { AreMeasured members.now above.now sizes.now by_node.now }
     ensures { IfOk result (λ heavy. AreHeavy members.now by_node.now heavy.items) }
 {
     let mut heavy = Vec::new(alloc);

@@ -4,7 +4,8 @@ use Rattle.std.specs.Option.{unwrap_or}
 use Rattle.std.proofs.Math.Seq.{drop-cons}
 use Rattle.std.proofs.lemmas.Bool.Decides.{nat_tests}
 use Rattle.std.proofs.lemmas.List.{take-append-drop, take-take}
-use Rattle.std.proofs.lemmas.Option.{slice_get_within}
+use Rattle.std.proofs.lemmas.Option.{slice_get_read, slice_get_within}
+use Rattle.graph_edits.specs.declared.edits.Op.{Op}
 use Rattle.requests.specs.declared.request.Request.{Request}
 use Rattle.requests.specs.Tickets.{sessions, worn_limit, last_of, raise, tickets_after}
 use Rattle.requests.specs.Requests.{asked_by}
@@ -20,7 +21,7 @@ use Rattle.intake.specs.declared.outcome.SubmitRefused.TheVariants.{Busy, Alread
 use Rattle.intake.specs.Outcomes.{refusal_on, outcome_on, is_open}
 use Rattle.run_laws.proofs.Turns.{after_in_append, in_turn_first}
 use Rattle.event_runs.specs.declared.session.Session.{Session}
-use Rattle.event_runs.specs.Machines.{fresh_session}
+use Rattle.event_runs.specs.Machines.{Machine, board_at, fresh_session}
 use Rattle.interleave.specs.Stores.{AreLasts}
 
 -- ---- requests in turn, in parts
@@ -82,6 +83,20 @@ let_in_bounds b s start last ticket none = by (is_open (outcome_on b s last)) (n
     by false false true w e f none = absurd (let z : ◌≡◌ {A = Option SubmitRefused} (Some OldTicket) None = none in cc)
     by false false false true e f none = absurd (let z : ◌≡◌ {A = Option SubmitRefused} (Some Worn) None = none in cc)
     by false false false false e f none = (grind (arith, nat_tests), grind (arith, nat_tests))
+
+-- what was read of a session, and of the board that it sees, lets a request in
+pub lets_in_as_read : (m : Machine) (r : Request) (x : Session) (board : BoardState) (start : ℕ) (refused : Option SubmitRefused) → r.session < length m.sessions → x ≡ get_or m.sessions r.session x
+    → board ≡ board_at m x.seen → start ≡ last_of m.starts r.session → refused ≡ refusal_on board r.session start x.last r.ticket → refused ≡ None
+    → (slice_get m.sessions r.session ≡ Some x) × (refusal_on (board_at m x.seen) r.session (last_of m.starts r.session) x.last r.ticket ≡ None)
+lets_in_as_read m r x board start refused within is sees starts answered none =
+    let by : BoardState → ℕ → Option SubmitRefused = λ b k. refusal_on b r.session k x.last r.ticket in (
+      slice_get_read m.sessions (length m.sessions) r.session x refl within is,
+      ap (λ b. by b (last_of m.starts r.session)) (sym sees) ∙ ap (by board) (sym starts) ∙ sym answered ∙ none,
+    )
+
+-- the requests with one more, whose change is a copy
+pub with_copy : (old new : List Request) (r : Request) (copy : List Op) → new ≡ old ++ record r { change = copy } ∷ [] → copy ≡ r.change → new ≡ old ++ r ∷ []
+with_copy old new r copy is same = is ∙ ap (λ (change : List Op). old ++ record r { change = change } ∷ []) same
 
 -- a request that is let in is in turn behind all others
 pub let_in_turn : (starts : List ℕ) (l : List Request) (xs : List Session) (x : Session) (r : Request) → AreInTurn starts l → AreLasts starts l xs → slice_get xs r.session ≡ Some x → length xs ≤ sessions

@@ -1,10 +1,11 @@
 // Each command, on real files. Expected texts and bytes are written out from the tables of docs/FORMATS.md.
 use crate::helpers::{
-    CHECKPOINT, DEVICE_BYTES, Narrow, RECORD, bytes_of, device_in, expect_bytes, expect_on_device,
+    CHECKPOINT, DEVICE_BYTES, RECORD, bytes_of, device_in, expect_bytes, expect_on_device,
     expect_run, expect_script, got, is_zero_from, make_folder, path_in, put_file, remove_folder,
     run_once, same, stands_at, text_of, words_of,
 };
 use commands::run_words;
+use stand_ins::NarrowWriter;
 use std::fs::File;
 use std::process::Abort;
 use std::rt::Files;
@@ -339,8 +340,8 @@ fn numbers_at_their_limit(rt: HostRuntime) {
 fn expect_output_fault<
     'a,
     R: Files<File = File> + AllocGlobal + Abort + Threads + Wait + Sync + TablePlaces<'a>,
->(rt: &'a R, d: &str, line: &str, left: usize, flushes: bool) {
-    let mut out = Narrow { left, flushes };
+>(rt: &'a R, d: &str, line: &str, left: usize, flushes: u64) {
+    let mut out = NarrowWriter::new(rt.alloc(), left, flushes);
     let (status, err) = run_once(rt, d, line, &mut io::empty(), &mut out);
     let want = (1, "tznode: input or output failed\n");
     same(rt, (status, text_of(rt, &err)), want, line);
@@ -351,9 +352,9 @@ fn expect_output_faults<
     'a,
     R: Files<File = File> + AllocGlobal + Abort + Threads + Wait + Sync + TablePlaces<'a>,
 >(rt: &'a R, d: &str, line: &str, printed: usize) {
-    expect_output_fault(rt, d, line, 0, true);
-    expect_output_fault(rt, d, line, printed.saturating_sub(1), true);
-    expect_output_fault(rt, d, line, printed, false);
+    expect_output_fault(rt, d, line, 0, u64::MAX);
+    expect_output_fault(rt, d, line, printed.saturating_sub(1), u64::MAX);
+    expect_output_fault(rt, d, line, printed, 0);
 }
 
 // Each line with the number of bytes that it prints.
@@ -382,10 +383,7 @@ fn output_that_fails(rt: HostRuntime) {
 // A fault that nobody hears has its status all the same.
 #[test]
 fn fault_that_is_not_heard(rt: HostRuntime) {
-    let mut deaf = Narrow {
-        left: 0,
-        flushes: false,
-    };
+    let mut deaf = NarrowWriter::new(rt.alloc(), 0, 0);
     let words = words_of(&rt, "d", "show");
     let mut out = Vec::new(rt.alloc());
     let status = run_words(&rt, &words, &mut io::empty(), &mut out, &mut deaf);

@@ -13,7 +13,7 @@ use std::thread::Threads;
 
 // A device of so many zeros.
 fn blank<R: AllocGlobal + Abort>(rt: &R, len: usize) -> MemDisk {
-    got(rt, MemDisk::new(rt.alloc(), len))
+    got(rt, stand_ins::blank(rt.alloc(), len))
 }
 
 // A fresh device of five nodes.
@@ -25,10 +25,7 @@ fn fresh<R: AllocGlobal + Abort>(rt: &R) -> MemDisk {
 
 // Puts bytes on a device.
 fn put(rt: &impl Abort, disk: &mut MemDisk, at: usize, bytes: &[u8]) {
-    if disk.len() < bytes.len() || disk.len() - bytes.len() < at {
-        panic!(rt; "no place there");
-    }
-    got(rt, disk.write_at(at, bytes));
+    got(rt, stand_ins::put(disk, at, bytes));
 }
 
 // A session's op under a ticket or the next one, and what is answered.

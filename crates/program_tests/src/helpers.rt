@@ -2,7 +2,7 @@
 use commands::run_words;
 use std::fmt::Debug;
 use std::fs::File;
-use std::io::{self, ErrorKind, Read, Write};
+use std::io::{self, Read, Write};
 use std::process::Abort;
 use std::rt::Files;
 use std::sync::Wait;
@@ -192,30 +192,4 @@ pub(crate) fn expect_on_device<
     let path = device_in(rt, folder);
     expect_script(rt, path.as_str(), script);
     remove_folder(rt, folder);
-}
-
-/// A writer that takes so many bytes, and then refuses.
-#[derive(Drop)]
-pub(crate) struct Narrow {
-    pub(crate) left: usize,
-    pub(crate) flushes: bool,
-}
-
-impl Write for Narrow {
-    fn write(&mut self, buf: &[u8]) -> io::Result<usize> {
-        if self.left == 0 && !buf.is_empty() {
-            return Err(io::Error::from(ErrorKind::BrokenPipe));
-        }
-        let taken = self.left.min(buf.len());
-        self.left -= taken;
-        Ok(taken)
-    }
-
-    fn flush(&mut self) -> io::Result<()> {
-        if self.flushes {
-            Ok(())
-        } else {
-            Err(io::Error::from(ErrorKind::BrokenPipe))
-        }
-    }
 }

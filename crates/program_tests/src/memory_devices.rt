@@ -1,5 +1,5 @@
 // The program on devices in memory.
-use crate::helpers::{got, same, text_of, words_of};
+use crate::helpers::{same, text_of, words_of};
 use checkpoint::DEVICE_LEN;
 use command_output::{Fault, WatchedWriter};
 use commands::{Access, Devices, run_on};

@@ -1,7 +1,7 @@
 // Graphs, schemes and tables that the tests share.
 use node_table::Scheme;
 use router_table::{ReadRefused, RouterTable};
-pub(crate) use sample_networks::{Edge, PATH};
+pub(crate) use sample_networks::{Edge, PATH, RING};
 use sample_networks::{graph_of, words_at};
 use scheme_builds::scheme_of;
 use std::alloc::Global;
@@ -75,18 +75,3 @@ pub(crate) fn tables_of(rt: &impl Abort, alloc: Global, scheme: &Scheme) -> Vec<
     }
     tables
 }
-
-/// A ring of nine nodes with two chords.
-pub(crate) const RING: [Edge; 11] = [
-    (0, 1, 2),
-    (1, 2, 1),
-    (2, 3, 3),
-    (3, 4, 1),
-    (4, 5, 2),
-    (5, 6, 1),
-    (6, 7, 4),
-    (7, 8, 1),
-    (8, 0, 2),
-    (1, 5, 3),
-    (3, 7, 2),
-];

@@ -1,6 +1,6 @@
 // A scheme that was built and one that was assembled of the same tables are searched in different lists: both answer alike.
 use crate::changes::copied;
-use crate::drawn::graph_of;
+use crate::drawn::{got, graph_of};
 use crate::plain_graph::PlainGraph;
 use graph_edits::Graph;
 use node_table::Scheme;
@@ -16,14 +16,6 @@ const WORDS: [[u64; 5]; 3] = [
     [u64::MAX; 5],
     [0; 5],
 ];
-
-/// The value of an answer that has to have one.
-fn got<T, E: Drop>(rt: &impl Abort, answer: Result<T, E>) -> T {
-    match answer {
-        Ok(value) => value,
-        Err(_) => panic!(rt; "no value"),
-    }
-}
 
 /// Sees that two answers are the same.
 fn same<T: PartialEq + Drop>(rt: &impl Abort, found: T, want: T, name: &str) {

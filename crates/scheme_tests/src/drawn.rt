@@ -6,6 +6,14 @@ use rand_xoshiro::Xoshiro256PlusPlus;
 use std::alloc::{AllocError, Global};
 use std::process::Abort;
 
+/// The value of an answer that has to have one.
+pub(crate) fn got<T, E: Drop>(rt: &impl Abort, answer: Result<T, E>) -> T {
+    match answer {
+        Ok(value) => value,
+        Err(_) => panic!(rt; "no value"),
+    }
+}
+
 /// A number below another one, or 0 where there is none.
 pub(crate) fn below(rng: &mut Xoshiro256PlusPlus, limit: usize) -> usize {
     let word = rng.next_u64();
@@ -44,10 +52,7 @@ pub(crate) fn drawn_graph(
 
 /// The same graph, made by edits.
 pub(crate) fn graph_of(rt: &impl Abort, alloc: Global, plain: &PlainGraph) -> Graph {
-    match sample_networks::graph_of(alloc, plain.nodes, &plain.edges) {
-        Ok(graph) => graph,
-        Err(refused) => panic!(rt; "{refused}"),
-    }
+    got(rt, sample_networks::graph_of(alloc, plain.nodes, &plain.edges))
 }
 
 /// Landmark words of so many nodes: of none, of all, or of each with a chance of one in three.

@@ -3,6 +3,7 @@ use crate::drawn::{drawn_graph, graph_of, landmark_words};
 use crate::plain_graph::PlainGraph;
 use rand_core::SeedableRng;
 use rand_xoshiro::Xoshiro256PlusPlus;
+use sample_networks::plain_distances;
 use scheme_builds::scheme_of;
 use std::alloc::{AllocError, Global};
 use std::test::Fail;
@@ -10,32 +11,6 @@ use std::test::Fail;
 const GRAPHS: u32 = 200;
 
 const MOST: u64 = 40;
-
-/// The distance of each node from a root, none where no walk leads there: all edges are relaxed as often as there are nodes.
-fn distances_from(
-    alloc: Global,
-    graph: &PlainGraph,
-    root: u16,
-) -> Result<Vec<Option<u64>>, AllocError> {
-    let mut best = vec![in alloc; None; graph.nodes as usize]?;
-    if let Some(start) = best.get_mut(root as usize) {
-        *start = Some(0u64);
-    }
-    for _ in 0..graph.nodes {
-        for (a, b, weight) in &graph.edges {
-            for (x, y) in [(*a, *b), (*b, *a)] {
-                let here = best.get(x as usize).copied().flatten();
-                if let (Some(d), Some(there)) = (here, best.get_mut(y as usize)) {
-                    let more = d.saturating_add(*weight as u64);
-                    if there.is_none_or(|old| more < old) {
-                        *there = Some(more);
-                    }
-                }
-            }
-        }
-    }
-    Ok(best)
-}
 
 /// What is known of a drawn graph: its landmark words, and the distances from each root.
 #[derive(Drop)]
@@ -97,7 +72,7 @@ fn draw(alloc: Global, rng: &mut Xoshiro256PlusPlus) -> Result<Known, AllocError
     let words = landmark_words(alloc, rng, graph.nodes)?;
     let mut distances = Vec::new(alloc);
     for root in 0..graph.nodes {
-        distances.push(distances_from(alloc, &graph, root)?)?;
+        distances.push(plain_distances(alloc, graph.nodes, &graph.edges, root)?)?;
     }
     Ok(Known {
         graph,

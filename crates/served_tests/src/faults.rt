@@ -1,10 +1,8 @@
 // What ends a run without its lines, and outputs that refuse.
-use crate::helpers::{
-    Asked, blank, expect_run, fresh, got, holds, reopened, run_plain, same, text_of,
-};
-use disk_trait::{CrashDisk, Disk, MemDisk};
+use crate::helpers::{Asked, expect_run, fresh, got, holds, reopened, run_plain, same, text_of};
+use disk_trait::{CrashDisk, MemDisk};
+use stand_ins::NarrowWriter;
 use std::alloc::Global;
-use std::io::{self, ErrorKind, Write};
 use std::process::Abort;
 use std::sync::Wait;
 use std::thread::Threads;
@@ -25,10 +23,7 @@ const FAULTS: [Row; 6] = [
 ];
 
 fn put(rt: &impl Abort, disk: &mut MemDisk, at: usize, bytes: &[u8]) {
-    if disk.len() < bytes.len() || disk.len() - bytes.len() < at {
-        panic!(rt; "no place there");
-    }
-    got(rt, disk.write_at(at, bytes));
+    got(rt, stand_ins::put(disk, at, bytes));
 }
 
 fn asked(words: &str) -> Asked<'_> {
@@ -48,7 +43,8 @@ fn faults_of_the_device(rt: HostRuntime) {
         let _disk = expect_run(&rt, alloc, disk, &asked(words), (*status, "", told));
     }
     let want = (1, "", "tznode: not formatted\n");
-    let _disk = expect_run(&rt, alloc, blank(&rt, alloc, 10), &asked("at:0"), want);
+    let short = got(&rt, stand_ins::blank(alloc, 10));
+    let _disk = expect_run(&rt, alloc, short, &asked("at:0"), want);
 }
 
 const PATH: Asked<'static> = Asked {
@@ -99,32 +95,6 @@ fn each_device_call_fails(rt: HostRuntime) {
     same(&rt, failed > 16 && failed < 59, true, "calls that fail");
 }
 
-/// A writer that takes so many bytes, and then refuses.
-#[derive(Drop)]
-struct Narrow {
-    left: usize,
-    flushes: bool,
-}
-
-impl Write for Narrow {
-    fn write(&mut self, buf: &[u8]) -> io::Result<usize> {
-        if self.left == 0 && !buf.is_empty() {
-            return Err(io::Error::from(ErrorKind::BrokenPipe));
-        }
-        let taken = self.left.min(buf.len());
-        self.left -= taken;
-        Ok(taken)
-    }
-
-    fn flush(&mut self) -> io::Result<()> {
-        if self.flushes {
-            Ok(())
-        } else {
-            Err(io::Error::from(ErrorKind::BrokenPipe))
-        }
-    }
-}
-
 const TWO_EDITS: Asked<'static> = Asked {
     words: "at:0",
     numbers: (2, 2, 64),
@@ -132,17 +102,14 @@ const TWO_EDITS: Asked<'static> = Asked {
 };
 
 // A writer that takes nothing, one that takes all 34 bytes but the last, and one that takes all and can't be flushed.
-const OUTPUTS: [(usize, bool); 3] = [(0, true), (33, true), (34, false)];
+const OUTPUTS: [(usize, u64); 3] = [(0, u64::MAX), (33, u64::MAX), (34, 0)];
 
 // What couldn't be printed was done all the same.
 #[test]
 fn outputs_that_refuse(rt: HostRuntime) {
     let alloc = rt.alloc();
     for (left, flushes) in &OUTPUTS {
-        let mut out = Narrow {
-            left: *left,
-            flushes: *flushes,
-        };
+        let mut out = NarrowWriter::new(alloc, *left, *flushes);
         let mut err = Vec::new(alloc);
         let disk = fresh(&rt, alloc, 5);
         let (status, disk) = run_plain(&rt, alloc, disk, &TWO_EDITS, &mut out, &mut err);
@@ -158,10 +125,7 @@ fn outputs_that_refuse(rt: HostRuntime) {
 #[test]
 fn a_fault_that_is_not_heard(rt: HostRuntime) {
     let alloc = rt.alloc();
-    let mut deaf = Narrow {
-        left: 0,
-        flushes: false,
-    };
+    let mut deaf = NarrowWriter::new(alloc, 0, 0);
     let mut out = Vec::new(alloc);
     let disk = fresh(&rt, alloc, 5);
     let (status, _disk) = run_plain(&rt, alloc, disk, &asked("at:5"), &mut out, &mut deaf);

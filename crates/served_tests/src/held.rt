@@ -1,12 +1,11 @@
 // Routes that are launched or carried on just where the device holds a commit.
 use crate::helpers::{Asked, fresh, got, run, same, text_of};
-use disk_trait::{DeviceFault, Disk, MemDisk};
 use service_threads::Hooks;
+use stand_ins::{BeforeSync, HookedDisk, comes};
 use std::alloc::Global;
 use std::process::Abort;
 use std::sync::atomic::{AtomicBool, AtomicU64, Ordering};
 use std::sync::{Arc, Wait};
-use std::thread;
 use std::thread::Threads;
 
 /// A sync that doesn't end before a hop in this generation was answered; where none is, it fails.
@@ -40,8 +39,6 @@ struct Signs {
     late: AtomicBool,
 }
 
-const TURNS: usize = 1_000_000;
-
 impl Signs {
     fn new(first: Hold, last: Hold) -> Signs {
         Signs {
@@ -55,14 +52,11 @@ impl Signs {
 
     // Whether it came before the turns ran out.
     fn comes(&self, word: &AtomicU64, least: u64) -> bool {
-        for _ in 0..TURNS {
-            if word.load(Ordering::SeqCst) >= least {
-                return true;
-            }
-            thread::yield_now();
+        let came = comes(word, least);
+        if !came {
+            self.late.store(true, Ordering::SeqCst);
         }
-        self.late.store(true, Ordering::SeqCst);
-        false
+        came
     }
 
     // Whether the sync of this number ends well: it isn't held, or the hop came that it is held for.
@@ -91,41 +85,10 @@ impl<'a> Hooks for HeldHooks<'a> {
     }
 }
 
-#[derive(Drop)]
-struct HeldDisk {
-    disk: MemDisk,
-    signs: Arc<Signs, Global>,
-}
-
-impl Disk for HeldDisk {
-    ghost use Rattle.disk_trait.specs.Memory.{mem_view, mem_present};
-
-    ghost view = { λ d. mem_view d.disk };
-
-    ghost present = { λ d. mem_present d.disk };
-
-    fn len(&self) -> usize {
-        self.disk.len()
-    }
-
-    fn read(&mut self, at: usize, bytes: &mut [u8]) -> Result<(), DeviceFault> {
-        self.disk.read(at, bytes)
-    }
-
-    fn write_at(&mut self, at: usize, bytes: &[u8]) -> Result<(), DeviceFault> {
-        self.disk.write_at(at, bytes)
-    }
-
-    fn sync(&mut self) -> Result<(), DeviceFault> {
-        let begun = self
-            .signs
-            .syncs
-            .fetch_add(1, Ordering::SeqCst)
-            .wrapping_add(1);
-        if !self.signs.ends(begun) {
-            self.disk.fail_at(1);
-        }
-        self.disk.sync()
+impl BeforeSync for Signs {
+    fn before_sync(&self, number: u64) -> bool {
+        self.syncs.store(number, Ordering::SeqCst);
+        self.ends(number)
     }
 }
 
@@ -141,10 +104,8 @@ struct Row {
 // Runs the script, and sees that no turns ran out, the status and all that is printed and told.
 fn expect_row<R: Threads + Wait + Abort + Sync>(rt: &R, alloc: Global, row: &Row) {
     let signs = got(rt, Arc::new(alloc, Signs::new(row.first, row.last)));
-    let disk = HeldDisk {
-        disk: fresh(rt, alloc, row.nodes),
-        signs: got(rt, Arc::try_clone(&signs)),
-    };
+    let hook = got(rt, Arc::try_clone(&signs));
+    let disk = HookedDisk::new(fresh(rt, alloc, row.nodes), hook);
     let hooks = HeldHooks(&signs);
     let (mut out, mut err) = (Vec::new(alloc), Vec::new(alloc));
     let (status, _disk) = run(rt, alloc, disk, &row.asked, &hooks, &mut out, &mut err);

@@ -1,5 +1,5 @@
 // What the tests share: devices, and scripts that are run on them.
-use checkpoint::{DEVICE_LEN, Store, format};
+use checkpoint::Store;
 use command_output::WatchedWriter;
 use disk_trait::{Disk, MemDisk};
 use live_service::serve_on;
@@ -26,27 +26,14 @@ pub(crate) fn same<T: Copy + PartialEq + Debug>(rt: &impl Abort, found: T, want:
     assert_eq!(rt; found, want, "{name}");
 }
 
-/// A disk of so many zeros, asked for again where memory was short.
-pub(crate) fn blank(rt: &impl Abort, alloc: Global, len: usize) -> MemDisk {
-    match MemDisk::new(alloc, len) {
-        Ok(disk) => disk,
-        Err(_) => got(rt, MemDisk::new(alloc, len)),
-    }
-}
-
 /// A fresh device.
 pub(crate) fn fresh(rt: &impl Abort, alloc: Global, nodes: u16) -> MemDisk {
-    let mut disk = blank(rt, alloc, DEVICE_LEN);
-    got(rt, format(&mut disk, nodes));
-    disk
+    got(rt, stand_ins::formatted(alloc, nodes))
 }
 
-/// The store of a disk, opened again where memory was short.
+/// The store of a disk.
 pub(crate) fn reopened<D: Disk + Drop>(rt: &impl Abort, alloc: Global, disk: D) -> Store<D> {
-    match Store::open(alloc, disk) {
-        Ok(store) => store,
-        Err((_, disk)) => got(rt, Store::open(alloc, disk)),
-    }
+    got(rt, stand_ins::opened(alloc, disk))
 }
 
 /// Bytes as text.

@@ -1,6 +1,6 @@
 // A script that is run again where memory was short. Run by `./refuse-memory`, which refuses each allocation in turn: the run in
 // which it is refused has its lines all the same, or is told `out of memory`, and what was accepted before that stays.
-use crate::helpers::{Asked, fresh, holds, reopened, run_plain, same, text_of};
+use crate::helpers::{Asked, fresh, reopened, run_plain, same, text_of};
 use disk_trait::MemDisk;
 use std::alloc::Global;
 use std::process::Abort;

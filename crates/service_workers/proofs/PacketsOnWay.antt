@@ -18,7 +18,7 @@ use Rattle.node_table.proofs.OnTheWay.CarriedTrails.{under_way_more}
 use Rattle.node_table.proofs.OnTheWay.Generations.{decide_generation, node_step_generation}
 use Rattle.generations.specs.Boards.{scheme_of}
 use Rattle.generations.specs.Beginnings.{Beginning, GoesOn, board_after}
-use Rattle.generations.proofs.Prefixes.{prefix_self, prefix_trans}
+use Rattle.generations.proofs.Sharing.{goes_trans}
 use Rattle.forwarders.specs.declared.refused.Refused.{Refused}
 use Rattle.forwarders.specs.declared.refused.Refused.TheVariants.{BoardShut, GenerationGone, NoNode, Unreachable, Stray, Spent}
 use Rattle.forwarders.specs.Answers.{address_at, by, by_name, handed_back, hop_at, launch_at}
@@ -31,14 +31,8 @@ use Rattle.service_workers.specs.Forwarded.{HoldsOf, IsCarried, IsLaunched, IsOn
 
 -- ---- knowing more
 
-pub goes_still : (b : Beginning) → GoesOn b b
-goes_still b = (refl, prefix_self b.log)
-
-pub goes_on : (a b c : Beginning) → GoesOn a b → GoesOn b c → GoesOn a c
-goes_on a b c one two = (two.0 ∙ one.0, prefix_trans a.log b.log c.log one.1 two.1)
-
 holds_later : (known later : Beginning) (P : Beginning → Type 0) → GoesOn known later → HoldsOf known P → HoldsOf later P
-holds_later known later P on holds all lawful are_named from_here = holds all lawful are_named (goes_on known later all on from_here)
+holds_later known later P on holds all lawful are_named from_here = holds all lawful are_named (goes_trans known later all on from_here)
 
 -- ---- answers of a shelf
 
@@ -154,7 +148,7 @@ pub sent_by : (known later : Beginning) (generation u v : ℕ) (a : Address) (gi
     → GoesOn known later → Looked given (address_at generation v (board_after known).shelf) → given ≡ Ok a → Looked sent (launch_at u a (board_after later).shelf) → sent ≡ Ok packet
     → IsSent later u v packet
 sent_by known later generation u v a given sent packet on looked is launched ok all lawful are_named from_here =
-    let by_one = addressed known generation v a given looked is all lawful are_named (goes_on known later all on from_here) in
+    let by_one = addressed known generation v a given looked is all lawful are_named (goes_trans known later all on from_here) in
     let found = ok_by (λ t. decide t u a) (scheme_of a.generation (board_after later).shelf) packet (not_shut sent _ packet launched ok) in
     let p : Parts = by_one.0 in
     let same : found.0 ≡ p = same_scheme all later generation v a found.0 lawful from_here by_one found.1 in
@@ -189,7 +183,7 @@ launch_refused known later trip generation a given sent GenerationGone on looked
 launch_refused known later trip generation a given sent Stray on looked is launched lost = tt
 launch_refused known later trip generation a given sent Spent on looked is launched lost = tt
 launch_refused known later trip generation a given sent NoNode on looked is launched lost = λ all lawful are_named from_here.
-    let by_one = addressed known generation trip.to a given looked is all lawful are_named (goes_on known later all on from_here) in
+    let by_one = addressed known generation trip.to a given looked is all lawful are_named (goes_trans known later all on from_here) in
     let found = no_node_by (λ t. decide t trip.from a) (scheme_of a.generation (board_after later).shelf) (refused_by sent _ NoNode launched lost (λ e. cc)) in
     let p : Parts = by_one.0 in
     let same : found.0 ≡ p = same_scheme all later generation trip.to a found.0 lawful from_here by_one found.1 in
@@ -197,7 +191,7 @@ launch_refused known later trip generation a given sent NoNode on looked is laun
     let node : a.node ≡ trip.to = ap (λ (b : Address). b.node) by_one.3.own in
     (generation, p, by_one.1, λ first second. no_node_sends (tables p) trip.from a decided first (subst (λ (n : ℕ). n < p.nodes) (sym node) second))
 launch_refused known later trip generation a given sent Unreachable on looked is launched lost = λ all lawful are_named from_here.
-    let by_one = addressed known generation trip.to a given looked is all lawful are_named (goes_on known later all on from_here) in
+    let by_one = addressed known generation trip.to a given looked is all lawful are_named (goes_trans known later all on from_here) in
     let found = unreachable_by (λ t. decide t trip.from a) (scheme_of a.generation (board_after later).shelf) (refused_by sent _ Unreachable launched lost (λ e. cc)) in
     let p : Parts = by_one.0 in
     let same : found.0 ≡ p = same_scheme all later generation trip.to a found.0 lawful from_here by_one found.1 in
@@ -213,7 +207,7 @@ on_way_first known u v packet nodes sent is all lawful are_named on =
 
 pub on_way_later : (known later : Beginning) (u v generation : ℕ) (nodes : List ℕ) (at : ℕ) (packet : Packet) → GoesOn known later → IsOnWay known u v generation nodes at packet
     → IsOnWay later u v generation nodes at packet
-on_way_later known later u v generation nodes at packet on way all lawful are_named from_here = way all lawful are_named (goes_on known later all on from_here)
+on_way_later known later u v generation nodes at packet on way all lawful are_named from_here = way all lawful are_named (goes_trans known later all on from_here)
 
 -- what a hop is answered
 abbrev pub Hopped : Beginning → ℕ → Packet → Result Move (Refused × Packet) → Type 0
@@ -237,7 +231,7 @@ pub hopped_on : (known later : Beginning) (u v generation : ℕ) (nodes more : L
     → GoesOn known later → IsOnWay known u v generation nodes at packet → Hopped later at packet answer → answer ≡ Ok (Forward port next left) → more ≡ nodes ++ next ∷ []
     → IsOnWay later u v generation more next left
 hopped_on known later u v generation nodes more at packet port next left answer on way hopped is longer all lawful are_named from_here =
-    let here = way all lawful are_named (goes_on known later all on from_here) in
+    let here = way all lawful are_named (goes_trans known later all on from_here) in
     let p : Parts = here.0 in
     let step : node_step (tables p) at packet ≡ Ok (Forward port next left) = moved all later at generation packet answer (Forward port next left) p lawful from_here here.1 here.2 hopped is in
     let kept : left.generation ≡ packet.generation = keeps (node_step (tables p) at packet) (node_step_generation (tables p) at packet) step in
@@ -262,7 +256,7 @@ pub delivered_there : (known later : Beginning) (trip : Trip) (generation at : �
     → GoesOn known later → IsOnWay known trip.from trip.to generation nodes at packet → Hopped later at packet answer → answer ≡ Ok Delivered → IsAlong carried_so generation nodes
     → IsCarried later trip carried_so
 delivered_there known later trip generation at packet answer (carried.Along g ns long) nodes on way hopped is along = λ all lawful are_named from_here.
-    let here = way all lawful are_named (goes_on known later all on from_here) in
+    let here = way all lawful are_named (goes_trans known later all on from_here) in
     let p : Parts = here.0 in
     let step : node_step (tables p) at packet ≡ Ok Delivered = moved all later at generation packet answer Delivered p lawful from_here here.1 here.2 hopped is in
     (p, subst (λ (n : ℕ). IsPublished all n p) (sym along.0) here.1, (at, packet, subst (λ (l : List ℕ). IsUnderWay (tables p) trip.from trip.to l at packet) (sym along.1) here.3, step))

@@ -15,7 +15,7 @@ use Rattle.intake.specs.Editors.{Editing}
 use Rattle.intake.specs.Turns.{last_or_start}
 use Rattle.service_workers.specs.Edited.{IsEdited, IsSameEditor, IsTold}
 use Rattle.service_workers.specs.EditedAsAsked.{IsNew}
-use Rattle.service_workers.specs.AtRest.{IsAtRest, IsLastTold, RisesFrom}
+use Rattle.service_workers.specs.AtRest.{IsAtRest, RisesFrom}
 use Rattle.service_workers.proofs.AsAsked.{last_after}
 
 -- ---- rising tickets

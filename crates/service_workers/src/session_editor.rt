@@ -192,23 +192,14 @@ impl<J: Naming> SessionEditor<J> {
                 };
                 Some((editor, ticket, EditEnd::Settled(mark)))
             }
-            EditEnd::AlreadyIn => {
+            end @ (EditEnd::AlreadyIn | EditEnd::PastLimit) => {
                 let editor = SessionEditor {
                     editor,
                     last,
                     accepted,
                     of,
                 };
-                Some((editor, ticket, EditEnd::AlreadyIn))
-            }
-            EditEnd::PastLimit => {
-                let editor = SessionEditor {
-                    editor,
-                    last,
-                    accepted,
-                    of,
-                };
-                Some((editor, ticket, EditEnd::PastLimit))
+                Some((editor, ticket, end))
             }
         }
     }

@@ -42,32 +42,6 @@ fn find_own_tree(
     Ok(is_member(workspace.members(), to))
 }
 
-/// Finds the tree of the other node's nearest landmark, and answers whether it has the packet's own node: then the packet goes
-/// in this tree, which the workspace holds. Else no walk leads from the one to the other.
-fn find_landmark_tree(
-    workspace: &mut Workspace,
-    graph: &Graph,
-    landmarks: &Landmarks,
-    nearest: &Nearest,
-    from: u16,
-    to: u16,
-) -> Result<bool, AllocError>
-    requires workspace { workspace.old.nodes ≡ graph.now.nodes }
-    requires known { KnowsNearest graph.now landmarks.now nearest.now.nearest }
-    requires from { from < graph.now.nodes }
-    requires to { to < graph.now.nodes }
-    requires other { IsInOwnTree graph.now.edges landmarks.now from to → ⊥ }
-    ensures workspace { workspace.new.nodes ≡ workspace.old.nodes }
-    ensures tree { IfOk result (IsFoundFor graph.now.edges landmarks.now from to workspace.new.members) }
-    ensures apart { IfOk result (λ found. found ≡ false → IsApart graph.now.edges from to) }
-{
-    let Some(near) = nearest.of(to) else {
-        return Ok(false);
-    };
-    let _pops = workspace.from_root(graph, near.landmark)?;
-    Ok(is_member(workspace.members(), from))
-}
-
 /// Finds the tree in which a packet goes, which the workspace holds then: that of its own node, where the other is nearer to it
 /// than to every landmark, else that of the other's nearest landmark. Answers whether it leads from the one to the other.
 pub(crate) fn find_tree(
@@ -89,5 +63,9 @@ pub(crate) fn find_tree(
     if find_own_tree(workspace, graph, landmarks, nearest, from, to)? {
         return Ok(true);
     }
-    find_landmark_tree(workspace, graph, landmarks, nearest, from, to)
+    let Some(near) = nearest.of(to) else {
+        return Ok(false);
+    };
+    let _pops = workspace.from_root(graph, near.landmark)?;
+    Ok(is_member(workspace.members(), from))
 }

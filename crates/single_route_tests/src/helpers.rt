@@ -23,10 +23,7 @@ pub(crate) fn same<T: Copy + PartialEq + Debug>(rt: &impl Abort, found: T, want:
 
 /// The graph of a table.
 pub(crate) fn graph_of(rt: &impl Abort, alloc: Global, nodes: u16, edges: &[Edge]) -> Graph {
-    match sample_networks::graph_of(alloc, nodes, edges) {
-        Ok(graph) => graph,
-        Err(refused) => panic!(rt; "{refused}"),
-    }
+    got(rt, sample_networks::graph_of(alloc, nodes, edges))
 }
 
 /// The words that make landmarks of these nodes alone.

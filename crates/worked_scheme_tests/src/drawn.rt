@@ -5,37 +5,11 @@ use graph_edits::Graph;
 use node_table::{CarryRefused, Scheme, Trail};
 use rand_core::{Rng, SeedableRng};
 use rand_xoshiro::Xoshiro256PlusPlus;
+use sample_networks::plain_distances;
 use scheme_builds::scheme_of;
 use std::alloc::{AllocError, Global};
 use std::process::Abort;
 use written_values::Draws;
-
-/// Distances from a node by relaxing all edges again and again.
-pub(crate) fn plain_distances(
-    alloc: Global,
-    nodes: u16,
-    edges: &[Edge],
-    from: u16,
-) -> Result<Vec<Option<u64>>, AllocError> {
-    let mut best = vec![in alloc; None; nodes as usize]?;
-    if let Some(start) = best.get_mut(from as usize) {
-        *start = Some(0u64);
-    }
-    for _ in 0..nodes {
-        for (a, b, weight) in edges {
-            for (x, y) in [(*a, *b), (*b, *a)] {
-                let here = best.get(x as usize).copied().flatten();
-                if let (Some(d), Some(there)) = (here, best.get_mut(y as usize)) {
-                    let more = d.saturating_add(*weight as u64);
-                    if there.is_none_or(|old| more < old) {
-                        *there = Some(more);
-                    }
-                }
-            }
-        }
-    }
-    Ok(best)
-}
 
 /// Whether a trail is a walk over these edges from end to end, as long as it says, at most three times the least.
 pub(crate) fn is_right(trail: &Trail, edges: &[Edge], from: u16, to: u16, least: u64) -> bool {

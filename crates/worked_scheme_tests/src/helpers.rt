@@ -4,7 +4,7 @@ use graph_edits::Graph;
 use heavy_labels::{Label, MOST_LIGHTS, Record};
 use linked_list_allocator::LocalHeap;
 use node_table::{CarryRefused, Entry, Scheme, Trail};
-pub(crate) use sample_networks::{Edge, PAIRS, PATH, TRIANGLE};
+pub(crate) use sample_networks::{Edge, PAIRS, PATH, TRIANGLE, Way, ends_of};
 use scheme_builds::scheme_of;
 use std::alloc::{AllocError, Allocator, Global};
 use std::fmt::Debug;
@@ -28,10 +28,7 @@ pub(crate) const STACK_LEN: usize = 67_108_864;
 
 /// The graph of a table.
 pub(crate) fn graph_of(rt: &impl Abort, alloc: Global, nodes: u16, edges: &[Edge]) -> Graph {
-    match sample_networks::graph_of(alloc, nodes, edges) {
-        Ok(graph) => graph,
-        Err(refused) => panic!(rt; "{refused}"),
-    }
+    got(rt, sample_networks::graph_of(alloc, nodes, edges))
 }
 
 /// The words that make landmarks of these nodes alone.
@@ -80,18 +77,6 @@ pub(crate) fn carried(
     match scheme.carry(alloc, from, &address) {
         Err(CarryRefused::Memory) => scheme.carry(alloc, from, &address),
         other => other,
-    }
-}
-
-/// How many nodes a graph has, its edges, its landmarks, and a way in it: its nodes, its ports and its length.
-pub(crate) type Way<'a> = (u16, &'a [Edge], &'a [u16], &'a [u16], &'a [u16], u64);
-
-/// The first and the last node of a way.
-pub(crate) fn ends_of(way: &[u16]) -> (u16, u16) {
-    match way {
-        [first, .., last] => (*first, *last),
-        [only] => (*only, *only),
-        [] => (0, 0),
     }
 }
 

@@ -1,12 +1,13 @@
 // Want of memory. Run by `./refuse-memory`, each allocation refused in turn: a call whose allocation is refused says so, and made
 // again it gives the whole answer. What else a test allocates it asks for again where it is refused.
-use crate::drawn::{is_right, plain_distances};
+use crate::drawn::is_right;
 use crate::helpers::{
     Edge, PATH, built, carried, expect_trail, got, graph_of, heap_of, same, scheme_with,
 };
 use node_table::Scheme;
 use rand_core::{Rng, SeedableRng};
 use rand_xoshiro::Xoshiro256PlusPlus;
+use sample_networks::plain_distances;
 use std::alloc::Global;
 use std::process::Abort;
 use written_values::Draws;

@@ -4,49 +4,49 @@ use Rattle.heavy_labels.proofs.AheadSteps.{root_beside, root_ahead, place_there,
 use Rattle.heavy_labels.proofs.ahead.note_ahead.Goals as goal
 
 pub returns-then-place-eq0-clause-beside : goal.returns-then-place-eq0-clause-beside
-returns-then-place-eq0-clause-beside c = root_beside _ _ _ c.args.j c.requires.members c.requires.there (omega arith) c.requires.beside
+returns-then-place-eq0-clause-beside c = root_beside _ _ _ c.args.j c.requires.measured.members c.requires.there (omega arith) c.requires.beside
 
 pub returns-then-place-eq0-clause-ahead : goal.returns-then-place-eq0-clause-ahead
-returns-then-place-eq0-clause-ahead c = root_ahead _ _ _ c.args.j c.requires.members (omega arith) c.requires.ahead
+returns-then-place-eq0-clause-ahead c = root_ahead _ _ _ c.args.j c.requires.measured.members (omega arith) c.requires.ahead
 
 pub bounds-above-place : goal.bounds-above-place
-bounds-above-place c = (let i = place_there _ _ _ _ _ _ _ c.args.j c.requires.members c.requires.above c.requires.sizes c.requires.by_node c.requires.heavy c.requires.beside c.requires.ahead c.requires.there (omega arith) in omega (arith, i, c.requires.above.length_is))
+bounds-above-place c = (let i = place_there _ _ _ _ _ _ _ c.args.j c.requires.measured c.requires.heavy c.requires.beside c.requires.ahead c.requires.there (omega arith) in omega (arith, i, c.requires.measured.above.length_is))
 
 pub bounds-heavy-parent : goal.bounds-heavy-parent
-bounds-heavy-parent c = (let i = parent_there _ _ _ _ _ _ _ c.args.j c.requires.members c.requires.above c.requires.sizes c.requires.by_node c.requires.heavy c.requires.beside c.requires.ahead c.requires.there (omega arith) in omega (arith, i, c.requires.heavy.length_is))
+bounds-heavy-parent c = (let i = parent_there _ _ _ _ _ _ _ c.args.j c.requires.measured c.requires.heavy c.requires.beside c.requires.ahead c.requires.there (omega arith) in omega (arith, i, c.requires.heavy.length_is))
 
 pub returns-then-best-place-clause-beside : goal.returns-then-best-place-clause-beside
-returns-then-best-place-clause-beside c = turn_heavy_beside _ _ _ _ _ _ _ c.args.j c.requires.members c.requires.above c.requires.sizes c.requires.by_node c.requires.heavy c.requires.beside c.requires.ahead c.requires.there (omega arith) _ (omega arith) refl
+returns-then-best-place-clause-beside c = turn_heavy_beside _ _ _ _ _ _ _ c.args.j c.requires.measured c.requires.heavy c.requires.beside c.requires.ahead c.requires.there (omega arith) _ (omega arith) refl
 
 pub returns-then-best-place-clause-ahead : goal.returns-then-best-place-clause-ahead
-returns-then-best-place-clause-ahead c = turn_heavy_ahead _ _ _ _ _ _ _ c.args.j c.requires.members c.requires.above c.requires.sizes c.requires.by_node c.requires.heavy c.requires.beside c.requires.ahead c.requires.there (omega arith) _ (omega arith) refl
+returns-then-best-place-clause-ahead c = turn_heavy_ahead _ _ _ _ _ _ _ c.args.j c.requires.measured c.requires.heavy c.requires.beside c.requires.ahead c.requires.there (omega arith) _ (omega arith) refl
 
 pub overflow_add-ahead : goal.overflow_add-ahead
-overflow_add-ahead c = (let i = turn_counts _ _ _ _ _ _ _ c.args.j c.requires.members c.requires.above c.requires.sizes c.requires.by_node c.requires.heavy c.requires.beside c.requires.ahead c.requires.there (omega arith) in let e = c.heavy_size.ensures in omega (arith, i, e, c.requires.members.few))
+overflow_add-ahead c = (let i = turn_counts _ _ _ _ _ _ _ c.args.j c.requires.measured c.requires.heavy c.requires.beside c.requires.ahead c.requires.there (omega arith) in let e = c.heavy_size.ensures in omega (arith, i, e, c.requires.measured.members.few))
 
 pub bounds-beside-parent : goal.bounds-beside-parent
-bounds-beside-parent c = (let i = parent_there _ _ _ _ _ _ _ c.args.j c.requires.members c.requires.above c.requires.sizes c.requires.by_node c.requires.heavy c.requires.beside c.requires.ahead c.requires.there (omega arith) in omega (arith, i, c.requires.beside.length_is))
+bounds-beside-parent c = (let i = parent_there _ _ _ _ _ _ _ c.args.j c.requires.measured c.requires.heavy c.requires.beside c.requires.ahead c.requires.there (omega arith) in omega (arith, i, c.requires.beside.length_is))
 
 pub overflow_add-ahead-2 : goal.overflow_add-ahead-2
-overflow_add-ahead-2 c = (let i = turn_counts _ _ _ _ _ _ _ c.args.j c.requires.members c.requires.above c.requires.sizes c.requires.by_node c.requires.heavy c.requires.beside c.requires.ahead c.requires.there (omega arith) in let e = c.heavy_size.ensures in omega (arith, i, e, c.requires.members.few))
+overflow_add-ahead-2 c = (let i = turn_counts _ _ _ _ _ _ _ c.args.j c.requires.measured c.requires.heavy c.requires.beside c.requires.ahead c.requires.there (omega arith) in let e = c.heavy_size.ensures in omega (arith, i, e, c.requires.measured.members.few))
 
 pub bounds-ahead-place-2 : goal.bounds-ahead-place-2
-bounds-ahead-place-2 c = (let i = place_there _ _ _ _ _ _ _ c.args.j c.requires.members c.requires.above c.requires.sizes c.requires.by_node c.requires.heavy c.requires.beside c.requires.ahead c.requires.there (omega arith) in omega (arith, i, c.requires.ahead.length_is))
+bounds-ahead-place-2 c = (let i = place_there _ _ _ _ _ _ _ c.args.j c.requires.measured c.requires.heavy c.requires.beside c.requires.ahead c.requires.there (omega arith) in omega (arith, i, c.requires.ahead.length_is))
 
 pub bounds-sizes-place : goal.bounds-sizes-place
-bounds-sizes-place c = (let i = place_there _ _ _ _ _ _ _ c.args.j c.requires.members c.requires.above c.requires.sizes c.requires.by_node c.requires.heavy c.requires.beside c.requires.ahead c.requires.there (omega arith) in omega (arith, i, c.requires.length))
+bounds-sizes-place c = (let i = place_there _ _ _ _ _ _ _ c.args.j c.requires.measured c.requires.heavy c.requires.beside c.requires.ahead c.requires.there (omega arith) in omega (arith, i, c.requires.measured.length_is))
 
 pub bounds-beside-parent-2 : goal.bounds-beside-parent-2
-bounds-beside-parent-2 c = (let i = parent_there _ _ _ _ _ _ _ c.args.j c.requires.members c.requires.above c.requires.sizes c.requires.by_node c.requires.heavy c.requires.beside c.requires.ahead c.requires.there (omega arith) in omega (arith, i, c.requires.beside.length_is))
+bounds-beside-parent-2 c = (let i = parent_there _ _ _ _ _ _ _ c.args.j c.requires.measured c.requires.heavy c.requires.beside c.requires.ahead c.requires.there (omega arith) in omega (arith, i, c.requires.beside.length_is))
 
 pub overflow_add-beside : goal.overflow_add-beside
-overflow_add-beside c = (let i = turn_sum _ _ _ _ _ _ _ c.args.j c.requires.members c.requires.above c.requires.sizes c.requires.by_node c.requires.heavy c.requires.beside c.requires.ahead c.requires.there (omega arith) in omega (arith, i, c.requires.members.few))
+overflow_add-beside c = (let i = turn_sum _ _ _ _ _ _ _ c.args.j c.requires.measured c.requires.heavy c.requires.beside c.requires.ahead c.requires.there (omega arith) in omega (arith, i, c.requires.measured.members.few))
 
 pub bounds-beside-parent-3 : goal.bounds-beside-parent-3
-bounds-beside-parent-3 c = (let i = parent_there _ _ _ _ _ _ _ c.args.j c.requires.members c.requires.above c.requires.sizes c.requires.by_node c.requires.heavy c.requires.beside c.requires.ahead c.requires.there (omega arith) in omega (arith, i, c.requires.beside.length_is))
+bounds-beside-parent-3 c = (let i = parent_there _ _ _ _ _ _ _ c.args.j c.requires.measured c.requires.heavy c.requires.beside c.requires.ahead c.requires.there (omega arith) in omega (arith, i, c.requires.beside.length_is))
 
 pub returns-clause-beside : goal.returns-clause-beside
-returns-clause-beside c = turn_light_beside _ _ _ _ _ _ _ c.args.j c.requires.members c.requires.above c.requires.sizes c.requires.by_node c.requires.heavy c.requires.beside c.requires.ahead c.requires.there (omega arith) _ _ (λ e. (c.if-best-place.false e)) refl refl
+returns-clause-beside c = turn_light_beside _ _ _ _ _ _ _ c.args.j c.requires.measured c.requires.heavy c.requires.beside c.requires.ahead c.requires.there (omega arith) _ _ (λ e. (c.if-best-place.false e)) refl refl
 
 pub returns-clause-ahead : goal.returns-clause-ahead
-returns-clause-ahead c = turn_light_ahead _ _ _ _ _ _ _ c.args.j c.requires.members c.requires.above c.requires.sizes c.requires.by_node c.requires.heavy c.requires.beside c.requires.ahead c.requires.there (omega arith) _ _ (λ e. (c.if-best-place.false e)) (ap (λ z. 1 + z + slice_index c.args.beside.now (slice_index c.args.above.now (slice_index c.args.by_node.now c.args.j))) c.heavy_size.ensures) refl
+returns-clause-ahead c = turn_light_ahead _ _ _ _ _ _ _ c.args.j c.requires.measured c.requires.heavy c.requires.beside c.requires.ahead c.requires.there (omega arith) _ _ (λ e. (c.if-best-place.false e)) (ap (λ z. 1 + z + slice_index c.args.beside.now (slice_index c.args.above.now (slice_index c.args.by_node.now c.args.j))) c.heavy_size.ensures) refl

@@ -1,14 +1,15 @@
 use Rattle.std.proofs.Common.{rules, ◌≡◌, ap, sym, subst, refl}
 use Rattle.std.specs.Prelude.{Ok, Err}
 use Rattle.node_table.specs.declared.packet.Packet.{Packet}
+use Rattle.generations.proofs.Sharing.{goes_self, goes_trans}
 use Rattle.service_workers.specs.declared.forwarding.Carried.TheVariants.{Along}
 use Rattle.service_workers.specs.Forwarded.{IsOnWay}
-use Rattle.service_workers.proofs.PacketsOnWay.{back_as_it_was, delivered_there, goes_on, goes_still, hopped_on, on_way_first, on_way_later}
+use Rattle.service_workers.proofs.PacketsOnWay.{back_as_it_was, delivered_there, hopped_on, on_way_first, on_way_later}
 use Rattle.service_workers.proofs.forwarding.carry.Goals as goal
 
 pub loop-init : goal.loop-init
 loop-init g c =
-    (tt, (tt, (goes_still c.args.forwarder.now, on_way_first c.args.forwarder.now c.args.trip.from c.args.trip.to c.args.packet c.push.new.self.items c.requires (search rules))))
+    (tt, (tt, (goes_self c.args.forwarder.now, on_way_first c.args.forwarder.now c.args.trip.from c.args.trip.to c.args.packet c.push.new.self.items c.requires (search rules))))
 
 pub returns-in-Ok-Delivered-clause-launched : goal.returns-in-Ok-Delivered-clause-launched
 returns-in-Ok-Delivered-clause-launched g c =
@@ -22,7 +23,7 @@ loop-preserved-in-Ok-Forward g c = (
   (
     tt,
     (
-      goes_on c.args.forwarder.now c.loop.forwarder c.hop.new.self c.loop.invariant.1.1.0 c.in-Ok-Forward.ensures.kept,
+      goes_trans c.args.forwarder.now c.loop.forwarder c.hop.new.self c.loop.invariant.1.1.0 c.in-Ok-Forward.ensures.kept,
       hopped_on c.loop.forwarder c.hop.new.self c.args.trip.from c.args.trip.to c.args.packet.generation c.loop.nodes.items c.push-in-Ok-Forward.new.self.items c.loop.at c.loop.packet
           c.in-Ok-Forward.field-0-0 c.in-Ok-Forward.next c.in-Ok-Forward.on (Ok c.in-Ok-Forward.field-0) c.in-Ok-Forward.ensures.kept c.loop.invariant.1.1.1 c.in-Ok-Forward.ensures.answer
           (ap (λ z. Ok z) c.in-Ok-Forward.field-0-is) (search rules),
@@ -39,7 +40,7 @@ loop-preserved g c =
       (
         tt,
         (
-          goes_on c.args.forwarder.now c.loop.forwarder c.hop.new.self c.loop.invariant.1.1.0 c.in-Err-BoardShut-default.ensures.kept,
+          goes_trans c.args.forwarder.now c.loop.forwarder c.hop.new.self c.loop.invariant.1.1.0 c.in-Err-BoardShut-default.ensures.kept,
           subst (λ (k : Packet). IsOnWay c.hop.new.self c.args.trip.from c.args.trip.to c.args.packet.generation c.loop.nodes.items c.loop.at k) (sym same)
               (on_way_later c.loop.forwarder c.hop.new.self c.args.trip.from c.args.trip.to c.args.packet.generation c.loop.nodes.items c.loop.at c.loop.packet c.in-Err-BoardShut-default.ensures.kept c.loop.invariant.1.1.1),
         ),

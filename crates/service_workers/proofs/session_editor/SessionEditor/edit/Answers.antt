@@ -9,12 +9,12 @@ pub invariant_of-editor-clause-at_rest : goal.invariant_of-editor-clause-at_rest
 invariant_of-editor-clause-at_rest g c =
     let old = c.args.self.editor in
     let new = c.edit_as_asked.new.editor in
-    let end = subst (λ (e : EditEnd). IsEditEnd old c.match-ticket.ticket c.args.change new e) c.in-Settled.is c.in_ok-mark.ensures.ended in
-    rests_settled old new c.args.change c.match-ticket.ticket c.in-Settled.mark c.in_ok-mark.ensures.same end.0 end.1 end.2 c.args.self.at_rest
+    let end = subst (λ (e : EditEnd). IsEditEnd old c.match-ticket.ticket c.args.change new e) c.in-Settled.is c.in_ok-end.ensures.ended in
+    rests_settled old new c.args.change c.match-ticket.ticket c.in-Settled.mark c.in_ok-end.ensures.same end.0 end.1 end.2 c.args.self.at_rest
 
 pub invariant_of-editor-clause-last_is : goal.invariant_of-editor-clause-last_is
 invariant_of-editor-clause-last_is g c =
     let old = c.args.self.editor in
     let new = c.edit_as_asked.new.editor in
-    let end = subst (λ (e : EditEnd). IsEditEnd old c.match-ticket.ticket c.args.change new e) c.in-Settled.is c.in_ok-mark.ensures.ended in
+    let end = subst (λ (e : EditEnd). IsEditEnd old c.match-ticket.ticket c.args.change new e) c.in-Settled.is c.in_ok-end.ensures.ended in
     last_settled old new c.args.change c.match-ticket.ticket c.in-Settled.mark end.0 end.1

@@ -4,7 +4,7 @@ use Rattle.distances.specs.Nearest.{IsNearestOf}
 use Rattle.single_route.specs.FoundTrees.{has_node}
 use Rattle.single_route.proofs.RuleLemmas.{landmark_found, landmark_missed}
 use Rattle.single_route.proofs.ListedTrees.{any_has, any_lacks}
-use Rattle.single_route.proofs.trees.find_landmark_tree.Goals as goal
+use Rattle.single_route.proofs.trees.find_tree.Goals as goal
 
 pub returns-clause-tree : goal.returns-clause-tree
 returns-clause-tree c = λ yes.
@@ -13,7 +13,7 @@ returns-clause-tree c = λ yes.
     let members = c.from_root.new.self.members in
     let near = subst (IsNearestOf m.edges flags c.args.to) (sym c.in-Some.ensures) (c.requires.known.nearest c.args.to) in
     let found : has_node members c.args.from ≡ true = ap (λ z. has_node z c.args.from) (sym c.members.ensures) ∙ sym c.is_member.ensures ∙ yes in
-    landmark_found m.edges flags c.args.from c.args.to c.in-Some.near (reached_of members) c.requires.other near c.in_ok-_pops.ensures.tree (any_has c.args.from members found)
+    landmark_found m.edges flags c.args.from c.args.to c.in-Some.near (reached_of members) (c.in_ok-find_own_tree.ensures.other c.if-branch.false) near c.in_ok-_pops.ensures.tree (any_has c.args.from members found)
 
 pub returns-clause-apart : goal.returns-clause-apart
 returns-clause-apart c = λ no.
