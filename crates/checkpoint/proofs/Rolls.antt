@@ -1,5 +1,5 @@
 -- What the writes of a roll leave.
-use Rattle.std.proofs.Common.{◌≡◌, ◌≢◌, ⊎_elim, ℕ, ◌+◌, ◌-◌, ◌<◌, ◌≤◌, List, [], ◌++◌, length, get_or, take, drop, refl, sym, ◌∙◌, ap, subst, arith, length-append, Option, None, Some, add-zero, lit<, get_or-drop}
+use Rattle.std.proofs.Common.{◌≡◌, ◌≢◌, ⊎_elim, ℕ, ◌+◌, ◌-◌, ◌<◌, ◌≤◌, List, [], ◌++◌, length, get_or, take, drop, refl, sym, ◌∙◌, ap, subst, arith, length-append, Option, None, Some, IsTrue, false, add-zero, lit<, get_or-drop}
 use Rattle.std.proofs.lemmas.List.{take-take, take_at, take_all, drop_at, length-replicate, get_or-replicate}
 use Rattle.std.proofs.lemmas.Nat.{from_be_bytes-to_be_bytes_8}
 use Rattle.std.specs.Int.{w64, to_be_bytes}
@@ -11,7 +11,9 @@ use Rattle.layout_2.specs.Records.{Entry}
 use Rattle.journal.specs.Records.{entries_of}
 use Rattle.disk_trait.specs.Disk.{DiskView, MayLeave, LeavesOnly, weaker, joined, Torn, HasTextBehind, IsPublishing, IsPublished, bytes_at}
 use Rattle.disk_trait.specs.Places.{above, byte_below, byte_of, below}
+use Rattle.checkpoint.specs.declared.store.Store.{Store}
 use Rattle.checkpoint.specs.Kept.{IsKept}
+use Rattle.checkpoint.specs.StoreWords.{state_of, view_of, is_down}
 use Rattle.layout_2.specs.InUse.{IsInUse}
 use Rattle.layout_2.specs.Layout.{worn_limit, checkpoint_room, slot_start, epoch_at, header, journal_start}
 use Rattle.layout_parts.specs.Heads.{other}
@@ -204,3 +206,19 @@ module _ (v0 v1 : DiskView) (slot epoch other_gate : ℕ) (base state : State) (
       folds = after-nil state;
       in_turn = (tt, tt);
     }
+
+-- ---- of a store
+
+module _ {D : Type 0} {V : _} (s : Store D V) (v1 v2 : DiskView) (model : IsTrue (view_of s).keeps_model) (up : is_down s ≡ false) (closing : LeavesOnly (view_of s) v1 (IsClosing (view_of s) (slot_start (other s.slot)) s.other_gate))
+    (text : List ℕ) (body : IsLawful s.graph → text ≡ area_text (s.epoch + 1) (state_of s)) (epoch_fits : s.epoch + 1 ≤ worn_limit)
+    (closed : s.other_gate ≡ 1 → (image : List ℕ) → MayLeave v1 image → get_or image (slot_start (other s.slot)) 0 ≡ 0) where
+  abbrev base : State
+  base = state_with s.base_count.value s.base.value s.base_tickets.value
+
+  -- while the text is published
+  pub rolling : LeavesOnly v1 v2 (IsPublishing v1 (slot_start (other s.slot)) text) → LeavesOnly (view_of s) v2 (StandsFor (state_of s))
+  rolling = stands_publishing (view_of s) v1 s.slot s.epoch s.other_gate base (state_of s) s.journal.groups s.two_slots (s.kept model up) s.fits closing text body epoch_fits closed v2
+
+  -- once it is
+  pub rolled_kept : ((image : List ℕ) → MayLeave v2 image → IsPublished v1 (slot_start (other s.slot)) text image) → IsKept v2 (other s.slot) (s.epoch + 1) 1 (state_of s) (state_of s) []
+  rolled_kept = kept_rolled (view_of s) v1 s.slot s.epoch s.other_gate base (state_of s) s.journal.groups s.two_slots (s.kept model up) s.fits closing text body epoch_fits closed v2

@@ -2,6 +2,7 @@
 use Rattle.std.proofs.Common.{◌≡◌, ◌≢◌, inl, inr, ⊎_elim, ℕ, zero, suc, ◌+◌, ◌-◌, ◌<◌, ◌≤◌, List, [], length, get_or, take, drop, replicate, Some, refl, sym, ◌∙◌, ap, subst, arith, add-zero, lit<, lit≤, get_or-drop}
 use Rattle.std.specs.FinMap.{get, len-entries}
 use Rattle.std.specs.List.{AllByRecursion}
+use Rattle.std.specs.Prelude.{Result, Ok, Err, OnOk}
 use Rattle.std.proofs.lemmas.Bool.{cases_eq}
 use Rattle.std.proofs.lemmas.List.{take-take, take_at, drop_at, drop-take, get_or-replicate}
 use Rattle.disk_trait.specs.Disk.{DiskView, MayLeave, IsSettled, LeavesOnly, weaker, joined, Torn, IsTornFrom, HasTextBehind, IsPublishing, IsPublished, bytes_at}
@@ -235,3 +236,8 @@ module _ (nodes : ℕ) (text : List ℕ) (size : length text ≡ checkpoint_room
 -- a run after a run, while it is written
 pub writing_on : (nodes : ℕ) (text : List ℕ) (v0 v1 v2 : DiskView) → LeavesOnly v0 v1 (IsWriting nodes text) → LeavesOnly v1 v2 (IsWriting nodes text) → LeavesOnly v0 v2 (IsWriting nodes text)
 writing_on nodes text v0 v1 v2 first second = joined v0 v1 v2 (IsWriting nodes text) (IsWriting nodes text) (IsWriting nodes text) first second (λ image is. is) (λ image is. is)
+
+-- what an Ok says, it says of what follows from it
+pub ok_with : {T E : Type 0} {A B : Type 0} (r : Result T E) → OnOk r A → (A → B) → OnOk r B
+ok_with (Ok x) a f = f a
+ok_with (Err e) a f = tt

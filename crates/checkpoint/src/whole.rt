@@ -79,8 +79,7 @@ fn put_whole<D: Disk>(disk: &mut D, nodes: u16, text: &[u8]) -> Result<(), Devic
 {
     shut_slots(disk)?;
     put_synced(disk, 0, &header_of(nodes))?;
-    publish(disk, SLOTS_START, text)?;
-    Ok(())
+    publish(disk, SLOTS_START, text)
 }
 
 /// Makes a device hold this count and this network, as a fresh device does: in slot 0, with the first

@@ -1,71 +1,28 @@
 // Inputs that end while edits wait.
 use crate::helpers::{Setup, count_lines, fresh, got, reopened, run, same, text_of};
-use disk_trait::{DeviceFault, Disk, MemDisk};
 use service_lines::Served;
 use service_threads::NoHooks;
+use stand_ins::{BeforeSync, HookedDisk, comes};
 use std::alloc::Global;
 use std::io::{self, BufReader, Read};
 use std::process::Abort;
-use std::sync::atomic::{AtomicBool, AtomicU64, Ordering};
-use std::sync::{Arc, Wait};
-use std::thread;
-use std::thread::Threads;
+use std::sync::Arc;
+use std::sync::atomic::{AtomicU64, Ordering};
 
-/// Whether the input has ended, and how often it was waited for in vain.
+/// How often the input has ended, and how often that was waited for in vain.
 #[derive(Drop)]
 struct Ended {
-    has_ended: AtomicBool,
+    ends: AtomicU64,
     late: AtomicU64,
 }
 
-const TURNS: usize = 4_000_000;
-
-impl Ended {
-    fn wait(&self) {
-        for _ in 0..TURNS {
-            if self.has_ended.load(Ordering::SeqCst) {
-                return;
-            }
-            thread::yield_now();
+// No byte is settled before the input has ended, but for the sync of the opening.
+impl BeforeSync for Ended {
+    fn before_sync(&self, number: u64) -> bool {
+        if number > 1 && !comes(&self.ends, 1) {
+            let _before = self.late.fetch_add(1, Ordering::SeqCst);
         }
-        let _before = self.late.fetch_add(1, Ordering::SeqCst);
-    }
-}
-
-/// A disk that has no byte settled before the input has ended.
-#[derive(Drop)]
-struct PatientDisk {
-    disk: MemDisk,
-    ended: Arc<Ended, Global>,
-    syncs: u64,
-}
-
-impl Disk for PatientDisk {
-    ghost use Rattle.disk_trait.specs.Memory.{mem_view, mem_present};
-
-    ghost view = { λ d. mem_view d.disk };
-
-    ghost present = { λ d. mem_present d.disk };
-
-    fn len(&self) -> usize {
-        self.disk.len()
-    }
-
-    fn read(&mut self, at: usize, bytes: &mut [u8]) -> Result<(), DeviceFault> {
-        self.disk.read(at, bytes)
-    }
-
-    fn write_at(&mut self, at: usize, bytes: &[u8]) -> Result<(), DeviceFault> {
-        self.disk.write_at(at, bytes)
-    }
-
-    // Opening syncs once.
-    fn sync(&mut self) -> Result<(), DeviceFault> {
-        self.syncs = self.syncs.wrapping_add(1);
-        if self.syncs > 1 {
-            self.ended.wait();
-        }
-        self.disk.sync()
+        true
     }
 }
 
@@ -83,7 +40,7 @@ impl Read for EndingInput<'_> {
         buf[..count].copy_from_slice(front);
         self.rest = rest;
         if count == 0 {
-            self.ended.has_ended.store(true, Ordering::SeqCst);
+            let _before = self.ended.ends.fetch_add(1, Ordering::SeqCst);
         }
         Ok(count)
     }
@@ -146,16 +103,13 @@ fn edits_that_wait_at_the_end(rt: HostRuntime) {
         Arc::new(
             alloc,
             Ended {
-                has_ended: AtomicBool::new(false),
+                ends: AtomicU64::new(0),
                 late: AtomicU64::new(0),
             },
         ),
     );
-    let disk = PatientDisk {
-        disk: fresh(&rt, alloc, 9),
-        ended: got(&rt, Arc::try_clone(&ended)),
-        syncs: 0,
-    };
+    let hook = got(&rt, Arc::try_clone(&ended));
+    let disk = HookedDisk::new(fresh(&rt, alloc, 9), hook);
     let text = input_of(&rt, alloc);
     let ending = EndingInput {
         rest: text.as_bytes(),

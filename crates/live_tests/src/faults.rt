@@ -1,10 +1,10 @@
 // What ends a service before its input does.
 use crate::helpers::{
-    Setup, blank, count_lines, expect_run, fresh, got, reopened, run_plain, same, text_of,
+    Setup, beginning_of, count_lines, expect_run, fresh, got, reopened, run_plain, same, text_of,
 };
 use crate::talk::{Row, Talked, answers_of, talk_on};
 use command_output::Fault;
-use disk_trait::{CrashDisk, Disk, MemDisk};
+use disk_trait::{CrashDisk, MemDisk};
 use service_lines::Served;
 use std::alloc::Global;
 use std::process::Abort;
@@ -43,10 +43,7 @@ const REFUSED: [DeviceRow; 4] = [
 ];
 
 fn put(rt: &impl Abort, disk: &mut MemDisk, at: usize, bytes: &[u8]) {
-    if disk.len() < bytes.len() || disk.len() - bytes.len() < at {
-        panic!(rt; "no place there");
-    }
-    got(rt, disk.write_at(at, bytes));
+    got(rt, stand_ins::put(disk, at, bytes));
 }
 
 fn setup(words: &'static str) -> Setup {
@@ -73,14 +70,8 @@ fn devices_that_are_refused(rt: HostRuntime) {
         "",
         "tznode: not formatted\n",
     );
-    let _disk = expect_run(
-        &rt,
-        alloc,
-        blank(&rt, alloc, 10),
-        &setup("at:0"),
-        input,
-        want,
-    );
+    let short = got(&rt, stand_ins::blank(alloc, 10));
+    let _disk = expect_run(&rt, alloc, short, &setup("at:0"), input, want);
 }
 
 const LAST_TICKET: [Row<'static>; 3] = [
@@ -155,19 +146,13 @@ fn accepted_in(text: &str) -> u64 {
 
 // Sees that a beginning of the path's edges is there, all that were accepted among them.
 fn holds_a_beginning(rt: &impl Abort, alloc: Global, disk: MemDisk, printed: &str) {
-    let store = reopened(rt, alloc, disk);
-    let count = store.count();
+    let count = beginning_of(rt, alloc, disk, 4);
     same(
         rt,
         accepted_in(printed) <= count && count <= 4,
         true,
         printed,
     );
-    for node in 0..4u16 {
-        let there = store.graph().weight(node, node + 1).is_some();
-        same(rt, there, (node as u64) < count, "an edge");
-    }
-    same(rt, store.graph().edges() as u64, count, "edges");
 }
 
 const FAILED: (Served, &str) = (Served::Told(Fault::Device), "tznode: device failed\n");
@@ -237,27 +222,30 @@ fn fails_in_talk<R: Threads + Wait + Abort + Sync>(rt: &R, alloc: Global, call: 
     failed
 }
 
-#[test]
-fn each_device_call_fails(rt: HostRuntime) {
+// Sees that the first calls of a device fail, up to one behind which none does: with all lines at once, or with a line at a time.
+fn expect_failures<R: Threads + Wait + Abort + Sync>(rt: &R, alloc: Global, in_talk: bool) {
     let mut failed = 0;
     for call in 1..60u64 {
-        if !fails_at(&rt, rt.alloc(), call) {
+        let fails = if in_talk {
+            fails_in_talk(rt, alloc, call)
+        } else {
+            fails_at(rt, alloc, call)
+        };
+        if !fails {
             break;
         }
         failed = call;
     }
     // Four commits take sixteen calls, and the opening some more.
-    same(&rt, failed > 16 && failed < 59, true, "calls that fail");
+    same(rt, failed > 16 && failed < 59, true, "calls that fail");
+}
+
+#[test]
+fn each_device_call_fails(rt: HostRuntime) {
+    expect_failures(&rt, rt.alloc(), false);
 }
 
 #[test]
 fn each_device_call_fails_in_a_conversation(rt: HostRuntime) {
-    let mut failed = 0;
-    for call in 1..60u64 {
-        if !fails_in_talk(&rt, rt.alloc(), call) {
-            break;
-        }
-        failed = call;
-    }
-    same(&rt, failed > 16 && failed < 59, true, "calls that fail");
+    expect_failures(&rt, rt.alloc(), true);
 }

@@ -1,8 +1,8 @@
 // Lines that are worked on while the device holds a commit.
 use crate::helpers::{Setup, fresh, got, run, same, text_of};
-use disk_trait::{DeviceFault, Disk, MemDisk};
 use service_lines::Served;
 use service_threads::Hooks;
+use stand_ins::{BeforeSync, HookedDisk, comes};
 use std::alloc::Global;
 use std::io::{self, BufReader, Read, Write};
 use std::process::Abort;
@@ -20,14 +20,11 @@ struct Signs {
     hops: AtomicU64,
     lines: AtomicU64,
     printed: AtomicU64,
-    syncs: AtomicU64,
     // How many lines were given, and bytes printed, when the commit was let go.
     lines_then: AtomicU64,
     printed_then: AtomicU64,
     is_late: AtomicBool,
 }
-
-const TURNS: usize = 4_000_000;
 
 // So many turns behind what was waited for, in which more may come.
 const MORE_TURNS: usize = 20_000;
@@ -43,27 +40,18 @@ impl Signs {
             hops: AtomicU64::new(0),
             lines: AtomicU64::new(0),
             printed: AtomicU64::new(0),
-            syncs: AtomicU64::new(0),
             lines_then: AtomicU64::new(0),
             printed_then: AtomicU64::new(0),
             is_late: AtomicBool::new(false),
         }
     }
 
-    fn has_come(&self) -> bool {
-        self.hops.load(Ordering::SeqCst) >= self.least_hops
-            && self.lines.load(Ordering::SeqCst) >= self.least_lines
-    }
-
     // Waits until all came, or the turns run out.
     fn await_all(&self) {
-        for _ in 0..TURNS {
-            if self.has_come() {
-                return;
-            }
-            thread::yield_now();
+        let came = comes(&self.hops, self.least_hops) && comes(&self.lines, self.least_lines);
+        if !came {
+            self.is_late.store(true, Ordering::SeqCst);
         }
-        self.is_late.store(true, Ordering::SeqCst);
     }
 
     fn hold(&self) {
@@ -75,12 +63,14 @@ impl Signs {
         lines.store(self.lines.load(Ordering::SeqCst), Ordering::SeqCst);
         printed.store(self.printed.load(Ordering::SeqCst), Ordering::SeqCst);
     }
+}
 
-    fn sync(&self) {
-        let before = self.syncs.fetch_add(1, Ordering::SeqCst);
-        if before.wrapping_add(1) == HELD_SYNC {
+impl BeforeSync for Signs {
+    fn before_sync(&self, number: u64) -> bool {
+        if number == HELD_SYNC {
             self.hold();
         }
+        true
     }
 }
 
@@ -92,37 +82,6 @@ impl<'a> Hooks for HeldHooks<'a> {
 
     fn after_hop(&self, _generation: u64) {
         let _before = self.0.hops.fetch_add(1, Ordering::SeqCst);
-    }
-}
-
-#[derive(Drop)]
-struct HeldDisk {
-    disk: MemDisk,
-    signs: Arc<Signs, Global>,
-}
-
-impl Disk for HeldDisk {
-    ghost use Rattle.disk_trait.specs.Memory.{mem_view, mem_present};
-
-    ghost view = { λ d. mem_view d.disk };
-
-    ghost present = { λ d. mem_present d.disk };
-
-    fn len(&self) -> usize {
-        self.disk.len()
-    }
-
-    fn read(&mut self, at: usize, bytes: &mut [u8]) -> Result<(), DeviceFault> {
-        self.disk.read(at, bytes)
-    }
-
-    fn write_at(&mut self, at: usize, bytes: &[u8]) -> Result<(), DeviceFault> {
-        self.disk.write_at(at, bytes)
-    }
-
-    fn sync(&mut self) -> Result<(), DeviceFault> {
-        self.signs.sync();
-        self.disk.sync()
     }
 }
 
@@ -206,10 +165,8 @@ fn expect_row<R: Threads + Wait + Abort + Sync>(rt: &R, alloc: Global, row: &Row
         rt,
         Arc::new(alloc, Signs::new(row.least_hops, row.least_lines)),
     );
-    let disk = HeldDisk {
-        disk: fresh(rt, alloc, 5),
-        signs: got(rt, Arc::try_clone(&signs)),
-    };
+    let hook = got(rt, Arc::try_clone(&signs));
+    let disk = HookedDisk::new(fresh(rt, alloc, 5), hook);
     let lines = Lines {
         signs: got(rt, Arc::try_clone(&signs)),
         edit: b"edit 0 - add:0:1:1\n",

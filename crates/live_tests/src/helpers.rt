@@ -1,6 +1,6 @@
 // What the tests share: devices, and services that are run on them.
 use crate::places::NoFiles;
-use checkpoint::{DEVICE_LEN, Store, format};
+use checkpoint::Store;
 use command_output::WatchedWriter;
 use disk_trait::{Disk, MemDisk};
 use live_service::serve_live;
@@ -27,29 +27,6 @@ pub(crate) fn got<T, E: Drop>(rt: &impl Abort, answer: Result<T, E>) -> T {
 /// Sees that two values are the same.
 pub(crate) fn same<T: Copy + PartialEq + Debug>(rt: &impl Abort, found: T, want: T, name: &str) {
     assert_eq!(rt; found, want, "{name}");
-}
-
-/// A disk of so many zeros, asked for again where memory was short.
-pub(crate) fn blank(rt: &impl Abort, alloc: Global, len: usize) -> MemDisk {
-    match MemDisk::new(alloc, len) {
-        Ok(disk) => disk,
-        Err(_) => got(rt, MemDisk::new(alloc, len)),
-    }
-}
-
-/// A fresh device.
-pub(crate) fn fresh(rt: &impl Abort, alloc: Global, nodes: u16) -> MemDisk {
-    let mut disk = blank(rt, alloc, DEVICE_LEN);
-    got(rt, format(&mut disk, nodes));
-    disk
-}
-
-/// The store of a disk, opened again where memory was short.
-pub(crate) fn reopened<D: Disk + Drop>(rt: &impl Abort, alloc: Global, disk: D) -> Store<D> {
-    match Store::open(alloc, disk) {
-        Ok(store) => store,
-        Err((_, disk)) => got(rt, Store::open(alloc, disk)),
-    }
 }
 
 /// Bytes as text.
@@ -175,10 +152,32 @@ pub(crate) fn expect_run<R: Threads + Wait + Abort + Sync>(
     got(rt, disk.ok_or("no thread"))
 }
 
+/// A fresh device.
+pub(crate) fn fresh(rt: &impl Abort, alloc: Global, nodes: u16) -> MemDisk {
+    got(rt, stand_ins::formatted(alloc, nodes))
+}
+
+/// The store of a disk.
+pub(crate) fn reopened<D: Disk + Drop>(rt: &impl Abort, alloc: Global, disk: D) -> Store<D> {
+    got(rt, stand_ins::opened(alloc, disk))
+}
+
 /// Sees the count of a store, its edges, and the last ticket of its first session.
 pub(crate) fn holds<D: Disk>(rt: &impl Abort, store: &Store<D>, want: (u64, usize, u64)) {
     let found = (store.count(), store.graph().edges(), store.resume(0));
     same(rt, found, want, "count, edges, last ticket");
+}
+
+/// Sees that the first of so many edges of the path are there, as many as the count says, which it gives.
+pub(crate) fn beginning_of(rt: &impl Abort, alloc: Global, disk: MemDisk, edges: u16) -> u64 {
+    let store = reopened(rt, alloc, disk);
+    let count = store.count();
+    for node in 0..edges {
+        let there = store.graph().weight(node, node.wrapping_add(1)).is_some();
+        same(rt, there, (node as u64) < count, "an edge");
+    }
+    same(rt, store.graph().edges() as u64, count, "edges");
+    count
 }
 
 /// How many lines a text has. Each ends with a line feed.

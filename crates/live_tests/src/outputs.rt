@@ -1,11 +1,12 @@
 // Outputs that refuse, and inputs that fail.
-use crate::helpers::{Setup, fresh, got, reopened, run, run_plain, same, text_of};
+use crate::helpers::{Setup, beginning_of, fresh, got, run, run_plain, same, text_of};
 use command_output::Fault;
 use disk_trait::MemDisk;
 use service_lines::Served;
 use service_threads::NoHooks;
+use stand_ins::NarrowWriter;
 use std::alloc::Global;
-use std::io::{self, BufReader, ErrorKind, Read, Write};
+use std::io::{self, BufReader, ErrorKind, Read};
 use std::process::Abort;
 use std::sync::Wait;
 use std::thread::Threads;
@@ -25,50 +26,10 @@ const ANSWERS: &str =
 // How many edits are accepted in each beginning of so many lines.
 const ACCEPTED: [u64; 7] = [0, 1, 1, 2, 2, 3, 3];
 
-/// A writer that takes so many bytes, and then refuses; and that can be flushed so often.
-#[derive(Drop)]
-struct Narrow {
-    taken: Vec<u8>,
-    left: usize,
-    flushes: u64,
-}
-
-impl Write for Narrow {
-    fn write(&mut self, buf: &[u8]) -> io::Result<usize> {
-        if self.left == 0 && !buf.is_empty() {
-            return Err(io::Error::from(ErrorKind::BrokenPipe));
-        }
-        let count = self.left.min(buf.len());
-        self.taken.extend_from_slice(&buf[..count])?;
-        self.left -= count;
-        Ok(count)
-    }
-
-    fn flush(&mut self) -> io::Result<()> {
-        if self.flushes == 0 {
-            return Err(io::Error::from(ErrorKind::BrokenPipe));
-        }
-        self.flushes -= 1;
-        Ok(())
-    }
-}
-
 const OUTPUT: (Served, &str) = (
     Served::Told(Fault::Output),
     "tznode: input or output failed\n",
 );
-
-// Sees that the first edges of the path are there, as many as the count says, which it gives.
-fn beginning_of(rt: &impl Abort, alloc: Global, disk: MemDisk) -> u64 {
-    let store = reopened(rt, alloc, disk);
-    let count = store.count();
-    for node in 0..3u16 {
-        let there = store.graph().weight(node, node + 1).is_some();
-        same(rt, there, (node as u64) < count, "an edge");
-    }
-    same(rt, store.graph().edges() as u64, count, "edges");
-    count
-}
 
 // Sees that what was printed is a beginning of the answers, and that what was accepted in it is on the device.
 fn expect_beginning(rt: &impl Abort, alloc: Global, disk: MemDisk, printed: &[u8]) {
@@ -76,7 +37,7 @@ fn expect_beginning(rt: &impl Abort, alloc: Global, disk: MemDisk, printed: &[u8
     same(rt, ANSWERS.starts_with(text), true, text);
     let lines = printed.iter().filter(|byte| **byte == b'\n').count();
     let accepted = ACCEPTED.get(lines).copied().unwrap_or(4);
-    let count = beginning_of(rt, alloc, disk);
+    let count = beginning_of(rt, alloc, disk, 3);
     same(
         rt,
         accepted <= count && count <= 3,
@@ -92,11 +53,7 @@ fn narrowed<R: Threads + Wait + Abort + Sync>(
     left: usize,
     flushes: u64,
 ) -> Served {
-    let mut out = Narrow {
-        taken: Vec::new(alloc),
-        left,
-        flushes,
-    };
+    let mut out = NarrowWriter::new(alloc, left, flushes);
     let mut err = Vec::new(alloc);
     let disk = fresh(rt, alloc, 5);
     let (served, disk) = run_plain(rt, alloc, disk, &SETUP, INPUT, &mut out, &mut err);
@@ -140,11 +97,7 @@ fn outputs_that_cannot_be_flushed(rt: HostRuntime) {
 #[test]
 fn a_fault_that_is_not_heard(rt: HostRuntime) {
     let alloc = rt.alloc();
-    let mut deaf = Narrow {
-        taken: Vec::new(alloc),
-        left: 0,
-        flushes: 0,
-    };
+    let mut deaf = NarrowWriter::new(alloc, 0, 0);
     let setup = Setup {
         words: "at:5",
         ..SETUP
@@ -154,7 +107,7 @@ fn a_fault_that_is_not_heard(rt: HostRuntime) {
     let (served, disk) = run_plain(&rt, alloc, disk, &setup, INPUT, &mut out, &mut deaf);
     let want = (Served::Untold(Fault::Words), "");
     same(&rt, (served, text_of(&rt, &out)), want, "an untold fault");
-    let count = beginning_of(&rt, alloc, got(&rt, disk.ok_or("no thread")));
+    let count = beginning_of(&rt, alloc, got(&rt, disk.ok_or("no thread")), 3);
     same(&rt, count, 0, "nothing was done");
 }
 
@@ -208,7 +161,7 @@ fn expect_failing<R: Threads + Wait + Abort + Sync>(rt: &R, alloc: Global, calls
         (OUTPUT.0, wanted.as_str(), OUTPUT.1),
         "an input that fails",
     );
-    let count = beginning_of(rt, alloc, got(rt, disk.ok_or("no thread")));
+    let count = beginning_of(rt, alloc, got(rt, disk.ok_or("no thread")), 3);
     same(
         rt,
         Some(count),

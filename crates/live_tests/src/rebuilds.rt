@@ -1,47 +1,12 @@
 // Bursts of edits, after which few generations were built, or one for each round.
 use crate::helpers::{Setup, count_lines, fresh, got, same, text_of};
 use crate::talk::{Row, Talked, talk_with};
-use disk_trait::{DeviceFault, Disk, MemDisk};
 use service_lines::Served;
+use stand_ins::{HookedDisk, Turns};
 use std::alloc::Global;
 use std::process::Abort;
 use std::sync::Wait;
-use std::thread;
 use std::thread::Threads;
-
-/// A disk whose syncs take so many turns of other threads, in which edits come to the queue.
-#[derive(Drop)]
-struct SlowDisk {
-    disk: MemDisk,
-    turns: usize,
-}
-
-impl Disk for SlowDisk {
-    ghost use Rattle.disk_trait.specs.Memory.{mem_view, mem_present};
-
-    ghost view = { λ d. mem_view d.disk };
-
-    ghost present = { λ d. mem_present d.disk };
-
-    fn len(&self) -> usize {
-        self.disk.len()
-    }
-
-    fn read(&mut self, at: usize, bytes: &mut [u8]) -> Result<(), DeviceFault> {
-        self.disk.read(at, bytes)
-    }
-
-    fn write_at(&mut self, at: usize, bytes: &[u8]) -> Result<(), DeviceFault> {
-        self.disk.write_at(at, bytes)
-    }
-
-    fn sync(&mut self) -> Result<(), DeviceFault> {
-        for _ in 0..self.turns {
-            thread::yield_now();
-        }
-        self.disk.sync()
-    }
-}
 
 // Four edits of each of 24 sessions, all at once: each has an edge of its own.
 fn burst(rt: &impl Abort, alloc: Global) -> String {
@@ -67,10 +32,8 @@ fn launched<R: Threads + Wait + Abort + Sync>(rt: &R, alloc: Global, rounds: u32
         numbers: (25, 2, 64),
         rounds,
     };
-    let disk = SlowDisk {
-        disk: fresh(rt, alloc, 41),
-        turns: 20_000,
-    };
+    // In the turns of a sync edits come to the queue.
+    let disk = HookedDisk::new(fresh(rt, alloc, 41), Turns(20_000));
     let burst = burst(rt, alloc);
     let rows: [Row<'_>; 4] = [
         (

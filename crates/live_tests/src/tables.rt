@@ -12,6 +12,7 @@ use router_table::RouterTable;
 use scheme_builds::scheme_of;
 use service_lines::Served;
 use service_threads::Hooks;
+use stand_ins::comes;
 use std::alloc::Global;
 use std::io::{self, BufReader, Read};
 use std::process::Abort;
@@ -214,19 +215,17 @@ fn files_that_are_refused(rt: HostRuntime) {
 /// What a place for files, hooks and an input tell one another.
 #[derive(Drop)]
 struct Signs {
-    // Whether a file has come to its place.
-    is_held: AtomicBool,
+    // How many files have come to their place.
+    files: AtomicU64,
     // The newest generation in which a hop was answered.
     newest: AtomicU64,
     is_late: AtomicBool,
 }
 
-const TURNS: usize = 4_000_000;
-
 impl Signs {
     fn new() -> Signs {
         Signs {
-            is_held: AtomicBool::new(false),
+            files: AtomicU64::new(0),
             newest: AtomicU64::new(0),
             is_late: AtomicBool::new(false),
         }
@@ -236,26 +235,11 @@ impl Signs {
         self.newest.load(Ordering::SeqCst) >= least
     }
 
-    // Waits for a hop in this generation or a later one, or until the turns run out.
-    fn await_hop(&self, least: u64) {
-        for _ in 0..TURNS {
-            if self.has_hopped(least) {
-                return;
-            }
-            thread::yield_now();
+    // Waits until such a word is so much, or the turns run out.
+    fn awaits(&self, word: &AtomicU64, least: u64) {
+        if !comes(word, least) {
+            self.is_late.store(true, Ordering::SeqCst);
         }
-        self.is_late.store(true, Ordering::SeqCst);
-    }
-
-    // Waits until a file has come, or the turns run out.
-    fn await_file(&self) {
-        for _ in 0..TURNS {
-            if self.is_held.load(Ordering::SeqCst) {
-                return;
-            }
-            thread::yield_now();
-        }
-        self.is_late.store(true, Ordering::SeqCst);
     }
 }
 
@@ -287,9 +271,8 @@ impl<R: Wait> TableFiles for HeldFiles<'_, R> {
     ghost puts = { λ held. map put_of held.place.put.items };
 
     fn put(&mut self, file: TableFile) -> Result<(), Fault> {
-        if !self.signs.is_held.load(Ordering::SeqCst) {
-            self.signs.is_held.store(true, Ordering::SeqCst);
-            self.signs.await_hop(self.generation);
+        if self.signs.files.fetch_add(1, Ordering::SeqCst) == 0 {
+            self.signs.awaits(&self.signs.newest, self.generation);
         }
         self.place.put(file)
     }
@@ -320,7 +303,7 @@ impl Read for Pressing {
         let line: &[u8] = if self.lines == 0 {
             b"tables out\n"
         } else {
-            self.signs.await_file();
+            self.signs.awaits(&self.signs.files, 1);
             match edits.get(self.lines.wrapping_sub(1)) {
                 Some(edit) => *edit,
                 None => b"route 0 1\n",

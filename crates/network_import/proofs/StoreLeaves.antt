@@ -45,9 +45,16 @@ up_durable old new ran up model = stands_now new (subst IsTrue (sym ran.model) m
 
 -- ---- group after group
 
--- the first groups, and the next one
-pub next_front : (edges : List Edge) (k d n : ℕ) → d ≡ front_of edges k → d < length edges → n ≡ min 1024 (length edges - d) → d + n ≡ front_of edges (k + 1)
-next_front edges k d n at lt is = omega (arith, at, lt, is)
+-- behind the first groups, the next one is so many edges
+pub record IsNextGroup (edges group : List Edge) (k d n : ℕ) : Type 0 where
+  pub is : group ≡ take n (drop d edges)
+  pub fits : d + n ≤ length edges
+  pub front : d + n ≡ front_of edges (k + 1)
+
+pub next_group : (edges : List Edge) (k d n : ℕ) → d ≡ front_of edges k → d < length edges → n ≡ min 1024 (length edges - d) → IsNextGroup edges (take (d + n - d) (drop d edges)) k d n
+next_group edges k d n at lt some =
+    let back : d + n - d ≡ n = omega arith in
+    record { is = ap (λ (j : ℕ). take j (drop d edges)) back; fits = omega (arith, some, lt); front = omega (arith, at, lt, some) }
 
 -- the next group
 pub group_is : (edges : List Edge) (d n : ℕ) → n ≡ min 1024 (length edges - d) → take n (drop d edges) ≡ take 1024 (drop d edges)
@@ -59,15 +66,14 @@ group_is edges d n is = by_length (drop d edges) n (omega (arith, is, length-dro
       (cases_lt 1024 (length xs))
 
 -- an image that one group more leaves is one of a beginning
-pub front_of_more : (old mid : State) (edges group : List Edge) (k d n : ℕ) (image : List ℕ) → group ≡ take n (drop d edges) → d + n ≤ length edges → d ≡ front_of edges k → d + n ≡ front_of edges (k + 1)
-    → HasTaken old edges d mid → StandsForOneMore mid group image → StandsForFront old edges image
-front_of_more old mid edges group k d n image is fits at next taken (inl stands) =
+pub front_of_more : (old mid : State) (edges group : List Edge) (k d n : ℕ) (image : List ℕ) → IsNextGroup edges group k d n → d ≡ front_of edges k → HasTaken old edges d mid → StandsForOneMore mid group image → StandsForFront old edges image
+front_of_more old mid edges group k d n image next at taken (inl stands) =
     record { groups = k; state = mid; taken = subst (λ (m : ℕ). HasTaken old edges m mid) at taken; stands = stands }
-front_of_more old mid edges group k d n image is fits at next taken (inr more) =
+front_of_more old mid edges group k d n image next at taken (inr more) =
     record {
       groups = k + 1;
       state = more.0;
-      taken = subst (λ (m : ℕ). HasTaken old edges m more.0) next (taken_both old mid more.0 edges group d n is fits taken more.1);
+      taken = subst (λ (m : ℕ). HasTaken old edges m more.0) next.front (taken_both old mid more.0 edges group d n next.is next.fits taken more.1);
       stands = more.2;
     }
 
@@ -80,11 +86,11 @@ front_none store edges model up = started (view_of store) (StandsForFront (state
       none = let zeroth : 0 ≡ front_of edges 0 = omega arith in subst (λ (m : ℕ). HasTaken (state_of store) edges m (state_of store)) zeroth (taken_none (state_of store) edges)
 
 -- one group more
-pub front_more : (first now new : DiskView) (old mid : State) (edges group : List Edge) (k d n : ℕ) → group ≡ take n (drop d edges) → d + n ≤ length edges → d ≡ front_of edges k → d + n ≡ front_of edges (k + 1)
-    → HasTaken old edges d mid → LeavesOnly first now (StandsForFront old edges) → LeavesOnly now new (StandsForOneMore mid group) → LeavesOnly first new (StandsForFront old edges)
-front_more first now new old mid edges group k d n is fits at next taken before more =
+pub front_more : (first now new : DiskView) (old mid : State) (edges group : List Edge) (k d n : ℕ) → IsNextGroup edges group k d n → d ≡ front_of edges k → HasTaken old edges d mid
+    → LeavesOnly first now (StandsForFront old edges) → LeavesOnly now new (StandsForOneMore mid group) → LeavesOnly first new (StandsForFront old edges)
+front_more first now new old mid edges group k d n next at taken before more =
     joined first now new (StandsForFront old edges) (StandsForOneMore mid group) (StandsForFront old edges) before more (λ image stands. stands)
-    (λ image stands. front_of_more old mid edges group k d n image is fits at next taken stands)
+    (λ image stands. front_of_more old mid edges group k d n image next at taken stands)
 
 -- what a failed call leaves
 pub cut_off_at : (old mid new : State) (edges group : List Edge) (k d : ℕ) (now disk : DiskView) → d ≡ front_of edges k → new ≡ mid → group ≡ take 1024 (drop d edges) → HasTaken old edges d mid

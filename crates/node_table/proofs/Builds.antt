@@ -1,6 +1,7 @@
 -- A scheme that is built keeps all rules.
 pub mod Built
 pub mod BuildSteps
+pub mod KeptColumns
 pub mod OneRootMore
 pub mod GrownTrees
 pub mod TreeMembers

@@ -23,6 +23,14 @@ items_at vs x = elim (slice_get vs x) [ None ↦ [] | Some v ↦ v.items ]
 abbrev pub AgreeBut : {X : Type 0} → ℕ → (ℕ → X) → (ℕ → X) → Type 0
 AgreeBut at old new = (x : ℕ) → (x ≡ at → ⊥) → new x ≡ old x
 
+-- at one place the first list has both, joined; at all other places it is as it was, and so is what is left of the next list
+pub record IsJoinedAt {T X : Type 0} (at : ℕ) (read : List T → ℕ → X) (join : X → X → X) (old new next left : List T) : Type 0 where
+  pub length_is : length new ≡ length old
+  pub length_left : length left ≡ length next
+  pub joined : read new at ≡ join (read old at) (read next at)
+  pub others : AgreeBut at (read old) (read new)
+  pub rest : AgreeBut at (read next) (read left)
+
 -- The lists grow: at each place more stands behind what stood there
 pub record GrowBy {X A : Type 0} (old new : List (Vec X A)) (more : ℕ → List X) : Type 0 where
   pub size : length new ≡ length old

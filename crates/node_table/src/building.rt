@@ -249,20 +249,8 @@ fn all_ports(alloc: Global, graph: &Graph) -> Result<Vec<Vec<u16>>, AllocError>
     Ok(all)
 }
 
-/// An empty list of entries for each node.
-fn no_entries(alloc: Global, nodes: u16) -> Result<Vec<Vec<Entry>>, AllocError>
-    ensures length { IfOk result (λ all. length all.items ≡ nodes) }
-    ensures empty { IfOk result (λ all. (x : ℕ) → items_at all.items x ≡ []) }
-{
-    let mut all = Vec::with_capacity(alloc, nodes as usize)?;
-    for _x in 0..nodes {
-        all.push(Vec::new(alloc))?;
-    }
-    Ok(all)
-}
-
-/// An empty directory for each node.
-fn no_directories(alloc: Global, nodes: u16) -> Result<Vec<Vec<Listed>>, AllocError>
+/// An empty list for each node.
+fn empty_lists<T: Drop>(alloc: Global, nodes: u16) -> Result<Vec<Vec<T>>, AllocError>
     ensures length { IfOk result (λ all. length all.items ≡ nodes) }
     ensures empty { IfOk result (λ all. (x : ℕ) → items_at all.items x ≡ []) }
 {
@@ -332,8 +320,8 @@ fn empty_parts(
         landmarks: flag_list(alloc, landmarks)?,
         ports: all_ports(alloc, graph)?,
         nearest: nearest_list(alloc, nodes, nearest)?,
-        entries: no_entries(alloc, nodes)?,
-        directories: no_directories(alloc, nodes)?,
+        entries: empty_lists(alloc, nodes)?,
+        directories: empty_lists(alloc, nodes)?,
         homes: no_homes(alloc, nodes)?,
     })
 }

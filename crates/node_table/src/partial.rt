@@ -1,6 +1,6 @@
 // What a build has of a range of roots: it is joined with what stands behind, and finished when no root is left.
 ghost use Rattle.std.specs.Prelude.{◌≡◌, ◌<◌, ◌++◌, ℕ, IfOk, OnOk, length};
-ghost use Rattle.node_table.specs.Building.{AgreeBut, AreAsLong, GrowBy, IsJoined, JoinsRanges, first_list, first_some, items_at};
+ghost use Rattle.node_table.specs.Building.{AreAsLong, GrowBy, IsJoined, IsJoinedAt, JoinsRanges, first_list, first_some, items_at};
 ghost use Rattle.node_table.specs.Columns.{IsBuiltBetween};
 ghost use Rattle.node_table.specs.Schemes.{IsSchemeUnder};
 ghost use Rattle.node_table.specs.Tables.{value_at};
@@ -107,12 +107,8 @@ fn append_at(
 ) -> Result<(), AllocError>
     requires here { at < length lists.old.items }
     requires there { at < length next.old.items }
-    ensures length { OnOk result (length lists.new.items ≡ length lists.old.items) }
-    ensures left { OnOk result (length next.new.items ≡ length next.old.items) }
-    ensures joined { OnOk result (items_at lists.new.items at
-        ≡ items_at lists.old.items at ++ items_at next.old.items at) }
-    ensures others { OnOk result (AgreeBut at (items_at lists.old.items) (items_at lists.new.items)) }
-    ensures rest { OnOk result (AgreeBut at (items_at next.old.items) (items_at next.new.items)) }
+    ensures { OnOk result (IsJoinedAt at items_at (λ xs ys. xs ++ ys)
+        lists.old.items lists.new.items next.old.items next.new.items) }
 {
     append(&mut lists[at], &mut next[at])
 }
@@ -141,12 +137,7 @@ fn join_directories(mut lists: Vec<Vec<Listed>>, mut next: Vec<Vec<Listed>>) -> 
 fn choose_at(lists: &mut Vec<Vec<Listed>>, next: &mut Vec<Vec<Listed>>, at: usize)
     requires here { at < length lists.old.items }
     requires there { at < length next.old.items }
-    ensures length { length lists.new.items ≡ length lists.old.items }
-    ensures left { length next.new.items ≡ length next.old.items }
-    ensures joined { items_at lists.new.items at
-        ≡ first_list (items_at lists.old.items at) (items_at next.old.items at) }
-    ensures others { AgreeBut at (items_at lists.old.items) (items_at lists.new.items) }
-    ensures rest { AgreeBut at (items_at next.old.items) (items_at next.new.items) }
+    ensures { IsJoinedAt at items_at first_list lists.old.items lists.new.items next.old.items next.new.items }
 {
     choose(&mut lists[at], &mut next[at]);
 }
@@ -176,12 +167,7 @@ fn join_homes(mut homes: Vec<Option<Label>>, mut next: Vec<Option<Label>>) -> Ve
 fn choose_home_at(homes: &mut Vec<Option<Label>>, next: &mut Vec<Option<Label>>, at: usize)
     requires here { at < length homes.old.items }
     requires there { at < length next.old.items }
-    ensures length { length homes.new.items ≡ length homes.old.items }
-    ensures left { length next.new.items ≡ length next.old.items }
-    ensures joined { value_at homes.new.items at
-        ≡ first_some (value_at homes.old.items at) (value_at next.old.items at) }
-    ensures others { AgreeBut at (value_at homes.old.items) (value_at homes.new.items) }
-    ensures rest { AgreeBut at (value_at next.old.items) (value_at next.new.items) }
+    ensures { IsJoinedAt at value_at first_some homes.old.items homes.new.items next.old.items next.new.items }
 {
     choose_home(&mut homes[at], &mut next[at]);
 }

@@ -197,48 +197,46 @@ index_split x r (Some k) i false e h = inr (refl, (k, (refl, (let z : k + 1 ≡ 
 none_some : {X : Type 0} {i : X} → None ≡ Some i → ⊥
 none_some e = cc
 
-pub root_within : (r : ℕ) (es : List Entry) (i : ℕ) → Some i ≡ index_of r (roots_of es) → i < length es
-root_within r [] i h = absurd (none_some (sym h))
-root_within r (e ∷ es) i h = elim (index_split e.root r (index_of r (roots_of es)) i (e.root == r) refl (sym h)) [
+place_within : (r : ℕ) (ns : List ℕ) (i : ℕ) → Some i ≡ index_of r ns → i < length ns
+place_within r [] i h = absurd (none_some (sym h))
+place_within r (n ∷ ns) i h = elim (index_split n r (index_of r ns) i (n == r) refl (sym h)) [
   | inl k ↦ omega (arith, k.1)
-  | inr k ↦ (let l = root_within r es k.1.0 (sym k.1.1.0) in omega (arith, l, k.1.1.1))
+  | inr k ↦ (let l = place_within r ns k.1.0 (sym k.1.1.0) in omega (arith, l, k.1.1.1))
 ]
+
+-- `first` answers the value of the first item whose key it is asked for
+module _ {X Y : Type 0} (key : X → ℕ) (value : X → Y) (first : ℕ → List X → Option Y) (none : (r : ℕ) → first r [] ≡ None)
+    (one : (r : ℕ) (x : X) (xs : List X) → first r (x ∷ xs) ≡ cond (key x == r) (Some (value x)) (first r xs)) where
+  found : (r : ℕ) (xs : List X) (i : ℕ) (d : X) → Some i ≡ index_of r (map key xs) → first r xs ≡ Some (value (get_or xs i d))
+  found r [] i d h = absurd (none_some (sym h))
+  found r (x ∷ xs) i d h = one r x xs ∙ elim (index_split (key x) r (index_of r (map key xs)) i (key x == r) refl (sym h)) [
+    | inl k ↦ rw (k.0, k.1) refl
+    | inr k ↦ rw (k.0, k.1.1.1, add-one k.1.0) (found r xs k.1.0 d (sym k.1.1.0))
+  ]
+
+  missing : (r : ℕ) (xs : List X) → None ≡ index_of r (map key xs) → first r xs ≡ None
+  missing r [] h = none r
+  missing r (x ∷ xs) h = one r x xs ∙ go (key x == r) refl (index_of r (map key xs)) refl (λ z. missing r xs (sym z)) (sym h)
+    where
+      go : (b : Bool) → (key x == r) ≡ b → (o : Option ℕ) → index_of r (map key xs) ≡ o → (index_of r (map key xs) ≡ None → first r xs ≡ None) → cond b (Some 0) (one_more o) ≡ None → cond b (Some (value x)) (first r xs) ≡ None
+      go true t o q ih g = absurd (let z : Some 0 ≡ None = g in cc)
+      go false t None q ih g = ih q
+      go false t (Some k) q ih g = absurd (let z : Some (k + 1) ≡ None = g in cc)
+
+pub root_within : (r : ℕ) (es : List Entry) (i : ℕ) → Some i ≡ index_of r (roots_of es) → i < length es
+root_within r es i h = (let l = place_within r (roots_of es) i h in let n = length-map es (λ e. e.root) in omega (arith, l, n))
 
 pub entry_found : (r : ℕ) (es : List Entry) (i : ℕ) (d : Entry) → Some i ≡ index_of r (roots_of es) → first_entry r es ≡ Some (get_or es i d)
-entry_found r [] i d h = absurd (none_some (sym h))
-entry_found r (e ∷ es) i d h = elim (index_split e.root r (index_of r (roots_of es)) i (e.root == r) refl (sym h)) [
-  | inl k ↦ rw (k.0, k.1) refl
-  | inr k ↦ rw (k.0, k.1.1.1, add-one k.1.0) (entry_found r es k.1.0 d (sym k.1.1.0))
-]
+entry_found = found (λ e. e.root) (λ e. e) first_entry (λ r. refl) (λ r e es. refl)
 
 pub entry_missing : (r : ℕ) (es : List Entry) → None ≡ index_of r (roots_of es) → first_entry r es ≡ None
-entry_missing r [] h = refl
-entry_missing r (e ∷ es) h = go (e.root == r) refl (index_of r (roots_of es)) refl (λ z. entry_missing r es (sym z)) (sym h)
-  where
-    go : (b : Bool) → (e.root == r) ≡ b → (o : Option ℕ) → index_of r (roots_of es) ≡ o → (index_of r (roots_of es) ≡ None → first_entry r es ≡ None) → cond b (Some 0) (one_more o) ≡ None → cond b (Some e) (first_entry r es) ≡ None
-    go true t o q ih g = absurd (let z : Some 0 ≡ None = g in cc)
-    go false t None q ih g = ih q
-    go false t (Some k) q ih g = absurd (let z : Some (k + 1) ≡ None = g in cc)
+entry_missing = missing (λ e. e.root) (λ e. e) first_entry (λ r. refl) (λ r e es. refl)
 
 pub node_within : (v : ℕ) (es : List Listed) (i : ℕ) → Some i ≡ index_of v (nodes_of es) → i < length es
-node_within v [] i h = absurd (none_some (sym h))
-node_within v (e ∷ es) i h = elim (index_split e.node v (index_of v (nodes_of es)) i (e.node == v) refl (sym h)) [
-  | inl k ↦ omega (arith, k.1)
-  | inr k ↦ (let l = node_within v es k.1.0 (sym k.1.1.0) in omega (arith, l, k.1.1.1))
-]
+node_within v es i h = (let l = place_within v (nodes_of es) i h in let n = length-map es (λ e. e.node) in omega (arith, l, n))
 
 pub listed_found : (v : ℕ) (es : List Listed) (i : ℕ) (d : Listed) → Some i ≡ index_of v (nodes_of es) → first_listed v es ≡ Some (get_or es i d).label
-listed_found v [] i d h = absurd (none_some (sym h))
-listed_found v (e ∷ es) i d h = elim (index_split e.node v (index_of v (nodes_of es)) i (e.node == v) refl (sym h)) [
-  | inl k ↦ rw (k.0, k.1) refl
-  | inr k ↦ rw (k.0, k.1.1.1, add-one k.1.0) (listed_found v es k.1.0 d (sym k.1.1.0))
-]
+listed_found = found (λ e. e.node) (λ e. e.label) first_listed (λ v. refl) (λ v e es. refl)
 
 pub listed_missing : (v : ℕ) (es : List Listed) → None ≡ index_of v (nodes_of es) → first_listed v es ≡ None
-listed_missing v [] h = refl
-listed_missing v (e ∷ es) h = go (e.node == v) refl (index_of v (nodes_of es)) refl (λ z. listed_missing v es (sym z)) (sym h)
-  where
-    go : (b : Bool) → (e.node == v) ≡ b → (o : Option ℕ) → index_of v (nodes_of es) ≡ o → (index_of v (nodes_of es) ≡ None → first_listed v es ≡ None) → cond b (Some 0) (one_more o) ≡ None → cond b (Some e.label) (first_listed v es) ≡ None
-    go true t o q ih g = absurd (let z : Some 0 ≡ None = g in cc)
-    go false t None q ih g = ih q
-    go false t (Some k) q ih g = absurd (let z : Some (k + 1) ≡ None = g in cc)
+listed_missing = missing (λ e. e.node) (λ e. e.label) first_listed (λ v. refl) (λ v e es. refl)

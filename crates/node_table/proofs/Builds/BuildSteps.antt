@@ -1,6 +1,6 @@
 -- Steps of a build: lists at places, entries and home labels of one more row, and the limits of trees.
 use Rattle.std.proofs.Common.{◌≡◌, ℕ, zero, suc, ◌+◌, ◌<◌, ◌≤◌, ◌==◌, Bool, true, false, cond, nat_lt, sym, refl, ap, subst, ◌∙◌, arith, List, [], ◌∷◌, ◌++◌, length, map, take, get_or, append_assoc, add-one, IsPermutation}
-use Rattle.std.specs.Prelude.{Option, Some, None, nat_eq, slice_index, slice_index_or}
+use Rattle.std.specs.Prelude.{Option, Some, None, Result, Ok, Err, OnOk, nat_eq, slice_index, slice_index_or}
 use Rattle.std.specs.List.{IsDistinct}
 use Rattle.std.specs.List.Sorted.{IsNonDecreasingBy}
 use Rattle.std.proofs.lemmas.List.{get_or-map, map-append}
@@ -27,12 +27,21 @@ use Rattle.node_table.proofs.Builds.MadeRows.{listed_row}
 use Rattle.node_table.proofs.Builds.RowColumns.{flips}
 use Rattle.node_table.proofs.Builds.Built.{zero_walk}
 
+-- what follows where a value is there
+pub on_ok : {X E : Type 0} (P Q : Type 0) (r : Result X E) → (P → Q) → OnOk r P → OnOk r Q
+on_ok P Q (Ok x) f h = f h
+on_ok P Q (Err e) f h = h
+
 -- ---- lists at places
 
 pub items_are : {X A : Type 0} (vs : List (Vec X A)) (i : ℕ) (d : Vec X A) → i < length vs → items_at vs i ≡ (get_or vs i d).items
 items_are [] i d l = absurd (omega (arith, l))
 items_are (v ∷ vs) zero d l = refl
 items_are (v ∷ vs) (suc i) d l = items_are vs i d (omega (arith, l))
+
+-- the list that is read
+pub items_read : {X A : Type 0} (vs : List (Vec X A)) (i : ℕ) (v : Vec X A) → i < length vs → v ≡ get_or vs i v → v.items ≡ items_at vs i
+items_read vs i v l is = ap (λ u. u.items) is ∙ sym (items_are vs i v l)
 
 pub items_set : {X A : Type 0} (vs : List (Vec X A)) (i : ℕ) (v : Vec X A) → i < length vs → items_at (set vs i v) i ≡ v.items
 items_set [] i v l = absurd (omega (arith, l))
@@ -61,7 +70,7 @@ pushed_at A vs i old new e l is more x = go (i == x) refl
     go true t =
         let s = eqb-true i x t in
         subst (λ z. items_at (set vs i new) z ≡ items_at vs z ++ e ∷ []) s
-        (items_set vs i new l ∙ more ∙ ap (λ z. z ++ e ∷ []) (ap (λ (v : Vec Entry A). v.items) is ∙ sym (items_are vs i old l)))
+        (items_set vs i new l ∙ more ∙ ap (λ z. z ++ e ∷ []) (items_read vs i old l is))
     go false t = items_other vs i x new (λ s. not_both (eq-eqb i x (sym s)) t) ∙ append_nil (items_at vs x)
 
 -- ---- one numbered member more

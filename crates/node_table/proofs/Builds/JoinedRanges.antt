@@ -1,7 +1,6 @@
 -- Two adjacent ranges of roots, joined: tables of the roots from a to below b, with those from b to below c behind them.
-use Rattle.std.proofs.Common.{◌≡◌, ℕ, zero, suc, ◌+◌, ◌≤◌, ◌<◌, ◌⊎◌, inl, inr, Bool, true, false, cond, nat_lt, sym, refl, ap, subst, ◌∙◌, arith, List, [], ◌∷◌, ◌++◌, length}
+use Rattle.std.proofs.Common.{◌≡◌, ℕ, zero, suc, ◌+◌, ◌≤◌, ◌<◌, ◌⊎◌, inl, inr, Bool, true, false, nat_lt, sym, refl, ap, subst, ◌∙◌, arith, List, [], ◌∷◌, ◌++◌, length}
 use Rattle.std.specs.Prelude.{Option, Some, None, IsSome, slice_get}
-use Rattle.std.specs.Option.{option_map}
 use Rattle.std.specs.List.Sorted.{IsStrictlyIncreasing}
 use Rattle.std.proofs.lemmas.Bool.Decides.{nat_tests}
 use Rattle.graph_edits.specs.Edges.{Network}
@@ -10,10 +9,10 @@ use Rattle.distances.specs.declared.nearest.Near.{Near}
 use Rattle.heavy_labels.specs.Label.{Label}
 use Rattle.node_table.specs.declared.parts.Parts.{Parts}
 use Rattle.node_table.specs.declared.parts.Entry.{Entry}
-use Rattle.node_table.specs.Tables.{tables, entries_at, directory_at, first_entry, first_listed, roots_of, nodes_of, value_at, or_false}
-use Rattle.node_table.specs.Checks.{IsListed}
-use Rattle.node_table.specs.Columns.{IsColumn, HasColumn, IsBuiltBetween, AreBelow, AreFrom, limit_in}
+use Rattle.node_table.specs.Tables.{tables, entries_at, directory_at, first_entry, roots_of, value_at, or_false}
+use Rattle.node_table.specs.Columns.{HasColumn, IsBuiltBetween, AreBelow, AreFrom}
 use Rattle.node_table.specs.Building.{items_at, first_list, first_some, IsJoined, IsBuildOf}
+use Rattle.node_table.proofs.Builds.KeptColumns.{column_kept}
 use Rattle.node_table.proofs.Builds.RowSteps.{below_more}
 use Rattle.node_table.proofs.Builds.OneRootMore.{first_left, first_right, roots_append, differ, from_both}
 
@@ -102,39 +101,11 @@ module _ (m : Network) (p q t : Parts) (a b c : ℕ) (ab : a ≤ b) (bc : b ≤ 
   home_q : (v : ℕ) (z : Near) → (tables p).nearest v ≡ Some z → b ≤ z.landmark → (tables t).home v ≡ (tables q).home v
   home_q v z g l = w.homes v ∙ ap (λ o. first_some o ((tables q).home v)) (h.homes_fresh v z g l)
 
-  limit_p : (r x : ℕ) → limit_in p r x ≡ limit_in t r x
-  limit_p r x = ap (λ b. cond b None (option_map (λ (z : Near). z.distance) ((tables p).nearest x))) (sym (landmark_p r)) ∙ ap (λ o. cond ((tables t).landmark r) None (option_map (λ (z : Near). z.distance) o)) (sym (nearest_p x))
-
-  limit_q : (r x : ℕ) → limit_in q r x ≡ limit_in t r x
-  limit_q r x = ap (λ b. cond b None (option_map (λ (z : Near). z.distance) ((tables q).nearest x))) (sym (landmark_q r)) ∙ ap (λ o. cond ((tables t).landmark r) None (option_map (λ (z : Near). z.distance) o)) (sym (nearest_q x))
-
   column_p : (r : ℕ) → a ≤ r → r < b → HasColumn m t r
-  column_p r i l =
-      let c = h.columns r i l in
-      let dir : directory_at t r ≡ directory_at p r = directory_p r l in
-      record {
-        labels = c.labels;
-        column = subst (λ f. IsColumn m (limit_in t r) r f c.labels) (λ i x. sym (first_p r x l) i) (subst (λ lim. IsColumn m lim r (λ x. first_entry r (entries_at p x)) c.labels) (λ i x. limit_p r x i) c.column);
-        landmark = λ e. dir ∙ c.landmark (sym (landmark_p r) ∙ e);
-        listed = λ e i. c.listed e (subst (IsListed e) dir i);
-        ascend = subst (λ z. IsStrictlyIncreasing (nodes_of z)) (sym dir) c.ascend;
-        complete = λ e v s. subst (λ z. IsSome (first_listed v z)) (sym dir) (c.complete (sym (landmark_p r) ∙ e) v s);
-        homes = λ v z g s. home_p v z (sym (nearest_p v) ∙ g) (omega (arith, s, l)) ∙ c.homes v z (sym (nearest_p v) ∙ g) s;
-      }
+  column_p r i l = column_kept m p t r (landmark_p r) nearest_p (directory_p r l) (λ x. first_p r x l) (λ v z g s. home_p v z g (omega (arith, s, l))) (h.columns r i l)
 
   column_q : (r : ℕ) → b ≤ r → r < c → HasColumn m t r
-  column_q r i l =
-      let c = k.columns r i l in
-      let dir : directory_at t r ≡ directory_at q r = directory_q r i in
-      record {
-        labels = c.labels;
-        column = subst (λ f. IsColumn m (limit_in t r) r f c.labels) (λ j x. sym (first_q r x i) j) (subst (λ lim. IsColumn m lim r (λ x. first_entry r (entries_at q x)) c.labels) (λ i x. limit_q r x i) c.column);
-        landmark = λ e. dir ∙ c.landmark (sym (landmark_q r) ∙ e);
-        listed = λ e i. c.listed e (subst (IsListed e) dir i);
-        ascend = subst (λ z. IsStrictlyIncreasing (nodes_of z)) (sym dir) c.ascend;
-        complete = λ e v s. subst (λ z. IsSome (first_listed v z)) (sym dir) (c.complete (sym (landmark_q r) ∙ e) v s);
-        homes = λ v z g s. home_q v z (sym (nearest_p v) ∙ g) (omega (arith, s, i)) ∙ c.homes v z (sym (nearest_q v) ∙ g) s;
-      }
+  column_q r i l = column_kept m q t r (landmark_q r) nearest_q (directory_q r i) (λ x. first_q r x i) (λ v z g s. home_q v z (sym (nearest_p v) ∙ nearest_q v ∙ g) (omega (arith, s, i))) (k.columns r i l)
 
   homes_near : (v : ℕ) (o : Option Near) → (tables t).nearest v ≡ o → IsSome ((tables t).home v) → IsSome o
   homes_near v (Some z) g s = refl

@@ -23,6 +23,7 @@ use Rattle.node_table.specs.Checks.{IsListed}
 use Rattle.node_table.specs.Columns.{IsColumn, HasColumn, IsBuiltBetween, AreBelow, AreFrom, limit_in}
 use Rattle.node_table.specs.RowLists.{Row, nodes_in, nodes_numbered, row_at, row_by, rows_by, entry_in, label_in}
 use Rattle.node_table.specs.Building.{items_at, entries_for, listed_member, home_by, home_after, limit_by, IsDirectoryOf, IsDirectoryAfter, AreRowsOf, IsWith, IsBuildOf}
+use Rattle.node_table.proofs.Builds.KeptColumns.{column_kept, limit_kept}
 use Rattle.node_table.proofs.Builds.MadeRows.{listed_row}
 use Rattle.node_table.proofs.Builds.RowSteps.{increasing_push, below_more, below_push, rows_nodes}
 use Rattle.node_table.proofs.Builds.RowColumns.{row_found}
@@ -283,9 +284,6 @@ module _ (m : Network) (p q : Parts) (j k : ℕ) (ws : List Row) (le : j ≤ k) 
           subst (AreBelow (k + 1)) (sym (roots_append (entries_at p x) (entries_for x ws) ∙ ap (λ z. roots_of (entries_at p x) ++ roots_of z) o.entries ∙ ap (λ z. roots_of (entries_at p x) ++ z ∷ []) here))
           (below_push (roots_of (entries_at p x)) k (k + 1) (omega arith) (below_more (roots_of (entries_at p x)) k (k + 1) (omega arith) (h.below x)))
 
-  limit_old : (r x : ℕ) → limit_in p r x ≡ limit_in q r x
-  limit_old r x = ap (λ b. cond b None (option_map (λ (z : Near). z.distance) ((tables p).nearest x))) (sym (landmark_same r)) ∙ ap (λ o. cond ((tables q).landmark r) None (option_map (λ (z : Near). z.distance) o)) (sym (nearest_same x))
-
   still_from : (x : ℕ) → AreFrom j (roots_of (entries_at q x))
   still_from x = subst (λ z. AreFrom j z) (sym (ap roots_of (w.entries.items x) ∙ roots_append (entries_at p x) (entries_for x ws))) (from_both j (roots_of (entries_at p x)) (roots_of (entries_for x ws)) (h.from x) (all (entries_for x ws) (more_roots x)))
     where
@@ -295,28 +293,18 @@ module _ (m : Network) (p q : Parts) (j k : ℕ) (ws : List Row) (le : j ≤ k) 
 
   old_column : (r : ℕ) → j ≤ r → r < k → HasColumn m q r
   old_column r b l =
-      let c = h.columns r b l in
       let apart : r ≡ k → ⊥ = λ s. omega (arith, l, s) in
-      let dir : directory_at q r ≡ directory_at p r = w.other_directories r apart in
-      record {
-        labels = c.labels;
-        column = subst (λ f. IsColumn m (limit_in q r) r f c.labels) (λ i x. sym (first_old r x apart) i) (subst (λ lim. IsColumn m lim r (λ x. first_entry r (entries_at p x)) c.labels) (λ i x. limit_old r x i) c.column);
-        landmark = λ e. dir ∙ c.landmark (sym (landmark_same r) ∙ e);
-        listed = λ e i. c.listed e (subst (IsListed e) dir i);
-        ascend = subst (λ z. IsStrictlyIncreasing (nodes_of z)) (sym dir) c.ascend;
-        complete = λ e v s. subst (λ z. IsSome (first_listed v z)) (sym dir) (c.complete (sym (landmark_same r) ∙ e) v s);
-        homes = λ v z g s. homes v z (sym (nearest_same v) ∙ g) s;
-      }
+      column_kept m p q r (landmark_same r) nearest_same (w.other_directories r apart) (λ x. first_old r x apart) homes (h.columns r b l)
     where
-      homes : (v : ℕ) (z : Near) → (tables p).nearest v ≡ Some z → z.landmark ≡ r → (tables q).home v ≡ (h.columns r b l).labels v
+      homes : (v : ℕ) (z : Near) → (tables p).nearest v ≡ Some z → z.landmark ≡ r → (tables q).home v ≡ (tables p).home v
       homes v z g s =
-          w.homes v ∙ ap (λ o. home_after o k (map listed_row ws) v ((tables p).home v)) g ∙ home_other z k ws v ((tables p).home v) (differ z.landmark k (λ e. (let a = sym s ∙ e in omega (arith, l, a)))) ∙ (h.columns r b l).homes v z g s
+          w.homes v ∙ ap (λ o. home_after o k (map listed_row ws) v ((tables p).home v)) g ∙ home_other z k ws v ((tables p).home v) (differ z.landmark k (λ e. (let a = sym s ∙ e in omega (arith, l, a))))
 
   new_column : HasColumn m q k
   new_column = record {
     labels = label_in ws;
     column = subst (λ f. IsColumn m (limit_in q k) k f (label_in ws)) (λ i x. sym (first_new x) i)
-        (subst (λ lim. IsColumn m lim k (entry_in ws) (label_in ws)) (λ i x. (limit_same ((tables p).landmark k) p.nearest.items x ∙ limit_old k x) i) rows.column);
+        (subst (λ lim. IsColumn m lim k (entry_in ws) (label_in ws)) (λ i x. (limit_same ((tables p).landmark k) p.nearest.items x ∙ limit_kept p q k x (landmark_same k) (nearest_same x)) i) rows.column);
     landmark = λ e. empty_directory (sym (landmark_same k) ∙ e);
     listed = λ e i. listed ((tables p).landmark k) refl e i;
     ascend = ascend ((tables p).landmark k) refl;

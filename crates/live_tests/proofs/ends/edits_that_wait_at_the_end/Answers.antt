@@ -1,8 +1,7 @@
 use denote.Param.Send.{IsSend, IsSync, sendable}
 use Rattle.std.proofs.Crossing.{crosses}
-use Rattle.live_tests.specs.contracts.ends.PatientDisk as patient
+use Rattle.stand_ins.proofs.Sends.{hooked_send}
 use Rattle.live_tests.specs.contracts.ends.Ended as ended
-use Rattle.live_tests.proofs.Sends.{memory_send}
 use Rattle.live_tests.proofs.ends.edits_that_wait_at_the_end.Goals as goal
 
 ended_sync : IsSync ended.the_row
@@ -11,8 +10,5 @@ ended_sync = search (crosses, sendable) depth 40
 ended_send : IsSend ended.the_row
 ended_send = search (crosses, sendable) depth 40
 
-patient_send : IsSend patient.the_row
-patient_send = search (crosses, sendable, memory_send, ended_sync, ended_send) depth 40
-
 pub run-served-requires-send-D : goal.run-served-requires-send-D
-run-served-requires-send-D g c κs = search (crosses, sendable, patient_send) depth 60
+run-served-requires-send-D g c κs = search (crosses, sendable, hooked_send, ended_sync, ended_send) depth 60

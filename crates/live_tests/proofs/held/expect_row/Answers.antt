@@ -1,8 +1,7 @@
 use denote.Param.Send.{IsSend, IsSync, sendable}
 use Rattle.std.proofs.Crossing.{crosses}
-use Rattle.live_tests.specs.contracts.held.HeldDisk as held
+use Rattle.stand_ins.proofs.Sends.{hooked_send}
 use Rattle.live_tests.specs.contracts.held.Signs as signs
-use Rattle.live_tests.proofs.Sends.{memory_send}
 use Rattle.live_tests.proofs.held.expect_row.Goals as goal
 
 signs_sync : IsSync signs.the_row
@@ -11,8 +10,5 @@ signs_sync = search (crosses, sendable) depth 40
 signs_send : IsSend signs.the_row
 signs_send = search (crosses, sendable) depth 40
 
-held_send : IsSend held.the_row
-held_send = search (crosses, sendable, memory_send, signs_sync, signs_send) depth 40
-
 pub run-served-requires-send-D : goal.run-served-requires-send-D
-run-served-requires-send-D g c κs = search (crosses, sendable, held_send) depth 60
+run-served-requires-send-D g c κs = search (crosses, sendable, hooked_send, signs_sync, signs_send) depth 60

@@ -3,7 +3,8 @@ use denote.Param.{param}
 use denote.Param.Send.{IsSend, IsSync, param_send, sendable}
 use Rattle.std.proofs.Crossing.{crosses}
 use Rattle.live_tests.specs.contracts.tables.Signs as signs
-use Rattle.live_tests.proofs.Sends.{file_send, memory_send, put_send}
+use Rattle.stand_ins.proofs.Sends.{memory_send}
+use Rattle.live_tests.proofs.Sends.{file_send, put_send}
 use Rattle.live_tests.proofs.tables.expect_held.Given as given
 use Rattle.live_tests.proofs.tables.expect_held.Lts as lts
 use Rattle.live_tests.proofs.tables.expect_held.Goals as goal

@@ -1,12 +1,12 @@
-use Rattle.std.proofs.Common.{arith, ◌≡◌, ◌≤◌, ◌<◌, ◌+◌, ◌-◌, ◌^◌, ◌∙◌, sym, ap, subst, refl, length, length-take, min, take, drop, ℕ, Err, IsTrue, false}
+use Rattle.std.proofs.Common.{arith, ◌≡◌, ◌≤◌, ◌<◌, ◌+◌, ◌-◌, ◌^◌, ◌∙◌, sym, ap, subst, refl, length, length-take, min, take, drop, Err, IsTrue, false}
 use Rattle.std.proofs.lemmas.Result.{IfErr-at_err}
 use Rattle.disk_trait.specs.Disk.{ran_none, ran_on}
 use Rattle.checkpoint.specs.StoreWords.{is_down, state_of, view_of}
 use Rattle.network_import.specs.declared.refused.ImportRefused.{ImportRefused}
 use Rattle.network_import.specs.declared.refused.ImportRefused.TheVariants.{Device}
-use Rattle.network_import.specs.Imported.{HasTaken, IsGroupRefused, IsLeft, adds, front_of, moved_behind}
+use Rattle.network_import.specs.Imported.{HasTaken, IsGroupRefused, IsLeft, adds, moved_behind}
 use Rattle.network_import.proofs.Groups.{group_fits, left_behind, taken_both, taken_none}
-use Rattle.network_import.proofs.StoreLeaves.{cut_off_at, front_more, front_none, group_is, next_front, up_durable}
+use Rattle.network_import.proofs.StoreLeaves.{cut_off_at, front_more, front_none, group_is, next_group, up_durable}
 use Rattle.network_import.proofs.importing.import.Goals as goal
 
 pub loop-done-init : goal.loop-done-init
@@ -55,24 +55,19 @@ loop-done-preserved g c =
     let old = state_of c.args.store.now in
     let mid = state_of c.loop-done.store in
     let new = state_of c.take_group.new.store in
-    let some : s ≡ min 1024 (length edges - d) = c.min-some.ensures in
-    let more : d < length edges = omega arith in
-    let fits : d + s ≤ length edges = omega (arith, some, more) in
-    let back : d + s - d ≡ s = omega arith in
-    let is : group ≡ take s (drop d edges) = ap (λ (k : ℕ). take k (drop d edges)) back in
     let taken : HasTaken mid group (length group) new = c.in-Ok.ensures.ok in
     let k = c.loop-done.invariant.groups in
     let front = c.loop-done.invariant.front in
-    let next : d + s ≡ front_of edges (k + 1) = next_front edges k d s front more some in
+    let next = next_group edges k d s front (omega arith) c.min-some.ensures in
     record {
       up = c.in-Ok.ensures.leaves.stays_up (λ e. cc);
       groups = k + 1;
-      front = next;
-      taken = taken_both old mid new edges group d s is fits c.loop-done.invariant.taken taken;
+      front = next.front;
+      taken = taken_both old mid new edges group d s next.is next.fits c.loop-done.invariant.taken taken;
       ran = ran_on (view_of c.args.store.now) (view_of c.loop-done.store) (view_of c.take_group.new.store) c.loop-done.invariant.ran c.take_group.ensures.leaves.ran;
       any_moment = λ model.
           let still : IsTrue (view_of c.loop-done.store).keeps_model = subst IsTrue (sym c.loop-done.invariant.ran.model) model in
-          front_more (view_of c.args.store.now) (view_of c.loop-done.store) (view_of c.take_group.new.store) old mid edges group k d s is fits front next c.loop-done.invariant.taken
+          front_more (view_of c.args.store.now) (view_of c.loop-done.store) (view_of c.take_group.new.store) old mid edges group k d s next front c.loop-done.invariant.taken
           (c.loop-done.invariant.any_moment model) (c.take_group.ensures.any_moment still);
     }
 
@@ -92,23 +87,19 @@ returns-in-Err-clause-crashes g c model =
     let disk = view_of c.take_group.new.store in
     let k = c.loop-done.invariant.groups in
     let front = c.loop-done.invariant.front in
-    let some : s ≡ min 1024 (length edges - d) = c.min-some.ensures in
-    let more : d < length edges = omega arith in
-    let fits : d + s ≤ length edges = omega (arith, some, more) in
-    let back : d + s - d ≡ s = omega arith in
-    let is : group ≡ take s (drop d edges) = ap (λ (j : ℕ). take j (drop d edges)) back in
+    let next = next_group edges k d s front (omega arith) c.min-some.ensures in
     let same : new ≡ mid = c.in-Err.ensures.err in
     let still : IsTrue now.keeps_model = subst IsTrue (sym c.loop-done.invariant.ran.model) model in
     let run = c.take_group.ensures.any_moment still in
     record {
-      any_moment = front_more first now disk old mid edges group k d s is fits front (next_front edges k d s front more some) c.loop-done.invariant.taken (c.loop-done.invariant.any_moment model) run;
+      any_moment = front_more first now disk old mid edges group k d s next front c.loop-done.invariant.taken (c.loop-done.invariant.any_moment model) run;
       durable = λ served.
           let told : c.moved.result ≡ moved_behind d c.in-Err.refused = c.moved.ensures in
           let up : is_down c.take_group.new.store ≡ false = c.in-Err.ensures.leaves.stays_up (λ e.
           let device : c.in-Err.refused ≡ Device = cc in
           served (ap (λ (x : ImportRefused). Err x) (told ∙ ap (moved_behind d) device))) in
           up_durable c.args.store.now c.take_group.new.store (ran_on first now disk c.loop-done.invariant.ran c.take_group.ensures.leaves.ran) up model;
-      cut_off = λ device. cut_off_at old mid new edges group k d now disk front same (is ∙ group_is edges d s some) c.loop-done.invariant.taken run;
+      cut_off = λ device. cut_off_at old mid new edges group k d now disk front same (next.is ∙ group_is edges d s c.min-some.ensures) c.loop-done.invariant.taken run;
     }
 
 pub returns-clause-crashes : goal.returns-clause-crashes

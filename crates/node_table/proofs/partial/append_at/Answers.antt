@@ -1,13 +1,16 @@
-use Rattle.std.specs.Prelude.{Result, Ok, Err, OnOk}
-use Rattle.node_table.proofs.Builds.BuildSteps.{items_other}
+use Rattle.std.proofs.Common.{◌++◌, ◌∙◌, ap, length-set}
+use Rattle.node_table.specs.Building.{items_at}
+use Rattle.node_table.proofs.Builds.BuildSteps.{items_other, items_read, items_set, on_ok}
 use Rattle.node_table.proofs.partial.append_at.Goals as goal
 
-on_ok : {X E : Type 0} (P : Type 0) (r : Result X E) → P → OnOk r P
-on_ok P (Ok x) h = h
-on_ok P (Err e) h = tt
-
-pub returns-clause-others : goal.returns-clause-others
-returns-clause-others c = on_ok _ c.append.result (λ x other. items_other c.args.lists.now.items c.args.at x c.append.new.list other)
-
-pub returns-clause-rest : goal.returns-clause-rest
-returns-clause-rest c = on_ok _ c.append.result (λ x other. items_other c.args.next.now.items c.args.at x c.append.new.more other)
+pub returns : goal.returns
+returns c = on_ok _ _ c.append.result (λ joined. record {
+  length_is = length-set c.args.lists.now.items c.args.at c.append.new.list;
+  length_left = length-set c.args.next.now.items c.args.at c.append.new.more;
+  joined =
+      items_set c.args.lists.now.items c.args.at c.append.new.list c.requires.here ∙ joined
+      ∙ ap (λ xs. xs ++ c.index_mut-2.result.now.items) (items_read c.args.lists.now.items c.args.at c.index_mut.result.now c.requires.here c.index_mut.ensures.value)
+      ∙ ap (λ ys. items_at c.args.lists.now.items c.args.at ++ ys) (items_read c.args.next.now.items c.args.at c.index_mut-2.result.now c.requires.there c.index_mut-2.ensures.value);
+  others = λ x other. items_other c.args.lists.now.items c.args.at x c.append.new.list other;
+  rest = λ x other. items_other c.args.next.now.items c.args.at x c.append.new.more other;
+}) c.append.ensures

@@ -6,7 +6,7 @@ use Rattle.layout_parts.specs.Heads.{other}
 use Rattle.checkpoint.specs.Kept.{kept_stands}
 use Rattle.checkpoint.specs.StoreWords.{state_of, view_of, stands_now}
 use Rattle.layout_parts.proofs.ReadLemmas.{still}
-use Rattle.checkpoint.proofs.Rolls.{stands_closing, stands_publishing, kept_rolled}
+use Rattle.checkpoint.proofs.Rolls.{rolled_kept, rolling, stands_closing}
 use Rattle.checkpoint.proofs.SameStore.{same_store}
 use Rattle.checkpoint.proofs.store.Store.roll.Goals as goal
 
@@ -34,50 +34,35 @@ returns-in-Err-close_open-clause-any_moment g c model up =
 
 pub returns-in-Err-publish-clause-any_moment : goal.returns-in-Err-publish-clause-any_moment
 returns-in-Err-publish-clause-any_moment g c model up =
-    let s = c.args.self.now in
-    let base : State = state_with s.base_count.value s.base.value s.base_tickets.value in
-    let v0 = view_of s in
-    let v1 = g.D.Disk.view c.close_open.new.disk in
-    stands_publishing v0 v1 s.slot s.epoch s.other_gate base (state_of s) s.journal.groups s.two_slots (s.kept model up) s.fits (c.close_open.ensures.any_moment model)
-    c.deref.result.now (λ lawful. c.deref.ensures.value ∙ c.in-Ok.ensures.text lawful) (omega (arith, c.if-self-ge-WORN_LIMIT.false)) (c.in-Ok-close_open.ensures.ok model)
-    (g.D.Disk.view c.publish.new.disk) (c.publish.ensures.any_moment (still v0 v1 c.close_open.ensures.ran model))
+    rolling c.args.self.now (g.D.Disk.view c.close_open.new.disk) (g.D.Disk.view c.publish.new.disk) model up (c.close_open.ensures.any_moment model) c.deref.result.now (λ lawful. c.deref.ensures.value ∙ c.in-Ok.ensures.text lawful) (omega (arith, c.if-self-ge-WORN_LIMIT.false))
+    (c.in-Ok-close_open.ensures.ok model)
+    (c.publish.ensures.any_moment (still (view_of c.args.self.now) (g.D.Disk.view c.close_open.new.disk) c.close_open.ensures.ran model))
 
 pub returns-clause-any_moment : goal.returns-clause-any_moment
 returns-clause-any_moment g c model up =
-    let s = c.args.self.now in
-    let base : State = state_with s.base_count.value s.base.value s.base_tickets.value in
-    let v0 = view_of s in
-    let v1 = g.D.Disk.view c.close_open.new.disk in
-    stands_publishing v0 v1 s.slot s.epoch s.other_gate base (state_of s) s.journal.groups s.two_slots (s.kept model up) s.fits (c.close_open.ensures.any_moment model)
-    c.deref.result.now (λ lawful. c.deref.ensures.value ∙ c.in-Ok.ensures.text lawful) (omega (arith, c.if-self-ge-WORN_LIMIT.false)) (c.in-Ok-close_open.ensures.ok model)
-    (g.D.Disk.view c.publish.new.disk) (c.publish.ensures.any_moment (still v0 v1 c.close_open.ensures.ran model))
+    rolling c.args.self.now (g.D.Disk.view c.close_open.new.disk) (g.D.Disk.view c.publish.new.disk) model up (c.close_open.ensures.any_moment model) c.deref.result.now (λ lawful. c.deref.ensures.value ∙ c.in-Ok.ensures.text lawful) (omega (arith, c.if-self-ge-WORN_LIMIT.false))
+    (c.in-Ok-close_open.ensures.ok model)
+    (c.publish.ensures.any_moment (still (view_of c.args.self.now) (g.D.Disk.view c.close_open.new.disk) c.close_open.ensures.ran model))
 
 pub invariant_of-self-2-clause-kept : goal.invariant_of-self-2-clause-kept
 invariant_of-self-2-clause-kept g c model_new up =
-    let s = c.args.self.now in
-    let base : State = state_with s.base_count.value s.base.value s.base_tickets.value in
-    let v0 = view_of s in
     let v1 = g.D.Disk.view c.close_open.new.disk in
-    let v2 = g.D.Disk.view c.publish.new.disk in
     let model1 : IsTrue v1.keeps_model = subst IsTrue c.publish.ensures.ran.model model_new in
-    let model : IsTrue v0.keeps_model = subst IsTrue c.close_open.ensures.ran.model model1 in
-    let kept = kept_rolled v0 v1 s.slot s.epoch s.other_gate base (state_of s) s.journal.groups s.two_slots (s.kept model c.if-self.false) s.fits (c.close_open.ensures.any_moment model)
-    c.deref.result.now (λ lawful. c.deref.ensures.value ∙ c.in-Ok.ensures.text lawful) (omega (arith, c.if-self-ge-WORN_LIMIT.false)) (c.in-Ok-close_open.ensures.ok model)
-    v2 (c.in-Ok-publish.ensures.ok model1) in
+    let model : IsTrue (view_of c.args.self.now).keeps_model = subst IsTrue c.close_open.ensures.ran.model model1 in
+    let kept = rolled_kept c.args.self.now v1 (g.D.Disk.view c.publish.new.disk) model c.if-self.false (c.close_open.ensures.any_moment model) c.deref.result.now (λ lawful. c.deref.ensures.value ∙ c.in-Ok.ensures.text lawful) (omega (arith, c.if-self-ge-WORN_LIMIT.false))
+    (c.in-Ok-close_open.ensures.ok model)
+    (c.in-Ok-publish.ensures.ok model1) in
     rw (c.of.ensures, c.of-2.ensures, c.of-3.ensures, c.fresh-self.ensures) kept
 
 pub returns-clause-ok : goal.returns-clause-ok
 returns-clause-ok g c =
     let s = c.args.self.now in
-    let base : State = state_with s.base_count.value s.base.value s.base_tickets.value in
-    let v0 = view_of s in
     let v1 = g.D.Disk.view c.close_open.new.disk in
     let v2 = g.D.Disk.view c.publish.new.disk in
     record {
       rolled = search rules;
       durable = λ model. kept_stands v2 (other s.slot) (s.epoch + 1) 1 (state_of s) (state_of s) [] (omega arith) s.fits
-          (kept_rolled v0 v1 s.slot s.epoch s.other_gate base (state_of s) s.journal.groups s.two_slots (s.kept model c.if-self.false) s.fits (c.close_open.ensures.any_moment model)
-          c.deref.result.now (λ lawful. c.deref.ensures.value ∙ c.in-Ok.ensures.text lawful) (omega (arith, c.if-self-ge-WORN_LIMIT.false)) (c.in-Ok-close_open.ensures.ok model)
-          v2 (c.in-Ok-publish.ensures.ok (still v0 v1 c.close_open.ensures.ran model)));
+          (rolled_kept s v1 v2 model c.if-self.false (c.close_open.ensures.any_moment model) c.deref.result.now (λ lawful. c.deref.ensures.value ∙ c.in-Ok.ensures.text lawful) (omega (arith, c.if-self-ge-WORN_LIMIT.false))
+          (c.in-Ok-close_open.ensures.ok model) (c.in-Ok-publish.ensures.ok (still (view_of s) v1 c.close_open.ensures.ran model)));
       no_failure = search rules;
     }

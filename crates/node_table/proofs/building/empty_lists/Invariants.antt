@@ -1,12 +1,11 @@
 use Rattle.std.proofs.Common.{◌≡◌, [], ℕ, List, length}
 use Rattle.std.specs.declared.vec.Vec.{Vec}
-use Rattle.node_table.specs.declared.parts.Listed.{Listed}
 use Rattle.node_table.specs.Building.{items_at}
-use Rattle.node_table.proofs.building.no_directories.Given as goal
+use Rattle.node_table.proofs.building.empty_lists.Given as goal
 
-pub record AllEmpty (A : Type 0) (lists : List (Vec Listed A)) (n : ℕ) : Type 0 where
+pub record AllEmpty (X A : Type 0) (lists : List (Vec X A)) (n : ℕ) : Type 0 where
   pub size : length lists ≡ n
   pub empty : (x : ℕ) → items_at lists x ≡ []
 
 abbrev pub invariant-loop-x : goal.invariant-loop-x
-invariant-loop-x l = AllEmpty _ l.all.items l._x
+invariant-loop-x g l = AllEmpty _ _ l.all.items l._x
