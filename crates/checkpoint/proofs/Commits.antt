@@ -1,22 +1,19 @@
 -- What an append leaves of a store.
-use Rattle.std.proofs.Common.{◌≡◌, ◌⊎◌, inl, inr, ⊎_elim, ℕ, ◌+◌, ◌<◌, ◌≤◌, List, [], ◌∷◌, ◌++◌, length, false, IsTrue, refl, sym, ap, ◌∙◌, subst, arith, Some}
+use Rattle.std.proofs.Common.{◌≡◌, ◌⊎◌, inl, inr, ⊎_elim, ℕ, ◌+◌, ◌<◌, ◌≤◌, List, [], ◌∷◌, ◌++◌, false, IsTrue, refl, sym, ◌∙◌, subst, arith, Some}
 use Rattle.layout_2.specs.Records.{Entry}
 use Rattle.journal.specs.declared.area.Area.{Area}
 use Rattle.journal.specs.JournalView.{JournalView}
 use Rattle.disk_trait.specs.Disk.{DiskView, MayLeave, LeavesOnly, started, weaker}
-use Rattle.graph_edits.specs.Edges.{Network}
-use Rattle.graph_edits.specs.Changes.{fold}
-use Rattle.requests.specs.Tickets.{tickets_after}
 use Rattle.layout_2.specs.Records.{AllSpell, IsBeforeOrAfter}
 use Rattle.journal.specs.Records.{entries_of}
 use Rattle.layout_2.specs.Layout.{worn_limit, slot_start, journal_of, journal_room, journal_start}
 use Rattle.layout_parts.specs.Heads.{other}
-use Rattle.layout_2.specs.State.{State, state_with, after, asked, changes_of, AreInTurn}
+use Rattle.layout_2.specs.State.{State, after, AreInTurn}
 use Rattle.layout_2.specs.Standing.{StandsBy, StandsFor}
 use Rattle.checkpoint.specs.declared.store.Store.{Store}
 use Rattle.checkpoint.specs.Kept.{IsKept}
 use Rattle.checkpoint.specs.StoreWords.{state_of, view_of, is_down, stands_now}
-use Rattle.layout_2.proofs.Folds.{after-push, after_is}
+use Rattle.layout_2.proofs.Folds.{after-push}
 use Rattle.checkpoint.proofs.Turns.{in_turn_push}
 use Rattle.checkpoint.proofs.TornSlots.{apart, byte_apart, away, moved}
 
@@ -79,9 +76,3 @@ module _ {D : Type 0} {V : _} (s : Store D V) (next : State) (group : List Entry
       let area : s.journal.area ≡ journal_of s.slot = rw (s.at, s.room) refl in
       let known : AllSpell (view_of s) s.journal.area s.journal.groups = λ image left. rw area ((kept.each image left).stands.records) in
       weaker _ _ _ _ (run known) (λ image left. either (view_of s) s.slot s.epoch s.other_gate _ (state_of s) next s.journal.groups group s.two_slots kept goes turns s.fits fits image (subst (λ (a : Area). IsBeforeOrAfter (view_of s) a s.journal.groups group image) area left))
-
--- the state after requests, from the network and the tickets that were made for it
-pub goes_to : (s : State) (requests : List Entry) (made network : Network) (tickets : List ℕ) → Some made ≡ fold s.graph (changes_of requests) → network ≡ made → tickets ≡ tickets_after s.tickets (asked requests)
-    → after s requests ≡ Some (state_with (s.count + length requests) network tickets)
-goes_to s requests made network tickets taken installed raised =
-    after_is s requests network (sym taken ∙ ap Some (sym installed)) ∙ ap (λ (ts : List ℕ). Some (state_with (s.count + length requests) network ts)) (sym raised)

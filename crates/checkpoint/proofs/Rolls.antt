@@ -166,59 +166,48 @@ padded epoch state old new wide lawful is e =
     e ∙ ap (λ (l : List ℕ). take checkpoint_room l ++ padding l) is
     ∙ ap (λ (l : List ℕ). l ++ padding (checkpoint_text epoch state)) (take_all checkpoint_room (checkpoint_text epoch state) (omega (arith, text_fits epoch state wide lawful)))
 
--- a roll: the other gate is closed from v0 to v1, and then the text is published
-module _ (v0 v1 : DiskView) (slot epoch other_gate : ℕ) (base state : State) (groups : List (List Entry)) (is : slot < 2) (kept : IsKept v0 slot epoch other_gate base state groups) (fits : state.count ≤ worn_limit)
-    (closing : LeavesOnly v0 v1 (IsClosing v0 (slot_start (other slot)) other_gate)) where
-  still_old : (image : List ℕ) → IsClosing v0 (slot_start (other slot)) other_gate image → StandsBy slot epoch base groups image
-  still_old = while_closing v0 slot epoch other_gate base state groups is kept
-
-  old_state : (image : List ℕ) → IsClosing v0 (slot_start (other slot)) other_gate image → StandsFor state image
-  old_state image now = by_old slot epoch base state groups is kept.folds kept.in_turn fits image (still_old image now)
-
-  pub stands_closing : LeavesOnly v0 v1 (StandsFor state)
-  stands_closing = weaker v0 v1 (IsClosing v0 (slot_start (other slot)) other_gate) (StandsFor state) closing old_state
-
-  module _ (text : List ℕ) (body : IsLawful state.graph → text ≡ area_text (epoch + 1) state) (epoch_fits : epoch + 1 ≤ worn_limit)
-      (closed : other_gate ≡ 1 → (image : List ℕ) → MayLeave v1 image → get_or image (slot_start (other slot)) 0 ≡ 0) where
-    known : (image : List ℕ) → MayLeave v1 image → StandsBy slot epoch base groups image × (get_or image (slot_start (other slot)) 0 ≢ 1)
-    known image left =
-        let now = closing.now image left in
-        (still_old image now, is_closed v0 slot epoch other_gate base state groups kept image now (λ one. closed one image left))
-
-    still_lawful : (image : List ℕ) → MayLeave v1 image → IsLawful state.graph
-    still_lawful image left = lawful_after base state (entries_of groups) kept.folds (known image left).0.lawful
-
-    still_sound : (image : List ℕ) → MayLeave v1 image → AreTickets state.tickets
-    still_sound image left = sound_after base state (entries_of groups) kept.folds kept.in_turn (known image left).0.tickets
-
-    pub stands_publishing : (v2 : DiskView) → LeavesOnly v1 v2 (IsPublishing v1 (slot_start (other slot)) text) → LeavesOnly v0 v2 (StandsFor state)
-    stands_publishing v2 run = joined v0 v1 v2 (IsClosing v0 (slot_start (other slot)) other_gate) (IsPublishing v1 (slot_start (other slot)) text) (StandsFor state) closing run old_state
-        (λ image from.
-        let lawful = still_lawful from.0 from.1 in
-        publishing slot epoch base state groups text is (body lawful) lawful (still_sound from.0 from.1) epoch_fits kept.folds kept.in_turn fits v1 known image from)
-
-    pub kept_rolled : (v2 : DiskView) → ((image : List ℕ) → MayLeave v2 image → IsPublished v1 (slot_start (other slot)) text image) → IsKept v2 (other slot) (epoch + 1) 1 state state []
-    kept_rolled v2 shown = record {
-      each = λ image left.
-          let from = shown image left in
-          let lawful = still_lawful from.before from.was in
-          in_use slot epoch base state groups text is (body lawful) lawful (still_sound from.before from.was) epoch_fits kept.folds kept.in_turn fits v1 known image from;
-      folds = after-nil state;
-      in_turn = (tt, tt);
-    }
-
--- ---- of a store
-
-module _ {D : Type 0} {V : _} (s : Store D V) (v1 v2 : DiskView) (model : IsTrue (view_of s).keeps_model) (up : is_down s ≡ false) (closing : LeavesOnly (view_of s) v1 (IsClosing (view_of s) (slot_start (other s.slot)) s.other_gate))
-    (text : List ℕ) (body : IsLawful s.graph → text ≡ area_text (s.epoch + 1) (state_of s)) (epoch_fits : s.epoch + 1 ≤ worn_limit)
-    (closed : s.other_gate ≡ 1 → (image : List ℕ) → MayLeave v1 image → get_or image (slot_start (other s.slot)) 0 ≡ 0) where
+-- a roll of a store: the other gate is closed up to v1, and then the text is published
+module _ {D : Type 0} {V : _} (s : Store D V) (v1 : DiskView) (model : IsTrue (view_of s).keeps_model) (up : is_down s ≡ false) (closing : LeavesOnly (view_of s) v1 (IsClosing (view_of s) (slot_start (other s.slot)) s.other_gate)) where
   abbrev base : State
   base = state_with s.base_count.value s.base.value s.base_tickets.value
 
-  -- while the text is published
-  pub rolling : LeavesOnly v1 v2 (IsPublishing v1 (slot_start (other s.slot)) text) → LeavesOnly (view_of s) v2 (StandsFor (state_of s))
-  rolling = stands_publishing (view_of s) v1 s.slot s.epoch s.other_gate base (state_of s) s.journal.groups s.two_slots (s.kept model up) s.fits closing text body epoch_fits closed v2
+  abbrev kept : IsKept (view_of s) s.slot s.epoch s.other_gate base (state_of s) s.journal.groups
+  kept = s.kept model up
 
-  -- once it is
-  pub rolled_kept : ((image : List ℕ) → MayLeave v2 image → IsPublished v1 (slot_start (other s.slot)) text image) → IsKept v2 (other s.slot) (s.epoch + 1) 1 (state_of s) (state_of s) []
-  rolled_kept = kept_rolled (view_of s) v1 s.slot s.epoch s.other_gate base (state_of s) s.journal.groups s.two_slots (s.kept model up) s.fits closing text body epoch_fits closed v2
+  still_old : (image : List ℕ) → IsClosing (view_of s) (slot_start (other s.slot)) s.other_gate image → StandsBy s.slot s.epoch base s.journal.groups image
+  still_old = while_closing (view_of s) s.slot s.epoch s.other_gate base (state_of s) s.journal.groups s.two_slots kept
+
+  old_state : (image : List ℕ) → IsClosing (view_of s) (slot_start (other s.slot)) s.other_gate image → StandsFor (state_of s) image
+  old_state image now = by_old s.slot s.epoch base (state_of s) s.journal.groups s.two_slots kept.folds kept.in_turn s.fits image (still_old image now)
+
+  pub stands_closing : LeavesOnly (view_of s) v1 (StandsFor (state_of s))
+  stands_closing = weaker (view_of s) v1 (IsClosing (view_of s) (slot_start (other s.slot)) s.other_gate) (StandsFor (state_of s)) closing old_state
+
+  module _ (v2 : DiskView) (text : List ℕ) (body : IsLawful s.graph → text ≡ area_text (s.epoch + 1) (state_of s)) (epoch_fits : s.epoch + 1 ≤ worn_limit)
+      (closed : s.other_gate ≡ 1 → (image : List ℕ) → MayLeave v1 image → get_or image (slot_start (other s.slot)) 0 ≡ 0) where
+    known : (image : List ℕ) → MayLeave v1 image → StandsBy s.slot s.epoch base s.journal.groups image × (get_or image (slot_start (other s.slot)) 0 ≢ 1)
+    known image left =
+        let now = closing.now image left in
+        (still_old image now, is_closed (view_of s) s.slot s.epoch s.other_gate base (state_of s) s.journal.groups kept image now (λ one. closed one image left))
+
+    still_lawful : (image : List ℕ) → MayLeave v1 image → IsLawful s.graph
+    still_lawful image left = lawful_after base (state_of s) (entries_of s.journal.groups) kept.folds (known image left).0.lawful
+
+    still_sound : (image : List ℕ) → MayLeave v1 image → AreTickets s.tickets
+    still_sound image left = sound_after base (state_of s) (entries_of s.journal.groups) kept.folds kept.in_turn (known image left).0.tickets
+
+    pub stands_publishing : LeavesOnly v1 v2 (IsPublishing v1 (slot_start (other s.slot)) text) → LeavesOnly (view_of s) v2 (StandsFor (state_of s))
+    stands_publishing run = joined (view_of s) v1 v2 (IsClosing (view_of s) (slot_start (other s.slot)) s.other_gate) (IsPublishing v1 (slot_start (other s.slot)) text) (StandsFor (state_of s)) closing run old_state
+        (λ image from.
+        let lawful = still_lawful from.0 from.1 in
+        publishing s.slot s.epoch base (state_of s) s.journal.groups text s.two_slots (body lawful) lawful (still_sound from.0 from.1) epoch_fits kept.folds kept.in_turn s.fits v1 known image from)
+
+    pub kept_rolled : ((image : List ℕ) → MayLeave v2 image → IsPublished v1 (slot_start (other s.slot)) text image) → IsKept v2 (other s.slot) (s.epoch + 1) 1 (state_of s) (state_of s) []
+    kept_rolled shown = record {
+      each = λ image left.
+          let from = shown image left in
+          let lawful = still_lawful from.before from.was in
+          in_use s.slot s.epoch base (state_of s) s.journal.groups text s.two_slots (body lawful) lawful (still_sound from.before from.was) epoch_fits kept.folds kept.in_turn s.fits v1 known image from;
+      folds = after-nil (state_of s);
+      in_turn = (tt, tt);
+    }

@@ -1,14 +1,15 @@
 -- From a tree that is cut off at the distances of the nearest landmarks to the definition of a cluster.
-use Rattle.std.proofs.Common.{◌≡◌, ℕ, ◌<◌, Bool, true, List, get_or, Option, Some, None, ltb, refl, arith}
+use Rattle.std.proofs.Common.{◌≡◌, ◌≢◌, ℕ, ◌+◌, ◌<◌, Bool, true, List, map, get_or, Option, Some, None, ltb, refl, sym, ap, ◌∙◌, arith}
 use Rattle.std.specs.List.{Contains}
 use Rattle.std.specs.Option.{option_map, IfSome}
 use Rattle.std.proofs.lemmas.Bool.Decides.{nat_tests}
 use Rattle.std.proofs.lemmas.List.Elements.{All-weaker}
 use Rattle.graph_edits.specs.Edges.{EdgeMap, Network, IsSound}
 use Rattle.graph_edits.specs.Walks.{IsLeast}
-use Rattle.distances.specs.Search.{is_below}
+use Rattle.distances.specs.Search.{is_below, number_at, AreGentle}
 use Rattle.distances.specs.Reach.{IsTree, IsParent}
-use Rattle.distances.specs.Nearest.{IsNearestOf, near_limit}
+use Rattle.distances.specs.Nearest.{AreNearest, IsNearestOf, near_limit}
+use Rattle.distances.specs.Laws.{limit_at, gentle_limits, open_limits, tree_limits}
 use Rattle.distances.specs.declared.nearest.Near.{Near}
 use Rattle.distances.specs.declared.reach.Reached.{Reached}
 use Rattle.clusters.specs.Cluster.{IsNearer, IsCluster, HasParents}
@@ -51,3 +52,18 @@ parent_nearer g sound w members x d (Some y) h =
 pub has_parents : (g : Network) → IsSound g → (w : ℕ) (limit : ℕ → Option ℕ) (members : List Reached) → IsTree g.edges w limit members → HasParents members
 has_parents g sound w limit members tree = All-weaker (λ r. IsParent g.edges w members r.node r.distance r.parent) (λ r. IfSome r.parent (λ y. (k : Reached) × (Contains members k × (k.node ≡ y) × (k.distance < r.distance))))
     (λ r h. parent_nearer g sound w members r.node r.distance r.parent h) members tree.parents
+
+-- ---- the distances of the nearest landmarks, as the limits of a search
+
+module _ (g : Network) (sound : IsSound g) (nearest : List (Option Near)) (limits : List (Option ℕ)) (same : limits ≡ map (λ o. option_map (λ n. n.distance) o) nearest) where
+  limit_is : (x : ℕ) → number_at limits x ≡ near_limit nearest x
+  limit_is x = ap (λ l. number_at l x) same ∙ limit_at nearest x
+
+  pub center_within : (x : ℕ) → AreNearest g.edges nearest → get_or nearest x None ≢ Some (record { landmark = x; distance = 0 }) → is_below 0 (number_at limits x) ≡ true
+  center_within x near other = ap (is_below 0) (limit_is x) ∙ open_limits g sound near.0 nearest x near.1 other
+
+  pub are_gentle : AreNearest g.edges nearest → AreGentle g.edges (number_at limits)
+  are_gentle near x y w e edge below = ap (is_below e) (limit_is x) ∙ gentle_limits g sound near.0 nearest near.1 x y w e edge (sym (ap (is_below (e + w)) (limit_is y)) ∙ below)
+
+  pub cut_tree : (root : ℕ) (tree : List Reached) → IsTree g.edges root (number_at limits) tree → IsTree g.edges root (near_limit nearest) tree
+  cut_tree root tree h = tree_limits g.edges root (number_at limits) (near_limit nearest) tree limit_is h

@@ -78,15 +78,16 @@ impl DeviceFile {
         Ok(DeviceFile { disk, lock })
     }
 
-    // The disk of an open file that is emptied and filled with so many zeros, once it is locked alone.
+    // The disk of a file that these options make or open, which is emptied and filled with so many zeros once it is locked alone.
     fn filled<R: Files<File = File>>(
         files: &R,
         path: &str,
-        file: File,
+        options: &mut OpenOptions,
         len: usize,
     ) -> Result<DeviceFile, FileRefused>
         ensures { IfOk result (λ device. lock_of device ≡ Lock.Alone) }
     {
+        let file = options.read(true).write(true).open(files, path)?;
         take(&file, Lock::Alone)?;
         fill(&file, len)?;
         sync_folder(files, path)?;
@@ -129,12 +130,7 @@ impl DeviceFile {
     ) -> Result<DeviceFile, FileRefused>
         ensures alone { IfOk result (λ device. lock_of device ≡ Lock.Alone) }
     {
-        let file = OpenOptions::new()
-            .read(true)
-            .write(true)
-            .create(true)
-            .open(files, path)?;
-        DeviceFile::filled(files, path, file, len)
+        DeviceFile::filled(files, path, OpenOptions::new().create(true), len)
     }
 
     /// Makes a file of so many zeros where none stands yet, and locks it alone.
@@ -145,12 +141,7 @@ impl DeviceFile {
     ) -> Result<DeviceFile, FileRefused>
         ensures alone { IfOk result (λ device. lock_of device ≡ Lock.Alone) }
     {
-        let file = OpenOptions::new()
-            .read(true)
-            .write(true)
-            .create_new(true)
-            .open(files, path)?;
-        DeviceFile::filled(files, path, file, len)
+        DeviceFile::filled(files, path, OpenOptions::new().create_new(true), len)
     }
 
     /// Its lock.

@@ -1,5 +1,6 @@
 -- Rows, a line more at a time.
-use Rattle.std.proofs.Common.{arith, ◌≡◌, ◌≢◌, ◌<◌, ◌+◌, ◌-◌, ◌^◌, ◌∙◌, inl, inr, sym, ap, subst, refl, ℕ, zero, suc, List, [], ◌∷◌, ◌++◌, Bool, true, false, map, length, take, drop, get_or, append_assoc, Bor}
+use Rattle.std.proofs.Common.{arith, ◌≡◌, ◌≢◌, ◌<◌, ◌+◌, ◌-◌, ◌^◌, ◌∙◌, inl, inr, sym, ap, subst, refl, ℕ, List, [], ◌∷◌, ◌++◌, Bool, true, false, map, length, take, drop, get_or, append_assoc, Bor}
+use Rattle.std.proofs.lemmas.List.{drop-map, get_or-map, length-map, take_more}
 use Rattle.edge_lists.specs.Rows.{IsFirstRefused, IsNoRow, IsRowOf, IsWeight, Said, Say, fields_of, lead, says_nothing, words_of}
 
 -- no fields say no edge
@@ -99,26 +100,16 @@ first_refused before texts i text said lt next say some none =
           none_goes_on before (take i texts) text more all some none (subst (λ (l : List (List ℕ)). Say before l all) whole goes);
     }
 
-suc_text_more : (xs : List (Bor (List ℕ))) (i : ℕ) (d : Bor (List ℕ)) → i < length xs → take (suc i) (map (λ x. x.now) xs) ≡ take i (map (λ x. x.now) xs) ++ (get_or xs i d).now ∷ []
-suc_text_more [] i d lt = absurd (omega arith)
-suc_text_more (x ∷ xs) zero d lt = refl
-suc_text_more (x ∷ xs) (suc i) d lt = ap (λ (t : List (List ℕ)). x.now ∷ t) (suc_text_more xs i d (omega arith))
-
 -- one text more
 pub one_text_more : (xs : List (Bor (List ℕ))) (i : ℕ) (d : Bor (List ℕ)) → i < length xs → take (i + 1) (map (λ x. x.now) xs) ≡ take i (map (λ x. x.now) xs) ++ (get_or xs i d).now ∷ []
 one_text_more xs i d lt =
-    let next : i + 1 ≡ suc i = omega arith in
-    ap (λ n. take n (map (λ (x : Bor (List ℕ)). x.now) xs)) next ∙ suc_text_more xs i d lt
-
-suc_text_left : (xs : List (Bor (List ℕ))) (k : ℕ) → map (λ (x : Bor (List ℕ)). x.now) (drop k xs) ≡ drop k (map (λ (x : Bor (List ℕ)). x.now) xs)
-suc_text_left xs zero = refl
-suc_text_left [] (suc k) = refl
-suc_text_left (x ∷ xs) (suc k) = suc_text_left xs k
+    let now : Bor (List ℕ) → List ℕ = λ x. x.now in
+    take_more (map now xs) i d.now (omega (arith, length-map xs now)) ∙ ap (λ (t : List ℕ). take i (map now xs) ++ t ∷ []) (get_or-map now xs i d d.now lt)
 
 -- what holds of the lines that are left holds of those of the text
 pub carried : (P : ℕ → List (List ℕ) → Type 0) (before : ℕ) (front all : List (Bor (List ℕ))) (lines : List (List ℕ)) → before ≡ lead (map (λ x. x.now) all) → map (λ x. x.now) all ≡ lines
     → front ≡ drop before all → P before (map (λ x. x.now) front) → P (lead lines) (drop (lead lines) lines)
 carried P before front all lines at is left holds =
     let here : before ≡ lead lines = at ∙ ap lead is in
-    let rest : map (λ (x : Bor (List ℕ)). x.now) front ≡ drop before lines = ap (λ (l : List (Bor (List ℕ))). map (λ x. x.now) l) left ∙ suc_text_left all before ∙ ap (λ (l : List (List ℕ)). drop before l) is in
+    let rest : map (λ (x : Bor (List ℕ)). x.now) front ≡ drop before lines = ap (λ (l : List (Bor (List ℕ))). map (λ x. x.now) l) left ∙ sym (drop-map (λ (x : Bor (List ℕ)). x.now) before all) ∙ ap (λ (l : List (List ℕ)). drop before l) is in
     subst (λ (n : ℕ). P n (drop n lines)) here (subst (P before) rest holds)

@@ -12,15 +12,17 @@ use Rattle.generations.specs.declared.posting.Notice.TheVariants.{Marked, Failed
 use Rattle.generations.specs.Notices.{marks_of, marks_in}
 use Rattle.generations.specs.Boards.{BoardState, after, fresh, board_of, marked, mark_of}
 
+-- a part of a board that each notice changes by its marks alone is that after all marks that were told
+pub through_marks : {A : Type 0} (part : BoardState → A) (step : A → Mark → A) → ((s : BoardState) (p : Notice) → part (after s p) ≡ fold step (part s) (marks_of p))
+    → (s : BoardState) (log : List Notice) → part (fold after s log) ≡ fold step (part s) (marks_in log)
+through_marks part step by_one s [] = refl
+through_marks part step by_one s (p ∷ log) =
+    through_marks part step by_one (after s p) log ∙ ap (λ t. fold step t (marks_in log)) (by_one s p) ∙ sym (fold-append step (part s) (marks_of p) (marks_in log))
+
 marks_by_one : (s : BoardState) (p : Notice) → (after s p).marks ≡ fold marked s.marks (marks_of p)
 marks_by_one s (Marked ms) = refl
 marks_by_one s Failed = refl
 marks_by_one s (Built number scheme) = refl
-
--- the last marks are those after all marks that were told
-marks_from : (s : BoardState) (log : List Notice) → (fold after s log).marks ≡ fold marked s.marks (marks_in log)
-marks_from s [] = refl
-marks_from s (p ∷ log) = marks_from (after s p) log ∙ (ap (λ (t : List (Option Mark)). fold marked t (marks_in log)) (marks_by_one s p) ∙ sym (fold-append marked s.marks (marks_of p) (marks_in log)))
 
 -- what stands at a place after it was set stood there before, or is what was set
 set_at : {A : Type 0} (l : List A) (i : ℕ) (a d b : A) → get_or (set l i a) i d ≡ b → (get_or l i d ≡ b) ⊎ (a ≡ b)
@@ -64,4 +66,4 @@ pub mark_there : (starts : List ℕ) (count : ℕ) (log : List Notice) (s : ℕ)
 mark_there starts count log s m e = ⊎_elim
     (λ none. absurd (none_there sessions s m none))
     (λ some. some)
-    (marked_in (marks_in log) (replicate sessions None) s m (ap (λ (l : List (Option Mark)). get_or l s None) (sym (marks_from (fresh starts count) log)) ∙ e))
+    (marked_in (marks_in log) (replicate sessions None) s m (ap (λ (l : List (Option Mark)). get_or l s None) (sym (through_marks (λ b. b.marks) marked marks_by_one (fresh starts count) log)) ∙ e))

@@ -1,7 +1,6 @@
 -- When a lawful list of notices goes on lawfully, and what a board says of it.
 use Rattle.std.proofs.Common.{◌≡◌, ◌⊎◌, ℕ, zero, suc, ◌+◌, ◌<◌, Bool, true, false, ◌||◌, List, [], ◌∷◌, ◌++◌, length, map, fold, slice_get, slice_index, Some, refl, ap, sym, ◌∙◌, subst, inl, inr, ⊎_elim, append-nil, length-append, arith}
 use Rattle.std.proofs.lemmas.List.{map-append}
-use Rattle.std.proofs.lemmas.List.Sums.{fold-append}
 use Rattle.std.proofs.lemmas.List.Concat.{flat_map-append}
 use Rattle.std.proofs.lemmas.List.FromFn.{length-range_with_len}
 use Rattle.std.specs.List.{range_with_len}
@@ -18,6 +17,7 @@ use Rattle.generations.specs.declared.posting.Notice.TheVariants.{Marked, Failed
 use Rattle.generations.specs.Notices.{told_to, count_and, counts_of, marks_of, marks_in, generation_of, generations_in, numbers_in, is_down, says_down}
 use Rattle.generations.specs.Boards.{BoardState, accepting, counting, counted_by, after, fresh, board_of}
 use Rattle.generations.specs.Lawful.{AreCounted, IsLawful}
+use Rattle.generations.proofs.LastMarks.{through_marks}
 use Rattle.generations.proofs.Prefixes.{prefix_get}
 
 -- ---- the empty list, and one notice more
@@ -199,21 +199,13 @@ accepted_by_one s (Marked ms) = refl
 accepted_by_one s Failed = refl
 accepted_by_one s (Built number scheme) = refl
 
-accepted_from : (s : BoardState) (log : List Notice) → (fold after s log).accepted ≡ fold accepting s.accepted (marks_in log)
-accepted_from s [] = refl
-accepted_from s (p ∷ log) = accepted_from (after s p) log ∙ (ap (λ (t : List ℕ). fold accepting t (marks_in log)) (accepted_by_one s p) ∙ sym (fold-append accepting s.accepted (marks_of p) (marks_in log)))
-
 pub accepted_as_told : (starts : List ℕ) (start : ℕ) (log : List Notice) → (board_of starts start log).accepted ≡ fold accepting starts (marks_in log)
-accepted_as_told starts start log = accepted_from (fresh starts start) log
+accepted_as_told starts start log = through_marks (λ s. s.accepted) accepting accepted_by_one (fresh starts start) log
 
 counted_by_one : (s : BoardState) (p : Notice) → (after s p).count ≡ fold counting s.count (marks_of p)
 counted_by_one s (Marked ms) = refl
 counted_by_one s Failed = refl
 counted_by_one s (Built number scheme) = refl
-
-counted_from : (s : BoardState) (log : List Notice) → (fold after s log).count ≡ fold counting s.count (marks_in log)
-counted_from s [] = refl
-counted_from s (p ∷ log) = counted_from (after s p) log ∙ (ap (λ (t : ℕ). fold counting t (marks_in log)) (counted_by_one s p) ∙ sym (fold-append counting s.count (marks_of p) (marks_in log)))
 
 -- one verdict more, where it holds behind it
 counts_by : (start : ℕ) (ms : List Mark) → ((s : ℕ) → counts_of ms ≡ range_with_len (s + 1) (length (counts_of ms)) → fold counting s ms ≡ s + length (counts_of ms))
@@ -231,4 +223,4 @@ counts_end start [] h = omega arith
 counts_end start (m ∷ ms) h = counts_by start ms (λ s e. counts_end s ms e) m.verdict h
 
 pub count_as_told : (starts : List ℕ) (start : ℕ) (log : List Notice) → IsLawful starts start log → (board_of starts start log).count ≡ start + length (counts_of (marks_in log))
-count_as_told starts start log lawful = counted_from (fresh starts start) log ∙ counts_end start (marks_in log) lawful.counts
+count_as_told starts start log lawful = through_marks (λ s. s.count) counting counted_by_one (fresh starts start) log ∙ counts_end start (marks_in log) lawful.counts

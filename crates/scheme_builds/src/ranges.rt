@@ -122,26 +122,12 @@ fn build_range<R: Threads + Wait>(
     let nodes = graph.nodes() as usize;
     let first = i.saturating_mul(size as usize).min(nodes);
     let last = (first + size as usize).min(nodes);
+    let (first, last) = (first as u16, last as u16);
     if graph.nodes() < LEAST_SHARED {
-        return build_roots(
-            alloc,
-            graph,
-            landmarks,
-            nearest,
-            generation,
-            first as u16,
-            last as u16,
-        );
+        return build_roots(alloc, graph, landmarks, nearest, generation, first, last);
     }
     build_apart(
-        rt,
-        alloc,
-        graph,
-        landmarks,
-        nearest,
-        generation,
-        first as u16,
-        last as u16,
+        rt, alloc, graph, landmarks, nearest, generation, first, last,
     )
 }
 

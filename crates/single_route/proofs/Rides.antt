@@ -5,7 +5,7 @@ use Rattle.std.proofs.lemmas.List.{reverse-append, length-reverse, reverse-rever
 use Rattle.std.proofs.lemmas.Bool.{cases_lt}
 use Rattle.route_tree.specs.Rose.{count, tree_size}
 use Rattle.heavy_labels.specs.Label.{Label}
-use Rattle.heavy_labels.specs.Numbering.{Record, Line, Place, Follows, Joins, Way, arrived, port, step}
+use Rattle.heavy_labels.specs.Numbering.{Record, Line, Place, Follows, Way, arrived, port, step}
 use Rattle.heavy_labels.specs.Stepped.{record_of}
 use Rattle.heavy_labels.proofs.Walks.{tree_way}
 use Rattle.graph_edits.specs.Edges.{Network, IsSound}
@@ -16,11 +16,11 @@ use Rattle.node_table.specs.declared.parts.Parts.{Parts}
 use Rattle.node_table.specs.declared.parts.Entry.{Entry}
 use Rattle.node_table.specs.Ports.{neighbours, port_to}
 use Rattle.node_table.specs.Tables.{Tables, tables, or_false}
-use Rattle.node_table.specs.Checks.{IsChecked, IsShaped, HasParents, HasRecords, IsLabelIn, up_port, down_port, farthest, tree_at, k1, k3}
+use Rattle.node_table.specs.Checks.{IsChecked, IsShaped, HasParents, HasRecords, IsLabelIn, farthest, tree_at, k1, k3}
 use Rattle.node_table.specs.Laws.{IsInTree}
 use Rattle.node_table.specs.Service.{packet_by}
 use Rattle.node_table.proofs.Basics.Options.{is_there, some_is, same_value}
-use Rattle.node_table.proofs.Serving.StepsAsMoves.{IsAtPlace, AreAtPlaces, Ports, EndsAt, carry, Passes, index_get}
+use Rattle.node_table.proofs.Serving.StepsAsMoves.{IsAtPlace, AreAtPlaces, Ports, EndsAt, carry, Passes, index_get, next_port}
 use Rattle.node_table.proofs.Serving.TripLengths.{Chained, head_or}
 use Rattle.node_table.proofs.Serving.TripsInTrees.{placed_left, placed_right, placed_append, placed_reverse, ends_after, ends_turned, head_is}
 use Rattle.node_table.proofs.Serving.Exact.{Distances}
@@ -177,17 +177,6 @@ last_named (a ∷ ps) (x ∷ xs) z e =
     (a ∷ r.0, (r.1.0, (ap (λ w. a ∷ w) r.1.1.0, r.1.1.1)))
 
 -- ---- the path of a way
-
-up_at : (m : Network) (x y : ℕ) (e : Entry) → e.parent ≡ Some y → up_port m x (Some e) ≡ port_to m x y
-up_at m x y e h = rw h refl
-
-down_at : (m : Network) (x y : ℕ) (e : Entry) → e.parent ≡ Some y → down_port m x (Some e) ≡ port_to m y x
-down_at m x y e h = rw h refl
-
--- the port by which two places are joined is that to the next node
-next_port : (m : Network) (t : Tables) (r : ℕ) (a b : Place) (q : ℕ) → IsAtPlace m t r a → IsAtPlace m t r b → Joins a b q → port_to m a.node b.node ≡ Some q
-next_port m t r a b q sa sb (inl j) = sym (up_at m a.node b.node sa.entry (sa.parent ∙ j.0)) ∙ sym sa.up ∙ j.1
-next_port m t r a b q sa sb (inr j) = sym (down_at m b.node a.node sb.entry (sb.parent ∙ j.0)) ∙ sym sb.down ∙ j.1
 
 one_behind : (m : Network) (x y z q : ℕ) → port_to m x y ≡ Some q → port_to m x z ≡ Some q → y ≡ z
 one_behind m x y z q a b = same_value (index_get y q (neighbours m x) a) (index_get z q (neighbours m x) b)

@@ -1,5 +1,5 @@
 -- The column of a root stands in other tables as it did.
-use Rattle.std.proofs.Common.{◌≡◌, ℕ, true, false, cond, sym, ap, subst, ◌∙◌}
+use Rattle.std.proofs.Common.{◌≡◌, ℕ, cond, sym, ap, subst, ◌∙◌}
 use Rattle.std.specs.Prelude.{Some, None, IsSome}
 use Rattle.std.specs.Option.{option_map}
 use Rattle.std.specs.List.Sorted.{IsStrictlyIncreasing}

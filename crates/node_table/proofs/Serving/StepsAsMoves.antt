@@ -53,9 +53,9 @@ down_at : (m : Network) (x y : ℕ) (e : Entry) → e.parent ≡ Some y → down
 down_at m x y e h = rw h refl
 
 -- either way the port is that of the next node
-joined : (m : Network) (t : Tables) (r : ℕ) (a b : Place) (q : ℕ) → IsAtPlace m t r a → IsAtPlace m t r b → Joins a b q → port_to m a.node b.node ≡ Some q
-joined m t r a b q sa sb (inl j) = sym (up_at m a.node b.node sa.entry (sa.parent ∙ j.0)) ∙ sym sa.up ∙ j.1
-joined m t r a b q sa sb (inr j) = sym (down_at m b.node a.node sb.entry (sb.parent ∙ j.0)) ∙ sym sb.down ∙ j.1
+pub next_port : (m : Network) (t : Tables) (r : ℕ) (a b : Place) (q : ℕ) → IsAtPlace m t r a → IsAtPlace m t r b → Joins a b q → port_to m a.node b.node ≡ Some q
+next_port m t r a b q sa sb (inl j) = sym (up_at m a.node b.node sa.entry (sa.parent ∙ j.0)) ∙ sym sa.up ∙ j.1
+next_port m t r a b q sa sb (inr j) = sym (down_at m b.node a.node sb.entry (sb.parent ∙ j.0)) ∙ sym sb.down ∙ j.1
 
 -- the tables' ports are the network's
 pub record Ports (m : Network) (t : Tables) : Type 0 where
@@ -89,7 +89,7 @@ carry m t r ports a (b ∷ rest) k placed f is ends room below =
     let s = placed.0 in
     let q = f.0.0 in
     let same : step (record_of s.entry.tree_record) k.label ≡ port q = ap (λ z. step z k.label) s.tree_record ∙ f.0.1.0 in
-    let over : t.over a.node q ≡ Some b.node = ports.over a.node q s.inside ∙ index_get b.node q (neighbours m a.node) (joined m t r a b q s placed.1.0 f.0.1.1) in (
+    let over : t.over a.node q ≡ Some b.node = ports.over a.node q s.inside ∙ index_get b.node q (neighbours m a.node) (next_port m t r a b q s placed.1.0 f.0.1.1) in (
       (q, step_forwards t a.node b.node q k s.entry (rw ports.nodes s.inside) (rw ports.nodes below) (omega arith) (rw is s.is) same over),
       carry m t r ports b rest (one_less k) placed.1 f.1 is ends (omega arith) (omega arith),
     )

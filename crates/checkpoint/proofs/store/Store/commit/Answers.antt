@@ -5,8 +5,8 @@ use Rattle.layout_2.specs.State.{State, state_with, changes_of, after}
 use Rattle.layout_2.specs.Standing.{StandsFor}
 use Rattle.checkpoint.specs.Kept.{kept_stands}
 use Rattle.checkpoint.specs.StoreWords.{state_of, view_of}
-use Rattle.layout_2.proofs.Folds.{after_count, nodes_fold}
-use Rattle.checkpoint.proofs.Commits.{appending, goes_to, kept_appended, not_begun}
+use Rattle.layout_2.proofs.Folds.{after_count, after_is, nodes_fold}
+use Rattle.checkpoint.proofs.Commits.{appending, kept_appended, not_begun}
 use Rattle.checkpoint.proofs.SameStore.{same_store}
 use Rattle.checkpoint.proofs.store.Store.commit.Goals as goal
 
@@ -44,7 +44,7 @@ invariant_of-self-in-Ok-clause-kept g c model_new up =
     let v0 = view_of s in
     let model : IsTrue v0.keeps_model = subst IsTrue c.append.ensures.ran.model model_new in
     let next : State = state_with (s.count + length c.args.requests.now) c.install.new.self c.raise_all.new.tickets in
-    let goes : after (state_of s) c.args.requests.now ≡ Some next = goes_to (state_of s) c.args.requests.now c.in_ok-prepared.prepared.after c.install.new.self c.raise_all.new.tickets c.in_ok-prepared.ensures.after c.install.ensures c.raise_all.ensures in
+    let goes : after (state_of s) c.args.requests.now ≡ Some next = after_is (state_of s) c.args.requests.now c.install.new.self (sym c.in_ok-prepared.ensures.after ∙ ap Some (sym c.install.ensures)) ∙ ap (λ (ts : List ℕ). Some (state_with (s.count + length c.args.requests.now) c.install.new.self ts)) (sym c.raise_all.ensures) in
     kept_appended v0 (g.D.Disk.view c.append.new.disk) s.journal c.append.new.self s.slot s.epoch s.other_gate _ (state_of s) next c.args.requests.now s.two_slots (rw (s.at, s.room) refl) (s.kept model up) goes c.requires.in_turn
     c.append.ensures.area c.in-Ok.ensures.grows (λ known. (c.append.ensures.any_moment model known).now) (c.in-Ok.ensures.ok model)
 
@@ -53,7 +53,7 @@ returns-clause-ok g c =
     let s = c.args.self.now in
     let v0 = view_of s in
     let next : State = state_with (s.count + length c.args.requests.now) c.install.new.self c.raise_all.new.tickets in
-    let goes : after (state_of s) c.args.requests.now ≡ Some next = goes_to (state_of s) c.args.requests.now c.in_ok-prepared.prepared.after c.install.new.self c.raise_all.new.tickets c.in_ok-prepared.ensures.after c.install.ensures c.raise_all.ensures in
+    let goes : after (state_of s) c.args.requests.now ≡ Some next = after_is (state_of s) c.args.requests.now c.install.new.self (sym c.in_ok-prepared.ensures.after ∙ ap Some (sym c.install.ensures)) ∙ ap (λ (ts : List ℕ). Some (state_with (s.count + length c.args.requests.now) c.install.new.self ts)) (sym c.raise_all.ensures) in
     let v1 = g.D.Disk.view c.append.new.disk in
     record {
       state = goes;

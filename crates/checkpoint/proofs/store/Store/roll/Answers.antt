@@ -1,12 +1,11 @@
 use Rattle.std.proofs.Common.{arith, rules, ◌∙◌, ◌+◌, [], IsTrue, refl, subst}
 use Rattle.disk_trait.specs.Disk.{started}
-use Rattle.layout_2.specs.State.{State, state_with}
 use Rattle.layout_2.specs.Standing.{StandsFor}
 use Rattle.layout_parts.specs.Heads.{other}
 use Rattle.checkpoint.specs.Kept.{kept_stands}
 use Rattle.checkpoint.specs.StoreWords.{state_of, view_of, stands_now}
 use Rattle.layout_parts.proofs.ReadLemmas.{still}
-use Rattle.checkpoint.proofs.Rolls.{rolled_kept, rolling, stands_closing}
+use Rattle.checkpoint.proofs.Rolls.{kept_rolled, stands_closing, stands_publishing}
 use Rattle.checkpoint.proofs.SameStore.{same_store}
 use Rattle.checkpoint.proofs.store.Store.roll.Goals as goal
 
@@ -28,19 +27,17 @@ returns-in-Err-clause-any_moment g c model up = started (view_of c.args.self.now
 
 pub returns-in-Err-close_open-clause-any_moment : goal.returns-in-Err-close_open-clause-any_moment
 returns-in-Err-close_open-clause-any_moment g c model up =
-    let s = c.args.self.now in
-    let base : State = state_with s.base_count.value s.base.value s.base_tickets.value in
-    stands_closing (view_of s) (g.D.Disk.view c.close_open.new.disk) s.slot s.epoch s.other_gate base (state_of s) s.journal.groups s.two_slots (s.kept model up) s.fits (c.close_open.ensures.any_moment model)
+    stands_closing c.args.self.now (g.D.Disk.view c.close_open.new.disk) model up (c.close_open.ensures.any_moment model)
 
 pub returns-in-Err-publish-clause-any_moment : goal.returns-in-Err-publish-clause-any_moment
 returns-in-Err-publish-clause-any_moment g c model up =
-    rolling c.args.self.now (g.D.Disk.view c.close_open.new.disk) (g.D.Disk.view c.publish.new.disk) model up (c.close_open.ensures.any_moment model) c.deref.result.now (λ lawful. c.deref.ensures.value ∙ c.in-Ok.ensures.text lawful) (omega (arith, c.if-self-ge-WORN_LIMIT.false))
+    stands_publishing c.args.self.now (g.D.Disk.view c.close_open.new.disk) model up (c.close_open.ensures.any_moment model) (g.D.Disk.view c.publish.new.disk) c.deref.result.now (λ lawful. c.deref.ensures.value ∙ c.in-Ok.ensures.text lawful) (omega (arith, c.if-self-ge-WORN_LIMIT.false))
     (c.in-Ok-close_open.ensures.ok model)
     (c.publish.ensures.any_moment (still (view_of c.args.self.now) (g.D.Disk.view c.close_open.new.disk) c.close_open.ensures.ran model))
 
 pub returns-clause-any_moment : goal.returns-clause-any_moment
 returns-clause-any_moment g c model up =
-    rolling c.args.self.now (g.D.Disk.view c.close_open.new.disk) (g.D.Disk.view c.publish.new.disk) model up (c.close_open.ensures.any_moment model) c.deref.result.now (λ lawful. c.deref.ensures.value ∙ c.in-Ok.ensures.text lawful) (omega (arith, c.if-self-ge-WORN_LIMIT.false))
+    stands_publishing c.args.self.now (g.D.Disk.view c.close_open.new.disk) model up (c.close_open.ensures.any_moment model) (g.D.Disk.view c.publish.new.disk) c.deref.result.now (λ lawful. c.deref.ensures.value ∙ c.in-Ok.ensures.text lawful) (omega (arith, c.if-self-ge-WORN_LIMIT.false))
     (c.in-Ok-close_open.ensures.ok model)
     (c.publish.ensures.any_moment (still (view_of c.args.self.now) (g.D.Disk.view c.close_open.new.disk) c.close_open.ensures.ran model))
 
@@ -49,7 +46,7 @@ invariant_of-self-2-clause-kept g c model_new up =
     let v1 = g.D.Disk.view c.close_open.new.disk in
     let model1 : IsTrue v1.keeps_model = subst IsTrue c.publish.ensures.ran.model model_new in
     let model : IsTrue (view_of c.args.self.now).keeps_model = subst IsTrue c.close_open.ensures.ran.model model1 in
-    let kept = rolled_kept c.args.self.now v1 (g.D.Disk.view c.publish.new.disk) model c.if-self.false (c.close_open.ensures.any_moment model) c.deref.result.now (λ lawful. c.deref.ensures.value ∙ c.in-Ok.ensures.text lawful) (omega (arith, c.if-self-ge-WORN_LIMIT.false))
+    let kept = kept_rolled c.args.self.now v1 model c.if-self.false (c.close_open.ensures.any_moment model) (g.D.Disk.view c.publish.new.disk) c.deref.result.now (λ lawful. c.deref.ensures.value ∙ c.in-Ok.ensures.text lawful) (omega (arith, c.if-self-ge-WORN_LIMIT.false))
     (c.in-Ok-close_open.ensures.ok model)
     (c.in-Ok-publish.ensures.ok model1) in
     rw (c.of.ensures, c.of-2.ensures, c.of-3.ensures, c.fresh-self.ensures) kept
@@ -62,7 +59,7 @@ returns-clause-ok g c =
     record {
       rolled = search rules;
       durable = λ model. kept_stands v2 (other s.slot) (s.epoch + 1) 1 (state_of s) (state_of s) [] (omega arith) s.fits
-          (rolled_kept s v1 v2 model c.if-self.false (c.close_open.ensures.any_moment model) c.deref.result.now (λ lawful. c.deref.ensures.value ∙ c.in-Ok.ensures.text lawful) (omega (arith, c.if-self-ge-WORN_LIMIT.false))
+          (kept_rolled s v1 model c.if-self.false (c.close_open.ensures.any_moment model) v2 c.deref.result.now (λ lawful. c.deref.ensures.value ∙ c.in-Ok.ensures.text lawful) (omega (arith, c.if-self-ge-WORN_LIMIT.false))
           (c.in-Ok-close_open.ensures.ok model) (c.in-Ok-publish.ensures.ok (still (view_of s) v1 c.close_open.ensures.ran model)));
       no_failure = search rules;
     }
