@@ -52,7 +52,10 @@ pub(crate) fn drawn_graph(
 
 /// The same graph, made by edits.
 pub(crate) fn graph_of(rt: &impl Abort, alloc: Global, plain: &PlainGraph) -> Graph {
-    got(rt, sample_networks::graph_of(alloc, plain.nodes, &plain.edges))
+    got(
+        rt,
+        sample_networks::graph_of(alloc, plain.nodes, &plain.edges),
+    )
 }
 
 /// Landmark words of so many nodes: of none, of all, or of each with a chance of one in three.
