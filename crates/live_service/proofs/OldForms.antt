@@ -11,7 +11,8 @@ use Rattle.generations.specs.Beginnings.{Beginning, Opening}
 use Rattle.intake.specs.Editors.{Editing}
 use Rattle.committer.specs.declared.committer.Committer.{Committer}
 use Rattle.committer.specs.CommitterWords.{got_of, queue_of, store_of}
-use Rattle.command_output.specs.Faults.{status_of}
+use Rattle.std.specs.Io.KnownBytes.{Appends}
+use Rattle.command_output.specs.Faults.{status_of, told_text}
 use Rattle.command_output.specs.declared.fault.Fault.{Fault}
 use Rattle.command_output.specs.declared.fault.Fault.TheVariants.{Output}
 use Rattle.written_values.specs.declared.line.ScriptLine.{ScriptLine}
@@ -20,7 +21,7 @@ use Rattle.service_workers.specs.Edited.{IsSameEditor}
 use Rattle.service_workers.specs.declared.stop_cause.StopCause.{StopCause}
 use Rattle.service_workers.specs.declared.stop_cause.StopCause.TheVariants.{Device}
 use Rattle.service_threads.specs.Kept.{HasFailed, HasSettledSome, IsServedDisk}
-use Rattle.service_lines.specs.ServedLines.{IsServeEnd, IsServed, IsServedSo}
+use Rattle.service_lines.specs.ServedLines.{IsServeEnd, IsServed}
 use Rattle.service_lines.specs.declared.served.Served.{Served}
 use Rattle.service_lines.specs.declared.served.Served.TheVariants.{Printed, Told, Untold}
 use Rattle.live_lines.specs.declared.asked.Asked.{Asked}
@@ -96,6 +97,12 @@ told_one f fault (inr is) = absurd (cc)
 untold_one : (f fault : Fault) → (Untold f ≡ Told fault) ⊎ (Untold f ≡ Untold fault) → f ≡ fault
 untold_one f fault (inl is) = absurd (cc)
 untold_one f fault (inr is) = cc
+
+-- what a service that ended so has printed on a writer, and told on another
+abbrev pub IsServedSo : {D : Type 0} → Ghosts D → D → LandmarkWords → Option D → List ScriptLine → Option (List ℕ) → Option (List ℕ) → Option (List ℕ) → Option (List ℕ) → Served → Type 0
+IsServedSo model disk asked back script old new told_old told_new Printed = IsServed script old new × (told_new ≡ told_old)
+IsServedSo model disk asked back script old new told_old told_new (Told fault) = IsServeEnd model disk asked back fault × Appends told_old told_new (told_text fault)
+IsServedSo model disk asked back script old new told_old told_new (Untold fault) = IsServeEnd model disk asked back fault
 
 -- so, untold, untouched and one_list of `serve_told`
 pub old_serve_told : {D W E : Type 0} (model : Ghosts D) (disk : D) (asked : LandmarkWords) (back : Option D) (script : List ScriptLine) (editors : ℕ) (contents : W → Option (List ℕ)) (old new : W)

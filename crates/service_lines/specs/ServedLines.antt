@@ -7,7 +7,6 @@ use Rattle.disk_trait.specs.Disk.{OnlyRead}
 use Rattle.layout_2.specs.State.{State}
 use Rattle.layout_2.specs.Standing.{StandsFor}
 use Rattle.generations.specs.declared.posting.Verdict.TheVariants.{Accepted, Refused}
-use Rattle.command_output.specs.Faults.{told_text}
 use Rattle.command_output.specs.declared.fault.Fault.{Fault}
 use Rattle.command_output.specs.declared.fault.Fault.TheVariants as told
 use Rattle.command_output.specs.Lines.{accepted_text, line, refused_text}
@@ -22,8 +21,6 @@ use Rattle.service_workers.specs.declared.answer.Answer.TheVariants.{Settled, Al
 use Rattle.service_threads.specs.Kept.{HasFailed}
 use Rattle.service_threads.specs.declared.fault.Fault.{Fault as Stopped}
 use Rattle.service_threads.specs.declared.fault.Fault.TheVariants as why
-use Rattle.service_lines.specs.declared.served.Served.{Served}
-use Rattle.service_lines.specs.declared.served.Served.TheVariants.{Printed, Told, Untold}
 
 -- the text of an answer
 abbrev pub answer_text : Answer → List ℕ
@@ -88,9 +85,3 @@ pub record IsServeEnd {D : Type 0} (model : Ghosts D) (disk : D) (asked : Landma
   pub refused : IsTrue (model.view disk).keeps_model → IsOpeningFault fault → IfSome back (λ d. OnlyRead (model.view disk) (model.view d))
   -- one whose failure is the fault has failed
   pub device : fault ≡ told.Device → IfSome back (λ d. HasFailed (model.view disk) (model.view d))
-
--- what a service that ended so has printed on a writer, and told on another
-abbrev pub IsServedSo : {D : Type 0} → Ghosts D → D → LandmarkWords → Option D → List ScriptLine → Option (List ℕ) → Option (List ℕ) → Option (List ℕ) → Option (List ℕ) → Served → Type 0
-IsServedSo model disk asked back script old new told_old told_new Printed = IsServed script old new × (told_new ≡ told_old)
-IsServedSo model disk asked back script old new told_old told_new (Told fault) = IsServeEnd model disk asked back fault × Appends told_old told_new (told_text fault)
-IsServedSo model disk asked back script old new told_old told_new (Untold fault) = IsServeEnd model disk asked back fault

@@ -3,7 +3,7 @@ use Rattle.std.proofs.lemmas.Bool.{eqb-true}
 use Rattle.std.proofs.lemmas.List.{length-map}
 use Rattle.atomic_table.specs.Seated.{TableId}
 use Rattle.checkpoint.specs.StoreWords.{state_of, view_of}
-use Rattle.committer.specs.CommitterWords.{got_of, posts_of, queue_of, store_of, taker_of}
+use Rattle.committer.specs.CommitterWords.{got_of, posts_of, queue_of, store_of}
 use Rattle.intake.specs.Turns.{of}
 use Rattle.settled_lists.specs.Posted.{ArePosted}
 use Rattle.service_threads.specs.Kept.{HasFailed, HasSettled}
