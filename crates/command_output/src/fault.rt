@@ -72,13 +72,14 @@ impl Fault {
             Fault::LayoutNotKnown => "layout not known",
             Fault::Damaged => "damaged",
             Fault::Device => "device failed",
-            Fault::Memory => "out of memory",
+            // A thread takes memory first of all.
+            Fault::Memory | Fault::NoThread => "out of memory",
             Fault::Worn => "worn out",
             Fault::AlreadyIn => "already in",
             Fault::NoNode => "no node",
             Fault::TableFile => "table file cannot be written",
-            // No text of their own is among those that scripts know: this one is the nearest.
-            Fault::NoThread | Fault::Internal | Fault::Output => "input or output failed",
+            // An internal fault has no text of its own among those that scripts know: this one is the nearest.
+            Fault::Internal | Fault::Output => "input or output failed",
         }
     }
 

@@ -28,12 +28,12 @@
 //!
 //! ```rust
 //! use disk_trait::Disk;
-//! use event_runs::{Event, Reply};
-//! use interleave::World;
+//! use event_runs::Event;
+//! use interleave::{Report, World};
 //! use std::alloc::{AllocError, Global};
 //!
 //! /// Commits what a session has asked for, and posts what became of it.
-//! pub fn settle<D: Disk>(alloc: Global, world: &mut World<D>) -> Result<Vec<Reply>, AllocError> {
+//! pub fn settle<D: Disk>(alloc: Global, world: &mut World<D>) -> Result<Report, AllocError> {
 //!     world.run(alloc, &[Event::Take, Event::Commit, Event::Post])
 //! }
 //! ```
@@ -47,5 +47,6 @@ mod running;
 mod stored;
 mod world;
 
+pub use running::Report;
 pub use stored::{Stored, Way};
 pub use world::{World, fresh_sessions};

@@ -9,6 +9,9 @@ use event_runs::{Event, Reply};
 use run_laws::{acknowledged_law, history_law, lists_law, queue_law, ways_law};
 use std::alloc::{AllocError, Global};
 
+/// What a run answers: one reply for each event, in their order.
+pub type Report = Vec<Reply>;
+
 impl<D: Disk> World<D> {
     ghost use Rattle.interleave.specs.WorldWords.{world_view};
     ghost use Rattle.interleave.specs.Crashes.{WorldHappens};
@@ -58,7 +61,7 @@ impl<D: Disk> World<D> {
     ///
     /// There is a world after each event. On a disk that keeps the model, a crash since any of them, or since the run began, leaves all that
     /// a commit had answered Ok for by then, and all that was acknowledged by then (`HasRun`, specs/Runs.antt).
-    pub fn run(&mut self, alloc: Global, events: &[Event]) -> Result<Vec<Reply>, AllocError>
+    pub fn run(&mut self, alloc: Global, events: &[Event]) -> Result<Report, AllocError>
         ensures ran { IsSameDevice (world_view self.old) (world_view self.new) }
         ensures run { IfOk result (λ replies. HasRun self.old events.now replies.items self.new) }
         ensures err { OnErr result (self.new ≡ self.old) }

@@ -2,12 +2,14 @@
 //!
 //! There is nothing here but tests: conversations in which a line is given once all before it are answered, with every line of the
 //! table; lines of 64 sessions, judged by a plain network of its own; lines behind a commit that the device holds; each call of the
-//! device and each write failing; inputs that end or fail; want of memory and of threads; rebuilds that coalesce;
+//! device and each write failing; inputs that end, fail or stay open; want of memory and of threads; rebuilds that coalesce;
 //! tables that are put while edits go on.
 #![tactic(auto)]
 
 #[cfg(test)]
 mod drawn;
+#[cfg(test)]
+mod endless;
 #[cfg(test)]
 mod ends;
 #[cfg(test)]

@@ -50,8 +50,7 @@ fn expect_short(rt: &impl Abort, served: Served, printed: &str, told: &str) {
     same(rt, is_beginning, true, printed);
     // Where a thread gets no memory, the system makes none, and doesn't say why.
     let want = match served {
-        Served::Told(Fault::Memory) => "tznode: out of memory\n",
-        Served::Told(Fault::NoThread) => "tznode: input or output failed\n",
+        Served::Told(Fault::Memory | Fault::NoThread) => "tznode: out of memory\n",
         _ => "another end",
     };
     same(rt, told, want, "a run without memory");

@@ -1,6 +1,6 @@
 // Clusters of drawn graphs by the definition, and those of the longest path.
 use crate::calls::cluster_of;
-use crate::drawn::{Edge, drawn_edges, drawn_flags, graph_of, longest_path, nearest_of};
+use crate::drawn::{Edge, drawn_edges, drawn_flags, graph_of, nearest_of, path_of};
 use crate::helpers::{got, same};
 use crate::slow::{at, bellman_ford, distances_from};
 use clusters::Cluster;
@@ -100,7 +100,7 @@ fn expect_on_the_line(rt: &impl Abort, found: &Cluster, center: u16) {
 #[test]
 fn finds_clusters_all_along_the_longest_path(rt: HostRuntime) {
     let alloc = rt.alloc();
-    let graph = graph_of(&rt, alloc, MOST_NODES, &longest_path(&rt, alloc));
+    let graph = graph_of(&rt, alloc, MOST_NODES, &path_of(&rt, alloc, MOST_NODES));
     let mut flags = Vec::new(alloc);
     for node in 0..MOST_NODES {
         got(&rt, flags.push(node % 64 == 63));

@@ -4,7 +4,7 @@ ghost use Rattle.distances.specs.Nearest.{AreNearest};
 
 use crate::helpers::got;
 use distances::{Nearest, from_landmarks};
-use graph_edits::{GREATEST_WEIGHT, Graph, MOST_NODES};
+use graph_edits::{GREATEST_WEIGHT, Graph};
 use landmarks::Landmarks;
 use rand_core::Rng;
 use rand_xoshiro::Xoshiro256PlusPlus;
@@ -35,10 +35,10 @@ pub(crate) fn nearest_of(rt: &impl Abort, alloc: Global, graph: &Graph, flags: &
     from_landmarks(alloc, graph, &landmarks).expect(rt, "memory")
 }
 
-/// The edges of the longest path, each of the greatest weight.
-pub(crate) fn longest_path(rt: &impl Abort, alloc: Global) -> Vec<Edge> {
+/// The edges of a path of so many nodes, each of the greatest weight.
+pub(crate) fn path_of(rt: &impl Abort, alloc: Global, nodes: u16) -> Vec<Edge> {
     let mut edges = Vec::new(alloc);
-    for node in 1..MOST_NODES {
+    for node in 1..nodes {
         got(rt, edges.push((node - 1, node, GREATEST_WEIGHT)));
     }
     edges

@@ -1,6 +1,6 @@
 // Trees and nearest landmarks beside the slow searches, and the longest path.
 use crate::calls::{near_of, reach_of};
-use crate::drawn::{Edge, below, drawn_edges, drawn_flags, graph_of, longest_path, nearest_of};
+use crate::drawn::{Edge, below, drawn_edges, drawn_flags, graph_of, nearest_of, path_of};
 use crate::helpers::{got, same};
 use crate::slow::{at, distances_from, nearest_by_each, parent_by_edges, scanned};
 use distances::{Nearest, Reached};
@@ -73,18 +73,22 @@ fn expect_nearest(rt: &impl Abort, nearest: &Nearest, want: &[Option<(u16, u64)>
     }
 }
 
+// Of the longest path, and of one of 4,096 nodes.
 #[test]
-fn measures_the_longest_path(rt: HostRuntime) {
+fn measures_long_paths(rt: HostRuntime) {
     let alloc = rt.alloc();
-    let graph = graph_of(&rt, alloc, MOST_NODES, &longest_path(&rt, alloc));
-    let reach = reach_of(&rt, alloc, &graph, 0);
-    let last = Reached {
-        node: 16_383,
-        distance: 16_383_000_000,
-        parent: Some(16_382),
-    };
-    let found = (reach.members().len(), reach.members().last().copied());
-    same(&rt, found, (16_384, Some(last)), "the longest path");
-    let few = (16_384..32_768).contains(&reach.pops());
-    same(&rt, (reach.pops(), few), (reach.pops(), true), "pops");
+    for nodes in [4_096u16, MOST_NODES] {
+        let graph = graph_of(&rt, alloc, nodes, &path_of(&rt, alloc, nodes));
+        let reach = reach_of(&rt, alloc, &graph, 0);
+        let (count, end) = (nodes as usize, nodes.saturating_sub(1));
+        let last = Reached {
+            node: end,
+            distance: end as u64 * 1_000_000,
+            parent: Some(end.saturating_sub(1)),
+        };
+        let found = (reach.members().len(), reach.members().last().copied());
+        same(&rt, found, (count, Some(last)), "a long path");
+        let few = (count as u64..2 * count as u64).contains(&reach.pops());
+        same(&rt, (reach.pops(), few), (reach.pops(), true), "pops");
+    }
 }

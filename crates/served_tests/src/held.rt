@@ -1,12 +1,15 @@
 // Routes that are launched or carried on just where the device holds a commit.
 use crate::helpers::{Asked, fresh, got, run, same, text_of};
 use service_threads::Hooks;
-use stand_ins::{BeforeSync, HookedDisk, comes};
+use stand_ins::{BeforeSync, HookedDisk, comes_within};
 use std::alloc::Global;
 use std::process::Abort;
 use std::sync::atomic::{AtomicBool, AtomicU64, Ordering};
 use std::sync::{Arc, Wait};
 use std::thread::Threads;
+
+// How long each waits for the other at most.
+const TURNS: usize = 1_000_000;
 
 /// A sync that doesn't end before a hop in this generation was answered; where none is, it fails.
 #[derive(Clone, Copy, Drop)]
@@ -52,7 +55,7 @@ impl Signs {
 
     // Whether it came before the turns ran out.
     fn comes(&self, word: &AtomicU64, least: u64) -> bool {
-        let came = comes(word, least);
+        let came = comes_within(word, least, TURNS);
         if !came {
             self.late.store(true, Ordering::SeqCst);
         }

@@ -36,4 +36,4 @@ pub use bytes::{has_spelled, put, put_spelled, read_at};
 pub use devices::{CRASH_WORDS, NoDevice, blank, formatted, opened};
 pub use hooked::{BeforeSync, HookedDisk, Turns};
 pub use narrow::NarrowWriter;
-pub use waiting::comes;
+pub use waiting::{comes, comes_within};

@@ -7,7 +7,12 @@ const TURNS: usize = 4_000_000;
 
 /// Waits until the word is this number or more. Gives whether it came before the turns ran out.
 pub fn comes(word: &AtomicU64, least: u64) -> bool {
-    for _ in 0..TURNS {
+    comes_within(word, least, TURNS)
+}
+
+/// The same with at most so many turns.
+pub fn comes_within(word: &AtomicU64, least: u64, turns: usize) -> bool {
+    for _ in 0..turns {
         if word.load(Ordering::SeqCst) >= least {
             return true;
         }

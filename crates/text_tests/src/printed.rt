@@ -97,7 +97,7 @@ const FAULTS: [(Fault, &str, u8); 21] = [
     (Fault::Damaged, "damaged", 1),
     (Fault::Device, "device failed", 1),
     (Fault::Memory, "out of memory", 1),
-    (Fault::NoThread, "input or output failed", 1),
+    (Fault::NoThread, "out of memory", 1),
     (Fault::Internal, "input or output failed", 1),
     (Fault::Worn, "worn out", 1),
     (Fault::AlreadyIn, "already in", 1),

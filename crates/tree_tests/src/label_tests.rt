@@ -111,52 +111,62 @@ fn steps_of_five_nodes(rt: HostRuntime) {
     }
 }
 
-/// The light ports of the last of 16,383 members.
+/// The light ports of the last of 16,383 members in pairs. The last of 4,095 has the first eleven.
 const THIRTEEN: [u16; 13] = [1, 2, 2, 2, 2, 2, 2, 2, 2, 2, 2, 2, 2];
 
-/// The label of the last of 16,383 has as many light ports as a label may have, under each allocator the same.
+/// How many members there are in pairs, and how many light ports the last one's label has: at the most as many as a label may have.
+const IN_PAIRS: [(u16, usize); 2] = [(4_095, 11), (16_383, 13)];
+
+/// The label of the last of all has these light ports, under each allocator the same.
 #[test]
-fn the_last_of_all_pairs_has_thirteen_lights(rt: HostRuntime) {
+fn the_last_of_all_pairs_has_the_most_lights(rt: HostRuntime) {
     let alloc = rt.alloc();
     let rt = &rt;
-    let members = listed(rt, alloc, 16_383, in_pairs);
-    let all = numbered(rt, alloc, &members);
-    let last = of_node(rt, &all, 16_382);
-    same(rt, &last.label, &label(16_382, &THIRTEEN), "the last label");
-    let lights = (last.label.lights().len(), last.tree_record.light_depth);
-    same(rt, lights, (13, 13), "the light ports");
-    let heap = got(rt, LocalHeap::new(alloc, STACK_LEN));
-    let held = numbered_over(rt, alloc, &heap, &members);
-    let bump = Bump::new(&heap);
-    let bumped = numbered_over(rt, alloc, &bump, &members);
-    same(rt, all.len(), 16_383, "the members");
-    same(rt, all == held, true, "in a heap");
-    same(rt, all == bumped, true, "in an arena");
+    for (count, lights) in IN_PAIRS {
+        let members = listed(rt, alloc, count, in_pairs);
+        let all = numbered(rt, alloc, &members);
+        let node = count.saturating_sub(1);
+        let last = of_node(rt, &all, node);
+        let wanted = label(node, got(rt, THIRTEEN.get(..lights).ok_or("lights")));
+        same(rt, &last.label, &wanted, "the last label");
+        let found = (last.label.lights().len(), last.tree_record.light_depth);
+        same(rt, found, (lights, lights as u16), "the light ports");
+        let heap = got(rt, LocalHeap::new(alloc, STACK_LEN));
+        let held = numbered_over(rt, alloc, &heap, &members);
+        let bump = Bump::new(&heap);
+        let bumped = numbered_over(rt, alloc, &bump, &members);
+        same(rt, all.len(), count as usize, "the members");
+        same(rt, all == held, true, "in a heap");
+        same(rt, all == bumped, true, "in an arena");
+    }
 }
 
 /// How many members of a path have their node as number, no light port, and the path's end as last.
-fn plain_members(all: &Numbered) -> usize {
+fn plain_members(all: &Numbered, last: u16) -> usize {
     all.iter()
         .enumerate()
         .filter(|(i, m)| m.node as usize == *i
             && m.tree_record.first == m.node
-            && m.tree_record.last == 16_383
+            && m.tree_record.last == last
             && m.tree_record.light_depth == 0
             && m.label.lights().is_empty())
         .count()
 }
 
 #[test]
-fn a_path_of_all_nodes_has_no_light_port(rt: HostRuntime) {
+fn a_long_path_has_no_light_port(rt: HostRuntime) {
     let alloc = rt.alloc();
     let rt = &rt;
-    let members = listed(rt, alloc, 16_384, on_path);
-    let handle = got(rt, rt.clone());
-    let thread = thread::Builder::new().stack_size(STACK_LEN);
-    let started = thread.spawn(rt, move || {
-        plain_members(&numbered(&handle, alloc, &members))
-    });
-    same(rt, got(rt, started).join(rt), 16_384, "plain members");
+    for count in [4_096u16, 16_384] {
+        let members = listed(rt, alloc, count, on_path);
+        let handle = got(rt, rt.clone());
+        let thread = thread::Builder::new().stack_size(STACK_LEN);
+        let started = thread.spawn(rt, move || {
+            plain_members(&numbered(&handle, alloc, &members), count.saturating_sub(1))
+        });
+        let plain = got(rt, started).join(rt);
+        same(rt, plain, count as usize, "plain members");
+    }
 }
 
 /// The last number of a record whose first is 3, its parent port and its heavy port, and whether there is such a record.

@@ -16,6 +16,7 @@
 #![tactic(auto)]
 
 use clap::ArgMatches;
+use standard_streams::hold_streams;
 use std::alloc::AllocError;
 use std::env;
 use std::process::ExitCode;
@@ -39,6 +40,10 @@ mod walks;
 use telling::told;
 
 fn main(rt: HostRuntime) -> ExitCode {
+    // No file gets the number of a standard stream.
+    let Ok(streams) = hold_streams(&rt) else {
+        return ExitCode::from(told(&rt, 1, "input or output failed"));
+    };
     let given = match arguments(&rt) {
         Ok(given) => given,
         Err(status) => return ExitCode::from(status),
@@ -51,6 +56,7 @@ fn main(rt: HostRuntime) -> ExitCode {
         Ok(found) => run(&rt, &rt, &found),
         Err(status) => status,
     };
+    drop(streams);
     ExitCode::from(status)
 }
 

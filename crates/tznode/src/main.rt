@@ -4,17 +4,26 @@
 //! what each command does and prints. `main` makes the call on the arguments and the standard streams, of which `serve` alone reads,
 //! and ends with the status that it answers. Words that can't be had end it with a fault, told on standard error as `tznode: TEXT`.
 //! Where standard error is a terminal, `tables` tells there now and then how many files were put.
+//!
+//! Before all that, `main` sees to it that no file gets the number of a standard stream that is closed. `serve` has standard
+//! input read by a thread of its own. A fault is the last thing that a command tells: then the input is called off, so a live
+//! service that failed doesn't wait for a line that may never come.
 #![tactic(auto)]
 
 use command_output::{Fault, tell};
 use commands::run_words_at;
+use standard_streams::{InterruptibleInput, InterruptingWriter, hold_streams};
 use std::alloc::AllocError;
 use std::env;
-use std::io::{ErrorKind, IsTerminal, Write};
+use std::io::{self, ErrorKind, IsTerminal, Write};
 use std::process::ExitCode;
 use table_files::{HostTables, Progress, WatchedTables};
 
 fn main(rt: HostRuntime) -> ExitCode {
+    let streams = match hold_streams(&rt) {
+        Ok(streams) => streams,
+        Err(error) => return ended_by(&rt, fault_of(&error)),
+    };
     let given = match arguments(&rt) {
         Ok(given) => given,
         Err(fault) => return ended_by(&rt, fault),
@@ -22,6 +31,18 @@ fn main(rt: HostRuntime) -> ExitCode {
     let words = match borrowed(&rt, &given) {
         Ok(words) => words,
         Err(error) => return ended_by(&rt, Fault::from(error)),
+    };
+    let (mut input, interrupter) = match InterruptibleInput::new(rt, rt.alloc()) {
+        Ok(both) => both,
+        Err(error) => return ended_by(&rt, Fault::from(error)),
+    };
+    // No other command reads.
+    if words.first() == Some(&"serve") && input.start(rt.stdin()).is_err() {
+        return ended_by(&rt, Fault::NoThread);
+    }
+    let mut faults = InterruptingWriter {
+        out: rt.stderr(),
+        input: interrupter,
     };
     let mut shown = Shown {
         rt: &rt,
@@ -33,12 +54,13 @@ fn main(rt: HostRuntime) -> ExitCode {
         &rt,
         &mut tables,
         &words,
-        &mut rt.stdin(),
+        &mut input,
         &mut rt.stdout(),
-        &mut rt.stderr(),
+        &mut faults,
     );
     drop(tables);
     shown.clear();
+    drop(streams);
     ExitCode::from(status)
 }
 
@@ -68,6 +90,14 @@ impl Shown<'_> {
         if self.was_shown {
             let _told = write!(self.rt.stderr(), "\x1b[K");
         }
+    }
+}
+
+// What is told of standard streams that can't be held.
+fn fault_of(error: &io::Error) -> Fault {
+    match error.kind() {
+        ErrorKind::OutOfMemory => Fault::Memory,
+        _ => Fault::Output,
     }
 }
 

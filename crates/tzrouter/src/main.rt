@@ -9,6 +9,7 @@
 //! `tzrouter: TEXT`, with the file and the system's own error where there are such (`telling.rt`).
 #![tactic(auto)]
 
+use standard_streams::hold_streams;
 use std::process::ExitCode;
 
 mod lines;
@@ -25,8 +26,11 @@ fn main(rt: HostRuntime) -> ExitCode {
     }
 }
 
-// Does what the words ask for, or answers the exit status where that can't be done.
+// Does what the words ask for, or answers the exit status where that can't be done. No file gets the number of a standard stream.
 fn run(rt: &HostRuntime) -> Result<(), u8> {
+    let Ok(streams) = hold_streams(rt) else {
+        return Err(told(rt, 1, "input or output failed"));
+    };
     let given = words::arguments(rt)?;
     let words = words::borrowed(rt, &given)?;
     let found = words::parsed(rt, &words)?;
@@ -34,5 +38,7 @@ fn run(rt: &HostRuntime) -> Result<(), u8> {
         return Err(told(rt, 2, "no table is named"));
     };
     let mut shelf = tables::shelf_of(rt, files)?;
-    lines::answer_lines(rt, &mut shelf)
+    lines::answer_lines(rt, &mut shelf)?;
+    drop(streams);
+    Ok(())
 }

@@ -3,7 +3,7 @@ use crate::helpers::{
     PAIRS, PATH, STACK_LEN, TRIANGLE, Way, carried, ends_of, expect_trail, got, graph_of, same,
     scheme_with,
 };
-use graph_edits::{Change, Graph, Op};
+use graph_edits::{Change, Graph, MOST_NODES, Op};
 use node_table::{CarryRefused, Listed, Move, Refused, Scheme};
 use scheme_builds::{first_words, length_over, scheme_of};
 use std::alloc::{AllocError, Global};
@@ -213,16 +213,16 @@ fn first_words_and_lengths(rt: HostRuntime) {
     }
 }
 
-/// How many nodes the long path has: as many as a graph may have.
-const LONG: u16 = 16_384;
+/// Long paths: how many nodes one has, and of how many nodes the last is a landmark. The longest has as many as a graph may have.
+const LONG: [(u16, u16); 2] = [(4_096, 64), (16_384, 128)];
 
-/// The long path, made by changes of 16 ops but for the last.
-fn long_path(alloc: Global) -> Result<Graph, AllocError> {
-    let mut graph = Graph::empty(alloc, LONG)?;
+/// A long path, made by changes of 16 ops but for the last.
+fn long_path(alloc: Global, nodes: u16) -> Result<Graph, AllocError> {
+    let mut graph = Graph::empty(alloc, nodes.clamp(1, MOST_NODES))?;
     let mut ops = Vec::new(alloc);
-    for v in 1..LONG {
+    for v in 1..nodes {
         ops.push(Op::Add(v - 1, v, 1_000_000))?;
-        if v % 16 == 0 || v == LONG - 1 {
+        if v % 16 == 0 || v == nodes - 1 {
             if let Ok(change) = Change::new(&ops) {
                 let _added = graph.apply(&change);
             }
@@ -232,13 +232,13 @@ fn long_path(alloc: Global) -> Result<Graph, AllocError> {
     Ok(graph)
 }
 
-/// The root and the hops left of a packet from end to end of the long path at launch, by how many hops it went, how many
+/// The root and the hops left of a packet from end to end of a long path at launch, by how many hops it went, how many
 /// of them by port 1, and its hops left where it is delivered.
-fn end_to_end(scheme: &Scheme) -> Result<(u16, u16, u16, u16, u16), Refused> {
-    let mut packet = scheme.decide(0, &scheme.address(LONG - 1)?)?;
+fn end_to_end(scheme: &Scheme, last: u16) -> Result<(u16, u16, u16, u16, u16), Refused> {
+    let mut packet = scheme.decide(0, &scheme.address(last)?)?;
     let (root, launched) = (packet.root, packet.hops_left);
     let (mut at, mut hops, mut ones) = (0, 0u16, 0u16);
-    for _ in 0..LONG {
+    for _ in 0..=last {
         match scheme.node_step(at, &packet)? {
             Move::Delivered => return Ok((root, launched, hops, ones, packet.hops_left)),
             Move::Forward {
@@ -256,45 +256,42 @@ fn end_to_end(scheme: &Scheme) -> Result<(u16, u16, u16, u16, u16), Refused> {
     Err(Refused::Spent)
 }
 
-/// The scheme of the long path with a landmark at the last of each 128 nodes.
-fn long_scheme(alloc: Global, graph: &Graph) -> Result<Scheme, AllocError> {
+/// The scheme of a long path with a landmark at the last of each so many nodes.
+fn long_scheme(alloc: Global, graph: &Graph, each: u16) -> Result<Scheme, AllocError> {
     let mut words = Vec::new(alloc);
-    for v in 0..LONG {
-        words.push(if v % 128 == 127 { 0u64 } else { u64::MAX })?;
+    for v in 0..graph.nodes() {
+        let is_last = v % each.max(1) == each.saturating_sub(1);
+        words.push(if is_last { 0u64 } else { u64::MAX })?;
     }
     scheme_of(alloc, graph, &words, 7, alloc)
 }
 
-/// Whether the route from end to end of the long path is as worked out: by port 0 and then always by port 1.
-fn goes_end_to_end(rt: &impl Abort, alloc: Global) -> bool {
-    let graph = got(rt, long_path(alloc));
-    same(rt, graph.edges(), 16_383, "the long path");
-    let scheme = got(rt, long_scheme(alloc, &graph));
-    let found = end_to_end(&scheme);
-    same(
-        rt,
-        found,
-        Ok((16_383, 16_383, 16_383, 16_382, 0)),
-        "the long way",
-    );
-    let trail = got(rt, carried(rt, alloc, &scheme, 0, 16_383));
-    same(rt, trail.ports.first().copied(), Some(0), "the first port");
-    let ones = trail.ports.iter().filter(|port| **port == 1).count();
-    same(
-        rt,
-        (trail.ports.len(), ones),
-        (16_383, 16_382),
-        "the other ports",
-    );
-    same(rt, trail.length, 16_383_000_000, "the long way");
-    length_over(&graph, &trail.nodes) == trail.length
+/// Sees that the route from end to end of each long path is as worked out: by port 0 and then always by port 1.
+fn goes_end_to_end(rt: &impl Abort, alloc: Global) {
+    for (nodes, each) in LONG {
+        let last = nodes.saturating_sub(1);
+        let graph = got(rt, long_path(alloc, nodes));
+        same(rt, graph.edges(), last as usize, "a long path");
+        let scheme = got(rt, long_scheme(alloc, &graph, each));
+        let found = end_to_end(&scheme, last);
+        let ones = last.saturating_sub(1);
+        same(rt, found, Ok((last, last, last, ones, 0)), "the long way");
+        let trail = got(rt, carried(rt, alloc, &scheme, 0, last));
+        same(rt, trail.ports.first().copied(), Some(0), "the first port");
+        let found = trail.ports.iter().filter(|port| **port == 1).count();
+        let ports = (trail.ports.len(), found);
+        same(rt, ports, (last as usize, ones as usize), "the other ports");
+        let length = last as u64 * 1_000_000;
+        let lengths = (trail.length, length_over(&graph, &trail.nodes));
+        same(rt, lengths, (length, length), "the long way");
+    }
 }
 
 #[test]
-fn long_path_from_end_to_end(rt: HostRuntime) {
+fn long_paths_from_end_to_end(rt: HostRuntime) {
     let alloc = rt.alloc();
     let handle = got(&rt, rt.clone());
     let thread = thread::Builder::new().stack_size(STACK_LEN);
     let started = thread.spawn(&rt, move || goes_end_to_end(&handle, alloc));
-    same(&rt, got(&rt, started).join(&rt), true, "the long path");
+    got(&rt, started).join(&rt);
 }
