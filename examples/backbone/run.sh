@@ -5,6 +5,7 @@ set -eu
 here=$(cd "$(dirname "$(readlink -f "${BASH_SOURCE[0]}")")" && pwd)
 top=$(cd "$here/../.." && pwd)
 folder=${1-$(mktemp -d)}
+mkdir -p "$folder" || { echo "run.sh: the folder $folder could not be made" >&2; exit 1; }
 device=$folder/backbone
 
 # The number of a city: names are numbered from 0, a line each.

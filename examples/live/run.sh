@@ -5,7 +5,7 @@ set -eu
 here=$(cd "$(dirname "$(readlink -f "${BASH_SOURCE[0]}")")" && pwd)
 top=$(cd "$here/../.." && pwd)
 folder=${1-$(mktemp -d)}
-mkdir -p "$folder"
+mkdir -p "$folder" || { echo "run.sh: the folder $folder could not be made" >&2; exit 1; }
 device=$folder/network
 
 # Writes a line to the service, reads its answer, and prints both.

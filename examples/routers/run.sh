@@ -6,6 +6,7 @@ set -eu
 here=$(cd "$(dirname "$(readlink -f "${BASH_SOURCE[0]}")")" && pwd)
 top=$(cd "$here/../.." && pwd)
 folder=${1-$(mktemp -d)}
+mkdir -p "$folder" || { echo "run.sh: the folder $folder could not be made" >&2; exit 1; }
 device=$folder/network
 words=draw:7
 # By router: where its lines are written, and where its answers are read.
