@@ -12,7 +12,7 @@ use Rattle.router_lines.specs.Answers.{move_text, packet_line, refused_text, unr
 use Rattle.live_lines.specs.declared.asked.Asked.{Asked}
 use Rattle.live_lines.specs.declared.asked.Asked.TheVariants as asks
 use Rattle.live_lines.specs.declared.answer.Answer.{Answer}
-use Rattle.live_lines.specs.declared.answer.Answer.TheVariants.{Settled, AlreadyIn, Resumed, Along, Unreachable, NoNode, Told, Sent, Moved, NotCarried, Gone, Unread, State, Waited, Tables, TablesFailed, NotUnderstood}
+use Rattle.live_lines.specs.declared.answer.Answer.TheVariants.{Settled, AlreadyIn, RefusedBefore, OldTicket, Resumed, Along, Unreachable, NoNode, Told, Sent, Moved, NotCarried, Gone, Unread, State, Waited, Tables, TablesFailed, NotUnderstood}
 
 -- ---- which answers are of a line
 
@@ -26,10 +26,12 @@ pub record Join (from to : ℕ) (nodes : List ℕ) : Type 0 where
   pub starts : (rest : List ℕ) × (nodes ≡ from ∷ rest)
   pub ends : (before : List ℕ) × (nodes ≡ before ++ to ∷ [])
 
--- the answer is one to what is asked for
+-- the answer is one to what is asked for; a line that names no ticket gets a new one, so only a verdict is of it
 abbrev pub Fits : Asked → Answer → Type 0
 Fits (asks.Edit session ticket change) (Settled s t verdict) = (s ≡ session) × IsOfTicket ticket t
-Fits (asks.Edit session ticket change) (AlreadyIn s t) = (s ≡ session) × IsOfTicket ticket t
+Fits (asks.Edit session ticket change) (AlreadyIn s t) = (s ≡ session) × (ticket ≡ Some t)
+Fits (asks.Edit session ticket change) (RefusedBefore s t op code) = (s ≡ session) × (ticket ≡ Some t)
+Fits (asks.Edit session ticket change) (OldTicket s t) = (s ≡ session) × (ticket ≡ Some t)
 Fits (asks.Resume session) (Resumed s t) = s ≡ session
 Fits (asks.Route from to) (Along generation nodes length) = Join from to nodes.items
 Fits (asks.Route from to) (Unreachable generation) = Unit {0}
@@ -70,6 +72,8 @@ state_text count generation queue = codes "count=" ++ (decimal count ++ (codes "
 abbrev pub answer_text : Answer → List ℕ
 answer_text (Settled session ticket verdict) = of_edit session ticket (verdict_text verdict)
 answer_text (AlreadyIn session ticket) = of_edit session ticket (codes "already in")
+answer_text (RefusedBefore session ticket op code) = of_edit session ticket (refused_change op code)
+answer_text (OldTicket session ticket) = of_edit session ticket (codes "old ticket")
 answer_text (Resumed session ticket) = ticket_text session ticket
 answer_text (Along generation nodes length) = route_text generation nodes.items length
 answer_text (Unreachable generation) = unreachable_text generation

@@ -9,6 +9,7 @@ use command_output::{
     UnreachableLine,
 };
 use generations::Verdict;
+use graph_edits::Code;
 use node_table::{Address, Move, Packet, Refused};
 use packet_bytes::WireRefused;
 use router_lines::{moved_text, packet_text, refused_name, told_text, unread_name};
@@ -23,8 +24,20 @@ pub enum Answer {
         ticket: u64,
         verdict: Verdict,
     },
-    /// The session has taken this ticket, or a later one.
+    /// This ticket of the session is in, or a later one.
     AlreadyIn {
+        session: u8,
+        ticket: u64,
+    },
+    /// This ticket, the session's last one, was refused before: by the op at this place. Nothing was done now.
+    RefusedBefore {
+        session: u8,
+        ticket: u64,
+        op: usize,
+        code: Code,
+    },
+    /// This ticket isn't in, and the session has submitted a later one. Nothing was done now.
+    OldTicket {
         session: u8,
         ticket: u64,
     },
@@ -150,6 +163,21 @@ impl Answer {
             } => settled_text(alloc, *session, *ticket, *verdict),
             Answer::AlreadyIn { session, ticket } => {
                 format!(in alloc; "{session} {ticket} already in")
+            }
+            Answer::RefusedBefore {
+                session,
+                ticket,
+                op,
+                code,
+            } => {
+                let verdict = Verdict::Refused {
+                    op: *op,
+                    code: *code,
+                };
+                settled_text(alloc, *session, *ticket, verdict)
+            }
+            Answer::OldTicket { session, ticket } => {
+                format!(in alloc; "{session} {ticket} old ticket")
             }
             Answer::Resumed { session, ticket } => {
                 let line = TicketLine {

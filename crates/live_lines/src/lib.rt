@@ -5,7 +5,7 @@
 //!
 //! | Line | Answer |
 //! |---|---|
-//! | `edit S T OP..` | `S T accepted count=C`, `S T refused op=I code=K`, or `S T already in` |
+//! | `edit S T OP..` | `S T accepted count=C`, `S T refused op=I code=K`, `S T already in`, or `S T old ticket` |
 //! | `resume S` | `session=S ticket=T` |
 //! | `route A B` | `generation=G route A .. B length L`, `generation=G unreachable`, or `no node` |
 //! | `address V` | `generation=G address=` and 84 hex digits, or `no node` |

@@ -60,6 +60,26 @@ fn tickets(rt: HostRuntime) {
     expect_text(
         &rt,
         rt.alloc(),
+        &Answer::RefusedBefore {
+            session: 63,
+            ticket: 9,
+            op: 15,
+            code: Code::EdgeThere,
+        },
+        "63 9 refused op=15 code=4",
+    );
+    expect_text(
+        &rt,
+        rt.alloc(),
+        &Answer::OldTicket {
+            session: 0,
+            ticket: 9_223_372_036_854_775_807,
+        },
+        "0 9223372036854775807 old ticket",
+    );
+    expect_text(
+        &rt,
+        rt.alloc(),
         &Answer::Resumed {
             session: 5,
             ticket: 0,

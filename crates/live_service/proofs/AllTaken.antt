@@ -1,6 +1,6 @@
 -- Editors of whose requests none waits any more.
-use Rattle.std.proofs.Common.{◌≡◌, ◌⊎◌, inl, inr, ⊎_elim, ◌<◌, ◌≤◌, ◌==◌, ◌++◌, ◌∷◌, [], ℕ, zero, suc, Bool, true, false, cond, List, length, map, take, filter, refl, sym, ap, subst, ◌∙◌, arith, append-nil}
-use Rattle.std.specs.Prelude.{nat_lt, is_ok, slice_index_or, MatchBool, Result, Ok, Err, OnOk}
+use Rattle.std.proofs.Common.{◌≡◌, ◌⊎◌, inl, inr, ◌<◌, ◌≤◌, ◌==◌, ◌++◌, ◌∷◌, [], ℕ, zero, suc, Bool, true, false, cond, List, length, map, take, filter, refl, sym, ap, subst, ◌∙◌, arith, append-nil}
+use Rattle.std.specs.Prelude.{nat_lt, is_ok, slice_index_or, MatchBool, Option, Some, None, Result, Ok, Err, OnOk}
 use Rattle.std.specs.List.{Contains}
 use Rattle.std.proofs.lemmas.Bool.{eq-eqb, ltb-false, ltb-true}
 use Rattle.std.proofs.lemmas.List.Concat.{flat_map-append}
@@ -135,24 +135,25 @@ known_mark known log mark on has =
     (subst (λ (ms : List Mark). Contains ms mark) (sym (flat_map-append marks_of known on.0)) (Contains-append_left (marks_in known) (marks_in on.0) mark has))
 
 -- the editor's last request was taken, so none stands behind it
-no_rest : (e : Editing) (first : State) (got : List Request) (log : List Notice) (y : Request) (ys : List Request) → e.put ≡ of e.session got ++ y ∷ ys → IsAtRest e → ArePosted first got log → IsPrefix e.known.log log → ⊥
-no_rest e first got log y ys put rests posted on =
-    ⊎_elim (λ none. some_behind (of e.session got) y ys (sym put ∙ none))
-    (λ told.
-    let found = marked_of first got log told.0 e.session told.1.0 posted (known_mark e.known.log log told.0 on told.1.1) in
+no_rest : (e : Editing) (last : Option Mark) (first : State) (got : List Request) (log : List Notice) (y : Request) (ys : List Request) → e.put ≡ of e.session got ++ y ∷ ys → IsAtRest e last → ArePosted first got log
+    → IsPrefix e.known.log log → ⊥
+no_rest e None first got log y ys put rests posted on = some_behind (of e.session got) y ys (sym put ∙ rests.told)
+no_rest e (Some mark) first got log y ys put rests posted on =
+    let told = rests.told in
+    let found = marked_of first got log mark e.session told.0.0 posted (known_mark e.known.log log mark on told.0.1) in
     last_in_front e.start (of e.session got) y ys found.0 (subst (λ (rs : List Request). RisesFrom e.start rs) put rests.rises) found.1
-    (found.2 ∙ (told.2 ∙ ap (λ (rs : List Request). last_or_start e.start rs) put)))
-    rests.told
+    (found.2 ∙ (told.1 ∙ ap (λ (rs : List Request). last_or_start e.start rs) put))
 
-all_by : (e : Editing) (first : State) (got : List Request) (log : List Notice) (rest : List Request) → e.put ≡ of e.session got ++ rest → ∥ IsAtRest e ∥₁ → ArePosted first got log → IsPrefix e.known.log log
-    → e.put ≡ of e.session got
-all_by e first got log [] put rests posted on = put ∙ append-nil (of e.session got)
-all_by e first got log (y ∷ ys) put rests posted on = absurd (∥∥₁_elim rests ⊥_prop (λ r. no_rest e first got log y ys put r posted on))
+all_by : (e : Editing) (last : Option Mark) (first : State) (got : List Request) (log : List Notice) (rest : List Request) → e.put ≡ of e.session got ++ rest → ∥ IsAtRest e last ∥₁ → ArePosted first got log
+    → IsPrefix e.known.log log → e.put ≡ of e.session got
+all_by e last first got log [] put rests posted on = put ∙ append-nil (of e.session got)
+all_by e last first got log (y ∷ ys) put rests posted on = absurd (∥∥₁_elim rests ⊥_prop (λ r. no_rest e last first got log y ys put r posted on))
 
 -- all that an editor put has been taken, where all that it knows is posted
-pub all_taken : (e : Editing) (first : State) (got waits : List Request) (log : List Notice) → e.put ≡ of e.session (got ++ waits) → ∥ IsAtRest e ∥₁ → ArePosted first got log → IsPrefix e.known.log log → e.put ≡ of e.session got
-all_taken e first got waits log put rests posted on =
-    all_by e first got log (of e.session waits) (put ∙ filter-append (λ (r : Request). r.session == e.session) got waits) rests posted on
+pub all_taken : (e : Editing) (last : Option Mark) (first : State) (got waits : List Request) (log : List Notice) → e.put ≡ of e.session (got ++ waits) → ∥ IsAtRest e last ∥₁ → ArePosted first got log → IsPrefix e.known.log log
+    → e.put ≡ of e.session got
+all_taken e last first got waits log put rests posted on =
+    all_by e last first got log (of e.session waits) (put ∙ filter-append (λ (r : Request). r.session == e.session) got waits) rests posted on
 
 -- ---- all sessions
 

@@ -9,7 +9,7 @@ use Rattle.std.proofs.lemmas.List.{map-append}
 use Rattle.written_values.specs.declared.line.ScriptLine.{ScriptLine}
 use Rattle.written_values.specs.declared.line.ScriptLine.TheVariants.{Edit, Route}
 use Rattle.live_lines.specs.declared.answer.Answer.{Answer}
-use Rattle.live_lines.specs.declared.answer.Answer.TheVariants.{Settled, AlreadyIn, Along, Unreachable, NoNode}
+use Rattle.live_lines.specs.declared.answer.Answer.TheVariants.{Settled, AlreadyIn, RefusedBefore, OldTicket, Along, Unreachable, NoNode}
 use Rattle.live_lines.specs.Answers.{Fits}
 use Rattle.service_workers.specs.Answers.{is_edit, is_verdict}
 use Rattle.service_workers.specs.declared.answer.Answer.{Answer as LineAnswer}
@@ -31,6 +31,8 @@ use Rattle.live_service.specs.declared.printed.PrintEnd.TheVariants.{Whole}
 same_kind : (l : ScriptLine) (answer : Answer) (a : LineAnswer) → Fits (line_asked l) answer → answer_of_line answer ≡ Some a → is_verdict a ≡ is_edit l
 same_kind (Edit session change) (Settled s t verdict) a fits is = subst (λ (o : Option LineAnswer). IfSome o (λ x. is_verdict x ≡ true)) is refl
 same_kind (Edit session change) (AlreadyIn s t) a fits is = absurd (cc)
+same_kind (Edit session change) (RefusedBefore s t op code) a fits is = absurd (cc)
+same_kind (Edit session change) (OldTicket s t) a fits is = absurd (cc)
 same_kind (Edit session change) _ a fits is = absurd fits
 same_kind (Route from to) (Along generation nodes length) a fits is = subst (λ (o : Option LineAnswer). IfSome o (λ x. is_verdict x ≡ false)) is refl
 same_kind (Route from to) (Unreachable generation) a fits is = subst (λ (o : Option LineAnswer). IfSome o (λ x. is_verdict x ≡ false)) is refl

@@ -1,5 +1,5 @@
 -- What the one list of postings says of what is asked for.
-use Rattle.std.specs.Prelude.{◌≡◌, ◌⊎◌, ◌<◌, ◌≤◌, ℕ, List, None, Result, Ok, Err}
+use Rattle.std.specs.Prelude.{◌≡◌, ◌<◌, ◌≤◌, ℕ, List, None, Result, Ok, Err}
 use Rattle.std.specs.List.{Contains}
 use Rattle.node_table.specs.declared.parts.Parts.{Parts}
 use Rattle.node_table.specs.declared.packet.Address.{Address}
@@ -11,6 +11,7 @@ use Rattle.node_table.specs.Service.{address_given, decide, node_step}
 use Rattle.generations.specs.Boards.{scheme_of}
 use Rattle.requests.specs.Tickets.{last_of}
 use Rattle.generations.specs.declared.posting.Mark.{Mark}
+use Rattle.generations.specs.declared.posting.Verdict.TheVariants as verdicts
 use Rattle.generations.specs.Notices.{marks_in}
 use Rattle.generations.specs.Beginnings.{Beginning, GoesOn, board_after}
 use Rattle.forwarders.specs.declared.refused.Refused.{Refused}
@@ -21,21 +22,32 @@ use Rattle.service_workers.specs.Forwarded.{HoldsOf, IsAnswerBy}
 use Rattle.live_lines.specs.declared.asked.Asked.{Asked}
 use Rattle.live_lines.specs.declared.asked.Asked.TheVariants as asks
 use Rattle.live_lines.specs.declared.answer.Answer.{Answer}
-use Rattle.live_lines.specs.declared.answer.Answer.TheVariants.{Settled, AlreadyIn, Along, Unreachable, NoNode, Told, Sent, Moved, NotCarried, Gone}
+use Rattle.live_lines.specs.declared.answer.Answer.TheVariants.{Settled, AlreadyIn, RefusedBefore, OldTicket, Along, Unreachable, NoNode, Told, Sent, Moved, NotCarried, Gone}
 use Rattle.live_lines.specs.Answers.{Fits}
 use Rattle.live_service.specs.Inputs.{Input}
 use Rattle.live_service.specs.Streams.{AreEachAt, IsAskedAt}
 
 -- ---- by a whole list
 
--- the session's tickets start at this one or behind it, or a mark of the session has this ticket or a later one
-abbrev pub IsOldIn : Beginning → ℕ → ℕ → Type 0
-IsOldIn all session ticket = (ticket ≤ last_of all.opening.starts session) ⊎ ((mark : Mark) × Contains (marks_in all.log) mark × (mark.session ≡ session) × (ticket ≤ mark.ticket))
+-- the session's last ticket that is in on the board after this beginning: the last one that was accepted, or where its tickets start
+abbrev pub last_in : Beginning → ℕ → ℕ
+last_in seen session = last_of (board_after seen).accepted session
 
--- the verdict of an edit is one of the list's marks, under the session and the ticket that are told; or the ticket was taken before
+-- after some beginning of the list the ticket was at most the session's last one that was in
+abbrev pub WasIn : Beginning → ℕ → ℕ → Type 0
+WasIn all session ticket = (seen : Beginning) × GoesOn seen all × (ticket ≤ last_in seen session)
+
+-- after some beginning of the list, which has this mark, the session's ticket wasn't in
+abbrev pub WasOut : Beginning → ℕ → ℕ → Mark → Type 0
+WasOut all session ticket mark = (seen : Beginning) × GoesOn seen all × (last_in seen session < ticket) × Contains (marks_in seen.log) mark
+
+-- The verdict of an edit is one of the list's marks, under the session and the ticket that are told. Of one that was refused before it is
+-- that mark again, by which it isn't in; an old ticket isn't in by a mark of the session that has a later ticket.
 abbrev pub IsVerdictIn : Beginning → Answer → Type 0
 IsVerdictIn all (Settled session ticket verdict) = Contains (marks_in all.log) (record { session = session; ticket = ticket; verdict = verdict })
-IsVerdictIn all (AlreadyIn session ticket) = IsOldIn all session ticket
+IsVerdictIn all (AlreadyIn session ticket) = WasIn all session ticket
+IsVerdictIn all (RefusedBefore session ticket op code) = WasOut all session ticket (record { session = session; ticket = ticket; verdict = verdicts.Refused op code })
+IsVerdictIn all (OldTicket session ticket) = (mark : Mark) × (mark.session ≡ session) × (ticket < mark.ticket) × WasOut all session ticket mark
 IsVerdictIn all other = Unit {0}
 
 -- a route is the way that a packet goes by the scheme that the list has for the generation; or that scheme has none, or not both nodes

@@ -2,7 +2,7 @@
 ghost use Rattle.std.specs.Prelude.{◌≡◌, [], IfSome};
 ghost use Rattle.service_workers.specs.Edited.{IsSameEditor};
 ghost use Rattle.live_lines.specs.Answers.{Fits};
-ghost use Rattle.live_service.specs.OneList.{AnswersBy};
+ghost use Rattle.live_service.specs.OneList.{IsSaidBy};
 ghost use Rattle.live_service.specs.Submits.{ComesBack, HasPutFor};
 
 use crate::exchange::Exchange;
@@ -31,7 +31,8 @@ fn edited<B: Naming, R: Wait>(
     ticket: Option<u64>,
     change: Change,
 ) -> Option<(SessionEditor<B>, Answer)>
-    ensures answers { IfSome result (λ r. AnswersBy r.0.editor.known (Asked.Edit session ticket change) r.1) }
+    ensures fits { IfSome result (λ r. Fits (Asked.Edit session ticket change) r.1) }
+    ensures said { IfSome result (λ r. ∥ IsSaidBy r.0.editor.known (Asked.Edit session ticket change) r.1 ∥₁) }
     ensures same { IfSome result (λ r. IsSameEditor editor.editor r.0.editor) }
     ensures put { IfSome result (λ r. HasPutFor (Asked.Edit session ticket change) r.1 editor.editor r.0.editor) }
 {
@@ -39,6 +40,7 @@ fn edited<B: Naming, R: Wait>(
         coordinator.stop(rt, StopCause::Internal);
         return None;
     }
+    let named = ticket.is_some();
     let (editor, ticket, end) = editor.edit(rt, coordinator, ticket, change)?;
     match end {
         EditEnd::Settled(mark) => {
@@ -50,9 +52,24 @@ fn edited<B: Naming, R: Wait>(
             };
             Some((editor, answer))
         }
-        EditEnd::AlreadyIn => Some((editor, Answer::AlreadyIn { session, ticket })),
         EditEnd::PastLimit => {
             coordinator.stop(rt, StopCause::Worn);
+            None
+        }
+        EditEnd::AlreadyIn if named => Some((editor, Answer::AlreadyIn { session, ticket })),
+        EditEnd::RefusedBefore { op, code } if named => {
+            let answer = Answer::RefusedBefore {
+                session,
+                ticket,
+                op,
+                code,
+            };
+            Some((editor, answer))
+        }
+        EditEnd::OldTicket if named => Some((editor, Answer::OldTicket { session, ticket })),
+        // The ticket behind the last one is new.
+        _ => {
+            coordinator.stop(rt, StopCause::Internal);
             None
         }
     }
@@ -65,7 +82,8 @@ fn answer_of<B: Naming, R: Wait>(
     editor: SessionEditor<B>,
     asked: Asked,
 ) -> Option<(SessionEditor<B>, Answer)>
-    ensures answers { IfSome result (λ r. AnswersBy r.0.editor.known asked r.1) }
+    ensures fits { IfSome result (λ r. Fits asked r.1) }
+    ensures said { IfSome result (λ r. ∥ IsSaidBy r.0.editor.known asked r.1 ∥₁) }
     ensures same { IfSome result (λ r. IsSameEditor editor.editor r.0.editor) }
     ensures put { IfSome result (λ r. HasPutFor asked r.1 editor.editor r.0.editor) }
 {

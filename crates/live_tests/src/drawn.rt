@@ -80,6 +80,7 @@ fn put_answer(rt: &impl Abort, text: &mut String, session: u64, answer: PlainAns
             )
         }
         PlainAnswer::AlreadyIn(ticket) => got(rt, writeln!(text, "{session} {ticket} already in")),
+        PlainAnswer::OldTicket(ticket) => got(rt, writeln!(text, "{session} {ticket} old ticket")),
     }
 }
 

@@ -1,11 +1,12 @@
 // A plain network of sessions, each with three edges of its own, which shares no code with the service.
 
-/// The weights of a session's three edges, 0 where there is none; the last ticket that it submitted, and the last one that was
-/// accepted.
+/// The weights of a session's three edges, 0 where there is none; the last ticket that it submitted, the op and the code of the last
+/// refusal, and the last ticket that was accepted.
 #[derive(Clone, Copy)]
 pub(crate) struct PlainSession {
     pub(crate) weights: [u64; 3],
     pub(crate) last: u64,
+    pub(crate) refusal: (u64, u64),
     pub(crate) accepted: u64,
 }
 
@@ -24,6 +25,7 @@ pub(crate) enum PlainAnswer {
     /// The ticket, the op and the code.
     Refused(u64, u64, u64),
     AlreadyIn(u64),
+    OldTicket(u64),
 }
 
 // Why an op is refused, 0 where it isn't.
@@ -60,6 +62,7 @@ impl PlainSession {
         PlainSession {
             weights: [0; 3],
             last: 0,
+            refusal: (0, 0),
             accepted: 0,
         }
     }
@@ -71,8 +74,14 @@ impl PlainSession {
         } else {
             ticket
         };
-        if ticket <= self.last {
+        if ticket <= self.accepted {
             return PlainAnswer::AlreadyIn(ticket);
+        }
+        if ticket < self.last {
+            return PlainAnswer::OldTicket(ticket);
+        }
+        if ticket == self.last {
+            return PlainAnswer::Refused(ticket, self.refusal.0, self.refusal.1);
         }
         self.last = ticket;
         match after(&self.weights, ops) {
@@ -81,7 +90,10 @@ impl PlainSession {
                 self.accepted = ticket;
                 PlainAnswer::Accepted(ticket)
             }
-            Err((op, code)) => PlainAnswer::Refused(ticket, op, code),
+            Err((op, code)) => {
+                self.refusal = (op, code);
+                PlainAnswer::Refused(ticket, op, code)
+            }
         }
     }
 }

@@ -56,7 +56,7 @@ const TICKETS: [Row<'static>; 16] = [
     (b"edit 0 - add:3:3:1", "0 4 refused op=0 code=2"),
     (b"edit 0 9 add:3:4:0", "0 9 refused op=0 code=3"),
     (b"edit 0 - cut:3:4", "0 10 refused op=0 code=5"),
-    (b"edit 0 9 add:3:4:1", "0 9 already in"),
+    (b"edit 0 9 add:3:4:1", "0 9 old ticket"),
     (b"edit 0 - set:0:1:5 cut:2:3", "0 11 accepted count=3"),
     (
         b"resume 0\nresume 1",
@@ -69,6 +69,52 @@ const TICKETS: [Row<'static>; 16] = [
 #[test]
 fn tickets_and_refusals(rt: HostRuntime) {
     expect_rows(&rt, rt.alloc(), &TICKETS, (3, 2, 11));
+}
+
+// Lines that are sent again, as if their answers had been lost. A refused change isn't in: its ticket is refused again, whatever the change,
+// until a later ticket is in.
+const SENT_AGAIN: [Row<'static>; 17] = [
+    (b"edit 1 5 cut:0:1", "1 5 refused op=0 code=5"),
+    (b"edit 1 5 cut:0:1", "1 5 refused op=0 code=5"),
+    (b"resume 1", "session=1 ticket=0"),
+    (b"edit 1 4 add:0:1:1", "1 4 old ticket"),
+    (b"edit 1 5 add:0:1:1", "1 5 refused op=0 code=5"),
+    (b"edit 0 5 add:3:4:1 add:4:3:2", "0 5 refused op=1 code=4"),
+    (b"edit 0 5 add:3:4:1", "0 5 refused op=1 code=4"),
+    (b"edit 0 - add:3:4:0", "0 6 refused op=0 code=3"),
+    (b"edit 0 5 add:3:4:1", "0 5 old ticket"),
+    (b"edit 0 6 add:3:4:1", "0 6 refused op=0 code=3"),
+    (b"edit 1 6 add:0:1:1", "1 6 accepted count=1"),
+    (
+        b"edit 1 6 add:0:1:1\nedit 1 5 cut:0:1\nedit 1 4 cut:0:1",
+        "1 6 already in\n1 5 already in\n1 4 already in",
+    ),
+    (b"edit 1 7 add:1:2:1", "1 7 accepted count=2"),
+    (
+        b"edit 1 9 add:1:2:1\nedit 1 8 add:2:3:1\nedit 1 7 add:1:2:1",
+        "1 9 refused op=0 code=4\n1 8 old ticket\n1 7 already in",
+    ),
+    (
+        b"resume 0\nresume 1",
+        "session=0 ticket=0\nsession=1 ticket=7",
+    ),
+    (b"wait", "generation=2"),
+    (b"state", "count=2 generation=2 queue=0"),
+];
+
+// Where the device is opened again, a ticket that was refused is a new one.
+const SENT_LATER: [Row<'static>; 3] = [
+    (b"edit 1 7 add:1:2:1", "1 7 already in"),
+    (b"edit 1 8 add:2:3:1", "1 8 accepted count=3"),
+    (b"edit 0 1 add:3:4:1", "0 1 accepted count=4"),
+];
+
+#[test]
+fn lines_that_are_sent_again(rt: HostRuntime) {
+    let alloc = rt.alloc();
+    let disk = expect_talk(&rt, alloc, fresh(&rt, alloc, 5), &SETUP, &SENT_AGAIN);
+    let disk = expect_talk(&rt, alloc, disk, &SETUP, &SENT_LATER);
+    holds(&rt, &reopened(&rt, alloc, disk), (4, 4, 1));
 }
 
 // The path of five nodes, whose landmark is 2. In its tree 2 has number 0, 1 and 0 have 1 and 2, 3 and 4 have 3 and 4; the light

@@ -8,7 +8,7 @@ use Rattle.generations.specs.declared.posting.Mark.{Mark}
 use Rattle.intake.specs.Editors.{Editing}
 use Rattle.intake.specs.Turns.{last_asked, last_or_start}
 use Rattle.intake.proofs.Refusals.{asked_push}
-use Rattle.service_workers.specs.Edited.{IsEdited, IsSameEditor}
+use Rattle.service_workers.specs.Edited.{IsSameEditor}
 use Rattle.service_workers.specs.Settled.{IsMarkOf}
 use Rattle.service_workers.specs.declared.session_editor.EditEnd.TheVariants.{Settled}
 use Rattle.service_workers.specs.declared.session_editor.Put.TheVariants as tried
@@ -39,7 +39,3 @@ settled_as_asked old put now change ticket mark one two none asked marked = (
   marked_under now mark old.put old.session ticket change (none ∙ asked.0) marked,
   asked.1,
 )
-
--- the session's last ticket behind a change that is settled
-pub last_settled : (old now : Editing) (change : List Op) (ticket : ℕ) (mark : Mark) → IsEdited old change now mark → mark.ticket ≡ ticket → ticket ≡ last_or_start now.start now.put
-last_settled old now change ticket mark edited same = sym same ∙ last_after now.put old.put now.start old.session mark.ticket change edited.put

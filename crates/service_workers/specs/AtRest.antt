@@ -1,21 +1,26 @@
 -- What holds of an editor between two changes.
-use Rattle.std.specs.Prelude.{◌≡◌, ◌⊎◌, ◌<◌, ℕ, List, [], ◌∷◌}
+use Rattle.std.specs.Prelude.{◌≡◌, ◌<◌, ℕ, List, [], ◌∷◌, Option, Some, None}
 use Rattle.requests.specs.declared.request.Request.{Request}
 use Rattle.generations.specs.declared.posting.Mark.{Mark}
 use Rattle.intake.specs.Editors.{Editing}
-use Rattle.intake.specs.Turns.{last_or_start}
-use Rattle.service_workers.specs.Edited.{IsTold}
+use Rattle.service_workers.specs.Edited.{IsLastMark}
 
 -- each ticket is above the one before, and the first is above this one
 abbrev pub RisesFrom : ℕ → List Request → Type 0
 RisesFrom start [] = Unit {0}
 RisesFrom start (r ∷ rs) = (start < r.ticket) × RisesFrom r.ticket rs
 
--- nothing was submitted, or the mark of the last ticket stands in what the editor knows of the board's list
-abbrev pub IsLastTold : Editing → Type 0
-IsLastTold e = (e.put ≡ []) ⊎ ((mark : Mark) × IsTold e.session e.known mark × (mark.ticket ≡ last_or_start e.start e.put))
+-- nothing was submitted, or the last change has this mark, in what the editor knows of the board's list
+abbrev pub IsLastTold : Editing → Option Mark → Type 0
+IsLastTold e None = e.put ≡ []
+IsLastTold e (Some mark) = IsLastMark e e.known mark
 
--- All that it submitted is settled.
-pub record IsAtRest (e : Editing) : Type 0 where
+-- the ticket of the last change by its mark, or the start
+abbrev pub last_by : Option Mark → ℕ → ℕ
+last_by None start = start
+last_by (Some mark) start = mark.ticket
+
+-- All that it submitted is settled, the last change by this mark.
+pub record IsAtRest (e : Editing) (last : Option Mark) : Type 0 where
   pub rises : RisesFrom e.start e.put
-  pub told : IsLastTold e
+  pub told : IsLastTold e last

@@ -1,16 +1,16 @@
 // An editor that takes its changes one at a time, as they are asked for.
 ghost use Rattle.std.specs.Prelude.{◌≡◌, [], IfSome};
 ghost use Rattle.requests.specs.Tickets.{last_of};
-ghost use Rattle.intake.specs.Turns.{last_or_start};
 ghost use Rattle.service_workers.specs.Edited.{IsSameEditor};
-ghost use Rattle.service_workers.specs.EditedAsAsked.{HasPut, IsEditEnd, asked_ticket};
-ghost use Rattle.service_workers.specs.AtRest.{IsAtRest};
+ghost use Rattle.service_workers.specs.EditedAsAsked.{HasPut, IsEditEnd, IsToldBefore, asked_ticket};
+ghost use Rattle.service_workers.specs.AtRest.{IsAtRest, last_by};
 
 use crate::coordinator::Coordinator;
 use crate::editing::settled;
+use crate::stop_cause::StopCause;
 use crate::told::Naming;
 use generations::{History, Mark, Verdict};
-use graph_edits::Change;
+use graph_edits::{Change, Code};
 use intake::{Editor, SubmitRefused};
 use std::marker::PhantomData;
 use std::sync::Wait;
@@ -20,6 +20,7 @@ use std::thread;
 #[derive(Clone, Copy, Drop)]
 enum Put {
     In,
+    AlreadyIn,
     Old,
     PastLimit,
 }
@@ -29,8 +30,12 @@ enum Put {
 pub enum EditEnd {
     /// It is settled.
     Settled(Mark),
-    /// Nothing was submitted: the ticket is at most the last one that is in, or that was submitted.
+    /// Nothing was submitted: the ticket is at most the last one that is in.
     AlreadyIn,
+    /// Nothing was submitted: the ticket is the last one that was, and was refused then, by the op at this place.
+    RefusedBefore { op: usize, code: Code },
+    /// Nothing was submitted: the ticket isn't in, and a later one was submitted.
+    OldTicket,
     /// Nothing was submitted: the ticket is past its limit.
     PastLimit,
 }
@@ -39,16 +44,15 @@ pub enum EditEnd {
 #[derive(Drop)]
 pub struct SessionEditor<J: Naming> {
     editor: Editor,
-    // The last ticket that was submitted, or the start.
-    last: u64,
+    // The mark of the last change that was submitted.
+    told: Option<Mark>,
     // The last ticket that was accepted, or the start.
     accepted: u64,
     of: PhantomData<J>,
     ghost named: { editor.known.opening ≡ J.opening },
-    ghost last_is: { last ≡ last_or_start editor.start editor.put },
     ghost start_is: { editor.start ≡ last_of J.opening.starts editor.session },
     // All that it submitted is settled.
-    ghost at_rest: { ∥ IsAtRest editor ∥₁ },
+    ghost at_rest: { ∥ IsAtRest editor told ∥₁ },
 }
 
 // Puts a change into the queue, under this ticket, unless that is refused. Without an answer all stop.
@@ -84,7 +88,7 @@ fn put_as_asked<J: Naming, R: Wait>(
                 change = back;
                 coordinator.await_news(rt, news.turn);
             }
-            Err((SubmitRefused::AlreadyIn, _)) => return Some(Put::Old),
+            Err((SubmitRefused::AlreadyIn, _)) => return Some(Put::AlreadyIn),
             Err((SubmitRefused::OldTicket, _)) => return Some(Put::Old),
             Err((SubmitRefused::Worn, _)) => return Some(Put::PastLimit),
         }
@@ -92,22 +96,55 @@ fn put_as_asked<J: Naming, R: Wait>(
     unreachable!()
 }
 
-// One change under a ticket that is asked for. Without an answer all stop.
+// The last ticket that was submitted, by its mark, or the start.
+fn last_ticket(editor: &Editor, told: &Option<Mark>) -> u64
+    ensures { result ≡ last_by told.now editor.now.start }
+{
+    match told {
+        Some(mark) => mark.ticket,
+        None => editor.resume(),
+    }
+}
+
+// What is said of a ticket that isn't in, but at most the last one that was submitted: that has this mark. None where the last one is in.
+fn told_before(told: Option<Mark>, ticket: u64) -> Option<EditEnd>
+    ensures { IfSome result (λ end. IsToldBefore told ticket end) }
+{
+    let mark = told?;
+    match mark.verdict {
+        _ if ticket < mark.ticket => Some(EditEnd::OldTicket),
+        Verdict::Refused { op, code } if ticket == mark.ticket => {
+            Some(EditEnd::RefusedBefore { op, code })
+        }
+        _ => None,
+    }
+}
+
+// One change under a ticket that is asked for, by an editor whose last change has this mark. Without an answer all stop.
 fn edit_as_asked<J: Naming, R: Wait>(
     rt: &R,
     coordinator: &Coordinator<J>,
     editor: &mut Editor,
+    told: Option<Mark>,
     ticket: u64,
     change: Change,
 ) -> Option<EditEnd>
-    requires { editor.old.known.opening ≡ J.opening }
+    requires known { editor.old.known.opening ≡ J.opening }
+    requires at_rest { ∥ IsAtRest editor.old told ∥₁ }
     ensures same { IsSameEditor editor.old editor.new }
     ensures known { editor.new.known.opening ≡ J.opening }
     ensures ended { IfSome result (λ end. IsEditEnd editor.old ticket change editor.new end) }
 {
     match put_as_asked(rt, coordinator, editor, ticket, change)? {
         Put::In => Some(EditEnd::Settled(settled(rt, coordinator, editor)?)),
-        Put::Old => Some(EditEnd::AlreadyIn),
+        Put::AlreadyIn => Some(EditEnd::AlreadyIn),
+        Put::Old => {
+            let end = told_before(told, ticket);
+            if end.is_none() {
+                coordinator.stop(rt, StopCause::Internal);
+            }
+            end
+        }
         Put::PastLimit => Some(EditEnd::PastLimit),
     }
 }
@@ -124,7 +161,7 @@ impl<J: Naming> SessionEditor<J> {
         let start = editor.resume();
         SessionEditor {
             editor,
-            last: start,
+            told: None,
             accepted: start,
             of: PhantomData,
         }
@@ -153,12 +190,12 @@ impl<J: Naming> SessionEditor<J> {
     /// The editor itself, which has submitted just what it was asked to.
     pub fn into_editor(self) -> Editor
         ensures same { result ≡ self.editor }
-        ensures at_rest { ∥ IsAtRest result ∥₁ }
+        ensures at_rest { ∥ IsAtRest result self.told ∥₁ }
     {
         self.editor
     }
 
-    #[tactic(auto, using(crate::proofs::Resting::rests_still))]
+    #[tactic(auto, using(crate::proofs::Resting::last_resting, crate::proofs::Resting::rests_still))]
     /// Submits a change under a ticket, or where none is named under the one behind the last, and waits for its mark. Gives the
     /// editor back, with the ticket and what came of the change. None where all stop.
     pub fn edit<R: Wait>(
@@ -174,28 +211,32 @@ impl<J: Naming> SessionEditor<J> {
     {
         let SessionEditor {
             mut editor,
-            last,
+            told,
             accepted,
             of,
         } = self;
+        let last = last_ticket(&editor, &told);
         let ticket = match ticket {
             Some(ticket) => ticket,
             None => last.saturating_add(1),
         };
-        match edit_as_asked(rt, coordinator, &mut editor, ticket, change)? {
+        match edit_as_asked(rt, coordinator, &mut editor, told, ticket, change)? {
             EditEnd::Settled(mark) => {
                 let editor = SessionEditor {
                     editor,
-                    last: ticket,
+                    told: Some(mark),
                     accepted: accepted_by(&mark, accepted),
                     of,
                 };
                 Some((editor, ticket, EditEnd::Settled(mark)))
             }
-            end @ (EditEnd::AlreadyIn | EditEnd::PastLimit) => {
+            end @ (EditEnd::AlreadyIn
+            | EditEnd::RefusedBefore { .. }
+            | EditEnd::OldTicket
+            | EditEnd::PastLimit) => {
                 let editor = SessionEditor {
                     editor,
-                    last,
+                    told,
                     accepted,
                     of,
                 };

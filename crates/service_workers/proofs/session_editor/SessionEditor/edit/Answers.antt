@@ -1,7 +1,6 @@
 use Rattle.std.proofs.Common.{subst}
 use Rattle.service_workers.specs.declared.session_editor.EditEnd.{EditEnd}
 use Rattle.service_workers.specs.EditedAsAsked.{IsEditEnd}
-use Rattle.service_workers.proofs.AsAsked.{last_settled}
 use Rattle.service_workers.proofs.Resting.{rests_settled}
 use Rattle.service_workers.proofs.session_editor.SessionEditor.edit.Goals as goal
 
@@ -10,11 +9,4 @@ invariant_of-editor-clause-at_rest g c =
     let old = c.args.self.editor in
     let new = c.edit_as_asked.new.editor in
     let end = subst (λ (e : EditEnd). IsEditEnd old c.match-ticket.ticket c.args.change new e) c.in-Settled.is c.in_ok-end.ensures.ended in
-    rests_settled old new c.args.change c.match-ticket.ticket c.in-Settled.mark c.in_ok-end.ensures.same end.0 end.1 end.2 c.args.self.at_rest
-
-pub invariant_of-editor-clause-last_is : goal.invariant_of-editor-clause-last_is
-invariant_of-editor-clause-last_is g c =
-    let old = c.args.self.editor in
-    let new = c.edit_as_asked.new.editor in
-    let end = subst (λ (e : EditEnd). IsEditEnd old c.match-ticket.ticket c.args.change new e) c.in-Settled.is c.in_ok-end.ensures.ended in
-    last_settled old new c.args.change c.match-ticket.ticket c.in-Settled.mark end.0 end.1
+    rests_settled old new c.args.self.told c.args.change c.match-ticket.ticket c.in-Settled.mark c.in_ok-end.ensures.same end.0 end.1 end.2 c.args.self.at_rest
