@@ -1,3 +1,3 @@
+pub mod OneRound
 pub mod OneRequest
 pub mod OpenFaults
-pub mod OldForms

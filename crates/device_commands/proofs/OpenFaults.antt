@@ -43,6 +43,7 @@ device_alone Memory is = absurd (cc)
 pub change_tells : (fault : Fault) (content : List ℕ) → IsChangeFault fault → TellsOf fault content
 change_tells fault.Device content is = tt
 change_tells fault.Memory content is = tt
+change_tells fault.NoThread content is = tt
 change_tells fault.Internal content is = tt
 change_tells fault.Worn content is = tt
 change_tells fault.AlreadyIn content is = tt
@@ -52,27 +53,30 @@ change_tells _ content is = absurd is
 pub change_edits : (fault : Fault) → IsChangeFault fault → IsEditFault fault
 change_edits fault.Device is = tt
 change_edits fault.Memory is = tt
+change_edits fault.NoThread is = tt
 change_edits fault.Internal is = tt
 change_edits fault.Worn is = tt
 change_edits fault.AlreadyIn is = tt
 change_edits _ is = absurd is
 
--- of them these two alone are told where nothing was written
-unwritten_by : (f : Fault) (P : Type 0) → IsChangeFault f → (f ≡ fault.AlreadyIn → P) → (f ≡ fault.Worn → P) → IsUnwrittenFault f → P
-unwritten_by fault.Device P is told worn un = absurd un
-unwritten_by fault.Memory P is told worn un = absurd un
-unwritten_by fault.Internal P is told worn un = absurd un
-unwritten_by fault.Worn P is told worn un = worn refl
-unwritten_by fault.AlreadyIn P is told worn un = told refl
-unwritten_by _ P is told worn un = absurd is
+-- of them these three alone are told where nothing was written
+unwritten_by : (f : Fault) (P : Type 0) → IsChangeFault f → (f ≡ fault.AlreadyIn → P) → (f ≡ fault.Worn → P) → (f ≡ fault.NoThread → P) → IsUnwrittenFault f → P
+unwritten_by fault.Device P is told worn thread un = absurd un
+unwritten_by fault.Memory P is told worn thread un = absurd un
+unwritten_by fault.NoThread P is told worn thread un = thread refl
+unwritten_by fault.Internal P is told worn thread un = absurd un
+unwritten_by fault.Worn P is told worn thread un = worn refl
+unwritten_by fault.AlreadyIn P is told worn thread un = told refl
+unwritten_by _ P is told worn thread un = absurd is
 
-pub change_unwritten : {A : Type 0} (r : Result A Fault) (P : Type 0) → IfErr r (λ f. IsChangeFault f) → (IsErrOf r fault.AlreadyIn → P) → (IsErrOf r fault.Worn → P) → IfErr r (λ f. IsUnwrittenFault f → P)
-change_unwritten (Ok a) P is told worn = tt
-change_unwritten (Err f) P is told worn = unwritten_by f P is (λ same. told (ap Err same)) (λ same. worn (ap Err same))
+pub change_unwritten : {A : Type 0} (r : Result A Fault) (P : Type 0) → IfErr r (λ f. IsChangeFault f) → (IsErrOf r fault.AlreadyIn → P) → (IsErrOf r fault.Worn → P) → (IsErrOf r fault.NoThread → P) → IfErr r (λ f. IsUnwrittenFault f → P)
+change_unwritten (Ok a) P is told worn thread = tt
+change_unwritten (Err f) P is told worn thread = unwritten_by f P is (λ same. told (ap Err same)) (λ same. worn (ap Err same)) (λ same. thread (ap Err same))
 
 -- a queue's are a desk's
 pub queue_desk : (fault : Fault) → IsQueueFault fault → IsDeskFault fault
 queue_desk fault.Memory is = tt
+queue_desk fault.NoThread is = tt
 queue_desk fault.Internal is = tt
 queue_desk fault.Device is = absurd is
 queue_desk fault.Worn is = absurd is
@@ -82,6 +86,7 @@ queue_desk _ is = absurd is
 pub desk_changes : (fault : Fault) → IsDeskFault fault → IsChangeFault fault
 desk_changes fault.Device is = tt
 desk_changes fault.Memory is = tt
+desk_changes fault.NoThread is = tt
 desk_changes fault.Internal is = tt
 desk_changes fault.Worn is = tt
 desk_changes _ is = absurd is
@@ -90,6 +95,7 @@ desk_changes _ is = absurd is
 pub open_edits : (fault : Fault) → IsOpenFault fault → IsEditFault fault
 open_edits fault.Worn is = tt
 open_edits fault.AlreadyIn is = tt
+open_edits fault.NoThread is = tt
 open_edits fault.Internal is = tt
 open_edits fault.NotFormatted is = tt
 open_edits fault.LayoutNotKnown is = tt
@@ -145,6 +151,7 @@ not_edited session named change disk left f told = record {
     already_in = λ is. absurd (never_told f fault.AlreadyIn (λ x. x) told.fault is);
     worn = λ is. absurd (never_told f fault.Worn (λ x. x) told.fault is);
     refused = λ refused. told.reads model;
+    decided = λ keeps not. inl (λ image may. keeps image ((told.reads model).left image may));
     any_moment = λ keeps. reading_leaves disk left _ (told.reads model) (λ image may. inl (keeps image may));
   };
   unwritten = λ model un. told.reads model;

@@ -9,7 +9,7 @@ use Rattle.checkpoint.specs.declared.store.Store.{Store}
 use Rattle.checkpoint.specs.StoreWords.{state_of, view_of, is_down}
 use Rattle.generations.specs.declared.posting.Verdict.{Verdict}
 use Rattle.command_output.specs.declared.fault.Fault.{Fault}
-use Rattle.command_output.specs.declared.fault.Fault.TheVariants.{AlreadyIn, Device, Worn}
+use Rattle.command_output.specs.declared.fault.Fault.TheVariants.{AlreadyIn, Device, NoThread, Worn}
 use Rattle.device_commands.specs.Answer.{IsNew, IsTaken, last_ticket, state_after, ticket_of, verdict_of}
 use Rattle.device_commands.specs.Openings.{IsEditFault, IsUnwrittenFault, OfContent, TellsOf}
 
@@ -28,7 +28,11 @@ pub record IsSettledTo {D : Type 0} {V : _} (next : State) (change : List Op) (o
   -- nothing is written where the graph refuses the change, or a limit is reached
   pub refused : ¬ (IsTaken (state_of old) change) → new ≡ old
   pub worn_leaves : IsErrOf result Worn → new ≡ old
+  -- nor where no thread is to be had
+  pub threadless : IsErrOf result NoThread → new ≡ old
   pub device : IsErrOf result Device → (view_of old).failures < (view_of new).failures
+  -- unless the device failed it goes on, in the one state or the other
+  pub decided : ¬ (IsErrOf result Device) → (is_down new ≡ false) × ((state_of new ≡ state_of old) ⊎ (state_of new ≡ next))
   pub ran : IsSameDevice (view_of old) (view_of new)
   -- a crash at any moment leaves the state before the change or the one after it
   pub any_moment : IsTrue (view_of old).keeps_model → LeavesOnly (view_of old) (view_of new) (λ image. StandsFor (state_of old) image ⊎ StandsFor next image)
@@ -45,6 +49,8 @@ pub record EditsState (session : ℕ) (named : Option ℕ) (change : List Op) (d
   pub worn : IsErrOf result Worn → IsPastLimits state session named change
   -- a change that the graph refuses writes nothing
   pub refused : ¬ (IsTaken state change) → OnlyRead disk back
+  -- unless the device failed, it stands from then on for the one state or for the other, whatever a crash leaves
+  pub decided : KeepsThrough disk state → ¬ (IsErrOf result Device) → KeepsThrough back state ⊎ KeepsThrough back (state_after state session named change)
   -- a crash at any moment leaves the state before the change or the one after it
   pub any_moment : KeepsThrough disk state → LeavesOnly disk back (λ image. StandsFor state image ⊎ StandsFor (state_after state session named change) image)
 

@@ -11,7 +11,7 @@ use Rattle.layout_2.specs.State.{State}
 use Rattle.layout_2.specs.Standing.{StandsFor, StandsForNone}
 use Rattle.command_output.specs.Lines.{listing_text}
 use Rattle.command_output.specs.declared.fault.Fault.{Fault}
-use Rattle.command_output.specs.declared.fault.Fault.TheVariants.{NodeCount, DeviceLength, NotFormatted, LayoutNotKnown, Damaged, Device, Memory, Internal, Worn, AlreadyIn}
+use Rattle.command_output.specs.declared.fault.Fault.TheVariants.{NodeCount, DeviceLength, NotFormatted, LayoutNotKnown, Damaged, Device, Memory, NoThread, Internal, Worn, AlreadyIn}
 
 -- where a device keeps the model, this holds of the state for which its content stands
 abbrev pub OfContent : DiskView → (State → Type 0) → Type 0
@@ -48,11 +48,16 @@ IsOpenFault Device = Unit {0}
 IsOpenFault Memory = Unit {0}
 IsOpenFault fault = ⊥
 
--- the faults of a change on its way through the queue
+-- the faults of an outcome that tells no verdict
+abbrev pub IsOutcomeFault : Fault → Type 0
+IsOutcomeFault Memory = Unit {0}
+IsOutcomeFault Internal = Unit {0}
+IsOutcomeFault fault = ⊥
+
+-- the faults of a change on its way into the queue
 abbrev pub IsQueueFault : Fault → Type 0
-IsQueueFault Memory = Unit {0}
-IsQueueFault Internal = Unit {0}
-IsQueueFault fault = ⊥
+IsQueueFault NoThread = Unit {0}
+IsQueueFault fault = IsOutcomeFault fault
 
 -- the faults of a change on a device that is open
 abbrev pub IsDeskFault : Fault → Type 0
@@ -69,6 +74,7 @@ IsChangeFault fault = IsDeskFault fault
 abbrev pub IsEditFault : Fault → Type 0
 IsEditFault Worn = Unit {0}
 IsEditFault AlreadyIn = Unit {0}
+IsEditFault NoThread = Unit {0}
 IsEditFault Internal = Unit {0}
 IsEditFault fault = IsOpenFault fault
 
@@ -77,6 +83,7 @@ abbrev pub IsUnwrittenFault : Fault → Type 0
 IsUnwrittenFault NotFormatted = Unit {0}
 IsUnwrittenFault LayoutNotKnown = Unit {0}
 IsUnwrittenFault Damaged = Unit {0}
+IsUnwrittenFault NoThread = Unit {0}
 IsUnwrittenFault AlreadyIn = Unit {0}
 IsUnwrittenFault Worn = Unit {0}
 IsUnwrittenFault fault = ⊥

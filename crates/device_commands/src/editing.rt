@@ -1,13 +1,12 @@
 //! One change of a device.
 ghost use Rattle.std.specs.Prelude.{◌≡◌, ◌<◌, ◌≤◌, ◌⊎◌, ◌↔◌, IfOk, IfErr, IsErrOf, OnOk, false};
 ghost use Rattle.requests.specs.Tickets.{sessions, worn_limit};
-ghost use Rattle.layout_2.specs.State.{IsNext};
 ghost use Rattle.checkpoint.specs.StoreWords.{state_of, is_down};
-ghost use Rattle.device_commands.specs.Answer.{state_after, state_by, ticket_of, IsNew, IsTaken};
+ghost use Rattle.device_commands.specs.Answer.{state_after, ticket_of, IsNew};
 ghost use Rattle.device_commands.specs.Edits.{EditsDevice, IsPastLimits, IsSettledTo};
-ghost use Rattle.device_commands.specs.Openings.{IsChangeFault, IsDeskFault};
+ghost use Rattle.device_commands.specs.Openings.{IsChangeFault};
 
-use crate::one_request::{settled, submitted};
+use crate::one_round::settled;
 use crate::opening::open;
 use checkpoint::{Store, WORN_LIMIT, standing_law};
 use command_output::Fault;
@@ -67,7 +66,7 @@ fn settle_one<D: Disk, R: Threads + Wait + Sync>(
                 ticket,
                 change,
             };
-            commit_one(rt, alloc, store, request)
+            settled(rt, alloc, store, request)
         }
         Err(fault) => (Err(fault), store),
     }
@@ -88,25 +87,5 @@ fn ticket_for(named: Option<u64>, last: u64) -> Result<u64, Fault>
         Some(ticket) => Ok(ticket),
         None if last >= WORN_LIMIT => Err(Fault::Worn),
         None => Ok(last + 1),
-    }
-}
-
-// Has an editor submit a request that comes next, and the desk settle it.
-fn commit_one<D: Disk, R: Threads + Wait + Sync>(
-    rt: &R,
-    alloc: Global,
-    store: Store<D>,
-    request: Request,
-) -> (Result<Verdict, Fault>, Store<D>)
-    requires up { is_down store ≡ false }
-    requires next { IsNext (state_of store).tickets request }
-    ensures settled { IsSettledTo (state_by (state_of store) request) request.change store result.1 result.0 }
-    ensures worn { IsErrOf result.0 Fault.Worn → IsTaken (state_of store) request.change }
-    ensures faults { IfErr result.0 (λ fault. IsDeskFault fault) }
-{
-    let (starts, count) = (store.starts(), store.count());
-    match submitted(rt, alloc, &starts, count, request) {
-        Ok(request) => settled(alloc, store, request),
-        Err(fault) => (Err(fault), store),
     }
 }

@@ -8,9 +8,12 @@
 //! the content stands for, and have only read the disk, which comes back; [`edit`] answers what becomes of the change in that state,
 //! leaves a device of which each crash image stands for the state after it, and at any moment one for the state before it or after
 //! it. Its ticket is new to the state: where it isn't, the answer is [`Fault::AlreadyIn`], and nothing is written. The editor of
-//! its session submits the change, in a thread of its own, and the desk settles it alone in its group. Not formatted, layout not known and damaged come
-//! only where the content stands for no state, each by the content's front (`TellsOf` of `specs/Openings`, and `TellsOfOld` of
-//! `specs/Moves` for [`migrate`], of which the rest is said in the crate `migrate`).
+//! its session, the only one at a board and a queue of its own, submits the change in a thread; one round of a committer takes,
+//! commits and posts it; and the answer is the editor's outcome by the board. Where no thread is to be had, the answer is
+//! [`Fault::NoThread`], and nothing is written. Unless the device failed, it stands behind each answer for the one state or for the
+//! other, whatever a crash leaves. Not formatted, layout not known and damaged come only where the content stands for no state, each
+//! by the content's front (`TellsOf` of `specs/Openings`, and `TellsOfOld` of `specs/Moves` for [`migrate`], of which the rest is
+//! said in the crate `migrate`).
 //!
 //! ```text
 //! format(&mut disk, 5)?;
@@ -22,7 +25,7 @@
 
 mod editing;
 mod moving;
-mod one_request;
+mod one_round;
 mod opening;
 
 pub use editing::edit;

@@ -2,6 +2,7 @@
 use Rattle.std.proofs.Common.{◌≡◌, ◌≢◌, ◌⊎◌, ℕ, zero, suc, ◌+◌, ◌<◌, ◌≤◌, ◌==◌, Bool, true, false, true≢false, cond, List, [], ◌∷◌, ◌++◌, length, filter, map, set, sym, refl, ap, ◌∙◌, subst, inl, inr, ⊎_elim, append_assoc, arith, eq-eqb, le_refl}
 use Rattle.std.proofs.lemmas.List.{append-nil, map-append}
 use Rattle.std.proofs.lemmas.List.Elements.{filter-append}
+use Rattle.std.proofs.lemmas.Bool.{cases_lt}
 use Rattle.std.proofs.lemmas.Bool.Decides.{nat_tests}
 use mathlib.Core.Option.{Option, none, some, some-ne-none}
 use lib.ListN.{get_elem?}
@@ -12,7 +13,7 @@ use Rattle.requests.specs.Requests.{asked_by}
 use Rattle.requests.specs.declared.request.Request.{Request}
 use Rattle.requests.proofs.TicketLemmas.{same_at, other_at, set_wide, rises_first, rises_next, either_same}
 use Rattle.intake.specs.declared.queue.View.{View}
-use Rattle.intake.specs.Turns.{of, last_or_start, idle, taker, opener, editor, taken, missed, both, IsSeat, FitsEditor, FitsTaker, AreWithin, KnowsAll, Holds}
+use Rattle.intake.specs.Turns.{of, last_or_start, idle, taker, opener, editor, taken, missed, both, IsSeat, FitsEditor, FitsTaker, AreWithin, KnowsAll, LacksEditor, Holds}
 
 ne_test : (a b : ℕ) → a ≢ b → (a == b) ≡ false
 ne_test a b n = grind (arith, nat_tests)
@@ -149,7 +150,8 @@ takes pass v may r items views h at =
     λ j u away e. ((h.4 j u e).0, λ t. absurd (away (((h.4 j u e).1 t).0 ∙ sym mine.0))) in
     let rises : Rises h.1 (map asked_by (got ++ items)) = subst (λ (l : List Request). Rises h.1 (map asked_by l)) same h.5 in
     let whole : h.3 ++ r ∷ items ≡ w.got ++ items = same ∙ ap (λ l. (l ++ r ∷ []) ++ items) (sym mine.1) in
-    let known : KnowsAll w (w.got ++ items) = ((λ sends. ((h.4 pass v at).0 sends).1 ∙ ap (of v.session) whole), λ s le. sym (ap (of s) whole) ∙ (mine.3 s le).1) in (
+    let none : (s : ℕ) → LacksEditor v.first v.made s → of s (w.got ++ items) ≡ [] = λ s lacks. sym (ap (of s) whole) ∙ (mine.3 s lacks).1 in
+    let known : KnowsAll w (w.got ++ items) = (((λ sends. ((h.4 pass v at).0 sends).1 ∙ ap (of v.session) whole), λ s less. none s (inl less)), λ s le. none s (inr le)) in (
       w,
       (
         h.0,
@@ -178,20 +180,27 @@ seated_new seat made n = let t : (made == made) ≡ true = eq_test made made ref
 seated_old : (seat : ℕ → Option ℕ) (made n s : ℕ) → s ≢ made → seated seat made n s ≡ seat s
 seated_old seat made n s other = let t : (s == made) ≡ false = ne_test s made other in rw t
 
-pub seats : (pass : ℕ) (v : View) → v.takes ≡ true → v.made < sessions → v.made < length v.starts → Forks Holds pass v (taker (v.made + 1) v.starts v.got v.misses) (editor v.made (last_of v.starts v.made) [] [])
-seats pass v may there_is within items views h at =
-    let l : View = taker (v.made + 1) v.starts v.got v.misses in
+-- a session that lacks an editor behind the next one's lacked it before, and isn't the next one
+lacks_before : (first made s : ℕ) → LacksEditor first (made + 1) s → LacksEditor first made s
+lacks_before first made s lacks = ⊎_elim (λ (less : s < first). inl less) (λ (le : made + 1 ≤ s). inr (omega (arith, le))) lacks
+
+lacks_other : (first made s : ℕ) → first ≤ made → LacksEditor first (made + 1) s → s ≢ made
+lacks_other first made s ordered lacks is = ⊎_elim (λ (less : s < first). omega (arith, ordered, less, is)) (λ (le : made + 1 ≤ s). omega (arith, le, is)) lacks
+
+pub seats : (pass : ℕ) (v : View) → v.takes ≡ true → v.first ≤ v.made → v.made < sessions → v.made < length v.starts → Forks Holds pass v (taker v.first (v.made + 1) v.starts v.got v.misses) (editor v.made (last_of v.starts v.made) [] [])
+seats pass v may ordered there_is within items views h at =
+    let l : View = taker v.first (v.made + 1) v.starts v.got v.misses in
     let e' : View = editor v.made (last_of v.starts v.made) [] [] in
     let vs = set views pass l in
     let n = length vs in
     let all = h.3 ++ items in
     let seat : ℕ → Option ℕ = seated h.2 v.made n in
     let mine = (h.4 pass v at).1 may in
-    let free = mine.3 v.made (le_refl v.made) in
+    let free = mine.3 v.made (inr (le_refl v.made)) in
     let sits : IsSeat h.1 e' = (there_is, (subst (λ (ts : List ℕ). v.made < length ts) mine.2 within, ap (λ (ts : List ℕ). last_of ts v.made) mine.2)) in
     let here : Fits h.0 h.1 seat h.3 all pass l = (
       (λ s. absurd (true≢false (sym s))),
-      λ _. (mine.0, mine.1, mine.2, λ s le. let g = mine.3 s (omega arith) in (seated_old h.2 v.made n s (λ x. absurd (omega arith)) ∙ g.0, g.1)),
+      λ _. (mine.0, mine.1, mine.2, λ s lacks. let g = mine.3 s (lacks_before v.first v.made s lacks) in (seated_old h.2 v.made n s (lacks_other v.first v.made s ordered lacks) ∙ g.0, g.1)),
     ) in
     let there : (j : ℕ) (u : View) → j ≢ pass → get_elem? views j ≡ some u → Fits h.0 h.1 seat h.3 all j u = λ j u away e. (
       (λ s. let f = (h.4 j u e).0 s in (seated_old h.2 v.made n u.session (λ (x : u.session ≡ v.made). some-ne-none j (sym f.0 ∙ (ap h.2 x ∙ free.0))) ∙ f.0, f.1, f.2)),
@@ -216,6 +225,28 @@ begins_at (suc j) v at = absurd (some-ne-none v (sym at))
 pub begins : Holds [] (opener [] 0 ∷ [])
 begins = (0, [], (λ s. none), [], (λ pass v at. begins_at pass v at), tt, tt)
 
+-- before there is an editor, the next session may be left without one
+pub skips : (pass : ℕ) (v : View) → v.takes ≡ true → v.first ≡ v.made → Forks Holds pass v (taker (v.made + 1) (v.made + 1) v.starts v.got v.misses) idle
+skips pass v may none_made items views h at =
+    let l : View = taker (v.made + 1) (v.made + 1) v.starts v.got v.misses in
+    let vs = set views pass l in
+    let all = h.3 ++ items in
+    let mine = (h.4 pass v at).1 may in
+    let free : (s : ℕ) → (h.2 s ≡ none) × (of s all ≡ []) = λ s. mine.3 s (⊎_elim (λ (less : s < v.made). inl (omega (arith, less, none_made))) (λ (le : v.made ≤ s). inr le) (cases_lt s v.made)) in
+    let here : Fits h.0 h.1 h.2 h.3 all pass l = ((λ s. absurd (true≢false (sym s))), λ _. (mine.0, mine.1, mine.2, λ s lacks. free s)) in
+    let there : (j : ℕ) (u : View) → j ≢ pass → get_elem? views j ≡ some u → Fits h.0 h.1 h.2 h.3 all j u = λ j u away e. h.4 j u e in
+    let old : All (Fits h.0 h.1 h.2 h.3 all) vs = all_set (Fits h.0 h.1 h.2 h.3 all) views pass l here there in (
+      h.0,
+      h.1,
+      h.2,
+      h.3,
+      (λ j u e. ⊎_elim (old j u)
+          (λ (t : (j ≡ length vs) × (idle ≡ u)). subst (λ (y : View). Fits h.0 h.1 h.2 h.3 all j y) t.1 ((λ s. absurd (true≢false (sym s))), λ x. absurd (true≢false (sym x))))
+          (at_last vs idle u j e)),
+      h.5,
+      h.6,
+    )
+
 -- before there is an editor, the starts may still be told
 pub tells : (pass : ℕ) (v : View) (starts : List ℕ) (next : ℕ) → v.takes ≡ true → v.made ≡ 0 → v.got ≡ [] → Forks Holds pass v (opener starts next) idle
 tells pass v starts next may none_made none_got items views h at =
@@ -223,7 +254,7 @@ tells pass v starts next may none_made none_got items views h at =
     let vs = set views pass l in
     let all = h.3 ++ items in
     let mine = (h.4 pass v at).1 may in
-    let free : (s : ℕ) → (h.2 s ≡ none) × (of s all ≡ []) = λ s. mine.3 s (omega (arith, none_made)) in
+    let free : (s : ℕ) → (h.2 s ≡ none) × (of s all ≡ []) = λ s. mine.3 s (inr (omega (arith, none_made))) in
     let empty : all ≡ [] = none_asked all (λ s. (free s).1) in
     let here : Fits h.0 starts h.2 h.3 all pass l = (
       (λ s. absurd (true≢false (sym s))),
@@ -272,7 +303,9 @@ compares pass v a b items views h at =
 -- the taker knows that all that was put is what was taken and what waits
 pub knows : (pass : ℕ) (v : View) → v.takes ≡ true → Learns Holds pass v (λ items. KnowsAll v (v.got ++ items))
 knows pass v may items views h at =
-    let f = (h.4 pass v at).1 may in ((λ sends. compares pass v sends may items views h at), λ s le. ap (λ l. of s (l ++ items)) f.1 ∙ (f.3 s le).1)
+    let f = (h.4 pass v at).1 may in
+    let none : (s : ℕ) → LacksEditor v.first v.made s → of s (v.got ++ items) ≡ [] = λ s lacks. ap (λ l. of s (l ++ items)) f.1 ∙ (f.3 s lacks).1 in
+    (((λ sends. compares pass v sends may items views h at), λ s less. none s (inl less)), λ s le. none s (inr le))
 
 -- an editor's requests are among what was taken and what waits
 pub waits : (pass : ℕ) (v : View) → v.sends ≡ true → Learns Holds pass v (λ items. (got : List Request) × (v.put ≡ of v.session (got ++ items)))

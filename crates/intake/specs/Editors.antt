@@ -34,10 +34,14 @@ editing e = record { queue = e.sender.queue; session = e.sender.session; start =
 abbrev pub IsEditing : Inside → Type 0
 IsEditing e = (e.watcher.session ≡ e.sender.session) × (e.watcher.last ≡ last_asked e.sender.put)
 
+-- a session's editor with this reader, before it has submitted anything
+abbrev pub editor_at : TableId → List ℕ → ℕ → Knowledge → Editing
+editor_at q starts session r = record { queue = q; session = session; start = last_of starts session; put = []; fulls = 0; known = r.all }
+
 -- an editor for each reader, of the sessions from n on, before any of them has submitted anything
 abbrev pub editors_from : TableId → List ℕ → ℕ → List Knowledge → List Editing
 editors_from q starts n [] = []
-editors_from q starts n (r ∷ rs) = record { queue = q; session = n; start = last_of starts n; put = []; fulls = 0; known = r.all } ∷ editors_from q starts (n + 1) rs
+editors_from q starts n (r ∷ rs) = editor_at q starts n r ∷ editors_from q starts (n + 1) rs
 
 -- the editor at this end of the queue, before it has submitted anything
 abbrev pub beginner : Sending → Beginning → Editing

@@ -2,7 +2,7 @@
 use Rattle.std.specs.Prelude.{◌≡◌, ◌⊎◌, ◌<◌, ◌+◌, ◌++◌, ◌∷◌, ℕ, List, [], Option, Some, None, Result, MatchOption, MatchResult}
 use Rattle.atomic_table.specs.Seated.{TableId}
 use Rattle.requests.specs.declared.request.Request.{Request}
-use Rattle.intake.specs.Turns.{of, AreOfEditors}
+use Rattle.intake.specs.Turns.{of, AreFrom, AreOfEditors}
 
 -- what contracts see of the queue's end of one editor
 pub record Sending : Type 0 where
@@ -18,7 +18,9 @@ pub record Taking : Type 0 where
   pub queue : TableId
   -- where the sessions' tickets start
   pub starts : List ℕ
-  -- for how many sessions there is an editor
+  -- there is an editor for each session from this one on
+  pub first : ℕ
+  -- up to this one
   pub made : ℕ
   pub got : List Request
   -- how often it found the queue empty
@@ -52,7 +54,7 @@ IsSameTaker old new = (new.queue ≡ old.queue) × (new.starts ≡ old.starts)
 
 -- the end that takes, after the end of an editor
 abbrev pub with_ended : Taking → ℕ → List Request → Taking
-with_ended t session put = record { queue = t.queue; starts = t.starts; made = t.made; got = t.got; empties = t.empties; ended = Some (session, put) }
+with_ended t session put = record { queue = t.queue; starts = t.starts; first = t.first; made = t.made; got = t.got; empties = t.empties; ended = Some (session, put) }
 
 -- all that the ended editor submitted was taken
 abbrev pub HasAll : Option (ℕ × List Request) → List Request → Type 0
@@ -61,7 +63,7 @@ HasAll (Some editor) got = editor.1 ≡ of editor.0 got
 
 -- these are all requests that were put: of the ended editor just those that it submitted, and of a session without an editor none
 abbrev pub AreAll : Taking → List Request → Type 0
-AreAll t all = HasAll t.ended all × AreOfEditors t.made all
+AreAll t all = (HasAll t.ended all × AreFrom t.first all) × AreOfEditors t.made all
 
 -- what was taken and some that wait are all that was put
 abbrev pub AreAllWithWaiting : Taking → Type 0
@@ -70,6 +72,7 @@ AreAllWithWaiting t = (waits : List Request) × AreAll t (t.got ++ waits)
 -- What calls that take leave: the editors, and the one that was ended last. Either nothing was taken and the queue wasn't found
 -- empty, or all that was put is what was taken and some that wait, and none waits where the queue was found empty.
 pub record HasTaken (old new : Taking) : Type 0 where
+  pub first : new.first ≡ old.first
   pub made : new.made ≡ old.made
   pub ended : new.ended ≡ old.ended
   pub all : ((new.got ≡ old.got) × (new.empties ≡ old.empties)) ⊎ ((waits : List Request) × (AreAll new (new.got ++ waits) × (old.empties < new.empties → waits ≡ [])))

@@ -25,7 +25,7 @@ ended_of v = cond v.sends (Some (v.session, v.put)) None
 
 -- the end that takes, by its seat in the queue
 abbrev pub receiver : tk.Inside → Taking
-receiver t = record { queue = t.pass.table_id; starts = (view t.pass).starts; made = (view t.pass).made; got = (view t.pass).got; empties = length (view t.pass).misses; ended = ended_of (view t.pass) }
+receiver t = record { queue = t.pass.table_id; starts = (view t.pass).starts; first = (view t.pass).first; made = (view t.pass).made; got = (view t.pass).got; empties = length (view t.pass).misses; ended = ended_of (view t.pass) }
 
 -- its seat is the one of this queue that takes, the tickets of what it took rise from the starts, and the queue has a place
 abbrev pub IsTaker : tk.Inside → Type 0

@@ -1,6 +1,6 @@
 -- The rule of the intake: what was taken, followed by what waits, has each editor's requests, in that editor's order, each
 -- once, and no others; and each session's tickets rise above its start, up to the limit.
-use Rattle.std.specs.Prelude.{◌≡◌, ℕ, ◌<◌, ◌≤◌, ◌==◌, true, false, List, [], ◌∷◌, ◌++◌, length, filter, map, Option as Optional, None}
+use Rattle.std.specs.Prelude.{◌≡◌, ◌⊎◌, ℕ, ◌<◌, ◌≤◌, ◌==◌, true, false, List, [], ◌∷◌, ◌++◌, length, filter, map, Option as Optional, None}
 use Rattle.std.specs.List.{last_or, AllByRecursion}
 use Rattle.std.specs.Option.{unwrap_or}
 use mathlib.Core.Option.{Option, none, some}
@@ -29,35 +29,39 @@ last_or_start start rs = unwrap_or (last_asked rs) start
 
 -- a pass that takes no part
 abbrev pub idle : View
-idle = record { sends = false; session = 0; start = 0; put = []; takes = false; made = 0; starts = []; next = 0; got = []; misses = [] }
+idle = record { sends = false; session = 0; start = 0; put = []; takes = false; first = 0; made = 0; starts = []; next = 0; got = []; misses = [] }
 
 -- the taker
-abbrev pub taker : ℕ → List ℕ → List Request → List ℕ → View
-taker made starts got misses = record { sends = false; session = 0; start = 0; put = []; takes = true; made = made; starts = starts; next = 0; got = got; misses = misses }
+abbrev pub taker : ℕ → ℕ → List ℕ → List Request → List ℕ → View
+taker first made starts got misses = record { sends = false; session = 0; start = 0; put = []; takes = true; first = first; made = made; starts = starts; next = 0; got = got; misses = misses }
 
 -- the taker before there is an editor, while the starts are told
 abbrev pub opener : List ℕ → ℕ → View
-opener starts next = record { sends = false; session = 0; start = 0; put = []; takes = true; made = 0; starts = starts; next = next; got = []; misses = [] }
+opener starts next = record { sends = false; session = 0; start = 0; put = []; takes = true; first = 0; made = 0; starts = starts; next = next; got = []; misses = [] }
 
 -- an editor
 abbrev pub editor : ℕ → ℕ → List Request → List ℕ → View
-editor session start put misses = record { sends = true; session = session; start = start; put = put; takes = false; made = 0; starts = []; next = 0; got = []; misses = misses }
+editor session start put misses = record { sends = true; session = session; start = start; put = put; takes = false; first = 0; made = 0; starts = []; next = 0; got = []; misses = misses }
 
 -- one request more was taken
 abbrev pub taken : View → Request → View
-taken v r = record { sends = v.sends; session = v.session; start = v.start; put = v.put; takes = v.takes; made = v.made; starts = v.starts; next = v.next; got = v.got ++ r ∷ []; misses = v.misses }
+taken v r = record { sends = v.sends; session = v.session; start = v.start; put = v.put; takes = v.takes; first = v.first; made = v.made; starts = v.starts; next = v.next; got = v.got ++ r ∷ []; misses = v.misses }
 
 -- the queue was found full, or empty, once more
 abbrev pub missed : View → View
-missed v = record { sends = v.sends; session = v.session; start = v.start; put = v.put; takes = v.takes; made = v.made; starts = v.starts; next = v.next; got = v.got; misses = v.misses ++ 0 ∷ [] }
+missed v = record { sends = v.sends; session = v.session; start = v.start; put = v.put; takes = v.takes; first = v.first; made = v.made; starts = v.starts; next = v.next; got = v.got; misses = v.misses ++ 0 ∷ [] }
 
 -- the taker with what an editor knew that has ended
 abbrev pub both : View → View → View
-both v w = record { sends = true; session = w.session; start = w.start; put = w.put; takes = true; made = v.made; starts = v.starts; next = v.next; got = v.got; misses = v.misses }
+both v w = record { sends = true; session = w.session; start = w.start; put = w.put; takes = true; first = v.first; made = v.made; starts = v.starts; next = v.next; got = v.got; misses = v.misses }
 
 -- no session from this one on has a request
 abbrev pub AreOfEditors : ℕ → List Request → Type 0
 AreOfEditors made all = (s : ℕ) → made ≤ s → of s all ≡ []
+
+-- no session before this one has a request
+abbrev pub AreFrom : ℕ → List Request → Type 0
+AreFrom first all = (s : ℕ) → s < first → of s all ≡ []
 
 -- At some moment requests waited. What had been taken by then, followed by what waited, has of this session just what its editor had put.
 pub record HasWaited (session : ℕ) (put : List Request) : Type 0 where
@@ -68,7 +72,7 @@ pub record HasWaited (session : ℕ) (put : List Request) : Type 0 where
 
 -- what the taker knows of all that was put: of the editor that it took in, just what that one put, and of a session without an editor nothing
 abbrev pub KnowsAll : View → List Request → Type 0
-KnowsAll v all = (v.sends ≡ true → v.put ≡ of v.session all) × AreOfEditors v.made all
+KnowsAll v all = ((v.sends ≡ true → v.put ≡ of v.session all) × AreFrom v.first all) × AreOfEditors v.made all
 
 -- an editor's session is there, and starts where the starts say
 abbrev pub IsSeat : List ℕ → View → Type 0
@@ -78,9 +82,13 @@ IsSeat starts v = (v.session < sessions) × ((v.session < length starts) × (v.s
 abbrev pub FitsEditor : List ℕ → (ℕ → Option ℕ) → List Request → ℕ → View → Type 0
 FitsEditor starts seat all pass v = v.sends ≡ true → (seat v.session ≡ some pass) × (v.put ≡ of v.session all) × IsSeat starts v
 
--- the one taker knows the starts, what it has taken, and that no session from `made` on has put anything
+-- a session has no editor: there is one for each from `first` on, up to `made`
+abbrev pub LacksEditor : ℕ → ℕ → ℕ → Type 0
+LacksEditor first made s = (s < first) ⊎ (made ≤ s)
+
+-- the one taker knows the starts, what it has taken, and that no session without an editor has put anything
 abbrev pub FitsTaker : ℕ → List ℕ → (ℕ → Option ℕ) → List Request → List Request → ℕ → View → Type 0
-FitsTaker reader starts seat got all pass v = v.takes ≡ true → (pass ≡ reader) × (v.got ≡ got) × (v.starts ≡ starts) × ((s : ℕ) → v.made ≤ s → (seat s ≡ none) × (of s all ≡ []))
+FitsTaker reader starts seat got all pass v = v.takes ≡ true → (pass ≡ reader) × (v.got ≡ got) × (v.starts ≡ starts) × ((s : ℕ) → LacksEditor v.first v.made s → (seat s ≡ none) × (of s all ≡ []))
 
 -- no ticket is past the limit
 abbrev pub AreWithin : List Request → Type 0

@@ -2,7 +2,8 @@
 //!
 //! # What it is
 //!
-//! [`open_intake`] makes a queue with one [`Taker`] and an [`Editor`] for each reader of a board, for the sessions from 0. An editor
+//! [`open_intake`] makes a queue with one [`Taker`] and an [`Editor`] for each reader of a board, for the sessions from 0;
+//! [`open_intake_for`] one with the editor of a given session, and no other. An editor
 //! submits a change under a ticket of its own, above all that its session used before; it waits for no answer, but looks at the
 //! board for what became of its last change, and submits no other one before that is settled. So at most one change of each
 //! session is on its way, and an editor that was cut off may submit the same ticket again: it is refused where it is in.
@@ -46,7 +47,7 @@ mod queue;
 mod watcher;
 
 pub use editor::Editor;
-pub use open::open_intake;
+pub use open::{open_intake, open_intake_for};
 pub use outcome::{Outcome, SubmitRefused, outcome_of, refusal_of};
 pub use queue::Taker;
 pub use watcher::Watcher;

@@ -16,7 +16,7 @@ use std::collections::LinkedList;
 use std::marker::Model;
 use std::sync::{Arc, Wait};
 
-// What a pass knows: an editor's session, where its tickets start, and what it put; or where all sessions start, for how many of
+// What a pass knows: an editor's session, where its tickets start, and what it put; or where all sessions start, for which of
 // them there is an editor, and what the taker took. No value of it is made.
 pub struct View {
     pub sends: bool,
@@ -24,6 +24,8 @@ pub struct View {
     pub start: u64,
     pub put: LinkedList<Request>,
     pub takes: bool,
+    /// There is an editor for each session from `first` on, up to `made`.
+    pub first: u64,
     pub made: u64,
     pub starts: LinkedList<u64>,
     /// The start of the next session, as far as it is told.
@@ -130,6 +132,18 @@ impl Split<View> for Starts {
     ghost right = { λ v. idle };
 }
 
+// One session more has no editor, before any has one.
+struct Skips;
+
+impl Split<View> for Skips {
+    ghost use Rattle.std.specs.Prelude.{◌+◌};
+    ghost use Rattle.intake.specs.Turns.{taker, idle};
+
+    ghost left = { λ v. taker (v.made + 1) (v.made + 1) v.starts v.got v.misses };
+
+    ghost right = { λ v. idle };
+}
+
 struct Seats;
 
 impl Split<View> for Seats {
@@ -137,7 +151,7 @@ impl Split<View> for Seats {
     ghost use Rattle.requests.specs.Tickets.{last_of};
     ghost use Rattle.intake.specs.Turns.{taker, editor};
 
-    ghost left = { λ v. taker (v.made + 1) v.starts v.got v.misses };
+    ghost left = { λ v. taker v.first (v.made + 1) v.starts v.got v.misses };
 
     ghost right = { λ v. editor v.made (last_of v.starts v.made) [] [] };
 }
@@ -220,6 +234,7 @@ impl Taker {
     fn pop<R: Wait>(&mut self, rt: &R) -> Option<Request>
         ensures same { IsSameTaker self.old self.new }
         ensures empties { self.new.empties ≡ self.old.empties }
+        ensures first { self.new.first ≡ self.old.first }
         ensures made { self.new.made ≡ self.old.made }
         ensures ended { self.new.ended ≡ self.old.ended }
         ensures got { MatchOption result (self.new.got ≡ self.old.got) (λ r. self.new.got ≡ self.old.got ++ r ∷ []) }
@@ -289,7 +304,7 @@ pub(crate) fn open_queue(
 ) -> Result<Taker, AllocError>
     requires { 0 < capacity }
     ensures starts { IfOk result (λ t. t.starts ≡ starts.now) }
-    ensures made { IfOk result (λ t. t.made ≡ 0) }
+    ensures made { IfOk result (λ t. (t.first ≡ 0) × (t.made ≡ 0)) }
     ensures got { IfOk result (λ t. t.got ≡ []) }
     ensures empties { IfOk result (λ t. t.empties ≡ 0) }
 {
@@ -300,13 +315,25 @@ pub(crate) fn open_queue(
 }
 
 impl Taker {
+    /// The next session has no editor, as all before it.
+    pub(crate) fn skip(&mut self)
+        requires none { self.old.first ≡ self.old.made }
+        ensures same { IsSameTaker self.old self.new }
+        ensures took_none { (self.new.got ≡ self.old.got) × (self.new.empties ≡ self.old.empties) }
+        ensures next { (self.new.first ≡ self.old.made + 1) × (self.new.made ≡ self.old.made + 1) }
+    {
+        let _skipped = self.queue.another::<Skips>(&mut self.pass);
+    }
+
     /// The end of the editor of the next session.
     pub(crate) fn seat(&mut self, session: u8, start: u64) -> Result<Sender, AllocError>
         requires next { session ≡ self.old.made }
+        requires ordered { self.old.first ≤ self.old.made }
         requires there { (session < SESSIONS) × (session < length self.old.starts) }
         requires start { start ≡ last_of self.old.starts session }
         ensures same { IsSameTaker self.old self.new }
         ensures took_none { (self.new.got ≡ self.old.got) × (self.new.empties ≡ self.old.empties) }
+        ensures first { self.new.first ≡ self.old.first }
         ensures made { OnOk result (self.new.made ≡ self.old.made + 1) }
         ensures sender { IfOk result (λ e. e ≡ seated self.old.queue session start) }
     {

@@ -2,7 +2,7 @@
 //!
 //! There is nothing here but tests: so the crates below are proved once in the gate, and not again with their tests. Each command's
 //! texts and status, the bytes of devices, files that are no device, numbers at their limit, outputs and inputs that fail, routes and
-//! checks, devices of layout 1 that are brought over, devices that another program holds, scripts of services, and tables that are put
+//! checks, devices of layout 1 that are brought over, devices that another program holds, edits that lack memory or a thread, scripts of services, and tables that are put
 //! into folders. Expected texts and bytes are written out from the tables of docs/FORMATS.md, and lines are worked out by hand.
 #![tactic(auto)]
 
@@ -10,6 +10,8 @@
 mod command_runs;
 #[cfg(test)]
 mod devices;
+#[cfg(test)]
+mod edits;
 #[cfg(test)]
 mod helpers;
 #[cfg(test)]

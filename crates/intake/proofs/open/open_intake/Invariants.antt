@@ -7,6 +7,7 @@ invariant-loop-session l = record {
   count : vec_len l.readers + l.session ≡ l.count;
   queue : l.taker.queue ≡ l.initial.taker.queue;
   starts : l.taker.starts ≡ l.initial.taker.starts;
+  first : l.taker.first ≡ 0;
   made : l.taker.made ≡ l.session;
   got : l.taker.got ≡ [];
   empties : l.taker.empties ≡ 0;

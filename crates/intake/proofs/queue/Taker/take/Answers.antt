@@ -15,7 +15,8 @@ returns-then-is_none-clause-taken g c =
     let noted = c.another-noted.ensures.rule.0 in
     let is = c.self.view_is in
     let all : AreAll mid mid.got = search rules in
-    found_empty c.args.self.now mid _ c.pop-taken.ensures.made c.pop-taken.ensures.ended
+    found_empty c.args.self.now mid _ c.pop-taken.ensures.first c.pop-taken.ensures.made c.pop-taken.ensures.ended
+    (ap (λ (v : View). v.first) noted ∙ ap (λ (t : Taking). t.first) is)
     (ap (λ (v : View). v.made) noted ∙ ap (λ (t : Taking). t.made) is)
     (ap ended_of noted ∙ ap (λ (t : Taking). t.ended) is)
     (ap (λ (v : View). v.got) noted ∙ ap (λ (t : Taking). t.got) is)

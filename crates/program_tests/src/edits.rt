@@ -1,0 +1,73 @@
+// Edits of the last session, of which memory or the thread is refused. `./refuse-memory` refuses each allocation in turn, and each thread.
+use crate::helpers::{got, same};
+use command_output::Fault;
+use device_commands::edit;
+use disk_trait::MemDisk;
+use generations::Verdict;
+use graph_edits::{Change, Op};
+use stand_ins::{formatted, opened};
+use std::alloc::Global;
+use std::process::Abort;
+use std::sync::Wait;
+use std::thread::Threads;
+
+const ACCEPTED: Result<Verdict, Fault> = Ok(Verdict::Accepted { count: 1 });
+
+// Session 63 adds an edge under ticket 1.
+fn edited<R: Threads + Wait + Abort + Sync>(
+    rt: &R,
+    alloc: Global,
+    disk: MemDisk,
+) -> (Result<Verdict, Fault>, MemDisk) {
+    let change = got(rt, Change::new(&[Op::Add(0, 1, 1)]));
+    edit(rt, alloc, disk, 63, Some(1), change)
+}
+
+// Whether the edge is in, with its ticket and its count. Else none of them is.
+fn is_in(rt: &impl Abort, alloc: Global, disk: MemDisk) -> (bool, MemDisk) {
+    let store = match opened(alloc, disk) {
+        Ok(store) => store,
+        Err(_) => panic!(rt; "not opened"),
+    };
+    let found = (store.count(), store.resume(63), store.graph().edges());
+    let done = found == (1, 1, 1);
+    same(rt, done || found == (0, 0, 0), true, "a whole change");
+    (done, store.into_disk())
+}
+
+// Want of memory may come before the commit or behind it; want of a thread comes before.
+#[test]
+fn edits_once_memory_is_there(rt: HostRuntime) {
+    let disk = got(&rt, formatted(rt.alloc(), 5));
+    let (first, disk) = edited(&rt, rt.alloc(), disk);
+    let (done, disk) = is_in(&rt, rt.alloc(), disk);
+    match first {
+        Err(Fault::Memory) => {}
+        Err(Fault::NoThread) => same(&rt, done, false, "an edit without a thread"),
+        _ => same(&rt, (first, done), (ACCEPTED, true), "an edit"),
+    }
+    let (second, disk) = edited(&rt, rt.alloc(), disk);
+    let want = if done {
+        Err(Fault::AlreadyIn)
+    } else {
+        ACCEPTED
+    };
+    same(&rt, second, want, "the edit again");
+    same(&rt, is_in(&rt, rt.alloc(), disk).0, true, "the change");
+}
+
+// The same where no thread may be had at all: then each edit ends alike, and the device is as it was.
+#[test]
+fn edits_where_threads_are_had(rt: HostRuntime) {
+    let mut disk = got(&rt, formatted(rt.alloc(), 5));
+    for _ in 0..2 {
+        let (answer, left) = edited(&rt, rt.alloc(), disk);
+        let (done, left) = is_in(&rt, rt.alloc(), left);
+        if answer == Err(Fault::NoThread) {
+            same(&rt, done, false, "an edit without a thread");
+        } else {
+            same(&rt, done, true, "an edit");
+        }
+        disk = left;
+    }
+}
