@@ -12,7 +12,7 @@ use crate::outcome::{Outcome, told};
 use command_output::{Ended, Fault, FaultWriter};
 use live_service::{serve_lines, serve_live};
 use service_lines::Served;
-use service_threads::{NoHooks, ServiceConfig};
+use service_threads::{OpenGate, ServiceConfig};
 use std::alloc::Global;
 use std::io;
 use std::io::{BufReader, ErrorKind, Read, Write};
@@ -73,7 +73,7 @@ where
 {
     let lines = read_script(rt.alloc(), script, config.editors)?;
     let disk = devices.open(device, Access::ToChange)?;
-    let (answer, _) = serve_lines(rt, rt.alloc(), disk, words, config, lines, &NoHooks, out);
+    let (answer, _) = serve_lines(rt, rt.alloc(), disk, words, config, lines, &OpenGate, out);
     answer?;
     Ok(Ended::Done)
 }
@@ -132,7 +132,7 @@ where
         config,
         rounds,
         input,
-        &NoHooks,
+        &OpenGate,
         LentTables::new(tables),
         out,
         err,

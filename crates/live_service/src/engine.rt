@@ -30,7 +30,7 @@ use intake::{Editor, Taker, open_intake};
 use requests::SESSIONS;
 use service_threads::{Rebuilds, ServiceConfig, commit_all, first_generation};
 use service_workers::{
-    Coordinator, ForwarderOf, Hooks, Naming, SessionEditor, StopCause, WordSource,
+    Coordinator, ForwarderOf, Gate, Naming, SessionEditor, StopCause, WordSource,
 };
 use std::alloc::{AllocError, Global};
 use std::marker::PhantomData;
@@ -105,14 +105,14 @@ fn start_forwarders<
     E,
     J: Stream + Send + Sync,
     B: Naming + Send + Sync,
-    G: Hooks + Sync,
+    G: Gate + Sync,
     R: Wait + Sync,
 >(
     scope: &Scope<'s, E>,
     rt: &'s R,
     alloc: Global,
     coordinator: &'s Coordinator<B>,
-    hooks: &'s G,
+    gate: &'s G,
     exchange: &'s Exchange<J, B>,
     forwarders: Vec<ForwarderOf<B>>,
     handles: &mut Vec<JoinHandle<()>>,
@@ -122,7 +122,7 @@ fn start_forwarders<
         if handles.len() == handles.capacity() {
             return;
         }
-        let job = move || forward_lines(rt, alloc, coordinator, hooks, exchange, forwarder, place);
+        let job = move || forward_lines(rt, alloc, coordinator, gate, exchange, forwarder, place);
         match scope.spawn(job) {
             Ok(handle) => handles.push_reserved(handle),
             Err(_) => {
@@ -293,7 +293,7 @@ fn threads<
     J: Stream + Send + Sync,
     B: Naming + Send + Sync,
     D: Disk + Drop,
-    G: Hooks + Sync,
+    G: Gate + Sync,
     T: TableFiles + Drop + Send,
     Q: Wait + Drop,
     R: Threads + Wait + Sync,
@@ -301,7 +301,7 @@ fn threads<
     rt: &'a R,
     alloc: Global,
     coordinator: &'a Coordinator<B>,
-    hooks: &'a G,
+    gate: &'a G,
     tables: T,
     exchange: &'a Exchange<J, B>,
     committer: Committer<D, Q>,
@@ -346,7 +346,7 @@ fn threads<
                 rt,
                 alloc,
                 coordinator,
-                hooks,
+                gate,
                 exchange,
                 forwarders,
                 &mut handles,
@@ -388,7 +388,7 @@ fn run<
     J: Stream + Send + Sync,
     B: Naming + Send + Sync,
     D: Disk + Drop,
-    G: Hooks + Sync,
+    G: Gate + Sync,
     T: TableFiles + Drop + Send,
     Q: Wait + Drop,
     R: Threads + Wait + Sync,
@@ -399,7 +399,7 @@ fn run<
     committer: Committer<D, Q>,
     seats: Seats<B>,
     source: WordSource,
-    hooks: &G,
+    gate: &G,
     tables: T,
     exchange: &Exchange<J, B>,
 ) -> (Result<History, StopCause>, Store<D>)
@@ -419,7 +419,7 @@ fn run<
             rt,
             alloc,
             &coordinator,
-            hooks,
+            gate,
             tables,
             exchange,
             committer,
@@ -512,7 +512,7 @@ fn seat<
     J: Stream + Send + Sync,
     B: Naming + Send + Sync,
     D: Disk + Drop,
-    G: Hooks + Sync,
+    G: Gate + Sync,
     T: TableFiles + Drop + Send,
     Q: Wait + Drop,
     R: Threads + Wait + Sync,
@@ -520,7 +520,7 @@ fn seat<
     rt: &R,
     alloc: Global,
     parts: EngineParts<B, D, T, Q>,
-    hooks: &G,
+    gate: &G,
     exchange: &Exchange<J, B>,
 ) -> (Result<History, StopCause>, Store<D>)
     ensures { EndsServed B.opening parts.opened.store J.input J.editors result.0 (view_of result.1) }
@@ -547,7 +547,7 @@ fn seat<
                 committer,
                 seats,
                 source,
-                hooks,
+                gate,
                 tables,
                 exchange,
             )
@@ -562,7 +562,7 @@ pub fn engine<
     J: Stream + Send + Sync,
     B: Naming + Send + Sync,
     D: Disk + Drop,
-    G: Hooks + Sync,
+    G: Gate + Sync,
     T: TableFiles + Drop + Send,
     Q: Wait + Drop,
     R: Threads + Wait + Sync,
@@ -570,12 +570,12 @@ pub fn engine<
     rt: &R,
     alloc: Global,
     parts: EngineParts<B, D, T, Q>,
-    hooks: &G,
+    gate: &G,
     exchange: &Exchange<J, B>,
 ) -> (Result<History, StopCause>, D)
     ensures { EndsServed B.opening parts.opened.store J.input J.editors result.0 (D.view result.1) }
 {
-    let (result, store) = seat::<J, B, D, G, T, Q, R>(rt, alloc, parts, hooks, exchange);
+    let (result, store) = seat::<J, B, D, G, T, Q, R>(rt, alloc, parts, gate, exchange);
     exchange.shut(rt);
     exchange.end(rt);
     (result, store.into_disk())

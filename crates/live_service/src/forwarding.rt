@@ -8,7 +8,7 @@ use crate::messages::{Answered, Ask, Stream};
 use forwarders::Refused;
 use live_lines::{Answer, Asked};
 use node_table::{Address, Packet};
-use service_workers::{Carried, Coordinator, ForwarderOf, Hooks, Naming, StopCause, Trip};
+use service_workers::{Carried, Coordinator, ForwarderOf, Gate, Naming, StopCause, Trip};
 use std::alloc::Global;
 use std::marker::PhantomData;
 use std::sync::Wait;
@@ -32,11 +32,11 @@ fn join(nodes: &[u16], from: u16, to: u16) -> bool
 }
 
 // The answer to a route. Without one all stop.
-fn route<B: Naming, G: Hooks, R: Wait>(
+fn route<B: Naming, G: Gate, R: Wait>(
     rt: &R,
     alloc: Global,
     coordinator: &Coordinator<B>,
-    hooks: &G,
+    gate: &G,
     forwarder: &mut ForwarderOf<B>,
     from: u16,
     to: u16,
@@ -44,7 +44,7 @@ fn route<B: Naming, G: Hooks, R: Wait>(
     ensures { IfSome result (λ answer. AnswersBy forwarder.new.forwarder (Asked.Route from to) answer) }
 {
     let trip = Trip { from, to };
-    match forwarder.route(rt, alloc, coordinator, hooks, trip)? {
+    match forwarder.route(rt, alloc, coordinator, gate, trip)? {
         Carried::Along {
             generation,
             nodes,
@@ -120,10 +120,10 @@ fn launch<B: Naming, R: Wait>(
 }
 
 // The answer to a hop. Without one all stop.
-fn hop<B: Naming, G: Hooks, R: Wait>(
+fn hop<B: Naming, G: Gate, R: Wait>(
     rt: &R,
     coordinator: &Coordinator<B>,
-    hooks: &G,
+    gate: &G,
     forwarder: &mut ForwarderOf<B>,
     at: u16,
     packet: Packet,
@@ -133,7 +133,7 @@ fn hop<B: Naming, G: Hooks, R: Wait>(
     let generation = packet.generation;
     match forwarder.hop(rt, coordinator, at, packet)? {
         Ok(step) => {
-            hooks.after_hop(generation);
+            gate.after_hop(generation);
             Some(Answer::Moved(step))
         }
         Err(refused) => named(refused),
@@ -141,36 +141,36 @@ fn hop<B: Naming, G: Hooks, R: Wait>(
 }
 
 // The answer to a line that is a forwarder's. Without one all stop.
-fn answer_of<B: Naming, G: Hooks, R: Wait>(
+fn answer_of<B: Naming, G: Gate, R: Wait>(
     rt: &R,
     alloc: Global,
     coordinator: &Coordinator<B>,
-    hooks: &G,
+    gate: &G,
     forwarder: &mut ForwarderOf<B>,
     asked: Asked,
 ) -> Option<Answer>
     ensures { IfSome result (λ answer. AnswersBy forwarder.new.forwarder asked answer) }
 {
     match asked {
-        Asked::Route { from, to } => route(rt, alloc, coordinator, hooks, forwarder, from, to),
+        Asked::Route { from, to } => route(rt, alloc, coordinator, gate, forwarder, from, to),
         Asked::Address { node } => address(rt, coordinator, forwarder, node),
         Asked::Launch { from, to } => launch(rt, coordinator, forwarder, from, to),
-        Asked::Hop { at, packet } => hop(rt, coordinator, hooks, forwarder, at, packet),
+        Asked::Hop { at, packet } => hop(rt, coordinator, gate, forwarder, at, packet),
         _other => halted(rt, coordinator),
     }
 }
 
 // A line, answered. Without an answer all stop.
-fn answered<J: Stream, B: Naming, G: Hooks, R: Wait>(
+fn answered<J: Stream, B: Naming, G: Gate, R: Wait>(
     rt: &R,
     alloc: Global,
     coordinator: &Coordinator<B>,
-    hooks: &G,
+    gate: &G,
     forwarder: &mut ForwarderOf<B>,
     ask: Ask<J>,
 ) -> Option<Answered<J, B>> {
     let Ask { place, asked, of } = ask;
-    let answer = answer_of(rt, alloc, coordinator, hooks, forwarder, asked)?;
+    let answer = answer_of(rt, alloc, coordinator, gate, forwarder, asked)?;
     Some(Answered {
         place,
         answer,
@@ -181,11 +181,11 @@ fn answered<J: Stream, B: Naming, G: Hooks, R: Wait>(
 }
 
 /// Answers the lines that are a forwarder's, one after the other, until no more comes or all stop.
-pub fn forward_lines<J: Stream, B: Naming, G: Hooks, R: Wait>(
+pub fn forward_lines<J: Stream, B: Naming, G: Gate, R: Wait>(
     rt: &R,
     alloc: Global,
     coordinator: &Coordinator<B>,
-    hooks: &G,
+    gate: &G,
     exchange: &Exchange<J, B>,
     forwarder: ForwarderOf<B>,
     place: usize,
@@ -199,7 +199,7 @@ pub fn forward_lines<J: Stream, B: Naming, G: Hooks, R: Wait>(
         let Some(ask) = mailbox.take(rt) else {
             return;
         };
-        let Some(answered) = answered(rt, alloc, coordinator, hooks, &mut forwarder, ask) else {
+        let Some(answered) = answered(rt, alloc, coordinator, gate, &mut forwarder, ask) else {
             return;
         };
         let _put = exchange.answers.put(rt, answered);

@@ -33,7 +33,7 @@
 //!
 //! ```text
 //! let mut err = WatchedWriter::new(rt.stderr());
-//! let (served, disk) = serve_live(&rt, alloc, disk, words, config, 16, input, &NoHooks, tables, &mut out, &mut err);
+//! let (served, disk) = serve_live(&rt, alloc, disk, words, config, 16, input, &OpenGate, tables, &mut out, &mut err);
 //! // edit 0 - add:0:1:1    0 1 accepted count=1
 //! // wait                  generation=1
 //! // route 0 1             generation=1 route 0 1 length 1     (sent once the answer to `wait` was read)
@@ -65,4 +65,4 @@ mod waiting;
 pub use script::{serve_lines, serve_on, serve_told};
 pub use serve::serve_live;
 pub use service_lines::Served;
-pub use service_threads::{Hooks, NoHooks, ServiceConfig};
+pub use service_threads::{Gate, OpenGate, ServiceConfig};

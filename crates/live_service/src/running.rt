@@ -28,7 +28,7 @@ use disk_trait::Disk;
 use generations::History;
 use service_lines::{Served, fault_of as told_fault};
 use service_threads::STACK_LEN;
-use service_workers::{Hooks, Naming, StopCause};
+use service_workers::{Gate, Naming, StopCause};
 use std::alloc::Global;
 use std::marker::PhantomData;
 use std::snapshot::Snapshot;
@@ -178,7 +178,7 @@ fn start_engine<
     J: Stream + Send + Sync,
     B: Naming + Send + Sync,
     D: Disk + Drop + Send + 's,
-    G: Hooks + Sync,
+    G: Gate + Sync,
     T: TableFiles + Drop + Send + 's,
     Q: Wait + Drop + Send + 's,
     R: Threads + Wait + Sync,
@@ -187,7 +187,7 @@ fn start_engine<
     rt: &'s R,
     alloc: Global,
     parts: EngineParts<B, D, T, Q>,
-    hooks: &'s G,
+    gate: &'s G,
     exchange: &'s Exchange<J, B>,
 ) -> Option<PromisedHandle<(Result<History, StopCause>, D), EnginePromise<J, B, D>>>
     ensures { IfSome result (λ handle. handle.promise.store.value ≡ parts.opened.store) }
@@ -228,7 +228,7 @@ fn start_engine<
             readers,
             of: PhantomData,
         };
-        engine(rt, alloc, parts, hooks, exchange)
+        engine(rt, alloc, parts, gate, exchange)
     };
     match Stack::new()
         .stack_size(STACK_LEN)
@@ -246,7 +246,7 @@ pub(crate) fn threads<
     J: Stream + Send + Sync,
     B: Naming + Send + Sync,
     D: Disk + Drop + Send,
-    G: Hooks + Sync,
+    G: Gate + Sync,
     T: TableFiles + Drop + Send,
     Q: Wait + Drop + Send,
     R: Threads + Wait + Sync,
@@ -256,7 +256,7 @@ pub(crate) fn threads<
     rt: &'a R,
     alloc: Global,
     parts: EngineParts<B, D, T, Q>,
-    hooks: &'a G,
+    gate: &'a G,
     exchange: &'a Exchange<J, B>,
     lines: L,
     console: C,
@@ -272,7 +272,7 @@ pub(crate) fn threads<
             ensures { HasRun C.prints C.finishes J.input J.editors parts.opened.store
                 console result.0 result.1 result.2 }
         {
-            let engine_thread = start_engine(scope, rt, alloc, parts, hooks, exchange);
+            let engine_thread = start_engine(scope, rt, alloc, parts, gate, exchange);
             if engine_thread.is_none() {
                 exchange.shut(rt);
                 exchange.end(rt);

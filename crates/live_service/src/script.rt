@@ -22,7 +22,7 @@ use command_output::{Fault, FaultWriter};
 use disk_trait::Disk;
 use service_lines::{Served, fault_of as told_fault};
 use service_threads::{ServiceConfig, open_device};
-use service_workers::Hooks;
+use service_workers::Gate;
 use std::alloc::Global;
 use std::io::Write;
 use std::marker::Brand;
@@ -50,14 +50,14 @@ fn run_gatherer<'a, 'b, J, D, G, R, O>(
     rt: &'a R,
     alloc: Global,
     opened: Opened<D, NoTables>,
-    hooks: &'a G,
+    gate: &'a G,
     script: Vec<ScriptLine>,
     gatherer: Gatherer<'b, O>,
 ) -> (&'b mut O, Served, Option<D>)
 where
     J: Stream + Send + Sync,
     D: Disk + Drop + Send,
-    G: Hooks + Sync,
+    G: Gate + Sync,
     R: Threads + Wait + Sync,
     O: Write,
     requires { J.input ≡ Script script.items }
@@ -76,7 +76,7 @@ where
         R,
         ScriptSource,
         Gatherer<'b, O>,
-    >(rt, alloc, opened, hooks, lines, gatherer);
+    >(rt, alloc, opened, gate, lines, gatherer);
     let Gatherer {
         alloc: _,
         text: _,
@@ -90,14 +90,14 @@ fn serve_script<'a, J, D, G, R, O>(
     rt: &'a R,
     alloc: Global,
     opened: Opened<D, NoTables>,
-    hooks: &'a G,
+    gate: &'a G,
     script: Vec<ScriptLine>,
     out: &mut O,
 ) -> (Served, Option<D>)
 where
     J: Stream + Send + Sync,
     D: Disk + Drop + Send,
-    G: Hooks + Sync,
+    G: Gate + Sync,
     R: Threads + Wait + Sync,
     O: Write,
     requires { J.input ≡ Script script.items }
@@ -109,7 +109,7 @@ where
         out,
     };
     let (out, served, disk) = run_gatherer::<J, D, G, R, O>(
-        rt, alloc, opened, hooks, script, gatherer,
+        rt, alloc, opened, gate, script, gatherer,
     );
     take_back(out);
     (served, disk)
@@ -139,12 +139,12 @@ pub fn serve_lines<'a, D, G, R, O>(
     words: LandmarkWords,
     config: ServiceConfig,
     script: Vec<ScriptLine>,
-    hooks: &'a G,
+    gate: &'a G,
     out: &mut O,
 ) -> (Result<(), Fault>, Option<D>)
 where
     D: Disk + Drop + Send,
-    G: Hooks + Sync,
+    G: Gate + Sync,
     R: Threads + Wait + Sync,
     O: Write,
     requires config { IsServiceConfig config }
@@ -173,7 +173,7 @@ where
         source,
         tables: NoTables,
     };
-    let (served, disk) = serve_script::<Brand, D, G, R, O>(rt, alloc, opened, hooks, script, out);
+    let (served, disk) = serve_script::<Brand, D, G, R, O>(rt, alloc, opened, gate, script, out);
     (result_of(served), disk)
 }
 
@@ -186,13 +186,13 @@ pub fn serve_told<'a, D, G, R, O, E>(
     words: LandmarkWords,
     config: ServiceConfig,
     script: Vec<ScriptLine>,
-    hooks: &'a G,
+    gate: &'a G,
     out: &mut O,
     err: &mut E,
 ) -> (Served, Option<D>)
 where
     D: Disk + Drop + Send,
-    G: Hooks + Sync,
+    G: Gate + Sync,
     R: Threads + Wait + Sync,
     O: Write,
     E: FaultWriter,
@@ -205,7 +205,7 @@ where
     ensures told { TellsEnd E.contents E.has_failed err.old err.new result.0 }
     ensures left { IsLeftBy D.Disk disk result.1 }
 {
-    let (result, disk) = serve_lines(rt, alloc, disk, words, config, script, hooks, out);
+    let (result, disk) = serve_lines(rt, alloc, disk, words, config, script, gate, out);
     match result {
         Ok(()) => (Served::Printed, disk),
         Err(fault) => match err.tell(fault) {
@@ -224,13 +224,13 @@ pub fn serve_on<'a, D, G, R, O, E>(
     words: LandmarkWords,
     config: ServiceConfig,
     script: Vec<ScriptLine>,
-    hooks: &'a G,
+    gate: &'a G,
     out: &mut O,
     err: &mut E,
 ) -> (u8, Option<D>)
 where
     D: Disk + Drop + Send,
-    G: Hooks + Sync,
+    G: Gate + Sync,
     R: Threads + Wait + Sync,
     O: Write,
     E: FaultWriter,
@@ -245,7 +245,7 @@ where
         × IsToldOrFailed (E.contents err.old) (E.contents err.new) (E.has_failed err.new) fault) }
     ensures left { IsLeftBy D.Disk disk result.1 }
 {
-    let (served, disk) = serve_told(rt, alloc, disk, words, config, script, hooks, out, err);
+    let (served, disk) = serve_told(rt, alloc, disk, words, config, script, gate, out, err);
     match served {
         Served::Printed => (0, disk),
         Served::Told(fault) => (fault.status(), disk),

@@ -21,7 +21,7 @@ use command_output::FaultWriter;
 use disk_trait::Disk;
 use service_lines::{Served, fault_of as told_fault};
 use service_threads::{ServiceConfig, open_device};
-use service_workers::Hooks;
+use service_workers::Gate;
 use std::alloc::Global;
 use std::io::{BufRead, Write};
 use std::marker::Brand;
@@ -35,7 +35,7 @@ fn serve_stream<'a, J, D, G, T, R, S, O, E>(
     rt: &'a R,
     alloc: Global,
     opened: Opened<D, T>,
-    hooks: &'a G,
+    gate: &'a G,
     input: S,
     out: &mut O,
     err: &mut E,
@@ -43,7 +43,7 @@ fn serve_stream<'a, J, D, G, T, R, S, O, E>(
 where
     J: Stream + Send + Sync,
     D: Disk + Drop + Send,
-    G: Hooks + Sync,
+    G: Gate + Sync,
     T: TableFiles + Drop + Send,
     R: Threads + Wait + Sync,
     S: BufRead + Send + Drop,
@@ -60,7 +60,7 @@ where
     let lines = InputSource::new(alloc, opened.config.service.editors, input);
     let terminal = Terminal { alloc, out, err };
     let (terminal, served, disk) = serve_opened::<J, D, G, T, R, InputSource<S>, Terminal<O, E>>(
-        rt, alloc, opened, hooks, lines, terminal,
+        rt, alloc, opened, gate, lines, terminal,
     );
     let Terminal { alloc: _, out, err } = terminal;
     take_back(out);
@@ -87,14 +87,14 @@ pub fn serve_live<'a, D, G, T, R, S, O, E>(
     config: ServiceConfig,
     rounds: u32,
     input: S,
-    hooks: &'a G,
+    gate: &'a G,
     tables: T,
     out: &mut O,
     err: &mut E,
 ) -> (Served, Option<D>)
 where
     D: Disk + Drop + Send,
-    G: Hooks + Sync,
+    G: Gate + Sync,
     T: TableFiles + Drop + Send,
     R: Threads + Wait + Sync,
     S: BufRead + Send + Drop,
@@ -129,5 +129,5 @@ where
         source,
         tables,
     };
-    serve_stream::<Brand, D, G, T, R, S, O, E>(rt, alloc, opened, hooks, input, out, err)
+    serve_stream::<Brand, D, G, T, R, S, O, E>(rt, alloc, opened, gate, input, out, err)
 }

@@ -18,7 +18,7 @@ use disk_trait::Disk;
 use generations::{BoardReader, BoardWriter, MOST_READERS, board};
 use service_lines::Served;
 use service_threads::ServiceConfig;
-use service_workers::{Hooks, Naming};
+use service_workers::{Gate, Naming};
 use std::alloc::{AllocError, Global};
 use std::marker::{Brand, PhantomData};
 use std::sync::Wait;
@@ -85,7 +85,7 @@ fn serve_at_board<'a, J, B, D, G, T, Q, R, L, C>(
     opened: Opened<D, T>,
     writer: BoardWriter<Q>,
     readers: Vec<BoardReader>,
-    hooks: &'a G,
+    gate: &'a G,
     lines: L,
     console: C,
 ) -> (C, Served, Option<D>)
@@ -93,7 +93,7 @@ where
     J: Stream + Send + Sync,
     B: Naming + Send + Sync,
     D: Disk + Drop + Send,
-    G: Hooks + Sync,
+    G: Gate + Sync,
     T: TableFiles + Drop + Send,
     Q: Wait + Drop + Send,
     R: Threads + Wait + Sync,
@@ -113,7 +113,7 @@ where
                 readers,
                 of: PhantomData,
             };
-            threads(rt, alloc, parts, hooks, &exchange, lines, console)
+            threads(rt, alloc, parts, gate, &exchange, lines, console)
         }
         Err(_) => unstarted::<J, D, T, C>(opened, console),
     }
@@ -125,14 +125,14 @@ pub fn serve_opened<'a, J, D, G, T, R, L, C>(
     rt: &'a R,
     alloc: Global,
     opened: Opened<D, T>,
-    hooks: &'a G,
+    gate: &'a G,
     lines: L,
     console: C,
 ) -> (C, Served, Option<D>)
 where
     J: Stream + Send + Sync,
     D: Disk + Drop + Send,
-    G: Hooks + Sync,
+    G: Gate + Sync,
     T: TableFiles + Drop + Send,
     R: Threads + Wait + Sync,
     L: LineSource<J> + Send + Drop,
@@ -142,7 +142,7 @@ where
 {
     match board_of(rt, alloc, &opened.config, &opened.store) {
         Ok((writer, readers)) => serve_at_board::<J, Brand, D, G, T, &R, R, L, C>(
-            rt, alloc, opened, writer, readers, hooks, lines, console,
+            rt, alloc, opened, writer, readers, gate, lines, console,
         ),
         Err(_) => unstarted::<J, D, T, C>(opened, console),
     }

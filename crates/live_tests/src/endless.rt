@@ -2,7 +2,7 @@
 use crate::helpers::{Setup, fresh, got, reopened, run, same, text_of};
 use command_output::Fault;
 use service_lines::Served;
-use service_threads::NoHooks;
+use service_threads::OpenGate;
 use stand_ins::{BeforeSync, HookedDisk, NarrowWriter};
 use standard_streams::{InterruptibleInput, InterruptingWriter};
 use std::alloc::Global;
@@ -73,7 +73,7 @@ where
         input: interrupter,
     };
     let disk = HookedDisk::new(fresh(&rt, alloc, 5), Refused(refused));
-    let (served, disk) = run(&rt, alloc, disk, &SETUP, input, &NoHooks, out, &mut err);
+    let (served, disk) = run(&rt, alloc, disk, &SETUP, input, &OpenGate, out, &mut err);
     let (fault, told, count) = want;
     same(&rt, served, Served::Told(fault), "the end");
     same(&rt, text_of(&rt, &err.out), told, "what is told");

@@ -1,7 +1,7 @@
 // Inputs that end while edits wait.
 use crate::helpers::{Setup, count_lines, fresh, got, reopened, run, same, text_of};
 use service_lines::Served;
-use service_threads::NoHooks;
+use service_threads::OpenGate;
 use stand_ins::{BeforeSync, HookedDisk, comes};
 use std::alloc::Global;
 use std::io::{self, BufReader, Read};
@@ -118,7 +118,7 @@ fn edits_that_wait_at_the_end(rt: HostRuntime) {
     let input = got(&rt, BufReader::with_capacity(alloc, 64, ending));
     let (mut out, mut err) = (Vec::new(alloc), Vec::new(alloc));
     let (served, disk) = run(
-        &rt, alloc, disk, &SETUP, input, &NoHooks, &mut out, &mut err,
+        &rt, alloc, disk, &SETUP, input, &OpenGate, &mut out, &mut err,
     );
     same(
         &rt,

@@ -1,7 +1,7 @@
 // Lines that are worked on while the device holds a commit.
 use crate::helpers::{Setup, fresh, got, run, same, text_of};
 use service_lines::Served;
-use service_threads::Hooks;
+use service_threads::Gate;
 use stand_ins::{BeforeSync, HookedDisk, comes};
 use std::alloc::Global;
 use std::io::{self, BufReader, Read, Write};
@@ -75,9 +75,9 @@ impl BeforeSync for Signs {
 }
 
 #[derive(Drop)]
-struct HeldHooks<'a>(&'a Signs);
+struct HeldGate<'a>(&'a Signs);
 
-impl<'a> Hooks for HeldHooks<'a> {
+impl<'a> Gate for HeldGate<'a> {
     fn before_launch(&self) {}
 
     fn after_hop(&self, _generation: u64) {
@@ -174,13 +174,13 @@ fn expect_row<R: Threads + Wait + Abort + Sync>(rt: &R, alloc: Global, row: &Row
         left: row.times.saturating_add(1),
     };
     let input = got(rt, BufReader::with_capacity(alloc, 512, lines));
-    let hooks = HeldHooks(&signs);
+    let gate = HeldGate(&signs);
     let mut out = Counted {
         text: Vec::new(alloc),
         signs: &signs,
     };
     let mut err = Vec::new(alloc);
-    let (served, _disk) = run(rt, alloc, disk, &SETUP, input, &hooks, &mut out, &mut err);
+    let (served, _disk) = run(rt, alloc, disk, &SETUP, input, &gate, &mut out, &mut err);
     let wanted = answers_of(rt, alloc, row);
     same(
         rt,

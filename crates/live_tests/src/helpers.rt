@@ -5,7 +5,7 @@ use command_output::WatchedWriter;
 use disk_trait::{Disk, MemDisk};
 use live_service::serve_live;
 use service_lines::Served;
-use service_threads::{Hooks, NoHooks, ServiceConfig};
+use service_threads::{Gate, OpenGate, ServiceConfig};
 use std::alloc::Global;
 use std::fmt::Debug;
 use std::io::{BufRead, Write};
@@ -62,14 +62,14 @@ pub(crate) fn run_at<D, G, T, R, S, O, E>(
     disk: D,
     setup: &Setup,
     input: S,
-    hooks: &G,
+    gate: &G,
     tables: T,
     out: &mut O,
     err: &mut E,
 ) -> (Served, Option<D>)
 where
     D: Disk + Drop + Send,
-    G: Hooks + Sync,
+    G: Gate + Sync,
     T: TableFiles + Drop + Send,
     R: Threads + Wait + Abort + Sync,
     S: BufRead + Send + Drop,
@@ -94,7 +94,7 @@ where
         config,
         setup.rounds,
         input,
-        hooks,
+        gate,
         tables,
         out,
         &mut WatchedWriter::new(err),
@@ -108,22 +108,22 @@ pub(crate) fn run<D, G, R, S, O, E>(
     disk: D,
     setup: &Setup,
     input: S,
-    hooks: &G,
+    gate: &G,
     out: &mut O,
     err: &mut E,
 ) -> (Served, Option<D>)
 where
     D: Disk + Drop + Send,
-    G: Hooks + Sync,
+    G: Gate + Sync,
     R: Threads + Wait + Abort + Sync,
     S: BufRead + Send + Drop,
     O: Write,
     E: Write,
 {
-    run_at(rt, alloc, disk, setup, input, hooks, NoFiles, out, err)
+    run_at(rt, alloc, disk, setup, input, gate, NoFiles, out, err)
 }
 
-/// Runs a service on a disk in memory, with all lines at once and no hooks.
+/// Runs a service on a disk in memory, with all lines at once and no gate.
 pub(crate) fn run_plain<R: Threads + Wait + Abort + Sync, O: Write, E: Write>(
     rt: &R,
     alloc: Global,
@@ -133,7 +133,7 @@ pub(crate) fn run_plain<R: Threads + Wait + Abort + Sync, O: Write, E: Write>(
     out: &mut O,
     err: &mut E,
 ) -> (Served, Option<MemDisk>) {
-    run(rt, alloc, disk, setup, input, &NoHooks, out, err)
+    run(rt, alloc, disk, setup, input, &OpenGate, out, err)
 }
 
 /// Runs a service with all lines at once, sees how it ended and all that is printed and told, and gives the disk back.

@@ -3,7 +3,7 @@ use crate::helpers::{Setup, beginning_of, fresh, got, run, run_plain, same, text
 use command_output::Fault;
 use disk_trait::MemDisk;
 use service_lines::Served;
-use service_threads::NoHooks;
+use service_threads::OpenGate;
 use stand_ins::NarrowWriter;
 use std::alloc::Global;
 use std::io::{self, BufReader, ErrorKind, Read};
@@ -152,7 +152,9 @@ fn expect_failing<R: Threads + Wait + Abort + Sync>(rt: &R, alloc: Global, calls
     let input = got(rt, BufReader::with_capacity(alloc, 512, failing));
     let (mut out, mut err) = (Vec::new(alloc), Vec::new(alloc));
     let disk = fresh(rt, alloc, 5);
-    let (served, disk) = run(rt, alloc, disk, &SETUP, input, &NoHooks, &mut out, &mut err);
+    let (served, disk) = run(
+        rt, alloc, disk, &SETUP, input, &OpenGate, &mut out, &mut err,
+    );
     let wanted = first_lines(rt, alloc, calls);
     let found = (served, text_of(rt, &out), text_of(rt, &err));
     same(

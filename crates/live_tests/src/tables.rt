@@ -11,7 +11,7 @@ use node_table::Scheme;
 use router_table::RouterTable;
 use scheme_builds::scheme_of;
 use service_lines::Served;
-use service_threads::Hooks;
+use service_threads::Gate;
 use stand_ins::comes;
 use std::alloc::Global;
 use std::io::{self, BufReader, Read};
@@ -212,7 +212,7 @@ fn files_that_are_refused(rt: HostRuntime) {
     }
 }
 
-/// What a place for files, hooks and an input tell one another.
+/// What a place for files, gate and an input tell one another.
 #[derive(Drop)]
 struct Signs {
     // How many files have come to their place.
@@ -244,9 +244,9 @@ impl Signs {
 }
 
 #[derive(Drop)]
-struct HeldHooks<'a>(&'a Signs);
+struct HeldGate<'a>(&'a Signs);
 
-impl<'a> Hooks for HeldHooks<'a> {
+impl<'a> Gate for HeldGate<'a> {
     fn before_launch(&self) {}
 
     fn after_hop(&self, generation: u64) {
@@ -357,7 +357,7 @@ fn expect_held<R: Threads + Wait + Abort + Sync>(
         disk,
         &setup,
         input,
-        &HeldHooks(&signs),
+        &HeldGate(&signs),
         tables,
         &mut out,
         &mut err,

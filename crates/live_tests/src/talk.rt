@@ -3,7 +3,7 @@ use crate::helpers::{Setup, count_lines, got, run_at, same, text_of};
 use crate::places::NoFiles;
 use disk_trait::{Disk, MemDisk};
 use service_lines::Served;
-use service_threads::NoHooks;
+use service_threads::OpenGate;
 use std::alloc::{AllocError, Global};
 use std::io::{self, BufReader, Read, Write};
 use std::process::Abort;
@@ -231,7 +231,7 @@ pub(crate) fn talk_at<
         text: Vec::new(alloc),
     };
     let (served, disk) = run_at(
-        rt, alloc, disk, setup, input, &NoHooks, tables, &mut out, &mut err,
+        rt, alloc, disk, setup, input, &OpenGate, tables, &mut out, &mut err,
     );
     same(rt, out.waiting.len(), 0, "all is flushed");
     Talked {

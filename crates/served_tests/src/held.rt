@@ -1,6 +1,6 @@
 // Routes that are launched or carried on just where the device holds a commit.
 use crate::helpers::{Asked, fresh, got, run, same, text_of};
-use service_threads::Hooks;
+use service_threads::Gate;
 use stand_ins::{BeforeSync, HookedDisk, comes_within};
 use std::alloc::Global;
 use std::process::Abort;
@@ -30,7 +30,7 @@ const SIXTH: Hold = Hold {
     generation: 5,
 };
 
-/// What the hooks and the disk tell each other, and what is held: no packet starts before the first hold, and none goes on behind a
+/// What the gate and the disk tell each other, and what is held: no packet starts before the first hold, and none goes on behind a
 /// hop before the last.
 #[derive(Drop)]
 struct Signs {
@@ -75,9 +75,9 @@ impl Signs {
 }
 
 #[derive(Drop)]
-struct HeldHooks<'a>(&'a Signs);
+struct HeldGate<'a>(&'a Signs);
 
-impl<'a> Hooks for HeldHooks<'a> {
+impl<'a> Gate for HeldGate<'a> {
     fn before_launch(&self) {
         let _came = self.0.comes(&self.0.syncs, self.0.first.sync);
     }
@@ -109,9 +109,9 @@ fn expect_row<R: Threads + Wait + Abort + Sync>(rt: &R, alloc: Global, row: &Row
     let signs = got(rt, Arc::new(alloc, Signs::new(row.first, row.last)));
     let hook = got(rt, Arc::try_clone(&signs));
     let disk = HookedDisk::new(fresh(rt, alloc, row.nodes), hook);
-    let hooks = HeldHooks(&signs);
+    let gate = HeldGate(&signs);
     let (mut out, mut err) = (Vec::new(alloc), Vec::new(alloc));
-    let (status, _disk) = run(rt, alloc, disk, &row.asked, &hooks, &mut out, &mut err);
+    let (status, _disk) = run(rt, alloc, disk, &row.asked, &gate, &mut out, &mut err);
     same(
         rt,
         signs.late.load(Ordering::SeqCst),

@@ -3,7 +3,7 @@ use checkpoint::Store;
 use command_output::WatchedWriter;
 use disk_trait::{Disk, MemDisk};
 use live_service::serve_on;
-use service_threads::{Hooks, NoHooks, ServiceConfig};
+use service_threads::{Gate, OpenGate, ServiceConfig};
 use std::alloc::Global;
 use std::fmt::Debug;
 use std::io::Write;
@@ -68,13 +68,13 @@ pub(crate) fn run<D, G, R, O, E>(
     alloc: Global,
     disk: D,
     asked: &Asked<'_>,
-    hooks: &G,
+    gate: &G,
     out: &mut O,
     err: &mut E,
 ) -> (u8, Option<D>)
 where
     D: Disk + Drop + Send,
-    G: Hooks + Sync,
+    G: Gate + Sync,
     R: Threads + Wait + Abort + Sync,
     O: Write,
     E: Write,
@@ -103,13 +103,13 @@ where
         words,
         config,
         script,
-        hooks,
+        gate,
         out,
         &mut faults,
     )
 }
 
-/// Runs a script on a disk in memory, with no hooks.
+/// Runs a script on a disk in memory, with no gate.
 pub(crate) fn run_plain<R: Threads + Wait + Abort + Sync, O: Write, E: Write>(
     rt: &R,
     alloc: Global,
@@ -118,7 +118,7 @@ pub(crate) fn run_plain<R: Threads + Wait + Abort + Sync, O: Write, E: Write>(
     out: &mut O,
     err: &mut E,
 ) -> (u8, Option<MemDisk>) {
-    run(rt, alloc, disk, asked, &NoHooks, out, err)
+    run(rt, alloc, disk, asked, &OpenGate, out, err)
 }
 
 /// Runs a script on a disk in memory, sees the status and all that is printed and told, and gives the disk back.

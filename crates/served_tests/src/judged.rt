@@ -7,7 +7,7 @@ use disk_trait::FileDisk;
 use rand_core::SeedableRng;
 use rand_core::utils::NextWord;
 use rand_xoshiro::Xoshiro256PlusPlus;
-use service_threads::NoHooks;
+use service_threads::OpenGate;
 use std::alloc::Global;
 use std::fs;
 use std::fs::{File, OpenOptions};
@@ -278,7 +278,7 @@ fn printed_of<R: Files<File = File> + Threads + Wait + Abort + Sync>(
     };
     let (mut out, mut err) = (Vec::new(alloc), Vec::new(alloc));
     let disk = fresh_file(rt);
-    let (status, _disk) = run(rt, alloc, disk, &asked, &NoHooks, &mut out, &mut err);
+    let (status, _disk) = run(rt, alloc, disk, &asked, &OpenGate, &mut out, &mut err);
     same(rt, (status, text_of(rt, &err)), (0, ""), "status");
     out
 }

@@ -38,4 +38,4 @@ pub use committing::{Rebuilds, commit_all, first_generation};
 pub use config::{STACK_LEN, ServiceConfig};
 pub use fault::Fault;
 pub use opening::open_device;
-pub use service_workers::{Answer, Hooks, NoHooks};
+pub use service_workers::{Answer, Gate, OpenGate};

@@ -6,7 +6,7 @@ ghost use Rattle.service_workers.specs.Forwarded.{IsCarried};
 
 use crate::coordinator::Coordinator;
 use crate::forwarding::{Carried, ForwarderOf, Trip, forward};
-use crate::hooks::Hooks;
+use crate::gate::Gate;
 use crate::told::Naming;
 use forwarders::{Forwarder, Refused};
 use generations::History;
@@ -113,17 +113,17 @@ impl<J: Naming> ForwarderOf<J> {
     }
 
     /// Carries a packet from a node to a node in the newest generation. None where all stop.
-    pub fn route<G: Hooks, R: Wait>(
+    pub fn route<G: Gate, R: Wait>(
         &mut self,
         rt: &R,
         alloc: Global,
         coordinator: &Coordinator<J>,
-        hooks: &G,
+        gate: &G,
         trip: Trip,
     ) -> Option<Carried>
         ensures { IfSome result (λ carried. IsCarried self.new.forwarder trip carried) }
     {
-        forward(rt, alloc, coordinator, hooks, &mut self.forwarder, trip)
+        forward(rt, alloc, coordinator, gate, &mut self.forwarder, trip)
     }
 
     /// The address of a node in the newest generation, whose number stands before it. None where all stop. It is refused as

@@ -4,7 +4,7 @@ ghost use Rattle.generations.specs.Beginnings.{GoesOn};
 ghost use Rattle.service_workers.specs.Forwarded.{IsCarried, IsLaunched, IsSent, launched_at};
 
 use crate::coordinator::Coordinator;
-use crate::hooks::Hooks;
+use crate::gate::Gate;
 use crate::stop_cause::StopCause;
 use crate::told::Naming;
 use forwarders::{Forwarder, Refused};
@@ -71,11 +71,11 @@ enum Launched {
 }
 
 // Carries a packet to its end, in the graph of its generation.
-fn carry<J: Naming, G: Hooks, R: Wait>(
+fn carry<J: Naming, G: Gate, R: Wait>(
     rt: &R,
     alloc: Global,
     coordinator: &Coordinator<J>,
-    hooks: &G,
+    gate: &G,
     forwarder: &mut Forwarder,
     trip: Trip,
     packet: Packet,
@@ -98,7 +98,7 @@ fn carry<J: Naming, G: Hooks, R: Wait>(
     for _ in rt.forever() {
         match forwarder.hop(at, packet) {
             Ok(Move::Delivered) => {
-                hooks.after_hop(generation);
+                gate.after_hop(generation);
                 let length = length_over(&shown.graph, &nodes);
                 return Launched::Answered(Carried::Along {
                     generation,
@@ -113,7 +113,7 @@ fn carry<J: Naming, G: Hooks, R: Wait>(
                     packet: on,
                 },
             ) => {
-                hooks.after_hop(generation);
+                gate.after_hop(generation);
                 if nodes.push(next).is_err() {
                     return Launched::Halted(StopCause::Memory);
                 }
@@ -136,11 +136,11 @@ fn carry<J: Naming, G: Hooks, R: Wait>(
 }
 
 // Launches a packet in the newest generation.
-fn launch<J: Naming, G: Hooks, R: Wait>(
+fn launch<J: Naming, G: Gate, R: Wait>(
     rt: &R,
     alloc: Global,
     coordinator: &Coordinator<J>,
-    hooks: &G,
+    gate: &G,
     forwarder: &mut Forwarder,
     trip: Trip,
 ) -> Launched
@@ -155,7 +155,7 @@ fn launch<J: Naming, G: Hooks, R: Wait>(
         Err(refused) => return refused_at(generation, refused),
     };
     match forwarder.launch(trip.from, &address) {
-        Ok(packet) => carry(rt, alloc, coordinator, hooks, forwarder, trip, packet),
+        Ok(packet) => carry(rt, alloc, coordinator, gate, forwarder, trip, packet),
         Err(refused) => refused_at(generation, refused),
     }
 }
@@ -173,11 +173,11 @@ fn refused_at(generation: u64, refused: Refused) -> Launched
 }
 
 // One trip, until it has an answer. Without one all stop.
-pub(crate) fn forward<J: Naming, G: Hooks, R: Wait>(
+pub(crate) fn forward<J: Naming, G: Gate, R: Wait>(
     rt: &R,
     alloc: Global,
     coordinator: &Coordinator<J>,
-    hooks: &G,
+    gate: &G,
     forwarder: &mut Forwarder,
     trip: Trip,
 ) -> Option<Carried>
@@ -187,13 +187,13 @@ pub(crate) fn forward<J: Naming, G: Hooks, R: Wait>(
     ensures carried { IfSome result (λ carried. IsCarried forwarder.new trip carried) }
 {
     for _ in rt.forever() {
-        hooks.before_launch();
+        gate.before_launch();
         let news = coordinator.news(rt);
         if news.stopped {
             return None;
         }
         forwarder.learn(news.told.told());
-        match launch(rt, alloc, coordinator, hooks, forwarder, trip) {
+        match launch(rt, alloc, coordinator, gate, forwarder, trip) {
             Launched::Answered(carried) => return Some(carried),
             Launched::Again => thread::yield_now(),
             Launched::Halted(cause) => {

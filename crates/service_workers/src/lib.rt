@@ -12,7 +12,7 @@
 //! ```text
 //! let coordinator = Coordinator::new(told, graphs, 2);
 //! let (editor, ticket, end) = editor.edit(rt, &coordinator, None, change)?;
-//! let carried = forwarder.route(rt, alloc, &coordinator, &NoHooks, trip)?;
+//! let carried = forwarder.route(rt, alloc, &coordinator, &OpenGate, trip)?;
 //! ```
 #![tactic(auto)]
 
@@ -21,8 +21,8 @@ mod asked_forwarding;
 mod coordinator;
 mod editing;
 mod forwarding;
+mod gate;
 mod graphs;
-mod hooks;
 mod session_editor;
 mod stop_cause;
 mod told;
@@ -31,8 +31,8 @@ mod word_source;
 pub use answer::Answer;
 pub use coordinator::{Coordinator, News, Standing, Work};
 pub use forwarding::{Carried, ForwarderOf, Trip};
+pub use gate::{Gate, OpenGate};
 pub use graphs::{GenerationGraph, Graphs, shared_graph};
-pub use hooks::{Hooks, NoHooks};
 pub use session_editor::{EditEnd, SessionEditor};
 pub use stop_cause::StopCause;
 pub use told::{Naming, ToldOf};

@@ -1,7 +1,7 @@
 // What may hold up a launch.
 
 /// Is called ahead of a launch, and behind an answered hop.
-pub trait Hooks {
+pub trait Gate {
     /// A forwarder is about to look up the newest generation for a launch.
     fn before_launch(&self);
 
@@ -11,9 +11,9 @@ pub trait Hooks {
 
 /// Nothing is held up.
 #[derive(Clone, Copy, Drop)]
-pub struct NoHooks;
+pub struct OpenGate;
 
-impl Hooks for NoHooks {
+impl Gate for OpenGate {
     fn before_launch(&self) {}
 
     fn after_hop(&self, _generation: u64) {}
