@@ -9,6 +9,7 @@ pub mod HeavySteps
 pub mod KidSteps
 pub mod KidsByNode
 pub mod Left
+pub mod NumbersOf
 pub mod OneMore
 pub mod SizeSteps
 pub mod Spots

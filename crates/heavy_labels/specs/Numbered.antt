@@ -1,8 +1,9 @@
 -- What `number` answers: the members in preorder, each with its record and its label.
-use Rattle.std.specs.Prelude.{◌≡◌, ℕ, ◌+◌, ◌*◌, ◌^◌, ◌<◌, ◌≤◌, Bool, true, false, ◌⊎◌, Option, None, List, [], ◌∷◌, ◌++◌, length, reverse}
+use Rattle.std.specs.Prelude.{◌≡◌, ℕ, ◌+◌, ◌*◌, ◌^◌, ◌<◌, ◌≤◌, Bool, true, false, ◌⊎◌, Option, None, List, [], ◌∷◌, ◌++◌, length, map, reverse, IsPermutation}
 use Rattle.route_tree.specs.Rose.{Forest, no_trees, twig, count, Tree, tree_size}
 use Rattle.heavy_labels.specs.Label.{Label}
 use Rattle.heavy_labels.specs.Numbering.{Record, Place, Line, Way, Among, place, lights_at, tree_lines}
+use Rattle.route_tree.specs.Members.{members_of}
 use Rattle.route_tree.specs.Shape.{HasPorts, IsHeavyHead, IsHeavyFirst}
 use Rattle.heavy_labels.specs.Stepped.{record_of}
 use Rattle.heavy_labels.specs.declared.label.TheConstants.{MOST_LIGHTS}
@@ -53,6 +54,13 @@ IsOn p (q ∷ qs) = (p ≡ q) ⊎ IsOn p qs
 abbrev pub IsListed : Brief → List Brief → Type 0
 IsListed b [] = ⊥
 IsListed b (c ∷ cs) = (b ≡ c) ⊎ IsListed b cs
+
+-- The members of a tree are listed with their numbers, in any order.
+pub record AreNumbersOf (t : Tree) (all : List Brief) : Type 0 where
+  -- each member stands there with its record and its label
+  pub each : (b : Brief) → IsListed b (map head_brief (tree_lines t)) → IsListed b all
+  -- each member's node stands there once, and no other
+  pub once : IsPermutation (map (λ m. m.node) (members_of t)) (map (λ b. b.0) all)
 
 -- From the member b of the tree t the steps by the label of c follow the tree path to c and end there: each member on it
 -- is listed, none stands twice, and it has fewer edges than the tree has members.

@@ -9,8 +9,8 @@ ghost use Rattle.heavy_labels.specs.FlatNumbers.{AreFlat, IsLabelAt, label_below
 ghost use Rattle.heavy_labels.specs.HeavyKids.{AreAheadTo, AreHeavy};
 ghost use Rattle.heavy_labels.specs.Label.{Label};
 ghost use Rattle.heavy_labels.specs.Measured.{AreMeasured};
-ghost use Rattle.heavy_labels.specs.Numbered.{Brief, IsListed, head_brief, seen};
-ghost use Rattle.heavy_labels.specs.Numbering.{lights_at, tree_lines};
+ghost use Rattle.heavy_labels.specs.Numbered.{AreNumbersOf, seen};
+ghost use Rattle.heavy_labels.specs.Numbering.{lights_at};
 ghost use Rattle.heavy_labels.specs.Sizes.{AreSizes};
 
 use crate::ahead::numbers_ahead;
@@ -155,9 +155,8 @@ pub fn number_members<A: Allocator + Clone>(
     requires members { AreMembers members.now }
     requires places { HasPlaces members.now places.now }
     ensures nodes { IfOk result (λ all. map (λ n. n.node) all.items ≡ map (λ m. m.node) members.now) }
-    ensures lines { IfOk result (λ all. (d : Tree) (b : Brief)
-        → IsListed b (map head_brief (tree_lines (first_or d (subtrees members.now))))
-        → IsListed b (map seen all.items)) }
+    ensures numbers { IfOk result (λ all. (d : Tree)
+        → AreNumbersOf (first_or d (subtrees members.now)) (map seen all.items)) }
 {
     let above = parents(scratch.clone()?, members, places)?;
     let sizes = sizes(scratch.clone()?, members, &above)?;

@@ -13,6 +13,7 @@
 //! the two, visit no member twice, and end with [`TreeStep::Arrived`]. [`number_members`] gives each
 //! member the same record and label, in the order of the members, and makes no tree: it goes over a few
 //! lists of numbers, by which member is whose parent and by ascending node, and nothing calls itself.
+//! `AreNumbersOf` of `specs/Numbered` says what both list.
 //!
 //! ```text
 //! let all = number(alloc, &tree)?;

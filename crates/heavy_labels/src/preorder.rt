@@ -1,5 +1,5 @@
 ghost use Rattle.std.specs.Prelude.{◌≡◌, ◌≤◌, ◌++◌, OnOk, IfOk, length, map, []};
-ghost use Rattle.heavy_labels.specs.Numbered.{HasFewLights, HasRoom, IsNumberedFrom, LeadsEverywhere, brief, head_brief, seen, tree_briefs};
+ghost use Rattle.heavy_labels.specs.Numbered.{AreNumbersOf, HasFewLights, HasRoom, IsNumberedFrom, LeadsEverywhere, brief, head_brief, seen, tree_briefs};
 ghost use Rattle.heavy_labels.specs.Numbering.{lights_at, tree_lines};
 ghost use Rattle.route_tree.specs.Rose.{tree_size};
 
@@ -87,6 +87,7 @@ pub fn number<A: Allocator>(alloc: Global, tree: &RouteTree<A>) -> Result<Number
     ensures heads { IfOk result (λ all. map seen all.items ≡ map head_brief (tree_lines tree.now)) }
     ensures leads { IfOk result (λ all. LeadsEverywhere tree.now (map seen all.items)) }
     ensures few { IfOk result (λ all. HasFewLights (map seen all.items)) }
+    ensures numbers { IfOk result (λ all. AreNumbersOf tree.now (map seen all.items)) }
 {
     let root = tree.root();
     let mut out = Vec::with_capacity(alloc, root.size())?;

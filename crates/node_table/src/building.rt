@@ -12,6 +12,7 @@ ghost use Rattle.node_table.specs.Tables.{value_at};
 
 use crate::columns::{entry_of, number_reached};
 use crate::laws::graph_is_sound;
+use crate::numbering::{ByLists, ByTrees, Numbering};
 use crate::partial::PartialScheme;
 use crate::parts::{Entry, Listed, Near, Parts};
 use crate::scheme::Scheme;
@@ -198,7 +199,7 @@ fn add_rows(
 
 /// The numbered members of a root's tree: what a landmark reaches, or the cluster of another node. The workspace then holds
 /// what was reached, and the places tell where.
-fn root_members<A: Allocator>(
+fn root_members<N: Numbering>(
     alloc: Global,
     graph: &Graph,
     landmarks: &Landmarks,
@@ -206,7 +207,7 @@ fn root_members<A: Allocator>(
     workspace: &mut Workspace,
     places: &mut [u16],
     root: u16,
-    scratch: A,
+    numbering: &N,
 ) -> Result<Numbered, AllocError>
     requires inside { root < graph.now.nodes }
     requires known { KnowsNearest graph.now landmarks.now nearest.now.nearest }
@@ -223,10 +224,10 @@ fn root_members<A: Allocator>(
     graph_is_sound(graph);
     if landmarks.holds(root) {
         workspace.from_root(graph, root)?;
-        return number_reached(alloc, graph, root, workspace.members(), places, scratch);
+        return number_reached(alloc, graph, root, workspace.members(), places, numbering);
     }
     cluster_in(workspace, graph, nearest, root)?;
-    number_reached(alloc, graph, root, workspace.members(), places, scratch)
+    number_reached(alloc, graph, root, workspace.members(), places, numbering)
 }
 
 fn ports_of(alloc: Global, graph: &Graph, x: u16) -> Result<Vec<u16>, AllocError>
@@ -326,9 +327,8 @@ fn empty_parts(
     })
 }
 
-/// One root more of the range that begins with `first`: its tree is grown in an arena made for it over the scratch, and both
-/// are gone when its rows are in the tables.
-fn add_root<A: Allocator>(
+/// One root more of the range that begins with `first`: the members of its tree are numbered, and their rows put into the tables.
+fn add_root<N: Numbering>(
     alloc: Global,
     graph: &Graph,
     landmarks: &Landmarks,
@@ -338,7 +338,7 @@ fn add_root<A: Allocator>(
     parts: &mut Parts,
     first: u16,
     root: u16,
-    scratch: A,
+    numbering: &N,
 ) -> Result<(), AllocError>
     requires inside { root < graph.now.nodes }
     requires known { KnowsNearest graph.now landmarks.now nearest.now.nearest }
@@ -351,13 +351,13 @@ fn add_root<A: Allocator>(
         (IsBuildOf graph.now landmarks.now nearest.now.nearest parts.old.generation parts.new first (root + 1)) }
 {
     let numbered = root_members(
-        alloc, graph, landmarks, nearest, workspace, places, root, scratch,
+        alloc, graph, landmarks, nearest, workspace, places, root, numbering,
     )?;
     add_rows(alloc, parts, root, workspace.members(), places, numbered)
 }
 
 /// The trees of the roots from the first to below the last, one after the other, over one workspace.
-fn add_roots<A: Allocator + Clone>(
+fn add_roots<N: Numbering>(
     alloc: Global,
     graph: &Graph,
     landmarks: &Landmarks,
@@ -365,7 +365,7 @@ fn add_roots<A: Allocator + Clone>(
     parts: &mut Parts,
     first: u16,
     last: u16,
-    scratch: A,
+    numbering: &N,
 ) -> Result<(), AllocError>
     requires range { CanBuild graph.now landmarks.now nearest.now.nearest first last }
     requires built { IsBuildOf graph.now landmarks.now nearest.now.nearest parts.old.generation parts.old first first }
@@ -376,7 +376,6 @@ fn add_roots<A: Allocator + Clone>(
     let mut workspace = Workspace::new(alloc, nodes)?;
     let mut places = vec![in alloc; 0; nodes as usize]?;
     for root in first..last {
-        let below = scratch.clone()?;
         add_root(
             alloc,
             graph,
@@ -387,14 +386,14 @@ fn add_roots<A: Allocator + Clone>(
             parts,
             first,
             root,
-            below,
+            numbering,
         )?;
     }
     Ok(())
 }
 
-/// What a build has of the roots from the first to below the last: their trees. Each tree is grown in an arena made for it
-/// over the scratch; nothing of that is kept. An `Err` means that memory was refused.
+/// What a build has of the roots from the first to below the last: their trees. They are numbered over lists, as
+/// [`build_by_lists`] does it, and nothing of the scratch is kept. An `Err` means that memory was refused.
 pub fn build_between<A: Allocator + Clone>(
     alloc: Global,
     graph: &Graph,
@@ -410,15 +409,43 @@ pub fn build_between<A: Allocator + Clone>(
         IsBuildOf graph.now landmarks.now nearest.now.nearest generation partial first last) }
 {
     let mut parts = empty_parts(alloc, graph, landmarks, nearest, generation, first)?;
+    let lists = ByLists { scratch };
     add_roots(
-        alloc, graph, landmarks, nearest, &mut parts, first, last, scratch,
+        alloc, graph, landmarks, nearest, &mut parts, first, last, &lists,
     )?;
     Ok(PartialScheme::of(parts))
 }
 
+/// The scheme of all roots, whose trees are numbered one after the other.
+fn build_by<N: Numbering>(
+    alloc: Global,
+    graph: &Graph,
+    landmarks: &Landmarks,
+    generation: u64,
+    numbering: &N,
+) -> Result<Scheme, AllocError>
+    requires same_size { length landmarks.now ≡ graph.now.nodes }
+    ensures { IfOk result (λ scheme. IsSchemeUnder graph.now landmarks.now generation scheme) }
+{
+    let nearest = from_landmarks(alloc, graph, landmarks)?;
+    let mut parts = empty_parts(alloc, graph, landmarks, &nearest, generation, 0)?;
+    add_roots(
+        alloc,
+        graph,
+        landmarks,
+        &nearest,
+        &mut parts,
+        0,
+        graph.nodes(),
+        numbering,
+    )?;
+    let scheme = PartialScheme::of(parts).finish(alloc, graph)?;
+    Ok(scheme)
+}
+
 /// The scheme of a graph with these landmarks: all eight rules hold of it, so it serves the graph. Each root's tree is grown
-/// in an arena made for it over the scratch; the scheme keeps nothing of that, and is the same for every scratch. An `Err`
-/// means that memory was refused.
+/// in an arena made for it over the scratch; the scheme keeps nothing of that, and is the same for every scratch. Trees are as
+/// deep as the graph has nodes, so a large graph needs a thread with a large stack. An `Err` means that memory was refused.
 pub fn build<A: Allocator + Clone>(
     alloc: Global,
     graph: &Graph,
@@ -429,17 +456,20 @@ pub fn build<A: Allocator + Clone>(
     requires same_size { length landmarks.now ≡ graph.now.nodes }
     ensures { IfOk result (λ scheme. IsSchemeUnder graph.now landmarks.now generation scheme) }
 {
-    let nearest = from_landmarks(alloc, graph, landmarks)?;
-    let whole = build_between(
-        alloc,
-        graph,
-        landmarks,
-        &nearest,
-        generation,
-        0,
-        graph.nodes(),
-        scratch,
-    )?;
-    let scheme = whole.finish(alloc, graph)?;
-    Ok(scheme)
+    build_by(alloc, graph, landmarks, generation, &ByTrees { scratch })
+}
+
+/// The same scheme, made without trees: each root's members are numbered over a few lists, which lie in an arena made for them
+/// over the scratch. It takes less time than [`build`], and any stack will do. An `Err` means that memory was refused.
+pub fn build_by_lists<A: Allocator + Clone>(
+    alloc: Global,
+    graph: &Graph,
+    landmarks: &Landmarks,
+    generation: u64,
+    scratch: A,
+) -> Result<Scheme, AllocError>
+    requires same_size { length landmarks.now ≡ graph.now.nodes }
+    ensures { IfOk result (λ scheme. IsSchemeUnder graph.now landmarks.now generation scheme) }
+{
+    build_by(alloc, graph, landmarks, generation, &ByLists { scratch })
 }

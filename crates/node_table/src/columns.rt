@@ -2,22 +2,16 @@
 ghost use Rattle.std.specs.Prelude.{◌≡◌, ◌<◌, ◌≤◌, ℕ, Option, IfOk, length, map, nat_eq, slice_index};
 ghost use Rattle.std.specs.List.{All, IsDistinct};
 ghost use Rattle.distances.specs.Workspace.{AreLinked};
-ghost use Rattle.heavy_labels.specs.Numbered.{Brief, IsListed, seen, head_brief};
-ghost use Rattle.heavy_labels.specs.Numbering.{tree_lines};
-ghost use Rattle.route_tree.specs.Growth.{subtrees, first_or};
-ghost use Rattle.route_tree.specs.Members.{AreMembers};
-ghost use Rattle.route_tree.specs.Places.{HasPlaces};
-ghost use Rattle.route_tree.specs.Rose.{Tree};
 ghost use Rattle.node_table.specs.Columns.{linked_member, AreRowsWithin, IsTreeWithin};
 ghost use Rattle.node_table.specs.RowLists.{ArePlaces, AreReached, entry_by, nodes_linked, nodes_numbered, rows_by};
 
+use crate::numbering::Numbering;
 use crate::parts::Entry;
-use bumpalo::Bump;
 use distances::Linked;
 use graph_edits::{Graph, MOST_NODES};
-use heavy_labels::{Numbered, NumberedMember, number_members};
+use heavy_labels::{Numbered, NumberedMember};
 use route_tree::{MOST_MEMBERS, Member};
-use std::alloc::{AllocError, Allocator, Global};
+use std::alloc::{AllocError, Global};
 
 const _: () = prove!(MOST_NODES as usize <= MOST_MEMBERS);
 
@@ -43,25 +37,6 @@ fn members(alloc: Global, reached: &[Linked]) -> Result<Vec<Member>, AllocError>
         all.push(member(there))?;
     }
     Ok(all)
-}
-
-/// The records and labels of the members, in their order. What this takes lies in an arena of its own over the scratch, and both
-/// are dropped here.
-fn numbered<A: Allocator>(
-    alloc: Global,
-    members: &[Member],
-    places: &[u16],
-    scratch: A,
-) -> Result<Numbered, AllocError>
-    requires members { AreMembers members.now }
-    requires places { HasPlaces members.now places.now }
-    ensures lines { IfOk result (λ all. (d : Tree) (b : Brief)
-        → IsListed b (map head_brief (tree_lines (first_or d (subtrees members.now))))
-        → IsListed b (map seen all.items)) }
-    ensures nodes { IfOk result (λ all. map (λ n. n.node) all.items ≡ map (λ a. a.node) members.now) }
-{
-    let arena = Bump::new(scratch);
-    number_members(alloc, members, places, &arena)
 }
 
 /// Notes for each node that is reached its place in the list. What the table has for other nodes stays.
@@ -99,13 +74,13 @@ pub(crate) fn entry_of(
 
 /// The numbered members of the tree of what is reached from a root. The places are room for a number for each node: what they
 /// held doesn't matter, and they then tell where each member was reached.
-pub(crate) fn number_reached<A: Allocator>(
+pub(crate) fn number_reached<N: Numbering>(
     alloc: Global,
     graph: &Graph,
     root: u16,
     reached: &[Linked],
     places: &mut [u16],
-    scratch: A,
+    numbering: &N,
 ) -> Result<Numbered, AllocError>
     requires inside { root < graph.now.nodes }
     requires places { length places.old ≡ graph.now.nodes }
@@ -121,6 +96,6 @@ pub(crate) fn number_reached<A: Allocator>(
     let _sound = graph.nodes();
     let members = members(alloc, reached)?;
     note_places(reached, places);
-    let numbered = numbered(alloc, &members, places, scratch)?;
+    let numbered = numbering.numbered(alloc, &members, places)?;
     Ok(numbered)
 }

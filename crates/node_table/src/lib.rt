@@ -11,8 +11,12 @@
 //! ports of the graph), with exactly the landmarks and the generation that were handed in. [`scheme_laws`] has the laws: the rules
 //! give good service, and what holds of a packet on its way.
 //!
-//! A build can be split by ranges of roots: [`build_between`] builds one range, [`PartialScheme::join`] joins two ranges that
-//! meet, and [`PartialScheme::finish`] makes the scheme of all roots, under the contract of [`build`].
+//! [`build`] grows each root's tree in an arena over the scratch, numbers it, and drops both before the next root. Trees are walked by
+//! recursion: on a network of which trees may be deep it needs a thread with a large stack. [`build_by_lists`] has the same contract
+//! and makes no tree: it numbers each root's members over a few flat lists, in less time and on any stack.
+//!
+//! A build over lists can be split by ranges of roots: [`build_between`] builds one range, [`PartialScheme::join`] joins two ranges
+//! that meet, and [`PartialScheme::finish`] makes the scheme of all roots, under the contract of [`build`].
 //!
 //! [`Scheme::assemble`] takes any tables, and takes no memory. All calls of a scheme are total for any tables. None takes memory
 //! but [`Scheme::carry`], for its trail.
@@ -28,6 +32,7 @@
 mod building;
 mod columns;
 mod laws;
+mod numbering;
 mod numbers_apart;
 mod packet;
 mod partial;
@@ -39,7 +44,7 @@ mod scheme;
 mod search;
 mod trail;
 
-pub use building::{build, build_between};
+pub use building::{build, build_between, build_by_lists};
 pub use laws::{graph_is_sound, scheme_laws};
 pub use packet::{Address, Home, Move, Packet, Refused};
 pub use partial::PartialScheme;

@@ -20,7 +20,7 @@ fn room_for(members: &[Member]) -> usize
     room
 }
 
-/// The place of each member, at its node: a table as [`crate::RouteTree::grow_by`] takes it.
+/// A table with the place of each member at its node.
 pub fn table_of<A: Allocator>(alloc: A, members: &[Member]) -> Result<Vec<u16, A>, AllocError>
     requires few { length members.now ≤ MOST_MEMBERS }
     requires once { IsEachOnce members.now }

@@ -1,7 +1,6 @@
 ghost use Rattle.std.specs.Prelude.{◌≡◌, ◌≤◌, IfOk, IsPermutation, length, slice_index_or};
 ghost use Rattle.route_tree.specs.Growth.{subtrees, first_or};
 ghost use Rattle.route_tree.specs.Members.{AreMembers, members_of};
-ghost use Rattle.route_tree.specs.Places.{HasPlaces};
 ghost use Rattle.route_tree.specs.Order.{in_order, HaveEachNodeOnce};
 ghost use Rattle.route_tree.specs.Front.{IsInOrder};
 ghost use Rattle.route_tree.specs.Rose.{Tree, tree_size};
@@ -50,32 +49,9 @@ impl<A: Allocator + Clone> RouteTree<A> {
         ensures each_once { IfOk result (λ t. IsPermutation members.now (members_of t)) }
         ensures size { IfOk result (λ t. tree_size t ≡ length members.now) }
     {
-        let places = table_of(alloc.clone()?, members)?;
-        RouteTree::grow_by(alloc, root, members, places.as_slice())
-    }
-
-    /// The same tree, where the caller has a table of the members' places: at each member's node its place in the list.
-    /// What the table has at other nodes doesn't matter, so one table can serve one tree after another. It takes no time
-    /// and no memory for nodes that are no members.
-    ///
-    /// # Errors
-    ///
-    /// [`AllocError`] where `alloc` refused a growth. Nothing is left behind.
-    pub fn grow_by(
-        alloc: A,
-        root: u16,
-        members: &[Member],
-        places: &[u16],
-    ) -> Result<RouteTree<A>, AllocError>
-        requires members { AreMembers members.now }
-        requires root { (d : Member) → (slice_index_or members.now 0 d).node ≡ root }
-        requires places { HasPlaces members.now places.now }
-        ensures tree { IfOk result (λ t. (d : Tree) → t ≡ first_or d (subtrees members.now)) }
-        ensures each_once { IfOk result (λ t. IsPermutation members.now (members_of t)) }
-        ensures size { IfOk result (λ t. tree_size t ≡ length members.now) }
-    {
         prove_eq!(members[0].node, root);
-        let grown = grown(alloc, members, places)?;
+        let places = table_of(alloc.clone()?, members)?;
+        let grown = grown(alloc, members, places.as_slice())?;
         Ok(RouteTree { root: grown })
     }
 }

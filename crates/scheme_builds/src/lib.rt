@@ -8,11 +8,15 @@
 //! [`scheme_of`] chooses the landmarks and builds, in one call: the scheme keeps all rules, serves the graph, has exactly the landmarks
 //! that these words give, and the generation that was handed in (`IsSchemeOf` of `specs/Schemes`).
 //!
-//! [`scheme_of_in_threads`] promises the same. A build grows a tree for each root, one after the other, and none of them looks at
-//! another: so the roots are cut into ranges, each worker builds its range in a thread of its own, and the ranges are joined in the order
-//! of the roots. Where no thread can be made, the caller builds that range itself. The tables are the same, whatever the number of
-//! workers (a test holds it). [`scheme_in_threads`] takes landmarks, and has the contract of [`node_table::build`].
-//! [`workers_here`] says how many workers pay on this machine, and [`workers_for`] how many pay where there are so many processors.
+//! [`scheme_of_in_threads`] promises the same. The trees of the roots don't look at one another: so the roots are cut into ranges, each
+//! worker builds its range in a thread of its own, and the ranges are joined in the order of the roots. Where no thread can be made, the
+//! caller builds that range itself. The tables are the same, whatever the number of workers (a test holds it). [`scheme_in_threads`]
+//! takes landmarks, and has the contract of [`node_table::build`]. [`workers_here`] says how many workers pay on this machine, and
+//! [`workers_for`] how many pay where there are so many processors.
+//!
+//! One worker builds a network of fewer than [`LEAST_SHARED`] nodes by [`node_table::build`], which grows each root's tree and drops it
+//! before the next. [`scheme_of`], one worker in a larger network, and each range of several workers number members over lists, as
+//! [`node_table::build_by_lists`] does, in less time. So no tree here is deeper than [`LEAST_SHARED`], and no call needs a large stack.
 //!
 //! ```text
 //! let scheme = scheme_of(alloc, &graph, &[u64::MAX, 0], generation, &heap)?;
@@ -23,10 +27,9 @@
 //!
 //! # Queries
 //!
-//! A query builds the scheme of the graph with these words, asks it, and lets it go. The trees that are grown lie in a heap of the
-//! call's own, in threads one for each range, so they take no more memory than [`SCRATCH_LEN`] bytes each; where that isn't enough the
-//! query answers that memory has run out. A range's thread has a stack for deep trees; whoever builds in its own thread ([`scheme_of`],
-//! [`carry_packet`]) gives it one.
+//! A query builds the scheme of the graph with these words, asks it, and lets it go. What the build needs beside the tables lies in a
+//! heap of the call's own, in threads one for each range, so it takes no more memory than [`SCRATCH_LEN`] bytes each; where that isn't
+//! enough the query answers that memory has run out.
 //!
 //! [`carry_in`] carries a packet in a scheme that is there already. [`carry_packet`] builds one first, and answers a trail at most three times as long as any walk where a walk is there, and that there is none where none is,
 //! each by the scheme of exactly these words (`IsRouteAnswer`); [`check_scheme`] finds no fault, and counts exactly the landmarks that

@@ -33,7 +33,7 @@ pub struct Checked {
     pub fault: Option<certificate::Fault>,
 }
 
-/// The scheme of the graph by these landmark words. Its trees lie in a heap of this call's own.
+/// The scheme of the graph by these landmark words. The scratch is a heap of this call's own.
 fn built(alloc: Global, graph: &Graph, words: &[u64], generation: u64) -> Result<Scheme, AllocError>
     ensures { IfOk result (λ scheme. IsSchemeOf graph.now words.now generation scheme) }
 {
@@ -75,7 +75,7 @@ pub fn carry_in(
 }
 
 /// Carries a packet from a node to a node, in the scheme of the graph by these landmark words. Of the words the first count,
-/// one for each node, and for each that is missing the greatest. The trees lie in a heap of this call's own.
+/// one for each node, and for each that is missing the greatest. The scratch is a heap of this call's own.
 pub fn carry_packet(
     alloc: Global,
     graph: &Graph,

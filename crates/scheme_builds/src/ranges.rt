@@ -3,44 +3,19 @@ ghost use Rattle.std.specs.Prelude.{◌<◌, ◌≤◌, ◌*◌, length};
 ghost use Rattle.node_table.specs.KnownNearest.{CanBuild, KnowsNearest};
 ghost use Rattle.scheme_builds.specs.Ranges.{AreRanges, HasBuilt, IsRange};
 
-use crate::workers::LEAST_SHARED;
-use core::thread::Stack;
 use distances::Nearest;
 use graph_edits::Graph;
 use landmarks::Landmarks;
 use linked_list_allocator::LocalHeap;
 use node_table::{PartialScheme, build_between};
 use std::alloc::{AllocError, Global};
-use std::snapshot::Snapshot;
-use std::sync::Wait;
 use std::thread;
-use std::thread::{Promise, Threads};
+use std::thread::Threads;
 
-/// How many bytes the trees of one range may take.
+/// How many bytes a build may take of its scratch.
 pub const SCRATCH_LEN: usize = 67_108_864;
 
-/// How many bytes of stack a thread has that grows trees: they are as deep as a graph has nodes.
-const STACK_LEN: usize = 67_108_864;
-
-// That a thread builds the roots from `first` on and below `last`.
-#[derive(Drop)]
-struct RangePromise {
-    graph: Snapshot<Graph>,
-    landmarks: Snapshot<Landmarks>,
-    nearest: Snapshot<Nearest>,
-    generation: u64,
-    first: u16,
-    last: u16,
-}
-
-impl Promise<Result<PartialScheme, AllocError>> for RangePromise {
-    ghost use Rattle.scheme_builds.specs.Ranges.{HasBuilt};
-
-    ghost kept_by = { λ p made. HasBuilt p.graph.value p.landmarks.value p.nearest.value.nearest
-        p.generation p.first p.last made };
-}
-
-/// What a build has of the roots from `first` on and below `last`. The trees are grown over a heap of this call's own.
+/// What a build has of the roots from `first` on and below `last`. Their trees are numbered over a heap of this call's own.
 fn build_roots(
     alloc: Global,
     graph: &Graph,
@@ -59,55 +34,8 @@ fn build_roots(
     )
 }
 
-/// The same, in a thread with a stack for deep trees where one can be made, and else in this one.
-fn build_apart<R: Threads + Wait>(
-    rt: &R,
-    alloc: Global,
-    graph: &Graph,
-    landmarks: &Landmarks,
-    nearest: &Nearest,
-    generation: u64,
-    first: u16,
-    last: u16,
-) -> Result<PartialScheme, AllocError>
-    requires { CanBuild graph.now landmarks.now nearest.now.nearest first last }
-    ensures { HasBuilt graph.now landmarks.now nearest.now.nearest generation first last result }
-{
-    thread::scope(
-        thread::scope_env(),
-        rt,
-        |scope| -> Result<PartialScheme, AllocError>
-            requires { CanBuild graph.now landmarks.now nearest.now.nearest first last }
-            ensures { HasBuilt graph.entry.now landmarks.entry.now nearest.entry.now.nearest
-                generation first last result }
-        {
-            let promise = RangePromise {
-                graph: Snapshot::of(graph),
-                landmarks: Snapshot::of(landmarks),
-                nearest: Snapshot::of(nearest),
-                generation,
-                first,
-                last,
-            };
-            let job = || -> Result<PartialScheme, AllocError>
-                requires { CanBuild graph.now landmarks.now nearest.now.nearest first last }
-                ensures { HasBuilt graph.entry.now landmarks.entry.now nearest.entry.now.nearest
-                    generation first last result }
-            { build_roots(alloc, graph, landmarks, nearest, generation, first, last) };
-            match Stack::new()
-                .stack_size(STACK_LEN)
-                .spawn_scoped_with(scope, promise, job)
-            {
-                Ok(child) => child.join(rt),
-                Err(_) => build_roots(alloc, graph, landmarks, nearest, generation, first, last),
-            }
-        },
-    )
-}
-
-/// What a build has of the range of this number. In a small network trees are not deep: they need no stack of their own.
-fn build_range<R: Threads + Wait>(
-    rt: &R,
+/// What a build has of the range of this number.
+fn build_range(
     alloc: Global,
     graph: &Graph,
     landmarks: &Landmarks,
@@ -123,12 +51,7 @@ fn build_range<R: Threads + Wait>(
     let first = i.saturating_mul(size as usize).min(nodes);
     let last = (first + size as usize).min(nodes);
     let (first, last) = (first as u16, last as u16);
-    if graph.nodes() < LEAST_SHARED {
-        return build_roots(alloc, graph, landmarks, nearest, generation, first, last);
-    }
-    build_apart(
-        rt, alloc, graph, landmarks, nearest, generation, first, last,
-    )
+    build_roots(alloc, graph, landmarks, nearest, generation, first, last)
 }
 
 /// What a build has of all roots, out of that of all ranges.
@@ -156,7 +79,7 @@ fn join_ranges(
 
 /// What a build has of all roots. They are cut into ranges of this size, each of which is built in a thread of its own where
 /// one can be made.
-pub(crate) fn build_ranges<R: Threads + Wait + Sync>(
+pub(crate) fn build_ranges<R: Threads + Sync>(
     rt: &R,
     alloc: Global,
     graph: &Graph,
@@ -177,7 +100,7 @@ pub(crate) fn build_ranges<R: Threads + Wait + Sync>(
         &|i: usize| -> Result<PartialScheme, AllocError>
             requires { KnowsNearest graph.now landmarks.now nearest.now.nearest }
             ensures { IsRange graph.entry.now landmarks.entry.now nearest.entry.now.nearest generation size i result }
-        { build_range(rt, alloc, graph, landmarks, nearest, generation, size, i) },
+        { build_range(alloc, graph, landmarks, nearest, generation, size, i) },
     )?;
     join_ranges(graph, landmarks, nearest, generation, size, made)
 }

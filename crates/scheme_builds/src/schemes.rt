@@ -5,12 +5,13 @@ ghost use Rattle.scheme_builds.specs.Schemes.{IsSchemeOf};
 use crate::words::first_words;
 use graph_edits::Graph;
 use landmarks::Landmarks;
-use node_table::{Scheme, build};
+use node_table::{Scheme, build_by_lists};
 use std::alloc::{AllocError, Allocator, Global};
 
 /// The scheme of a graph, with the landmarks that these words give and this generation. Of the words the first count, one
-/// for each node, and for each that is missing the greatest. Each root's tree is grown in an arena made for it over the
-/// scratch, and the scheme keeps nothing of that. An `Err` means that memory was refused, by the scratch or beside it.
+/// for each node, and for each that is missing the greatest. The members of each root's tree are numbered over lists in an arena
+/// made for them over the scratch, so any stack will do, and the scheme keeps nothing of that. An `Err` means that memory was
+/// refused, by the scratch or beside it.
 pub fn scheme_of<A: Allocator + Clone>(
     alloc: Global,
     graph: &Graph,
@@ -23,5 +24,5 @@ pub fn scheme_of<A: Allocator + Clone>(
     let nodes = graph.nodes() as usize;
     let first = first_words(alloc, words, nodes)?;
     let landmarks = Landmarks::choose(alloc, nodes, &first)?;
-    build(alloc, graph, &landmarks, generation, scratch)
+    build_by_lists(alloc, graph, &landmarks, generation, scratch)
 }

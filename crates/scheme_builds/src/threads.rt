@@ -3,21 +3,40 @@ ghost use Rattle.std.specs.Prelude.{◌≡◌, IfOk, length};
 ghost use Rattle.node_table.specs.Schemes.{IsSchemeUnder};
 ghost use Rattle.scheme_builds.specs.Schemes.{IsSchemeOf};
 
-use crate::ranges::build_ranges;
+use crate::ranges::{SCRATCH_LEN, build_ranges};
 use crate::words::first_words;
-use crate::workers::at_most;
+use crate::workers::{LEAST_SHARED, at_most};
 use distances::from_landmarks;
 use graph_edits::Graph;
 use landmarks::Landmarks;
-use node_table::Scheme;
+use linked_list_allocator::LocalHeap;
+use node_table::{Scheme, build, build_by_lists};
 use std::alloc::{AllocError, Global};
 use std::sync::Wait;
 use std::thread::Threads;
 
+/// The scheme of a graph with these landmarks, built by one worker over a heap of this call's own: tree by tree in a network of fewer
+/// than [`LEAST_SHARED`] nodes, where no tree is deep, and over lists in a larger one. So any stack will do.
+fn built_alone(
+    alloc: Global,
+    graph: &Graph,
+    landmarks: &Landmarks,
+    generation: u64,
+) -> Result<Scheme, AllocError>
+    requires same_size { length landmarks.now ≡ graph.now.nodes }
+    ensures { IfOk result (λ scheme. IsSchemeUnder graph.now landmarks.now generation scheme) }
+{
+    let heap = LocalHeap::new(alloc, SCRATCH_LEN)?;
+    if graph.nodes() < LEAST_SHARED {
+        return build(alloc, graph, landmarks, generation, &heap);
+    }
+    build_by_lists(alloc, graph, landmarks, generation, &heap)
+}
+
 /// The scheme of a graph with these landmarks, as [`node_table::build`] builds it: all eight rules hold of it, so it serves the
-/// graph. The roots are cut into as many ranges as there are workers, at least one and at most
-/// [`MOST_WORKERS`](crate::MOST_WORKERS), and each range is built in a thread of its own where one can be made. An `Err` means
-/// that memory was refused, to any of them.
+/// graph. The roots are cut into as many ranges as there are workers, at most [`MOST_WORKERS`](crate::MOST_WORKERS), and each range
+/// is built over lists, in a thread of its own where one can be made. One worker, or none, builds in this thread: tree by tree in a
+/// network of fewer than [`LEAST_SHARED`] nodes. An `Err` means that memory was refused, to any of them.
 pub fn scheme_in_threads<R: Threads + Wait + Sync>(
     rt: &R,
     alloc: Global,
@@ -29,8 +48,12 @@ pub fn scheme_in_threads<R: Threads + Wait + Sync>(
     requires same_size { length landmarks.now ≡ graph.now.nodes }
     ensures { IfOk result (λ scheme. IsSchemeUnder graph.now landmarks.now generation scheme) }
 {
+    let workers = at_most(workers);
+    if workers == 1 {
+        return built_alone(alloc, graph, landmarks, generation);
+    }
     let nearest = from_landmarks(alloc, graph, landmarks)?;
-    let size = graph.nodes().div_ceil(at_most(workers)).max(1);
+    let size = graph.nodes().div_ceil(workers).max(1);
     let whole = build_ranges(rt, alloc, graph, landmarks, &nearest, generation, size)?;
     let scheme = whole.finish(alloc, graph)?;
     Ok(scheme)

@@ -22,7 +22,7 @@ use std::alloc::{AllocError, Global};
 use std::sync::{Arc, Wait};
 use std::thread::Threads;
 
-/// What rebuilds take: the landmark words, the one heap for the trees of each scheme that is built in the committer's thread, and
+/// What rebuilds take: the landmark words, the one heap for the numbering of trees of each scheme that is built in the committer's thread, and
 /// their pace.
 #[derive(Drop)]
 pub struct Rebuilds {

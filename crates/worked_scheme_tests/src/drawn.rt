@@ -1,15 +1,17 @@
-// Drawn graphs: their routes against a plain search, their schemes under each allocator, and one tree at a time.
-use crate::helpers::{Edge, built, carried, got, graph_of, heap_of, same};
+// Drawn graphs: their routes against a plain search, and their schemes by trees and over lists, under each allocator.
+use crate::helpers::{Edge, built, by_lists, carried, got, graph_of, heap_of, same};
 use bumpalo::Bump;
 use graph_edits::Graph;
 use node_table::{CarryRefused, Scheme, Trail};
 use rand_core::{Rng, SeedableRng};
 use rand_xoshiro::Xoshiro256PlusPlus;
 use sample_networks::plain_distances;
-use scheme_builds::scheme_of;
-use std::alloc::{AllocError, Global};
+use std::alloc::Global;
 use std::process::Abort;
 use written_values::Draws;
+
+/// How many bytes hold the trees of a drawn graph.
+const HEAP_LEN: usize = 65_536;
 
 /// Whether a trail is a walk over these edges from end to end, as long as it says, at most three times the least.
 pub(crate) fn is_right(trail: &Trail, edges: &[Edge], from: u16, to: u16, least: u64) -> bool {
@@ -62,13 +64,16 @@ fn is_routed(rt: &impl Abort, alloc: Global, rng: &mut Xoshiro256PlusPlus) -> bo
     true
 }
 
-/// The scheme of a graph, which is the same under each allocator.
+/// The scheme of a graph, which is the same by trees and over lists, under each allocator.
 fn same_under_each(rt: &impl Abort, alloc: Global, graph: &Graph, at: &[u16]) -> Scheme {
-    let heap = heap_of(rt, alloc, ONE_TREE);
+    let heap = heap_of(rt, alloc, HEAP_LEN);
     let arena = Bump::new(alloc);
     let scheme = got(rt, built(rt, alloc, graph, at, alloc));
     assert!(rt; got(rt, built(rt, alloc, graph, at, &heap)).parts() == scheme.parts());
     assert!(rt; got(rt, built(rt, alloc, graph, at, &arena)).parts() == scheme.parts());
+    assert!(rt; got(rt, by_lists(rt, alloc, graph, at, alloc)).parts() == scheme.parts());
+    assert!(rt; got(rt, by_lists(rt, alloc, graph, at, &heap)).parts() == scheme.parts());
+    assert!(rt; got(rt, by_lists(rt, alloc, graph, at, &arena)).parts() == scheme.parts());
     scheme
 }
 
@@ -103,44 +108,6 @@ fn drawn_graphs_are_routed(rt: HostRuntime) {
         let right = is_routed(&rt, rt.alloc(), &mut rng);
         assert!(&rt; right);
     }
-}
-
-/// How many nodes the large drawn graph has.
-const MANY: u16 = 1_000;
-
-/// How many bytes hold the largest of its trees, but not all trees together.
-const ONE_TREE: usize = 262_144;
-
-/// A heap for one tree is enough, as each root's tree is dropped before the next is grown. In an arena that keeps them all,
-/// over the same heap, they don't fit; nor does one tree in a heap of a few bytes.
-#[test]
-fn one_tree_at_a_time(rt: HostRuntime) {
-    let alloc = rt.alloc();
-    let graph = graph_of(&rt, alloc, MANY, &got(&rt, many_edges(alloc)));
-    let words = got(&rt, Draws::seeded(3).next(alloc, MANY));
-    let heap = heap_of(&rt, alloc, ONE_TREE);
-    assert!(&rt; scheme_of(alloc, &graph, &words, 1, &heap).is_ok());
-    assert!(&rt; heap.used() == 0);
-    let arena = Bump::new(&heap);
-    assert!(&rt; scheme_of(alloc, &graph, &words, 1, &arena).is_err());
-    let small = heap_of(&rt, alloc, 64);
-    assert!(&rt; scheme_of(alloc, &graph, &words, 1, &small).is_err());
-}
-
-/// The edges of the large drawn graph: from each node but the first to two of those before it, or to one that was drawn twice.
-fn many_edges(alloc: Global) -> Result<Vec<Edge>, AllocError> {
-    let mut rng = Xoshiro256PlusPlus::seed_from_u64(11);
-    let mut edges: Vec<Edge> = Vec::new(alloc);
-    for v in 1..MANY as u64 {
-        for _ in 0..2 {
-            let weight = 1 + (rng.next_u64() % 9) as u32;
-            let ends = (v as u16, (rng.next_u64() % v) as u16);
-            if edges.last().is_none_or(|last| (last.0, last.1) != ends) {
-                edges.push((ends.0, ends.1, weight))?;
-            }
-        }
-    }
-    Ok(edges)
 }
 
 /// The words of `draw:1`, in two draws.

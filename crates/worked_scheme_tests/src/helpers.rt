@@ -3,7 +3,8 @@ use arrayvec::ArrayVec;
 use graph_edits::Graph;
 use heavy_labels::{Label, MOST_LIGHTS, Record};
 use linked_list_allocator::LocalHeap;
-use node_table::{CarryRefused, Entry, Scheme, Trail};
+use node_table::{CarryRefused, Entry, Scheme, Trail, build};
+use sample_networks::landmarks_at;
 pub(crate) use sample_networks::{Edge, PAIRS, PATH, TRIANGLE, Way, ends_of};
 use scheme_builds::scheme_of;
 use std::alloc::{AllocError, Allocator, Global};
@@ -36,7 +37,7 @@ pub(crate) fn words_at(rt: &impl Abort, alloc: Global, nodes: u16, at: &[u16]) -
     got(rt, sample_networks::words_at(alloc, nodes, at))
 }
 
-/// The scheme of a graph with landmarks at these nodes, over a scratch.
+/// The scheme of a graph with landmarks at these nodes, built tree by tree over a scratch.
 pub(crate) fn built<A: Allocator + Clone>(
     rt: &impl Abort,
     alloc: Global,
@@ -44,11 +45,24 @@ pub(crate) fn built<A: Allocator + Clone>(
     at: &[u16],
     scratch: A,
 ) -> Result<Scheme, AllocError> {
-    let words = words_at(rt, alloc, graph.nodes(), at);
-    match scheme_of(alloc, graph, &words, 7, scratch.clone()?) {
+    let landmarks = got(rt, landmarks_at(alloc, graph.nodes(), at));
+    assert!(rt; landmarks.flags().len() == graph.nodes() as usize);
+    match build(alloc, graph, &landmarks, 7, scratch.clone()?) {
         Ok(scheme) => Ok(scheme),
-        Err(_) => scheme_of(alloc, graph, &words, 7, scratch),
+        Err(_) => build(alloc, graph, &landmarks, 7, scratch),
     }
+}
+
+/// The scheme by the words of the same landmarks, built over lists.
+pub(crate) fn by_lists<A: Allocator + Clone>(
+    rt: &impl Abort,
+    alloc: Global,
+    graph: &Graph,
+    at: &[u16],
+    scratch: A,
+) -> Result<Scheme, AllocError> {
+    let words = words_at(rt, alloc, graph.nodes(), at);
+    scheme_of(alloc, graph, &words, 7, scratch)
 }
 
 /// The scheme of these edges with landmarks at these nodes.

@@ -1,11 +1,11 @@
 // Built schemes of the worked graphs.
 use crate::helpers::{
-    PAIRS, PATH, STACK_LEN, TRIANGLE, Way, carried, ends_of, expect_trail, got, graph_of, same,
-    scheme_with,
+    PAIRS, PATH, STACK_LEN, TRIANGLE, Way, built, by_lists, carried, ends_of, expect_trail, got,
+    graph_of, same, scheme_with,
 };
 use graph_edits::{Change, Graph, MOST_NODES, Op};
 use node_table::{CarryRefused, Listed, Move, Refused, Scheme};
-use scheme_builds::{first_words, length_over, scheme_of};
+use scheme_builds::{first_words, length_over};
 use std::alloc::{AllocError, Global};
 use std::process::Abort;
 use std::thread;
@@ -256,14 +256,18 @@ fn end_to_end(scheme: &Scheme, last: u16) -> Result<(u16, u16, u16, u16, u16), R
     Err(Refused::Spent)
 }
 
-/// The scheme of a long path with a landmark at the last of each so many nodes.
-fn long_scheme(alloc: Global, graph: &Graph, each: u16) -> Result<Scheme, AllocError> {
-    let mut words = Vec::new(alloc);
+/// The scheme of a long path with a landmark at the last of each so many nodes, the same by trees and over lists.
+fn long_scheme(rt: &impl Abort, alloc: Global, graph: &Graph, each: u16) -> Scheme {
+    let mut at = Vec::new(alloc);
     for v in 0..graph.nodes() {
-        let is_last = v % each.max(1) == each.saturating_sub(1);
-        words.push(if is_last { 0u64 } else { u64::MAX })?;
+        if v % each.max(1) == each.saturating_sub(1) {
+            got(rt, at.push(v));
+        }
     }
-    scheme_of(alloc, graph, &words, 7, alloc)
+    let scheme = got(rt, built(rt, alloc, graph, &at, alloc));
+    let found = got(rt, by_lists(rt, alloc, graph, &at, alloc));
+    assert!(rt; found.parts() == scheme.parts(), "over lists");
+    scheme
 }
 
 /// Sees that the route from end to end of each long path is as worked out: by port 0 and then always by port 1.
@@ -272,7 +276,7 @@ fn goes_end_to_end(rt: &impl Abort, alloc: Global) {
         let last = nodes.saturating_sub(1);
         let graph = got(rt, long_path(alloc, nodes));
         same(rt, graph.edges(), last as usize, "a long path");
-        let scheme = got(rt, long_scheme(alloc, &graph, each));
+        let scheme = long_scheme(rt, alloc, &graph, each);
         let found = end_to_end(&scheme, last);
         let ones = last.saturating_sub(1);
         same(rt, found, Ok((last, last, last, ones, 0)), "the long way");

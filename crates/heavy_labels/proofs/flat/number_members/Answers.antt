@@ -3,6 +3,7 @@ use Rattle.heavy_labels.specs.FlatNumbers.{AreFlat}
 use Rattle.heavy_labels.specs.HeavyKids.{AreAheadTo, AreHeavy}
 use Rattle.heavy_labels.specs.Numbered.{seen}
 use Rattle.heavy_labels.proofs.FlatSteps.{flat_nodes, flat_listed}
+use Rattle.heavy_labels.proofs.NumbersOf.{flat_numbers}
 use Rattle.heavy_labels.proofs.flat.number_members.Goals as goal
 
 pub returns-clause-nodes : goal.returns-clause-nodes
@@ -10,10 +11,13 @@ returns-clause-nodes g c =
     flat_nodes c.args.members.now c.in_ok-above.above.items c.in_ok-heavy.heavy.items c.in_ok-ahead.ahead.items c.loop-at.out.items
     (subst (λ n. AreFlat c.args.members.now c.in_ok-above.above.items c.in_ok-heavy.heavy.items c.in_ok-ahead.ahead.items n (map seen c.loop-at.out.items)) (omega arith) c.loop-at.invariant)
 
-pub returns-clause-lines : goal.returns-clause-lines
-returns-clause-lines g c =
-    flat_listed c.args.members.now c.args.places.now c.in_ok-above.above.items c.in_ok-heavy.heavy.items c.in_ok-ahead.ahead.items c.in_ok-by_node.by_node.items (map seen c.loop-at.out.items) c.requires.members c.requires.places
+pub returns-clause-numbers : goal.returns-clause-numbers
+returns-clause-numbers g c d =
+    flat_numbers c.args.members.now d c.loop-at.out.items c.requires.members
+    (flat_nodes c.args.members.now c.in_ok-above.above.items c.in_ok-heavy.heavy.items c.in_ok-ahead.ahead.items c.loop-at.out.items
+    (subst (λ n. AreFlat c.args.members.now c.in_ok-above.above.items c.in_ok-heavy.heavy.items c.in_ok-ahead.ahead.items n (map seen c.loop-at.out.items)) (omega arith) c.loop-at.invariant))
+    (flat_listed c.args.members.now c.args.places.now c.in_ok-above.above.items c.in_ok-heavy.heavy.items c.in_ok-ahead.ahead.items c.in_ok-by_node.by_node.items (map seen c.loop-at.out.items) c.requires.members c.requires.places
     c.in_ok-above.ensures c.in_ok-by_node.ensures
     (subst (λ z. AreHeavy c.args.members.now z c.in_ok-heavy.heavy.items) c.deref-4.ensures.value c.in_ok-heavy.ensures)
     (subst (λ z. AreAheadTo c.args.members.now z (length z) c.in_ok-ahead.ahead.items) c.deref-8.ensures.value c.in_ok-ahead.ensures)
-    (subst (λ n. AreFlat c.args.members.now c.in_ok-above.above.items c.in_ok-heavy.heavy.items c.in_ok-ahead.ahead.items n (map seen c.loop-at.out.items)) (omega arith) c.loop-at.invariant)
+    (subst (λ n. AreFlat c.args.members.now c.in_ok-above.above.items c.in_ok-heavy.heavy.items c.in_ok-ahead.ahead.items n (map seen c.loop-at.out.items)) (omega arith) c.loop-at.invariant) d)

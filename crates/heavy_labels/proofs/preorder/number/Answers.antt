@@ -1,6 +1,7 @@
 use Rattle.std.proofs.Common.{◌≡◌, map, [], arith, rules}
 use Rattle.heavy_labels.specs.Numbered.{seen, tree_briefs}
 use Rattle.heavy_labels.proofs.Briefs.{listed_count, listed_numbered}
+use Rattle.heavy_labels.proofs.NumbersOf.{heads_numbers}
 use Rattle.heavy_labels.proofs.Trips.{listed_heads, listed_leads, listed_few}
 use Rattle.heavy_labels.proofs.preorder.number.Goals as goal
 
@@ -30,3 +31,9 @@ pub returns-clause-in_order : goal.returns-clause-in_order
 returns-clause-in_order g c =
     let listed : map seen c.visit.new.out.items ≡ tree_briefs c.args.tree.now 0 [] = search rules in
     listed_numbered c.args.tree.now 0 [] _ listed
+
+pub returns-clause-numbers : goal.returns-clause-numbers
+returns-clause-numbers g c =
+    let listed : map seen c.visit.new.out.items ≡ tree_briefs c.args.tree.now 0 [] = search rules in
+    let heads = listed_heads c.args.tree.now _ c.root-root.ensures.shape.up c.root-root.ensures.shape.down listed in
+    heads_numbers c.args.tree.now _ heads

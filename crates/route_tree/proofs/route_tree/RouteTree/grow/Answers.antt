@@ -4,7 +4,7 @@ use Rattle.route_tree.specs.Members.{members_of}
 use Rattle.route_tree.specs.Shape.{IsRouteTree}
 use Rattle.route_tree.proofs.EachOnce.{each_once, as_many}
 use Rattle.route_tree.proofs.Shapes.{shape}
-use Rattle.route_tree.proofs.route_tree.RouteTree.grow_by.Goals as goal
+use Rattle.route_tree.proofs.route_tree.RouteTree.grow.Goals as goal
 
 pub invariant_of-result : goal.invariant_of-result
 invariant_of-result g c =
