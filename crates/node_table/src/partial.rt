@@ -73,28 +73,41 @@ fn join_parts(first: Parts, next: Parts) -> Result<Parts, AllocError>
         directories,
         homes,
     } = first;
+    let last = has_last_root(&next);
     Ok(Parts {
         nodes,
         generation,
         landmarks,
         ports,
         nearest,
-        entries: join_entries(entries, next.entries)?,
-        directories: join_directories(directories, next.directories),
+        entries: join_entries(entries, next.entries, last)?,
+        directories: join_directories(directories, next.directories)?,
         homes: join_homes(homes, next.homes),
     })
 }
 
-/// The entries of each node, and behind them those of the next range.
+/// Whether the last of all roots is in the range: it is in its own tree, so its own entry is the last of its entries.
+fn has_last_root(parts: &Parts) -> bool {
+    let Some(entries) = parts.entries.as_slice().last() else {
+        return false;
+    };
+    let Some(entry) = entries.as_slice().last() else {
+        return false;
+    };
+    entry.root as usize == parts.entries.len() - 1
+}
+
+/// The entries of each node, and behind them those of the next range, which may be the last.
 fn join_entries(
     mut lists: Vec<Vec<Entry>>,
     mut next: Vec<Vec<Entry>>,
+    last: bool,
 ) -> Result<Vec<Vec<Entry>>, AllocError>
     requires { length lists.items ≡ length next.items }
     ensures { IfOk result (λ joined. GrowBy lists.items joined.items (items_at next.items)) }
 {
     for x in 0..lists.len() {
-        append_at(&mut lists, &mut next, x)?;
+        append_at(&mut lists, &mut next, x, last)?;
     }
     Ok(lists)
 }
@@ -104,51 +117,81 @@ fn append_at(
     lists: &mut Vec<Vec<Entry>>,
     next: &mut Vec<Vec<Entry>>,
     at: usize,
+    last: bool,
 ) -> Result<(), AllocError>
     requires here { at < length lists.old.items }
     requires there { at < length next.old.items }
     ensures { OnOk result (IsJoinedAt at items_at (λ xs ys. xs ++ ys)
         lists.old.items lists.new.items next.old.items next.new.items) }
 {
-    append(&mut lists[at], &mut next[at])
+    append(&mut lists[at], &mut next[at], last)
 }
 
-/// Puts the second list behind the first, with no more room than both take.
-fn append(list: &mut Vec<Entry>, more: &mut Vec<Entry>) -> Result<(), AllocError>
+/// Puts the second list behind the first. With the last one the list has just the room that both take. Before that, a list that has
+/// no room grows by a quarter at least, so that not each range copies it anew.
+fn append<T: Drop>(list: &mut Vec<T>, more: &mut Vec<T>, last: bool) -> Result<(), AllocError>
     ensures { OnOk result (list.new.items ≡ list.old.items ++ more.old.items) }
 {
-    list.reserve_exact(more.len())?;
+    if last {
+        return append_exactly(list, more);
+    }
+    if list.capacity() - list.len() < more.len() {
+        list.reserve_exact(more.len().max(list.len() / 4))?;
+    }
     list.append(more)
 }
 
+/// Puts the second list behind the first, in a new list with just the room that both take.
+fn append_exactly<T: Drop>(list: &mut Vec<T>, more: &mut Vec<T>) -> Result<(), AllocError>
+    ensures { OnOk result (list.new.items ≡ list.old.items ++ more.old.items) }
+{
+    let room = list.len().saturating_add(more.len());
+    let mut both = Vec::with_capacity(*list.allocator(), room)?;
+    both.append(list)?;
+    both.append(more)?;
+    mem::swap(list, &mut both);
+    Ok(())
+}
+
 /// The directory of each node, and that of the next range where there is none.
-fn join_directories(mut lists: Vec<Vec<Listed>>, mut next: Vec<Vec<Listed>>) -> Vec<Vec<Listed>>
+fn join_directories(
+    mut lists: Vec<Vec<Listed>>,
+    mut next: Vec<Vec<Listed>>,
+) -> Result<Vec<Vec<Listed>>, AllocError>
     requires { length lists.items ≡ length next.items }
-    ensures length { length result.items ≡ length lists.items }
-    ensures items { (x : ℕ) → items_at result.items x ≡ first_list (items_at lists.items x) (items_at next.items x) }
+    ensures length { IfOk result (λ joined. length joined.items ≡ length lists.items) }
+    ensures items { IfOk result (λ joined. (x : ℕ)
+        → items_at joined.items x ≡ first_list (items_at lists.items x) (items_at next.items x)) }
 {
     for x in 0..lists.len() {
-        choose_at(&mut lists, &mut next, x);
+        choose_at(&mut lists, &mut next, x)?;
     }
-    lists
+    Ok(lists)
 }
 
 /// Takes the directory that the next range has at a place, if none stands there.
-fn choose_at(lists: &mut Vec<Vec<Listed>>, next: &mut Vec<Vec<Listed>>, at: usize)
+fn choose_at(
+    lists: &mut Vec<Vec<Listed>>,
+    next: &mut Vec<Vec<Listed>>,
+    at: usize,
+) -> Result<(), AllocError>
     requires here { at < length lists.old.items }
     requires there { at < length next.old.items }
-    ensures { IsJoinedAt at items_at first_list lists.old.items lists.new.items next.old.items next.new.items }
+    ensures { OnOk result (IsJoinedAt at items_at first_list
+        lists.old.items lists.new.items next.old.items next.new.items) }
 {
-    choose(&mut lists[at], &mut next[at]);
+    choose(&mut lists[at], &mut next[at])
 }
 
-/// Takes the second directory if the first is empty.
-fn choose(list: &mut Vec<Listed>, other: &mut Vec<Listed>)
-    ensures { list.new.items ≡ first_list list.old.items other.old.items }
+/// Takes what the second directory has if the first is empty, into a list with just the room that it takes. So the memory of a range
+/// goes back whole to the thread that built it.
+fn choose(list: &mut Vec<Listed>, other: &mut Vec<Listed>) -> Result<(), AllocError>
+    ensures { OnOk result (list.new.items ≡ first_list list.old.items other.old.items) }
 {
     if list.is_empty() {
-        mem::swap(list, other);
+        append_exactly(list, other)?;
     }
+    Ok(())
 }
 
 /// The home label of each node, and that of the next range where there is none.

@@ -45,3 +45,19 @@ fn builds_the_very_scheme_of_a_larger_graph(rt: HostRuntime) {
     let mut rng = Xoshiro256PlusPlus::seed_from_u64(94);
     compare(&rt, rt.alloc(), &mut rng, 600, 1, 24);
 }
+
+/// A graph with more roots than two or three workers build at once: their ranges are built and joined round by round.
+#[test]
+fn builds_the_very_scheme_round_by_round(rt: HostRuntime) {
+    let alloc = rt.alloc();
+    let rt = &rt;
+    let mut rng = Xoshiro256PlusPlus::seed_from_u64(1_100);
+    let edges = got(rt, drawn_edges(alloc, &mut rng, 1_600, 9, (1, 400)));
+    let graph = graph_of(rt, alloc, 1_600, &edges);
+    let at = got(rt, drawn_nodes(alloc, &mut rng, 1_600, (1, 40)));
+    let landmarks = landmarks_at(rt, alloc, 1_600, &at);
+    let want = built(rt, alloc, &graph, &landmarks);
+    for workers in &[2u16, 3] {
+        expect_same(rt, alloc, &graph, &landmarks, &want, *workers);
+    }
+}

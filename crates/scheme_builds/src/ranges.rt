@@ -1,7 +1,8 @@
 // Ranges of roots, each built by a worker, and joined in the order of the roots.
-ghost use Rattle.std.specs.Prelude.{◌<◌, ◌≤◌, ◌*◌, length};
+ghost use Rattle.std.specs.Prelude.{◌+◌, ◌<◌, ◌≤◌, ◌^◌, length};
 ghost use Rattle.node_table.specs.KnownNearest.{CanBuild, KnowsNearest};
-ghost use Rattle.scheme_builds.specs.Ranges.{AreRanges, HasBuilt, IsRange};
+ghost use Rattle.node_table.specs.Building.{IsBuildOf};
+ghost use Rattle.scheme_builds.specs.Ranges.{AreRanges, HasBuilt, IsRange, bound_at};
 
 use distances::Nearest;
 use graph_edits::Graph;
@@ -14,6 +15,10 @@ use std::thread::Threads;
 
 /// How many bytes a build may take of its scratch.
 pub const SCRATCH_LEN: usize = 67_108_864;
+
+/// The most roots of one range. What a range takes beside the tables is given back before the next ones are built, so it is little
+/// beside the tables of a large network.
+const MOST_ROOTS: u16 = 512;
 
 /// What a build has of the roots from `first` on and below `last`. Their trees are numbered over a heap of this call's own.
 fn build_roots(
@@ -54,31 +59,32 @@ fn build_range(
     build_roots(alloc, graph, landmarks, nearest, generation, first, last)
 }
 
-/// What a build has of all roots, out of that of all ranges.
+/// What a build has of the roots of the whole and of these ranges, which follow it.
 fn join_ranges(
     graph: &Graph,
     landmarks: &Landmarks,
     nearest: &Nearest,
     generation: u64,
     size: u16,
+    begun: usize,
+    mut whole: PartialScheme,
     mut made: Vec<Result<PartialScheme, AllocError>>,
 ) -> Result<PartialScheme, AllocError>
-    requires some { 0 < length made.items }
-    requires all { graph.now.nodes ≤ length made.items * size }
-    requires ranges { AreRanges graph.now landmarks.now nearest.now.nearest generation size 0 made.items }
-    ensures { HasBuilt graph.now landmarks.now nearest.now.nearest generation 0 graph.now.nodes result }
+    requires whole { IsBuildOf graph.now landmarks.now nearest.now.nearest generation whole
+        0 (bound_at graph.now size begun) }
+    requires ranges { AreRanges graph.now landmarks.now nearest.now.nearest generation size begun made.items }
+    ensures { HasBuilt graph.now landmarks.now nearest.now.nearest generation
+        0 (bound_at graph.now size (begun + length made.items)) result }
 {
-    let count = made.len();
-    let mut whole = made.remove(0)?;
-    for i in 1..count {
+    for _k in 0..made.len() {
         let next = made.remove(0)?;
         whole = whole.join(next)?;
     }
     Ok(whole)
 }
 
-/// What a build has of all roots. They are cut into ranges of this size, each of which is built in a thread of its own where
-/// one can be made.
+/// What a build has of all roots. They are cut into ranges of this size, or of [`MOST_ROOTS`] where that is less. As many ranges as
+/// there would be of this size are built side by side, each in a thread of its own where one can be made, and joined before the next.
 pub(crate) fn build_ranges<R: Threads + Sync>(
     rt: &R,
     alloc: Global,
@@ -92,15 +98,38 @@ pub(crate) fn build_ranges<R: Threads + Sync>(
     requires known { KnowsNearest graph.now landmarks.now nearest.now.nearest }
     ensures { HasBuilt graph.now landmarks.now nearest.now.nearest generation 0 graph.now.nodes result }
 {
-    let count = graph.nodes().div_ceil(size);
-    let made = thread::map_indices(
-        rt,
-        alloc,
-        count as usize,
-        &|i: usize| -> Result<PartialScheme, AllocError>
-            requires { KnowsNearest graph.now landmarks.now nearest.now.nearest }
-            ensures { IsRange graph.entry.now landmarks.entry.now nearest.entry.now.nearest generation size i result }
-        { build_range(alloc, graph, landmarks, nearest, generation, size, i) },
-    )?;
-    join_ranges(graph, landmarks, nearest, generation, size, made)
+    let workers = graph.nodes().div_ceil(size).max(1) as usize;
+    let roots = size.min(MOST_ROOTS);
+    let count = graph.nodes().div_ceil(roots) as usize;
+    let mut whole = build_roots(alloc, graph, landmarks, nearest, generation, 0, 0)?;
+    let mut begun: usize = 0;
+    while begun < count {
+        let many = workers.min(count - begun);
+        let made = thread::map_indices(
+            rt,
+            alloc,
+            many,
+            &|i: usize| -> Result<PartialScheme, AllocError>
+                requires known { KnowsNearest graph.now landmarks.now nearest.now.nearest }
+                requires small { begun + i < 2 ^ 64 }
+                ensures { IsRange graph.entry.now landmarks.entry.now nearest.entry.now.nearest
+                    generation roots (begun + i) result }
+            {
+                build_range(
+                    alloc,
+                    graph,
+                    landmarks,
+                    nearest,
+                    generation,
+                    roots,
+                    begun + i,
+                )
+            },
+        )?;
+        whole = join_ranges(
+            graph, landmarks, nearest, generation, roots, begun, whole, made,
+        )?;
+        begun += many;
+    }
+    Ok(whole)
 }
