@@ -137,8 +137,8 @@ fn put_all<D: Disk>(disk: &mut D, nodes: u16) -> Result<(), DeviceFault>
 
 /// Makes a device hold a network of so many nodes and no edges, and no session's ticket. It takes no
 /// memory, and has at most five calls of the device. It writes the header, head and tickets of slot 0,
-/// the gate of that slot's first record and the gate of slot 1; each other byte stays (`written`). Where
-/// the device fails, it holds no store.
+/// the gate of that slot's first record and the gate of slot 1; each other byte stays (`written`). After
+/// a call of the device that failed some of these bytes may be there, even all: whether it holds a store isn't said.
 pub fn format<D: Disk>(disk: &mut D, n: u16) -> Result<(), FormatRefused>
     ensures ok { OnOk result (IsFormatted n (D.view disk.old) (D.view disk.new)) }
 

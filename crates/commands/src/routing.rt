@@ -5,7 +5,7 @@ ghost use Rattle.commands.specs.Queries.{AreRoutesBy};
 ghost use Rattle.commands.specs.SchemeAnswers.{AreNodes, AreRoutesUnder, IsRouteUnder};
 
 use graph_edits::Graph;
-use landmarks::Landmarks;
+use landmarks::choose;
 use scheme_builds::Route;
 use single_route::{NoTrail, Routes, trail_laws};
 use std::alloc::{AllocError, Global};
@@ -29,7 +29,7 @@ pub(crate) fn routes_by(
     ensures { IfOk result (AreRoutesBy graph.now words.now pairs.now) }
 {
     let nodes = graph.nodes();
-    let landmarks = Landmarks::choose(alloc, nodes as usize, words)?;
+    let landmarks = choose(alloc, nodes as usize, words)?;
     let mut routes = Routes::new(alloc, graph, &landmarks)?;
     routes_between(alloc, &mut routes, pairs)
 }

@@ -13,7 +13,7 @@ use figure_lines::{
     scheme_figures_of, way_figures_of,
 };
 use graph_edits::{Code, Graph};
-use landmarks::Landmarks;
+use landmarks::{Landmarks, choose};
 use network_import::{ImportRefused, Progress, import};
 use node_table::Scheme;
 use scheme_builds::carry_in;
@@ -347,7 +347,7 @@ fn drawn_landmarks(rt: &impl Abort, alloc: Global) -> Landmarks {
     let words = got(rt, words.of_nodes(alloc, 46));
     let words = words.as_slice();
     assert!(rt; words.len() == 46);
-    got(rt, Landmarks::choose(alloc, 46, words))
+    got(rt, choose(alloc, 46, words))
 }
 
 /// Sees that the drawn landmarks are those.

@@ -39,18 +39,18 @@ fn flags_below(alloc: Global, words: &[u64], limit: u64) -> Result<Vec<bool>, Al
     words.iter().map(|word| *word < limit).collect(alloc)
 }
 
-impl Landmarks {
-    /// Chooses among `nodes` nodes by one word for each: a node is a landmark exactly when its word
-    /// is below [`bound`]. An `Err` means that memory was refused.
-    pub fn choose(alloc: Global, nodes: usize, words: &[u64]) -> Result<Landmarks, AllocError>
-        requires some { 1 ≤ nodes }
-        requires words { length words.now ≡ nodes }
-        ensures { IfOk result (λ landmarks. (b : ℕ) × (IsBound nodes b × (landmarks ≡ chosen b words.now))) }
-    {
-        let flags = flags_below(alloc, words, bound(nodes))?;
-        Ok(Landmarks { flags })
-    }
+/// Chooses among `nodes` nodes by one word for each: a node is a landmark exactly when its word
+/// is below [`bound`]. An `Err` means that memory was refused.
+pub fn choose(alloc: Global, nodes: usize, words: &[u64]) -> Result<Landmarks, AllocError>
+    requires some { 1 ≤ nodes }
+    requires words { length words.now ≡ nodes }
+    ensures { IfOk result (λ landmarks. (b : ℕ) × (IsBound nodes b × (landmarks ≡ chosen b words.now))) }
+{
+    let flags = flags_below(alloc, words, bound(nodes))?;
+    Ok(Landmarks { flags })
+}
 
+impl Landmarks {
     /// Whether a node is a landmark.
     pub fn holds(&self, node: u16) -> bool
         requires { node < length self.now }

@@ -6,11 +6,11 @@
 //! Schemes). The words are handed in: this crate draws nothing, so the same words give the same
 //! landmarks.
 //!
-//! The contract that the layers above use is that of [`Landmarks::choose`]: node v is a landmark
+//! The contract that the layers above use is that of [`choose`]: node v is a landmark
 //! exactly when its word is below [`bound`].
 //!
 //! ```text
-//! let landmarks = Landmarks::choose(alloc, 3, &[u64::MAX, 0, u64::MAX])?;
+//! let landmarks = choose(alloc, 3, &[u64::MAX, 0, u64::MAX])?;
 //! landmarks.holds(1)      // true
 //! landmarks.count()       // 1
 //! ```
@@ -18,4 +18,4 @@
 
 mod landmarks;
 
-pub use landmarks::{Landmarks, bound};
+pub use landmarks::{Landmarks, bound, choose};

@@ -3,7 +3,7 @@ ghost use Rattle.std.specs.Prelude.{◌≡◌, ◌↔◌, ◌≤◌, IfOk};
 ghost use Rattle.sample_networks.specs.Named.{flags_at, word_at, words_at};
 
 use crate::tables::TableRefused;
-use landmarks::Landmarks;
+use landmarks::{Landmarks, choose};
 use std::alloc::{AllocError, Global};
 
 /// A landmark word for each of so many nodes: 0 for a node that is named, and the greatest for another. Where memory is refused, it is
@@ -41,8 +41,8 @@ pub fn landmarks_at(alloc: Global, nodes: u16, at: &[u16]) -> Result<Landmarks, 
         return Err(TableRefused::Nodes);
     }
     let words = words_at(alloc, nodes, at)?;
-    match Landmarks::choose(alloc, nodes as usize, &words) {
+    match choose(alloc, nodes as usize, &words) {
         Ok(landmarks) => Ok(landmarks),
-        Err(_) => Ok(Landmarks::choose(alloc, nodes as usize, &words)?),
+        Err(_) => Ok(choose(alloc, nodes as usize, &words)?),
     }
 }

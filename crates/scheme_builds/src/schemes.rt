@@ -4,7 +4,7 @@ ghost use Rattle.scheme_builds.specs.Schemes.{IsSchemeOf};
 
 use crate::words::first_words;
 use graph_edits::Graph;
-use landmarks::Landmarks;
+use landmarks::choose;
 use node_table::{Scheme, build_by_lists};
 use std::alloc::{AllocError, Allocator, Global};
 
@@ -23,6 +23,6 @@ pub fn scheme_of<A: Allocator + Clone>(
 {
     let nodes = graph.nodes() as usize;
     let first = first_words(alloc, words, nodes)?;
-    let landmarks = Landmarks::choose(alloc, nodes, &first)?;
+    let landmarks = choose(alloc, nodes, &first)?;
     build_by_lists(alloc, graph, &landmarks, generation, scratch)
 }

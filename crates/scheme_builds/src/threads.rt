@@ -8,7 +8,7 @@ use crate::words::first_words;
 use crate::workers::{LEAST_SHARED, at_most};
 use distances::from_landmarks;
 use graph_edits::Graph;
-use landmarks::Landmarks;
+use landmarks::{Landmarks, choose};
 use linked_list_allocator::LocalHeap;
 use node_table::{Scheme, build, build_by_lists};
 use std::alloc::{AllocError, Global};
@@ -74,6 +74,6 @@ pub fn scheme_of_in_threads<R: Threads + Wait + Sync>(
 {
     let nodes = graph.nodes() as usize;
     let first = first_words(alloc, words, nodes)?;
-    let landmarks = Landmarks::choose(alloc, nodes, &first)?;
+    let landmarks = choose(alloc, nodes, &first)?;
     scheme_in_threads(rt, alloc, graph, &landmarks, generation, workers)
 }

@@ -1,6 +1,6 @@
 // Landmarks: bounds and choices, against values worked out by hand.
 use crate::helpers::{got, same};
-use landmarks::{Landmarks, bound};
+use landmarks::{Landmarks, bound, choose};
 
 // A number of nodes, and the bound of their words.
 const BOUNDS: [(usize, u64); 9] = [
@@ -33,7 +33,7 @@ const WORDS: [u64; 5] = [
 
 #[test]
 fn a_word_at_the_bound_makes_no_landmark(rt: HostRuntime) {
-    let landmarks = got(&rt, Landmarks::choose(rt.alloc(), 5, &WORDS));
+    let landmarks = got(&rt, choose(rt.alloc(), 5, &WORDS));
     let want = [false, true, true, false, false];
     same(&rt, landmarks.flags(), want.as_slice(), "the flags");
     same(&rt, landmarks.count(), 2, "the landmarks");
@@ -54,7 +54,7 @@ const SINGLE: [(u64, usize); 3] = [(18446744073709551615, 0), (18446744073709551
 #[test]
 fn a_single_node_is_a_landmark_but_at_the_greatest_word(rt: HostRuntime) {
     for (word, want) in &SINGLE {
-        let landmarks = got(&rt, Landmarks::choose(rt.alloc(), 1, &[*word]));
+        let landmarks = got(&rt, choose(rt.alloc(), 1, &[*word]));
         same(&rt, (*word, landmarks.count()), (*word, *want), "one word");
     }
 }

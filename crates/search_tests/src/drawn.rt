@@ -5,7 +5,7 @@ ghost use Rattle.distances.specs.Nearest.{AreNearest};
 use crate::helpers::got;
 use distances::{Nearest, from_landmarks};
 use graph_edits::{GREATEST_WEIGHT, Graph};
-use landmarks::Landmarks;
+use landmarks::choose;
 use rand_core::Rng;
 use rand_xoshiro::Xoshiro256PlusPlus;
 pub(crate) use sample_networks::Edge;
@@ -28,7 +28,7 @@ pub(crate) fn nearest_of(rt: &impl Abort, alloc: Global, graph: &Graph, flags: &
         got(rt, words.push(word));
     }
     assert!(rt; 1 <= words.len());
-    let landmarks = Landmarks::choose(alloc, words.len(), &words).expect(rt, "memory");
+    let landmarks = choose(alloc, words.len(), &words).expect(rt, "memory");
     let nodes = graph.nodes();
     let marked = landmarks.flags().len();
     assert!(rt; marked == nodes as usize);

@@ -9,7 +9,7 @@ use device_files::DeviceFile;
 use edge_lists::{Names, edge_list};
 use figure_lines::{Mark, edges_of, marks_of, network_csv, network_dot, network_json};
 use graph_edits::{Graph, MOST_NODES};
-use landmarks::Landmarks;
+use landmarks::choose;
 use std::alloc::{AllocError, Global};
 use written_values::{LandmarkWords, landmark_words};
 
@@ -142,6 +142,6 @@ fn marks_by(
     requires { IsWithin words.now graph.now.nodes }
 {
     let words = words.of_nodes(alloc, graph.nodes())?;
-    let landmarks = Landmarks::choose(alloc, graph.nodes() as usize, &words)?;
+    let landmarks = choose(alloc, graph.nodes() as usize, &words)?;
     marks_of(alloc, graph, &landmarks)
 }
