@@ -2,8 +2,6 @@
 use Rattle.std.proofs.Common.{arith, ◌≡◌, ◌<◌, ◌+◌, subst, ℕ, zero, suc, List, [], ◌∷◌, ◌++◌, Option, Some, None, map, length, take, get_or}
 use Rattle.std.specs.Prelude.{IfNone, IfSome, OnSome}
 use Rattle.std.specs.List.{AllZip}
-use Rattle.edge_lists.specs.declared.row.Row.{Row}
-use Rattle.edge_lists.proofs.HeaderLemmas.{nowhere}
 
 -- what a clause says where something was found, or nothing was
 pub at_some : {A : Type 0} (P : A → Type 0) {o : Option A} {x : A} → o ≡ Some x → IfSome o P → P x
@@ -43,7 +41,3 @@ zip_none R f [] i d lt none ys all = absurd (omega arith)
 zip_none R f (x ∷ xs) i d lt none [] all = absurd all
 zip_none R f (x ∷ xs) zero d lt none (y ∷ ys) all = none y all.0
 zip_none R f (x ∷ xs) (suc i) d lt none (y ∷ ys) all = zip_none R f xs i d (omega arith) none ys all.1
-
--- a row that stands past the end
-abbrev pub no_row : Row
-no_row = record { line = 0; a = nowhere; b = nowhere; weight = 0 }

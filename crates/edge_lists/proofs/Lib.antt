@@ -1,5 +1,6 @@
 pub mod WordLemmas
 pub mod RowLemmas
+pub mod RecordLemmas
 pub mod HeaderLemmas
 pub mod EdgeLemmas
 pub mod NameLemmas

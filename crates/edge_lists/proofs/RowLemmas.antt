@@ -1,7 +1,14 @@
 -- Rows, a line more at a time.
-use Rattle.std.proofs.Common.{arith, ◌≡◌, ◌≢◌, ◌<◌, ◌+◌, ◌-◌, ◌^◌, ◌∙◌, inl, inr, sym, ap, subst, refl, ℕ, List, [], ◌∷◌, ◌++◌, Bool, true, false, map, length, take, drop, get_or, append_assoc, Bor}
+use Rattle.std.proofs.Common.{arith, ◌≡◌, ◌<◌, ◌+◌, ◌-◌, ◌^◌, ◌∙◌, inl, inr, sym, ap, subst, refl, ℕ, List, [], ◌∷◌, ◌++◌, Bool, true, false, map, length, take, drop, get_or, append_assoc, Bor}
 use Rattle.std.proofs.lemmas.List.{drop-map, get_or-map, length-map, take_more}
-use Rattle.edge_lists.specs.Rows.{IsFirstRefused, IsNoRow, IsRowOf, IsWeight, Said, Say, fields_of, lead, says_nothing, words_of}
+use Rattle.edge_lists.specs.declared.header.Heading.{Heading}
+use Rattle.edge_lists.specs.declared.reading.Read.{Read}
+use Rattle.edge_lists.specs.declared.reading.Read.TheVariants.{Nothing, Row as ReadRow, Refused}
+use Rattle.edge_lists.specs.Labels.{is_name}
+use Rattle.edge_lists.specs.Rows.{IsEdgeRead, IsFirstRefused, IsNoRow, IsReadAs, IsRowOf, IsWeight, Said, Say, fields_of, lead, row_of, says_nothing, words_of}
+
+pub both_ways : (b : Bool) → b ≡ true → b ≡ false → ⊥
+both_ways b so not_so = let bad : true ≡ false = sym so ∙ not_so in cc
 
 -- no fields say no edge
 pub no_row_of_none : (fields : List (List ℕ)) → fields ≡ [] → IsNoRow fields
@@ -24,23 +31,23 @@ no_row_weighted fields behind rest a b is next none line said row =
     let same : row.behind ≡ rest = cc in
     none said.weight row.fits (subst (IsWeight said.weight) same row.weighted)
 
--- nor fields with an end that isn't there
-pub no_row_first : (fields behind : List (List ℕ)) (a : List ℕ) → fields ≡ a ∷ behind → a ≡ [] → IsNoRow fields
+-- nor fields with an end that is no name
+pub no_row_first : (fields behind : List (List ℕ)) (a : List ℕ) → fields ≡ a ∷ behind → is_name a ≡ false → IsNoRow fields
 no_row_first fields behind a is none line said row =
     let whole : a ∷ behind ≡ said.a ∷ said.b ∷ row.behind = sym is ∙ row.written in
     let same : said.a ≡ a = cc in
-    row.first (same ∙ none)
+    both_ways (is_name said.a) row.first (ap is_name same ∙ none)
 
-pub no_row_second : (fields behind rest : List (List ℕ)) (a b : List ℕ) → fields ≡ a ∷ behind → behind ≡ b ∷ rest → b ≡ [] → IsNoRow fields
+pub no_row_second : (fields behind rest : List (List ℕ)) (a b : List ℕ) → fields ≡ a ∷ behind → behind ≡ b ∷ rest → is_name b ≡ false → IsNoRow fields
 no_row_second fields behind rest a b is next none line said row =
     let whole : a ∷ behind ≡ said.a ∷ said.b ∷ row.behind = sym is ∙ row.written in
     let tail : behind ≡ said.b ∷ row.behind = cc in
     let pair : b ∷ rest ≡ said.b ∷ row.behind = sym next ∙ tail in
     let same : said.b ≡ b = cc in
-    row.second (same ∙ none)
+    both_ways (is_name said.b) row.second (ap is_name same ∙ none)
 
 -- a row of its fields
-pub row_is : (line : ℕ) (fields behind rest : List (List ℕ)) (a b : List ℕ) (w : ℕ) → fields ≡ a ∷ behind → behind ≡ b ∷ rest → a ≢ [] → b ≢ [] → w < 2 ^ 32 → IsWeight w rest
+pub row_is : (line : ℕ) (fields behind rest : List (List ℕ)) (a b : List ℕ) (w : ℕ) → fields ≡ a ∷ behind → behind ≡ b ∷ rest → is_name a ≡ true → is_name b ≡ true → w < 2 ^ 32 → IsWeight w rest
     → IsRowOf line fields (record { line = line; a = a; b = b; weight = w })
 row_is line fields behind rest a b w is next first second fits weighted = record {
   number = refl;
@@ -51,6 +58,12 @@ row_is line fields behind rest a b w is next first second fits weighted = record
   written = is ∙ ap (λ (l : List (List ℕ)). a ∷ l) next;
   weighted = weighted;
 }
+
+-- what a line that says something is read as, by its fields
+pub as_read : (line : ℕ) (text : List ℕ) (fields : List (List ℕ)) (read : Read) → says_nothing (words_of text) ≡ false → fields ≡ fields_of text → IsEdgeRead line fields read → IsReadAs line text read
+as_read line text fields Nothing some is read = absurd read
+as_read line text fields (ReadRow row) some is read = (some, subst (λ (l : List (List ℕ)). IsRowOf line l (row_of row)) is read)
+as_read line text fields (Refused form) some is read = (some, subst IsNoRow is read)
 
 -- ---- lines
 
@@ -71,9 +84,6 @@ say_row_more before line (t ∷ ts) text said row at (inl p) some is =
     inl (p.0, say_row_more (before + 1) line ts text said row (omega (arith, at)) p.1 some is)
 say_row_more before line (t ∷ ts) text said row at (inr p) some is =
     inr (p.0, p.1 ++ row ∷ [], p.2, ap (λ (l : List Said). l ++ row ∷ []) p.3, p.4, say_row_more (before + 1) line ts text p.1 row (omega (arith, at)) p.5 some is)
-
-both_ways : (b : Bool) → b ≡ true → b ≡ false → ⊥
-both_ways b so not_so = let bad : true ≡ false = sym so ∙ not_so in cc
 
 -- no edges are said by lines that go on with one that says none
 pub none_goes_on : (before : ℕ) (texts : List (List ℕ)) (text : List ℕ) (more : List (List ℕ)) (said : List Said) → says_nothing (words_of text) ≡ false → IsNoRow (fields_of text)
@@ -107,9 +117,9 @@ one_text_more xs i d lt =
     take_more (map now xs) i d.now (omega (arith, length-map xs now)) ∙ ap (λ (t : List ℕ). take i (map now xs) ++ t ∷ []) (get_or-map now xs i d d.now lt)
 
 -- what holds of the lines that are left holds of those of the text
-pub carried : (P : ℕ → List (List ℕ) → Type 0) (before : ℕ) (front all : List (Bor (List ℕ))) (lines : List (List ℕ)) → before ≡ lead (map (λ x. x.now) all) → map (λ x. x.now) all ≡ lines
-    → front ≡ drop before all → P before (map (λ x. x.now) front) → P (lead lines) (drop (lead lines) lines)
-carried P before front all lines at is left holds =
-    let here : before ≡ lead lines = at ∙ ap lead is in
+pub carried : (P : ℕ → List (List ℕ) → Type 0) (heading : Heading) (before : ℕ) (front all : List (Bor (List ℕ))) (lines : List (List ℕ)) → before ≡ lead heading (map (λ x. x.now) all) → map (λ x. x.now) all ≡ lines
+    → front ≡ drop before all → P before (map (λ x. x.now) front) → P (lead heading lines) (drop (lead heading lines) lines)
+carried P heading before front all lines at is left holds =
+    let here : before ≡ lead heading lines = at ∙ ap (lead heading) is in
     let rest : map (λ (x : Bor (List ℕ)). x.now) front ≡ drop before lines = ap (λ (l : List (Bor (List ℕ))). map (λ x. x.now) l) left ∙ sym (drop-map (λ (x : Bor (List ℕ)). x.now) before all) ∙ ap (λ (l : List (List ℕ)). drop before l) is in
     subst (λ (n : ℕ). P n (drop n lines)) here (subst (P before) rest holds)

@@ -11,9 +11,10 @@ use Rattle.edge_lists.specs.declared.refused.NameForm.TheVariants.{TooMany}
 use Rattle.edge_lists.specs.declared.refused.NameRefused.{NameRefused}
 use Rattle.edge_lists.specs.declared.row.Row.{Row}
 use Rattle.edge_lists.specs.Edges.{IsEdgeOf}
-use Rattle.edge_lists.specs.NameLists.{AreBegun, AreNames, AreTaken, EndsAt, HaveNumbers, IsFirstNoName, IsNoName, IsNumberOf, IsOneTooMany, IsWord, NoneTwice, ends_of, has_number, is_among, with_name, with_names}
+use Rattle.edge_lists.specs.NameLists.{AreBegun, AreNames, AreTaken, EndsAt, HaveNumbers, IsFirstNoName, IsNoName, IsNumberOf, IsOneTooMany, NoneTwice, ends_of, has_number, is_among, with_name, with_names}
+use Rattle.edge_lists.specs.Labels.{is_name}
 use Rattle.edge_lists.specs.Rows.{Said, row_of}
-use Rattle.edge_lists.proofs.EdgeLemmas.{no_row, zip_push}
+use Rattle.edge_lists.proofs.EdgeLemmas.{zip_push}
 use Rattle.edge_lists.proofs.HeaderLemmas.{nowhere}
 use Rattle.edge_lists.proofs.NameLemmas.{among_at, get_cases, number_kept, number_kept_all, numbers_both, with_both, with_new}
 use Rattle.edge_lists.proofs.WordLemmas.{texts_at}
@@ -64,45 +65,48 @@ taken_push most old now new said row edges edge taken room grows one =
       made = zip_push (IsEdgeOf (IsNumberOf new)) said edges row edge (zip_less (IsEdgeOf (IsNumberOf now)) (IsEdgeOf (IsNumberOf new)) said edges kept taken.made) one;
     }
 
-said_more : (rows : List Row) (i : ℕ) → i < length rows → map row_of (take (i + 1) rows) ≡ map row_of (take i rows) ++ row_of (get_or rows i no_row) ∷ []
-said_more rows i lt = ap (λ (l : List Row). map row_of l) (take_more rows i no_row lt) ∙ map-append row_of (take i rows) (get_or rows i no_row ∷ [])
+said_more : (rows : List Row) (i : ℕ) (row : Row) → i < length rows → get_or rows i row ≡ row → map row_of (take (i + 1) rows) ≡ map row_of (take i rows) ++ row_of row ∷ []
+said_more rows i row lt is =
+    ap (λ (l : List Row). map row_of l) (take_more rows i row lt) ∙ map-append row_of (take i rows) (get_or rows i row ∷ [])
+    ∙ ap (λ (r : Row). map row_of (take i rows) ++ row_of r ∷ []) is
 
-said_around : (rows : List Row) (i : ℕ) → i < length rows → map row_of rows ≡ map row_of (take i rows) ++ row_of (get_or rows i no_row) ∷ map row_of (drop (i + 1) rows)
-said_around rows i lt =
+said_around : (rows : List Row) (i : ℕ) (row : Row) → i < length rows → get_or rows i row ≡ row → map row_of rows ≡ map row_of (take i rows) ++ row_of row ∷ map row_of (drop (i + 1) rows)
+said_around rows i row lt is =
     ap (λ (l : List Row). map row_of l) (sym (take-append-drop i rows)) ∙ map-append row_of (take i rows) (drop i rows)
-    ∙ ap (λ (l : List Row). map row_of (take i rows) ++ map row_of l) (drop_more rows i no_row lt)
+    ∙ ap (λ (l : List Row). map row_of (take i rows) ++ map row_of l) (drop_more rows i row lt)
+    ∙ ap (λ (r : Row). map row_of (take i rows) ++ row_of r ∷ map row_of (drop (i + 1) rows)) is
 
-pub taken_more : (most : ℕ) (old now new : List (List ℕ)) (rows : List Row) (i : ℕ) (edges all : List Edge) (edge : Edge) → i < length rows → AreTaken most old (map row_of (take i rows)) edges now
-    → HaveNumbers most now (ends_of (row_of (get_or rows i no_row) ∷ [])) → new ≡ with_names now (ends_of (row_of (get_or rows i no_row) ∷ [])) → IsEdgeOf (IsNumberOf new) (row_of (get_or rows i no_row)) edge
+pub taken_more : (most : ℕ) (old now new : List (List ℕ)) (rows : List Row) (i : ℕ) (row : Row) (edges all : List Edge) (edge : Edge) → i < length rows → get_or rows i row ≡ row → AreTaken most old (map row_of (take i rows)) edges now
+    → HaveNumbers most now (ends_of (row_of row ∷ [])) → new ≡ with_names now (ends_of (row_of row ∷ [])) → IsEdgeOf (IsNumberOf new) (row_of row) edge
     → all ≡ edges ++ edge ∷ [] → AreTaken most old (map row_of (take (i + 1) rows)) all new
-taken_more most old now new rows i edges all edge lt taken room grows one pushed =
-    subst (λ (s : List Said). AreTaken most old s all new) (sym (said_more rows i lt))
-    (subst (λ (e : List Edge). AreTaken most old (map row_of (take i rows) ++ row_of (get_or rows i no_row) ∷ []) e new) (sym pushed)
-    (taken_push most old now new (map row_of (take i rows)) (row_of (get_or rows i no_row)) edges edge taken room grows one))
+taken_more most old now new rows i row edges all edge lt is taken room grows one pushed =
+    subst (λ (s : List Said). AreTaken most old s all new) (sym (said_more rows i row lt is))
+    (subst (λ (e : List Edge). AreTaken most old (map row_of (take i rows) ++ row_of row ∷ []) e new) (sym pushed)
+    (taken_push most old now new (map row_of (take i rows)) (row_of row) edges edge taken room grows one))
 
 -- a row whose name is one too many
-pub one_too_many : (most : ℕ) (old now new : List (List ℕ)) (rows : List Row) (i : ℕ) (edges : List Edge) (refused : NameRefused) → i < length rows → AreTaken most old (map row_of (take i rows)) edges now
-    → EndsAt most now (row_of (get_or rows i no_row)) new → refused ≡ record { number = (get_or rows i no_row).line; form = TooMany } → IsOneTooMany most old (map row_of rows) refused new
-one_too_many most old now new rows i edges refused lt taken ends is = record {
+pub one_too_many : (most : ℕ) (old now new : List (List ℕ)) (rows : List Row) (i : ℕ) (row : Row) (edges : List Edge) (refused : NameRefused) → i < length rows → get_or rows i row ≡ row → AreTaken most old (map row_of (take i rows)) edges now
+    → EndsAt most now (row_of row) new → refused ≡ record { number = row.line; form = TooMany } → IsOneTooMany most old (map row_of rows) refused new
+one_too_many most old now new rows i row edges refused lt at taken ends is = record {
   before = map row_of (take i rows);
-  row = row_of (get_or rows i no_row);
+  row = row_of row;
   behind = map row_of (drop (i + 1) rows);
-  parts = said_around rows i lt;
+  parts = said_around rows i row lt at;
   numbers = taken.numbers;
-  ends = subst (λ (l : List (List ℕ)). EndsAt most l (row_of (get_or rows i no_row)) new) taken.names ends;
+  ends = subst (λ (l : List (List ℕ)). EndsAt most l (row_of row) new) taken.names ends;
   line = ap (λ (r : NameRefused). r.number) is;
   form = ap (λ (r : NameRefused). r.form) is;
 }
 
 -- rows that were begun
-pub begun_more : (most : ℕ) (old now new : List (List ℕ)) (rows : List Row) (i : ℕ) (edges : List Edge) → i < length rows → AreTaken most old (map row_of (take i rows)) edges now
-    → AreBegun now (row_of (get_or rows i no_row) ∷ []) new → AreBegun old (map row_of rows) new
-begun_more most old now new rows i edges lt taken begun =
+pub begun_more : (most : ℕ) (old now new : List (List ℕ)) (rows : List Row) (i : ℕ) (one : Row) (edges : List Edge) → i < length rows → get_or rows i one ≡ one → AreTaken most old (map row_of (take i rows)) edges now
+    → AreBegun now (row_of one ∷ []) new → AreBegun old (map row_of rows) new
+begun_more most old now new rows i one edges lt at taken begun =
     let said = map row_of (take i rows) in
-    let row = row_of (get_or rows i no_row) in
+    let row = row_of one in
     let rest = map row_of (drop (i + 1) rows) in
     let parts : ends_of (map row_of rows) ≡ (ends_of said ++ begun.words) ++ (begun.behind ++ ends_of rest) =
-    ap ends_of (said_around rows i lt) ∙ ends_both said (row ∷ rest) ∙ ap (λ (l : List (List ℕ)). ends_of said ++ l) (ends_both (row ∷ []) rest)
+    ap ends_of (said_around rows i one lt at) ∙ ends_both said (row ∷ rest) ∙ ap (λ (l : List (List ℕ)). ends_of said ++ l) (ends_both (row ∷ []) rest)
     ∙ ap (λ (l : List (List ℕ)). ends_of said ++ (l ++ ends_of rest)) begun.parts ∙ sym_parts (ends_of said) begun.words begun.behind (ends_of rest) in
     record {
       words = ends_of said ++ begun.words;
@@ -140,7 +144,7 @@ once_push names name once new i j other at there = by (get_cases names name othe
 
 -- no names yet
 pub names_none : (most : ℕ) → AreNames most []
-names_none most = record { words = λ k d lt. absurd (omega arith); once = λ i j name at. absurd (cc); few = omega arith }
+names_none most = record { each = λ k d lt. absurd (omega arith); once = λ i j name at. absurd (cc); few = omega arith }
 
 room_left : (most : ℕ) (names : List (List ℕ)) (name : List ℕ) → is_among names name ≡ false → has_number most names name ≡ true → length names < most
 room_left most names name new room =
@@ -148,13 +152,13 @@ room_left most names name new room =
     grind (arith, nat_tests, left)
 
 -- one line more
-pub names_more : (most : ℕ) (names new : List (List ℕ)) (name : List ℕ) → AreNames most names → IsWord name → is_among names name ≡ false → has_number most names name ≡ true → new ≡ with_name names name
+pub names_more : (most : ℕ) (names new : List (List ℕ)) (name : List ℕ) → AreNames most names → is_name name ≡ true → is_among names name ≡ false → has_number most names name ≡ true → new ≡ with_name names name
     → AreNames most new × (new ≡ names ++ name ∷ [])
 names_more most names new name are word fresh room grows =
     let list : new ≡ names ++ name ∷ [] = grows ∙ with_new names name fresh in
     let left = room_left most names name fresh room in (
       subst (λ (l : List (List ℕ)). AreNames most l) (sym list) (record {
-        words = All-push IsWord names name are.words word;
+        each = All-push (λ n. is_name n ≡ true) names name are.each word;
         once = once_push names name are.once fresh;
         few = omega (arith, left, length_push names name);
       }),

@@ -1,25 +1,32 @@
 -- Lists that were written are read as what they are.
-use Rattle.std.proofs.Common.{arith, ◌≡◌, ◌≢◌, ◌==◌, ◌≤◌, ◌<◌, ◌+◌, ◌-◌, ◌^◌, ◌∙◌, ◌||◌, ◌&&◌, inl, inr, sym, ap, subst, refl, ℕ, zero, suc, List, [], ◌∷◌, ◌++◌, Bool, true, false, cond, map, length, take, drop, get_or, Option, Some, None, append_assoc, decimal, nat_lt, Bor}
+use Rattle.std.proofs.Common.{arith, ◌≡◌, ◌≢◌, ◌==◌, ◌≤◌, ◌<◌, ◌+◌, ◌-◌, ◌^◌, ◌∙◌, ◌||◌, ◌&&◌, not, inl, inr, sym, ap, subst, refl, ℕ, zero, suc, List, [], ◌∷◌, ◌++◌, Bool, true, false, cond, map, length, take, drop, get_or, Option, Some, None, append_assoc, decimal, Bor}
 use Rattle.std.specs.Prelude.{All, unwrap_or}
-use Rattle.std.specs.List.{flat_map, slice_get, slice_split}
-use Rattle.std.proofs.lemmas.Bool.Decides.{Decides-eqb}
+use Rattle.std.specs.Char.{is_ascii_whitespace}
+use Rattle.std.specs.List.{flat_map, list_any, slice_get, slice_split}
+use Rattle.std.proofs.lemmas.Bool.Decides.{Decides-eqb, nat_tests}
 use Rattle.std.proofs.lemmas.Fmt.{decimal_injective, decimal_is_IsNumeral, decimal_nonempty}
-use Rattle.std.proofs.lemmas.List.{append-nil, take-append-drop, take_all, take_more}
+use Rattle.std.proofs.lemmas.List.{append-nil, get_or-map, length-map, take-append-drop, take_all, take_more}
 use Rattle.std.proofs.lemmas.List.Concat.{flat_map-append}
 use Rattle.std.proofs.lemmas.List.Elements.{All-append, All-head, All-push, All-tail}
 use Rattle.std.proofs.lemmas.List.Folds.{flat_map-map}
 use Rattle.std.proofs.lemmas.List.Splits.{slice_split_at, slice_split_none}
-use Rattle.std.proofs.lemmas.Option.{get_or_from_slice_get, slice_get_within}
+use Rattle.std.proofs.lemmas.Option.{get_or_from_slice_get, slice_get-get_or, slice_get_within}
 use Rattle.std.proofs.lemmas.Str.Parse.{digit_at}
 use Rattle.written_values.specs.Scripts.{lines_of, without_empty_last}
 use Rattle.written_values.proofs.Written.{empty_goes}
 use Rattle.edge_lists.specs.declared.edge.Edge.{Edge}
 use Rattle.edge_lists.specs.declared.refused.NameForm.{NameForm}
-use Rattle.edge_lists.specs.declared.refused.NameForm.TheVariants.{Word, Twice, TooMany}
+use Rattle.edge_lists.specs.declared.refused.NameForm.TheVariants.{NoName, Twice, TooMany}
 use Rattle.edge_lists.specs.declared.refused.NameRefused.{NameRefused}
-use Rattle.edge_lists.specs.NameLists.{AreNames, IsFirstNoName, IsNoName, IsNumberOf, IsWord}
-use Rattle.edge_lists.specs.Rows.{IsFirstRefused, IsRowOf, IsWeight, Said, Say, begins_comment, fields_of, has_comma, is_header, lead, names_third, only_word, parts_at, says_nothing, unless_empty, words_of}
-use Rattle.edge_lists.specs.Written.{AreListed, AreRead, FitTypes, IsLabel, IsOneLine, SaysEdges, edge_line, edges_text, label_of, names_text, said_of, separates}
+use Rattle.edge_lists.specs.NameLists.{AreNames, IsFirstNoName, IsNoName, IsNumberOf}
+use Rattle.edge_lists.specs.declared.header.Heading.TheVariants.{ByWords}
+use Rattle.edge_lists.specs.Labels.{AreLabels, IsLabel, begins_comment, begins_mark, is_blank_at, is_name, separates}
+use Rattle.edge_lists.specs.Records.{comma_fields, has_comma}
+use Rattle.edge_lists.specs.Rows.{IsFirstRefused, IsRowOf, IsWeight, Said, Say, begins_as_name, fields_of, heads_ends, is_head, is_heading, lead, parts_at, says_nothing, unless_empty, words_of}
+use Rattle.edge_lists.specs.Written.{AreListed, AreRead, FitTypes, IsOneLine, SaysEdges, edge_line, edges_text, label_of, names_text, said_of}
+use Rattle.edge_lists.proofs.RecordLemmas.{none_any}
+use Rattle.edge_lists.proofs.RowLemmas.{both_ways}
+use Rattle.edge_lists.proofs.HeaderLemmas.{nowhere}
 use Rattle.edge_lists.proofs.WordLemmas.{texts_at}
 use Rattle.edge_lists.proofs.NameLemmas.{number_of_last, number_stays, place_among}
 
@@ -58,9 +65,9 @@ none_refused most names are refused first = by refused.form first.form where
   lt = slice_get_within names (length first.names) first.line at
 
   by : (form : NameForm) → IsNoName most first.names first.line form → ⊥
-  by Word why =
+  by NoName why =
       let there : get_or names (length first.names) first.line ≡ first.line = get_or_from_slice_get names (length first.names) first.line first.line at in
-      why (subst IsWord there (are.words (length first.names) first.line lt))
+      both_ways (is_name first.line) (ap is_name (sym there) ∙ are.each (length first.names) first.line lt) why
   by Twice why =
       let place = place_among first.names first.line why.1 in
       let front : IsNumberOf names first.line place.0 =
@@ -129,14 +136,19 @@ said_not_refused before texts said n say refused =
     refused.refused (drop (n - before) texts) said (subst (λ (l : List (List ℕ)). Say before l said) (sym (take-append-drop (n - before) texts)) say)
 
 -- what a text says is read, and nothing else
-pub read_alone : (text : List ℕ) (said : List Said) → SaysEdges text said → AreRead text said
+pub read_alone : (text : List ℕ) (said : List Said) → SaysEdges ByWords text said → AreRead text said
 read_alone text said says = record {
   says = says;
-  only = λ other is. one_say (lead (lines_of text)) (drop (lead (lines_of text)) (lines_of text)) other said is says;
-  none = λ number refused. said_not_refused (lead (lines_of text)) (drop (lead (lines_of text)) (lines_of text)) said number says refused;
+  only = λ other is. one_say (lead ByWords (lines_of text)) (drop (lead ByWords (lines_of text)) (lines_of text)) other said is says;
+  none = λ number refused. said_not_refused (lead ByWords (lines_of text)) (drop (lead ByWords (lines_of text)) (lines_of text)) said number says refused;
 }
 
 -- ---- labels
+
+-- a name isn't empty
+name_some : (word : List ℕ) → is_name word ≡ true → word ≢ []
+name_some [] is none = let bad : false ≡ true = is in cc
+name_some (b ∷ bs) is none = let bad : b ∷ bs ≡ [] = none in cc
 
 or_false : (a b : Bool) → (a || b) ≡ false → (a ≡ false) × (b ≡ false)
 or_false true b is = let bad : true ≡ false = is in absurd (cc)
@@ -191,25 +203,63 @@ first_silent : (word : List ℕ) → (0 < length word → 48 ≤ get_or word 0 0
 first_silent [] all = refl
 first_silent (b ∷ bs) all = digit_silent b (all (omega arith))
 
-none_short : (word : List ℕ) → 0 < length word → word ≢ []
-none_short word some is = let zero_long : length word ≡ 0 = ap (λ (l : List ℕ). length l) is in absurd (omega (arith, some, zero_long))
+first_unmarked : (word : List ℕ) → (0 < length word → 48 ≤ get_or word 0 0) → begins_mark word ≡ false
+first_unmarked [] all = refl
+first_unmarked (b ∷ []) all = refl
+first_unmarked (b ∷ c ∷ bs) all = ap (λ (t : Bool). t && (c == 32)) (digit_silent b (all (omega arith)))
+
+digit_dark : (b : ℕ) → 48 ≤ b → is_ascii_whitespace b ≡ false
+digit_dark b low = grind (arith, nat_tests, low)
+
+-- no blank stands at a place with such a byte
+dark_at : (word : List ℕ) (k : ℕ) → k < length word → 48 ≤ get_or word k 0 → is_blank_at (slice_get word k) ≡ false
+dark_at word k lt low = ap is_blank_at (slice_get-get_or word k 0 lt) ∙ digit_dark (get_or word k 0) low
+
+five_all : (a b c d e : Bool) → a ≡ false → b ≡ false → c ≡ false → d ≡ false → e ≡ false → (not a && not b && not c && not d && not e) ≡ true
+five_all a b c d e p q r s t = rw (p, q, r, s, t) refl
 
 same_default : (xs : List ℕ) (k d e : ℕ) → k < length xs → get_or xs k d ≡ get_or xs k e
 same_default [] k d e lt = absurd (omega (arith, lt))
 same_default (x ∷ xs) zero d e lt = refl
 same_default (x ∷ xs) (suc k) d e lt = same_default xs k d e (omega (arith, lt))
 
+-- digits are a name
+digits_name : (word : List ℕ) → 0 < length word → ((k d : ℕ) → k < length word → 48 ≤ get_or word k d) → is_name word ≡ true
+digits_name word some low =
+    five_all (is_blank_at (slice_get word 0)) (is_blank_at (slice_get word (length word - 1))) (list_any (λ b. b == 10) word) (list_any (λ b. b == 13) word) (begins_mark word)
+    (dark_at word 0 some (low 0 0 some)) (dark_at word (length word - 1) (omega (arith, some)) (low (length word - 1) 0 (omega (arith, some))))
+    (none_any (λ b. b == 10) word (λ k d lt. other_byte (get_or word k d) 10 (λ e. omega (arith, e, low k d lt))))
+    (none_any (λ b. b == 13) word (λ k d lt. other_byte (get_or word k d) 13 (λ e. omega (arith, e, low k d lt))))
+    (first_unmarked word (λ _. low 0 0 some))
+
+decimal_low : (n : ℕ) → n < 2 ^ 64 → (k d : ℕ) → k < length (decimal n) → 48 ≤ get_or (decimal n) k d
+decimal_low n small k d lt =
+    let range = digit_at (decimal n) k (decimal_is_IsNumeral n small).0.1 lt in
+    let same = same_default (decimal n) k d 0 lt in
+    omega (arith, range.0, same)
+
 -- a number is a label
 pub decimal_label : (n : ℕ) → n < 2 ^ 64 → IsLabel (decimal n)
 decimal_label n small =
-    let numeral = (decimal_is_IsNumeral n small).0.1 in
-    let low : (k d : ℕ) → k < length (decimal n) → 48 ≤ get_or (decimal n) k d =
-    λ k d lt. let range = digit_at (decimal n) k numeral lt in let same = same_default (decimal n) k d 0 lt in omega (arith, range.0, same) in
+    let low = decimal_low n small in
     record {
-      some = none_short (decimal n) (decimal_nonempty n small);
+      name = digits_name (decimal n) (decimal_nonempty n small) low;
       plain = λ k d lt. digit_plain (get_or (decimal n) k d) (low k d lt);
       silent = first_silent (decimal n) (λ some. low 0 0 some);
     }
+
+-- and begins as one
+decimal_begins : (n : ℕ) → n < 2 ^ 64 → begins_as_name (decimal n) ≡ false
+decimal_begins n small = by (decimal n) (decimal_nonempty n small) (digit_at (decimal n) 0 (decimal_is_IsNumeral n small).0.1 (decimal_nonempty n small)) where
+  by : (word : List ℕ) → 0 < length word → (48 ≤ get_or word 0 0) × (get_or word 0 0 ≤ 57) → begins_as_name word ≡ false
+  by [] some range = absurd (omega (arith, some))
+  by (b ∷ bs) some range = grind (arith, nat_tests, range.0, range.1)
+
+-- names behind references are labels
+pub labels_texts : (names : List (Bor (List ℕ))) → AreLabels names → All IsLabel (texts_at names)
+labels_texts names all k d lt =
+    let within : k < length names = omega (arith, lt, length-map names (λ (x : Bor (List ℕ)). x.now)) in
+    subst IsLabel (sym (get_or-map (λ (x : Bor (List ℕ)). x.now) names k nowhere d within)) (all k nowhere within)
 
 -- what a node is called is a label, where the names are
 pub label_is : (names : List (List ℕ)) (node : ℕ) → All IsLabel names → node < 2 ^ 64 → IsLabel (label_of names node)
@@ -246,7 +296,7 @@ line_words a b w is_a is_b is_w =
     let tabs : flat_map (parts_at 9) (a ∷ b ∷ w ∷ []) ≡ a ∷ b ∷ w ∷ [] = three_kept (parts_at 9) a b w (cut_none 9 a p.tab) (cut_none 9 b q.tab) (cut_none 9 w r.tab) in
     let ends : flat_map (parts_at 13) (a ∷ b ∷ w ∷ []) ≡ a ∷ b ∷ w ∷ [] = three_kept (parts_at 13) a b w (cut_none 13 a p.carriage) (cut_none 13 b q.carriage) (cut_none 13 w r.carriage) in
     let kept : flat_map (λ (x : List ℕ). unless_empty x) (a ∷ b ∷ w ∷ []) ≡ a ∷ b ∷ w ∷ [] =
-    three_kept (λ (x : List ℕ). unless_empty x) a b w (kept_word a is_a.some) (kept_word b is_b.some) (kept_word w is_w.some) in
+    three_kept (λ (x : List ℕ). unless_empty x) a b w (kept_word a (name_some a is_a.name)) (kept_word b (name_some b is_b.name)) (kept_word w (name_some w is_w.name)) in
     ap (λ (l : List (List ℕ)). flat_map unless_empty (flat_map (parts_at 13) (flat_map (parts_at 9) l))) blanks
     ∙ ap (λ (l : List (List ℕ)). flat_map unless_empty (flat_map (parts_at 13) l)) tabs
     ∙ ap (λ (l : List (List ℕ)). flat_map unless_empty l) ends ∙ kept
@@ -261,8 +311,7 @@ line_all P a b w blank all_a all_b all_w =
 
 line_comma : (a b w : List ℕ) → IsLabel a → IsLabel b → IsLabel w → has_comma (a ++ 32 ∷ (b ++ 32 ∷ w)) ≡ false
 line_comma a b w is_a is_b is_w =
-    let whole = cut_none 44 (a ++ 32 ∷ (b ++ 32 ∷ w)) (line_all (λ (x : ℕ). (x == 44) ≡ false) a b w refl (plain_by a is_a.plain).comma (plain_by b is_b.plain).comma (plain_by w is_w.plain).comma) in
-    ap (λ (l : List (List ℕ)). nat_lt 1 (length l)) whole
+    none_any (λ (x : ℕ). x == 44) (a ++ 32 ∷ (b ++ 32 ∷ w)) (line_all (λ (x : ℕ). (x == 44) ≡ false) a b w refl (plain_by a is_a.plain).comma (plain_by b is_b.plain).comma (plain_by w is_w.plain).comma)
 
 line_feed : (a b w : List ℕ) → IsLabel a → IsLabel b → IsLabel w → IsOneLine (a ++ 32 ∷ (b ++ 32 ∷ w))
 line_feed a b w is_a is_b is_w = line_all (λ (x : ℕ). (x == 10) ≡ false) a b w refl (plain_by a is_a.plain).feed (plain_by b is_b.plain).feed (plain_by w is_w.plain).feed
@@ -270,7 +319,7 @@ line_feed a b w is_a is_b is_w = line_all (λ (x : ℕ). (x == 10) ≡ false) a 
 line_fields : (a b w : List ℕ) → IsLabel a → IsLabel b → IsLabel w → fields_of (a ++ 32 ∷ (b ++ 32 ∷ w)) ≡ a ∷ b ∷ w ∷ []
 line_fields a b w is_a is_b is_w =
     let line = a ++ 32 ∷ (b ++ 32 ∷ w) in
-    ap (λ (c : Bool). cond c (map (λ part. only_word (words_of part)) (parts_at 44 line)) (words_of line)) (line_comma a b w is_a is_b is_w) ∙ line_words a b w is_a is_b is_w
+    ap (λ (c : Bool). cond c (comma_fields line) (words_of line)) (line_comma a b w is_a is_b is_w) ∙ line_words a b w is_a is_b is_w
 
 line_some : (a b w : List ℕ) → IsLabel a → IsLabel b → IsLabel w → says_nothing (words_of (a ++ 32 ∷ (b ++ 32 ∷ w))) ≡ false
 line_some a b w is_a is_b is_w = ap (λ (l : List (List ℕ)). says_nothing l) (line_words a b w is_a is_b is_w) ∙ is_a.silent
@@ -289,8 +338,8 @@ edge_said names before edge all fit =
     let w = decimal_label edge.weight (omega (arith, fit.weight)) in
     record {
       number = refl;
-      first = a.some;
-      second = b.some;
+      first = a.name;
+      second = b.name;
       fits = fit.weight;
       behind = decimal edge.weight ∷ [];
       written = line_fields (label_of names edge.a) (label_of names edge.b) (decimal edge.weight) a b w;
@@ -313,7 +362,7 @@ edges_said names before (edge ∷ edges) all fit =
       edges_said names (before + 1) edges all (All-tail FitTypes edge edges fit),
     )
 
-no_lead : (names : List (List ℕ)) (edges : List Edge) → All IsLabel names → All FitTypes edges → lead (map (edge_line names) edges) ≡ 0
+no_lead : (names : List (List ℕ)) (edges : List Edge) → All IsLabel names → All FitTypes edges → lead ByWords (map (edge_line names) edges) ≡ 0
 no_lead names [] all fit = refl
 no_lead names (edge ∷ edges) all fit =
     let here = All-head FitTypes edge edges fit in
@@ -321,9 +370,17 @@ no_lead names (edge ∷ edges) all fit =
     let b = label_is names edge.b all (omega (arith, here.second)) in
     let w = decimal_label edge.weight (omega (arith, here.weight)) in
     let line = edge_line names edge in
-    let some = line_some (label_of names edge.a) (label_of names edge.b) (decimal edge.weight) a b w in
-    let header : is_header line ≡ false = ap (λ (c : Bool). c && names_third (fields_of line)) (line_comma (label_of names edge.a) (label_of names edge.b) (decimal edge.weight) a b w) in
-    ap (λ (c : Bool). cond c (lead (map (edge_line names) edges) + 1) (cond (is_header line) 1 0)) some ∙ ap (λ (c : Bool). cond c 1 0) header
+    let first = label_of names edge.a in
+    let second = label_of names edge.b in
+    let some = line_some first second (decimal edge.weight) a b w in
+    let fields : is_heading (has_comma line) (fields_of line) ≡ heads_ends first second && begins_as_name (decimal edge.weight) =
+    ap (λ (c : Bool). is_heading c (fields_of line)) (line_comma first second (decimal edge.weight) a b w)
+    ∙ ap (λ (l : List (List ℕ)). is_heading false l) (line_fields first second (decimal edge.weight) a b w) in
+    let header : is_head ByWords line ≡ false = fields ∙ ap (λ (c : Bool). heads_ends first second && c) (decimal_begins edge.weight (omega (arith, here.weight))) ∙ never (heads_ends first second) in
+    ap (λ (c : Bool). cond c (lead ByWords (map (edge_line names) edges) + 1) (cond (is_head ByWords line) 1 0)) some ∙ ap (λ (c : Bool). cond c 1 0) header where
+      never : (t : Bool) → (t && false) ≡ false
+      never true = refl
+      never false = refl
 
 one_lines : (names : List (List ℕ)) (edges : List Edge) → All IsLabel names → All FitTypes edges → All IsOneLine (map (edge_line names) edges)
 one_lines names [] all fit k d lt = absurd (omega (arith, lt))
@@ -337,7 +394,7 @@ pub edges_read : (names : List (List ℕ)) (edges : List Edge) (text : List ℕ)
 edges_read names edges text is all fit =
     let whole : text ≡ flat_map (λ (x : List ℕ). x ++ 10 ∷ []) (map (edge_line names) edges) = is ∙ sym (flat_map-map (λ (x : List ℕ). x ++ 10 ∷ []) (edge_line names) edges) in
     let lines : lines_of text ≡ map (edge_line names) edges = ap lines_of whole ∙ lines_of_feeds (map (edge_line names) edges) (one_lines names edges all fit) in
-    let none : lead (lines_of text) ≡ 0 = ap lead lines ∙ no_lead names edges all fit in
+    let none : lead ByWords (lines_of text) ≡ 0 = ap (lead ByWords) lines ∙ no_lead names edges all fit in
     let says : Say 0 (drop 0 (lines_of text)) (said_of names 0 edges) = subst (λ (l : List (List ℕ)). Say 0 l (said_of names 0 edges)) (sym lines) (edges_said names 0 edges all fit) in
     read_alone text (said_of names 0 edges) (subst (λ (n : ℕ). Say n (drop n (lines_of text)) (said_of names 0 edges)) (sym none) says)
 

@@ -1,6 +1,6 @@
 -- Edges between numbered nodes, and the rows that they come from.
-use Rattle.std.specs.Prelude.{◌≡◌, ◌≤◌, ℕ, List, decimal}
-use Rattle.std.specs.List.{AllZip}
+use Rattle.std.specs.Prelude.{◌≡◌, ◌≢◌, ◌≤◌, ◌&&◌, ℕ, List, [], All, Bool, true, Some, decimal, nat_le, take}
+use Rattle.std.specs.List.{AllZip, slice_get}
 use Rattle.edge_lists.specs.declared.edge.Edge.{Edge}
 use Rattle.edge_lists.specs.Rows.{Said}
 
@@ -31,6 +31,22 @@ IsNotNumbered last said = (edge : Edge) → IsNumbered last said edge → ⊥
 abbrev pub AreNumbered : ℕ → List Said → List Edge → Type 0
 AreNumbered last said edges = AreEdgesOf (IsNumber last) said edges
 
--- an end of a row is no such number
-abbrev pub AreNotNumbered : ℕ → List Said → Type 0
-AreNotNumbered last said = (edges : List Edge) → AreNumbered last said edges → ⊥
+-- the place is that of the first row with an end that is no such number
+pub record IsFirstOther (last : ℕ) (said : List Said) (place : ℕ) : Type 0 where
+  pub edges : List Edge
+  pub before : AreNumbered last (take place said) edges
+  pub row : Said
+  pub at : slice_get said place ≡ Some row
+  pub other : IsNotNumbered last row
+
+-- a digit
+abbrev pub is_digit : ℕ → Bool
+is_digit b = nat_le 48 b && nat_le b 57
+
+-- the word has a digit or more, and nothing else
+abbrev pub AreDigits : List ℕ → Type 0
+AreDigits word = (word ≢ []) × All (λ b. is_digit b ≡ true) word
+
+-- both ends have digits alone
+abbrev pub CallsNumbers : Said → Type 0
+CallsNumbers said = AreDigits said.a × AreDigits said.b

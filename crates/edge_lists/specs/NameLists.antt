@@ -4,10 +4,11 @@ use Rattle.std.specs.List.{flat_map, list_any, slice_get}
 use Rattle.std.specs.Str.{bytes_eq}
 use Rattle.edge_lists.specs.declared.edge.Edge.{Edge}
 use Rattle.edge_lists.specs.declared.refused.NameForm.{NameForm}
-use Rattle.edge_lists.specs.declared.refused.NameForm.TheVariants.{Word, Twice, TooMany}
+use Rattle.edge_lists.specs.declared.refused.NameForm.TheVariants.{NoName, Twice, TooMany}
 use Rattle.edge_lists.specs.declared.refused.NameRefused.{NameRefused}
 use Rattle.edge_lists.specs.Edges.{AreEdgesOf}
-use Rattle.edge_lists.specs.Rows.{Said, words_of}
+use Rattle.edge_lists.specs.Labels.{is_name}
+use Rattle.edge_lists.specs.Rows.{Said}
 
 -- ---- numbers
 
@@ -95,21 +96,17 @@ pub record AreBegun (old : List (List ℕ)) (said : List Said) (new : List (List
 
 -- ---- names as a text lists them
 
--- the line is one word
-abbrev pub IsWord : List ℕ → Type 0
-IsWord line = words_of line ≡ line ∷ []
-
--- names of a list: each is one word, none stands there twice, and there are at most `most`
+-- the names of a list: none stands there twice, and there are at most `most`
 pub record AreNames (most : ℕ) (names : List (List ℕ)) : Type 0 where
-  pub words : All IsWord names
+  pub each : All (λ name. is_name name ≡ true) names
   pub once : NoneTwice names
   pub few : length names ≤ most
 
 -- why the line behind these names is none
 abbrev pub IsNoName : ℕ → List (List ℕ) → List ℕ → NameForm → Type 0
-IsNoName most names line Word = ¬ IsWord line
-IsNoName most names line Twice = IsWord line × (is_among names line ≡ true)
-IsNoName most names line TooMany = IsWord line × (is_among names line ≡ false) × (most ≤ length names)
+IsNoName most names line NoName = is_name line ≡ false
+IsNoName most names line Twice = (is_name line ≡ true) × (is_among names line ≡ true)
+IsNoName most names line TooMany = (is_name line ≡ true) × (is_among names line ≡ false) × (most ≤ length names)
 
 -- the first line that is no name, with its number from 1, and why it is none
 pub record IsFirstNoName (most : ℕ) (lines : List (List ℕ)) (refused : NameRefused) : Type 0 where

@@ -1,5 +1,5 @@
 -- Lists as they are written, and what is read of them.
-use Rattle.std.specs.Prelude.{◌≡◌, ◌≢◌, ◌==◌, ◌<◌, ◌+◌, ◌^◌, ◌||◌, ℕ, List, [], ◌∷◌, ◌++◌, Bool, false, All, decimal, drop, unwrap_or}
+use Rattle.std.specs.Prelude.{◌≡◌, ◌==◌, ◌<◌, ◌+◌, ◌^◌, ℕ, List, [], ◌∷◌, ◌++◌, false, All, decimal, drop, unwrap_or}
 use Rattle.std.specs.List.{flat_map, slice_get}
 use denote.Ref.{Bor}
 use Rattle.written_values.specs.Reading.{texts_of}
@@ -7,7 +7,9 @@ use Rattle.written_values.specs.Scripts.{lines_of}
 use Rattle.edge_lists.specs.declared.edge.Edge.{Edge}
 use Rattle.edge_lists.specs.declared.refused.NameRefused.{NameRefused}
 use Rattle.edge_lists.specs.NameLists.{AreNames, IsFirstNoName}
-use Rattle.edge_lists.specs.Rows.{IsFirstRefused, Said, Say, begins_comment, lead}
+use Rattle.edge_lists.specs.declared.header.Heading.{Heading}
+use Rattle.edge_lists.specs.declared.header.Heading.TheVariants.{ByWords}
+use Rattle.edge_lists.specs.Rows.{IsFirstRefused, Said, Say, lead}
 
 -- ---- names
 
@@ -53,31 +55,21 @@ text_of_edge names edge = edge_text (texts_of names) edge
 abbrev pub edges_text : List (List ℕ) → List Edge → List ℕ
 edges_text names edges = flat_map (λ edge. edge_text names edge) edges
 
--- what separates lines, words and fields: a line feed, a tab, a carriage return, a blank or a comma
-abbrev pub separates : ℕ → Bool
-separates b = (b == 10) || ((b == 9) || ((b == 13) || ((b == 32) || (b == 44))))
-
--- a word that a list may call a node: it isn't empty, begins no comment, and nothing in it separates
-pub record IsLabel (word : List ℕ) : Type 0 where
-  pub some : word ≢ []
-  pub plain : All (λ b. separates b ≡ false) word
-  pub silent : begins_comment word ≡ false
-
 -- what the lines of edges say, of which the first has the number behind `before`
 abbrev pub said_of : List (List ℕ) → ℕ → List Edge → List Said
 said_of names before [] = []
 said_of names before (edge ∷ edges) = record { line = before + 1; a = label_of names edge.a; b = label_of names edge.b; weight = edge.weight } ∷ said_of names (before + 1) edges
 
 -- the text is an edge list, and says that
-abbrev pub SaysEdges : List ℕ → List Said → Type 0
-SaysEdges text said = Say (lead (lines_of text)) (drop (lead (lines_of text)) (lines_of text)) said
+abbrev pub SaysEdges : Heading → List ℕ → List Said → Type 0
+SaysEdges heading text said = Say (lead heading (lines_of text)) (drop (lead heading (lines_of text)) (lines_of text)) said
 
 -- no edges are said by the text up to the line of that number, whose lines before say edges
-abbrev pub IsRefusedAt : List ℕ → ℕ → Type 0
-IsRefusedAt text number = IsFirstRefused (lead (lines_of text)) (drop (lead (lines_of text)) (lines_of text)) number
+abbrev pub IsRefusedAt : Heading → List ℕ → ℕ → Type 0
+IsRefusedAt heading text number = IsFirstRefused (lead heading (lines_of text)) (drop (lead heading (lines_of text)) (lines_of text)) number
 
--- the text says that and nothing else, and no line of it is refused
+-- the text says that and nothing else, and no line of it is refused, where a header is known by its words
 pub record AreRead (text : List ℕ) (said : List Said) : Type 0 where
-  pub says : SaysEdges text said
-  pub only : (other : List Said) → SaysEdges text other → other ≡ said
-  pub none : (number : ℕ) → IsRefusedAt text number → ⊥
+  pub says : SaysEdges ByWords text said
+  pub only : (other : List Said) → SaysEdges ByWords text other → other ≡ said
+  pub none : (number : ℕ) → IsRefusedAt ByWords text number → ⊥

@@ -1,8 +1,8 @@
 // Edges between nodes that have numbers.
-ghost use Rattle.std.specs.Prelude.{map};
+ghost use Rattle.std.specs.Prelude.{◌↔◌, All, IsTrue, map};
 ghost use Rattle.written_values.specs.Reading.{IfRead};
-ghost use Rattle.edge_lists.specs.Edges.{AreNotNumbered, AreNumbered, IsNotNumbered, IsNumbered};
-ghost use Rattle.edge_lists.specs.Reading.{IfNoneRead};
+ghost use Rattle.edge_lists.specs.Edges.{AreDigits, AreNumbered, CallsNumbers, IsFirstOther, IsNotNumbered, IsNumbered};
+ghost use Rattle.edge_lists.specs.Reading.{IfAccepted, IfNoneRead, IfRefused};
 ghost use Rattle.edge_lists.specs.Rows.{row_of};
 
 use crate::row::Row;
@@ -20,14 +20,14 @@ pub struct Edge {
 }
 
 // The edge of a row whose ends are plain numbers up to `last`.
-fn edge_in(alloc: Global, row: &Row<'_>, last: u16) -> Result<Option<Edge>, AllocError>
+fn edge_in(alloc: Global, row: &Row, last: u16) -> Result<Option<Edge>, AllocError>
     ensures found { IfRead result (λ edge. IsNumbered last (row_of row.now) edge) }
     ensures none { IfNoneRead result (IsNotNumbered last (row_of row.now)) }
 {
-    let Some(a) = number(alloc, row.a, last as u64)? else {
+    let Some(a) = number(alloc, row.a.as_str(), last as u64)? else {
         return Ok(None);
     };
-    let Some(b) = number(alloc, row.b, last as u64)? else {
+    let Some(b) = number(alloc, row.b.as_str(), last as u64)? else {
         return Ok(None);
     };
     Ok(Some(Edge {
@@ -38,21 +38,35 @@ fn edge_in(alloc: Global, row: &Row<'_>, last: u16) -> Result<Option<Edge>, Allo
     }))
 }
 
-/// The edges of rows whose ends are all plain numbers up to `last`, and `None` where an end is another word.
+/// The edges of rows whose ends are all plain numbers up to `last`. Or the place of the first row with another end.
 pub fn by_numbers(
     alloc: Global,
-    rows: &[Row<'_>],
+    rows: &[Row],
     last: u16,
-) -> Result<Option<Vec<Edge>>, AllocError>
-    ensures found { IfRead result (λ edges. AreNumbered last (map row_of rows.now) edges.items) }
-    ensures none { IfNoneRead result (AreNotNumbered last (map row_of rows.now)) }
+) -> Result<Result<Vec<Edge>, usize>, AllocError>
+    ensures found { IfAccepted result (λ edges. AreNumbered last (map row_of rows.now) edges.items) }
+    ensures refused { IfRefused result (λ place. IsFirstOther last (map row_of rows.now) place) }
 {
     let mut edges = Vec::new(alloc);
-    for row in rows {
-        let Some(edge) = edge_in(alloc, row, last)? else {
-            return Ok(None);
-        };
-        edges.push(edge)?;
+    for place in 0..rows.len() {
+        match edge_in(alloc, &rows[place], last)? {
+            Some(edge) => edges.push(edge)?,
+            None => return Ok(Err(place)),
+        }
     }
-    Ok(Some(edges))
+    Ok(Ok(edges))
+}
+
+// Whether a word has a digit or more, and nothing else.
+fn are_digits(word: &str) -> bool
+    ensures { IsTrue result ↔ AreDigits word.now }
+{
+    !word.is_empty() && word.as_bytes().iter().all(|byte| byte.is_ascii_digit())
+}
+
+/// Whether rows call all their nodes by numbers: each end has digits alone.
+pub fn call_numbers(rows: &[Row]) -> bool
+    ensures { IsTrue result ↔ All (λ row. CallsNumbers (row_of row)) rows.now }
+{
+    rows.iter().all(|row| are_digits(row.a.as_str()) && are_digits(row.b.as_str()))
 }

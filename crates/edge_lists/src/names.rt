@@ -4,15 +4,15 @@ ghost use Rattle.std.specs.String.{string_bytes};
 ghost use Rattle.written_values.specs.Reading.{IfRead, texts_of};
 ghost use Rattle.written_values.specs.Scripts.{lines_of};
 ghost use Rattle.edge_lists.specs.Edges.{IsEdgeOf};
-ghost use Rattle.edge_lists.specs.NameLists.{AreBegun, AreNames, AreTaken, EndsAt, HaveNumbers, IsFirstNoName, IsNumberOf, IsOneTooMany, IsWord, NoneTwice, has_number, is_among, row_ends, with_name, with_names};
+ghost use Rattle.edge_lists.specs.NameLists.{AreBegun, AreNames, AreTaken, EndsAt, HaveNumbers, IsFirstNoName, IsNumberOf, IsOneTooMany, NoneTwice, has_number, is_among, row_ends, with_name, with_names};
 ghost use Rattle.edge_lists.specs.Reading.{IfAccepted, IfNoneRead, IfRefused, OnRead};
 ghost use Rattle.edge_lists.specs.Rows.{row_of};
 ghost use Rattle.edge_lists.specs.Written.{AreListed, IsOneLine, names_text};
 
 use crate::edge::Edge;
+use crate::name::is_name;
 use crate::refused::{NameForm, NameRefused};
 use crate::row::Row;
-use crate::words::words_in;
 use std::alloc::{AllocError, Global};
 use std::collections::HashMap;
 use std::marker::Model;
@@ -38,25 +38,6 @@ impl<'a> Model for Names<'a> {
     ghost view = { λ names. texts_of names.list.items };
 
     ghost invariant = { λ names. IsIndexOf (texts_of names.list.items) (λ name. get_by (λ key. bytes_eq name key.now) names.numbers) };
-}
-
-// Whether a text is the only one of these words.
-fn is_only(words: &[&str], text: &str) -> bool
-    ensures { IsTrue result ↔ (texts_of words.now ≡ text.now ∷ []) }
-{
-    match words {
-        [word] => *word == text,
-        _ => false,
-    }
-}
-
-// Whether a line is one word.
-fn is_word(alloc: Global, text: &str) -> Result<bool, AllocError>
-    ensures { IfOk result (λ is. IsTrue is ↔ IsWord text.now) }
-{
-    let words = words_in(alloc, text)?;
-    let is = is_only(&words, text);
-    Ok(is)
 }
 
 // Adds a line.
@@ -129,8 +110,8 @@ impl<'a> Names<'a> {
         for index in 0..lines.len() {
             let number = index + 1;
             let name = lines[index];
-            if !is_word(alloc, name)? {
-                let form = NameForm::Word;
+            if !is_name(name) {
+                let form = NameForm::NoName;
                 return Ok(Err(NameRefused { number, form }));
             }
             if names.has(name) {
@@ -185,17 +166,17 @@ impl<'a> Names<'a> {
     }
 
     // The edge of a row, by the numbers of its names.
-    fn edge_of(&mut self, row: &Row<'a>, most: u16) -> Result<Option<Edge>, AllocError>
-        ensures edge { IfRead result (λ edge. IsEdgeOf (IsNumberOf self.new) (row_of row.now) edge) }
-        ensures numbers { OnRead result (HaveNumbers most self.old (row_ends (row_of row.now))) }
-        ensures names { OnRead result (self.new ≡ with_names self.old (row_ends (row_of row.now))) }
-        ensures none { IfNoneRead result (EndsAt most self.old (row_of row.now) self.new) }
-        ensures err { OnErr result (AreBegun self.old (row_of row.now ∷ []) self.new) }
+    fn edge_of(&mut self, row: &'a Row, most: u16) -> Result<Option<Edge>, AllocError>
+        ensures edge { IfRead result (λ edge. IsEdgeOf (IsNumberOf self.new) (row_of row.entry.now) edge) }
+        ensures numbers { OnRead result (HaveNumbers most self.old (row_ends (row_of row.entry.now))) }
+        ensures names { OnRead result (self.new ≡ with_names self.old (row_ends (row_of row.entry.now))) }
+        ensures none { IfNoneRead result (EndsAt most self.old (row_of row.entry.now) self.new) }
+        ensures err { OnErr result (AreBegun self.old (row_of row.entry.now ∷ []) self.new) }
     {
-        let Some(a) = self.number_of(row.a, most)? else {
+        let Some(a) = self.number_of(row.a.as_str(), most)? else {
             return Ok(None);
         };
-        let Some(b) = self.number_of(row.b, most)? else {
+        let Some(b) = self.number_of(row.b.as_str(), most)? else {
             return Ok(None);
         };
         Ok(Some(Edge {
@@ -211,12 +192,12 @@ impl<'a> Names<'a> {
     pub fn take_rows(
         &mut self,
         alloc: Global,
-        rows: &[Row<'a>],
+        rows: &'a [Row],
         most: u16,
     ) -> Result<Result<Vec<Edge>, NameRefused>, AllocError>
-        ensures taken { IfAccepted result (λ edges. AreTaken most self.old (map row_of rows.now) edges.items self.new) }
-        ensures refused { IfRefused result (λ why. IsOneTooMany most self.old (map row_of rows.now) why self.new) }
-        ensures err { OnErr result (AreBegun self.old (map row_of rows.now) self.new) }
+        ensures taken { IfAccepted result (λ edges. AreTaken most self.old (map row_of rows.entry.now) edges.items self.new) }
+        ensures refused { IfRefused result (λ why. IsOneTooMany most self.old (map row_of rows.entry.now) why self.new) }
+        ensures err { OnErr result (AreBegun self.old (map row_of rows.entry.now) self.new) }
     {
         let mut edges = Vec::new(alloc);
         for row in rows {

@@ -2,26 +2,29 @@
 ghost use Rattle.std.specs.Prelude.{◌≡◌, ◌∷◌, [], ◌+◌, ◌<◌, ◌^◌, ℕ, IfNone, IfOk, IfSome, length, map};
 ghost use Rattle.written_values.specs.Reading.{IfRead, texts_of};
 ghost use Rattle.edge_lists.specs.Reading.{IfAccepted, IfNoneRead, IfRefused};
-ghost use Rattle.edge_lists.specs.Rows.{IsFirstRefused, IsNoRow, IsReadAs, IsRowOf, IsWeight, Say, row_of};
+ghost use Rattle.edge_lists.specs.Rows.{IsEdgeRead, IsFirstRefused, IsNoRow, IsReadAs, IsRowOf, IsWeight, Say, row_of};
 ghost use Rattle.edge_lists.specs.Written.{IsRefusedAt, SaysEdges};
 
-use crate::header::{is_nothing, lines_before};
+use crate::header::{Heading, is_nothing, lines_before};
+use crate::name::is_name;
+use crate::records::{has_comma, record_in, texts_in};
 use crate::refused::{Form, LineRefused};
 use crate::row::Row;
-use crate::words::{fields_in, words_in};
+use crate::words::words_in;
 use std::alloc::{AllocError, Global};
 use written_values::{lines_in, number};
 
 /// The rows of an edge list, or the first line of the text that says no edge.
-pub fn read_edge_list<'a>(
+pub fn read_edge_list(
     alloc: Global,
-    text: &'a str,
-) -> Result<Result<Vec<Row<'a>>, LineRefused>, AllocError>
-    ensures found { IfAccepted result (λ rows. SaysEdges text.entry.now (map row_of rows.items)) }
-    ensures refused { IfRefused result (λ refused. IsRefusedAt text.entry.now refused.number) }
+    text: &str,
+    heading: Heading,
+) -> Result<Result<Vec<Row>, LineRefused>, AllocError>
+    ensures found { IfAccepted result (λ rows. SaysEdges heading text.now (map row_of rows.items)) }
+    ensures refused { IfRefused result (λ refused. IsRefusedAt heading text.now refused.number) }
 {
     let texts = lines_in(alloc, text)?;
-    let before = lines_before(alloc, &texts)?;
+    let before = lines_before(alloc, heading, &texts)?;
     match rows_in(alloc, before, &texts[before..])? {
         Ok(rows) => Ok(Ok(rows)),
         Err(refused) => Ok(Err(refused)),
@@ -29,11 +32,11 @@ pub fn read_edge_list<'a>(
 }
 
 // The rows that these lines say, of which the first has the number behind `before`.
-fn rows_in<'a>(
+fn rows_in(
     alloc: Global,
     before: usize,
-    texts: &[&'a str],
-) -> Result<Result<Vec<Row<'a>>, LineRefused>, AllocError>
+    texts: &[&str],
+) -> Result<Result<Vec<Row>, LineRefused>, AllocError>
     requires { before + length texts.now < 2 ^ 64 }
     ensures found { IfAccepted result (λ rows. Say before (texts_of texts.now) (map row_of rows.items)) }
     ensures refused { IfRefused result (λ refused. IsFirstRefused before (texts_of texts.now) refused.number) }
@@ -52,22 +55,36 @@ fn rows_in<'a>(
 
 /// What one line of a text is.
 #[derive(Drop)]
-pub(crate) enum Read<'a> {
+pub(crate) enum Read {
     Nothing,
-    Row(Row<'a>),
+    Row(Row),
     /// It says no edge.
     Refused(Form),
 }
 
-fn read_one<'a>(alloc: Global, line: usize, text: &'a str) -> Result<Read<'a>, AllocError>
-    ensures { IfOk result (λ read. IsReadAs line text.entry.now read) }
+fn read_one(alloc: Global, line: usize, text: &str) -> Result<Read, AllocError>
+    ensures { IfOk result (λ read. IsReadAs line text.now read) }
 {
     let words = words_in(alloc, text)?;
     if is_nothing(&words) {
         return Ok(Read::Nothing);
     }
-    let (fields, _) = fields_in(alloc, text, words)?;
-    match row_in(alloc, line, &fields)? {
+    if !has_comma(text) {
+        return read_fields(alloc, line, &words);
+    }
+    let record = record_in(alloc, text)?;
+    if record.is_empty() {
+        return Ok(Read::Refused(Form::Record));
+    }
+    let fields = texts_in(alloc, &record)?;
+    read_fields(alloc, line, &fields)
+}
+
+// What a line of these fields is, where it says something.
+fn read_fields(alloc: Global, line: usize, fields: &[&str]) -> Result<Read, AllocError>
+    ensures { IfOk result (λ read. IsEdgeRead line (texts_of fields.now) read) }
+{
+    match row_in(alloc, line, fields)? {
         Ok(row) => Ok(Read::Row(row)),
         Err(form) => Ok(Read::Refused(form)),
     }
@@ -82,12 +99,17 @@ fn form_of(fields: usize) -> Form {
     }
 }
 
+// What a line should have been, where one of its ends is no name.
+fn form_of_ends(a: &str, b: &str) -> Form {
+    if a.is_empty() || b.is_empty() {
+        Form::Fields
+    } else {
+        Form::Name
+    }
+}
+
 // The row of a line with these fields.
-fn row_in<'a>(
-    alloc: Global,
-    line: usize,
-    fields: &[&'a str],
-) -> Result<Result<Row<'a>, Form>, AllocError>
+fn row_in(alloc: Global, line: usize, fields: &[&str]) -> Result<Result<Row, Form>, AllocError>
     ensures row { IfAccepted result (λ row. IsRowOf line (texts_of fields.now) (row_of row)) }
     ensures none { IfRefused result (λ _. IsNoRow (texts_of fields.now)) }
 {
@@ -101,9 +123,11 @@ fn row_in<'a>(
         Some(weight) => weight,
         None => return Ok(Err(form_of(rest.len()))),
     };
-    if a.is_empty() || b.is_empty() {
-        return Ok(Err(Form::Fields));
+    if !is_name(a) || !is_name(b) {
+        return Ok(Err(form_of_ends(a, b)));
     }
+    let a = String::from_str(alloc, a)?;
+    let b = String::from_str(alloc, b)?;
     Ok(Ok(Row { line, a, b, weight }))
 }
 

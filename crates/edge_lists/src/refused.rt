@@ -6,6 +6,10 @@ use thiserror::Error;
 pub enum Form {
     #[error("a line is `A B W` or `A,B,W`, where W may be left out")]
     Fields,
+    #[error("a line with commas is one record of CSV: no blank stands before a quoted field, which ends in the line")]
+    Record,
+    #[error("a name has no line break in it, and begins with no `#` and a blank")]
+    Name,
     #[error("the weight is a plain number below 4294967296")]
     Weight,
 }
@@ -22,8 +26,8 @@ pub struct LineRefused {
 /// Why a name isn't taken.
 #[derive(Clone, Copy, Debug, PartialEq, Eq, Drop, Error)]
 pub enum NameForm {
-    #[error("a name is one word, without blanks")]
-    Word,
+    #[error("a name has no blank at its ends, and begins with no `#` and a blank")]
+    NoName,
     #[error("the name stands there twice")]
     Twice,
     #[error("there are more names than nodes")]

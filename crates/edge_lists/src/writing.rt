@@ -1,10 +1,13 @@
 // An edge list's text.
-ghost use Rattle.std.specs.Prelude.{◌≡◌, ◌++◌, All, IfOk, OnOk};
+ghost use Rattle.std.specs.Prelude.{◌≡◌, ◌++◌, IfOk, OnOk};
 ghost use Rattle.std.specs.String.{string_bytes};
-ghost use Rattle.written_values.specs.Reading.{texts_of};
-ghost use Rattle.edge_lists.specs.Written.{AreRead, FitTypes, IsLabel, edges_text, label_of, said_of, text_of_edge};
+ghost use Rattle.written_values.specs.Reading.{IfRead, texts_of};
+ghost use Rattle.edge_lists.specs.Labels.{AreLabels};
+ghost use Rattle.edge_lists.specs.Reading.{IfNoneRead};
+ghost use Rattle.edge_lists.specs.Written.{AreRead, FitTypes, edges_text, label_of, said_of, text_of_edge};
 
 use crate::edge::Edge;
+use crate::name::are_labels;
 use std::alloc::{AllocError, Global};
 
 /// Adds what a node is called: its name, or its number where it has none.
@@ -29,12 +32,29 @@ fn push_line(text: &mut String, names: &[&str], edge: &Edge) -> Result<(), Alloc
 }
 
 /// The text of an edge list: a line `A B W` for each edge. Nodes are called by these names, and by their numbers where
-/// they have none.
+/// they have none. `None` where a name can't stand in such a line.
 ///
-/// Where a list may call nodes by the names, [`crate::read_edge_list`] reads the text as just these edges.
-pub fn edge_list(alloc: Global, edges: &[Edge], names: &[&str]) -> Result<String, AllocError>
+/// [`crate::read_edge_list`] reads the text as just these edges.
+pub fn edge_list(
+    alloc: Global,
+    edges: &[Edge],
+    names: &[&str],
+) -> Result<Option<String>, AllocError>
+    ensures text { IfRead result (λ text. string_bytes text ≡ edges_text (texts_of names.now) edges.now) }
+    ensures read { IfRead result (λ text. AreRead (string_bytes text) (said_of (texts_of names.now) 0 edges.now)) }
+    ensures none { IfNoneRead result (¬ (AreLabels names.now)) }
+{
+    if !are_labels(names) {
+        return Ok(None);
+    }
+    let text = text_of(alloc, edges, names)?;
+    Ok(Some(text))
+}
+
+// The text of these edges.
+fn text_of(alloc: Global, edges: &[Edge], names: &[&str]) -> Result<String, AllocError>
     ensures text { IfOk result (λ text. string_bytes text ≡ edges_text (texts_of names.now) edges.now) }
-    ensures read { IfOk result (λ text. All IsLabel (texts_of names.now)
+    ensures read { IfOk result (λ text. AreLabels names.now
         → AreRead (string_bytes text) (said_of (texts_of names.now) 0 edges.now)) }
 {
     let mut text = String::new(alloc);

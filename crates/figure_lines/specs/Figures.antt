@@ -4,6 +4,7 @@ use Rattle.std.specs.Global.{Vec}
 use Rattle.std.specs.List.{flat_map}
 use Rattle.std.specs.String.{string_bytes}
 use Rattle.csv.specs.Writing.{default_writer, row_text}
+use Rattle.csv.specs.declared.writer.WriterBuilder.{WriterBuilder}
 use Rattle.serde_json.specs.Data.{Data, string, array, object, member, no_members}
 use Rattle.spreads.specs.Decimals.{thousandths_text}
 use Rattle.figure_lines.specs.Json.{items_by}
@@ -48,9 +49,13 @@ figure_line f = f.name ++ (61 ∷ (f.value ++ (codes " unit=" ++ (f.unit ++ 10 �
 
 -- ---- CSV
 
+-- the defaults of the crate `csv`, but that a field with `#` is quoted too
+abbrev pub row_writer : WriterBuilder
+row_writer = record default_writer { comment = Some 35 }
+
 -- a row of three fields
 abbrev pub row : List ℕ → List ℕ → List ℕ → List ℕ
-row a b c = row_text default_writer (a ∷ b ∷ c ∷ [])
+row a b c = row_text row_writer (a ∷ b ∷ c ∷ [])
 
 -- the row of a figure
 abbrev pub figure_row : Said → List ℕ

@@ -51,11 +51,13 @@ fn write_figure(writer: &mut Writer<Vec<u8>>, figure: &Figure) -> Result<(), All
     write_row(writer, name, figure.value.as_str(), figure.unit)
 }
 
-// A writer that has written nothing.
+// A writer that has written nothing. It quotes a field with `#` too, since a line that begins so is a comment where edges are read.
 pub(crate) fn new_writer(alloc: Global) -> Writer<Vec<u8>>
     ensures { HasRows result [] }
 {
-    WriterBuilder::new().from_writer(Vec::new(alloc))
+    WriterBuilder::new()
+        .comment(Some(b'#'))
+        .from_writer(Vec::new(alloc))
 }
 
 // A row of three fields.

@@ -7,7 +7,7 @@ use crate::helpers::{
 use crate::slow::{Distances, distance, distances_of, expect_sizes, expect_ways};
 use checkpoint::Store;
 use disk_trait::MemDisk;
-use edge_lists::{Edge, Names, edge_list, read_edge_list};
+use edge_lists::{Edge, Heading, Names, Row, edge_list, read_edge_list};
 use figure_lines::{
     Mark, edges_of, figures_text, marks_of, network_csv, network_dot, network_json,
     scheme_figures_of, way_figures_of,
@@ -169,12 +169,22 @@ fn names_in<'a>(rt: &impl Abort, alloc: Global, text: &'a str) -> Names<'a> {
     }
 }
 
-/// The edges that a list says, by the numbers of these names.
-fn edges_in<'a>(rt: &impl Abort, alloc: Global, names: &mut Names<'a>, text: &'a str) -> Vec<Edge> {
-    let Ok(rows) = got(rt, read_edge_list(alloc, text)) else {
-        panic!(rt; "rows");
-    };
-    match got(rt, names.take_rows(alloc, &rows, 46)) {
+/// The rows of a list.
+fn rows_in(rt: &impl Abort, alloc: Global, text: &str) -> Vec<Row> {
+    match got(rt, read_edge_list(alloc, text, Heading::ByWords)) {
+        Ok(rows) => rows,
+        Err(_) => panic!(rt; "rows"),
+    }
+}
+
+/// The edges of rows, by the numbers of these names.
+fn edges_in<'a>(
+    rt: &impl Abort,
+    alloc: Global,
+    names: &mut Names<'a>,
+    rows: &'a [Row],
+) -> Vec<Edge> {
+    match got(rt, names.take_rows(alloc, rows, 46)) {
         Ok(edges) => edges,
         Err(_) => panic!(rt; "edges"),
     }
@@ -194,9 +204,8 @@ fn imported(
 
 /// The edges of the list, as the slow count has them.
 fn joined(rt: &impl Abort, alloc: Global) -> Vec<Joined> {
-    let mut names = Names::new(alloc);
     let mut all = Vec::new(alloc);
-    for edge in edges_in(rt, alloc, &mut names, LIST) {
+    for edge in listed(rt, alloc) {
         got(rt, all.push((edge.a, edge.b, edge.weight)));
     }
     all
@@ -204,13 +213,15 @@ fn joined(rt: &impl Abort, alloc: Global) -> Vec<Joined> {
 
 /// The edges of the list.
 fn listed(rt: &impl Abort, alloc: Global) -> Vec<Edge> {
-    edges_in(rt, alloc, &mut Names::new(alloc), LIST)
+    let rows = rows_in(rt, alloc, LIST);
+    edges_in(rt, alloc, &mut Names::new(alloc), &rows)
 }
 
 /// Sees that the list names the cities.
 fn expect_cities(rt: &impl Abort, alloc: Global) {
+    let rows = rows_in(rt, alloc, LIST);
     let mut names = Names::new(alloc);
-    let _edges = edges_in(rt, alloc, &mut names, LIST);
+    let _edges = edges_in(rt, alloc, &mut names, &rows);
     let written = got(rt, names.written(alloc));
     same_text(rt, written.as_str(), CITIES, "names");
 }
@@ -260,8 +271,9 @@ fn backbone_is_imported_once(rt: HostRuntime) {
 
 /// Sees that a list says the edges of a network.
 fn expect_list(rt: &impl Abort, alloc: Global, graph: &Graph, text: &str) {
+    let rows = rows_in(rt, alloc, text);
     let mut names = names_in(rt, alloc, CITIES);
-    let edges = edges_in(rt, alloc, &mut names, text);
+    let edges = edges_in(rt, alloc, &mut names, &rows);
     same(rt, edges.len(), 64, "edges");
     expect_edges(rt, graph, &edges);
 }
@@ -275,7 +287,9 @@ struct Exported<'a> {
 }
 
 fn expect_as_list(rt: &impl Abort, alloc: Global, exported: &Exported<'_>) {
-    let text = got(rt, edge_list(alloc, exported.edges, exported.names));
+    let Some(text) = got(rt, edge_list(alloc, exported.edges, exported.names)) else {
+        panic!(rt; "no list");
+    };
     expect_list(rt, alloc, exported.graph, text.as_str());
 }
 
@@ -506,4 +520,47 @@ fn expect_trail(rt: &impl Abort, alloc: Global, graph: &Graph) {
     let trail = got(rt, carry_in(alloc, graph, &scheme, 4, 39));
     same(rt, trail.nodes.as_slice(), WAY.as_slice(), "the way");
     same_number(rt, trail.length, 2935, "its length");
+}
+
+/// Names of every form that a list may give to nodes.
+const NAMES: &str = "New York
+a, \"b\"
+\"c\"
+#d
+e,f
+source
+Zürich
+";
+
+/// The rows of edges between them, under a row of names: what a comma, a quotation mark or `#` stands in is quoted.
+const ROWS: &str = "a,b,weight
+New York,\"a, \"\"b\"\"\",1
+\"\"\"c\"\"\",\"#d\",2
+\"#d\",\"e,f\",3
+source,Zürich,4
+";
+
+#[test]
+fn names_of_every_form_come_back(rt: HostRuntime) {
+    let alloc = rt.alloc();
+    let rt = &rt;
+    let graph = graph_of(rt, alloc, 46, &[(0, 1, 1), (2, 3, 2), (3, 4, 3), (5, 6, 4)]);
+    let names = names_in(rt, alloc, NAMES);
+    let edges = got(rt, edges_of(alloc, &graph));
+    same(
+        rt,
+        got(rt, edge_list(alloc, &edges, names.list())).is_none(),
+        true,
+        "a list",
+    );
+    let text = got(rt, network_csv(alloc, &edges, names.list()));
+    let text = got(rt, str::from_utf8(&text));
+    same_text(rt, text, ROWS, "rows");
+    let rows = rows_in(rt, alloc, text);
+    let mut again = names_in(rt, alloc, NAMES);
+    let read = edges_in(rt, alloc, &mut again, &rows);
+    same(rt, read.len(), 4, "edges");
+    expect_edges(rt, &graph, &read);
+    let written = got(rt, again.written(alloc));
+    same_text(rt, written.as_str(), NAMES, "names");
 }

@@ -42,20 +42,20 @@ taken_by old new edges rs last wide at ops row leads =
       last = ap (λ (ts : List ℕ). last_of ts 0) (tickets_behind old new rs leads) ∙ row_last old.tickets last rs wide at row ∙ ap (λ (n : ℕ). n + length rs) (sym at);
     }
 
-suc_take_both : (xs : List Edge) (d n : ℕ) → take (d + n) xs ≡ take d xs ++ take n (drop d xs)
-suc_take_both xs zero n = let same : 0 + n ≡ n = omega arith in ap (λ (k : ℕ). take k xs) same
-suc_take_both [] (suc d) zero = let same : suc d + 0 ≡ suc d = omega arith in ap (λ (k : ℕ). take k []) same
-suc_take_both [] (suc d) (suc n) = let same : suc d + suc n ≡ suc (d + suc n) = omega arith in ap (λ (k : ℕ). take k []) same
-suc_take_both (x ∷ xs) (suc d) n =
+pub take_both : (xs : List Edge) (d n : ℕ) → take (d + n) xs ≡ take d xs ++ take n (drop d xs)
+take_both xs zero n = let same : 0 + n ≡ n = omega arith in ap (λ (k : ℕ). take k xs) same
+take_both [] (suc d) zero = let same : suc d + 0 ≡ suc d = omega arith in ap (λ (k : ℕ). take k []) same
+take_both [] (suc d) (suc n) = let same : suc d + suc n ≡ suc (d + suc n) = omega arith in ap (λ (k : ℕ). take k []) same
+take_both (x ∷ xs) (suc d) n =
     let same : suc d + n ≡ suc (d + n) = omega arith in
-    ap (λ (k : ℕ). take k (x ∷ xs)) same ∙ ap (λ (l : List Edge). x ∷ l) (suc_take_both xs d n)
+    ap (λ (k : ℕ). take k (x ∷ xs)) same ∙ ap (λ (l : List Edge). x ∷ l) (take_both xs d n)
 
 -- a group more is taken
 pub taken_both : (old mid new : State) (edges group : List Edge) (d n : ℕ) → group ≡ take n (drop d edges) → d + n ≤ length edges → HasTaken old edges d mid → HasTaken mid group (length group) new
     → HasTaken old edges (d + n) new
 taken_both old mid new edges group d n is fits first second =
     let whole : take (length group) group ≡ take n (drop d edges) = take_all (length group) group (omega arith) ∙ is in
-    let all : take (d + n) edges ≡ take d edges ++ take (length group) group = suc_take_both edges d n ∙ ap (λ (l : List Edge). take d edges ++ l) (sym whole) in
+    let all : take (d + n) edges ≡ take d edges ++ take (length group) group = take_both edges d n ∙ ap (λ (l : List Edge). take d edges ++ l) (sym whole) in
     let ops : ops_of (first.requests ++ second.requests) ≡ ops_of first.requests ++ ops_of second.requests = flat_map-append (λ (r : Request). r.change) first.requests second.requests in
     let long : length (first.requests ++ second.requests) ≡ length first.requests + length second.requests = length-append first.requests second.requests in
     record {

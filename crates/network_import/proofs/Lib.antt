@@ -3,3 +3,4 @@ pub mod RowsOfRequests
 pub mod Groups
 pub mod StoreLeaves
 pub mod OldForms
+pub mod OrderLemmas

@@ -18,8 +18,8 @@ fn adds_of(alloc: Global, edges: &[Edge]) -> Result<Vec<Op>, AllocError>
         .collect(alloc)
 }
 
-// The change that adds these edges.
-fn change_of(alloc: Global, edges: &[Edge]) -> Result<Change, AllocError>
+/// The change that adds these edges.
+pub(crate) fn change_of(alloc: Global, edges: &[Edge]) -> Result<Change, AllocError>
     requires some { 1 ≤ length edges.now }
     requires few { length edges.now ≤ MOST_OPS }
     ensures { IfOk result (λ change. change ≡ adds edges.now) }

@@ -1,11 +1,13 @@
 // Judging a group.
-ghost use Rattle.std.specs.Prelude.{◌≡◌, ◌≢◌, ◌≤◌, Ok, IfErr, IsErrOf, IsSome, OnOk, length};
-ghost use Rattle.graph_edits.specs.Changes.{fold};
+ghost use Rattle.std.specs.Prelude.{◌≡◌, ◌≢◌, ◌≤◌, Ok, IfErr, IsErrOf, IsOk, IsSome, OnOk, length};
+ghost use Rattle.graph_edits.specs.Changes.{edges_after, fold};
 ghost use Rattle.layout_2.specs.State.{changes_of};
-ghost use Rattle.network_import.specs.Imported.{FitsAt, IsGroupRefused, ops_of, told_behind};
+ghost use Rattle.network_import.specs.Imported.{FitsAt, IsGroupRefused, adds, ops_of, told_behind};
 
+use crate::changes::change_of;
 use crate::refused::ImportRefused;
-use graph_edits::{EditRefused, Graph, Overlay};
+use edge_lists::Edge;
+use graph_edits::{EditRefused, Graph, MOST_OPS, Overlay};
 use requests::Request;
 use std::alloc::Global;
 
@@ -23,6 +25,25 @@ pub(crate) fn judge(alloc: Global, graph: &Graph, requests: &[Request]) -> Resul
         let count = request.change.ops().len();
         match overlay.apply(&request.change) {
             Ok(()) => done += count,
+            Err(refused) => return Err(told_at(done, refused)),
+        }
+    }
+    Ok(())
+}
+
+/// Sees whether a graph takes edges, in order. Where one is refused, its place among them is named.
+pub(crate) fn judge_edges(alloc: Global, graph: &Graph, edges: &[Edge]) -> Result<(), ImportRefused>
+    ensures taken { OnOk result (IsOk (edges_after (graph.now).nodes (graph.now).edges 0 (adds edges.now))) }
+    ensures refused { IfErr result (λ refused. IsGroupRefused graph.now (adds edges.now) refused) }
+    ensures no_device { ¬ (IsErrOf result ImportRefused.Device) }
+{
+    let mut overlay = Overlay::over(alloc, graph);
+    let mut done = 0;
+    while done < edges.len() {
+        let some = MOST_OPS.min(edges.len() - done);
+        let change = change_of(alloc, &edges[done..done + some])?;
+        match overlay.apply(&change) {
+            Ok(()) => done += some,
             Err(refused) => return Err(told_at(done, refused)),
         }
     }

@@ -27,6 +27,16 @@
 //! | `durable` | behind any answer but `Device`, a crash leaves the store's state |
 //! | `cut_off` | behind `Device`, it leaves the store's state, or the one with the whole group that was next (`IsCutOff`) |
 //!
+//! [`import_named`] keeps an order in which edges and the names that they are by come in (`specs/Order`, `KeepsOrder`), over
+//! any place of names ([`NamesPlace`]): all edges are judged, the new names are laid beside the old ones, the edges are
+//! imported, and the names are put.
+//!
+//! | Answer | What it says |
+//! |---|---|
+//! | `Ok` | all edges are in, and the names are put; they are put only then |
+//! | `Edges(Op ..)` | this op is the first of all that is refused; nothing has changed, neither edges nor names |
+//! | any | where an edge is in, the names are laid or put; edges come in only while the names are laid |
+//!
 //! ```text
 //! let edges = [Edge { line: 1, a: 0, b: 1, weight: 5 }, Edge { line: 2, a: 1, b: 0, weight: 7 }];
 //! import(alloc, &mut store, &edges, &mut progress)   // Err(Op { place: 1, code: EdgeThere }); nothing of the group is
@@ -38,7 +48,9 @@ mod changes;
 mod committing;
 mod importing;
 mod judging;
+mod order;
 mod refused;
 
 pub use importing::{Progress, import};
+pub use order::{NamedRefused, NamesAt, NamesFault, NamesPlace, import_named};
 pub use refused::ImportRefused;

@@ -1,6 +1,6 @@
 // Drawn networks: written as a list, read, imported, written again, and compared with the test's own list.
 use crate::helpers::{Came, got, new_store};
-use edge_lists::{Edge, by_numbers, edge_list, read_edge_list};
+use edge_lists::{Edge, Heading, by_numbers, edge_list, read_edge_list};
 use network_import::import;
 use rand_core::SeedableRng;
 use rand_core::utils::NextWord;
@@ -52,11 +52,14 @@ fn drawn_networks_come_in_and_go_out(rt: HostRuntime) {
     let alloc = rt.alloc();
     for seed in 0..12 {
         let edges = drawn(&rt, alloc, seed);
-        let text = got(&rt, edge_list(alloc, &turned(&rt, alloc, &edges), &[]));
-        let Ok(rows) = got(&rt, read_edge_list(alloc, text.as_str())) else {
+        let Some(text) = got(&rt, edge_list(alloc, &turned(&rt, alloc, &edges), &[])) else {
             panic!(rt; "seed {seed}");
         };
-        let Some(read) = got(&rt, by_numbers(alloc, &rows, 59)) else {
+        let read = got(&rt, read_edge_list(alloc, text.as_str(), Heading::ByWords));
+        let Ok(rows) = read else {
+            panic!(rt; "seed {seed}");
+        };
+        let Ok(read) = got(&rt, by_numbers(alloc, &rows, 59)) else {
             panic!(rt; "seed {seed}");
         };
         let mut store = new_store(&rt, alloc, 60);

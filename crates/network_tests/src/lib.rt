@@ -1,8 +1,9 @@
 //! Tests of edge lists, and of networks that come in and go out as such.
 //!
 //! There is nothing here but tests: the forms of lines, headers and names by hand; a refused op in the middle of a
-//! group, and what stays; a device that fails at each call in turn; memory that is refused at each request in turn; and
-//! drawn networks, which come in and go out and are compared with a list of the test's own.
+//! group, and what stays; a device that fails at each call in turn; names that can't be laid or put; memory that is
+//! refused at each request in turn; and drawn networks, which come in and go out and are compared with a list of the
+//! test's own.
 #![tactic(auto)]
 
 #[cfg(test)]
@@ -17,3 +18,5 @@ mod lines;
 mod memory;
 #[cfg(test)]
 mod names;
+#[cfg(test)]
+mod order;

@@ -7,7 +7,9 @@ ghost use Rattle.checkpoint.specs.StoreWords.{is_down};
 use crate::helpers::{Came, has_up_to, new_store};
 use checkpoint::Store;
 use disk_trait::MemDisk;
-use edge_lists::{Edge, Form, LineRefused, Names, Row, by_numbers, edge_list, read_edge_list};
+use edge_lists::{
+    Edge, Form, Heading, LineRefused, Names, Row, by_numbers, edge_list, read_edge_list,
+};
 use network_import::{ImportRefused, import};
 use std::alloc::Global;
 use std::process::Abort;
@@ -59,18 +61,18 @@ fn an_import_after_a_want_of_memory(rt: HostRuntime) {
 #[test]
 fn a_text_after_a_want_of_memory(rt: HostRuntime) {
     let alloc = rt.alloc();
-    let text = "a,b,km\n# roads\n0 1 5\n0 x";
-    let rows = match read_edge_list(alloc, text) {
+    let text = "a,b,km\n# roads\n0 1 5\n\"0\",x";
+    let rows = match read_edge_list(alloc, text, Heading::ByWords) {
         Ok(rows) => Ok(rows),
-        Err(_) => read_edge_list(alloc, text),
+        Err(_) => read_edge_list(alloc, text, Heading::ByWords),
     };
     match rows {
         Ok(Ok(rows)) => assert_eq!(rt; rows.len(), 2),
         _ => panic!(rt; "not read"),
     }
-    let refused = match read_edge_list(alloc, "0 1 5\n0") {
+    let refused = match read_edge_list(alloc, "0 1 5\n0", Heading::ByWords) {
         Ok(refused) => Ok(refused),
-        Err(_) => read_edge_list(alloc, "0 1 5\n0"),
+        Err(_) => read_edge_list(alloc, "0 1 5\n0", Heading::ByWords),
     };
     match refused {
         Ok(Err(refused)) => {
@@ -81,20 +83,19 @@ fn a_text_after_a_want_of_memory(rt: HostRuntime) {
     }
 }
 
-const ROWS: [Row<'static>; 2] = [
-    Row {
-        line: 1,
-        a: "1",
-        b: "2",
-        weight: 5,
-    },
-    Row {
-        line: 3,
-        a: "4",
-        b: "0",
-        weight: 6,
-    },
-];
+const LIST: &str = "1 2 5\n\n4 0 6";
+
+// The rows of the list.
+fn rows_of(rt: &impl Abort, alloc: Global) -> Vec<Row> {
+    let rows = match read_edge_list(alloc, LIST, Heading::ByWords) {
+        Ok(rows) => Ok(rows),
+        Err(_) => read_edge_list(alloc, LIST, Heading::ByWords),
+    };
+    match rows {
+        Ok(Ok(rows)) => rows,
+        _ => panic!(rt; "not read"),
+    }
+}
 
 // The edges of these rows, where the first names are `0` and `1`.
 const TAKEN: [Edge; 2] = [
@@ -112,24 +113,37 @@ const TAKEN: [Edge; 2] = [
     },
 ];
 
+// The names of a text.
+fn names_of<'a>(rt: &impl Abort, alloc: Global, text: &'a str) -> Names<'a> {
+    let read = match Names::read(alloc, text, 4) {
+        Ok(read) => Ok(read),
+        Err(_) => Names::read(alloc, text, 4),
+    };
+    match read {
+        Ok(Ok(names)) => names,
+        _ => panic!(rt; "not read"),
+    }
+}
+
+// The edges of rows, by names.
+fn taken<'a>(rt: &impl Abort, alloc: Global, names: &mut Names<'a>, rows: &'a [Row]) -> Vec<Edge> {
+    let taken = match names.take_rows(alloc, rows, 4) {
+        Ok(taken) => Ok(taken),
+        Err(_) => names.take_rows(alloc, rows, 4),
+    };
+    match taken {
+        Ok(Ok(edges)) => edges,
+        _ => panic!(rt; "not taken"),
+    }
+}
+
 #[test]
 fn names_after_a_want_of_memory(rt: HostRuntime) {
     let alloc = rt.alloc();
-    let read = match Names::read(alloc, "0\n1", 4) {
-        Ok(read) => Ok(read),
-        Err(_) => Names::read(alloc, "0\n1", 4),
-    };
-    let Ok(Ok(mut names)) = read else {
-        panic!(rt; "not read");
-    };
-    let taken = match names.take_rows(alloc, &ROWS, 4) {
-        Ok(taken) => Ok(taken),
-        Err(_) => names.take_rows(alloc, &ROWS, 4),
-    };
-    match taken {
-        Ok(Ok(edges)) => assert_eq!(rt; edges.as_slice(), TAKEN.as_slice()),
-        _ => panic!(rt; "not taken"),
-    }
+    let rows = rows_of(&rt, alloc);
+    let mut names = names_of(&rt, alloc, "0\n1");
+    let edges = taken(&rt, alloc, &mut names, &rows);
+    assert_eq!(rt; edges.as_slice(), TAKEN.as_slice());
     let written = match names.written(alloc) {
         Ok(written) => Ok(written),
         Err(_) => names.written(alloc),
@@ -143,11 +157,12 @@ fn names_after_a_want_of_memory(rt: HostRuntime) {
 #[test]
 fn numbers_after_a_want_of_memory(rt: HostRuntime) {
     let alloc = rt.alloc();
-    let found = match by_numbers(alloc, &ROWS, 4) {
+    let rows = rows_of(&rt, alloc);
+    let found = match by_numbers(alloc, &rows, 4) {
         Ok(found) => Ok(found),
-        Err(_) => by_numbers(alloc, &ROWS, 4),
+        Err(_) => by_numbers(alloc, &rows, 4),
     };
-    let Ok(Some(edges)) = found else {
+    let Ok(Ok(edges)) = found else {
         panic!(rt; "no numbers");
     };
     let text = match edge_list(alloc, &edges, &["a", "b"]) {
@@ -155,7 +170,7 @@ fn numbers_after_a_want_of_memory(rt: HostRuntime) {
         Err(_) => edge_list(alloc, &edges, &["a", "b"]),
     };
     match text {
-        Ok(text) => assert_eq!(rt; text.as_str(), "b 2 5\n4 a 6\n"),
+        Ok(text) => assert_eq!(rt; text.as_deref(), Some("b 2 5\n4 a 6\n")),
         Err(_) => panic!(rt; "not written"),
     }
 }

@@ -1,11 +1,9 @@
-// A device's file, the names beside it, and what is told of them.
-use crate::telling::told_memory;
+// A device's file, and texts of the system's files.
+use crate::telling::told_of;
 use checkpoint::Store;
 use command_output::Fault;
 use device_files::{DeviceFile, FileRefused};
-use edge_lists::Names;
-use std::alloc::AllocError;
-use std::fs::{self, File};
+use std::fs;
 use std::io::{ErrorKind, Write};
 
 /// What is told of a file that can't be had.
@@ -30,66 +28,33 @@ pub(crate) fn store_in(
     }
 }
 
-/// The path of the names beside a device.
-pub(crate) fn names_path(rt: &HostRuntime, device: &str) -> Result<String, AllocError> {
-    format!(in rt.alloc(); "{device}.names")
+// The number of the line in which the byte at a place stands, from 1.
+fn line_at(bytes: &[u8], place: usize) -> usize {
+    let mut line: usize = 1;
+    for byte in bytes.iter().take(place) {
+        if *byte == b'\n' {
+            line = line.saturating_add(1);
+        }
+    }
+    line
 }
 
 /// The text of a file, `None` where it isn't there. What else went wrong is told, and the exit status answered.
 pub(crate) fn text_of(rt: &HostRuntime, file: &str) -> Result<Option<String>, u8> {
-    match fs::read_to_string(rt, file) {
-        Ok(text) => Ok(Some(text)),
+    let bytes = match fs::read(rt, file) {
+        Ok(bytes) => bytes,
         Err(error) => match error.kind() {
-            ErrorKind::NotFound => Ok(None),
-            _ => {
-                let _told = writeln!(rt.stderr(), "tzlab: {file}: {error}");
-                Err(1)
-            }
+            ErrorKind::NotFound => return Ok(None),
+            _ => return Err(told_of(rt, file, error)),
         },
-    }
-}
-
-/// The names of a text, at most so many. What isn't understood of it is told, and the exit status answered.
-pub(crate) fn names_in<'a>(
-    rt: &HostRuntime,
-    file: &str,
-    text: &'a str,
-    most: u16,
-) -> Result<Names<'a>, u8> {
-    match Names::read(rt.alloc(), text, most) {
-        Ok(Ok(names)) => Ok(names),
-        Ok(Err(refused)) => {
-            let _told = writeln!(
-                rt.stderr(),
-                "tzlab: {file}:{}: {}",
-                refused.number,
-                refused.form
-            );
-            Err(2)
-        }
-        Err(_) => Err(told_memory(rt)),
-    }
-}
-
-// Writes a text into a new file under another name, and gives it the file's name when it is synced.
-fn replaced(rt: &HostRuntime, file: &str, other: &str, text: &str) -> std::io::Result<()> {
-    let mut made = File::create(rt, other)?;
-    made.write_all(text.as_bytes())?;
-    made.sync_all()?;
-    drop(made);
-    fs::rename(rt, other, file)
-}
-
-/// Puts a text in the place of a file: all of it, or the file stays. What went wrong is told, and the exit status answered.
-pub(crate) fn put_text(rt: &HostRuntime, file: &str, text: &str) -> Result<(), u8> {
-    let Ok(other) = format!(in rt.alloc(); "{file}.new") else {
-        return Err(told_memory(rt));
     };
-    match replaced(rt, file, other.as_str(), text) {
-        Ok(()) => Ok(()),
-        Err(error) => {
-            let _told = writeln!(rt.stderr(), "tzlab: {file}: {error}");
-            Err(1)
-        }
+    if let Err(error) = str::from_utf8(&bytes) {
+        let line = line_at(&bytes, error.valid_up_to());
+        let _told = writeln!(rt.stderr(), "tzlab: {file}:{line}: the text is not UTF-8");
+        return Err(2);
+    }
+    match String::from_utf8(bytes) {
+        Ok(text) => Ok(Some(text)),
+        Err(_) => Err(2),
     }
 }

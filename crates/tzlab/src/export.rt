@@ -1,12 +1,13 @@
 // The command `export`.
 ghost use Rattle.written_values.specs.Words.{IsWithin};
 
-use crate::device::{names_in, names_path, store_in, text_of};
+use crate::beside::{Beside, called_in, files_beside, kept_of};
+use crate::device::store_in;
 use crate::telling::{printed, told, told_memory, told_of};
 use clap::ArgMatches;
 use command_output::Fault;
 use device_files::DeviceFile;
-use edge_lists::{Names, edge_list};
+use edge_lists::{Called, Names, edge_list};
 use figure_lines::{Mark, edges_of, marks_of, network_csv, network_dot, network_json};
 use graph_edits::{Graph, MOST_NODES};
 use landmarks::choose;
@@ -72,26 +73,21 @@ fn dot_in(alloc: Global, found: &ArgMatches) -> Result<Result<Form, &'static str
 }
 
 fn export(rt: &HostRuntime, device: &str, form: &Form) -> Result<u8, u8> {
-    let Ok(path) = names_path(rt, device) else {
-        return Err(told_memory(rt));
-    };
-    let beside = text_of(rt, path.as_str())?;
+    let beside = files_beside(rt, device)?;
     match store_in(rt, DeviceFile::open_to_read(rt, device)) {
-        Ok(store) => print_network(rt, path.as_str(), beside.as_deref(), store.graph(), form),
+        Ok(store) => print_network(rt, &beside, store.graph(), form),
         Err(fault) => Err(told_of(rt, device, fault.text())),
     }
 }
 
-// Prints a network, with the names of the text beside its device.
-fn print_network(
-    rt: &HostRuntime,
-    path: &str,
-    beside: Option<&str>,
-    graph: &Graph,
-    form: &Form,
-) -> Result<u8, u8> {
-    let names = match beside {
-        Some(text) => names_in(rt, path, text, MOST_NODES)?,
+// Prints a network, with the names that are kept beside its device.
+fn print_network(rt: &HostRuntime, beside: &Beside, graph: &Graph, form: &Form) -> Result<u8, u8> {
+    let kept = kept_of(rt, beside, graph)?;
+    let names = match &kept.text {
+        Some(text) => match called_in(rt, kept.file(beside), text.as_str(), MOST_NODES)? {
+            Called::Names(names) => names,
+            Called::Numbers => Names::new(rt.alloc()),
+        },
         None => Names::new(rt.alloc()),
     };
     match text_in(rt.alloc(), graph, names.list(), form) {
@@ -110,7 +106,10 @@ fn text_in(
 ) -> Result<Option<Vec<u8>>, AllocError> {
     let edges = edges_of(alloc, graph)?;
     match form {
-        Form::Edges => Ok(Some(edge_list(alloc, &edges, names)?.into_bytes())),
+        Form::Edges => match edge_list(alloc, &edges, names)? {
+            Some(text) => Ok(Some(text.into_bytes())),
+            None => Ok(Some(network_csv(alloc, &edges, names)?)),
+        },
         Form::Csv => Ok(Some(network_csv(alloc, &edges, names)?)),
         Form::Json => { Ok(Some(network_json(alloc, graph.nodes(), &edges, names)?.into_bytes())) }
         Form::Dot(None) => Ok(Some(network_dot(alloc, &edges, names, &[])?)),

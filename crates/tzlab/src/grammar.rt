@@ -136,13 +136,16 @@ fn import<'a>(alloc: Global) -> Result<Command<'a>, AllocError> {
             word(
                 "device",
                 "DEVICE",
-                "The device's file; names are kept beside it, in DEVICE.names",
+                "The device's file; how its nodes are called is kept beside it, in DEVICE.names",
             ),
             word(
                 "file",
                 "FILE",
                 "An edge list: a line A B W or A,B,W for each edge",
             ),
+            flag("names", "Takes all ends of edges for names, numbers too"),
+            flag("header", "Takes the first line for a header"),
+            flag("no-header", "Takes no line for a header"),
             value(
                 "nodes",
                 "N",

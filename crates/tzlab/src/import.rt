@@ -1,13 +1,19 @@
 // The command `import`.
-use crate::device::{fault_of, names_in, names_path, put_text, store_in, text_of};
-use crate::telling::{printed, told_memory, told_of};
+use crate::beside::{
+    Beside, Kept, NamesFile, called_in, files_beside, kept_alone, kept_of, settle,
+};
+use crate::device::{fault_of, store_in, text_of};
+use crate::telling::{printed, told, told_memory, told_of};
 use checkpoint::{DEVICE_LEN, Store};
 use clap::ArgMatches;
 use command_output::Fault;
 use device_files::DeviceFile;
-use edge_lists::{Edge, Row, by_numbers, read_edge_list};
+use edge_lists::{
+    Called, Edge, Heading, NUMBERS, Names, Row, by_numbers, call_numbers, read_edge_list,
+};
 use graph_edits::MOST_NODES;
-use network_import::{ImportRefused, Progress, import};
+use network_import::{ImportRefused, NamedRefused, NamesAt, Progress, import_named};
+use std::fs;
 use std::io::{IsTerminal, Write};
 use written_values::number;
 
@@ -19,20 +25,25 @@ pub(crate) fn run(rt: &HostRuntime, found: &ArgMatches) -> u8 {
     let nodes = match found.get_str("nodes") {
         Some(word) => match number(rt.alloc(), word, MOST_NODES as u64) {
             Ok(Some(nodes)) if nodes >= 1 => Some(nodes as u16),
-            Ok(_) => {
-                let _told = writeln!(rt.stderr(), "tzlab: --nodes takes 1 to 16384");
-                return 2;
-            }
+            Ok(_) => return told(rt, 2, "--nodes takes 1 to 16384"),
             Err(_) => return told_memory(rt),
         },
         None => None,
+    };
+    let heading = match (found.get_flag("header"), found.get_flag("no-header")) {
+        (true, true) => return told(rt, 2, "either --header or --no-header"),
+        (true, false) => Heading::There,
+        (false, true) => Heading::Absent,
+        (false, false) => Heading::ByWords,
     };
     let asked = Asked {
         device,
         file,
         nodes,
+        heading,
+        names: found.get_flag("names"),
     };
-    match import_files(rt, &asked) {
+    match import_file(rt, &asked) {
         Ok(status) => status,
         Err(status) => status,
     }
@@ -44,36 +55,29 @@ struct Asked<'a> {
     device: &'a str,
     file: &'a str,
     nodes: Option<u16>,
+    heading: Heading,
+    names: bool,
 }
 
-fn import_files(rt: &HostRuntime, asked: &Asked<'_>) -> Result<u8, u8> {
-    let Ok(path) = names_path(rt, asked.device) else {
-        return Err(told_memory(rt));
+fn import_file(rt: &HostRuntime, asked: &Asked<'_>) -> Result<u8, u8> {
+    let Some(text) = text_of(rt, asked.file)? else {
+        return Err(told_of(rt, asked.file, "the file is not there"));
     };
-    match text_of(rt, asked.file)? {
-        Some(text) => import_text(rt, asked, path.as_str(), text.as_str()),
-        None => Err(told_of(rt, asked.file, "the file is not there")),
+    let rows = rows_of(rt, asked, text.as_str())?;
+    let beside = files_beside(rt, asked.device)?;
+    match opened(rt, asked)? {
+        Some(store) => import_on(rt, asked, &beside, &rows, store),
+        None => import_anew(rt, asked, &beside, &rows),
     }
 }
 
-// A text, with the names beside the device, where they are kept there. Else its ends are names as soon as one of them is no
-// number of a node.
-fn import_text(rt: &HostRuntime, asked: &Asked<'_>, path: &str, text: &str) -> Result<u8, u8> {
-    let beside = text_of(rt, path)?;
-    let rows = rows_of(rt, asked.file, text)?;
-    match beside {
-        Some(beside) => import_names(rt, asked, path, &rows, beside.as_str()),
-        None => import_rows(rt, asked, path, &rows),
-    }
-}
-
-// The rows of a text. What isn't understood is told.
-fn rows_of<'a>(rt: &HostRuntime, file: &str, text: &'a str) -> Result<Vec<Row<'a>>, u8> {
-    match read_edge_list(rt.alloc(), text) {
+// The rows of a text, which may begin with a byte order mark. What isn't understood is told.
+fn rows_of(rt: &HostRuntime, asked: &Asked<'_>, text: &str) -> Result<Vec<Row>, u8> {
+    let text = text.strip_prefix('\u{feff}').unwrap_or(text);
+    match read_edge_list(rt.alloc(), text, asked.heading) {
         Ok(Ok(rows)) => Ok(rows),
         Ok(Err(refused)) => {
-            let number = refused.number;
-            let form = refused.form;
+            let (file, number, form) = (asked.file, refused.number, refused.form);
             let _told = writeln!(rt.stderr(), "tzlab: {file}:{number}: {form}");
             Err(2)
         }
@@ -81,102 +85,203 @@ fn rows_of<'a>(rt: &HostRuntime, file: &str, text: &'a str) -> Result<Vec<Row<'a
     }
 }
 
-// Rows where no names are kept beside the device.
-fn import_rows(
+// ---- a device that is there, and one that is made
+
+// Rows for a device that is there.
+fn import_on(
     rt: &HostRuntime,
     asked: &Asked<'_>,
-    path: &str,
-    rows: &[Row<'_>],
+    beside: &Beside,
+    rows: &[Row],
+    mut store: Store<DeviceFile>,
 ) -> Result<u8, u8> {
-    let (there, most) = opened(rt, asked)?;
-    match by_numbers(rt.alloc(), rows, MOST_NODES - 1) {
-        Ok(Some(edges)) => {
-            let nodes = nodes_of(&edges);
-            import_into(rt, asked, there, nodes, &edges)
+    let kept = kept_of(rt, beside, store.graph())?;
+    let has_edges = store.graph().edges() > 0;
+    let list = list_of(rt, asked, beside, rows, &kept, (store.nodes(), has_edges))?;
+    settle(rt, beside, &kept)?;
+    let status = import_list(rt, asked, beside, &list, &mut store)?;
+    Ok(status.max(print_totals(rt, &store)))
+}
+
+// Rows for a device that is made. Where it doesn't come to all edges, it is taken away again.
+fn import_anew(
+    rt: &HostRuntime,
+    asked: &Asked<'_>,
+    beside: &Beside,
+    rows: &[Row],
+) -> Result<u8, u8> {
+    let kept = kept_alone(rt, beside)?;
+    let most = asked.nodes.unwrap_or(MOST_NODES);
+    let list = list_of(rt, asked, beside, rows, &kept, (most, false))?;
+    settle(rt, beside, &kept)?;
+    let store = made(rt, asked, beside, asked.nodes.unwrap_or(list.nodes))?;
+    match import_whole(rt, asked, beside, &list, store) {
+        Ok(status) => Ok(status),
+        Err(status) => Err(taken_back(rt, asked, beside, status)),
+    }
+}
+
+// Imports all of a list, or answers the exit status where not all edges are in.
+fn import_whole(
+    rt: &HostRuntime,
+    asked: &Asked<'_>,
+    beside: &Beside,
+    list: &List,
+    mut store: Store<DeviceFile>,
+) -> Result<u8, u8> {
+    match import_list(rt, asked, beside, list, &mut store)? {
+        0 => Ok(print_totals(rt, &store)),
+        status => Err(status),
+    }
+}
+
+// Takes a device and what is laid beside it away, and answers the same status. What can't be taken away is told.
+fn taken_back(rt: &HostRuntime, asked: &Asked<'_>, beside: &Beside, status: u8) -> u8 {
+    let _gone = fs::remove_file(rt, beside.laid.as_str());
+    if fs::remove_file(rt, asked.device).is_err() {
+        let (device, laid) = (asked.device, beside.laid.as_str());
+        let _told = writeln!(
+            rt.stderr(),
+            "tzlab: remove {device} and {laid}: the import is refused, and they are left of it"
+        );
+    }
+    status
+}
+
+// ---- numbers or names
+
+// Edges by the numbers of their nodes, what is to be written beside the device, and how many nodes are called.
+#[derive(Drop)]
+struct List {
+    edges: Vec<Edge>,
+    text: Option<String>,
+    nodes: u16,
+}
+
+// The edges of rows, by what is kept beside a device of so many nodes, which has edges or none. A list is by numbers or by
+// names as a whole.
+fn list_of(
+    rt: &HostRuntime,
+    asked: &Asked<'_>,
+    beside: &Beside,
+    rows: &[Row],
+    kept: &Kept,
+    device: (u16, bool),
+) -> Result<List, u8> {
+    let (most, has_edges) = device;
+    match &kept.text {
+        Some(text) => list_by(rt, asked, rows, kept.file(beside), text.as_str(), most),
+        None if has_edges => {
+            by_device(
+                rt,
+                asked,
+                rows,
+                most,
+                "the device has edges and no names beside it",
+            )
         }
-        Ok(None) => match named_in(rt, asked, path, rows, "", most) {
-            Ok(named) => import_named(rt, asked, path, there, &named),
-            Err(status) => Err(status),
+        None => list_anew(rt, asked, rows, most),
+    }
+}
+
+// The edges of rows, where this text of a file calls the nodes.
+fn list_by<'a>(
+    rt: &HostRuntime,
+    asked: &Asked<'_>,
+    rows: &'a [Row],
+    file: &str,
+    text: &'a str,
+    most: u16,
+) -> Result<List, u8> {
+    match called_in(rt, file, text, most) {
+        Ok(Called::Names(names)) => named(rt, asked, rows, names, most),
+        Ok(Called::Numbers) => {
+            by_device(
+                rt,
+                asked,
+                rows,
+                most,
+                "the device calls its nodes by numbers",
+            )
+        }
+        Err(status) => Err(status),
+    }
+}
+
+// The edges of rows for a device whose nodes are called by numbers.
+fn by_device(
+    rt: &HostRuntime,
+    asked: &Asked<'_>,
+    rows: &[Row],
+    most: u16,
+    why: &str,
+) -> Result<List, u8> {
+    if asked.names {
+        return Err(told_of(
+            rt,
+            asked.device,
+            "its nodes are called by numbers, and --names does not change that",
+        ));
+    }
+    numbered(rt, asked, rows, most, why)
+}
+
+// The edges of rows where it isn't said yet how nodes are called.
+fn list_anew(rt: &HostRuntime, asked: &Asked<'_>, rows: &[Row], most: u16) -> Result<List, u8> {
+    if asked.names || !call_numbers(rows) {
+        return named(rt, asked, rows, Names::new(rt.alloc()), most);
+    }
+    let mut list = numbered(rt, asked, rows, most, "with --names all ends are names")?;
+    list.text = Some(copied(rt, NUMBERS)?);
+    Ok(list)
+}
+
+fn copied(rt: &HostRuntime, text: &str) -> Result<String, u8> {
+    match String::from_str(rt.alloc(), text) {
+        Ok(text) => Ok(text),
+        Err(_) => Err(told_memory(rt)),
+    }
+}
+
+// The edges of rows whose ends are numbers of so many nodes. The first end that is none is told.
+fn numbered(
+    rt: &HostRuntime,
+    asked: &Asked<'_>,
+    rows: &[Row],
+    most: u16,
+    why: &str,
+) -> Result<List, u8> {
+    let last = most.saturating_sub(1);
+    match by_numbers(rt.alloc(), rows, last) {
+        Ok(Ok(edges)) => {
+            let nodes = nodes_of(&edges);
+            Ok(List {
+                edges,
+                text: None,
+                nodes,
+            })
+        }
+        Ok(Err(place)) => match rows.get(place) {
+            Some(row) => Err(told_end(rt, asked, row, last, why)),
+            None => Err(1),
         },
         Err(_) => Err(told_memory(rt)),
     }
 }
 
-// Rows whose ends are names, with those that are kept beside the device already.
-fn import_names<'a>(
-    rt: &HostRuntime,
-    asked: &Asked<'_>,
-    path: &str,
-    rows: &[Row<'a>],
-    beside: &'a str,
-) -> Result<u8, u8> {
-    let (there, most) = opened(rt, asked)?;
-    match named_in(rt, asked, path, rows, beside, most) {
-        Ok(named) => import_named(rt, asked, path, there, &named),
-        Err(status) => Err(status),
-    }
-}
-
-// Edges between names, and the text of all names.
-#[derive(Drop)]
-struct Named {
-    edges: Vec<Edge>,
-    text: String,
-    count: u16,
-}
-
-// The edges of rows whose ends are names. What is refused is told.
-fn named_in<'a>(
-    rt: &HostRuntime,
-    asked: &Asked<'_>,
-    path: &str,
-    rows: &[Row<'a>],
-    beside: &'a str,
-    most: u16,
-) -> Result<Named, u8> {
-    let mut names = names_in(rt, path, beside, most)?;
-    let edges = match names.take_rows(rt.alloc(), rows, most) {
-        Ok(Ok(edges)) => edges,
-        Ok(Err(refused)) => {
-            let file = asked.file;
-            let number = refused.number;
-            let form = refused.form;
-            let _told = writeln!(rt.stderr(), "tzlab: {file}:{number}: {form}");
-            return Err(1);
-        }
-        Err(_) => return Err(told_memory(rt)),
+// Tells that an end of a row is no number up to the last one.
+fn told_end(rt: &HostRuntime, asked: &Asked<'_>, row: &Row, last: u16, why: &str) -> u8 {
+    let end = match number(rt.alloc(), row.a.as_str(), last as u64) {
+        Ok(Some(_)) => row.b.as_str(),
+        Ok(None) => row.a.as_str(),
+        Err(_) => return told_memory(rt),
     };
-    let count = u16::try_from(names.list().len()).unwrap_or(u16::MAX);
-    match names.written(rt.alloc()) {
-        Ok(text) => Ok(Named { edges, text, count }),
-        Err(_) => Err(told_memory(rt)),
-    }
-}
-
-// Edges between names: the names are written in front of the first edge.
-fn import_named(
-    rt: &HostRuntime,
-    asked: &Asked<'_>,
-    path: &str,
-    there: Option<Store<DeviceFile>>,
-    named: &Named,
-) -> Result<u8, u8> {
-    let mut store = stored(rt, asked, there, named.count)?;
-    match put_text(rt, path, named.text.as_str()) {
-        Ok(()) => Ok(import_edges(rt, asked, &mut store, &named.edges)),
-        Err(status) => Err(status),
-    }
-}
-
-fn import_into(
-    rt: &HostRuntime,
-    asked: &Asked<'_>,
-    there: Option<Store<DeviceFile>>,
-    nodes: u16,
-    edges: &[Edge],
-) -> Result<u8, u8> {
-    let mut store = stored(rt, asked, there, nodes)?;
-    Ok(import_edges(rt, asked, &mut store, edges))
+    let (file, line) = (asked.file, row.line);
+    let _told = writeln!(
+        rt.stderr(),
+        "tzlab: {file}:{line}: `{end}` is no number of a node, 0 to {last}: {why}"
+    );
+    1
 }
 
 // One more than the greatest number.
@@ -189,22 +294,52 @@ fn nodes_of(edges: &[Edge]) -> u16 {
     nodes
 }
 
+// The edges of rows whose ends are names, with those that there are already. A name that is one too many is told.
+fn named<'a>(
+    rt: &HostRuntime,
+    asked: &Asked<'_>,
+    rows: &'a [Row],
+    mut names: Names<'a>,
+    most: u16,
+) -> Result<List, u8> {
+    let edges = match names.take_rows(rt.alloc(), rows, most) {
+        Ok(Ok(edges)) => edges,
+        Ok(Err(refused)) => {
+            let (file, number, form) = (asked.file, refused.number, refused.form);
+            let _told = writeln!(
+                rt.stderr(),
+                "tzlab: {file}:{number}: {form}, which are {most}"
+            );
+            return Err(1);
+        }
+        Err(_) => return Err(told_memory(rt)),
+    };
+    let nodes = u16::try_from(names.list().len()).unwrap_or(u16::MAX);
+    match names.written(rt.alloc()) {
+        Ok(text) => Ok(List {
+            edges,
+            text: Some(text),
+            nodes,
+        }),
+        Err(_) => Err(told_memory(rt)),
+    }
+}
+
 // ---- the device
 
 fn told_fault(rt: &HostRuntime, device: &str, fault: Fault) -> u8 {
     told_of(rt, device, fault.text())
 }
 
-// The store of a device, where it is there, and how many nodes it has; else how many it may have.
-fn opened(rt: &HostRuntime, asked: &Asked<'_>) -> Result<(Option<Store<DeviceFile>>, u16), u8> {
-    if let Ok(false) = std::fs::exists(rt, asked.device) {
-        return Ok((None, asked.nodes.unwrap_or(MOST_NODES)));
+// The store of a device, where it is there.
+fn opened(rt: &HostRuntime, asked: &Asked<'_>) -> Result<Option<Store<DeviceFile>>, u8> {
+    if let Ok(false) = fs::exists(rt, asked.device) {
+        return Ok(None);
     }
     match store_in(rt, DeviceFile::open(rt, asked.device)) {
         Ok(store) => {
-            let has = store.nodes();
-            expect_nodes(rt, asked, has)?;
-            Ok((Some(store), has))
+            expect_nodes(rt, asked, store.nodes())?;
+            Ok(Some(store))
         }
         Err(fault) => Err(told_fault(rt, asked.device, fault)),
     }
@@ -220,34 +355,38 @@ fn expect_nodes(rt: &HostRuntime, asked: &Asked<'_>, has: u16) -> Result<(), u8>
     Err(1)
 }
 
-// The store, or that of a device that is made, with so many nodes where no number is asked for.
-fn stored(
+// The store of a device that is made, with so many nodes.
+fn made(
     rt: &HostRuntime,
     asked: &Asked<'_>,
-    there: Option<Store<DeviceFile>>,
+    beside: &Beside,
     nodes: u16,
 ) -> Result<Store<DeviceFile>, u8> {
-    match there {
-        Some(store) => Ok(store),
-        None => made(rt, asked.device, asked.nodes.unwrap_or(nodes)),
+    if nodes < 1 {
+        return Err(told_fault(rt, asked.device, Fault::NodeCount));
+    }
+    match DeviceFile::make_new(rt, asked.device, DEVICE_LEN) {
+        Ok(file) => match formatted(rt, asked, file, nodes) {
+            Ok(store) => Ok(store),
+            Err(status) => Err(taken_back(rt, asked, beside, status)),
+        },
+        Err(refused) => Err(told_fault(rt, asked.device, fault_of(refused))),
     }
 }
 
-// The store of a device that is made, with so many nodes.
-fn made(rt: &HostRuntime, device: &str, nodes: u16) -> Result<Store<DeviceFile>, u8> {
-    if nodes < 1 {
-        return Err(told_fault(rt, device, Fault::NodeCount));
+// The store of a new device file, with so many nodes.
+fn formatted(
+    rt: &HostRuntime,
+    asked: &Asked<'_>,
+    mut file: DeviceFile,
+    nodes: u16,
+) -> Result<Store<DeviceFile>, u8> {
+    if let Err(fault) = device_commands::format(&mut file, nodes) {
+        return Err(told_fault(rt, asked.device, fault));
     }
-    let file = match DeviceFile::make_new(rt, device, DEVICE_LEN) {
-        Ok(mut file) => match device_commands::format(&mut file, nodes) {
-            Ok(()) => Ok(file),
-            Err(fault) => return Err(told_fault(rt, device, fault)),
-        },
-        Err(refused) => Err(refused),
-    };
-    match store_in(rt, file) {
+    match store_in(rt, Ok(file)) {
         Ok(store) => Ok(store),
-        Err(fault) => Err(told_fault(rt, device, fault)),
+        Err(fault) => Err(told_fault(rt, asked.device, fault)),
     }
 }
 
@@ -271,46 +410,53 @@ impl<'a> Progress for Told<'a> {
     }
 }
 
-fn import_edges(
+// Imports a list, and puts what is to be written beside the device.
+fn import_list(
     rt: &HostRuntime,
     asked: &Asked<'_>,
+    beside: &Beside,
+    list: &List,
     store: &mut Store<DeviceFile>,
-    edges: &[Edge],
-) -> u8 {
+) -> Result<u8, u8> {
     if store.is_down() {
-        return told_fault(rt, asked.device, Fault::Device);
+        return Err(told_fault(rt, asked.device, Fault::Device));
     }
     let is_shown = rt.stderr().is_terminal();
     let mut told = Told {
         rt,
-        edges: edges.len(),
+        edges: list.edges.len(),
         is_shown,
     };
-    let answer = import(rt.alloc(), store, edges, &mut told);
+    let mut names = NamesFile {
+        rt,
+        beside,
+        text: list.text.as_deref(),
+        at: NamesAt::Old,
+    };
+    let answer = import_named(rt.alloc(), store, &list.edges, &mut names, &mut told);
     if is_shown {
         let _told = writeln!(rt.stderr(), "");
     }
-    let status = match answer {
-        Ok(()) => 0,
-        Err(refused) => told_refused(rt, asked, edges, refused),
-    };
-    status.max(print_totals(rt, store))
+    match answer {
+        Ok(()) => Ok(0),
+        Err(refused) => Ok(told_refused(rt, asked, &list.edges, refused)),
+    }
 }
 
-// Tells why an import ended.
-fn told_refused(rt: &HostRuntime, asked: &Asked<'_>, edges: &[Edge], refused: ImportRefused) -> u8 {
+// Tells why an import ended. A fault of the names is told already.
+fn told_refused(rt: &HostRuntime, asked: &Asked<'_>, edges: &[Edge], refused: NamedRefused) -> u8 {
     let fault = match refused {
-        ImportRefused::Op { place, code } => {
+        NamedRefused::Edges(ImportRefused::Op { place, code }) => {
             if let Some(edge) = edges.get(place) {
-                let file = asked.file;
-                let line = edge.line;
+                let (file, line) = (asked.file, edge.line);
                 let _told = writeln!(rt.stderr(), "tzlab: {file}:{line}: {code}");
             }
             return 1;
         }
-        ImportRefused::Device => Fault::Device,
-        ImportRefused::Memory => Fault::Memory,
-        ImportRefused::Worn => Fault::Worn,
+        NamedRefused::Edges(ImportRefused::Device) => Fault::Device,
+        NamedRefused::Edges(ImportRefused::Memory) => Fault::Memory,
+        NamedRefused::Edges(ImportRefused::Worn) => Fault::Worn,
+        NamedRefused::Names => return 1,
     };
     told_fault(rt, asked.device, fault)
 }

@@ -2,7 +2,7 @@
 //!
 //! | Command | Does |
 //! |---|---|
-//! | `import DEVICE FILE [--nodes N]` | brings an edge list to a device, by the proved call of `network_import` |
+//! | `import DEVICE FILE [--nodes N] ..` | brings an edge list to a device, and its names beside it, by the proved call of `network_import` |
 //! | `export DEVICE [--as edges\|csv\|dot\|json] [--words W]` | prints the network of a device; in dot with its landmarks marked |
 //! | `info DEVICE [--json]` | prints what a device holds, in a few figures |
 //! | `stats DEVICE --words W ..` | builds a device's scheme, and prints how large its tables and how long its ways are |
@@ -23,6 +23,7 @@ use std::process::ExitCode;
 use std::sync::Wait;
 use std::thread::Threads;
 
+mod beside;
 mod commits;
 mod device;
 mod export;

@@ -1,14 +1,30 @@
-use Rattle.std.proofs.Common.{arith}
-use Rattle.edge_lists.specs.Edges.{IsEdgeOf, IsNumber}
-use Rattle.edge_lists.specs.Rows.{row_of}
-use Rattle.edge_lists.proofs.EdgeLemmas.{at_some, no_row, on_none, zip_more, zip_none}
+use Rattle.std.proofs.Common.{arith, ◌≡◌, ◌<◌, ◌∙◌, ap, sym, subst, length, map, get_or, Some, List}
+use Rattle.std.proofs.lemmas.List.{get_or-map, length-map, take-map}
+use Rattle.std.proofs.lemmas.Option.{slice_get-get_or}
+use Rattle.edge_lists.specs.declared.row.Row.{Row}
+use Rattle.edge_lists.specs.Edges.{AreNumbered, IsEdgeOf, IsNumber, IsNumbered}
+use Rattle.edge_lists.specs.Rows.{Said, row_of}
+use Rattle.edge_lists.proofs.EdgeLemmas.{at_some, on_none, zip_more}
 use Rattle.edge_lists.proofs.edge.by_numbers.Goals as goal
 
-pub returns-in_default-clause-none : goal.returns-in_default-clause-none
-returns-in_default-clause-none c =
-    zip_none (IsEdgeOf (IsNumber c.args.last)) row_of c.args.rows.now c.loop-row.row-index no_row (omega arith) (on_none c.in_default.is c.in_ok-edge.ensures.none)
+pub returns-in-None-clause-refused : goal.returns-in-None-clause-refused
+returns-in-None-clause-refused c =
+    let rows = c.args.rows.now in
+    let i = c.loop-place.place in
+    let row = c.index-rows-place.result in
+    let lt : i < length rows = omega arith in
+    let long : i < length (map row_of rows) = omega (arith, lt, length-map rows row_of) in
+    let here : get_or (map row_of rows) i (row_of row) ≡ row_of row = get_or-map row_of rows i row (row_of row) lt ∙ ap row_of (sym c.index-rows-place.is) in
+    record {
+      edges = c.loop-place.edges.items;
+      before = subst (λ (l : List Said). AreNumbered c.args.last l c.loop-place.edges.items) (sym (take-map row_of i rows)) c.loop-place.invariant;
+      row = row_of row;
+      at = slice_get-get_or (map row_of rows) i (row_of row) long ∙ ap (λ (s : Said). Some s) here;
+      other = on_none c.in-None.is c.in_ok-edge.ensures.none;
+    }
 
-pub loop-row-preserved : goal.loop-row-preserved
-loop-row-preserved c =
-    let one = at_some _ c.in-Some.is c.in_ok-edge.ensures.found in
-    rw c.in_ok-push.ensures.items (zip_more (IsEdgeOf (IsNumber c.args.last)) row_of c.args.rows.now c.loop-row.edges.items c.loop-row.row-index no_row c.in-Some.edge (omega arith) c.loop-row.invariant one)
+pub loop-place-preserved : goal.loop-place-preserved
+loop-place-preserved c =
+    let one : IsNumbered c.args.last (row_of c.index-rows-place.result) c.in-Some.edge = at_some _ c.in-Some.is c.in_ok-edge.ensures.found in
+    let here = subst (λ (r : Row). IsNumbered c.args.last (row_of r) c.in-Some.edge) c.index-rows-place.is one in
+    rw c.in_ok-push-in-Some.ensures.items (zip_more (IsEdgeOf (IsNumber c.args.last)) row_of c.args.rows.now c.loop-place.edges.items c.loop-place.place c.index-rows-place.result c.in-Some.edge (omega arith) c.loop-place.invariant here)

@@ -3,5 +3,5 @@ use Rattle.edge_lists.specs.Edges.{AreNumbered}
 use Rattle.edge_lists.specs.Rows.{row_of}
 use Rattle.edge_lists.proofs.edge.by_numbers.Given as goal
 
-abbrev pub invariant-loop-row : goal.invariant-loop-row
-invariant-loop-row l = AreNumbered l.last (map row_of (take l.row-index l.rows)) l.edges.items
+abbrev pub invariant-loop-place : goal.invariant-loop-place
+invariant-loop-place l = AreNumbered l.last (map row_of (take l.place l.rows)) l.edges.items

@@ -1,27 +1,28 @@
 use Rattle.std.proofs.Common.{rules, arith, ◌≡◌, ◌<◌, ◌∙◌, ◌∷◌, ◌++◌, [], ap, sym, refl, ℕ, List, true, false, length, get_or}
 use Rattle.std.proofs.lemmas.Grind.{common_steps}
-use Rattle.edge_lists.specs.NameLists.{IsWord, has_number, is_among, with_name}
+use Rattle.edge_lists.specs.NameLists.{has_number, is_among, with_name}
+use Rattle.edge_lists.specs.Labels.{is_name}
 use Rattle.edge_lists.proofs.HeaderLemmas.{nowhere}
 use Rattle.edge_lists.proofs.TakeLemmas.{names_more, no_name, no_room, texts_more}
 use Rattle.edge_lists.proofs.names.Names.from_lines.Goals as goal
 
-pub returns-then-not-branch-clause-refused : goal.returns-then-not-branch-clause-refused
-returns-then-not-branch-clause-refused c =
+pub returns-then-not-is_name-clause-refused : goal.returns-then-not-is_name-clause-refused
+returns-then-not-is_name-clause-refused c =
     let line = (get_or c.args.lines.now c.loop-index.index nowhere).now in
-    let not_word : ¬ IsWord line = λ word. let yes = c.in_ok-is_word.ensures.1 word in search rules in
+    let not_word : is_name line ≡ false = search rules in
     no_name c.args.most c.loop-index.names c.args.lines.now c.loop-index.index _ (omega arith) c.loop-index.invariant.front c.loop-index.invariant.names refl not_word
 
 pub returns-then-has-clause-refused : goal.returns-then-has-clause-refused
 returns-then-has-clause-refused c =
     let line = (get_or c.args.lines.now c.loop-index.index nowhere).now in
-    let word : IsWord line = c.in_ok-is_word.ensures.0 (search rules) in
+    let word : is_name line ≡ true = search rules in
     let among : is_among c.loop-index.names line ≡ true = search rules in
     no_name c.args.most c.loop-index.names c.args.lines.now c.loop-index.index _ (omega arith) c.loop-index.invariant.front c.loop-index.invariant.names refl (word, among)
 
 pub returns-then-is_none-clause-refused : goal.returns-then-is_none-clause-refused
 returns-then-is_none-clause-refused c =
     let line = (get_or c.args.lines.now c.loop-index.index nowhere).now in
-    let word : IsWord line = c.in_ok-is_word.ensures.0 (search rules) in
+    let word : is_name line ≡ true = search rules in
     let fresh : is_among c.loop-index.names line ≡ false = search rules in
     let full : has_number c.args.most c.loop-index.names line ≡ false = grind (arith, common_steps) in
     no_name c.args.most c.loop-index.names c.args.lines.now c.loop-index.index _ (omega arith) c.loop-index.invariant.front c.loop-index.invariant.names refl (word, fresh, no_room c.args.most c.loop-index.names line fresh full)
@@ -34,7 +35,7 @@ loop-index-preserved c =
     let line = (get_or lines i nowhere).now in
     let names = c.loop-index.names in
     let new = c.number_of.new.self in
-    let word : IsWord line = c.in_ok-is_word.ensures.0 (search rules) in
+    let word : is_name line ≡ true = search rules in
     let fresh : is_among names line ≡ false = search rules in
     let room : has_number c.args.most names line ≡ true = grind (arith, common_steps) in
     let grows : new ≡ with_name names line = grind (arith, common_steps) in

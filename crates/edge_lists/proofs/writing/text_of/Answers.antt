@@ -5,8 +5,8 @@ use Rattle.std.proofs.lemmas.List.{take_all}
 use Rattle.edge_lists.specs.declared.edge.Edge.{Edge}
 use Rattle.edge_lists.specs.Written.{FitTypes, edges_text}
 use Rattle.edge_lists.proofs.WordLemmas.{texts_at}
-use Rattle.edge_lists.proofs.WrittenLemmas.{edges_read, fit_more, lines_more}
-use Rattle.edge_lists.proofs.writing.edge_list.Goals as goal
+use Rattle.edge_lists.proofs.WrittenLemmas.{edges_read, fit_more, labels_texts, lines_more}
+use Rattle.edge_lists.proofs.writing.text_of.Goals as goal
 
 pub loop-edge-preserved : goal.loop-edge-preserved
 loop-edge-preserved c =
@@ -25,4 +25,4 @@ returns-clause-read c = λ labels.
     let past : length edges ≤ i = omega arith in
     let whole : take i edges ≡ edges = take_all i edges past in
     let names = texts_at c.args.names.now in
-    edges_read names edges (string_bytes c.loop-edge.text) (c.loop-edge.invariant.text ∙ ap (λ (l : List Edge). edges_text names l) whole) labels (subst (λ (l : List Edge). All FitTypes l) whole c.loop-edge.invariant.fits)
+    edges_read names edges (string_bytes c.loop-edge.text) (c.loop-edge.invariant.text ∙ ap (λ (l : List Edge). edges_text names l) whole) (labels_texts c.args.names.now labels) (subst (λ (l : List Edge). All FitTypes l) whole c.loop-edge.invariant.fits)

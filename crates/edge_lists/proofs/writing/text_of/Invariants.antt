@@ -2,7 +2,7 @@ use Rattle.std.proofs.Common.{◌≡◌, map, take}
 use Rattle.std.specs.Prelude.{All}
 use Rattle.std.specs.String.{string_bytes}
 use Rattle.edge_lists.specs.Written.{FitTypes, edges_text}
-use Rattle.edge_lists.proofs.writing.edge_list.Given as goal
+use Rattle.edge_lists.proofs.writing.text_of.Given as goal
 
 abbrev pub invariant-loop-edge : goal.invariant-loop-edge
 invariant-loop-edge l = record {
