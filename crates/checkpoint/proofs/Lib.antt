@@ -7,4 +7,3 @@ pub mod EdgeRows
 pub mod Rolls
 pub mod SameStore
 pub mod Wholes
-pub mod OldForms

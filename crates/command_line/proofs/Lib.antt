@@ -1,4 +1,3 @@
 pub mod Asking
 pub mod Pairing
 pub mod OneTask
-pub mod OldForms

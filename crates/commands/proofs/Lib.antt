@@ -7,4 +7,3 @@ pub mod ScriptTexts
 pub mod Serving
 pub mod Tabling
 pub mod ToldRuns
-pub mod OldForms

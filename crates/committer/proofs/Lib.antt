@@ -10,4 +10,3 @@ pub mod Crashing
 pub mod Listings
 pub mod GivenOut
 pub mod Answering
-pub mod OldForms

@@ -1,4 +1,3 @@
 pub mod InTurns
 pub mod Refusals
 pub mod Takings
-pub mod OldForms

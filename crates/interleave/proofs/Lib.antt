@@ -5,4 +5,3 @@ pub mod Lists
 pub mod Steps
 pub mod Going
 pub mod Desks
-pub mod OldForms

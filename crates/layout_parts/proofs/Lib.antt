@@ -12,4 +12,3 @@ pub mod NewestLemmas
 pub mod BaseLemmas
 pub mod OpenLemmas
 pub mod LoadLemmas
-pub mod OldForms

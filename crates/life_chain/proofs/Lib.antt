@@ -3,4 +3,3 @@ pub mod EventLemmas
 pub mod GroupLemmas
 pub mod LifeLemmas
 pub mod ChainLemmas
-pub mod OldForms

@@ -4,7 +4,6 @@ pub mod Backs
 pub mod Ended
 pub mod Further
 pub mod GatheredLines
-pub mod OldForms
 pub mod OldTickets
 pub mod OneListed
 pub mod PrintedLines

@@ -2,5 +2,4 @@ pub mod Places
 pub mod RowsOfRequests
 pub mod Groups
 pub mod StoreLeaves
-pub mod OldForms
 pub mod OrderLemmas

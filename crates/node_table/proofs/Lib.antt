@@ -3,4 +3,3 @@ pub mod Serving
 pub mod OnTheWay
 pub mod LocalForms
 pub mod Builds
-pub mod OldForms

@@ -1,3 +1,2 @@
 pub mod Growing
 mod AskedOrders
-mod OldForms

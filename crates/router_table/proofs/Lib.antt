@@ -8,4 +8,3 @@ pub mod Fits
 pub mod BodyTexts
 pub mod FormTexts
 pub mod Handings
-pub mod OldForms

@@ -2,4 +2,3 @@ pub mod WordLemmas
 pub mod RangeLemmas
 pub mod Addresses
 pub mod Routes
-pub mod OldForms

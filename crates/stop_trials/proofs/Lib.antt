@@ -2,4 +2,3 @@ mod ArmingLemmas
 mod CountLemmas
 mod KindLemmas
 mod EveryLemmas
-mod OldForms

@@ -1,2 +1,1 @@
 pub mod PutFiles
-pub mod OldForms

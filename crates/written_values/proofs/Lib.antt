@@ -2,4 +2,3 @@ pub mod Texts
 pub mod NodeTexts
 pub mod WordLemmas
 pub mod Written
-pub mod OldForms
