@@ -3,7 +3,7 @@ use Rattle.std.proofs.Common.{◌≡◌, ◌<◌, ◌≤◌, ◌==◌, ℕ, zero
 use Rattle.std.specs.Prelude.{Option, Some, None, ◌↔◌}
 use Rattle.heavy_labels.specs.Numbering.{lights_at}
 use Rattle.node_table.specs.declared.parts.Parts.{Parts}
-use Rattle.node_table.specs.declared.parts.Entry.{Entry}
+use Rattle.node_table.specs.Entry.{Entry}
 use Rattle.graph_edits.specs.Edges.{Network}
 use Rattle.node_table.specs.Ports.{port_to}
 use Rattle.node_table.specs.Tables.{Tables, tables}

@@ -5,7 +5,7 @@ use Rattle.std.specs.List.{All}
 use Rattle.heavy_labels.specs.Label.{Label}
 use Rattle.heavy_labels.specs.Numbering.{lights_at}
 use Rattle.node_table.specs.declared.parts.Parts.{Parts}
-use Rattle.node_table.specs.declared.parts.Entry.{Entry}
+use Rattle.node_table.specs.Entry.{Entry}
 use Rattle.node_table.specs.declared.parts.Listed.{Listed}
 use Rattle.graph_edits.specs.Edges.{Network}
 use Rattle.node_table.specs.Checks.{distance_of, IsListed}

@@ -3,7 +3,7 @@ use Rattle.std.specs.Prelude.{◌≡◌, ◌≢◌, ℕ, ◌+◌, ◌<◌, ◌�
 use Rattle.std.specs.List.{All}
 use Rattle.std.specs.List.Sorted.{IsStrictlyIncreasing}
 use Rattle.node_table.specs.declared.parts.Parts.{Parts}
-use Rattle.node_table.specs.declared.parts.Entry.{Entry}
+use Rattle.node_table.specs.Entry.{Entry}
 use Rattle.distances.specs.declared.nearest.Near.{Near}
 use Rattle.graph_edits.specs.Edges.{Network, weight_in, neighbours_of}
 use Rattle.node_table.specs.Ports.{neighbours}

@@ -2,7 +2,7 @@
 use Rattle.std.specs.Prelude.{◌≡◌, ℕ, ◌≤◌, false, Some, MatchOption, Option}
 use denote.Ref.{Bor}
 use Rattle.distances.specs.declared.nearest.Near.{Near}
-use Rattle.node_table.specs.declared.parts.Entry.{Entry}
+use Rattle.node_table.specs.Entry.{Entry}
 use Rattle.node_table.specs.Checks.{parent_is}
 use Rattle.node_table.specs.Tables.{RefersTo, Tables}
 

@@ -4,7 +4,7 @@ use Rattle.heavy_labels.specs.Numbering.{Record}
 use Rattle.heavy_labels.specs.Stepped.{record_of}
 use Rattle.std.specs.List.{All}
 use Rattle.node_table.specs.declared.parts.Parts.{Parts}
-use Rattle.node_table.specs.declared.parts.Entry.{Entry}
+use Rattle.node_table.specs.Entry.{Entry}
 use Rattle.graph_edits.specs.Edges.{Network}
 use Rattle.node_table.specs.Ports.{neighbours, filtered}
 use Rattle.node_table.specs.Tables.{Tables, tables, entries_at}

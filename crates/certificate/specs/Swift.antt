@@ -3,7 +3,7 @@ use Rattle.std.specs.Prelude.{◌≡◌, ℕ, ◌+◌, Option, Some, None}
 use Rattle.std.specs.List.{All}
 use Rattle.std.specs.Option.{unwrap_or}
 use Rattle.node_table.specs.declared.parts.Parts.{Parts}
-use Rattle.node_table.specs.declared.parts.Entry.{Entry}
+use Rattle.node_table.specs.Entry.{Entry}
 use Rattle.graph_edits.specs.Edges.{Network, neighbours_of, over_port}
 use Rattle.node_table.specs.Local.{record_at, span, FitsRoot}
 use Rattle.node_table.specs.Tables.{Tables, tables, entries_at}

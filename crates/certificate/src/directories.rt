@@ -34,7 +34,7 @@ fn is_listed_right(scheme: &Scheme, u: u16) -> bool
 fn is_listed_back(scheme: &Scheme, x: u16, entry: &Entry) -> bool
     ensures { IsTrue result ↔ IsListedBack (tables scheme.now) x entry.now }
 {
-    scheme.is_landmark(entry.root) || scheme.listed(entry.root, x).is_some()
+    scheme.is_landmark(entry.root()) || scheme.listed(entry.root(), x).is_some()
 }
 
 fn are_listed_back(scheme: &Scheme, x: u16) -> bool

@@ -34,9 +34,9 @@ pub(crate) fn is_closed_over(
 {
     let (y, weight) = edge;
     match behind {
-        Some(there) => is_at_most(there.distance, entry.distance, weight),
-        None => !scheme.is_landmark(entry.root)
-            && is_landmark_near(scheme, y, entry.distance, weight),
+        Some(there) => is_at_most(there.distance(), entry.distance(), weight),
+        None => !scheme.is_landmark(entry.root())
+            && is_landmark_near(scheme, y, entry.distance(), weight),
     }
 }
 
@@ -49,8 +49,8 @@ fn are_closed_over(scheme: &Scheme, x: u16, edge: (u16, u32)) -> bool
     let there = scheme.entries_of(edge.0);
     let mut at = 0;
     for entry in here {
-        at = place_from(there, at, entry.root);
-        if !is_closed_over(scheme, entry, edge, entry_at(there, at, entry.root)) {
+        at = place_from(there, at, entry.root());
+        if !is_closed_over(scheme, entry, edge, entry_at(there, at, entry.root())) {
             return false;
         }
     }

@@ -24,7 +24,7 @@ fn place_near(there: &[Entry], finger: usize, root: u16) -> usize
     ensures within { result ≤ length there.now }
     ensures below { AreBelow root result there.now }
 {
-    if finger > 0 && finger <= there.len() && there[finger - 1].root < root {
+    if finger > 0 && finger <= there.len() && there[finger - 1].root() < root {
         finger
     } else {
         0

@@ -15,12 +15,12 @@ use heavy_labels::Label;
 use node_table::{Entry, Listed, Scheme, port};
 
 /// The parent and the light depth that a node's entry for a root names.
-fn rung(scheme: &Scheme, root: u16, x: u16) -> (Option<u16>, u16)
+fn rung(scheme: &Scheme, root: u16, x: u16) -> (Option<u16>, u8)
     ensures parent { result.0 ≡ parent_of ((tables scheme.now).entry x root) }
     ensures depth { result.1 ≡ (record_at (tables scheme.now) root x).light_depth }
 {
     match scheme.entry(x, root) {
-        Some(entry) => (entry.parent, entry.tree_record.light_depth),
+        Some(entry) => (entry.parent(), entry.tree_record().light_depth),
         None => (None, 0),
     }
 }
@@ -29,7 +29,7 @@ fn number(scheme: &Scheme, root: u16, x: u16) -> u16
     ensures { result ≡ (record_at (tables scheme.now) root x).first }
 {
     match scheme.entry(x, root) {
-        Some(entry) => entry.tree_record.first,
+        Some(entry) => entry.tree_record().first,
         None => 0,
     }
 }
@@ -111,13 +111,13 @@ fn are_linked(graph: &Graph, scheme: &Scheme, u: u16, v: u16, entry: &Entry, lig
     requires entry { (tables scheme.now).entry v u ≡ Some entry.now }
     ensures { IsTrue result ↔ AreLinked graph.now (tables scheme.now) u v lights.now }
 {
-    let Some(y) = entry.parent else {
+    let Some(y) = entry.parent() else {
         return are_lights(graph, scheme, u, v, lights);
     };
     match scheme.listed(u, y) {
         Some(label) => {
             let (_, above) = rung(scheme, u, y);
-            let is_heavy = entry.tree_record.light_depth == above;
+            let is_heavy = entry.tree_record().light_depth == above;
             are_below(graph, v, y, is_heavy, lights, label.lights())
         }
         None => are_lights(graph, scheme, u, v, lights),
@@ -133,7 +133,7 @@ fn is_linked(graph: &Graph, scheme: &Scheme, u: u16, listed: &Listed) -> bool
     let Some(entry) = scheme.entry(listed.node, u) else {
         return true;
     };
-    listed.label.first() == entry.tree_record.first
+    listed.label.first() == entry.tree_record().first
         && are_linked(graph, scheme, u, listed.node, entry, listed.label.lights())
 }
 

@@ -16,7 +16,7 @@ fn is_there(scheme: &Scheme, x: u16, near: Near) -> bool
         return false;
     }
     match scheme.entry(x, near.landmark) {
-        Some(entry) => entry.distance == near.distance,
+        Some(entry) => entry.distance() == near.distance,
         None => false,
     }
 }
@@ -25,9 +25,9 @@ fn is_there(scheme: &Scheme, x: u16, near: Near) -> bool
 fn is_no_nearer(scheme: &Scheme, near: Near, entry: &Entry) -> bool
     ensures { IsTrue result ↔ IsNoNearer (tables scheme.now) near entry.now }
 {
-    !scheme.is_landmark(entry.root)
-        || near.distance < entry.distance
-        || near.distance == entry.distance && near.landmark <= entry.root
+    !scheme.is_landmark(entry.root())
+        || near.distance < entry.distance()
+        || near.distance == entry.distance() && near.landmark <= entry.root()
 }
 
 fn none_nearer(scheme: &Scheme, x: u16, near: Near) -> bool
@@ -45,7 +45,7 @@ fn has_no_landmark(scheme: &Scheme, x: u16) -> bool
     scheme
         .entries_of(x)
         .iter()
-        .all(|entry| !scheme.is_landmark(entry.root))
+        .all(|entry| !scheme.is_landmark(entry.root()))
 }
 
 #[tactic(auto, unfolding(crate::specs::Entries::IsNearestAt))]

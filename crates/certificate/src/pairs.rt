@@ -13,7 +13,7 @@ pub(crate) fn place_from(there: &[Entry], from: usize, root: u16) -> usize
     ensures { IsPlaceFor root result there.now }
 {
     let mut at = from;
-    while at < there.len() && there[at].root < root {
+    while at < there.len() && there[at].root() < root {
         at += 1;
     }
     at
@@ -25,7 +25,7 @@ pub(crate) fn entry_at(there: &[Entry], at: usize, root: u16) -> Option<&Entry>
     requires place { IsPlaceFor root at there.now }
     ensures { MatchOption result (first_entry root there.now ≡ None) (λ e. first_entry root there.now ≡ Some e.now) }
 {
-    if at < there.len() && there[at].root == root {
+    if at < there.len() && there[at].root() == root {
         Some(&there[at])
     } else {
         None

@@ -18,8 +18,8 @@ fn is_tight_by(graph: &Graph, scheme: &Scheme, x: u16, entry: &Entry, y: u16) ->
     let Some(weight) = graph.weight(x, y) else {
         return false;
     };
-    match scheme.entry(y, entry.root) {
-        Some(there) => is_sum(entry.distance, there.distance, weight),
+    match scheme.entry(y, entry.root()) {
+        Some(there) => is_sum(entry.distance(), there.distance(), weight),
         None => false,
     }
 }
@@ -29,7 +29,7 @@ fn is_tight_by(graph: &Graph, scheme: &Scheme, x: u16, entry: &Entry, y: u16) ->
 fn has_tight_parent(graph: &Graph, scheme: &Scheme, x: u16, entry: &Entry) -> bool
     ensures { IsTrue result ↔ HasTightParent graph.now (tables scheme.now) x entry.now }
 {
-    match entry.parent {
+    match entry.parent() {
         Some(y) => is_tight_by(graph, scheme, x, entry, y),
         None => true,
     }
@@ -57,7 +57,7 @@ fn is_no_earlier(entry: &Entry, y: u16, edge: (u16, u32), behind: Option<&Entry>
         return true;
     }
     match behind {
-        Some(there) => !is_sum(entry.distance, there.distance, weight),
+        Some(there) => !is_sum(entry.distance(), there.distance(), weight),
         None => true,
     }
 }
@@ -68,7 +68,7 @@ pub(crate) fn is_later(entry: &Entry, edge: (u16, u32), behind: Option<&Entry>) 
     ensures { (t : Tables) → IsEntryOf t edge.0 entry.now.root behind.entry
         → IsTrue result ↔ IsLater t entry.now edge }
 {
-    match entry.parent {
+    match entry.parent() {
         Some(y) => is_no_earlier(entry, y, edge, behind),
         None => true,
     }
@@ -83,8 +83,8 @@ fn are_later(scheme: &Scheme, x: u16, edge: (u16, u32)) -> bool
     let there = scheme.entries_of(edge.0);
     let mut at = 0;
     for entry in here {
-        at = place_from(there, at, entry.root);
-        if !is_later(entry, edge, entry_at(there, at, entry.root)) {
+        at = place_from(there, at, entry.root());
+        if !is_later(entry, edge, entry_at(there, at, entry.root())) {
             return false;
         }
     }

@@ -9,7 +9,7 @@ use node_table::{Entry, port};
 pub(crate) fn port_up(graph: &Graph, x: u16, entry: &Entry) -> Option<u16>
     ensures { result ≡ up_port graph.now x (Some entry.now) }
 {
-    match entry.parent {
+    match entry.parent() {
         Some(y) => port(graph, x, y),
         None => None,
     }
@@ -19,7 +19,7 @@ pub(crate) fn port_up(graph: &Graph, x: u16, entry: &Entry) -> Option<u16>
 pub(crate) fn port_down(graph: &Graph, x: u16, entry: &Entry) -> Option<u16>
     ensures { result ≡ down_port graph.now x (Some entry.now) }
 {
-    match entry.parent {
+    match entry.parent() {
         Some(y) => port(graph, y, x),
         None => None,
     }

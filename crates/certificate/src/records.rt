@@ -26,7 +26,7 @@ pub(crate) fn child_of<'a>(x: u16, behind: Option<&'a Entry>) -> Option<&'a Entr
         → IsChildOf t root x y result }
 {
     let entry = behind?;
-    if entry.parent == Some(x) {
+    if entry.parent() == Some(x) {
         Some(entry)
     } else {
         None
@@ -55,7 +55,7 @@ pub(crate) fn wider_child(
     let Some(entry) = below else {
         return widest;
     };
-    let wide = span(&entry.tree_record);
+    let wide = span(&entry.tree_record());
     if widest.0.is_some() && wide <= widest.1 {
         widest
     } else {
@@ -88,7 +88,7 @@ fn heavy_child(
 pub(crate) fn fits_child(graph: &Graph, entry: &Entry, y: u16, first: u32, depth: u32) -> bool
     ensures { IsTrue result ↔ IsNumbered graph.now y entry.now first depth }
 {
-    let record = &entry.tree_record;
+    let record = entry.tree_record();
     record.first as u32 == first
         && record.light_depth as u32 == depth
         && record.parent_port == port_up(graph, y, entry)
@@ -102,7 +102,7 @@ pub(crate) fn number_after(
     y: u16,
     below: Option<&Entry>,
     next: u32,
-    depth: u16,
+    depth: u8,
 ) -> Option<u32>
     ensures { (t : Tables) (root x : ℕ) (ys : List ℕ) (end : ℕ) → IsChildOf t root x y below.entry
         → GoesOn graph.now t root depth end next (with_other t root x heavy y ys) ys result }
@@ -116,7 +116,7 @@ pub(crate) fn number_after(
     if !fits_child(graph, entry, y, next, depth as u32 + 1) {
         return None;
     }
-    Some(entry.tree_record.last as u32 + 1)
+    Some(entry.tree_record().last as u32 + 1)
 }
 
 /// Whether the children of x but the heavy one have the numbers from `start` to `end`.
@@ -128,7 +128,7 @@ fn are_others_fit(
     x: u16,
     heavy: u16,
     start: u32,
-    depth: u16,
+    depth: u8,
     end: u32,
 ) -> bool
     requires inside { x < graph.now.nodes }
@@ -153,14 +153,14 @@ pub(crate) fn fits_first(graph: &Graph, entry: &Entry, heavy: u16, below: &Entry
     ensures { (t : Tables) → t.entry heavy entry.now.root ≡ Some below.now
         → IsTrue result ↔ FitsFirst graph.now t entry.now.root (record_of entry.now.tree_record) heavy }
 {
-    let record = &entry.tree_record;
+    let record = entry.tree_record();
     fits_child(
         graph,
         below,
         heavy,
         record.first as u32 + 1,
         record.light_depth as u32,
-    ) && record.heavy_last == below.tree_record.last
+    ) && record.heavy_last == below.tree_record().last
         && record.heavy_port == port_down(graph, heavy, below)
 }
 
@@ -178,17 +178,16 @@ fn fits_heavy(
     requires ascend { AllAscend scheme.now }
     ensures { IsTrue result ↔ FitsWithOthers graph.now (tables scheme.now) x entry.now heavy }
 {
-    let record = &entry.tree_record;
-    let Some(below) = scheme.entry(heavy, entry.root) else {
+    let root = entry.root();
+    let record = entry.tree_record();
+    let Some(below) = scheme.entry(heavy, root) else {
         return false;
     };
-    let next = below.tree_record.last as u32 + 1;
+    let next = below.tree_record().last as u32 + 1;
     let end = record.last as u32 + 1;
     let depth = record.light_depth;
     fits_first(graph, entry, heavy, below)
-        && are_others_fit(
-            graph, scheme, fingers, entry.root, x, heavy, next, depth, end,
-        )
+        && are_others_fit(graph, scheme, fingers, root, x, heavy, next, depth, end)
 }
 
 /// Whether a record fits a node without children.
@@ -205,9 +204,9 @@ fn fits_below(graph: &Graph, scheme: &Scheme, fingers: &mut Fingers, x: u16, ent
     requires ascend { AllAscend scheme.now }
     ensures { IsTrue result ↔ FitsAt graph.now (tables scheme.now) x entry.now }
 {
-    match heavy_child(graph, scheme, fingers, entry.root, x) {
+    match heavy_child(graph, scheme, fingers, entry.root(), x) {
         Some(heavy) => fits_heavy(graph, scheme, fingers, x, entry, heavy),
-        None => fits_leaf(&entry.tree_record),
+        None => fits_leaf(&entry.tree_record()),
     }
 }
 
@@ -233,7 +232,7 @@ pub(crate) fn fits_root(scheme: &Scheme, x: u16) -> bool
     let Some(entry) = scheme.entry(x, x) else {
         return true;
     };
-    let record = &entry.tree_record;
+    let record = entry.tree_record();
     record.first == 0 && record.light_depth == 0 && record.parent_port.is_none()
 }
 

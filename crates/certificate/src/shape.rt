@@ -42,8 +42,8 @@ fn are_ports(ports: &[u16], row: &[(u16, u32)]) -> bool
 fn has_parent(graph: &Graph, scheme: &Scheme, x: u16, entry: &Entry) -> bool
     ensures { IsTrue result ↔ HasParentAt graph.now (tables scheme.now) x entry.now }
 {
-    match entry.parent {
-        Some(y) => graph.weight(x, y).is_some() && scheme.entry(y, entry.root).is_some(),
+    match entry.parent() {
+        Some(y) => graph.weight(x, y).is_some() && scheme.entry(y, entry.root()).is_some(),
         None => false,
     }
 }
@@ -52,7 +52,7 @@ fn has_parent(graph: &Graph, scheme: &Scheme, x: u16, entry: &Entry) -> bool
 fn is_entry_shaped(graph: &Graph, scheme: &Scheme, x: u16, entry: &Entry) -> bool
     ensures { IsTrue result ↔ IsEntryShaped graph.now (tables scheme.now) x entry.now }
 {
-    entry.root < graph.nodes() && (x == entry.root || has_parent(graph, scheme, x, entry))
+    entry.root() < graph.nodes() && (x == entry.root() || has_parent(graph, scheme, x, entry))
 }
 
 fn are_entries_shaped(graph: &Graph, scheme: &Scheme, x: u16) -> bool
@@ -69,7 +69,7 @@ fn has_own(scheme: &Scheme, x: u16) -> bool
     ensures { IsTrue result ↔ HasOwn (tables scheme.now) x }
 {
     match scheme.entry(x, x) {
-        Some(entry) => entry.distance == 0 && entry.parent.is_none(),
+        Some(entry) => entry.distance() == 0 && entry.parent().is_none(),
         None => false,
     }
 }

@@ -11,11 +11,11 @@ use node_table::{Entry, Scheme};
 fn is_strict_at(scheme: &Scheme, x: u16, entry: &Entry) -> bool
     ensures { IsTrue result ↔ IsStrictAt (tables scheme.now) x entry.now }
 {
-    if scheme.is_landmark(entry.root) {
+    if scheme.is_landmark(entry.root()) {
         return true;
     }
     match scheme.nearest(x) {
-        Some(near) => entry.distance < near.distance,
+        Some(near) => entry.distance() < near.distance,
         None => true,
     }
 }

@@ -30,7 +30,7 @@ fn is_sum_over(entry: &Entry, edge: (u16, u32), behind: Option<&Entry>) -> bool
 {
     match behind {
         Some(there) => {
-            entry.parent != Some(edge.0) || is_sum(entry.distance, there.distance, edge.1)
+            entry.parent() != Some(edge.0) || is_sum(entry.distance(), there.distance(), edge.1)
         }
         None => true,
     }
@@ -42,7 +42,7 @@ fn meets_parent(entry: &Entry, edge: (u16, u32), behind: Option<&Entry>) -> bool
     ensures { (m : Network) (t : Tables) (x : ℕ) → IsEntryOf t edge.0 entry.now.root behind.entry
         → weight_in m x edge.0 ≡ Some edge.1 → IsTrue result → HasParentAt m t x entry.now }
 {
-    behind.is_some() && entry.parent == Some(edge.0)
+    behind.is_some() && entry.parent() == Some(edge.0)
 }
 
 /// Whether an edge is right for an entry by Edges and Parents.
@@ -73,14 +73,15 @@ fn widest_child(
     ensures widest { IfSome result (λ heavy. heavy ≡ widest_of graph.now (tables scheme.now) entry.now.root x) }
     ensures others { IfSome result (λ _. OthersFitBehind graph.now (tables scheme.now) x entry.now named) }
 {
-    let record = &entry.tree_record;
+    let root = entry.root();
+    let record = entry.tree_record();
     let depth = record.light_depth;
     let row = graph.neighbours(x);
     let mut next = record.heavy_last as u32 + 1;
     let mut widest = (None, 0);
-    let mut met = x == entry.root;
+    let mut met = x == root;
     for (port, edge) in row.iter().enumerate() {
-        let behind = fingers.entry(scheme, port, edge.0, entry.root);
+        let behind = fingers.entry(scheme, port, edge.0, root);
         if !is_right_over(scheme, entry, *edge, behind) {
             return None;
         }
@@ -125,8 +126,8 @@ fn fits_named(
     ensures { (ys : List ℕ) → IsTrue result → FitBehind graph.now (tables scheme.now) entry.now ys
         → FitsRow graph.now (tables scheme.now) entry.now.root (record_of entry.now.tree_record) (heavy ∷ ys) }
 {
-    let port = entry.tree_record.heavy_port.unwrap_or(0) as usize;
-    match fingers.entry(scheme, port, heavy, entry.root) {
+    let port = entry.tree_record().heavy_port.unwrap_or(0) as usize;
+    match fingers.entry(scheme, port, heavy, entry.root()) {
         Some(below) => fits_first(graph, entry, heavy, below),
         None => false,
     }
@@ -139,14 +140,14 @@ fn is_swept(graph: &Graph, scheme: &Scheme, fingers: &mut Fingers, x: u16, entry
     requires ascend { AllAscend scheme.now }
     ensures { IsTrue result → IsSwept graph.now (tables scheme.now) x entry.now }
 {
-    if entry.root >= graph.nodes() {
+    if entry.root() >= graph.nodes() {
         return false;
     }
-    let record = &entry.tree_record;
+    let record = entry.tree_record();
     let named = named_child(graph, x, record.heavy_port);
     match widest_child(graph, scheme, fingers, x, entry, named) {
         Some(Some(heavy)) => { heavy == named && fits_named(graph, scheme, fingers, entry, heavy) }
-        Some(None) => fits_leaf(record),
+        Some(None) => fits_leaf(&record),
         None => false,
     }
 }

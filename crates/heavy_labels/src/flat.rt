@@ -99,7 +99,7 @@ fn member_with(
         first,
         last: first + (sizes[at] - 1),
         heavy_last: first + heavy_size(sizes, best),
-        light_depth: label.lights().len() as u16,
+        light_depth: label.lights().len() as u8,
         parent_port: member.up,
         heavy_port: heavy_port(members, best),
     };

@@ -42,7 +42,7 @@ fn member_at<A: Allocator>(twig: &Twig<A>, first: u16, lights: &[u16]) -> Number
         first,
         last: first + (twig.size() - 1) as u16,
         heavy_last,
-        light_depth: lights.len() as u16,
+        light_depth: lights.len() as u8,
         parent_port: twig.up(),
         heavy_port,
     };

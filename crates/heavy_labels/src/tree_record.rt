@@ -11,7 +11,7 @@ pub struct Record {
     /// The greatest number below the heavy child, or `first` where there is no child.
     pub heavy_last: u16,
     /// How many edges on the way from the root to the member are light.
-    pub light_depth: u16,
+    pub light_depth: u8,
     /// The port to the parent, none at the root.
     pub parent_port: Option<u16>,
     /// The port to the heavy child.
@@ -28,7 +28,7 @@ impl Record {
         first: u16,
         last: u16,
         heavy_last: u16,
-        light_depth: u16,
+        light_depth: u8,
         parent_port: Option<u16>,
         heavy_port: Option<u16>,
     ) -> Option<Record>

@@ -5,3 +5,4 @@ pub mod Searches
 pub mod PortLemmas
 pub mod Walks
 pub mod NumbersApart
+pub mod PackedEntries

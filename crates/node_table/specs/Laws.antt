@@ -6,7 +6,7 @@ use Rattle.graph_edits.specs.Edges.{Network, IsSound}
 use Rattle.graph_edits.specs.Walks.{IsWalk, walk_length, IsLeast}
 use Rattle.distances.specs.declared.nearest.Near.{Near}
 use Rattle.node_table.specs.declared.parts.Parts.{Parts}
-use Rattle.node_table.specs.declared.parts.Entry.{Entry}
+use Rattle.node_table.specs.Entry.{Entry}
 use Rattle.node_table.specs.Tables.{tables}
 use Rattle.node_table.specs.Checks.{IsChecked}
 use Rattle.node_table.specs.Service.{Serves}

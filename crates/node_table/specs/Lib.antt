@@ -12,3 +12,5 @@ pub mod RowLists
 pub mod Building
 pub mod Ways
 pub mod Apart
+pub mod Entry
+pub mod Packed

@@ -6,7 +6,7 @@ use Rattle.heavy_labels.specs.Label.{Label}
 use Rattle.heavy_labels.specs.Numbering.{Step, arrived, port, no_parent, no_light, step}
 use Rattle.heavy_labels.specs.Stepped.{record_of}
 use Rattle.distances.specs.declared.nearest.Near.{Near}
-use Rattle.node_table.specs.declared.parts.Entry.{Entry}
+use Rattle.node_table.specs.Entry.{Entry}
 use Rattle.node_table.specs.declared.packet.Address.{Address}
 use Rattle.node_table.specs.declared.packet.Home.{Home}
 use Rattle.node_table.specs.declared.packet.Packet.{Packet}

@@ -11,10 +11,11 @@ ghost use Rattle.node_table.specs.Schemes.{IsSchemeUnder};
 ghost use Rattle.node_table.specs.Tables.{value_at};
 
 use crate::columns::{entry_of, number_reached};
+use crate::entry::Entry;
 use crate::laws::graph_is_sound;
 use crate::numbering::{ByLists, ByTrees, Numbering};
 use crate::partial::PartialScheme;
-use crate::parts::{Entry, Listed, Near, Parts};
+use crate::parts::{Listed, Near, Parts};
 use crate::scheme::Scheme;
 use clusters::cluster_in;
 use distances::{Linked, Nearest, Workspace, from_landmarks};

@@ -5,8 +5,8 @@ ghost use Rattle.distances.specs.Workspace.{AreLinked};
 ghost use Rattle.node_table.specs.Columns.{linked_member, AreRowsWithin, IsTreeWithin};
 ghost use Rattle.node_table.specs.RowLists.{ArePlaces, AreReached, entry_by, nodes_linked, nodes_numbered, rows_by};
 
+use crate::entry::Entry;
 use crate::numbering::Numbering;
-use crate::parts::Entry;
 use distances::Linked;
 use graph_edits::{Graph, MOST_NODES};
 use heavy_labels::{Numbered, NumberedMember};
@@ -64,12 +64,7 @@ pub(crate) fn entry_of(
 {
     let place = places[member.node as usize] as usize;
     let there = &reached[place].reached;
-    Entry {
-        root,
-        distance: there.distance,
-        parent: there.parent,
-        tree_record: member.tree_record,
-    }
+    Entry::new(there.distance, root, there.parent, member.tree_record)
 }
 
 /// The numbered members of the tree of what is reached from a root. The places are room for a number for each node: what they

@@ -31,6 +31,7 @@
 
 mod building;
 mod columns;
+mod entry;
 mod laws;
 mod numbering;
 mod numbers_apart;
@@ -45,10 +46,11 @@ mod search;
 mod trail;
 
 pub use building::{build, build_between, build_by_lists};
+pub use entry::Entry;
 pub use laws::{graph_is_sound, scheme_laws};
 pub use packet::{Address, Home, Move, Packet, Refused};
 pub use partial::PartialScheme;
-pub use parts::{Entry, Listed, Near, Parts};
+pub use parts::{Listed, Near, Parts};
 pub use ports::port;
 pub use rows::{NodeRows, move_from, packet_from};
 pub use scheme::Scheme;

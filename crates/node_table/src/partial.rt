@@ -5,8 +5,9 @@ ghost use Rattle.node_table.specs.Columns.{IsBuiltBetween};
 ghost use Rattle.node_table.specs.Schemes.{IsSchemeUnder};
 ghost use Rattle.node_table.specs.Tables.{value_at};
 
+use crate::entry::Entry;
 use crate::laws::graph_is_sound;
-use crate::parts::{Entry, Listed, Parts};
+use crate::parts::{Listed, Parts};
 use crate::scheme::Scheme;
 use graph_edits::Graph;
 use heavy_labels::Label;
@@ -94,7 +95,7 @@ fn has_last_root(parts: &Parts) -> bool {
     let Some(entry) = entries.as_slice().last() else {
         return false;
     };
-    entry.root as usize == parts.entries.len() - 1
+    entry.root() as usize == parts.entries.len() - 1
 }
 
 /// The entries of each node, and behind them those of the next range, which may be the last.

@@ -1,17 +1,7 @@
 // The tables that a scheme holds.
+use crate::entry::Entry;
 pub use distances::Near;
-use heavy_labels::{Label, Record};
-
-/// A node's place in the tree of a root.
-#[derive(Clone, Copy, PartialEq, Eq, Debug)]
-pub struct Entry {
-    /// The distance of the node from the root.
-    pub distance: u64,
-    pub root: u16,
-    /// The node's parent in the tree: none at the root.
-    pub parent: Option<u16>,
-    pub tree_record: Record,
-}
+use heavy_labels::Label;
 
 /// A member of a root's tree, in the directory of that root.
 #[derive(PartialEq, Eq, Debug, Drop)]

@@ -3,7 +3,8 @@ ghost use Rattle.std.specs.Prelude.{◌≡◌, ◌↔◌, IsTrue, slice_get};
 ghost use Rattle.std.specs.List.Sorted.{IsStrictlyIncreasing};
 ghost use Rattle.node_table.specs.Tables.{RefersTo, directory_at, entries_at, nodes_of, or_false, ports_at, roots_of, tables, value_at};
 
-use crate::parts::{Entry, Listed, Near};
+use crate::entry::Entry;
+use crate::parts::{Listed, Near};
 use crate::scheme::Scheme;
 use crate::search::do_ascend;
 use heavy_labels::Label;

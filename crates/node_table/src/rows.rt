@@ -1,5 +1,5 @@
 //! What one node does by its own rows of the tables.
-ghost use Rattle.std.specs.Prelude.{◌≡◌, ◌<◌, ◌==◌, ℕ, cond, is_some, None, Some, Ok, Err, IfOk, MatchOption, option_map};
+ghost use Rattle.std.specs.Prelude.{◌≡◌, ◌<◌, ◌==◌, ℕ, cond, is_some, None, Some, Ok, Err, IfOk, option_map};
 ghost use Rattle.node_table.specs.declared.packet.Move.TheVariants.{Delivered};
 ghost use Rattle.node_table.specs.declared.packet.Refused.TheVariants.{Stray, Unreachable};
 ghost use Rattle.node_table.specs.Service.{decide as packet_given, forward_over, node_step as move_given, one_less, packet_by};
@@ -32,9 +32,8 @@ pub trait NodeRows {
         ensures { result ≡ place self.now };
 
     /// The node's record in the tree of a root, where the node is in that tree.
-    fn tree_record(&self, root: u16) -> Option<&Record>
-        ensures { MatchOption result ((shown self.now).entry (place self.now) root ≡ None)
-            (λ r. option_map (λ e. e.tree_record) ((shown self.now).entry (place self.now) root) ≡ Some r.now) };
+    fn tree_record(&self, root: u16) -> Option<Record>
+        ensures { result ≡ option_map (λ e. e.tree_record) ((shown self.now).entry (place self.now) root) };
 
     /// The label of a member of the node's own tree, where the node's directory lists the member.
     fn label(&self, member: u16) -> Option<&Label>
@@ -69,9 +68,9 @@ impl<'a> NodeRows for RowsAt<'a> {
         self.node
     }
 
-    fn tree_record(&self, root: u16) -> Option<&Record> {
+    fn tree_record(&self, root: u16) -> Option<Record> {
         match self.scheme.entry(self.node, root) {
-            Some(entry) => Some(&entry.tree_record),
+            Some(entry) => Some(entry.tree_record()),
             None => None,
         }
     }
@@ -146,7 +145,7 @@ pub fn move_from<R: NodeRows>(rows: &R, packet: &Packet) -> Result<Move, Refused
     let Some(record) = rows.tree_record(packet.root) else {
         return Err(Refused::Stray);
     };
-    match step(record, &packet.label) {
+    match step(&record, &packet.label) {
         TreeStep::Arrived => delivered(rows.node(), packet),
         TreeStep::Port(port) => forward(packet, port, rows.over(port)),
         TreeStep::NoParent => Err(Refused::Stray),

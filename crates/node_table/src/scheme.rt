@@ -5,9 +5,10 @@ ghost use Rattle.node_table.specs.Ports.{index_of};
 ghost use Rattle.node_table.specs.Service.{address_given, decide as packet_given, home_of, node_step as move_given, IsOfGeneration};
 ghost use Rattle.node_table.specs.Tables.{AreAscending, RefersTo, entries_at, first_entry, first_listed, directory_at, nodes_of, roots_of, tables};
 
+use crate::entry::Entry;
 use crate::numbers_apart::NumbersApart;
 use crate::packet::{Address, Home, Move, Packet, Refused};
-use crate::parts::{Entry, Listed, Near, Parts};
+use crate::parts::{Listed, Near, Parts};
 use crate::rows::{RowsAt, move_from, packet_from};
 use crate::search::{first_place, tables_ascend};
 use heavy_labels::Label;
@@ -124,7 +125,7 @@ impl Scheme {
         ensures { result ≡ distance_of ((tables self.now).entry x root) }
     {
         match self.entry(x, root) {
-            Some(entry) => entry.distance,
+            Some(entry) => entry.distance(),
             None => 0,
         }
     }

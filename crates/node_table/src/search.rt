@@ -6,7 +6,8 @@ ghost use Rattle.std.specs.List.Sorted.{IsStrictlyIncreasing};
 ghost use Rattle.node_table.specs.Ports.{index_of};
 ghost use Rattle.node_table.specs.Tables.{AreAscending, nodes_of, roots_of};
 
-use crate::parts::{Entry, Listed, Parts};
+use crate::entry::Entry;
+use crate::parts::{Listed, Parts};
 
 /// What stands in a list under a number of its own.
 pub(crate) trait Keyed {
@@ -21,7 +22,7 @@ impl Keyed for Entry {
     ghost key = { λ entry. entry.root };
 
     fn key(&self) -> u16 {
-        self.root
+        self.root()
     }
 }
 

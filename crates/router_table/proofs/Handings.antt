@@ -13,7 +13,7 @@ use Rattle.node_table.specs.declared.packet.Move.{Move}
 use Rattle.node_table.specs.declared.packet.Move.TheVariants.{Delivered, Forward}
 use Rattle.node_table.specs.declared.packet.Refused.{Refused}
 use Rattle.node_table.specs.declared.packet.Refused.TheVariants.{NoNode, Stray, Unreachable}
-use Rattle.node_table.specs.declared.parts.Entry.{Entry}
+use Rattle.node_table.specs.Entry.{Entry}
 use Rattle.node_table.specs.declared.parts.Listed.{Listed}
 use Rattle.node_table.specs.declared.parts.Parts.{Parts}
 use Rattle.node_table.specs.Service.{Carries, address, address_given, by_directory, decide, forward_over, move_at, move_by, node_step, one_less, packet_by, through_home}

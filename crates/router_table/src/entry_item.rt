@@ -1,5 +1,5 @@
 // Entries as bytes.
-ghost use Rattle.std.specs.Prelude.{◌≡◌, ◌++◌, ◌<◌, ◌^◌, ◌==◌, refl, OnOk};
+ghost use Rattle.std.specs.Prelude.{◌≡◌, ◌++◌, ◌==◌, refl, OnOk};
 ghost use Rattle.router_table.specs.Reading.{Finds, entry_at, port_from, record_at, record_with};
 ghost use Rattle.router_table.specs.Spelling.{entry_text, port_number, record_text};
 
@@ -16,8 +16,6 @@ impl Item for TreeEntry {
     ghost key = { λ e. e.root };
 
     ghost text = { entry_text };
-
-    ghost fits = { λ e. e.tree_record.light_depth < 2 ^ 8 };
 
     ghost found = { entry_at };
 
@@ -61,7 +59,6 @@ fn port_of(number: u16) -> Option<u16>
 
 /// Writes a record at the end.
 fn put_record(out: &mut Vec<u8>, record: &Record) -> Result<(), AllocError>
-    requires { «record».now.light_depth < 2 ^ 8 }
     ensures { OnOk result (out.new.items ≡ out.old.items ++ record_text «record».now) }
 {
     put_u16(out, record.first)?;
@@ -69,7 +66,7 @@ fn put_record(out: &mut Vec<u8>, record: &Record) -> Result<(), AllocError>
     put_u16(out, record.heavy_last)?;
     put_u16(out, number_of(record.parent_port))?;
     put_u16(out, number_of(record.heavy_port))?;
-    Ok(out.push(record.light_depth as u8)?)
+    Ok(out.push(record.light_depth)?)
 }
 
 /// The record of these fields, where there is one.
@@ -87,7 +84,7 @@ fn made_of(
         first,
         last,
         heavy_last,
-        light_depth as u16,
+        light_depth,
         parent_port,
         heavy_port,
     )

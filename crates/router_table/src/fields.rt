@@ -60,20 +60,25 @@ fn number_fits(number: u16)
     let _number = number;
 }
 
-/// Whether a node with so many ports may have a record. Its numbers of two bytes fit, whatever they are.
+/// That a number of one byte fits its place, whatever it is.
+fn byte_fits(number: u8)
+    ensures { number < 2 ^ 8 }
+{
+    let _number = number;
+}
+
+/// Whether a node with so many ports may have a record. Its numbers fit, whatever they are.
 fn is_record(record: &Record, many: usize) -> bool
     ensures { IsTrue result ↔ IsRecord many «record».now }
 {
     number_fits(record.first);
     number_fits(record.last);
     number_fits(record.heavy_last);
+    byte_fits(record.light_depth);
     if !is_port(record.parent_port, many) {
         return false;
     }
-    if !is_port(record.heavy_port, many) {
-        return false;
-    }
-    record.light_depth < 256
+    is_port(record.heavy_port, many)
 }
 
 /// Whether a node with so many ports may have the records of entries.

@@ -1,7 +1,6 @@
 // What stands in the lists of a table: under a number, and in bytes of its own.
 ghost use Rattle.std.specs.Prelude.{◌≡◌, ◌++◌, ◌<◌, ◌^◌, ℕ, List, Option, OnOk, length};
 ghost use Rattle.std.specs.Int.{w16};
-ghost use Rattle.std.specs.List.{All};
 ghost use Rattle.router_table.specs.Reading.{Finds, Gives, items_at, list_at, number_at};
 ghost use Rattle.router_table.specs.Spelling.{list_text, number};
 
@@ -17,9 +16,6 @@ pub(crate) trait Item: Sized + Drop {
     // Its bytes.
     ghost text: { Self → List ℕ };
 
-    // That it has bytes.
-    ghost fits: { Self → Type 0 };
-
     // The item at the front of bytes, and the bytes behind it.
     ghost found: { List ℕ → Option (Self × List ℕ) };
 
@@ -29,7 +25,6 @@ pub(crate) trait Item: Sized + Drop {
 
     /// Writes it at the end.
     fn put(&self, out: &mut Vec<u8>) -> Result<(), AllocError>
-        requires { fits self.now }
         ensures { OnOk result (out.new.items ≡ out.old.items ++ text self.now) };
 
     /// Reads it from the front, and answers the bytes behind it. None where the bytes don't begin so.
@@ -41,8 +36,6 @@ impl Item for u16 {
     ghost key = { λ port. port };
 
     ghost text = { number };
-
-    ghost fits = { λ _. Unit {0} };
 
     ghost found = { number_at w16 };
 
@@ -61,8 +54,7 @@ impl Item for u16 {
 
 /// Writes a list at the end: how many items there are, and each of them.
 pub(crate) fn put_list<T: Item>(out: &mut Vec<u8>, items: &[T]) -> Result<(), AllocError>
-    requires few { length items.now < 2 ^ 16 }
-    requires fits { All T.fits items.now }
+    requires { length items.now < 2 ^ 16 }
     ensures { OnOk result (out.new.items ≡ out.old.items ++ list_text T.text items.now) }
 {
     put_u16(out, items.len() as u16)?;

@@ -17,8 +17,6 @@ impl Item for Listed {
 
     ghost text = { member_text };
 
-    ghost fits = { λ _. Unit {0} };
-
     ghost found = { member_at };
 
     fn key(&self) -> u16 {

@@ -48,8 +48,8 @@ fn tree_entries(alloc: Global, entries: &[Entry]) -> Result<Vec<TreeEntry>, Allo
     entries
         .iter()
         .map(|entry| TreeEntry {
-            root: entry.root,
-            tree_record: entry.tree_record,
+            root: entry.root(),
+            tree_record: entry.tree_record(),
         })
         .collect(alloc)
 }
@@ -191,9 +191,9 @@ impl NodeRows for RouterTable {
         self.fields.head.node
     }
 
-    fn tree_record(&self, root: u16) -> Option<&Record> {
+    fn tree_record(&self, root: u16) -> Option<Record> {
         match find(self.fields.entries.as_slice(), root) {
-            Some(entry) => Some(&entry.tree_record),
+            Some(entry) => Some(entry.tree_record),
             None => None,
         }
     }

@@ -20,7 +20,7 @@ pub const SCRATCH_LEN: usize = 67_108_864;
 /// beside the tables of a large network.
 const MOST_ROOTS: u16 = 512;
 
-/// What a build has of the roots from `first` on and below `last`. Their trees are numbered over a heap of this call's own.
+/// What a build has of the roots from `first` on and below `last`. Members are numbered over lists in a heap of this call's own.
 fn build_roots(
     alloc: Global,
     graph: &Graph,

@@ -194,19 +194,20 @@ fn change_entry(rng: &mut Xoshiro256PlusPlus, parts: &mut Parts, part: Part) {
 }
 
 fn changed_entry(rng: &mut Xoshiro256PlusPlus, old: Entry, nodes: u16, part: Part) -> Entry {
-    let mut new = old;
+    let (mut distance, mut parent) = (old.distance(), old.parent());
+    let mut tree_record = old.tree_record();
     match part {
-        Part::Distance => new.distance = some_distance(rng, old.distance),
+        Part::Distance => distance = some_distance(rng, distance),
         Part::Parent => {
-            new.parent = if rng.next_u64() % 8 == 0 {
+            parent = if rng.next_u64() % 8 == 0 {
                 None
             } else {
                 Some(some_node(rng, nodes))
             };
         }
-        _ => new.tree_record = changed_record(rng, old.tree_record, nodes),
+        _ => tree_record = changed_record(rng, tree_record, nodes),
     }
-    new
+    Entry::new(distance, old.root(), parent, tree_record)
 }
 
 /// A record with another number or port. The heavy port goes or comes with it, where a record can't have it or needs it.
@@ -220,7 +221,7 @@ fn changed_record(rng: &mut Xoshiro256PlusPlus, old: Record, nodes: u16) -> Reco
         0 => first = drawn,
         1 => last = drawn,
         2 => heavy_last = drawn,
-        3 => light_depth = drawn % 4,
+        3 => light_depth = (drawn % 4) as u8,
         4 => parent_port = port,
         _ => heavy_port = port,
     }

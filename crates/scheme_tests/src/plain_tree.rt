@@ -39,7 +39,7 @@ impl PlainTree {
         };
         for x in 0..nodes {
             tree.parents
-                .push(entry(parts, x, root).and_then(|e| e.parent))?;
+                .push(entry(parts, x, root).and_then(|e| e.parent()))?;
         }
         for x in 0..nodes {
             let size = tree.counted(alloc, x)?;
@@ -215,7 +215,7 @@ fn record_with(
     let first = u16::try_from(numbers[0]?).ok()?;
     let last = u16::try_from(numbers[1]?).ok()?;
     let heavy_last = u16::try_from(numbers[2]?).ok()?;
-    let light_depth = u16::try_from(numbers[3]?).ok()?;
+    let light_depth = u8::try_from(numbers[3]?).ok()?;
     Record::new(
         first,
         last,

@@ -81,7 +81,7 @@ fn is_node_shaped(
     }
     let mut roots = Vec::new(alloc);
     for entry in entries(parts, x) {
-        roots.push(entry.root)?;
+        roots.push(entry.root())?;
     }
     if !do_ascend(&roots) || entry(parts, x, x).is_none() {
         return Ok(false);
@@ -95,14 +95,14 @@ fn is_node_shaped(
 }
 
 fn is_entry_shaped(graph: &PlainGraph, parts: &Parts, x: u16, given: &Entry) -> bool {
-    if given.root >= graph.nodes {
+    if given.root() >= graph.nodes {
         return false;
     }
-    if given.root == x {
-        return given.distance == 0 && given.parent.is_none();
+    if given.root() == x {
+        return given.distance() == 0 && given.parent().is_none();
     }
-    match given.parent {
-        Some(y) => graph.weight(x, y).is_some() && entry(parts, y, given.root).is_some(),
+    match given.parent() {
+        Some(y) => graph.weight(x, y).is_some() && entry(parts, y, given.root()).is_some(),
         None => false,
     }
 }
@@ -116,8 +116,8 @@ fn has_edges(graph: &PlainGraph, parts: &Parts) -> bool {
                 continue;
             };
             for here in entries(parts, x) {
-                let most = here.distance as u128 + weight as u128;
-                if !is_within(parts, here.root, y, most) {
+                let most = here.distance() as u128 + weight as u128;
+                if !is_within(parts, here.root(), y, most) {
                     return false;
                 }
             }
@@ -129,7 +129,7 @@ fn has_edges(graph: &PlainGraph, parts: &Parts) -> bool {
 /// Whether y is within a distance of the root, or of a landmark where y has no entry and the root is no landmark.
 fn is_within(parts: &Parts, root: u16, y: u16, most: u128) -> bool {
     if let Some(there) = entry(parts, y, root) {
-        return there.distance as u128 <= most;
+        return there.distance() as u128 <= most;
     }
     match nearest(parts, y) {
         Some(near) => !is_landmark(parts, root) && near.distance as u128 <= most,
@@ -142,7 +142,7 @@ fn is_within(parts: &Parts, root: u16, y: u16, most: u128) -> bool {
 fn has_parents(graph: &PlainGraph, parts: &Parts) -> bool {
     for x in 0..graph.nodes {
         for here in entries(parts, x) {
-            if let Some(y) = here.parent
+            if let Some(y) = here.parent()
                 && first_giver(graph, parts, x, here) != Some(y)
             {
                 return false;
@@ -155,9 +155,9 @@ fn has_parents(graph: &PlainGraph, parts: &Parts) -> bool {
 /// The smallest-numbered neighbour whose distance and edge give the distance of an entry.
 fn first_giver(graph: &PlainGraph, parts: &Parts, x: u16, here: &Entry) -> Option<u16> {
     for y in 0..graph.nodes {
-        if let (Some(weight), Some(there)) = (graph.weight(x, y), entry(parts, y, here.root)) {
-            let sum = there.distance as u128 + weight as u128;
-            if sum == here.distance as u128 {
+        if let (Some(weight), Some(there)) = (graph.weight(x, y), entry(parts, y, here.root())) {
+            let sum = there.distance() as u128 + weight as u128;
+            if sum == here.distance() as u128 {
                 return Some(y);
             }
         }
@@ -173,7 +173,7 @@ fn is_strict(graph: &PlainGraph, parts: &Parts) -> bool {
             let Some(near) = nearest(parts, x) else {
                 continue;
             };
-            if !is_landmark(parts, here.root) && here.distance >= near.distance {
+            if !is_landmark(parts, here.root()) && here.distance() >= near.distance {
                 return false;
             }
         }
@@ -196,20 +196,20 @@ fn has_nearest(graph: &PlainGraph, parts: &Parts) -> bool {
 fn least(parts: &Parts, x: u16) -> Option<Near> {
     let mut least: Option<Near> = None;
     for here in entries(parts, x) {
-        if !is_landmark(parts, here.root) {
+        if !is_landmark(parts, here.root()) {
             continue;
         }
         let is_less = match least {
             Some(near) => {
-                here.distance < near.distance
-                    || (here.distance == near.distance && here.root < near.landmark)
+                here.distance() < near.distance
+                    || (here.distance() == near.distance && here.root() < near.landmark)
             }
             None => true,
         };
         if is_less {
             least = Some(Near {
-                landmark: here.root,
-                distance: here.distance,
+                landmark: here.root(),
+                distance: here.distance(),
             });
         }
     }
@@ -227,10 +227,10 @@ fn has_records(
     for (root, tree) in trees.iter().enumerate() {
         for x in 0..graph.nodes {
             for here in entries(parts, x) {
-                if here.root as usize != root {
+                if here.root() as usize != root {
                     continue;
                 }
-                if tree.record_of(alloc, graph, x)? != Some(here.tree_record) {
+                if tree.record_of(alloc, graph, x)? != Some(here.tree_record()) {
                     return Ok(false);
                 }
             }

@@ -13,7 +13,7 @@ pub(crate) fn entries(parts: &Parts, x: u16) -> &[Entry] {
 /// A node's entry for a root.
 pub(crate) fn entry(parts: &Parts, x: u16, root: u16) -> Option<&Entry> {
     for entry in entries(parts, x) {
-        if entry.root == root {
+        if entry.root() == root {
             return Some(entry);
         }
     }

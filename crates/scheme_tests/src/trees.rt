@@ -93,7 +93,7 @@ fn trees_of_drawn_graphs(rt: HostRuntime) -> Result<(), Fail> {
             for x in 0..known.graph.nodes {
                 let place = scheme
                     .entry(x, root)
-                    .map(|entry| (entry.distance, entry.parent));
+                    .map(|entry| (entry.distance(), entry.parent()));
                 assert_eq!(rt;
                     place,
                     known.place(root, x),

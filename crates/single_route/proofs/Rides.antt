@@ -13,7 +13,7 @@ use Rattle.graph_edits.specs.Walks.{IsWalk, walk_length}
 use Rattle.graph_edits.specs.Laws.{IsLeast-unique}
 use Rattle.landmarks.specs.Chosen.{IsLandmark}
 use Rattle.node_table.specs.declared.parts.Parts.{Parts}
-use Rattle.node_table.specs.declared.parts.Entry.{Entry}
+use Rattle.node_table.specs.Entry.{Entry}
 use Rattle.node_table.specs.Ports.{neighbours, port_to}
 use Rattle.node_table.specs.Tables.{Tables, tables, or_false}
 use Rattle.node_table.specs.Checks.{IsChecked, IsShaped, HasParents, HasRecords, IsLabelIn, farthest, tree_at, k1, k3}

@@ -44,7 +44,7 @@ fn label(first: u16, ports: &[u16]) -> Label {
 /// Node, numbers, parent port, heavy port and light ports of a member.
 type Row<'a> = (
     u16,
-    (u16, u16, u16, u16),
+    (u16, u16, u16, u8),
     Option<u16>,
     Option<u16>,
     &'a [u16],
@@ -130,7 +130,7 @@ fn the_last_of_all_pairs_has_the_most_lights(rt: HostRuntime) {
         let wanted = label(node, got(rt, THIRTEEN.get(..lights).ok_or("lights")));
         same(rt, &last.label, &wanted, "the last label");
         let found = (last.label.lights().len(), last.tree_record.light_depth);
-        same(rt, found, (lights, lights as u16), "the light ports");
+        same(rt, found, (lights, lights as u8), "the light ports");
         let heap = got(rt, LocalHeap::new(alloc, STACK_LEN));
         let held = numbered_over(rt, alloc, &heap, &members);
         let bump = Bump::new(&heap);

@@ -55,7 +55,7 @@ fn entries_of_1(rt: &impl Abort, alloc: Global, changed: Changed) -> Vec<Entry> 
 fn entries_of_2(rt: &impl Abort, alloc: Global, changed: Changed) -> Vec<Entry> {
     let numbers = match changed {
         Changed::HeavyLast => (0, 4, 3, 0),
-        Changed::GreatNumbers => (65535, 0, 65535, 65535),
+        Changed::GreatNumbers => (65535, 0, 65535, 255),
         _ => (0, 4, 2, 0),
     };
     let of_2 = entry(rt, (2, 0, None), numbers, (None, Some(0)));

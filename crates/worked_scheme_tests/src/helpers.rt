@@ -123,7 +123,7 @@ pub(crate) fn label(first: u16, ports: &[u16]) -> Label {
 pub(crate) fn entry(
     rt: &impl Abort,
     tree: (u16, u64, Option<u16>),
-    numbers: (u16, u16, u16, u16),
+    numbers: (u16, u16, u16, u8),
     ports: (Option<u16>, Option<u16>),
 ) -> Entry {
     let (root, distance, parent) = tree;
@@ -132,10 +132,5 @@ pub(crate) fn entry(
     else {
         panic!(rt; "no record");
     };
-    Entry {
-        root,
-        distance,
-        parent,
-        tree_record,
-    }
+    Entry::new(distance, root, parent, tree_record)
 }

@@ -41,7 +41,12 @@ const WAYS: [Way<'static>; 3] = [
 #[test]
 fn routes_by_query(rt: HostRuntime) {
     let alloc = rt.alloc();
-    same(&rt, SCRATCH_LEN, 67_108_864, "what the trees may take");
+    same(
+        &rt,
+        SCRATCH_LEN,
+        67_108_864,
+        "what a build may take of its scratch",
+    );
     for way in &WAYS {
         let (nodes, edges, at, through, _, _) = *way;
         let Some(trail) = trail_of(&rt, alloc, nodes, edges, at, ends_of(through)) else {

@@ -18,7 +18,7 @@ use Rattle.distances.specs.declared.nearest.Near.{Near}
 use Rattle.heavy_labels.specs.Label.{Label}
 use Rattle.heavy_labels.specs.declared.numbered_member.NumberedMember.{NumberedMember}
 use Rattle.distances.specs.declared.linked.Linked.{Linked}
-use Rattle.node_table.specs.declared.parts.Entry.{Entry}
+use Rattle.node_table.specs.Entry.{Entry}
 use Rattle.node_table.specs.declared.parts.Listed.{Listed}
 use Rattle.node_table.specs.Tables.{nodes_of, value_at}
 use Rattle.node_table.specs.RowLists.{Row, entry_by, nodes_numbered, row_by, rows_by}

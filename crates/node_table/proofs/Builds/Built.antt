@@ -16,7 +16,7 @@ use Rattle.heavy_labels.specs.Label.{Label}
 use Rattle.heavy_labels.specs.Numbering.{Line, Place, tree_lines, Among}
 use Rattle.heavy_labels.specs.Stepped.{record_of}
 use Rattle.node_table.specs.declared.parts.Parts.{Parts}
-use Rattle.node_table.specs.declared.parts.Entry.{Entry}
+use Rattle.node_table.specs.Entry.{Entry}
 use Rattle.node_table.specs.Tables.{tables, entries_at, directory_at, first_entry, roots_of, nodes_of, or_false}
 use Rattle.node_table.specs.Checks.{IsShaped, IsClosed, HasParents, IsStrict, IsNearestThere, HasRecords, HasLabels, IsLabelIn, HasDirectories, IsChecked, tree_at, k1, k2, k3, k4, k5, k6, k7, k8}
 use Rattle.node_table.specs.Columns.{IsParentIn, limit_in, HasColumn, IsBuiltBetween, AreBelow}

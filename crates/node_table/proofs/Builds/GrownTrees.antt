@@ -12,7 +12,7 @@ use Rattle.route_tree.specs.Growth.{is_parent, trees_on, subtrees, first_or}
 use Rattle.route_tree.specs.declared.member.Member.{Member}
 use Rattle.route_tree.proofs.Ascending.{Has, Above, Rising, Fresh, Differ, rising_same, has_ascending, ascending_has, rising_ascending}
 use Rattle.route_tree.proofs.Heaviest.{heavy_here, heavy_size, from_part}
-use Rattle.node_table.specs.declared.parts.Entry.{Entry}
+use Rattle.node_table.specs.Entry.{Entry}
 use Rattle.node_table.specs.Tables.{Tables}
 use Rattle.node_table.specs.Checks.{parent_is, children, up_port, down_port, tree_to_depth, farthest, tree_at}
 use Rattle.node_table.specs.Columns.{HasMember, LacksMember, AreDistinct, BeginsWith, FitsEntry, IsLaid}

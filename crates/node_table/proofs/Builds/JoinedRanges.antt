@@ -8,7 +8,7 @@ use Rattle.distances.specs.Nearest.{IsNearestOf}
 use Rattle.distances.specs.declared.nearest.Near.{Near}
 use Rattle.heavy_labels.specs.Label.{Label}
 use Rattle.node_table.specs.declared.parts.Parts.{Parts}
-use Rattle.node_table.specs.declared.parts.Entry.{Entry}
+use Rattle.node_table.specs.Entry.{Entry}
 use Rattle.node_table.specs.Tables.{tables, entries_at, directory_at, first_entry, roots_of, value_at, or_false}
 use Rattle.node_table.specs.Columns.{HasColumn, IsBuiltBetween, AreBelow, AreFrom}
 use Rattle.node_table.specs.Building.{items_at, first_list, first_some, IsJoined, IsBuildOf}

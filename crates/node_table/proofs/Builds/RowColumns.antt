@@ -20,7 +20,7 @@ use Rattle.heavy_labels.specs.Numbered.{Brief, IsListed, seen, head_brief}
 use Rattle.heavy_labels.specs.Numbering.{Line, Place, tree_lines, Among}
 use Rattle.heavy_labels.specs.Stepped.{record_of}
 use Rattle.heavy_labels.specs.declared.numbered_member.NumberedMember.{NumberedMember}
-use Rattle.node_table.specs.declared.parts.Entry.{Entry}
+use Rattle.node_table.specs.Entry.{Entry}
 use Rattle.node_table.specs.Checks.{up_port, down_port}
 use Rattle.node_table.specs.Columns.{up_by, down_by, member_of, LacksMember, AreDistinct, FitsEntry, IsTightFrom, IsParentIn, IsColumn}
 use Rattle.node_table.specs.RowLists.{Row, nodes_in, nodes_numbered, row_at, entry_in, label_in}

@@ -14,7 +14,7 @@ use Rattle.distances.specs.Reach.{IsTree, IsParent, settled_of}
 use Rattle.distances.specs.declared.reach.Reached.{Reached}
 use Rattle.route_tree.specs.Members.{AreMembers, IsRoot, HasBoth, HasParentBefore}
 use Rattle.route_tree.specs.declared.member.Member.{Member}
-use Rattle.node_table.specs.declared.parts.Entry.{Entry}
+use Rattle.node_table.specs.Entry.{Entry}
 use Rattle.node_table.specs.Ports.{index_of}
 use Rattle.node_table.specs.Columns.{up_by, down_by, member_of, HasMember, LacksMember, AreDistinct, BeginsWith, FitsEntry, IsLaid}
 use Rattle.node_table.proofs.Basics.Walks.{symmetric}

@@ -7,7 +7,7 @@ use Rattle.route_tree.specs.Rose.{Forest, no_trees, twig, count}
 use Rattle.heavy_labels.specs.Label.{Label}
 use Rattle.heavy_labels.specs.Numbering.{Line, Place, Record, place, lights_at, or_zero, lines, tree_lines, Among}
 use Rattle.heavy_labels.proofs.Walks.{Among-append}
-use Rattle.node_table.specs.declared.parts.Entry.{Entry}
+use Rattle.node_table.specs.Entry.{Entry}
 use Rattle.graph_edits.specs.Edges.{Network}
 use Rattle.node_table.specs.Ports.{port_to}
 use Rattle.node_table.specs.Tables.{Tables}

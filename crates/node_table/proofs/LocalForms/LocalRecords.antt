@@ -6,7 +6,7 @@ use Rattle.route_tree.specs.Order.{heaviest, fronted}
 use Rattle.heavy_labels.specs.Numbering.{Line, Place, Record, place, lights_at, or_zero, lines, tree_lines, heavy_last, heavy_port, Among}
 use Rattle.heavy_labels.specs.Stepped.{record_of}
 use Rattle.heavy_labels.proofs.Walks.{Among-append}
-use Rattle.node_table.specs.declared.parts.Entry.{Entry}
+use Rattle.node_table.specs.Entry.{Entry}
 use Rattle.graph_edits.specs.Edges.{Network, below as up_to}
 use Rattle.node_table.specs.Ports.{filtered}
 use Rattle.node_table.proofs.Basics.Walks.{edge_inside}

@@ -10,7 +10,7 @@ use Rattle.route_tree.specs.Shape.{HasPorts}
 use Rattle.heavy_labels.specs.Numbering.{Line, Place, Record, place, lights_at, lines, tree_lines, Among}
 use Rattle.heavy_labels.specs.Stepped.{record_of}
 use Rattle.heavy_labels.proofs.Walks.{Among-append}
-use Rattle.node_table.specs.declared.parts.Entry.{Entry}
+use Rattle.node_table.specs.Entry.{Entry}
 use Rattle.graph_edits.specs.Edges.{Network, below as up_to}
 use Rattle.node_table.specs.Ports.{port_to}
 use Rattle.node_table.proofs.Basics.Walks.{symmetric, edge_inside}

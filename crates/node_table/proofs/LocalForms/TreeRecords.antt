@@ -4,7 +4,7 @@ use Rattle.std.specs.Prelude.{Option, Some, None}
 use Rattle.route_tree.specs.Rose.{count, of_list, Tree}
 use Rattle.route_tree.specs.Order.{heaviest, fronted}
 use Rattle.heavy_labels.specs.Numbering.{Line, Place, Record, place, lights_at, lines, tree_lines, heavy_last, heavy_port, Among}
-use Rattle.node_table.specs.declared.parts.Entry.{Entry}
+use Rattle.node_table.specs.Entry.{Entry}
 use Rattle.graph_edits.specs.Edges.{Network, below as up_to}
 use Rattle.node_table.specs.Tables.{Tables}
 use Rattle.node_table.specs.Checks.{parent_is, children, tree_to_depth, farthest, tree_at, HasRecords}

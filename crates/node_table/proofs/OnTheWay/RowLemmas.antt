@@ -4,7 +4,7 @@ use Rattle.std.specs.Prelude.{Option, Some, None, is_some, option_map}
 use Rattle.heavy_labels.specs.declared.tree_record.Record.{Record}
 use Rattle.heavy_labels.specs.Numbering.{step}
 use Rattle.heavy_labels.specs.Stepped.{record_of}
-use Rattle.node_table.specs.declared.parts.Entry.{Entry}
+use Rattle.node_table.specs.Entry.{Entry}
 use Rattle.node_table.specs.declared.packet.Packet.{Packet}
 use Rattle.node_table.specs.Tables.{Tables}
 use Rattle.node_table.specs.Service.{move_at, move_by}

@@ -4,7 +4,7 @@ use Rattle.std.specs.Prelude.{Some, IsSome, slice_index_or}
 use Rattle.std.specs.List.{Contains}
 use Rattle.std.proofs.lemmas.Bool.{eqb-true, eq-eqb}
 use Rattle.node_table.specs.declared.parts.Parts.{Parts}
-use Rattle.node_table.specs.declared.parts.Entry.{Entry}
+use Rattle.node_table.specs.Entry.{Entry}
 use Rattle.node_table.specs.Tables.{entries_at, first_entry, roots_of}
 use Rattle.node_table.specs.Checks.{k1}
 use Rattle.node_table.specs.Laws.{AreTreesOf}

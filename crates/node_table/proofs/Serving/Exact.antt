@@ -1,7 +1,7 @@
 -- What the rules say of distances: the entries for a landmark are exact, and so are those of a cluster.
 use Rattle.std.proofs.Common.{◌≡◌, ℕ, zero, suc, ◌+◌, ◌≤◌, ◌<◌, ◌⊎◌, inl, inr, Bool, true, false, sym, refl, ap, subst, ◌∙◌, arith}
 use Rattle.std.specs.Prelude.{Option, Some, None}
-use Rattle.node_table.specs.declared.parts.Entry.{Entry}
+use Rattle.node_table.specs.Entry.{Entry}
 use Rattle.distances.specs.declared.nearest.Near.{Near}
 use Rattle.graph_edits.specs.Edges.{Network, IsSound, weight_in}
 use Rattle.node_table.proofs.Basics.Options.{same_value, not_none}

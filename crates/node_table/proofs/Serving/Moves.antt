@@ -6,7 +6,7 @@ use Rattle.std.proofs.lemmas.Bool.Decides.{nat_tests}
 use Rattle.graph_edits.specs.Edges.{Network, neighbours_of}
 use Rattle.heavy_labels.specs.Numbering.{Step, arrived, port, no_parent, no_light, step}
 use Rattle.heavy_labels.specs.Stepped.{record_of}
-use Rattle.node_table.specs.declared.parts.Entry.{Entry}
+use Rattle.node_table.specs.Entry.{Entry}
 use Rattle.node_table.specs.declared.packet.Packet.{Packet}
 use Rattle.node_table.specs.declared.packet.Move.{Move}
 use Rattle.node_table.specs.declared.packet.Move.TheVariants.{Delivered, Forward}

@@ -6,7 +6,7 @@ use Rattle.std.proofs.lemmas.Bool.{lt-ltb, eqb-true}
 use Rattle.heavy_labels.specs.Numbering.{Place, arrived, port, step, Follows, Joins}
 use Rattle.heavy_labels.specs.Stepped.{record_of}
 use Rattle.node_table.proofs.Basics.Options.{not_none}
-use Rattle.node_table.specs.declared.parts.Entry.{Entry}
+use Rattle.node_table.specs.Entry.{Entry}
 use Rattle.graph_edits.specs.Edges.{Network}
 use Rattle.node_table.specs.Ports.{index_of, neighbours, port_to}
 use Rattle.node_table.specs.Tables.{Tables}

@@ -6,7 +6,7 @@ use Rattle.route_tree.specs.Rose.{count, tree_size}
 use Rattle.heavy_labels.specs.Label.{Label}
 use Rattle.heavy_labels.specs.Numbering.{Line, Place, Follows, Way}
 use Rattle.heavy_labels.proofs.Walks.{tree_way}
-use Rattle.node_table.specs.declared.parts.Entry.{Entry}
+use Rattle.node_table.specs.Entry.{Entry}
 use Rattle.graph_edits.specs.Edges.{Network}
 use Rattle.graph_edits.specs.Walks.{IsWalk, walk_length}
 use Rattle.node_table.proofs.Basics.Walks.{IsTrail, trail_walk}

@@ -10,4 +10,4 @@ unfolding IsClosedOver
 returns-in-Some c =
     let o = (tables c.args.scheme.now).entry c.args.edge.0 c.args.entry.now.root in
     found_first o c.in-Some.there.now (λ g. g.distance ≤ c.args.entry.now.distance + c.args.edge.1) _ c.is_at_most.result
-    (subst (λ b. MatchOption b (o ≡ None) (λ f. o ≡ Some f.now)) c.in-Some.is c.requires) c.is_at_most.ensures
+    (subst (λ b. MatchOption b (o ≡ None) (λ f. o ≡ Some f.now)) c.in-Some.is c.requires) (rw (c.distance.ensures, c.distance-in-Some.ensures) at c.is_at_most.ensures)

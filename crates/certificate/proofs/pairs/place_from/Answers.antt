@@ -8,5 +8,5 @@ loop-at-preserved c =
     let e = ap (λ z. z.root) c.index-there-at.is in
     record {
       within = omega (arith, c.loop-at-test.true);
-      below = below_more c.args.there.now c.args.root c.loop-at.at there c.loop-at.invariant.below c.loop-at-test.true (omega (arith, e, c.if-there-at.true));
+      below = below_more c.args.there.now c.args.root c.loop-at.at there c.loop-at.invariant.below c.loop-at-test.true (omega (arith, e, c.root.ensures, c.if-root.true));
     }

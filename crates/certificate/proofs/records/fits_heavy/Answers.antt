@@ -14,11 +14,13 @@ returns-then-fits_first c =
     let e = c.args.entry.now in
     let k = record_of e.tree_record in
     let ys = others t e.root c.args.x c.args.heavy (neighbours c.args.graph.now c.args.x) in
-    let start = ap (λ o. (record_or o).last + 1) c.in-Some.ensures in
+    let there = rw c.root-root.ensures at c.in-Some.ensures in
+    let start = ap (λ o. (record_or o).last + 1) there in
+    let fit = rw (c.root-root.ensures, c.tree_record-record.ensures, c.tree_record.ensures) at c.are_others_fit.ensures in
     let row = row_first c.args.graph.now t e.root k c.args.heavy ys in
-    let first = c.fits_first.ensures t c.in-Some.ensures in (
-      λ b. row.1 (first.0 c.if-fits_first.true, subst (λ s. IsRow c.args.graph.now t e.root false s k.light_depth (k.last + 1) ys) (sym start) (c.are_others_fit.ensures.0 b)),
-      λ f. c.are_others_fit.ensures.1 (subst (λ s. IsRow c.args.graph.now t e.root false s k.light_depth (k.last + 1) ys) start (row.0 f).1),
+    let first = c.fits_first.ensures t there in (
+      λ b. row.1 (first.0 c.if-fits_first.true, subst (λ s. IsRow c.args.graph.now t e.root false s k.light_depth (k.last + 1) ys) (sym start) (fit.0 b)),
+      λ f. fit.1 (subst (λ s. IsRow c.args.graph.now t e.root false s k.light_depth (k.last + 1) ys) start (row.0 f).1),
     )
 
 pub returns-else-fits_first : goal.returns-else-fits_first
@@ -27,5 +29,5 @@ returns-else-fits_first c =
     let e = c.args.entry.now in
     let ys = others t e.root c.args.x c.args.heavy (neighbours c.args.graph.now c.args.x) in
     let row = row_first c.args.graph.now t e.root (record_of e.tree_record) c.args.heavy ys in
-    let first = c.fits_first.ensures t c.in-Some.ensures in
+    let first = c.fits_first.ensures t (rw c.root-root.ensures at c.in-Some.ensures) in
     (λ b. absurd (fails c.fits_first.result first c.if-fits_first.false (first.0 b)), λ f. first.1 (row.0 f).0)

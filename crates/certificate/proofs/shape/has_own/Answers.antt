@@ -1,9 +1,9 @@
-use Rattle.std.proofs.Common.{◌≡◌, rules}
+use Rattle.std.proofs.Common.{◌≡◌, ◌∙◌, rules, sym}
 use Rattle.std.specs.Prelude.{None}
 use Rattle.certificate.proofs.Found.{found, and_more}
 use Rattle.certificate.specs.Entries.{HasOwn}
 use Rattle.certificate.proofs.shape.has_own.Goals as goal
 
-pub returns-then-entry-eq0 : goal.returns-then-entry-eq0
+pub returns-then-distance-eq0 : goal.returns-then-distance-eq0
 unfolding HasOwn
-returns-then-entry-eq0 c = found _ _ (λ e. (e.distance ≡ 0) × (e.parent ≡ None)) _ c.in-Some.ensures (and_more _ c.if-entry-eq0.true (search rules))
+returns-then-distance-eq0 c = found _ _ (λ e. (e.distance ≡ 0) × (e.parent ≡ None)) _ c.in-Some.ensures (and_more _ (sym c.distance.ensures ∙ c.if-distance-eq0.true) (search (rules, c.parent.ensures)))
