@@ -7,11 +7,11 @@ use Rattle.device_files.specs.declared.file.Lock.{Lock}
 
 -- its lock
 abbrev pub lock_of : DeviceFile → Lock
-lock_of device = device.lock
+lock_of device = device.held.lock
 
 -- it is the disk on its file
 abbrev pub device_view : DeviceFile → DiskView
-device_view device = file_view device.disk
+device_view device = file_view device.held.disk
 
 pub device_present : (device : DeviceFile) → IsTrue (device_view device).keeps_model → MayLeave (device_view device) (device_view device).content
-device_present device model = file_present device.disk model
+device_present device model = file_present device.held.disk model

@@ -1,16 +1,13 @@
 //! A disk on a file that is locked.
 ghost use Rattle.std.specs.Prelude.{◌≡◌, IfOk};
 
+use crate::held::{Held, filled, locked};
 use crate::refused::FileRefused;
 use disk_trait::{DeviceFault, Disk, FileDisk};
-use std::fs::{File, OpenOptions, TryLockError};
+use std::fs::{File, OpenOptions};
 use std::io;
-use std::os::unix::fs::FileExt;
 use std::path::Path;
 use std::rt::Files;
-
-// How many zeros are written at a time.
-const PART_LEN: usize = 16_384;
 
 /// Whom a lock keeps out.
 #[derive(Clone, Copy, Debug, PartialEq, Eq, Drop)]
@@ -26,32 +23,7 @@ pub enum Lock {
 /// It is a disk as `FileDisk` is one: what the file holds isn't claimed by any clause.
 #[derive(Drop)]
 pub struct DeviceFile {
-    disk: FileDisk,
-    lock: Lock,
-}
-
-// Takes a lock on an open file, without waiting.
-fn take(file: &File, lock: Lock) -> Result<(), FileRefused> {
-    let taken = match lock {
-        Lock::Alone => file.try_lock(),
-        Lock::Shared => file.try_lock_shared(),
-    };
-    match taken {
-        Ok(()) => Ok(()),
-        Err(TryLockError::WouldBlock) => Err(FileRefused::InUse),
-        Err(TryLockError::Error(_)) => Err(FileRefused::Unusable),
-    }
-}
-
-// Empties a file, fills it with so many zeros, and syncs it.
-fn fill(file: &File, len: usize) -> io::Result<()> {
-    let zeros = [0; PART_LEN];
-    file.set_len(0)?;
-    for at in (0..len).step_by(PART_LEN) {
-        let part = PART_LEN.min(len - at);
-        file.write_all_at(&zeros[..part], at as u64)?;
-    }
-    file.sync_all()
+    held: Held<FileDisk>,
 }
 
 // Syncs the folder in which a file stands, so that its name is kept.
@@ -69,15 +41,6 @@ fn sync_folder<R: Files<File = File>>(files: &R, path: &str) -> io::Result<()> {
 impl DeviceFile {
     ghost use Rattle.device_files.specs.DeviceFiles.{lock_of};
 
-    // The disk of an open file, under this lock.
-    fn locked(file: File, lock: Lock) -> Result<DeviceFile, FileRefused>
-        ensures { IfOk result (λ device. lock_of device ≡ lock) }
-    {
-        take(&file, lock)?;
-        let disk = FileDisk::new(file)?;
-        Ok(DeviceFile { disk, lock })
-    }
-
     // The disk of a file that these options make or open, which is emptied and filled with so many zeros once it is locked alone.
     fn filled<R: Files<File = File>>(
         files: &R,
@@ -88,14 +51,9 @@ impl DeviceFile {
         ensures { IfOk result (λ device. lock_of device ≡ Lock.Alone) }
     {
         let file = options.read(true).write(true).open(files, path)?;
-        take(&file, Lock::Alone)?;
-        fill(&file, len)?;
+        let held = filled(file, len)?;
         sync_folder(files, path)?;
-        let disk = FileDisk::new(file)?;
-        Ok(DeviceFile {
-            disk,
-            lock: Lock::Alone,
-        })
+        Ok(DeviceFile { held })
     }
 
     /// Opens a file that is there, for reading and writing, and locks it alone.
@@ -103,7 +61,8 @@ impl DeviceFile {
         ensures alone { IfOk result (λ device. lock_of device ≡ Lock.Alone) }
     {
         let file = OpenOptions::new().read(true).write(true).open(files, path)?;
-        DeviceFile::locked(file, Lock::Alone)
+        let held = locked(file, Lock::Alone)?;
+        Ok(DeviceFile { held })
     }
 
     /// Opens a file that is there, for reading only, and locks it shared with other readers. A write to this disk fails.
@@ -118,7 +77,8 @@ impl DeviceFile {
         if file.metadata()?.is_dir() {
             return Err(FileRefused::Unusable);
         }
-        DeviceFile::locked(file, Lock::Shared)
+        let held = locked(file, Lock::Shared)?;
+        Ok(DeviceFile { held })
     }
 
     /// Makes a file of so many zeros, in the place of what stands there, and locks it alone. What stands there is emptied only once
@@ -148,7 +108,7 @@ impl DeviceFile {
     pub fn lock(&self) -> Lock
         ensures { result ≡ lock_of self.now }
     {
-        self.lock
+        self.held.lock()
     }
 }
 
@@ -160,18 +120,18 @@ impl Disk for DeviceFile {
     ghost present = { device_present };
 
     fn len(&self) -> usize {
-        self.disk.len()
+        self.held.disk.len()
     }
 
     fn read(&mut self, at: usize, bytes: &mut [u8]) -> Result<(), DeviceFault> {
-        self.disk.read(at, bytes)
+        self.held.disk.read(at, bytes)
     }
 
     fn write_at(&mut self, at: usize, bytes: &[u8]) -> Result<(), DeviceFault> {
-        self.disk.write_at(at, bytes)
+        self.held.disk.write_at(at, bytes)
     }
 
     fn sync(&mut self) -> Result<(), DeviceFault> {
-        self.disk.sync()
+        self.held.disk.sync()
     }
 }

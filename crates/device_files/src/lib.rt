@@ -18,7 +18,8 @@
 //! A file that is made gets all its zeros, so that a full disk shows at once. Then the file is synced, and then the folder in which
 //! it stands, so that a power cut doesn't take the file's name away.
 //!
-//! The contract that the layer above uses: which lock a `DeviceFile` has (`lock_of`), and that it is a disk as `FileDisk` is one.
+//! The contract that the layer above uses: which lock a `DeviceFile` has (`lock_of`), and that it is a disk as `FileDisk` is one. That
+//! the lock was taken on this very file, before its disk was made or it was emptied, is proved over files of any kind (`held.rt`).
 //! What the system does on `flock` and `fsync` is believed, and tested.
 //!
 //! ```text
@@ -28,6 +29,7 @@
 #![tactic(auto)]
 
 mod file;
+mod held;
 mod refused;
 
 pub use file::{DeviceFile, Lock};

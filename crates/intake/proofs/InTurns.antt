@@ -13,7 +13,7 @@ use Rattle.requests.specs.Requests.{asked_by}
 use Rattle.requests.specs.declared.request.Request.{Request}
 use Rattle.requests.proofs.TicketLemmas.{same_at, other_at, set_wide, rises_first, rises_next, either_same}
 use Rattle.intake.specs.declared.queue.View.{View}
-use Rattle.intake.specs.Turns.{of, last_or_start, idle, taker, opener, editor, taken, missed, both, IsSeat, FitsEditor, FitsTaker, AreWithin, KnowsAll, LacksEditor, Holds}
+use Rattle.intake.specs.Turns.{of, last_or_start, idle, taker, opener, editor, taken, missed, both, IsSeat, FitsEditor, FitsTaker, AreWithin, KnowsAll, LacksEditor, LetsCount, Holds}
 
 ne_test : (a b : ℕ) → a ≢ b → (a == b) ≡ false
 ne_test a b n = grind (arith, nat_tests)
@@ -109,9 +109,9 @@ all_set F views pass w mine others j u e = ⊎_elim (λ (x : (j ≡ pass) × (w 
 along : (reader : ℕ) (starts : List ℕ) (seat : ℕ → Option ℕ) (got xs ys : List Request) (pass : ℕ) (v : View) → xs ≡ ys → Fits reader starts seat got xs pass v → Fits reader starts seat got ys pass v
 along reader starts seat got xs ys pass v e f = subst (λ (l : List Request). Fits reader starts seat got l pass v) e f
 
-pub puts : (n pass : ℕ) (v : View) (r : Request) → v.sends ≡ true → r.session ≡ v.session → last_or_start v.start v.put < r.ticket → r.ticket ≤ worn_limit → Pushes Holds n pass v r (λ w. w ≡ editor v.session v.start (v.put ++ r ∷ []) v.misses)
+pub puts : (n pass : ℕ) (v : View) (r : Request) → v.sends ≡ true → r.session ≡ v.session → last_or_start v.start v.put < r.ticket → r.ticket ≤ worn_limit → Pushes Holds n pass v r (λ w. w ≡ editor v.session v.start (v.put ++ r ∷ []))
 puts n pass v r sends own ticket fits items views _ h at =
-    let w : View = editor v.session v.start (v.put ++ r ∷ []) v.misses in
+    let w : View = editor v.session v.start (v.put ++ r ∷ []) in
     let all = h.3 ++ items in
     let same : all ++ r ∷ [] ≡ h.3 ++ (items ++ r ∷ []) = append_assoc h.3 items (r ∷ []) in
     let mine = (h.4 pass v at).0 sends in
@@ -187,10 +187,10 @@ lacks_before first made s lacks = ⊎_elim (λ (less : s < first). inl less) (λ
 lacks_other : (first made s : ℕ) → first ≤ made → LacksEditor first (made + 1) s → s ≢ made
 lacks_other first made s ordered lacks is = ⊎_elim (λ (less : s < first). omega (arith, ordered, less, is)) (λ (le : made + 1 ≤ s). omega (arith, le, is)) lacks
 
-pub seats : (pass : ℕ) (v : View) → v.takes ≡ true → v.first ≤ v.made → v.made < sessions → v.made < length v.starts → Forks Holds pass v (taker v.first (v.made + 1) v.starts v.got v.misses) (editor v.made (last_of v.starts v.made) [] [])
+pub seats : (pass : ℕ) (v : View) → v.takes ≡ true → v.first ≤ v.made → v.made < sessions → v.made < length v.starts → Forks Holds pass v (taker v.first (v.made + 1) v.starts v.got) (editor v.made (last_of v.starts v.made) [])
 seats pass v may ordered there_is within items views h at =
-    let l : View = taker v.first (v.made + 1) v.starts v.got v.misses in
-    let e' : View = editor v.made (last_of v.starts v.made) [] [] in
+    let l : View = taker v.first (v.made + 1) v.starts v.got in
+    let e' : View = editor v.made (last_of v.starts v.made) [] in
     let vs = set views pass l in
     let n = length vs in
     let all = h.3 ++ items in
@@ -226,9 +226,9 @@ pub begins : Holds [] (opener [] 0 ∷ [])
 begins = (0, [], (λ s. none), [], (λ pass v at. begins_at pass v at), tt, tt)
 
 -- before there is an editor, the next session may be left without one
-pub skips : (pass : ℕ) (v : View) → v.takes ≡ true → v.first ≡ v.made → Forks Holds pass v (taker (v.made + 1) (v.made + 1) v.starts v.got v.misses) idle
+pub skips : (pass : ℕ) (v : View) → v.takes ≡ true → v.first ≡ v.made → Forks Holds pass v (taker (v.made + 1) (v.made + 1) v.starts v.got) idle
 skips pass v may none_made items views h at =
-    let l : View = taker (v.made + 1) (v.made + 1) v.starts v.got v.misses in
+    let l : View = taker (v.made + 1) (v.made + 1) v.starts v.got in
     let vs = set views pass l in
     let all = h.3 ++ items in
     let mine = (h.4 pass v at).1 may in
@@ -311,14 +311,12 @@ knows pass v may items views h at =
 pub waits : (pass : ℕ) (v : View) → v.sends ≡ true → Learns Holds pass v (λ items. (got : List Request) × (v.put ≡ of v.session (got ++ items)))
 waits pass v sends items views h at = (h.3, ((h.4 pass v at).0 sends).1)
 
--- a pass notes that it found the queue full, or empty
-pub notes : (pass : ℕ) (v : View) → Forks Holds pass v (missed v) idle
-notes pass v items views h at =
-    let l : View = missed v in
+-- what of a pass decides whether it fits is as it was
+stays : (pass : ℕ) (v l : View) → ((reader : ℕ) (starts : List ℕ) (seat : ℕ → Option ℕ) (got all : List Request) → Fits reader starts seat got all pass v → Fits reader starts seat got all pass l) → Forks Holds pass v l idle
+stays pass v l fits items views h at =
     let vs = set views pass l in
     let all = h.3 ++ items in
-    let here : Fits h.0 h.1 h.2 h.3 all pass l = h.4 pass v at in
-    let old : All (Fits h.0 h.1 h.2 h.3 all) vs = all_set (Fits h.0 h.1 h.2 h.3 all) views pass l here (λ j u away e. h.4 j u e) in (
+    let old : All (Fits h.0 h.1 h.2 h.3 all) vs = all_set (Fits h.0 h.1 h.2 h.3 all) views pass l (fits h.0 h.1 h.2 h.3 all (h.4 pass v at)) (λ j u away e. h.4 j u e) in (
       h.0,
       h.1,
       h.2,
@@ -329,3 +327,7 @@ notes pass v items views h at =
       h.5,
       h.6,
     )
+
+-- the rule says nothing of a count
+pub counts : LetsCount Holds
+counts pass v = (stays pass v v (λ reader starts seat got all f. f), stays pass v (missed v) (λ reader starts seat got all f. f))

@@ -4,6 +4,11 @@ use Rattle.atomic_table.specs.Seated.{TableId}
 use Rattle.requests.specs.declared.request.Request.{Request}
 use Rattle.intake.specs.Turns.{of, AreFrom, AreOfEditors}
 
+-- how often an end of this queue found it full, or empty
+pub record Missing : Type 0 where
+  pub queue : TableId
+  pub number : ℕ
+
 -- what contracts see of the queue's end of one editor
 pub record Sending : Type 0 where
   pub queue : TableId

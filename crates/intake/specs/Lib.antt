@@ -1,5 +1,6 @@
 pub mod Turns
 pub mod Ends
+pub mod Counts
 pub mod Insides
 pub mod Outcomes
 pub mod Watchers

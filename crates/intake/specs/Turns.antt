@@ -5,6 +5,8 @@ use Rattle.std.specs.List.{last_or, AllByRecursion}
 use Rattle.std.specs.Option.{unwrap_or}
 use mathlib.Core.Option.{Option, none, some}
 use lib.ListN.{get_elem?}
+use Rattle.atomic_table.specs.Seated.{TableId}
+use Rattle.crossbeam_queue.specs.Fifo.{Forks}
 use Rattle.graph_edits.specs.declared.edits.Op.{Op}
 use Rattle.requests.specs.Tickets.{sessions, worn_limit, last_of, Rises}
 use Rattle.requests.specs.Requests.{asked_by}
@@ -32,22 +34,22 @@ abbrev pub idle : View
 idle = record { sends = false; session = 0; start = 0; put = []; takes = false; first = 0; made = 0; starts = []; next = 0; got = []; misses = [] }
 
 -- the taker
-abbrev pub taker : ℕ → ℕ → List ℕ → List Request → List ℕ → View
-taker first made starts got misses = record { sends = false; session = 0; start = 0; put = []; takes = true; first = first; made = made; starts = starts; next = 0; got = got; misses = misses }
+abbrev pub taker : ℕ → ℕ → List ℕ → List Request → View
+taker first made starts got = record { sends = false; session = 0; start = 0; put = []; takes = true; first = first; made = made; starts = starts; next = 0; got = got; misses = [] }
 
 -- the taker before there is an editor, while the starts are told
 abbrev pub opener : List ℕ → ℕ → View
 opener starts next = record { sends = false; session = 0; start = 0; put = []; takes = true; first = 0; made = 0; starts = starts; next = next; got = []; misses = [] }
 
 -- an editor
-abbrev pub editor : ℕ → ℕ → List Request → List ℕ → View
-editor session start put misses = record { sends = true; session = session; start = start; put = put; takes = false; first = 0; made = 0; starts = []; next = 0; got = []; misses = misses }
+abbrev pub editor : ℕ → ℕ → List Request → View
+editor session start put = record { sends = true; session = session; start = start; put = put; takes = false; first = 0; made = 0; starts = []; next = 0; got = []; misses = [] }
 
 -- one request more was taken
 abbrev pub taken : View → Request → View
 taken v r = record { sends = v.sends; session = v.session; start = v.start; put = v.put; takes = v.takes; first = v.first; made = v.made; starts = v.starts; next = v.next; got = v.got ++ r ∷ []; misses = v.misses }
 
--- the queue was found full, or empty, once more
+-- a pass that counts found the queue full, or empty, once more
 abbrev pub missed : View → View
 missed v = record { sends = v.sends; session = v.session; start = v.start; put = v.put; takes = v.takes; first = v.first; made = v.made; starts = v.starts; next = v.next; got = v.got; misses = v.misses ++ 0 ∷ [] }
 
@@ -63,11 +65,12 @@ AreOfEditors made all = (s : ℕ) → made ≤ s → of s all ≡ []
 abbrev pub AreFrom : ℕ → List Request → Type 0
 AreFrom first all = (s : ℕ) → s < first → of s all ≡ []
 
--- At some moment requests waited. What had been taken by then, followed by what waited, has of this session just what its editor had put.
-pub record HasWaited (session : ℕ) (put : List Request) : Type 0 where
+-- At some moment a request waited in each place of the queue. What had been taken by then, followed by what waited, has of this
+-- session just what its editor had put.
+pub record HasWaited (queue : TableId) (session : ℕ) (put : List Request) : Type 0 where
   pub got : List Request
   pub waits : List Request
-  pub some : 0 < length waits
+  pub full : length waits ≡ queue.slots
   pub own : put ≡ of session (got ++ waits)
 
 -- what the taker knows of all that was put: of the editor that it took in, just what that one put, and of a session without an editor nothing
@@ -101,3 +104,7 @@ Holds items views =
     × ((pass : ℕ) (v : View) → get_elem? views pass ≡ some v → FitsEditor starts seat (got ++ items) pass v × FitsTaker reader starts seat got (got ++ items) pass v)
     × Rises starts (map asked_by (got ++ items))
     × AreWithin (got ++ items)
+
+-- the rule lets a pass go on as it was beside a new one that takes no part, and lets it count
+abbrev pub LetsCount : (List Request → List View → Type 0) → Type 0
+LetsCount holds = (pass : ℕ) (v : View) → Forks holds pass v v idle × Forks holds pass v (missed v) idle

@@ -112,8 +112,8 @@ impl Editor {
         ensures let_in { OnOk result (refusal_by self.new.known self.old ticket ≡ None) }
         ensures refusal { IfErr result (λ e. IsRefused self.new.known self.old ticket e.0) }
         ensures full { IfErr result (λ e. e.0 ≡ QueueFull → self.new.fulls ≡ self.old.fulls + 1) }
-        // A queue that was found full held requests.
-        ensures waited { IfErr result (λ e. e.0 ≡ QueueFull → HasWaited self.old.session self.old.put) }
+        // A queue that was found full held a request in each place.
+        ensures waited { IfErr result (λ e. e.0 ≡ QueueFull → HasWaited self.old.queue self.old.session self.old.put) }
     {
         match self.judge(ticket) {
             Err(_) => Err((SubmitRefused::BoardShut, change)),
@@ -136,7 +136,7 @@ impl Editor {
         ensures adds_nothing { OnErr result (self.new.put ≡ self.old.put) }
         ensures back { IfErr result (λ e. (e.0 ≡ QueueFull) × (e.1 ≡ change)) }
         ensures full { OnErr result (self.new.fulls ≡ self.old.fulls + 1) }
-        ensures waited { OnErr result (HasWaited self.old.session self.old.put) }
+        ensures waited { OnErr result (HasWaited self.old.queue self.old.session self.old.put) }
     {
         let request = Request {
             session: self.sender.session(),

@@ -41,6 +41,7 @@
 #![tactic(auto)]
 
 mod editor;
+mod misses;
 mod open;
 mod outcome;
 mod queue;

@@ -8,6 +8,7 @@ ghost use Rattle.requests.specs.declared.request.Request.{Request};
 ghost use Rattle.intake.specs.Turns.{HasWaited, opener, of, last_or_start};
 ghost use Rattle.intake.specs.Ends.{HasAll, AreAll, AreAllWithWaiting, CountsEmpty, CountsFull, HasTaken, IsSameSender, IsSameTaker, PutsOrGivesBack, seated, with_ended};
 
+use crate::misses::Misses;
 use crossbeam_queue::protocol::{Join, Lesson, Outcome, Protocol, Split};
 use crossbeam_queue::{Pass, RuledArrayQueue};
 use requests::{Request, SESSIONS};
@@ -31,7 +32,7 @@ pub struct View {
     /// The start of the next session, as far as it is told.
     pub next: u64,
     pub got: LinkedList<Request>,
-    /// One for each time that the queue was found full, or empty.
+    /// One for each time that the queue was found full, or empty: of a pass that only counts.
     pub misses: LinkedList<u8>,
 }
 
@@ -53,7 +54,7 @@ impl Outcome<Request, View> for Puts {
     ghost use Rattle.std.specs.Prelude.{◌≡◌, ◌++◌, ◌∷◌, []};
     ghost use Rattle.intake.specs.Turns.{editor};
 
-    ghost then = { λ v r w. w ≡ editor v.session v.start (v.put ++ r ∷ []) v.misses };
+    ghost then = { λ v r w. w ≡ editor v.session v.start (v.put ++ r ∷ []) };
 }
 
 // At a full queue the editor's requests are among what was taken and what waits.
@@ -83,17 +84,6 @@ impl Lesson<Request, View> for Takes {
     ghost use Rattle.intake.specs.Turns.{KnowsAll};
 
     ghost fact = { λ v items. KnowsAll v (v.got ++ items) };
-}
-
-// A pass notes that it found the queue full, or empty.
-struct Misses;
-
-impl Split<View> for Misses {
-    ghost use Rattle.intake.specs.Turns.{missed, idle};
-
-    ghost left = { missed };
-
-    ghost right = { λ v. idle };
 }
 
 // The start that is being told is twice as great.
@@ -139,7 +129,7 @@ impl Split<View> for Skips {
     ghost use Rattle.std.specs.Prelude.{◌+◌};
     ghost use Rattle.intake.specs.Turns.{taker, idle};
 
-    ghost left = { λ v. taker (v.made + 1) (v.made + 1) v.starts v.got v.misses };
+    ghost left = { λ v. taker (v.made + 1) (v.made + 1) v.starts v.got };
 
     ghost right = { λ v. idle };
 }
@@ -151,9 +141,9 @@ impl Split<View> for Seats {
     ghost use Rattle.requests.specs.Tickets.{last_of};
     ghost use Rattle.intake.specs.Turns.{taker, editor};
 
-    ghost left = { λ v. taker v.first (v.made + 1) v.starts v.got v.misses };
+    ghost left = { λ v. taker v.first (v.made + 1) v.starts v.got };
 
-    ghost right = { λ v. editor v.made (last_of v.starts v.made) [] [] };
+    ghost right = { λ v. editor v.made (last_of v.starts v.made) [] };
 }
 
 pub type Line = RuledArrayQueue<Request, View, InTurn>;
@@ -163,6 +153,7 @@ pub type Line = RuledArrayQueue<Request, View, InTurn>;
 pub struct Sender {
     queue: Arc<Line, Global>,
     pass: Pass<Request, View>,
+    misses: Misses,
     session: u8,
     start: u64,
 }
@@ -183,6 +174,7 @@ impl Model for Sender {
 pub struct Taker {
     queue: Arc<Line, Global>,
     pass: Pass<Request, View>,
+    misses: Misses,
 }
 
 impl Model for Taker {
@@ -219,21 +211,19 @@ impl Sender {
         ensures same { IsSameSender self.old self.new }
         ensures put { PutsOrGivesBack self.old.put self.new.put request result }
         ensures full { CountsFull self.old.fulls self.new.fulls result }
-        ensures waited { OnErr result (HasWaited self.old.session self.old.put) }
+        ensures waited { OnErr result (HasWaited self.old.queue self.old.session self.old.put) }
     {
-        let put = self.queue.push_as::<Puts, R>(rt, &mut self.pass, request);
-        if put.is_err() {
-            let _noted = self.queue.another::<Misses>(&mut self.pass);
-        }
-        put
+        let queue = &self.queue;
+        let pass = &mut self.pass;
+        self.misses.push::<_, Puts, R>(rt, queue, pass, request)
     }
 }
 
 impl Taker {
-    // Takes the request at the front, and notes nothing.
+    // Takes the request at the front.
     fn pop<R: Wait>(&mut self, rt: &R) -> Option<Request>
         ensures same { IsSameTaker self.old self.new }
-        ensures empties { self.new.empties ≡ self.old.empties }
+        ensures empty { CountsEmpty self.old.empties self.new.empties result }
         ensures first { self.new.first ≡ self.old.first }
         ensures made { self.new.made ≡ self.old.made }
         ensures ended { self.new.ended ≡ self.old.ended }
@@ -243,7 +233,9 @@ impl Taker {
         ensures all { MatchOption result (AreAll self.new self.new.got) (λ _. AreAllWithWaiting self.new) }
         ensures within { IfSome result (λ r. r.ticket ≤ worn_limit) }
     {
-        self.queue.pop_as::<Takes, R>(rt, &mut self.pass)
+        let queue = &self.queue;
+        let pass = &mut self.pass;
+        self.misses.pop::<_, Takes, R>(rt, queue, pass)
     }
 
     /// Takes the request at the front. Where the queue was found empty there is none, and all that the editor submitted that was
@@ -259,11 +251,7 @@ impl Taker {
         ensures none_left { IsNone result → HasAll self.new.ended self.new.got }
         ensures within { IfSome result (λ r. r.ticket ≤ worn_limit) }
     {
-        let taken = self.pop(rt);
-        if taken.is_none() {
-            let _noted = self.queue.another::<Misses>(&mut self.pass);
-        }
-        taken
+        self.pop(rt)
     }
 }
 
@@ -311,7 +299,12 @@ pub(crate) fn open_queue(
     let (line, mut pass) = Line::ruled(alloc, capacity)?;
     let queue = Arc::new(alloc, line)?;
     tell_all(&queue, &mut pass, starts);
-    Ok(Taker { queue, pass })
+    let misses = Misses::of(&queue, &mut pass);
+    Ok(Taker {
+        queue,
+        pass,
+        misses,
+    })
 }
 
 impl Taker {
@@ -338,10 +331,12 @@ impl Taker {
         ensures sender { IfOk result (λ e. e ≡ seated self.old.queue session start) }
     {
         let queue = Arc::try_clone(&self.queue)?;
-        let pass = self.queue.another::<Seats>(&mut self.pass);
+        let mut pass = self.queue.another::<Seats>(&mut self.pass);
+        let misses = Misses::of(&queue, &mut pass);
         Ok(Sender {
             queue,
             pass,
+            misses,
             session,
             start,
         })
@@ -377,6 +372,7 @@ impl Taker {
         let Sender {
             queue: _,
             pass,
+            misses: _,
             session: _,
             start: _,
         } = sender;

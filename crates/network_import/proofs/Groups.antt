@@ -99,3 +99,10 @@ left_behind old mid new edges group k d n (RefusedOp place code) at_front is few
 left_behind old mid new edges group k d n Device at_front is few taken same why = (k, subst (λ (m : ℕ). HasTaken old edges m new) at_front (subst (HasTaken old edges d) (sym same) taken))
 left_behind old mid new edges group k d n Memory at_front is few taken same why = (k, subst (λ (m : ℕ). HasTaken old edges m new) at_front (subst (HasTaken old edges d) (sym same) taken))
 left_behind old mid new edges group k d n Worn at_front is few taken same why = (k, subst (λ (m : ℕ). HasTaken old edges m new) at_front (subst (HasTaken old edges d) (sym same) taken))
+
+-- only worn is told as worn
+pub worn_behind : (done : ℕ) (e : ImportRefused) → moved_behind done e ≡ Worn → e ≡ Worn
+worn_behind done (RefusedOp place code) is = absurd (cc)
+worn_behind done Device is = absurd (cc)
+worn_behind done Memory is = absurd (cc)
+worn_behind done Worn is = refl

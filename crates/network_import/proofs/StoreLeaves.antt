@@ -15,6 +15,7 @@ use Rattle.layout_2.specs.State.{State, after, asked, changes_of, state_with}
 use Rattle.layout_2.specs.Standing.{StandsFor}
 use Rattle.checkpoint.specs.StoreWords.{IsDurable, state_of, view_of, is_down, stands_now}
 use Rattle.network_import.specs.Imported.{HasTaken, HasTakenGroups, IsCutOff, StandsForFront, StandsForOneMore, front_of}
+use Rattle.network_import.specs.Limits.{IsPastLimits}
 use Rattle.network_import.proofs.Groups.{taken_both, taken_none}
 
 -- ---- one group
@@ -102,3 +103,13 @@ cut_off_at old mid new edges group k d now disk at same is taken run =
       taken = subst (λ (m : ℕ). HasTaken old edges m new) at (subst (λ (s : State). HasTaken old edges d s) (sym same) taken);
       left = λ image left. subst (λ (l : List Edge). StandsForOneMore new l image) next (subst (λ (s : State). StandsForOneMore s group image) (sym same) (run.now image left));
     }
+
+-- where the next group is past a limit
+pub stopped_at : {D : Type 0} {V : _} → (old mid new : Store D V) (edges group : List Edge) (k d : ℕ) → d ≡ front_of edges k → new ≡ mid → group ≡ take 1024 (drop d edges) → HasTaken (state_of old) edges d (state_of mid)
+    → IsPastLimits mid group → (groups : ℕ) × HasTakenGroups (state_of old) edges groups (state_of new) × IsPastLimits new (take 1024 (drop (front_of edges groups) edges))
+stopped_at {D} {V} old mid new edges group k d at same is taken past =
+    let next : group ≡ take 1024 (drop (front_of edges k) edges) = is ∙ ap (λ (m : ℕ). take 1024 (drop m edges)) at in (
+      k,
+      subst (λ (m : ℕ). HasTaken (state_of old) edges m (state_of new)) at (subst (λ (s : Store D V). HasTaken (state_of old) edges d (state_of s)) (sym same) taken),
+      subst (λ (l : List Edge). IsPastLimits new l) next (subst (λ (s : Store D V). IsPastLimits s group) (sym same) past),
+    )

@@ -1,3 +1,4 @@
 pub mod Imported
 pub mod Leaves
 pub mod Order
+pub mod Limits

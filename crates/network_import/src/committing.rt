@@ -1,5 +1,5 @@
 // Committing a group that was judged.
-ghost use Rattle.std.specs.Prelude.{◌≡◌, ◌≤◌, Some, IfErr, IsSome, OnErr, OnOk, false, length};
+ghost use Rattle.std.specs.Prelude.{◌≡◌, ◌≤◌, Some, IfErr, IsErrOf, IsSome, OnErr, OnOk, false, length};
 ghost use Rattle.graph_edits.specs.Changes.{fold};
 ghost use Rattle.journal.specs.Layout.{most_entries};
 ghost use Rattle.layout_2.specs.State.{AreInTurn, after, changes_of};
@@ -7,6 +7,7 @@ ghost use Rattle.checkpoint.specs.Committing.{CommitsWholly};
 ghost use Rattle.checkpoint.specs.StoreWords.{is_down, state_of};
 ghost use Rattle.network_import.specs.Imported.{IsNoOp};
 ghost use Rattle.network_import.specs.Leaves.{LeavesStore};
+ghost use Rattle.network_import.specs.Limits.{IsPastCount};
 
 use crate::refused::ImportRefused;
 use checkpoint::Store;
@@ -28,6 +29,7 @@ pub(crate) fn commit_group<D: Disk>(
     ensures ok { OnOk result (after (state_of store.old) requests.now ≡ Some (state_of store.new)) }
     ensures err { OnErr result (state_of store.new ≡ state_of store.old) }
     ensures no_op { IfErr result IsNoOp }
+    ensures worn { IsErrOf result ImportRefused.Worn → (store.new ≡ store.old) × IsPastCount store.old requests.now }
     ensures leaves { LeavesStore store.old store.new result }
     ensures any_moment { CommitsWholly store.old store.new requests.now }
 {

@@ -1,9 +1,11 @@
 // Importing edges.
-ghost use Rattle.std.specs.Prelude.{◌≡◌, ◌≤◌, IfErr, IsTrue, OnErr, OnOk, false, length};
+ghost use Rattle.std.specs.Prelude.{◌≡◌, ◌+◌, ◌<◌, ◌≤◌, ◌↔◌, IfErr, IsErrOf, IsTrue, OnErr, OnOk, false, length};
+ghost use Rattle.requests.specs.Tickets.{worn_limit};
 ghost use Rattle.disk_trait.specs.Disk.{LeavesOnly};
 ghost use Rattle.checkpoint.specs.StoreWords.{is_down, state_of, view_of};
 ghost use Rattle.network_import.specs.Imported.{FitsBehind, HasTaken, IsGroupRefused, IsLeft, StandsForOneMore, adds, group_edges, moved_behind};
 ghost use Rattle.network_import.specs.Leaves.{LeavesFronts, LeavesStore};
+ghost use Rattle.network_import.specs.Limits.{IsPastLimits, StopsAtLimit};
 
 use crate::changes::requests_in;
 use crate::committing::commit_group;
@@ -23,6 +25,13 @@ pub trait Progress {
     fn came_to(&mut self, edges: usize);
 }
 
+// Whether fewer tickets are left behind one than a group has edges.
+fn lacks_tickets(last: u64, edges: usize) -> bool
+    ensures { IsTrue result ↔ (worn_limit < last + edges) }
+{
+    last > WORN_LIMIT || WORN_LIMIT - last < edges as u64
+}
+
 // Takes one group: all of it, or nothing.
 fn take_group<D: Disk>(
     alloc: Global,
@@ -35,13 +44,14 @@ fn take_group<D: Disk>(
     ensures ok { OnOk result (HasTaken (state_of store.old) edges.now (length edges.now) (state_of store.new)) }
     ensures err { OnErr result (state_of store.new ≡ state_of store.old) }
     ensures refused { IfErr result (λ refused. IsGroupRefused (state_of store.old).graph (adds edges.now) refused) }
+    ensures worn { IsErrOf result ImportRefused.Worn → (store.new ≡ store.old) × IsPastLimits store.old edges.now }
     ensures leaves { LeavesStore store.old store.new result }
     ensures any_moment { IsTrue (view_of store.old).keeps_model
         → LeavesOnly (view_of store.old) (view_of store.new) (StandsForOneMore (state_of store.old) edges.now) }
 {
     let starts = store.starts();
     let last = starts[0];
-    if last > WORN_LIMIT || WORN_LIMIT - last < edges.len() as u64 {
+    if lacks_tickets(last, edges.len()) {
         return Err(ImportRefused::Worn);
     }
     let requests = requests_in(alloc, edges, last)?;
@@ -75,6 +85,7 @@ pub fn import<D: Disk, P: Progress>(
     requires { is_down store.old ≡ false }
     ensures ok { OnOk result (HasTaken (state_of store.old) edges.now (length edges.now) (state_of store.new)) }
     ensures left { IfErr result (λ refused. IsLeft (state_of store.old) edges.now (state_of store.new) refused) }
+    ensures worn { StopsAtLimit store.old edges.now store.new result }
     ensures leaves { LeavesStore store.old store.new result }
 
     // What a crash leaves at any moment of the call, and behind it.

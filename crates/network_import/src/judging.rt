@@ -18,6 +18,7 @@ pub(crate) fn judge(alloc: Global, graph: &Graph, requests: &[Request]) -> Resul
     ensures taken { OnOk result (IsSome (fold graph.now (changes_of requests.now))) }
     ensures refused { IfErr result (λ refused. IsGroupRefused graph.now (ops_of requests.now) refused) }
     ensures no_device { ¬ (IsErrOf result ImportRefused.Device) }
+    ensures no_worn { ¬ (IsErrOf result ImportRefused.Worn) }
 {
     let mut overlay = Overlay::over(alloc, graph);
     let mut done = 0;
@@ -36,6 +37,7 @@ pub(crate) fn judge_edges(alloc: Global, graph: &Graph, edges: &[Edge]) -> Resul
     ensures taken { OnOk result (IsOk (edges_after (graph.now).nodes (graph.now).edges 0 (adds edges.now))) }
     ensures refused { IfErr result (λ refused. IsGroupRefused graph.now (adds edges.now) refused) }
     ensures no_device { ¬ (IsErrOf result ImportRefused.Device) }
+    ensures no_worn { ¬ (IsErrOf result ImportRefused.Worn) }
 {
     let mut overlay = Overlay::over(alloc, graph);
     let mut done = 0;
@@ -55,6 +57,7 @@ fn told_at(done: usize, refused: EditRefused) -> ImportRefused
     requires { FitsAt done refused }
     ensures value { result ≡ told_behind done refused }
     ensures no_device { result ≢ ImportRefused.Device }
+    ensures no_worn { result ≢ ImportRefused.Worn }
 {
     match refused {
         EditRefused::Op { index, code } => ImportRefused::Op {

@@ -3,6 +3,7 @@ ghost use Rattle.std.specs.Prelude.{◌≡◌, IfErr, IsTrue, OnErr, OnOk, false
 ghost use Rattle.checkpoint.specs.StoreWords.{is_down, state_of, view_of};
 ghost use Rattle.network_import.specs.Imported.{HasTaken, IsLeft};
 ghost use Rattle.network_import.specs.Leaves.{LeavesFronts, LeavesStore};
+ghost use Rattle.network_import.specs.Limits.{StopsAtLimit};
 ghost use Rattle.network_import.specs.Order.{KeepsOrder, edges_result};
 ghost use Rattle.network_import.specs.declared.order.NamesAt.TheVariants.{Laid, Old, Put};
 
@@ -91,6 +92,7 @@ fn take_laid<D: Disk, N: NamesPlace, P: Progress>(
     requires laid { N.at _names.now ≡ Laid }
     ensures ok { OnOk result (HasTaken (state_of store.old) edges.now (length edges.now) (state_of store.new)) }
     ensures left { IfErr result (λ refused. IsLeft (state_of store.old) edges.now (state_of store.new) refused) }
+    ensures worn { StopsAtLimit store.old edges.now store.new result }
     ensures leaves { LeavesStore store.old store.new result }
     ensures crashes { IsTrue (view_of store.old).keeps_model → LeavesFronts store.old store.new edges.now result }
 {
@@ -109,6 +111,7 @@ pub fn import_named<D: Disk, N: NamesPlace, P: Progress>(
     requires up { is_down store.old ≡ false }
     requires old { N.at names.old ≡ Old }
     ensures order { KeepsOrder (state_of store.old) edges.now (state_of store.new) (N.at names.new) result }
+    ensures worn { StopsAtLimit store.old edges.now store.new (edges_result result) }
     ensures leaves { LeavesStore store.old store.new (edges_result result) }
 
     // What a crash leaves at any moment of the call, and behind it.

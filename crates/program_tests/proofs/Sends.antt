@@ -12,4 +12,4 @@ put_send = search (crosses, sendable) depth 40
 
 -- the system's files
 pub place_send : (κ : NamedLft) → IsSend (host.the_row κ)
-place_send κ = search (crosses, sendable, put_send) depth 60
+place_send κ = search (crosses, sendable, put_send) depth 80 fits 50000

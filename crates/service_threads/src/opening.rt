@@ -1,6 +1,8 @@
 // Opening a service's device.
 ghost use Rattle.std.specs.Prelude.{IfErr, IfOk};
 ghost use Rattle.checkpoint.specs.Opening.{IsOpened};
+ghost use Rattle.checkpoint.specs.StoreWords.{nodes_of};
+ghost use Rattle.service_workers.specs.Source.{IsSourceOf};
 ghost use Rattle.service_threads.specs.Kept.{IsRefusedFor};
 
 use crate::fault::Fault;
@@ -17,6 +19,7 @@ pub fn open_device<D: Disk>(
     words: &LandmarkWords,
 ) -> Result<(Store<D>, WordSource), (Fault, D)>
     ensures opened { IfOk result (λ r. IsOpened (D.view disk) r.0) }
+    ensures source { IfOk result (λ r. IsSourceOf words.now (nodes_of r.0) r.1) }
     ensures refused { IfErr result (λ e. IsRefusedFor words.now (D.view disk) (D.view e.1) e.0) }
 {
     standing_law();

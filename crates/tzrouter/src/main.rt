@@ -1,8 +1,8 @@
 //! The program `tzrouter`: one node of a network, which forwards by its own tables.
 //!
-//! `tzrouter TABLE..` reads tables of one node (`tables.rt`), and then answers each line of standard input with one line, which it
-//! flushes (`lines.rt`): a shelf of the crate `router_lines` does, whose page has the lines. The table of the newest generation tells
-//! where the router is; a packet goes by the table of its own generation. It knows no graph, no store and no thread.
+//! `tzrouter TABLE..` reads tables of one node (`tables.rt`), and hands the standard streams to the crate `router_runs` (`lines.rt`),
+//! which answers each line of the input with one line, and flushes it. The page of `router_lines` has the lines. The table of the newest
+//! generation tells where the router is; a packet goes by the table of its own generation. It knows no graph, no store and no thread.
 //!
 //! The grammar is clap's (`words.rt`), with its own help. The status is 0 at the end of the input, 2 where the words aren't understood,
 //! and 1 where a table isn't read, a line can't be read or printed, or memory ran out. What went wrong is told on standard error as

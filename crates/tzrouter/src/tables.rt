@@ -1,7 +1,9 @@
 // The files of tables.
 use crate::telling::{told, told_memory, told_of};
-use router_lines::{Answer, LoadRefused, Shelf};
+use router_lines::{LoadRefused, Shelf};
+use router_runs::{TableSource, Unread};
 use router_table::{ReadRefused, RouterTable};
+use std::alloc::Global;
 use std::fs::File;
 use std::io::{self, Read};
 
@@ -17,18 +19,32 @@ fn bytes_of(rt: &HostRuntime, file: &str) -> io::Result<Vec<u8>> {
     Ok(bytes)
 }
 
-/// Puts the table of a file on the shelf, and answers what came of it. Why a file can't be read is told.
-pub(crate) fn load(rt: &HostRuntime, shelf: &mut Shelf, file: &str) -> Answer {
-    match bytes_of(rt, file) {
-        Ok(bytes) => {
-            if bytes.len() > LONGEST_TABLE {
-                return Answer::NotRead(ReadRefused::TooLong);
+/// The files of the system. Why one can't be read is told.
+#[derive(Drop)]
+pub(crate) struct HostFiles<'a> {
+    rt: &'a HostRuntime,
+}
+
+impl<'a> HostFiles<'a> {
+    pub(crate) fn new(rt: &'a HostRuntime) -> HostFiles<'a> {
+        HostFiles { rt }
+    }
+}
+
+impl TableSource for HostFiles<'_> {
+    ghost reads = { λ files file read. Unit {0} };
+
+    fn read(&self, _alloc: Global, file: &[u8]) -> Result<Vec<u8>, Unread> {
+        let Ok(file) = str::from_utf8(file) else {
+            return Err(Unread::NoFile);
+        };
+        match bytes_of(self.rt, file) {
+            Ok(bytes) if bytes.len() > LONGEST_TABLE => Err(Unread::TooLong),
+            Ok(bytes) => Ok(bytes),
+            Err(error) => {
+                let _status = told_of(self.rt, file, error);
+                Err(Unread::NoFile)
             }
-            shelf.load_bytes(rt.alloc(), &bytes)
-        }
-        Err(error) => {
-            let _status = told_of(rt, file, error);
-            Answer::NoFile
         }
     }
 }
@@ -65,10 +81,8 @@ pub(crate) fn shelf_of(rt: &HostRuntime, files: &[&str]) -> Result<Shelf, u8> {
 
 // Puts the table of a file that the words name on the shelf: one of an older generation than the shelf has room for is let go.
 fn load_named(rt: &HostRuntime, shelf: &mut Shelf, file: &str) -> Result<(), u8> {
-    match load(rt, shelf, file) {
-        Answer::Loaded(_) | Answer::NotLoaded(LoadRefused::GenerationGone) => Ok(()),
-        Answer::NotLoaded(refused) => Err(told_of(rt, file, refused)),
-        Answer::NotRead(refused) => Err(told_of(rt, file, refused)),
-        _ => Err(1),
+    match shelf.load(table_of(rt, file)?) {
+        Ok(()) | Err(LoadRefused::GenerationGone) => Ok(()),
+        Err(refused) => Err(told_of(rt, file, refused)),
     }
 }

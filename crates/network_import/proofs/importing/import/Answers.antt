@@ -3,10 +3,10 @@ use Rattle.std.proofs.lemmas.Result.{IfErr-at_err}
 use Rattle.disk_trait.specs.Disk.{ran_none, ran_on}
 use Rattle.checkpoint.specs.StoreWords.{is_down, state_of, view_of}
 use Rattle.network_import.specs.declared.refused.ImportRefused.{ImportRefused}
-use Rattle.network_import.specs.declared.refused.ImportRefused.TheVariants.{Device}
+use Rattle.network_import.specs.declared.refused.ImportRefused.TheVariants.{Device, Worn}
 use Rattle.network_import.specs.Imported.{HasTaken, IsGroupRefused, IsLeft, adds, moved_behind}
-use Rattle.network_import.proofs.Groups.{group_fits, left_behind, taken_both, taken_none}
-use Rattle.network_import.proofs.StoreLeaves.{cut_off_at, front_more, front_none, group_is, next_group, up_durable}
+use Rattle.network_import.proofs.Groups.{group_fits, left_behind, taken_both, taken_none, worn_behind}
+use Rattle.network_import.proofs.StoreLeaves.{cut_off_at, front_more, front_none, group_is, next_group, stopped_at, up_durable}
 use Rattle.network_import.proofs.importing.import.Goals as goal
 
 pub loop-done-init : goal.loop-done-init
@@ -45,6 +45,19 @@ returns-in-Err-clause-left g c =
     let same : new ≡ mid = c.in-Err.ensures.err in
     let why = IfErr-at_err (λ (e : ImportRefused). IsGroupRefused mid.graph (adds group) e) c.in-Err.is c.take_group.ensures.refused in
     subst (λ (e : ImportRefused). IsLeft old edges new e) (sym c.moved.ensures) (left_behind old mid new edges group c.loop-done.invariant.groups d (d + s - d) c.in-Err.refused c.loop-done.invariant.front refl few c.loop-done.invariant.taken same why)
+
+pub returns-in-Err-clause-worn : goal.returns-in-Err-clause-worn
+returns-in-Err-clause-worn g c is =
+    let d = c.loop-done.done in
+    let s = c.min-some.result in
+    let edges = c.args.edges.now in
+    let told : moved_behind d c.in-Err.refused ≡ Worn = let told = c.moved.ensures in cc in
+    let worn : c.take_group.result ≡ Err Worn = c.in-Err.is ∙ ap (λ (e : ImportRefused). Err e) (worn_behind d c.in-Err.refused told) in
+    let past = c.take_group.ensures.worn worn in
+    let k = c.loop-done.invariant.groups in
+    let front = c.loop-done.invariant.front in
+    let next = next_group edges k d s front (omega arith) c.min-some.ensures in
+    stopped_at c.args.store.now c.loop-done.store c.take_group.new.store edges (take (d + s - d) (drop d edges)) k d front past.0 (next.is ∙ group_is edges d s c.min-some.ensures) c.loop-done.invariant.taken past.1
 
 pub loop-done-preserved : goal.loop-done-preserved
 loop-done-preserved g c =

@@ -36,3 +36,22 @@ returns-in_err-take_laid-clause-order g c =
     let same : c.graph.result.now ≡ (state_of c.args.store.now).graph = c.graph.ensures in
     let judged = subst (λ (n : Network). IsOk (edges_after n.nodes n.edges 0 (adds c.args.edges.now))) same c.in_ok-judge_edges.ensures.taken in
     order_taken (state_of c.args.store.now) (state_of c.take_laid.new.store) c.args.edges.now (g.N.NamesPlace.at c.lay.new.self) e c.from_residual-in_err-take_laid.result is c.in_ok-lay.ensures.laid judged c.in_err-take_laid.ensures.left
+
+pub returns-in_err-judge_edges-clause-worn : goal.returns-in_err-judge_edges-clause-worn
+returns-in_err-judge_edges-clause-worn g c bad =
+    let e = c.in_err-judge_edges.field-0.0 in
+    let is : c.from_residual.result ≡ Err (Edges e) = search rules in
+    let was : c.judge_edges.result ≡ Err e = search rules in
+    absurd (c.judge_edges.ensures.no_worn (was ∙ sym (ap edges_result is) ∙ bad))
+
+pub returns-in_err-lay-clause-worn : goal.returns-in_err-lay-clause-worn
+returns-in_err-lay-clause-worn g c bad =
+    let is : c.from_residual-in_err-lay.result ≡ Err Names = search rules in
+    absurd (let no = sym (ap edges_result is) ∙ bad in cc)
+
+pub returns-in_err-take_laid-clause-worn : goal.returns-in_err-take_laid-clause-worn
+returns-in_err-take_laid-clause-worn g c bad =
+    let e = c.in_err-take_laid.field-0.0 in
+    let is : c.from_residual-in_err-take_laid.result ≡ Err (Edges e) = search rules in
+    let was : c.take_laid.result ≡ Err e = search rules in
+    c.take_laid.ensures.worn (was ∙ sym (ap edges_result is) ∙ bad)
