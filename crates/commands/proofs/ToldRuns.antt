@@ -14,12 +14,12 @@ use Rattle.command_output.specs.declared.ended.Ended.{Ended}
 use Rattle.command_output.specs.declared.fault.Fault.{Fault}
 use Rattle.command_output.specs.declared.fault.Fault.TheVariants as told
 use Rattle.written_values.specs.declared.words.LandmarkWords.{LandmarkWords}
-use Rattle.service_lines.specs.ServedLines.{IsServeEnd}
-use Rattle.service_lines.specs.declared.served.Served.{Served}
-use Rattle.service_lines.specs.declared.served.Served.TheVariants as served
+use Rattle.live_service.specs.ServeEnds.{IsServeEnd}
+use Rattle.line_exchange.specs.declared.served.Served.{Served}
+use Rattle.line_exchange.specs.declared.served.Served.TheVariants as served
 use Rattle.service_threads.specs.Kept.{IsLeftBy}
-use Rattle.live_service.specs.Ends.{HasToldSo, fault_of}
-use Rattle.live_service.specs.Inputs.{Bytes}
+use Rattle.line_exchange.specs.Ends.{HasToldSo, fault_of}
+use Rattle.line_exchange.specs.Inputs.{Bytes}
 use Rattle.live_service.specs.Runs.{PrintsTo}
 use Rattle.table_files.specs.Files.{Put}
 use Rattle.commands.specs.declared.devices.Access.{Access}

@@ -17,9 +17,9 @@ use Rattle.device_commands.specs.Edits.{IsPastLimits}
 use Rattle.device_commands.specs.Openings.{IsEditFault, IsFormatFault, IsOpenFault, IsUnwrittenFault, OfContent, TellsOf}
 use Rattle.device_commands.specs.Moves.{IsMoveFault, TellsOfOld}
 use Rattle.service_threads.specs.Kept.{IsLeftBy}
-use Rattle.service_lines.specs.ServedLines.{IsServeEnd}
-use Rattle.live_service.specs.Inputs.{Bytes}
-use Rattle.live_service.specs.Prints.{HasPrinted}
+use Rattle.live_service.specs.ServeEnds.{IsServeEnd}
+use Rattle.line_exchange.specs.Inputs.{Bytes}
+use Rattle.line_exchange.specs.Prints.{HasPrinted}
 use Rattle.command_line.specs.Asked.{IsAskedFor, IsInRange, IsRefusedFor}
 use Rattle.command_line.specs.declared.refused.WordsRefused.{WordsRefused}
 use Rattle.command_line.specs.declared.refused.WordsRefused.TheVariants as why

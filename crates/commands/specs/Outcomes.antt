@@ -9,8 +9,8 @@ use Rattle.command_output.specs.Printing.{Known}
 use Rattle.command_output.specs.declared.ended.Ended.{Ended}
 use Rattle.command_output.specs.declared.ended.Ended.TheVariants.{Done}
 use Rattle.command_output.specs.declared.fault.Fault.{Fault}
-use Rattle.service_lines.specs.declared.served.Served.{Served}
-use Rattle.service_lines.specs.declared.served.Served.TheVariants as served
+use Rattle.line_exchange.specs.declared.served.Served.{Served}
+use Rattle.line_exchange.specs.declared.served.Served.TheVariants as served
 use Rattle.written_values.specs.declared.words.LandmarkWords.{LandmarkWords}
 use Rattle.commands.specs.Devices.{Opening}
 use Rattle.commands.specs.declared.outcome.Outcome.{Outcome}

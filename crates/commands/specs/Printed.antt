@@ -29,9 +29,9 @@ use Rattle.device_commands.specs.Openings.{OfContent}
 use Rattle.written_values.specs.declared.line.ScriptLine.{ScriptLine}
 use Rattle.written_values.specs.declared.words.LandmarkWords.{LandmarkWords}
 use Rattle.service_threads.specs.Kept.{IsLeftBy}
-use Rattle.service_lines.specs.ServedLines.{IsServed}
-use Rattle.live_service.specs.Inputs.{Bytes}
-use Rattle.live_service.specs.Prints.{AreAllLines, HasPrinted}
+use Rattle.line_exchange.specs.Gathers.{IsServed}
+use Rattle.line_exchange.specs.Inputs.{Bytes}
+use Rattle.line_exchange.specs.Prints.{AreAllLines, HasPrinted}
 use Rattle.commands.specs.declared.devices.Access.TheVariants.{ToRead, ToChange, Anew, New}
 use Rattle.commands.specs.Devices.{IsAnswerOf, OfOpened, OfServed, Opening}
 use Rattle.commands.specs.ServedScripts.{IsScriptOf}

@@ -21,7 +21,7 @@
 //! Here stand where devices are, what is printed of each command's answer, the routes, the threads that build a scheme for a check and
 //! for tables, and the run. The words are read in `command_line`, the lines and faults are spelt in `command_output`, and what
 //! `format`, `show`, `edit`, `resume` and `migrate` do on a device is in `device_commands`; the files of `tables` are put in
-//! `table_files`, the threads of `serve` are in `live_service`, and the lines of a script's answers in `service_lines`.
+//! `table_files`, the threads of `serve` are in `live_service`, and the lines and their answers in `line_exchange`.
 //!
 //! A command is a call on a disk. The run opens that disk by the path of its words, at a place of [`Devices`], and drops it behind the
 //! call. The program's place is the system's files. `tables` puts its files at a place of `TableFiles`, which lists what was put.

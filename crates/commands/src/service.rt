@@ -10,8 +10,7 @@ ghost use Rattle.commands.specs.ServedScripts.{IsReadFault, IsScriptFault, IsScr
 use crate::devices::{Access, Devices};
 use crate::outcome::{Outcome, told};
 use command_output::{Ended, Fault, FaultWriter};
-use live_service::{serve_lines, serve_live};
-use service_lines::Served;
+use live_service::{Served, serve_lines, serve_live};
 use service_threads::{OpenGate, ServiceConfig};
 use std::alloc::Global;
 use std::io;

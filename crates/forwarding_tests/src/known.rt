@@ -7,8 +7,9 @@ ghost use Rattle.forwarding_tests.specs.Known.{IsNewEditor};
 use crate::posted::{popped, post_next, same};
 use generations::{BoardReader, BoardWriter, board};
 use intake::{Editor, Taker, open_intake};
+use packet_ways::BoardName;
 use requests::SESSIONS;
-use service_workers::{ForwarderOf, Naming, SessionEditor};
+use service_workers::{ForwarderOf, SessionEditor};
 use std::alloc::{AllocError, Global};
 use std::marker::Brand;
 use std::process::Abort;
@@ -61,7 +62,7 @@ fn watched<R: Wait + Abort>(rt: &R, alloc: Global) -> Result<(), AllocError> {
 }
 
 // In a service an editor and a forwarder know what they knew before, which is so many postings.
-fn in_a_service<J: Naming>(rt: &impl Abort, editor: Editor, reader: BoardReader, postings: u64)
+fn in_a_service<J: BoardName>(rt: &impl Abort, editor: Editor, reader: BoardReader, postings: u64)
     requires named { editor.known.opening ≡ J.opening }
     requires fresh { editor.put ≡ [] }
     requires start { editor.start ≡ last_of J.opening.starts editor.session }

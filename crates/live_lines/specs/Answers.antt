@@ -8,11 +8,14 @@ use Rattle.generations.specs.declared.posting.Verdict.{Verdict}
 use Rattle.generations.specs.declared.posting.Verdict.TheVariants.{Accepted, Refused}
 use Rattle.hex.specs.Hex.{encode_lower}
 use Rattle.packet_bytes.specs.Spelling.{address_text}
+use Rattle.packet_ways.specs.declared.carried.Carried.{Carried}
+use Rattle.packet_ways.specs.declared.carried.Carried.TheVariants.{Along, Unreachable}
+use Rattle.packet_ways.specs.declared.carried.Carried.TheVariants as ways
 use Rattle.router_lines.specs.Answers.{move_text, packet_line, refused_text, unread_text}
 use Rattle.live_lines.specs.declared.asked.Asked.{Asked}
 use Rattle.live_lines.specs.declared.asked.Asked.TheVariants as asks
 use Rattle.live_lines.specs.declared.answer.Answer.{Answer}
-use Rattle.live_lines.specs.declared.answer.Answer.TheVariants.{Settled, AlreadyIn, RefusedBefore, OldTicket, Resumed, Along, Unreachable, NoNode, Told, Sent, Moved, NotCarried, Gone, Unread, State, Waited, Tables, TablesFailed, NotUnderstood}
+use Rattle.live_lines.specs.declared.answer.Answer.TheVariants.{Settled, AlreadyIn, RefusedBefore, OldTicket, Resumed, Way, NoNode, Told, Sent, Moved, NotCarried, Gone, Unread, State, Waited, Tables, TablesFailed, NotUnderstood}
 
 -- ---- which answers are of a line
 
@@ -26,16 +29,19 @@ pub record Join (from to : ℕ) (nodes : List ℕ) : Type 0 where
   pub starts : (rest : List ℕ) × (nodes ≡ from ∷ rest)
   pub ends : (before : List ℕ) × (nodes ≡ before ++ to ∷ [])
 
+-- a way from a node to a node, where there is one
+abbrev pub Leads : ℕ → ℕ → Carried → Type 0
+Leads from to (Along generation nodes length) = Join from to nodes.items
+Leads from to other = Unit {0}
+
 -- the answer is one to what is asked for; a line that names no ticket gets a new one, so only a verdict is of it
 abbrev pub Fits : Asked → Answer → Type 0
-Fits (asks.Edit session ticket change) (Settled s t verdict) = (s ≡ session) × IsOfTicket ticket t
+Fits (asks.Edit session ticket change) (Settled mark) = (mark.session ≡ session) × IsOfTicket ticket mark.ticket
 Fits (asks.Edit session ticket change) (AlreadyIn s t) = (s ≡ session) × (ticket ≡ Some t)
 Fits (asks.Edit session ticket change) (RefusedBefore s t op code) = (s ≡ session) × (ticket ≡ Some t)
 Fits (asks.Edit session ticket change) (OldTicket s t) = (s ≡ session) × (ticket ≡ Some t)
 Fits (asks.Resume session) (Resumed s t) = s ≡ session
-Fits (asks.Route from to) (Along generation nodes length) = Join from to nodes.items
-Fits (asks.Route from to) (Unreachable generation) = Unit {0}
-Fits (asks.Route from to) NoNode = Unit {0}
+Fits (asks.Route from to) (Way way) = Leads from to way
 Fits (asks.Address node) (Told address) = address.node ≡ node
 Fits (asks.Address node) NoNode = Unit {0}
 Fits (asks.Launch from to) (Sent packet) = Unit {0}
@@ -64,19 +70,24 @@ verdict_text (Refused op code) = refused_change op code
 abbrev pub of_edit : ℕ → ℕ → List ℕ → List ℕ
 of_edit session ticket said = decimal session ++ (32 ∷ (decimal ticket ++ (32 ∷ said)))
 
+-- which way a packet goes
+abbrev pub way_text : Carried → List ℕ
+way_text (Along generation nodes length) = route_text generation nodes.items length
+way_text (Unreachable generation) = unreachable_text generation
+way_text ways.NoNode = absent_text
+
 -- how much the service has done, and how much waits
 abbrev pub state_text : ℕ → ℕ → ℕ → List ℕ
 state_text count generation queue = codes "count=" ++ (decimal count ++ (codes " generation=" ++ (decimal generation ++ (codes " queue=" ++ decimal queue))))
 
 -- the line of an answer
 abbrev pub answer_text : Answer → List ℕ
-answer_text (Settled session ticket verdict) = of_edit session ticket (verdict_text verdict)
+answer_text (Settled mark) = of_edit mark.session mark.ticket (verdict_text mark.verdict)
 answer_text (AlreadyIn session ticket) = of_edit session ticket (codes "already in")
 answer_text (RefusedBefore session ticket op code) = of_edit session ticket (refused_change op code)
 answer_text (OldTicket session ticket) = of_edit session ticket (codes "old ticket")
 answer_text (Resumed session ticket) = ticket_text session ticket
-answer_text (Along generation nodes length) = route_text generation nodes.items length
-answer_text (Unreachable generation) = unreachable_text generation
+answer_text (Way way) = way_text way
 answer_text NoNode = absent_text
 answer_text (Told a) = codes "generation=" ++ (decimal a.generation ++ (codes " address=" ++ encode_lower (address_text a)))
 answer_text (Sent k) = packet_line k
@@ -89,3 +100,8 @@ answer_text (Waited generation) = codes "generation=" ++ decimal generation
 answer_text (Tables generation tables bytes greatest) = tables_text generation tables bytes greatest
 answer_text TablesFailed = fault_text TableFile
 answer_text NotUnderstood = codes "not understood"
+
+-- the line of an answer to a script: it tells no session and no ticket
+abbrev pub script_text : Answer → List ℕ
+script_text (Settled mark) = verdict_text mark.verdict
+script_text answer = answer_text answer

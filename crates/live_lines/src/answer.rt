@@ -2,28 +2,25 @@
 ghost use Rattle.std.specs.Prelude.{◌≡◌, IfOk};
 ghost use Rattle.std.specs.String.{string_bytes};
 ghost use Rattle.command_output.specs.RouteLines.{route_text, tables_text};
-ghost use Rattle.live_lines.specs.Answers.{answer_text, of_edit, verdict_text};
+ghost use Rattle.live_lines.specs.Answers.{answer_text, of_edit, script_text, verdict_text, way_text};
 
 use command_output::{
     AbsentLine, AcceptedLine, Fault, RefusedLine, RouteLine, TablesLine, TicketLine,
     UnreachableLine,
 };
-use generations::Verdict;
+use generations::{Mark, Verdict};
 use graph_edits::Code;
 use node_table::{Address, Move, Packet, Refused};
 use packet_bytes::WireRefused;
+use packet_ways::Carried;
 use router_lines::{moved_text, packet_text, refused_name, told_text, unread_name};
 use std::alloc::{AllocError, Global};
 
 /// What is answered to a line.
 #[derive(Debug, PartialEq, Eq, Drop)]
 pub enum Answer {
-    /// What became of an edit of this session, under this ticket.
-    Settled {
-        session: u8,
-        ticket: u64,
-        verdict: Verdict,
-    },
+    /// What became of an edit: the mark of its session and its ticket.
+    Settled(Mark),
     /// This ticket of the session is in, or a later one.
     AlreadyIn {
         session: u8,
@@ -46,17 +43,9 @@ pub enum Answer {
         session: u8,
         ticket: u64,
     },
-    /// A packet goes over these nodes, its first and last among them, in this generation. The length is the way's in its graph.
-    Along {
-        generation: u64,
-        nodes: Vec<u16>,
-        length: u64,
-    },
-    /// In this generation no way leads there.
-    Unreachable {
-        generation: u64,
-    },
-    /// A node isn't one of the device's.
+    /// Which way a packet goes.
+    Way(Carried),
+    /// The node isn't one of the device's, and has no address.
     NoNode,
     /// Where a node is to be found.
     Told(Address),
@@ -93,25 +82,34 @@ pub enum Answer {
     NotUnderstood,
 }
 
-/// What became of an edit.
-fn settled_text(
-    alloc: Global,
-    session: u8,
-    ticket: u64,
-    verdict: Verdict,
-) -> Result<String, AllocError>
-    ensures { IfOk result (λ text. string_bytes text ≡ of_edit session ticket (verdict_text verdict)) }
+/// What a verdict says.
+fn verdict_line(alloc: Global, verdict: Verdict) -> Result<String, AllocError>
+    ensures { IfOk result (λ text. string_bytes text ≡ verdict_text verdict) }
 {
     match verdict {
         Verdict::Accepted { count } => {
             let line = AcceptedLine { count };
-            format!(in alloc; "{session} {ticket} {line}")
+            format!(in alloc; "{line}")
         }
         Verdict::Refused { op, code } => {
             let line = RefusedLine { op, code };
-            format!(in alloc; "{session} {ticket} {line}")
+            format!(in alloc; "{line}")
         }
     }
+}
+
+/// What became of an edit.
+fn settled_text(alloc: Global, mark: &Mark) -> Result<String, AllocError>
+    ensures { IfOk result (λ text. string_bytes text
+        ≡ of_edit mark.now.session mark.now.ticket (verdict_text mark.now.verdict)) }
+{
+    let Mark {
+        session,
+        ticket,
+        verdict,
+    } = *mark;
+    let line = verdict_line(alloc, verdict)?;
+    format!(in alloc; "{session} {ticket} {line}")
 }
 
 /// A route.
@@ -129,6 +127,26 @@ fn along_text(
         length,
     };
     format!(in alloc; "{line}")
+}
+
+/// Which way a packet goes.
+fn way_line(alloc: Global, way: &Carried) -> Result<String, AllocError>
+    ensures { IfOk result (λ text. string_bytes text ≡ way_text way.now) }
+{
+    match way {
+        Carried::Along {
+            generation,
+            nodes,
+            length,
+        } => along_text(alloc, *generation, nodes, *length),
+        Carried::Unreachable { generation } => {
+            let line = UnreachableLine {
+                generation: *generation,
+            };
+            format!(in alloc; "{line}")
+        }
+        Carried::NoNode => format!(in alloc; "{AbsentLine}"),
+    }
 }
 
 /// Tables that were put.
@@ -156,11 +174,7 @@ impl Answer {
         ensures { IfOk result (λ text. string_bytes text ≡ answer_text self.now) }
     {
         match self {
-            Answer::Settled {
-                session,
-                ticket,
-                verdict,
-            } => settled_text(alloc, *session, *ticket, *verdict),
+            Answer::Settled(mark) => settled_text(alloc, mark),
             Answer::AlreadyIn { session, ticket } => {
                 format!(in alloc; "{session} {ticket} already in")
             }
@@ -170,11 +184,15 @@ impl Answer {
                 op,
                 code,
             } => {
-                let verdict = Verdict::Refused {
-                    op: *op,
-                    code: *code,
+                let mark = Mark {
+                    session: *session,
+                    ticket: *ticket,
+                    verdict: Verdict::Refused {
+                        op: *op,
+                        code: *code,
+                    },
                 };
-                settled_text(alloc, *session, *ticket, verdict)
+                settled_text(alloc, &mark)
             }
             Answer::OldTicket { session, ticket } => {
                 format!(in alloc; "{session} {ticket} old ticket")
@@ -186,17 +204,7 @@ impl Answer {
                 };
                 format!(in alloc; "{line}")
             }
-            Answer::Along {
-                generation,
-                nodes,
-                length,
-            } => along_text(alloc, *generation, nodes, *length),
-            Answer::Unreachable { generation } => {
-                let line = UnreachableLine {
-                    generation: *generation,
-                };
-                format!(in alloc; "{line}")
-            }
+            Answer::Way(way) => way_line(alloc, way),
             Answer::NoNode => format!(in alloc; "{AbsentLine}"),
             Answer::Told(address) => told_text(alloc, address),
             Answer::Sent(packet) => packet_text(alloc, packet),
@@ -218,6 +226,15 @@ impl Answer {
             } => tables_line(alloc, *generation, *tables, *bytes, *greatest),
             Answer::TablesFailed => String::from_str(alloc, Fault::TableFile.text()),
             Answer::NotUnderstood => String::from_str(alloc, "not understood"),
+        }
+    }
+    /// The line of an answer to a script: it tells no session and no ticket. An `Err` means that memory was refused.
+    pub fn script_text(&self, alloc: Global) -> Result<String, AllocError>
+        ensures { IfOk result (λ text. string_bytes text ≡ script_text self.now) }
+    {
+        match self {
+            Answer::Settled(mark) => verdict_line(alloc, mark.verdict),
+            _ => self.text(alloc),
         }
     }
 }

@@ -1,20 +1,21 @@
 // Each answer, and its line.
 use crate::helpers::{address, expect_text, got, packet};
-use generations::Verdict;
+use generations::{Mark, Verdict};
 use graph_edits::Code;
 use live_lines::Answer;
 use node_table::{Move, Refused};
 use packet_bytes::WireRefused;
+use packet_ways::Carried;
 use std::alloc::Global;
 use std::process::Abort;
 
 /// Sees how a verdict on an edit of session 3 under ticket 20 is printed.
 fn expect_verdict(rt: &impl Abort, alloc: Global, verdict: Verdict, want: &str) {
-    let answer = Answer::Settled {
+    let answer = Answer::Settled(Mark {
         session: 3,
         ticket: 20,
         verdict,
-    };
+    });
     expect_text(rt, alloc, &answer, want);
 }
 
@@ -91,11 +92,11 @@ fn tickets(rt: HostRuntime) {
 #[test]
 fn ways(rt: HostRuntime) {
     let nodes = got(&rt, Vec::from_slice(rt.alloc(), &[0, 2, 65_535]));
-    let answer = Answer::Along {
+    let answer = Answer::Way(Carried::Along {
         generation: 7,
         nodes,
         length: 11,
-    };
+    });
     expect_text(
         &rt,
         rt.alloc(),
@@ -105,9 +106,10 @@ fn ways(rt: HostRuntime) {
     expect_text(
         &rt,
         rt.alloc(),
-        &Answer::Unreachable { generation: 8 },
+        &Answer::Way(Carried::Unreachable { generation: 8 }),
         "generation=8 unreachable",
     );
+    expect_text(&rt, rt.alloc(), &Answer::Way(Carried::NoNode), "no node");
     expect_text(&rt, rt.alloc(), &Answer::NoNode, "no node");
 }
 

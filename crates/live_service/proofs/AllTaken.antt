@@ -24,9 +24,9 @@ use Rattle.committer.specs.CommitterWords.{got_of, taker_of}
 use Rattle.service_threads.specs.Kept.{KeepsQueue}
 use Rattle.service_workers.specs.AtRest.{IsAtRest, RisesFrom}
 use Rattle.service_workers.proofs.Resting.{start_more}
-use Rattle.live_service.specs.Inputs.{Input}
-use Rattle.live_service.specs.Submits.{ArePutInOrder}
-use Rattle.live_service.proofs.Submitting.{put_none}
+use Rattle.line_exchange.specs.Inputs.{Input}
+use Rattle.line_workers.specs.Submits.{ArePutInOrder}
+use Rattle.line_workers.proofs.Submitting.{put_none}
 
 -- ---- elements of lists
 

@@ -12,20 +12,21 @@ use Rattle.service_threads.specs.Faults.{stop_fault}
 use Rattle.service_threads.specs.Kept.{HasFailed, HasSettledSome, IsServedDisk}
 use Rattle.service_threads.proofs.Settling.{some_settled}
 use Rattle.device_commands.specs.Openings.{TellsOf}
-use Rattle.service_lines.specs.ServedLines.{IsOpeningFault, IsServeEnd, IsServeFault, told_fault}
-use Rattle.service_lines.specs.declared.served.Served.{Served}
-use Rattle.service_lines.specs.declared.served.Served.TheVariants as served
+use Rattle.live_service.specs.ServeEnds.{IsLater, IsOpeningFault, IsServeEnd, IsServeFault, told_fault}
+use Rattle.line_exchange.specs.declared.served.Served.{Served}
+use Rattle.line_exchange.specs.declared.served.Served.TheVariants as served
 use Rattle.service_workers.specs.declared.stop_cause.StopCause.{StopCause}
 use Rattle.service_workers.specs.declared.stop_cause.StopCause.TheVariants as cause
 use Rattle.generations.specs.Beginnings.{Beginning, Opening}
-use Rattle.live_service.specs.Inputs.{Input}
-use Rattle.live_service.specs.Ends.{IsFinish, IsLater, fault_of}
-use Rattle.live_service.specs.Prints.{HasPrinted}
-use Rattle.live_service.specs.Runs.{HasEnded, HasRun, IsFaultOf, IsPrintEnd, IsRun, PrintsSo, PrintsTo}
+use Rattle.line_exchange.specs.Inputs.{Input}
+use Rattle.line_exchange.specs.Ends.{IsFinish, fault_of}
+use Rattle.live_lines.specs.Answers.{answer_text}
+use Rattle.line_exchange.specs.Prints.{HasPrinted, PrintsSo}
+use Rattle.live_service.specs.Runs.{HasEnded, HasRun, IsFaultOf, IsPrintEnd, IsRun, PrintsTo}
 use Rattle.live_service.specs.ServedList.{EndsServed, HasPrintedOn, HasServedOn}
-use Rattle.live_service.specs.declared.printed.Printed.{Printed}
-use Rattle.live_service.proofs.PrintedLines.{none_printed}
-use Rattle.live_service.proofs.SaidLines.{printed_of}
+use Rattle.line_exchange.specs.declared.printed.Printed.{Printed}
+use Rattle.line_exchange.proofs.PrintedLines.{none_printed}
+use Rattle.line_exchange.proofs.SaidLines.{printed_of}
 
 -- ---- an engine that took nothing
 
@@ -126,7 +127,7 @@ prints_to input editors old new printed ended so end =
 
 -- .. and by what is known of the list, where no fault ended it
 pub prints_on : {D : Type 0} {V : _} → (store : Store D V) (input : Input) (editors : ℕ) (old new : Option (List ℕ)) (printed : Printed) (ended : Served) (back : Option D) → PrintsSo input editors old new printed → IsPrintEnd input printed ended
-    → (ended ≡ served.Printed → HasServedOn store input editors printed.known back) → ended ≡ served.Printed → HasPrintedOn store input editors old new back
+    → (ended ≡ served.Printed → HasServedOn store input editors printed.known back) → ended ≡ served.Printed → HasPrintedOn answer_text store input editors old new back
 prints_on store input editors old new printed ended back so end on is = record {
   known = printed.known;
   count = printed.count;

@@ -1,16 +1,8 @@
 pub mod AllTaken
-pub mod Answering
 pub mod Backs
 pub mod Ended
-pub mod Further
 pub mod GatheredLines
-pub mod OldTickets
 pub mod OneListed
-pub mod PrintedLines
-pub mod ReadLines
-pub mod SaidLines
-pub mod SaidPackets
 pub mod Seats
 pub mod Sending
-pub mod Submitting
-pub mod TablesPut
+pub mod Telling

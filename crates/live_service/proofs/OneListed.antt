@@ -25,15 +25,15 @@ use Rattle.committer.specs.Listed.{IsListedFrom}
 use Rattle.settled_lists.specs.Posted.{ArePosted}
 use Rattle.intake.specs.Turns.{of}
 use Rattle.service_workers.specs.declared.stop_cause.StopCause.{StopCause}
-use Rattle.service_workers.specs.Forwarded.{AreNamed, HoldsOf}
+use Rattle.packet_ways.specs.Carried.{AreNamed, HoldsOf}
 use Rattle.service_threads.specs.Kept.{HasSettled, IsLeftBy, IsOnCourse, IsServedDisk, StandsForBeginning}
 use Rattle.service_threads.proofs.Settling.{on_course_posted, read_leaves, served_leaves, served_same}
 use Rattle.live_lines.specs.declared.answer.Answer.{Answer}
-use Rattle.live_service.specs.Inputs.{Input}
-use Rattle.live_service.specs.OneList.{AreAnswersIn, AreSaid, IsSaidIn}
-use Rattle.live_service.specs.Prints.{AreAllLines}
-use Rattle.live_service.specs.Submits.{ArePutInOrder}
-use Rattle.live_service.specs.ServedList.{AreOfOneList, EndsServed, HasAnswered, HasAnsweredScript, HasGatheredOn, HasPrintedOn, HasServedAll, HasServedOn}
+use Rattle.line_exchange.specs.Inputs.{Input}
+use Rattle.line_exchange.specs.OneList.{AreAnswersIn, AreSaid, IsSaidIn}
+use Rattle.line_exchange.specs.Prints.{AreAllLines}
+use Rattle.line_workers.specs.Submits.{ArePutInOrder}
+use Rattle.live_service.specs.ServedList.{AreOfOneList, EndsServed, HasAnswered, HasPrintedOn, HasServedAll, HasServedOn}
 
 -- ---- the committer
 
@@ -155,32 +155,16 @@ of_one_list {V = V} disk back store known board input editors answers opened all
       left = λ model. all.stands (subst IsTrue (sym all.settled.same.model) (still model));
     }
 
--- an input's answers are of one list
-pub answered : {D : Type 0} {V : _} → (disk : D) (store : Store D V) (input : Input) (editors : ℕ) (old new : Option (List ℕ)) (back : Option D) → IsOpened (V.view disk) store → HasPrintedOn store input editors old new back
-    → IsSomeAnd back (λ d. HasAnswered V disk d input editors old new)
-answered {V = V} disk store input editors old new back opened has = of back has.on.all
+-- the answers of an input or a script are of one list
+pub answered : {D : Type 0} {V : _} → (text : Answer → List ℕ) (disk : D) (store : Store D V) (input : Input) (editors : ℕ) (old new : Option (List ℕ)) (back : Option D) → IsOpened (V.view disk) store
+    → HasPrintedOn text store input editors old new back → IsSomeAnd back (λ d. HasAnswered text V disk d input editors old new)
+answered {V = V} text disk store input editors old new back opened has = of back has.on.all
   where
-    of : (b : Option _) → IsSomeAnd b (λ d. HasServedAll store input editors has.on.board (V.view d)) → IsSomeAnd b (λ d. HasAnswered V disk d input editors old new)
+    of : (b : Option _) → IsSomeAnd b (λ d. HasServedAll store input editors has.on.board (V.view d)) → IsSomeAnd b (λ d. HasAnswered text V disk d input editors old new)
     of None all = absurd all
     of (Some d) all = record {
       answers = has.printed.answers;
       all = subst (λ (n : ℕ). AreAllLines input n) (sym has.printed.many) has.whole;
       printed = has.printed.printed;
       one_list = of_one_list disk d store has.known has.on.board input editors has.printed.answers opened all has.on.on has.printed.said;
-    }
-
--- .. and so are a script's
-pub script_answered : {D : Type 0} {V : _} → (disk : D) (store : Store D V) (input : Input) (editors : ℕ) (old new : Option (List ℕ)) (back : Option D) → IsOpened (V.view disk) store → HasGatheredOn store input editors old new back
-    → IsSomeAnd back (λ d. HasAnsweredScript V disk d input editors old new)
-script_answered {V = V} disk store input editors old new back opened has = of back has.on.all
-  where
-    of : (b : Option _) → IsSomeAnd b (λ d. HasServedAll store input editors has.on.board (V.view d)) → IsSomeAnd b (λ d. HasAnsweredScript V disk d input editors old new)
-    of None all = absurd all
-    of (Some d) all = record {
-      answers = has.gathered.by.answers;
-      lines = has.gathered.lines;
-      all = subst (λ (n : ℕ). AreAllLines input n) (sym has.gathered.by.many) has.whole;
-      shown = has.gathered.by.shown;
-      printed = subst (λ (l : List ℕ). Appends old new l) has.gathered.is has.printed;
-      one_list = of_one_list disk d store has.known has.on.board input editors has.gathered.by.answers opened all has.on.on has.gathered.by.said;
     }

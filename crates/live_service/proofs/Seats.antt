@@ -8,7 +8,7 @@ use Rattle.generations.specs.Beginnings.{Opening}
 use Rattle.generations.specs.Knowledges.{Knowledge}
 use Rattle.intake.specs.Editors.{Editing, editors_from}
 use Rattle.intake.specs.Ends.{Taking}
-use Rattle.live_service.specs.Submits.{AreAllEditors}
+use Rattle.line_workers.specs.Submits.{AreAllEditors}
 
 -- editors are at the board of their readers
 editors_of : (opening : Opening) (q : TableId) (starts : List ℕ) (n : ℕ) (rs : List Knowledge) → All (λ r. r.all.opening ≡ opening) rs → All (λ e. e.known.opening ≡ opening) (editors_from q starts n rs)

@@ -1,15 +1,6 @@
-pub mod Inputs
-pub mod Scripts
-pub mod Streams
-pub mod OneList
-pub mod Submits
-pub mod Taken
-pub mod Prints
-pub mod Gathers
-pub mod Reads
-pub mod Ends
+pub mod ServeEnds
 pub mod ServedList
 pub mod Runs
 pub mod Services
 pub mod Seated
-pub mod Tables
+pub mod Taken

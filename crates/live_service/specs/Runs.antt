@@ -5,18 +5,20 @@ use Rattle.command_output.specs.declared.fault.Fault.{Fault}
 use Rattle.command_output.specs.declared.fault.Fault.TheVariants as told
 use Rattle.checkpoint.specs.declared.store.Store.{Store}
 use Rattle.written_values.specs.declared.line.ScriptLine.{ScriptLine}
-use Rattle.service_lines.specs.ServedLines.{IsServed}
-use Rattle.service_lines.specs.declared.served.Served.{Served}
-use Rattle.service_lines.specs.declared.served.Served.TheVariants as served
+use Rattle.line_exchange.specs.Gathers.{IsServed}
+use Rattle.line_exchange.specs.declared.served.Served.{Served}
+use Rattle.line_exchange.specs.declared.served.Served.TheVariants as served
 use Rattle.service_threads.specs.Kept.{IsServedDisk}
 use Rattle.service_workers.specs.declared.stop_cause.StopCause.{StopCause}
 use Rattle.service_workers.specs.declared.stop_cause.StopCause.TheVariants as cause
-use Rattle.live_service.specs.declared.printed.Printed.{Printed}
-use Rattle.live_service.specs.declared.printed.PrintEnd.TheVariants.{Output, Whole}
-use Rattle.live_service.specs.Inputs.{Input}
-use Rattle.live_service.specs.Ends.{IsLater, fault_of}
-use Rattle.live_service.specs.Prints.{AreAllLines, HasPrinted, HasPrintedBy}
-use Rattle.live_service.specs.ServedList.{HasGatheredOn, HasServedOn}
+use Rattle.line_exchange.specs.declared.printed.Printed.{Printed}
+use Rattle.line_exchange.specs.declared.printed.PrintEnd.TheVariants.{Output, Whole}
+use Rattle.line_exchange.specs.Inputs.{Input}
+use Rattle.line_exchange.specs.Ends.{fault_of}
+use Rattle.live_service.specs.ServeEnds.{IsLater}
+use Rattle.line_exchange.specs.Prints.{AreAllLines, HasPrinted}
+use Rattle.live_lines.specs.Answers.{script_text}
+use Rattle.live_service.specs.ServedList.{HasPrintedOn, HasServedOn}
 
 -- a fault of a service whose engine ended so: it says that the device failed only where the engine does
 abbrev pub IsFaultOf : {T : Type 0} → Result T StopCause → Fault → Type 0
@@ -36,10 +38,6 @@ pub record IsPrintEnd (input : Input) (printed : Printed) (ended : Served) : Typ
   pub output : printed.end ≡ Output → fault_of ended ≡ Some told.Output
   pub done : ended ≡ served.Printed → printed.end ≡ Whole
   pub whole : ended ≡ served.Printed → AreAllLines input printed.count
-
--- what was printed, unless the output failed: answers to so many lines, by what is known of the list of postings
-abbrev pub PrintsSo : Input → ℕ → Option (List ℕ) → Option (List ℕ) → Printed → Type 0
-PrintsSo input editors old new printed = printed.end ≢ Output → HasPrintedBy printed.known input editors old new printed.count
 
 -- What a service prints that ended so: unless its output failed, answers to its first lines, and to all of them where
 -- no fault ended it.
@@ -71,4 +69,4 @@ pub record HasServedScript {W D : Type 0} {V : _} (contents : W → Option (List
   pub printed : ended ≡ served.Printed → IsServed script (contents old) (contents new)
   pub untouched : IfSome (fault_of ended) (λ fault. fault ≢ told.Output → new ≡ old)
   pub engine_end : HasEnded store ended back
-  pub one_list : ended ≡ served.Printed → HasGatheredOn store input editors (contents old) (contents new) back
+  pub one_list : ended ≡ served.Printed → HasPrintedOn script_text store input editors (contents old) (contents new) back

@@ -1,5 +1,5 @@
 -- The one list of requests that a service took, and what it posted of it and left of its disk.
-use Rattle.std.specs.Prelude.{◌≡◌, ℕ, IfOk, IsSomeAnd, IsTrue, List, Option, Result, [], All, ◌<◌, length, map, Some}
+use Rattle.std.specs.Prelude.{◌≡◌, ℕ, IfOk, IsSomeAnd, IsTrue, List, Option, Result, [], All, ◌<◌, length}
 use Rattle.std.specs.Io.KnownBytes.{Appends}
 use Rattle.disk_trait.specs.declared.disk.Disk.{Ghosts}
 use Rattle.disk_trait.specs.Disk.{DiskView, LeavesOnly}
@@ -15,16 +15,12 @@ use Rattle.generations.specs.Posts.{Posts}
 use Rattle.settled_lists.specs.Posted.{ArePosted}
 use Rattle.service_threads.specs.Kept.{HasSettled, IsServedDisk, StandsForBeginning}
 use Rattle.service_workers.specs.declared.stop_cause.StopCause.{StopCause}
-use Rattle.service_workers.specs.declared.answer.Answer.{Answer as ScriptAnswer}
-use Rattle.service_lines.specs.ServedLines.{answers_text as script_text}
 use Rattle.live_lines.specs.declared.answer.Answer.{Answer}
 use Rattle.intake.specs.Turns.{of}
-use Rattle.live_service.specs.Inputs.{Input}
-use Rattle.live_service.specs.Submits.{ArePutInOrder}
-use Rattle.live_service.specs.Scripts.{answer_of_line}
-use Rattle.live_service.specs.OneList.{AreAnswersIn}
-use Rattle.live_service.specs.Prints.{AreAllLines, HasPrintedBy, answers_text}
-use Rattle.live_service.specs.Gathers.{HasText}
+use Rattle.line_exchange.specs.Inputs.{Input}
+use Rattle.line_workers.specs.Submits.{ArePutInOrder}
+use Rattle.line_exchange.specs.OneList.{AreAnswersIn}
+use Rattle.line_exchange.specs.Prints.{AreAllLines, HasPrintedBy, lines_of}
 
 -- ---- a board at its beginning
 
@@ -66,21 +62,11 @@ pub record HasServedOn {D : Type 0} {V : _} (store : Store D V) (input : Input) 
   pub on : GoesOn known board
   pub all : IsSomeAnd back (λ d. HasServedAll store input editors board (V.view d))
 
--- An input was answered over a store: so much was printed by what was known, and the board has it.
-pub record HasPrintedOn {D : Type 0} {V : _} (store : Store D V) (input : Input) (editors : ℕ) (old new : Option (List ℕ)) (back : Option D) : Type 0 where
+-- Lines were answered over a store: so much was printed by what was known, a line of this text for each answer, and the board has it.
+pub record HasPrintedOn {D : Type 0} {V : _} (text : Answer → List ℕ) (store : Store D V) (input : Input) (editors : ℕ) (old new : Option (List ℕ)) (back : Option D) : Type 0 where
   pub known : Beginning
   pub count : ℕ
-  pub printed : HasPrintedBy known input editors old new count
-  pub whole : AreAllLines input count
-  pub on : HasServedOn store input editors known back
-
--- a script was answered over a store
-pub record HasGatheredOn {D : Type 0} {V : _} (store : Store D V) (input : Input) (editors : ℕ) (old new : Option (List ℕ)) (back : Option D) : Type 0 where
-  pub known : Beginning
-  pub count : ℕ
-  pub text : List ℕ
-  pub gathered : HasText known input editors count text
-  pub printed : Appends old new text
+  pub printed : HasPrintedBy text known input editors old new count
   pub whole : AreAllLines input count
   pub on : HasServedOn store input editors known back
 
@@ -106,18 +92,9 @@ pub record AreOfOneList {D : Type 0} (model : Ghosts D) (disk back : D) (input :
   -- and one now leaves the state after all of them
   pub left : IsTrue (model.view disk).keeps_model → KeepsThrough (model.view back) (settle first taken).state
 
--- An input was answered: a line was printed for each of its lines, of answers of one list.
-pub record HasAnswered {D : Type 0} (model : Ghosts D) (disk back : D) (input : Input) (editors : ℕ) (old new : Option (List ℕ)) : Type 0 where
+-- An input was answered, or a script: a line of this text was printed for each of its lines, of answers of one list.
+pub record HasAnswered {D : Type 0} (text : Answer → List ℕ) (model : Ghosts D) (disk back : D) (input : Input) (editors : ℕ) (old new : Option (List ℕ)) : Type 0 where
   pub answers : List Answer
   pub all : AreAllLines input (length answers)
-  pub printed : Appends old new (answers_text answers)
-  pub one_list : AreOfOneList model disk back input editors answers
-
--- A script was answered: the same of its lines, which tell no session and no ticket.
-pub record HasAnsweredScript {D : Type 0} (model : Ghosts D) (disk back : D) (input : Input) (editors : ℕ) (old new : Option (List ℕ)) : Type 0 where
-  pub answers : List Answer
-  pub lines : List ScriptAnswer
-  pub all : AreAllLines input (length answers)
-  pub shown : map answer_of_line answers ≡ map (λ a. Some a) lines
-  pub printed : Appends old new (script_text lines)
+  pub printed : Appends old new (lines_of text answers)
   pub one_list : AreOfOneList model disk back input editors answers

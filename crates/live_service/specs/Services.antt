@@ -5,19 +5,21 @@ use Rattle.command_output.specs.declared.fault.Fault.{Fault}
 use Rattle.command_output.specs.declared.fault.Fault.TheVariants as told
 use Rattle.written_values.specs.declared.line.ScriptLine.{ScriptLine}
 use Rattle.written_values.specs.declared.words.LandmarkWords.{LandmarkWords}
-use Rattle.service_lines.specs.ServedLines.{IsServeEnd, IsServed}
-use Rattle.live_service.specs.Inputs.{Input, Script}
-use Rattle.live_service.specs.ServedList.{HasAnswered, HasAnsweredScript}
+use Rattle.live_service.specs.ServeEnds.{IsServeEnd}
+use Rattle.line_exchange.specs.Gathers.{IsServed}
+use Rattle.live_lines.specs.Answers.{answer_text, script_text}
+use Rattle.line_exchange.specs.Inputs.{Input, Script}
+use Rattle.live_service.specs.ServedList.{HasAnswered}
 
 -- the device came back, and an input was answered on a writer whose contents are read so
 abbrev pub AnswersInput : {D W : Type 0} → Ghosts D → D → Option D → Input → ℕ → (W → Option (List ℕ)) → W → W → Type 0
 AnswersInput model disk back input editors contents old new =
-    IsSomeAnd back (λ d. HasAnswered model disk d input editors (contents old) (contents new))
+    IsSomeAnd back (λ d. HasAnswered answer_text model disk d input editors (contents old) (contents new))
 
 -- and so was a script
 abbrev pub AnswersScript : {D W : Type 0} → Ghosts D → D → Option D → List ScriptLine → ℕ → (W → Option (List ℕ)) → W → W → Type 0
 AnswersScript model disk back script editors contents old new =
-    IsSomeAnd back (λ d. HasAnsweredScript model disk d (Script script) editors (contents old) (contents new))
+    IsSomeAnd back (λ d. HasAnswered script_text model disk d (Script script) editors (contents old) (contents new))
 
 -- No fault ended the service of a script.
 pub record ServesScript {D W : Type 0} (model : Ghosts D) (disk : D) (back : Option D) (script : List ScriptLine) (editors : ℕ) (contents : W → Option (List ℕ)) (old new : W) : Type 0 where

@@ -11,27 +11,22 @@ ghost use Rattle.committer.specs.Listed.{IsListedFrom};
 ghost use Rattle.service_threads.specs.Kept.{IsFresh};
 ghost use Rattle.live_service.specs.Seated.{IsSeated};
 ghost use Rattle.live_service.specs.ServedList.{EndsServed};
-ghost use Rattle.live_service.specs.Submits.{AreAllEditors, ArePutInOrder, ComesBack};
+ghost use Rattle.line_workers.specs.Submits.{AreAllEditors, ArePutInOrder, ComesBack};
 ghost use Rattle.live_service.specs.Taken.{TakesNoMore};
 
-use crate::editing::edit_lines;
-use crate::exchange::Exchange;
-use crate::forwarding::forward_lines;
-use crate::messages::Stream;
 use crate::opened::{EngineParts, Opened};
-use crate::tabling::{TablesReader, table_lines};
-use crate::waiting::wait_lines;
 use checkpoint::Store;
 use committer::Committer;
 use disk_trait::Disk;
 use generations::{BoardReader, History};
 use group_commit::Desk;
 use intake::{Editor, Taker, open_intake};
+use line_exchange::{Exchange, Stream};
+use line_workers::{TablesReader, Workplace, edit_lines, forward_lines, table_lines, wait_lines};
+use packet_ways::BoardName;
 use requests::SESSIONS;
 use service_threads::{Rebuilds, ServiceConfig, commit_all, first_generation};
-use service_workers::{
-    Coordinator, ForwarderOf, Gate, Naming, SessionEditor, StopCause, WordSource,
-};
+use service_workers::{ForwarderOf, Gate, SessionEditor, StopCause};
 use std::alloc::{AllocError, Global};
 use std::marker::PhantomData;
 use std::snapshot::Snapshot;
@@ -40,34 +35,33 @@ use std::thread;
 use std::thread::{JoinHandle, Promise, PromisedHandle, Scope, Threads};
 use table_files::TableFiles;
 
-/// The editors, the forwarders and the reader for tables, at the board that `B` names.
+/// The editors, the forwarders, and where tables are put, with a reader for that, at the board that `B` names.
 #[derive(Drop)]
-pub struct Seats<B: Naming> {
+pub struct Seats<B: BoardName, T> {
     pub editors: Vec<SessionEditor<B>>,
     pub forwarders: Vec<ForwarderOf<B>>,
-    pub tables: TablesReader<B>,
+    pub tables: T,
+    pub reader: TablesReader<B>,
 }
 
 // What an editor's thread answers: the editor that it was given, where that comes back. What this has put lines asked for, in their order.
 #[derive(Drop)]
-struct EditorPromise<J: Stream, B: Naming> {
+struct EditorPromise<J: Stream, B: BoardName> {
     editor: Snapshot<SessionEditor<B>>,
     of: PhantomData<J>,
 }
 
-impl<J: Stream, B: Naming> Promise<Option<SessionEditor<B>>> for EditorPromise<J, B> {
+impl<J: Stream, B: BoardName> Promise<Option<SessionEditor<B>>> for EditorPromise<J, B> {
     ghost use Rattle.std.specs.Prelude.{IfSome};
-    ghost use Rattle.live_service.specs.Submits.{ComesBack};
+    ghost use Rattle.line_workers.specs.Submits.{ComesBack};
 
     ghost kept_by = { λ p r. IfSome r (λ e. ComesBack J.input J.editors p.editor.value.editor e.editor) };
 }
 
 // Starts the editors' threads. Where one can't be made all stop.
-fn start_editors<'s, E, J: Stream + Send + Sync, B: Naming + Send + Sync + 's, R: Wait + Sync>(
+fn start_editors<'s, E, J: Stream + Send + Sync, B: BoardName + Send + Sync + 's, R: Wait + Sync>(
     scope: &Scope<'s, E>,
-    rt: &'s R,
-    coordinator: &'s Coordinator<B>,
-    exchange: &'s Exchange<J, B>,
+    here: &'s Workplace<'s, J, B, R>,
     editors: Vec<SessionEditor<B>>,
     handles: &mut Vec<PromisedHandle<Option<SessionEditor<B>>, EditorPromise<J, B>>>,
 )
@@ -88,11 +82,11 @@ fn start_editors<'s, E, J: Stream + Send + Sync, B: Naming + Send + Sync + 's, R
         let job = move || -> Option<SessionEditor<B>>
             requires { editor.editor.put ≡ [] }
             ensures { IfSome result (λ e. ComesBack J.input J.editors editor.editor e.editor) }
-        { edit_lines(rt, coordinator, exchange, editor) };
+        { edit_lines(here, editor) };
         match scope.spawn_with(promise, job) {
             Ok(handle) => handles.push_reserved(handle),
             Err(_) => {
-                coordinator.stop(rt, StopCause::NoThread);
+                here.coordinator.stop(here.rt, StopCause::NoThread);
                 return;
             }
         }
@@ -104,16 +98,13 @@ fn start_forwarders<
     's,
     E,
     J: Stream + Send + Sync,
-    B: Naming + Send + Sync,
+    B: BoardName + Send + Sync,
     G: Gate + Sync,
     R: Wait + Sync,
 >(
     scope: &Scope<'s, E>,
-    rt: &'s R,
-    alloc: Global,
-    coordinator: &'s Coordinator<B>,
+    here: &'s Workplace<'s, J, B, R>,
     gate: &'s G,
-    exchange: &'s Exchange<J, B>,
     forwarders: Vec<ForwarderOf<B>>,
     handles: &mut Vec<JoinHandle<()>>,
 ) {
@@ -122,11 +113,11 @@ fn start_forwarders<
         if handles.len() == handles.capacity() {
             return;
         }
-        let job = move || forward_lines(rt, alloc, coordinator, gate, exchange, forwarder, place);
+        let job = move || forward_lines(here, gate, forwarder, place);
         match scope.spawn(job) {
             Ok(handle) => handles.push_reserved(handle),
             Err(_) => {
-                coordinator.stop(rt, StopCause::NoThread);
+                here.coordinator.stop(here.rt, StopCause::NoThread);
                 return;
             }
         }
@@ -139,15 +130,12 @@ fn start_tables<
     's,
     E,
     J: Stream + Send + Sync,
-    B: Naming + Send + Sync,
+    B: BoardName + Send + Sync,
     T: TableFiles + Drop + Send + 's,
     R: Wait + Sync,
 >(
     scope: &Scope<'s, E>,
-    rt: &'s R,
-    alloc: Global,
-    coordinator: &'s Coordinator<B>,
-    exchange: &'s Exchange<J, B>,
+    here: &'s Workplace<'s, J, B, R>,
     tables: T,
     reader: TablesReader<B>,
     handles: &mut Vec<JoinHandle<()>>,
@@ -155,31 +143,29 @@ fn start_tables<
     if handles.len() == handles.capacity() {
         return;
     }
-    let job = move || table_lines(rt, alloc, coordinator, exchange, tables, reader);
+    let job = move || table_lines(here, tables, reader);
     match scope.spawn(job) {
         Ok(handle) => handles.push_reserved(handle),
-        Err(_) => coordinator.stop(rt, StopCause::NoThread),
+        Err(_) => here.coordinator.stop(here.rt, StopCause::NoThread),
     }
 }
 
 // Starts the waiter's thread. Where it can't be made all stop.
-fn start_waiter<'s, E, J: Stream + Send + Sync, B: Naming + Send + Sync, R: Wait + Sync>(
+fn start_waiter<'s, E, J: Stream + Send + Sync, B: BoardName + Send + Sync, R: Wait + Sync>(
     scope: &Scope<'s, E>,
-    rt: &'s R,
-    coordinator: &'s Coordinator<B>,
-    exchange: &'s Exchange<J, B>,
+    here: &'s Workplace<'s, J, B, R>,
 ) -> Option<JoinHandle<()>> {
-    match scope.spawn(move || wait_lines(rt, coordinator, exchange)) {
+    match scope.spawn(move || wait_lines(here)) {
         Ok(handle) => Some(handle),
         Err(_) => {
-            coordinator.stop(rt, StopCause::NoThread);
+            here.coordinator.stop(here.rt, StopCause::NoThread);
             None
         }
     }
 }
 
 // Whether all that an editor put has been taken: the mark of its last ticket is on the board. The editor ends.
-fn has_left_none<B: Naming, D: Disk, Q: Wait + Drop>(
+fn has_left_none<B: BoardName, D: Disk, Q: Wait + Drop>(
     board: &History,
     committer: &mut Committer<D, Q>,
     editor: SessionEditor<B>,
@@ -196,7 +182,7 @@ fn has_left_none<B: Naming, D: Disk, Q: Wait + Drop>(
 }
 
 // For how many sessions, from 0, the editor has come back and all that it put has been taken, with one editor more.
-fn ended_next<J: Stream, B: Naming, D: Disk, Q: Wait + Drop>(
+fn ended_next<J: Stream, B: BoardName, D: Disk, Q: Wait + Drop>(
     served: bool,
     board: &History,
     committer: &mut Committer<D, Q>,
@@ -224,7 +210,7 @@ fn ended_next<J: Stream, B: Naming, D: Disk, Q: Wait + Drop>(
 }
 
 // Joins the editors' threads, and answers for how many sessions, from 0, the editor came back and all that it put has been taken.
-fn ended_editors<J: Stream, B: Naming, D: Disk, Q: Wait + Drop, R: Threads + Wait>(
+fn ended_editors<J: Stream, B: BoardName, D: Disk, Q: Wait + Drop, R: Threads + Wait>(
     rt: &R,
     served: bool,
     board: &History,
@@ -247,21 +233,19 @@ fn ended_editors<J: Stream, B: Naming, D: Disk, Q: Wait + Drop, R: Threads + Wai
 }
 
 // Joins the threads. Behind a fault the waiter sleeps until no answer comes any more; else it answers its lines first.
-fn joined<J: Stream, B: Naming, R: Threads + Wait>(
-    rt: &R,
-    coordinator: &Coordinator<B>,
-    exchange: &Exchange<J, B>,
+fn joined<J: Stream, B: BoardName, R: Threads + Wait>(
+    here: &Workplace<J, B, R>,
     handles: Vec<JoinHandle<()>>,
     waiter: Option<JoinHandle<()>>,
 ) {
     for handle in handles {
-        handle.join(rt);
+        handle.join(here.rt);
     }
-    if coordinator.stopped(rt) {
-        exchange.end(rt);
+    if here.coordinator.stopped(here.rt) {
+        here.exchange.end(here.rt);
     }
     if let Some(handle) = waiter {
-        handle.join(rt);
+        handle.join(here.rt);
     }
 }
 
@@ -287,25 +271,21 @@ fn ended(
     }
 }
 
-// Runs all threads, the committer in the caller's, and gives the store back.
-fn threads<
+// Runs the threads of all seats, the committer in the caller's, and gives the store back.
+fn run_seats<
     'a,
     J: Stream + Send + Sync,
-    B: Naming + Send + Sync,
+    B: BoardName + Send + Sync,
     D: Disk + Drop,
     G: Gate + Sync,
     T: TableFiles + Drop + Send,
     Q: Wait + Drop,
     R: Threads + Wait + Sync,
 >(
-    rt: &'a R,
-    alloc: Global,
-    coordinator: &'a Coordinator<B>,
+    here: &'a Workplace<'a, J, B, R>,
     gate: &'a G,
-    tables: T,
-    exchange: &'a Exchange<J, B>,
     committer: Committer<D, Q>,
-    seats: Seats<B>,
+    seats: Seats<B, T>,
     rebuilds: Rebuilds,
 ) -> (Result<History, StopCause>, Store<D>)
     requires opening { (posts_of committer).opening ≡ B.opening }
@@ -316,7 +296,7 @@ fn threads<
 {
     thread::scope(
         thread::scope_env(),
-        rt,
+        here.rt,
         |scope| -> (Result<History, StopCause>, Store<D>)
             requires opening { (posts_of committer).opening ≡ B.opening }
             requires fresh { IsFresh committer }
@@ -329,64 +309,48 @@ fn threads<
             let Seats {
                 editors,
                 forwarders,
-                tables: reader,
+                tables,
+                reader,
             } = seats;
             let sessions = editors.len();
-            let Ok(mut editing) = Vec::with_capacity(alloc, sessions) else {
+            let Ok(mut editing) = Vec::with_capacity(here.alloc, sessions) else {
                 return (Err(StopCause::Memory), committer.into_store());
             };
             // The thread that puts tables is one more.
             let count = forwarders.len().saturating_add(1);
-            let Ok(mut handles) = Vec::with_capacity(alloc, count) else {
+            let Ok(mut handles) = Vec::with_capacity(here.alloc, count) else {
                 return (Err(StopCause::Memory), committer.into_store());
             };
-            start_editors(scope, rt, coordinator, exchange, editors, &mut editing);
-            start_forwarders(
-                scope,
-                rt,
-                alloc,
-                coordinator,
-                gate,
-                exchange,
-                forwarders,
-                &mut handles,
-            );
-            start_tables(
-                scope,
-                rt,
-                alloc,
-                coordinator,
-                exchange,
-                tables,
-                reader,
-                &mut handles,
-            );
-            let waiter = start_waiter(scope, rt, coordinator, exchange);
+            start_editors(scope, here, editors, &mut editing);
+            start_forwarders(scope, here, gate, forwarders, &mut handles);
+            start_tables(scope, here, tables, reader, &mut handles);
+            let waiter = start_waiter(scope, here);
             let own = commit_all::<B, D, Q, R>(
-                rt,
-                alloc,
-                coordinator,
+                here.rt,
+                here.alloc,
+                here.coordinator,
                 &mut committer,
                 &mut rebuilds,
             );
             let board = committer.told().history();
-            if coordinator.stopped(rt) {
-                exchange.shut(rt);
+            if here.coordinator.stopped(here.rt) {
+                here.exchange.shut(here.rt);
             }
-            let taken = ended_editors(rt, own.is_ok(), &board, &mut committer, editing);
-            joined(rt, coordinator, exchange, handles, waiter);
+            let taken = ended_editors(here.rt, own.is_ok(), &board, &mut committer, editing);
+            joined(here, handles, waiter);
+            let cause = here.coordinator.cause(here.rt);
             (
-                ended(own, coordinator.cause(rt), taken == sessions, board),
+                ended(own, cause, taken == sessions, board),
                 committer.into_store(),
             )
         },
     )
 }
 
-// Builds the first generation, runs all threads, the committer in the caller's, and gives the store back.
+// Builds the first generation, runs the threads of all seats, the committer in the caller's, and gives the store back.
 fn run<
     J: Stream + Send + Sync,
-    B: Naming + Send + Sync,
+    B: BoardName + Send + Sync,
     D: Disk + Drop,
     G: Gate + Sync,
     T: TableFiles + Drop + Send,
@@ -395,12 +359,10 @@ fn run<
 >(
     rt: &R,
     alloc: Global,
-    rounds: u32,
     committer: Committer<D, Q>,
-    seats: Seats<B>,
-    source: WordSource,
+    seats: Seats<B, T>,
+    rebuilds: Rebuilds,
     gate: &G,
-    tables: T,
     exchange: &Exchange<J, B>,
 ) -> (Result<History, StopCause>, Store<D>)
     requires opening { (posts_of committer).opening ≡ B.opening }
@@ -410,28 +372,24 @@ fn run<
     ensures { EndsServed B.opening (store_of committer) J.input J.editors result.0 (view_of result.1) }
 {
     let mut committer = committer;
-    let Ok(mut rebuilds) = Rebuilds::new(alloc, source, rounds) else {
-        return (Err(StopCause::Memory), committer.into_store());
-    };
+    let mut rebuilds = rebuilds;
     let editing = seats.editors.len();
     match first_generation::<B, D, Q, R>(rt, alloc, &mut committer, &mut rebuilds, editing) {
-        Ok(coordinator) => threads::<J, B, D, G, T, Q, R>(
-            rt,
-            alloc,
-            &coordinator,
-            gate,
-            tables,
-            exchange,
-            committer,
-            seats,
-            rebuilds,
-        ),
+        Ok(coordinator) => {
+            let here = Workplace {
+                rt,
+                alloc,
+                coordinator: &coordinator,
+                exchange,
+            };
+            run_seats::<J, B, D, G, T, Q, R>(&here, gate, committer, seats, rebuilds)
+        }
         Err(stop) => (Err(stop.cause), committer.into_store()),
     }
 }
 
 // The editors at the board that `B` names.
-fn named<B: Naming>(
+fn named<B: BoardName>(
     alloc: Global,
     editors: Vec<Editor>,
 ) -> Result<Vec<SessionEditor<B>>, AllocError>
@@ -448,7 +406,7 @@ fn named<B: Naming>(
 }
 
 // Forwarders of the readers behind the first so many, which stay.
-fn forwarders<B: Naming>(
+fn forwarders<B: BoardName>(
     alloc: Global,
     readers: &mut Vec<BoardReader>,
     first: usize,
@@ -468,7 +426,7 @@ fn forwarders<B: Naming>(
 }
 
 // The last of the readers, which is for tables.
-fn reader_for_tables<B: Naming>(readers: &mut Vec<BoardReader>) -> TablesReader<B>
+fn reader_for_tables<B: BoardName>(readers: &mut Vec<BoardReader>) -> TablesReader<B>
     requires some { 0 < vec_len readers.old }
     requires named { All (λ r. r.all.opening ≡ B.opening) readers.old.items }
     ensures { All (λ r. r.all.opening ≡ B.opening) readers.new.items }
@@ -480,12 +438,13 @@ fn reader_for_tables<B: Naming>(readers: &mut Vec<BoardReader>) -> TablesReader<
 }
 
 // The queue's end, and editors, forwarders and a reader for tables at the board that `B` names.
-fn seat_all<B: Naming>(
+fn seat_all<B: BoardName, T: Drop>(
     alloc: Global,
     config: ServiceConfig,
+    tables: T,
     readers: Vec<BoardReader>,
     starts: &[u64; SESSIONS],
-) -> Result<(Taker, Seats<B>), AllocError>
+) -> Result<(Taker, Seats<B, T>), AllocError>
     requires config { IsSeated config }
     requires some { 0 < vec_len readers }
     requires readers { All (λ r. r.all.opening ≡ B.opening) readers.items }
@@ -495,7 +454,7 @@ fn seat_all<B: Naming>(
     ensures editors { IfOk result (λ r. AreAllEditors r.0 (map (λ e. e.editor) r.1.editors.items)) }
 {
     let mut readers = readers;
-    let tables = reader_for_tables::<B>(&mut readers);
+    let reader = reader_for_tables::<B>(&mut readers);
     let forwarders = forwarders::<B>(alloc, &mut readers, config.editors as usize)?;
     let (taker, editors) = open_intake(alloc, config.places as usize, readers, starts)?;
     let editors = named::<B>(alloc, editors)?;
@@ -503,6 +462,7 @@ fn seat_all<B: Naming>(
         editors,
         forwarders,
         tables,
+        reader,
     };
     Ok((taker, seats))
 }
@@ -510,7 +470,7 @@ fn seat_all<B: Naming>(
 // Seats editors and forwarders at the board that `B` names, and runs them.
 fn seat<
     J: Stream + Send + Sync,
-    B: Naming + Send + Sync,
+    B: BoardName + Send + Sync,
     D: Disk + Drop,
     G: Gate + Sync,
     T: TableFiles + Drop + Send,
@@ -537,20 +497,13 @@ fn seat<
         source,
         tables,
     } = opened;
-    match seat_all::<B>(alloc, config.service, readers, &store.starts()) {
+    let Ok(rebuilds) = Rebuilds::new(alloc, source, config.rounds) else {
+        return (Err(StopCause::Memory), store);
+    };
+    match seat_all::<B, T>(alloc, config.service, tables, readers, &store.starts()) {
         Ok((taker, seats)) => {
             let committer = Committer::new(Desk::new(store), taker, writer);
-            run::<J, B, D, G, T, Q, R>(
-                rt,
-                alloc,
-                config.rounds,
-                committer,
-                seats,
-                source,
-                gate,
-                tables,
-                exchange,
-            )
+            run::<J, B, D, G, T, Q, R>(rt, alloc, committer, seats, rebuilds, gate, exchange)
         }
         Err(_) => (Err(StopCause::Memory), store),
     }
@@ -560,7 +513,7 @@ fn seat<
 /// comes any more. The disk comes back, and what was posted on the board that `B` names.
 pub fn engine<
     J: Stream + Send + Sync,
-    B: Naming + Send + Sync,
+    B: BoardName + Send + Sync,
     D: Disk + Drop,
     G: Gate + Sync,
     T: TableFiles + Drop + Send,

@@ -1,9 +1,9 @@
 //! A service that answers lines: those of an input as they come, with edits, routes, addresses and packets, or those of a script.
 //!
-//! [`serve_live`] opens a device and starts the threads of an engine: a committer, an editor for each session, forwarders, and a
-//! waiter, which answers `state` and `wait`. One more thread reads lines and hands each to the thread that answers it. The caller's
-//! thread prints the answers in the order of their lines, each as soon as it and all before it are there, and flushes its output
-//! before it sleeps. A line that waits for a commit holds up the printing of later answers, not the work on them.
+//! [`serve_live`] opens a device and starts the threads of an engine: a committer, an editor for each session, forwarders, a waiter,
+//! which answers `state` and `wait`, and the one that puts tables (all of `line_workers`). One more thread reads lines and hands each to
+//! the thread that answers it, and the caller's thread prints the answers in the order of their lines (both of `line_exchange`), each as
+//! soon as it and all before it are there. A line that waits for a commit holds up the printing of later answers, not the work on them.
 //!
 //! Memory doesn't grow with the input: at most 1,024 lines have been read and not answered. A burst of edits costs one build of
 //! tables: they are built when no edit waits, or at the latest `rounds` rounds after the first edit that they lack.
@@ -25,10 +25,10 @@
 //!
 //! Where no fault ended a service, all its answers are of one list of requests, which it took from the state of the opened device on
 //! (`AreOfOneList` of `specs/ServedList`). Each session's are edits that lines of the input ask for, in the order of the lines, each line
-//! at most once (`ArePutInOrder` of `specs/Submits`). A verdict is the mark that settling the first of them gives this session and this
+//! at most once (`ArePutInOrder` of `line_workers`). A verdict is the mark that settling the first of them gives this session and this
 //! ticket, and an edit that is in already has a ticket that was taken before. Each generation serves the graph of the state that its number names. A route is the
 //! way that a packet goes there, and so are addresses, launches and hops by the scheme of their generation (`IsSaidIn` of
-//! `specs/OneList`). The device holds the state after all of the requests. Nothing of this kind is said of `resume`, `tables`, `state`
+//! `line_exchange`). The device holds the state after all of the requests. Nothing of this kind is said of `resume`, `tables`, `state`
 //! and `wait`, nor of a way's length. The same holds of a script.
 //!
 //! ```text
@@ -40,29 +40,15 @@
 //! ```
 #![tactic(auto)]
 
-mod console;
-mod editing;
 mod engine;
-mod exchange;
-mod forwarding;
-mod gathering;
-mod input_source;
-mod line_source;
-mod messages;
+mod faults;
 mod opened;
-mod printed;
-mod printing;
-mod read_fault;
-mod reading;
 mod running;
 mod script;
-mod script_source;
 mod serve;
 mod serving;
-mod tabling;
-mod waiting;
 
+pub use line_exchange::Served;
 pub use script::{serve_lines, serve_on, serve_told};
 pub use serve::serve_live;
-pub use service_lines::Served;
 pub use service_threads::{Gate, OpenGate, ServiceConfig};

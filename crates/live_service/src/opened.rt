@@ -7,8 +7,9 @@ ghost use Rattle.live_service.specs.ServedList.{IsBoardOf};
 use checkpoint::Store;
 use disk_trait::Disk;
 use generations::{BoardReader, BoardWriter};
+use packet_ways::BoardName;
 use service_threads::ServiceConfig;
-use service_workers::{Naming, WordSource};
+use service_workers::WordSource;
 use std::marker::PhantomData;
 use std::sync::Wait;
 
@@ -33,7 +34,7 @@ pub struct Opened<D: Disk, T> {
 
 /// What the engine is started with: an opened device, and the board that `B` names, to which nothing was posted.
 #[derive(Drop)]
-pub struct EngineParts<B: Naming, D: Disk, T, Q: Wait + Drop> {
+pub struct EngineParts<B: BoardName, D: Disk, T, Q: Wait + Drop> {
     pub opened: Opened<D, T>,
     pub writer: BoardWriter<Q>,
     pub readers: Vec<BoardReader>,

@@ -4,31 +4,28 @@ ghost use Rattle.checkpoint.specs.StoreWords.{is_down, state_of};
 ghost use Rattle.command_output.specs.declared.fault.Fault.{Fault};
 ghost use Rattle.generations.specs.Beginnings.{GoesOn};
 ghost use Rattle.service_threads.specs.Faults.{stop_fault};
-ghost use Rattle.service_lines.specs.ServedLines.{told_fault};
-ghost use Rattle.service_lines.specs.declared.served.Served.{Served};
-ghost use Rattle.live_service.specs.Ends.{IsLater, fault_of};
-ghost use Rattle.live_service.specs.Reads.{IsReadEnd};
+ghost use Rattle.live_service.specs.ServeEnds.{IsLater, told_fault};
+ghost use Rattle.line_exchange.specs.declared.served.Served.{Served};
+ghost use Rattle.line_exchange.specs.Ends.{fault_of};
+ghost use Rattle.line_exchange.specs.Reads.{IsReadEnd};
 ghost use Rattle.live_service.specs.Runs.{HasRun, IsFaultOf, IsPrintEnd};
 ghost use Rattle.live_service.specs.Seated.{IsSeated};
 ghost use Rattle.live_service.specs.ServedList.{EndsServed, IsBoardOf};
 
-use crate::console::Console;
 use crate::engine::engine;
-use crate::exchange::Exchange;
-use crate::line_source::LineSource;
-use crate::messages::Stream;
+use crate::faults::fault_of as told_fault;
 use crate::opened::{EngineParts, Opened};
-use crate::printed::{PrintEnd, Printed};
-use crate::read_fault::ReadFault;
-use crate::reading::read_lines;
 use checkpoint::Store;
 use command_output::Fault;
 use core::thread::Stack;
 use disk_trait::Disk;
 use generations::History;
-use service_lines::{Served, fault_of as told_fault};
+use line_exchange::{
+    Console, Exchange, LineSource, PrintEnd, Printed, ReadFault, Served, Stream, read_lines,
+};
+use packet_ways::BoardName;
 use service_threads::STACK_LEN;
-use service_workers::{Gate, Naming, StopCause};
+use service_workers::{Gate, StopCause};
 use std::alloc::Global;
 use std::marker::PhantomData;
 use std::snapshot::Snapshot;
@@ -39,13 +36,13 @@ use table_files::TableFiles;
 
 // What the engine's thread answers of the disk that the store was on, of its input, and of the board that `B` names.
 #[derive(Drop)]
-struct EnginePromise<J: Stream, B: Naming, D: Disk> {
+struct EnginePromise<J: Stream, B: BoardName, D: Disk> {
     store: Snapshot<Store<D>>,
     of: PhantomData<J>,
     at: PhantomData<B>,
 }
 
-impl<J: Stream, B: Naming, D: Disk> Promise<(Result<History, StopCause>, D)>
+impl<J: Stream, B: BoardName, D: Disk> Promise<(Result<History, StopCause>, D)>
     for EnginePromise<J, B, D> {
     ghost use Rattle.live_service.specs.ServedList.{EndsServed};
 
@@ -59,7 +56,7 @@ struct ReaderPromise<J: Stream> {
 }
 
 impl<J: Stream> Promise<Result<Option<u64>, ReadFault>> for ReaderPromise<J> {
-    ghost use Rattle.live_service.specs.Reads.{IsReadEnd};
+    ghost use Rattle.line_exchange.specs.Reads.{IsReadEnd};
 
     ghost kept_by = { λ p r. IsReadEnd J.input r };
 }
@@ -85,7 +82,6 @@ fn early_fault(printed: &Printed, engine: &Result<History, StopCause>) -> Option
         (PrintEnd::Output, _) => Some(Fault::Output),
         (_, Err(cause)) => Some(told_cause(*cause)),
         (PrintEnd::Memory, Ok(_)) => Some(Fault::Memory),
-        (PrintEnd::Internal, Ok(_)) => Some(Fault::Internal),
         (PrintEnd::Whole, Ok(board)) => {
             if board.covers(&printed.known) {
                 None
@@ -152,7 +148,7 @@ fn conclude<J: Stream, C: Console<J>, R: Threads>(
 }
 
 // Waits for the engine. The disk comes back, unless it had no thread.
-fn join_engine<J: Stream, B: Naming, D: Disk, R: Threads>(
+fn join_engine<J: Stream, B: BoardName, D: Disk, R: Threads>(
     rt: &R,
     engine: Option<PromisedHandle<(Result<History, StopCause>, D), EnginePromise<J, B, D>>>,
 ) -> (Result<History, StopCause>, Option<D>)
@@ -176,7 +172,7 @@ fn start_engine<
     's,
     E,
     J: Stream + Send + Sync,
-    B: Naming + Send + Sync,
+    B: BoardName + Send + Sync,
     D: Disk + Drop + Send + 's,
     G: Gate + Sync,
     T: TableFiles + Drop + Send + 's,
@@ -241,10 +237,10 @@ fn start_engine<
 
 /// All threads: the engine's, the reader's, and the caller's, which prints. The disk comes back, unless no thread could be made for the
 /// engine.
-pub(crate) fn threads<
+pub(crate) fn run_threads<
     'a,
     J: Stream + Send + Sync,
-    B: Naming + Send + Sync,
+    B: BoardName + Send + Sync,
     D: Disk + Drop + Send,
     G: Gate + Sync,
     T: TableFiles + Drop + Send,

@@ -3,23 +3,22 @@ ghost use Rattle.std.specs.Prelude.{◌≡◌, IfSome, IsTrue};
 ghost use Rattle.command_output.specs.declared.fault.Fault.{Fault};
 ghost use Rattle.service_threads.specs.Config.{IsServiceConfig};
 ghost use Rattle.service_threads.specs.Kept.{IsLeftBy};
-ghost use Rattle.service_lines.specs.ServedLines.{IsServeEnd};
-ghost use Rattle.service_lines.specs.declared.served.Served.{Served};
-ghost use Rattle.live_service.specs.Ends.{HasToldSo, TellsEnd, fault_of};
-ghost use Rattle.live_service.specs.Inputs.{Bytes};
+ghost use Rattle.live_service.specs.ServeEnds.{IsServeEnd};
+ghost use Rattle.line_exchange.specs.declared.served.Served.{Served};
+ghost use Rattle.line_exchange.specs.Ends.{HasToldSo, TellsEnd, fault_of};
+ghost use Rattle.line_exchange.specs.Inputs.{Bytes};
 ghost use Rattle.live_service.specs.Runs.{HasEnded, PrintsTo};
+ghost use Rattle.live_lines.specs.Answers.{answer_text};
 ghost use Rattle.live_service.specs.ServedList.{HasPrintedOn};
 ghost use Rattle.live_service.specs.Services.{AnswersInput};
 
-use crate::console::{Terminal, told};
-use crate::input_source::InputSource;
-use crate::messages::Stream;
+use crate::faults::fault_of as told_fault;
 use crate::opened::{EngineConfig, Opened};
 use crate::serving::{seated, serve_opened, take_back};
 use checkpoint::standing_law;
 use command_output::FaultWriter;
 use disk_trait::Disk;
-use service_lines::{Served, fault_of as told_fault};
+use line_exchange::{InputSource, Served, Stream, Terminal, told};
 use service_threads::{ServiceConfig, open_device};
 use service_workers::Gate;
 use std::alloc::Global;
@@ -55,7 +54,7 @@ where
     ensures told { TellsEnd E.contents E.has_failed err.old err.new result.0 }
     ensures ended { HasEnded opened.store result.0 result.1 }
     ensures one_list { result.0 ≡ Served.Printed
-        → HasPrintedOn opened.store J.input J.editors (O.contents out.old) (O.contents out.new) result.1 }
+        → HasPrintedOn answer_text opened.store J.input J.editors (O.contents out.old) (O.contents out.new) result.1 }
 {
     let lines = InputSource::new(alloc, opened.config.service.editors, input);
     let terminal = Terminal { alloc, out, err };

@@ -6,19 +6,16 @@ ghost use Rattle.live_service.specs.Runs.{HasRun};
 ghost use Rattle.live_service.specs.Seated.{IsSeated};
 ghost use Rattle.live_service.specs.ServedList.{IsBoardOf};
 
-use crate::console::Console;
-use crate::exchange::Exchange;
-use crate::line_source::LineSource;
-use crate::messages::Stream;
 use crate::opened::{EngineConfig, EngineParts, Opened};
-use crate::running::threads;
+use crate::running::run_threads;
 use checkpoint::Store;
 use command_output::Fault;
 use disk_trait::Disk;
 use generations::{BoardReader, BoardWriter, MOST_READERS, board};
-use service_lines::Served;
+use line_exchange::{Console, Exchange, LineSource, Served, Stream};
+use packet_ways::BoardName;
 use service_threads::ServiceConfig;
-use service_workers::{Gate, Naming};
+use service_workers::Gate;
 use std::alloc::{AllocError, Global};
 use std::marker::{Brand, PhantomData};
 use std::sync::Wait;
@@ -83,15 +80,14 @@ fn serve_at_board<'a, J, B, D, G, T, Q, R, L, C>(
     rt: &'a R,
     alloc: Global,
     opened: Opened<D, T>,
-    writer: BoardWriter<Q>,
-    readers: Vec<BoardReader>,
+    board: (BoardWriter<Q>, Vec<BoardReader>),
     gate: &'a G,
     lines: L,
     console: C,
 ) -> (C, Served, Option<D>)
 where
     J: Stream + Send + Sync,
-    B: Naming + Send + Sync,
+    B: BoardName + Send + Sync,
     D: Disk + Drop + Send,
     G: Gate + Sync,
     T: TableFiles + Drop + Send,
@@ -99,10 +95,11 @@ where
     R: Threads + Wait + Sync,
     L: LineSource<J> + Send + Drop,
     C: Console<J> + Drop,
-    requires board { IsBoardOf B.opening (state_of opened.store) writer readers.items }
+    requires board { IsBoardOf B.opening (state_of opened.store) board.0 board.1.items }
     requires given { L.has_given lines 0 }
     ensures { HasRun C.prints C.finishes J.input J.editors opened.store console result.0 result.1 result.2 }
 {
+    let (writer, readers) = board;
     let service = opened.config.service;
     let known = writer.tell().history();
     match Exchange::<J, B>::new(alloc, service.editors, service.forwarders, known) {
@@ -113,7 +110,7 @@ where
                 readers,
                 of: PhantomData,
             };
-            threads(rt, alloc, parts, gate, &exchange, lines, console)
+            run_threads(rt, alloc, parts, gate, &exchange, lines, console)
         }
         Err(_) => unstarted::<J, D, T, C>(opened, console),
     }
@@ -141,8 +138,8 @@ where
     ensures { HasRun C.prints C.finishes J.input J.editors opened.store console result.0 result.1 result.2 }
 {
     match board_of(rt, alloc, &opened.config, &opened.store) {
-        Ok((writer, readers)) => serve_at_board::<J, Brand, D, G, T, &R, R, L, C>(
-            rt, alloc, opened, writer, readers, gate, lines, console,
+        Ok(board) => serve_at_board::<J, Brand, D, G, T, &R, R, L, C>(
+            rt, alloc, opened, board, gate, lines, console,
         ),
         Err(_) => unstarted::<J, D, T, C>(opened, console),
     }

@@ -1,7 +1,7 @@
 // Services that end while their input stays open: whoever still reads it is called off once the fault is told.
 use crate::helpers::{Setup, fresh, got, reopened, run, same, text_of};
 use command_output::Fault;
-use service_lines::Served;
+use live_service::Served;
 use service_threads::OpenGate;
 use stand_ins::{BeforeSync, HookedDisk, NarrowWriter};
 use standard_streams::{InterruptibleInput, InterruptingWriter};

@@ -1,6 +1,6 @@
 // Inputs that end while edits wait.
 use crate::helpers::{Setup, count_lines, fresh, got, reopened, run, same, text_of};
-use service_lines::Served;
+use live_service::Served;
 use service_threads::OpenGate;
 use stand_ins::{BeforeSync, HookedDisk, comes};
 use std::alloc::Global;

@@ -5,7 +5,7 @@ use crate::helpers::{
 use crate::talk::{Row, Talked, answers_of, talk_on};
 use command_output::Fault;
 use disk_trait::{CrashDisk, MemDisk};
-use service_lines::Served;
+use live_service::Served;
 use std::alloc::Global;
 use std::process::Abort;
 use std::sync::Wait;

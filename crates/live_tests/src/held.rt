@@ -1,6 +1,6 @@
 // Lines that are worked on while the device holds a commit.
 use crate::helpers::{Setup, fresh, got, run, same, text_of};
-use service_lines::Served;
+use live_service::Served;
 use service_threads::Gate;
 use stand_ins::{BeforeSync, HookedDisk, comes};
 use std::alloc::Global;

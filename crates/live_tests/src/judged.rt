@@ -4,7 +4,7 @@ use crate::helpers::{Setup, fresh, got, reopened, run_plain, same, text_of};
 use crate::plain::PlainSession;
 use checkpoint::Store;
 use disk_trait::MemDisk;
-use service_lines::Served;
+use live_service::Served;
 use std::alloc::Global;
 use std::process::Abort;
 use std::sync::Wait;

@@ -4,7 +4,7 @@
 use crate::helpers::{Setup, fresh, reopened, run_plain, same, text_of};
 use command_output::Fault;
 use disk_trait::MemDisk;
-use service_lines::Served;
+use live_service::Served;
 use std::alloc::Global;
 use std::process::Abort;
 use std::sync::Wait;

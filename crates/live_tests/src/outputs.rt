@@ -2,7 +2,7 @@
 use crate::helpers::{Setup, beginning_of, fresh, got, run, run_plain, same, text_of};
 use command_output::Fault;
 use disk_trait::MemDisk;
-use service_lines::Served;
+use live_service::Served;
 use service_threads::OpenGate;
 use stand_ins::NarrowWriter;
 use std::alloc::Global;

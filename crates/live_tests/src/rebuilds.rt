@@ -1,7 +1,7 @@
 // Bursts of edits, after which few generations were built, or one for each round.
 use crate::helpers::{Setup, count_lines, fresh, got, same, text_of};
 use crate::talk::{Row, Talked, talk_with};
-use service_lines::Served;
+use live_service::Served;
 use stand_ins::{HookedDisk, Turns};
 use std::alloc::Global;
 use std::process::Abort;

@@ -1,7 +1,7 @@
 // Each line of the table, with its answers by hand.
 use crate::helpers::{Setup, expect_run, fresh, got, holds, reopened, same};
 use crate::talk::{Row, expect_talk};
-use service_lines::Served;
+use live_service::Served;
 use std::alloc::Global;
 use std::process::Abort;
 use std::sync::Wait;

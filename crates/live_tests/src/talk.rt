@@ -2,7 +2,7 @@
 use crate::helpers::{Setup, count_lines, got, run_at, same, text_of};
 use crate::places::NoFiles;
 use disk_trait::{Disk, MemDisk};
-use service_lines::Served;
+use live_service::Served;
 use service_threads::OpenGate;
 use std::alloc::{AllocError, Global};
 use std::io::{self, BufReader, Read, Write};

@@ -14,9 +14,10 @@ use disk_trait::Disk;
 use graph_edits::Graph;
 use linked_list_allocator::LocalHeap;
 use node_table::Scheme;
+use packet_ways::BoardName;
 use scheme_builds::{SCRATCH_LEN, scheme_of_in_threads, workers_here};
 use service_workers::{
-    Coordinator, GenerationGraph, Graphs, Naming, StopCause, ToldOf, WordSource, shared_graph,
+    Coordinator, GenerationGraph, Graphs, StopCause, ToldOf, WordSource, shared_graph,
 };
 use std::alloc::{AllocError, Global};
 use std::sync::{Arc, Wait};
@@ -60,7 +61,7 @@ impl Rebuilds {
     }
 
     // Builds a generation of the store's graph, and posts it. The store stays as it is.
-    fn rebuild<J: Naming, D: Disk, R: Wait + Drop, S: Threads + Wait + Sync>(
+    fn rebuild<J: BoardName, D: Disk, R: Wait + Drop, S: Threads + Wait + Sync>(
         &mut self,
         rt: &S,
         alloc: Global,
@@ -136,7 +137,7 @@ fn next_graph<D: Disk, R: Wait + Drop>(
 }
 
 // What the committer tells.
-fn told<J: Naming, D: Disk, R: Wait + Drop>(committer: &Committer<D, R>) -> ToldOf<J>
+fn told<J: BoardName, D: Disk, R: Wait + Drop>(committer: &Committer<D, R>) -> ToldOf<J>
     requires { (posts_of committer.now).opening ≡ J.opening }
 {
     ToldOf::new(committer.told())
@@ -145,7 +146,7 @@ fn told<J: Naming, D: Disk, R: Wait + Drop>(committer: &Committer<D, R>) -> Told
 // One round, its marks told, and the generation that is due behind it, told too. Its graph is shown before it is posted, so that
 // whoever sees it on the board finds its graph too. Whatever ends it, the device holds the state before the turn or the one after its
 // whole group.
-fn turn<J: Naming, D: Disk, R: Wait + Drop, S: Threads + Wait + Sync>(
+fn turn<J: BoardName, D: Disk, R: Wait + Drop, S: Threads + Wait + Sync>(
     rt: &S,
     alloc: Global,
     coordinator: &Coordinator<J>,
@@ -177,7 +178,7 @@ fn turn<J: Naming, D: Disk, R: Wait + Drop, S: Threads + Wait + Sync>(
 
 /// Commits what editors submit, until all of them have left, or all stop. An `Err` is why the committer itself stopped.
 #[tactic(auto, using(crate::proofs::Settling::on_course_first, crate::proofs::Settling::turned_settles, crate::proofs::Settling::queue_first))]
-pub fn commit_all<J: Naming, D: Disk, R: Wait + Drop, S: Threads + Wait + Sync>(
+pub fn commit_all<J: BoardName, D: Disk, R: Wait + Drop, S: Threads + Wait + Sync>(
     rt: &S,
     alloc: Global,
     coordinator: &Coordinator<J>,
@@ -220,7 +221,7 @@ pub fn commit_all<J: Naming, D: Disk, R: Wait + Drop, S: Threads + Wait + Sync>(
 }
 
 /// Builds the first generation, and gives the coordinator that begins with it.
-pub fn first_generation<J: Naming, D: Disk, R: Wait + Drop, S: Threads + Wait + Sync>(
+pub fn first_generation<J: BoardName, D: Disk, R: Wait + Drop, S: Threads + Wait + Sync>(
     rt: &S,
     alloc: Global,
     committer: &mut Committer<D, R>,

@@ -16,7 +16,7 @@
 //! # The contract
 //!
 //! Whatever ends the committer, a crash at any moment leaves the state after a beginning of the requests that it took (`HasSettled` of
-//! specs/Kept). The contracts of editors and forwarders are in [`service_workers`]. All of them use one board (`Naming`). What
+//! specs/Kept). The contracts of editors and forwarders are in [`service_workers`]. All of them use one board (`BoardName`). What
 //! contracts of threads can't say is in docs/DECISIONS-SERVICE.md.
 //!
 //! ```text
@@ -38,4 +38,4 @@ pub use committing::{Rebuilds, commit_all, first_generation};
 pub use config::{STACK_LEN, ServiceConfig};
 pub use fault::Fault;
 pub use opening::open_device;
-pub use service_workers::{Answer, Gate, OpenGate};
+pub use service_workers::{Gate, OpenGate};

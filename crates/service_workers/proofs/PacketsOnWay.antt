@@ -24,10 +24,11 @@ use Rattle.forwarders.specs.declared.refused.Refused.TheVariants.{BoardShut, Gen
 use Rattle.forwarders.specs.Answers.{address_at, by, by_name, handed_back, hop_at, launch_at}
 use Rattle.forwarders.specs.Arrivals.{IsLawfulList, IsPublished}
 use Rattle.forwarders.proofs.Published.{found_published, published_there}
-use Rattle.service_workers.specs.declared.forwarding.Carried.{Carried}
-use Rattle.service_workers.specs.declared.forwarding.Carried.TheVariants as carried
-use Rattle.service_workers.specs.declared.forwarding.Trip.{Trip}
-use Rattle.service_workers.specs.Forwarded.{HoldsOf, IsCarried, IsLaunched, IsOnWay, IsSent, IsUnderWay, launched_at}
+use Rattle.packet_ways.specs.declared.carried.Carried.{Carried}
+use Rattle.packet_ways.specs.declared.carried.Carried.TheVariants as carried
+use Rattle.packet_ways.specs.declared.carried.Trip.{Trip}
+use Rattle.packet_ways.specs.Carried.{HoldsOf, IsCarried, IsUnderWay}
+use Rattle.service_workers.specs.Forwarded.{IsLaunched, IsOnWay, IsSent, launched_at}
 
 -- ---- knowing more
 

@@ -1,4 +1,3 @@
-pub mod Answers
 pub mod Settled
 pub mod Edited
 pub mod EditedAsAsked

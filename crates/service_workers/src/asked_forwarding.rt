@@ -2,21 +2,21 @@
 ghost use Rattle.std.specs.Prelude.{◌≡◌, IfSome};
 ghost use Rattle.generations.specs.Beginnings.{GoesOn, board_after};
 ghost use Rattle.forwarders.specs.Answers.{address_at, hop_at, launch_at};
-ghost use Rattle.service_workers.specs.Forwarded.{IsCarried};
+ghost use Rattle.packet_ways.specs.Carried.{IsCarried};
 
 use crate::coordinator::Coordinator;
-use crate::forwarding::{Carried, ForwarderOf, Trip, forward};
+use crate::forwarding::{ForwarderOf, forward};
 use crate::gate::Gate;
-use crate::told::Naming;
 use forwarders::{Forwarder, Refused};
 use generations::History;
 use node_table::{Address, Move, Packet};
+use packet_ways::{BoardName, Carried, Trip};
 use std::alloc::Global;
 use std::sync::Wait;
 use std::thread;
 
 // The address of a node in the newest generation, and its number. Without an answer all stop.
-fn address_now<J: Naming, R: Wait>(
+fn address_now<J: BoardName, R: Wait>(
     rt: &R,
     coordinator: &Coordinator<J>,
     forwarder: &mut Forwarder,
@@ -46,7 +46,7 @@ fn address_now<J: Naming, R: Wait>(
 }
 
 // The packet that a node sends to an address. Without an answer all stop.
-fn launch_now<J: Naming, R: Wait>(
+fn launch_now<J: BoardName, R: Wait>(
     rt: &R,
     coordinator: &Coordinator<J>,
     forwarder: &mut Forwarder,
@@ -73,7 +73,7 @@ fn launch_now<J: Naming, R: Wait>(
 }
 
 // What a node does with a packet. Without an answer all stop.
-fn hop_now<J: Naming, R: Wait>(
+fn hop_now<J: BoardName, R: Wait>(
     rt: &R,
     coordinator: &Coordinator<J>,
     forwarder: &mut Forwarder,
@@ -103,7 +103,7 @@ fn hop_now<J: Naming, R: Wait>(
     unreachable!()
 }
 
-impl<J: Naming> ForwarderOf<J> {
+impl<J: BoardName> ForwarderOf<J> {
     /// The postings that it saw or was told of.
     pub fn known(&self) -> History
         ensures same { result ≡ self.now.forwarder }

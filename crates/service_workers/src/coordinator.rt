@@ -1,13 +1,14 @@
 // Where the threads wait for one another.
 use crate::graphs::{GenerationGraph, Graphs};
 use crate::stop_cause::StopCause;
-use crate::told::{Naming, ToldOf};
+use crate::told::ToldOf;
+use packet_ways::BoardName;
 use std::alloc::Global;
 use std::sync::{Arc, Condvar, Mutex, Wait};
 
 // What lies under the lock.
 #[derive(Drop)]
-struct SharedState<J: Naming> {
+struct SharedState<J: BoardName> {
     told: ToldOf<J>,
     // Those of the newest generations.
     graphs: Graphs,
@@ -40,7 +41,7 @@ pub struct Standing {
 
 /// What the committer told last.
 #[derive(Drop)]
-pub struct News<J: Naming> {
+pub struct News<J: BoardName> {
     pub told: ToldOf<J>,
     pub turn: u64,
     pub stopped: bool,
@@ -56,13 +57,13 @@ pub struct Work {
 
 /// One lock, at which editors and forwarders wait for news and the committer for work.
 #[derive(Drop)]
-pub struct Coordinator<J: Naming> {
+pub struct Coordinator<J: BoardName> {
     shared: Mutex<SharedState<J>>,
     news: Condvar,
     work: Condvar,
 }
 
-impl<J: Naming> SharedState<J> {
+impl<J: BoardName> SharedState<J> {
     fn news(&self) -> News<J> {
         News {
             told: self.told.again(),
@@ -132,7 +133,7 @@ impl<J: Naming> SharedState<J> {
     }
 }
 
-impl<J: Naming> Coordinator<J> {
+impl<J: BoardName> Coordinator<J> {
     /// A coordinator of so many editors, to which this was told.
     pub fn new(told: ToldOf<J>, graphs: Graphs, editing: usize) -> Coordinator<J> {
         Coordinator {

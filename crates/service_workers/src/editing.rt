@@ -5,14 +5,14 @@ ghost use Rattle.service_workers.specs.Settled.{IsMarkOf};
 
 use crate::coordinator::Coordinator;
 use crate::stop_cause::StopCause;
-use crate::told::Naming;
 use generations::{Mark, Verdict};
 use intake::{Editor, Outcome};
+use packet_ways::BoardName;
 use std::sync::Wait;
 use std::thread;
 
 // Waits until the last ticket is settled. Without an answer all stop.
-pub(crate) fn settled<J: Naming, R: Wait>(
+pub(crate) fn settled<J: BoardName, R: Wait>(
     rt: &R,
     coordinator: &Coordinator<J>,
     editor: &mut Editor,

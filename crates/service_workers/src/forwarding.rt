@@ -1,55 +1,31 @@
 // A packet on its way.
 ghost use Rattle.std.specs.Prelude.{◌≡◌, IfSome};
 ghost use Rattle.generations.specs.Beginnings.{GoesOn};
-ghost use Rattle.service_workers.specs.Forwarded.{IsCarried, IsLaunched, IsSent, launched_at};
+ghost use Rattle.packet_ways.specs.Carried.{IsCarried};
+ghost use Rattle.service_workers.specs.Forwarded.{IsLaunched, IsSent, launched_at};
 
 use crate::coordinator::Coordinator;
 use crate::gate::Gate;
 use crate::stop_cause::StopCause;
-use crate::told::Naming;
 use forwarders::{Forwarder, Refused};
 use generations::BoardReader;
 use node_table::{Move, Packet};
+use packet_ways::{BoardName, Carried, Trip};
 use scheme_builds::length_over;
 use std::alloc::Global;
 use std::marker::PhantomData;
 use std::sync::Wait;
 use std::thread;
 
-/// A packet from a node to a node.
-#[derive(Clone, Copy, Drop)]
-pub struct Trip {
-    pub from: u16,
-    pub to: u16,
-}
-
-/// What became of a packet.
-#[derive(Drop)]
-pub enum Carried {
-    /// It went over these nodes, its first and last among them, in this generation alone. The length is the way's in the graph of
-    /// that generation.
-    Along {
-        generation: u64,
-        nodes: Vec<u16>,
-        length: u64,
-    },
-    /// This generation has no tree for it.
-    Unreachable {
-        generation: u64,
-    },
-    /// A node isn't one of the device's.
-    NoNode,
-}
-
 /// A forwarder at the board that `J` names.
 #[derive(Drop)]
-pub struct ForwarderOf<J: Naming> {
+pub struct ForwarderOf<J: BoardName> {
     pub(crate) forwarder: Forwarder,
     pub(crate) of: PhantomData<J>,
     ghost named: { forwarder.opening ≡ J.opening },
 }
 
-impl<J: Naming> ForwarderOf<J> {
+impl<J: BoardName> ForwarderOf<J> {
     pub fn new(reader: BoardReader) -> ForwarderOf<J>
         requires { reader.all.opening ≡ J.opening }
     {
@@ -71,7 +47,7 @@ enum Launched {
 }
 
 // Carries a packet to its end, in the graph of its generation.
-fn carry<J: Naming, G: Gate, R: Wait>(
+fn carry<J: BoardName, G: Gate, R: Wait>(
     rt: &R,
     alloc: Global,
     coordinator: &Coordinator<J>,
@@ -136,7 +112,7 @@ fn carry<J: Naming, G: Gate, R: Wait>(
 }
 
 // Launches a packet in the newest generation.
-fn launch<J: Naming, G: Gate, R: Wait>(
+fn launch<J: BoardName, G: Gate, R: Wait>(
     rt: &R,
     alloc: Global,
     coordinator: &Coordinator<J>,
@@ -173,7 +149,7 @@ fn refused_at(generation: u64, refused: Refused) -> Launched
 }
 
 // One trip, until it has an answer. Without one all stop.
-pub(crate) fn forward<J: Naming, G: Gate, R: Wait>(
+pub(crate) fn forward<J: BoardName, G: Gate, R: Wait>(
     rt: &R,
     alloc: Global,
     coordinator: &Coordinator<J>,

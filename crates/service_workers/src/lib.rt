@@ -3,7 +3,7 @@
 //!
 //! An editor submits a change and waits for its mark ([`SessionEditor::edit`]), under the ticket that is asked for or the next one. A
 //! forwarder launches a packet in the newest generation and carries it there to its end ([`ForwarderOf::route`]); where that
-//! generation has left the shelf meanwhile, the packet is launched anew. Both stand at the board that a type names ([`Naming`]), and
+//! generation has left the shelf meanwhile, the packet is launched anew. Both stand at the board that a type names ([`BoardName`]), and
 //! stop with all others at the first fault ([`Coordinator::stop`]).
 //!
 //! An editor's change is put under its ticket at the queue's end, and its verdict is the mark that the board shows of this ticket
@@ -16,7 +16,6 @@
 //! ```
 #![tactic(auto)]
 
-mod answer;
 mod asked_forwarding;
 mod coordinator;
 mod editing;
@@ -28,12 +27,11 @@ mod stop_cause;
 mod told;
 mod word_source;
 
-pub use answer::Answer;
 pub use coordinator::{Coordinator, News, Standing, Work};
-pub use forwarding::{Carried, ForwarderOf, Trip};
+pub use forwarding::ForwarderOf;
 pub use gate::{Gate, OpenGate};
 pub use graphs::{GenerationGraph, Graphs, shared_graph};
 pub use session_editor::{EditEnd, SessionEditor};
 pub use stop_cause::StopCause;
-pub use told::{Naming, ToldOf};
+pub use told::ToldOf;
 pub use word_source::WordSource;

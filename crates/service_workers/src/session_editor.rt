@@ -8,10 +8,10 @@ ghost use Rattle.service_workers.specs.AtRest.{IsAtRest, last_by};
 use crate::coordinator::Coordinator;
 use crate::editing::settled;
 use crate::stop_cause::StopCause;
-use crate::told::Naming;
 use generations::{History, Mark, Verdict};
 use graph_edits::{Change, Code};
 use intake::{Editor, SubmitRefused};
+use packet_ways::BoardName;
 use std::marker::PhantomData;
 use std::sync::Wait;
 use std::thread;
@@ -42,7 +42,7 @@ pub enum EditEnd {
 
 /// An editor of the board that `J` names, which takes its changes one at a time.
 #[derive(Drop)]
-pub struct SessionEditor<J: Naming> {
+pub struct SessionEditor<J: BoardName> {
     editor: Editor,
     // The mark of the last change that was submitted.
     told: Option<Mark>,
@@ -56,7 +56,7 @@ pub struct SessionEditor<J: Naming> {
 }
 
 // Puts a change into the queue, under this ticket, unless that is refused. Without an answer all stop.
-fn put_as_asked<J: Naming, R: Wait>(
+fn put_as_asked<J: BoardName, R: Wait>(
     rt: &R,
     coordinator: &Coordinator<J>,
     editor: &mut Editor,
@@ -121,7 +121,7 @@ fn told_before(told: Option<Mark>, ticket: u64) -> Option<EditEnd>
 }
 
 // One change under a ticket that is asked for, by an editor whose last change has this mark. Without an answer all stop.
-fn edit_as_asked<J: Naming, R: Wait>(
+fn edit_as_asked<J: BoardName, R: Wait>(
     rt: &R,
     coordinator: &Coordinator<J>,
     editor: &mut Editor,
@@ -149,7 +149,7 @@ fn edit_as_asked<J: Naming, R: Wait>(
     }
 }
 
-impl<J: Naming> SessionEditor<J> {
+impl<J: BoardName> SessionEditor<J> {
     #[tactic(auto, using(crate::proofs::Resting::rests_new))]
     /// An editor that has submitted nothing.
     pub fn new(editor: Editor) -> SessionEditor<J>

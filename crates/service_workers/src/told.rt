@@ -2,29 +2,17 @@
 ghost use Rattle.std.specs.Prelude.{◌≡◌};
 
 use generations::Told;
-use std::marker::{Brand, Model, PhantomData};
-
-/// Which board it is. Each call of the service picks it.
-pub trait Naming {
-    ghost use Rattle.generations.specs.Beginnings.{Opening};
-
-    ghost opening: { Opening };
-}
-
-impl Naming for Brand {
-    ghost use Rattle.std.specs.Prelude.{[]};
-
-    ghost opening = { record { book = record { number = 0; log_name = 0; cells_name = 0 }; starts = []; count = 0 } };
-}
+use packet_ways::BoardName;
+use std::marker::{Model, PhantomData};
 
 /// What was told of the board that `J` names. Contracts see it as a beginning of that board's list.
 #[derive(Drop)]
-pub struct ToldOf<J: Naming> {
+pub struct ToldOf<J: BoardName> {
     told: Told,
     of: PhantomData<J>,
 }
 
-impl<J: Naming> Model for ToldOf<J> {
+impl<J: BoardName> Model for ToldOf<J> {
     ghost use Rattle.std.specs.Prelude.{◌≡◌};
     ghost use Rattle.generations.specs.Beginnings.{Beginning};
 
@@ -35,7 +23,7 @@ impl<J: Naming> Model for ToldOf<J> {
     ghost invariant = { λ t. t.told.opening ≡ J.opening };
 }
 
-impl<J: Naming> ToldOf<J> {
+impl<J: BoardName> ToldOf<J> {
     pub fn new(told: Told) -> ToldOf<J>
         requires { told.opening ≡ J.opening }
         ensures { result ≡ told }

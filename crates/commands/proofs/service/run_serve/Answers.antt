@@ -1,6 +1,7 @@
 use Rattle.std.proofs.Common.{◌≡◌, ◌≢◌, inl, inr, refl}
 use Rattle.std.proofs.lemmas.Result.{IfErr-at_err, IfOk-at_ok}
-use Rattle.service_lines.specs.ServedLines.{IsServed, IsServeEnd}
+use Rattle.line_exchange.specs.Gathers.{IsServed}
+use Rattle.live_service.specs.ServeEnds.{IsServeEnd}
 use Rattle.command_output.specs.declared.fault.Fault.TheVariants.{Output}
 use Rattle.commands.specs.declared.devices.Access.TheVariants.{ToChange}
 use Rattle.commands.proofs.ToldRuns.{script_ends}

@@ -4,7 +4,7 @@ use Rattle.std.specs.Vec.Iter.{into_iter_items}
 use Rattle.committer.specs.CommitterWords.{got_of, queue_of}
 use Rattle.intake.specs.Turns.{of}
 use Rattle.settled_lists.specs.Posted.{ArePosted}
-use Rattle.live_service.specs.Submits.{ArePutInOrder}
+use Rattle.line_workers.specs.Submits.{ArePutInOrder}
 use Rattle.live_service.proofs.Backs.{each_more}
 use Rattle.live_service.proofs.engine.ended_editors.Goals as goal
 

@@ -2,7 +2,7 @@ use Rattle.std.proofs.Common.{◌≡◌, ◌<◌, ℕ, All}
 use Rattle.std.specs.Vec.Iter.{into_iter_items}
 use Rattle.committer.specs.CommitterWords.{got_of, queue_of, store_of}
 use Rattle.intake.specs.Turns.{of}
-use Rattle.live_service.specs.Submits.{ArePutInOrder}
+use Rattle.line_workers.specs.Submits.{ArePutInOrder}
 use Rattle.live_service.proofs.engine.ended_editors.Given as goal
 
 abbrev pub invariant-loop-handle : goal.invariant-loop-handle

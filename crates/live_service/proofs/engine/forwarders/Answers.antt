@@ -5,4 +5,4 @@ use Rattle.live_service.proofs.engine.forwarders.Goals as goal
 
 pub loop-readers-preserved : goal.loop-readers-preserved
 loop-readers-preserved g c =
-    (All-pop (λ (r : Knowledge). r.all.opening ≡ g.B.Naming.opening) c.loop-readers.readers.items c.pop.new.self.items c.pop.result c.pop.ensures.items c.loop-readers.invariant).0
+    (All-pop (λ (r : Knowledge). r.all.opening ≡ g.B.BoardName.opening) c.loop-readers.readers.items c.pop.new.self.items c.pop.result c.pop.ensures.items c.loop-readers.invariant).0

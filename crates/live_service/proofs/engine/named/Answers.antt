@@ -8,12 +8,12 @@ use Rattle.live_service.proofs.engine.named.Goals as goal
 
 pub loop-editor-preserved : goal.loop-editor-preserved
 loop-editor-preserved g c = (
-  All-rest (λ (e : Editing). e.known.opening ≡ g.B.Naming.opening) c.in-Some.editor (into_iter_items c.next.new.self) (into_iter_items c.loop-editor.editor-iterator)
+  All-rest (λ (e : Editing). e.known.opening ≡ g.B.BoardName.opening) c.in-Some.editor (into_iter_items c.next.new.self) (into_iter_items c.loop-editor.editor-iterator)
       c.in-Some.ensures.steps.0 c.loop-editor.invariant.0,
   (
     All-rest (λ (e : Editing). e.put ≡ []) c.in-Some.editor (into_iter_items c.next.new.self) (into_iter_items c.loop-editor.editor-iterator) c.in-Some.ensures.steps.0 c.loop-editor.invariant.1.0,
     (
-      All-rest (λ (e : Editing). e.start ≡ last_of g.B.Naming.opening.starts e.session) c.in-Some.editor (into_iter_items c.next.new.self) (into_iter_items c.loop-editor.editor-iterator) c.in-Some.ensures.steps.0
+      All-rest (λ (e : Editing). e.start ≡ last_of g.B.BoardName.opening.starts e.session) c.in-Some.editor (into_iter_items c.next.new.self) (into_iter_items c.loop-editor.editor-iterator) c.in-Some.ensures.steps.0
           c.loop-editor.invariant.1.1.0,
       one_moved (λ e. e.editor) c.loop-editor.all.items c.push.new.self.items c.new.result c.in-Some.editor (into_iter_items c.loop-editor.editor-iterator) (into_iter_items c.next.new.self) c.args.editors.items
           c.in_ok-push.ensures.items c.new.ensures c.in-Some.ensures.steps.0 c.loop-editor.invariant.1.1.1,

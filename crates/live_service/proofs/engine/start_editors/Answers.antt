@@ -4,7 +4,7 @@ use Rattle.std.specs.Vec.Iter.{into_iter_items}
 use Rattle.std.specs.Prelude.{IfSome}
 use Rattle.intake.specs.Editors.{Editing}
 use Rattle.service_workers.specs.declared.session_editor.SessionEditor.{SessionEditor}
-use Rattle.live_service.specs.Submits.{ComesBack}
+use Rattle.line_workers.specs.Submits.{ComesBack}
 use Rattle.live_service.proofs.engine.start_editors.Goals as goal
 
 pub loop-editor-preserved : goal.loop-editor-preserved
@@ -30,4 +30,4 @@ returns-in-Err g c = record { queue = λ q all. (c.loop-editor.invariant.1 q all
 
 pub spawn_with-requires-clause-keeps : goal.spawn_with-requires-clause-keeps
 spawn_with-requires-clause-keeps g c κs within r kept =
-    subst (λ (s : SessionEditor g.row.B.Denot g.B.Naming). IfSome r (λ (e : SessionEditor g.row.B.Denot g.B.Naming). ComesBack g.J.Stream.input g.J.Stream.editors s.editor e.editor)) (sym c.of.ensures) kept
+    subst (λ (s : SessionEditor g.row.B.Denot g.B.BoardName). IfSome r (λ (e : SessionEditor g.row.B.Denot g.B.BoardName). ComesBack g.J.Stream.input g.J.Stream.editors s.editor e.editor)) (sym c.of.ensures) kept

@@ -2,8 +2,8 @@ use Rattle.std.proofs.Common.{⊎_elim, ◌∙◌, subst}
 use Rattle.std.specs.Prelude.{◌≡◌, ◌≢◌, IfSome}
 use Rattle.std.specs.String.{string_bytes}
 use Rattle.command_output.specs.declared.fault.Fault.TheVariants.{Output}
-use Rattle.live_service.specs.Ends.{fault_of}
-use Rattle.live_service.specs.Gathers.{PrintsAtEnd}
+use Rattle.line_exchange.specs.Ends.{fault_of}
+use Rattle.line_exchange.specs.Gathers.{PrintsAtEnd}
 use Rattle.live_service.proofs.Ended.{ran_of}
 use Rattle.live_service.proofs.GatheredLines.{script_gathered, script_served}
 use Rattle.live_service.proofs.script.run_gatherer.Goals as goal

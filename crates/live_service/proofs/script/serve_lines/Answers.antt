@@ -1,13 +1,14 @@
 use Rattle.std.proofs.Common.{◌≡◌, ◌≢◌, ℕ, sym, subst, Some}
 use Rattle.command_output.specs.declared.fault.Fault.{Fault}
 use Rattle.command_output.specs.declared.fault.Fault.TheVariants.{Output}
-use Rattle.service_lines.specs.ServedLines.{IsServeEnd}
-use Rattle.service_lines.proofs.Telling.{told_end}
-use Rattle.live_service.specs.Ends.{fault_of}
-use Rattle.live_service.specs.Inputs.{Script}
+use Rattle.live_service.specs.ServeEnds.{IsServeEnd}
+use Rattle.live_service.proofs.Telling.{told_end}
+use Rattle.line_exchange.specs.Ends.{fault_of}
+use Rattle.live_lines.specs.Answers.{script_text}
+use Rattle.line_exchange.specs.Inputs.{Script}
 use Rattle.live_service.specs.Services.{AnswersScript}
 use Rattle.live_service.proofs.Ended.{engine_ends, err_of, ok_of}
-use Rattle.live_service.proofs.OneListed.{opened_left, read_left, script_answered}
+use Rattle.live_service.proofs.OneListed.{answered, opened_left, read_left}
 use Rattle.live_service.proofs.script.serve_lines.Goals as goal
 
 pub returns-in-Err-clause-ended : goal.returns-in-Err-clause-ended
@@ -44,4 +45,4 @@ returns-clause-one_list g c =
     let new = c.serve_script-served.new.out in
     ok_of c.result_of.result (c.serve_script-served.result.0) _ c.result_of.ensures.printed
     (λ is. subst (λ (n : ℕ). AnswersScript g.D.Disk c.args.disk back c.args.script.items n text c.args.out.now new) c.seated.ensures.editors
-    (script_answered c.args.disk store (Script c.args.script.items) c.seated.result.editors (text c.args.out.now) (text new) back c.in-Ok.ensures.opened (c.serve_script-served.ensures.one_list is)))
+    (answered script_text c.args.disk store (Script c.args.script.items) c.seated.result.editors (text c.args.out.now) (text new) back c.in-Ok.ensures.opened (c.serve_script-served.ensures.one_list is)))

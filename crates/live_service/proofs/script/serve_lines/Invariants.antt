@@ -1,4 +1,4 @@
-use Rattle.live_service.specs.Inputs.{Script}
+use Rattle.line_exchange.specs.Inputs.{Script}
 use Rattle.live_service.proofs.script.serve_lines.Given as goal
 
 abbrev pub ghosts-serve_script : goal.ghosts-serve_script

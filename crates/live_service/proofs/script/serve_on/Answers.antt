@@ -1,7 +1,7 @@
 use Rattle.std.proofs.Common.{inl, inr, subst}
 use Rattle.std.specs.Prelude.{IfSome}
-use Rattle.service_lines.specs.declared.served.Served.{Served}
-use Rattle.live_service.specs.Ends.{TellsEnd, fault_of}
+use Rattle.line_exchange.specs.declared.served.Served.{Served}
+use Rattle.line_exchange.specs.Ends.{TellsEnd, fault_of}
 use Rattle.live_service.specs.Services.{FailsScript}
 use Rattle.live_service.proofs.script.serve_on.Goals as goal
 

@@ -1,9 +1,10 @@
 use Rattle.std.proofs.Common.{◌∙◌, ℕ, ap, refl, sym, subst, Some}
 use Rattle.std.specs.Prelude.{IfSome}
-use Rattle.service_lines.specs.ServedLines.{IsServeEnd}
-use Rattle.service_lines.proofs.Telling.{told_end}
-use Rattle.live_service.specs.Ends.{fault_of}
-use Rattle.live_service.specs.Inputs.{Bytes}
+use Rattle.live_service.specs.ServeEnds.{IsServeEnd}
+use Rattle.live_service.proofs.Telling.{told_end}
+use Rattle.line_exchange.specs.Ends.{fault_of}
+use Rattle.live_lines.specs.Answers.{answer_text}
+use Rattle.line_exchange.specs.Inputs.{Bytes}
 use Rattle.live_service.specs.Services.{AnswersInput}
 use Rattle.live_service.proofs.Ended.{engine_ends, none_to, not_printed}
 use Rattle.live_service.proofs.OneListed.{answered, opened_left, read_left}
@@ -44,4 +45,4 @@ returns-clause-one_list g c is =
     let input = Bytes (g.S.Read.remaining c.args.input) in
     let text = g.O.Write.contents in
     subst (λ (n : ℕ). AnswersInput g.D.Disk c.args.disk back input n text c.args.out.now c.serve_stream.new.out) c.seated.ensures.editors
-    (answered c.args.disk store input c.seated.result.editors (text c.args.out.now) (text c.serve_stream.new.out) back c.in-Ok.ensures.opened (c.serve_stream.ensures.one_list is))
+    (answered answer_text c.args.disk store input c.seated.result.editors (text c.args.out.now) (text c.serve_stream.new.out) back c.in-Ok.ensures.opened (c.serve_stream.ensures.one_list is))

@@ -1,4 +1,4 @@
-use Rattle.live_service.specs.Inputs.{Bytes}
+use Rattle.line_exchange.specs.Inputs.{Bytes}
 use Rattle.live_service.proofs.serve.serve_live.Given as goal
 
 abbrev pub ghosts-serve_stream : goal.ghosts-serve_stream

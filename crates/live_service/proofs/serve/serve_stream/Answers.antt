@@ -1,6 +1,8 @@
 use Rattle.std.proofs.Common.{rules, ⊎_elim, ap, sym, subst}
-use Rattle.live_service.specs.Ends.{TellsEnd}
-use Rattle.live_service.specs.Runs.{PrintsSo, PrintsTo}
+use Rattle.line_exchange.specs.Ends.{TellsEnd}
+use Rattle.live_lines.specs.Answers.{answer_text}
+use Rattle.line_exchange.specs.Prints.{PrintsSo}
+use Rattle.live_service.specs.Runs.{PrintsTo}
 use Rattle.live_service.specs.ServedList.{HasPrintedOn}
 use Rattle.live_service.proofs.Ended.{prints_on, ran_of, run_prints}
 use Rattle.live_service.proofs.serve.serve_stream.Goals as goal
@@ -33,7 +35,7 @@ returns-clause-one_list g c is =
     let text = g.O.Write.contents in
     let old = text c.args.out.now in
     let back = c.serve_opened-terminal.result.2 in
-    let all : HasPrintedOn store input editors old (text c.serve_opened-terminal.result.0.out.now) back =
-    subst (λ o. HasPrintedOn store input editors old (text o) back) (sym ran.finishing.2)
+    let all : HasPrintedOn answer_text store input editors old (text c.serve_opened-terminal.result.0.out.now) back =
+    subst (λ o. HasPrintedOn answer_text store input editors old (text o) back) (sym ran.finishing.2)
     (prints_on store input editors old (text ran.mid.out.now) ran.printed c.serve_opened-terminal.result.1 back ran.printing.3 ran.print_end ran.one_list is) in
     search rules

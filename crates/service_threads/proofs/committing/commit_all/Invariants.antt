@@ -5,4 +5,4 @@ use Rattle.service_threads.proofs.committing.commit_all.Given as goal
 
 abbrev pub invariant-loop : goal.invariant-loop
 invariant-loop g l =
-    (goal.iterator-loop g).can_next l.iterator' × ((goal.iterator-loop g).is_finite l.iterator' × (((posts_of l.committer).opening ≡ g.J.Naming.opening) × (IsOnCourse l.fn.committer l.committer × KeepsQueue l.fn.committer l.committer)))
+    (goal.iterator-loop g).can_next l.iterator' × ((goal.iterator-loop g).is_finite l.iterator' × (((posts_of l.committer).opening ≡ g.J.BoardName.opening) × (IsOnCourse l.fn.committer l.committer × KeepsQueue l.fn.committer l.committer)))

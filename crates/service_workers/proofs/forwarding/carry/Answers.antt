@@ -2,7 +2,7 @@ use Rattle.std.proofs.Common.{rules, ◌≡◌, ap, sym, subst, refl}
 use Rattle.std.specs.Prelude.{Ok, Err}
 use Rattle.node_table.specs.declared.packet.Packet.{Packet}
 use Rattle.generations.proofs.Sharing.{goes_self, goes_trans}
-use Rattle.service_workers.specs.declared.forwarding.Carried.TheVariants.{Along}
+use Rattle.packet_ways.specs.declared.carried.Carried.TheVariants.{Along}
 use Rattle.service_workers.specs.Forwarded.{IsOnWay}
 use Rattle.service_workers.proofs.PacketsOnWay.{back_as_it_was, delivered_there, hopped_on, on_way_first, on_way_later}
 use Rattle.service_workers.proofs.forwarding.carry.Goals as goal

@@ -1,0 +1,5 @@
+pub mod Answering
+pub mod Further
+pub mod PrintedLines
+pub mod ReadLines
+pub mod SaidLines

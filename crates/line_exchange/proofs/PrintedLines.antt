@@ -1,0 +1,38 @@
+-- Answers that are printed one after the other.
+use Rattle.std.proofs.Common.{◌≡◌, ◌⊎◌, inl, inr, ⊎_elim, ◌++◌, ◌∷◌, [], ℕ, zero, suc, List, Option, Some, None, length, refl, sym, ap, ◌∙◌, append-nil, append_assoc}
+use Rattle.std.specs.Prelude.{slice_get}
+use Rattle.std.specs.Io.KnownBytes.{Appends, Keeps}
+use Rattle.line_exchange.specs.Inputs.{Input}
+use Rattle.line_exchange.specs.Prints.{HasPrinted}
+
+-- an element of a list with one more at its end
+pub get_snoc : {X : Type 0} (xs : List X) (y : X) (k : ℕ) (x : X) → slice_get (xs ++ y ∷ []) k ≡ Some x → (slice_get xs k ≡ Some x) ⊎ ((k ≡ length xs) × (y ≡ x))
+get_snoc [] y zero x is = inr (refl, cc)
+get_snoc [] y (suc k) x is = absurd (cc)
+get_snoc (z ∷ xs) y zero x is = inl is
+get_snoc (z ∷ xs) y (suc k) x is = ⊎_elim (λ there. inl there) (λ last. inr (ap suc last.0, last.1)) (get_snoc xs y k x is)
+
+pub appends_none : (old : Option (List ℕ)) → Appends old old []
+appends_none None = tt
+appends_none (Some xs) = sym (append-nil xs)
+
+pub appends_more : (old mid new : Option (List ℕ)) (bs cs : List ℕ) → Appends old mid bs → Appends mid new cs → Appends old new (bs ++ cs)
+appends_more None mid new bs cs first then = tt
+appends_more (Some xs) None new bs cs first then = absurd first
+appends_more (Some xs) (Some ys) None bs cs first then = absurd then
+appends_more (Some xs) (Some ys) (Some zs) bs cs first then = then ∙ (ap (λ (l : List ℕ). l ++ cs) first ∙ append_assoc xs bs cs)
+
+pub appends_still : (old mid new : Option (List ℕ)) (bs : List ℕ) → Appends old mid bs → Keeps mid new → Appends old new bs
+appends_still None mid new bs first kept = tt
+appends_still (Some xs) None new bs first kept = absurd first
+appends_still (Some xs) (Some ys) None bs first kept = absurd kept
+appends_still (Some xs) (Some ys) (Some zs) bs first kept = kept ∙ first
+
+-- at first nothing is printed
+pub none_printed : (input : Input) (editors : ℕ) (old : Option (List ℕ)) → HasPrinted input editors old old 0
+none_printed input editors old = record {
+  answers = [];
+  many = refl;
+  are = λ k answer is. absurd (cc);
+  printed = appends_none old;
+}

@@ -1,0 +1,87 @@
+// Where threads find the lines that are theirs, and the printer the answers.
+ghost use Rattle.std.specs.Prelude.{◌≡◌};
+
+use crate::messages::{Answered, Ask, Stream};
+use generations::History;
+use mailboxes::{Mailbox, ReorderBuffer};
+use packet_ways::BoardName;
+use std::alloc::{AllocError, Global};
+use std::sync::Wait;
+
+/// How many lines there are at most between the one that is read and the one that is printed.
+pub const WINDOW: usize = 1_024;
+
+/// A mailbox for each editor, for each forwarder, for the waiter and for tables, and the answers. It begins with the board that `B` names.
+#[derive(Drop)]
+pub struct Exchange<J: Stream, B: BoardName> {
+    pub sessions: Vec<Mailbox<Ask<J>>>,
+    pub forwarders: Vec<Mailbox<Ask<J>>>,
+    pub waiter: Mailbox<Ask<J>>,
+    pub tables: Mailbox<Ask<J>>,
+    pub answers: ReorderBuffer<Answered<J, B>>,
+    // What was posted then.
+    pub known: History,
+    ghost named: { known.opening ≡ B.opening },
+}
+
+// So many mailboxes.
+fn mailboxes<J: Stream>(alloc: Global, count: u8) -> Result<Vec<Mailbox<Ask<J>>>, AllocError> {
+    let mut all = Vec::with_capacity(alloc, count as usize)?;
+    for _ in 0..count {
+        all.push(Mailbox::new(alloc))?;
+    }
+    Ok(all)
+}
+
+impl<J: Stream, B: BoardName> Exchange<J, B> {
+    /// One of so many editors and forwarders, empty.
+    pub fn new(
+        alloc: Global,
+        editors: u8,
+        forwarders: u8,
+        known: History,
+    ) -> Result<Exchange<J, B>, AllocError>
+        requires { known.opening ≡ B.opening }
+    {
+        let sessions = mailboxes(alloc, editors)?;
+        let forwarders = mailboxes(alloc, forwarders)?;
+        let answers = ReorderBuffer::new(alloc, WINDOW)?;
+        Ok(Exchange {
+            sessions,
+            forwarders,
+            waiter: Mailbox::new(alloc),
+            tables: Mailbox::new(alloc),
+            answers,
+            known,
+        })
+    }
+
+    /// No line comes any more. Those that wait are answered.
+    pub fn close<R: Wait>(&self, rt: &R) {
+        for mailbox in &self.sessions {
+            mailbox.close(rt);
+        }
+        for mailbox in &self.forwarders {
+            mailbox.close(rt);
+        }
+        self.waiter.close(rt);
+        self.tables.close(rt);
+    }
+
+    /// No line comes any more, and those that wait are dropped.
+    pub fn shut<R: Wait>(&self, rt: &R) {
+        for mailbox in &self.sessions {
+            mailbox.shut(rt);
+        }
+        for mailbox in &self.forwarders {
+            mailbox.shut(rt);
+        }
+        self.waiter.shut(rt);
+        self.tables.shut(rt);
+    }
+
+    /// No answer comes any more.
+    pub fn end<R: Wait>(&self, rt: &R) {
+        self.answers.end(rt);
+    }
+}

@@ -1,0 +1,151 @@
+// The caller's end of a script's service: it gathers the answers, and prints them at the end.
+ghost use Rattle.std.specs.Prelude.{◌≡◌, ◌≢◌, ◌++◌, [], IfSome, OnOk};
+ghost use Rattle.std.specs.String.{string_bytes};
+ghost use Rattle.command_output.specs.Lines.{line};
+ghost use Rattle.live_lines.specs.Answers.{script_text};
+ghost use Rattle.line_exchange.specs.Ends.{IsFinish, fault_of};
+ghost use Rattle.line_exchange.specs.Gathers.{HasText, PrintsAtEnd};
+
+use crate::console::Console;
+use crate::exchange::Exchange;
+use crate::messages::{Answered, Stream};
+use crate::printed::{PrintEnd, Printed, furthest};
+use crate::served::Served;
+use command_output::{Fault, print_text};
+use live_lines::Answer;
+use packet_ways::BoardName;
+use std::alloc::{AllocError, Global};
+use std::io::Write;
+use std::sync::Wait;
+
+/// What gathers the answers to a script, and prints them at its end. No fault is told: who has the gatherer back knows it.
+#[derive(Drop)]
+pub struct Gatherer<'a, O> {
+    pub alloc: Global,
+    // The lines of the answers.
+    pub text: String,
+    pub out: &'a mut O,
+}
+
+// Adds the line that a script has of an answer.
+fn push_line(alloc: Global, text: &mut String, answer: &Answer) -> Result<(), AllocError>
+    ensures { OnOk result (string_bytes text.new ≡ string_bytes text.old ++ line (script_text answer.now)) }
+{
+    let mut line = answer.script_text(alloc)?;
+    line.push('\n')?;
+    text.push_str(&line)?;
+    Ok(())
+}
+
+// The answer to a line. While it isn't there, a lot of answers is awaited: nobody reads them before the end. None where no answer comes any
+// more.
+fn next<J: Stream, B: BoardName, R: Wait>(
+    rt: &R,
+    exchange: &Exchange<J, B>,
+    place: u64,
+) -> Option<Answered<J, B>>
+    ensures { IfSome result (λ answered. answered.place ≡ place) }
+{
+    if let Some(answered) = exchange.answers.try_take(rt, place) {
+        return Some(answered);
+    }
+    exchange.answers.await_lot(rt);
+    exchange.answers.take(rt, place)
+}
+
+// Takes the answers in the order of their lines, until none comes any more, or one can't be kept, and adds their lines.
+#[tactic(auto, using(crate::proofs::SaidLines::none_gathered, crate::proofs::SaidLines::one_gathered))]
+fn gather_each<J: Stream, B: BoardName, R: Wait>(
+    rt: &R,
+    alloc: Global,
+    exchange: &Exchange<J, B>,
+    text: &mut String,
+) -> Printed
+    requires { string_bytes text.old ≡ [] }
+    ensures text { result.end ≡ PrintEnd.Whole
+        → HasText result.known J.input J.editors result.count (string_bytes text.new) }
+    ensures opening { result.known.opening ≡ B.opening }
+{
+    let mut count: u64 = 0;
+    let mut known = exchange.known.again();
+    for _ in rt.forever() {
+        let Some(answered) = next(rt, exchange, count) else {
+            return Printed::new(count, PrintEnd::Whole, known);
+        };
+        let Some(more) = count.checked_add(1) else {
+            return Printed::new(count, PrintEnd::Whole, known);
+        };
+        match push_line(alloc, text, &answered.answer) {
+            Ok(()) => {
+                known = furthest(known, &answered.known);
+                count = more;
+            }
+            Err(_) => return Printed::new(count, PrintEnd::Memory, known),
+        }
+    }
+    Printed::new(count, PrintEnd::Whole, known)
+}
+
+// Takes the answers in the order of their lines, until none comes any more, and makes their lines.
+fn gather_all<J: Stream, B: BoardName, R: Wait>(
+    rt: &R,
+    alloc: Global,
+    exchange: &Exchange<J, B>,
+) -> (Printed, String)
+    ensures text { result.0.end ≡ PrintEnd.Whole
+        → HasText result.0.known J.input J.editors result.0.count (string_bytes result.1) }
+    ensures opening { result.0.known.opening ≡ B.opening }
+{
+    let mut text = String::new(alloc);
+    let printed = gather_each(rt, alloc, exchange, &mut text);
+    exchange.shut(rt);
+    exchange.end(rt);
+    (printed, text)
+}
+
+// Prints the text, unless there is a fault.
+fn printed_or<O: Write>(out: &mut O, text: &str, fault: Option<Fault>) -> Served
+    ensures printed { PrintsAtEnd text.now (O.contents out.old) (O.contents out.new) result }
+    ensures untouched { IfSome (fault_of result) (λ fault. fault ≢ Fault.Output → out.new ≡ out.old) }
+    ensures fault { IsFinish fault result }
+{
+    match fault {
+        Some(fault) => Served::Untold(fault),
+        None => match print_text(out, text) {
+            Ok(()) => Served::Printed,
+            Err(fault) => Served::Untold(fault),
+        },
+    }
+}
+
+impl<'a, J: Stream, O: Write> Console<J> for Gatherer<'a, O> {
+    ghost use Rattle.std.specs.Prelude.{◌≡◌, ◌≢◌, IfSome};
+    ghost use Rattle.std.specs.String.{string_bytes};
+    ghost use Rattle.command_output.specs.declared.fault.Fault.TheVariants.{Output};
+    ghost use Rattle.line_exchange.specs.Ends.{fault_of};
+    ghost use Rattle.line_exchange.specs.Gathers.{HasText, PrintsAtEnd};
+    ghost use Rattle.line_exchange.specs.declared.printed.PrintEnd.TheVariants.{Whole};
+
+    ghost prints = { λ c d p. (d.out.ghost_name ≡ c.out.ghost_name) × (d.out.now ≡ c.out.now)
+        × (p.end ≡ Whole → HasText p.known J.input J.editors p.count (string_bytes d.text)) };
+
+    ghost finishes = { λ c d s. (d.out.ghost_name ≡ c.out.ghost_name)
+        × PrintsAtEnd (string_bytes c.text) (O.contents c.out.now) (O.contents d.out.now) s
+        × IfSome (fault_of s) (λ fault. fault ≢ Output → d.out.now ≡ c.out.now) };
+
+    fn print<B: BoardName, R: Wait>(self, rt: &R, exchange: &Exchange<J, B>) -> (Self, Printed) {
+        let Gatherer {
+            alloc,
+            text: _,
+            out,
+        } = self;
+        let (printed, text) = gather_all(rt, alloc, exchange);
+        (Gatherer { alloc, text, out }, printed)
+    }
+
+    fn finish(self, fault: Option<Fault>) -> (Self, Served) {
+        let Gatherer { alloc, text, out } = self;
+        let served = printed_or(out, text.as_str(), fault);
+        (Gatherer { alloc, text, out }, served)
+    }
+}

@@ -1,0 +1,45 @@
+//! The lines of a service and their answers, handed from thread to thread: who reads, who prints, and where all find what is theirs.
+//!
+//! A reader takes lines from a [`LineSource`], one of an input or of a script, and puts what each asks for ([`Ask`]) where the one finds
+//! it that answers it: an [`Exchange`] has a mailbox for each editor, for each forwarder, for the waiter and for tables. The answers
+//! ([`Answered`]) come back in any order, and whoever prints takes them in the order of their lines: a [`Terminal`] prints each as soon
+//! as it and all before it are there, a [`Gatherer`] prints all at the end. Both are a [`Console`], which also tells how the service
+//! ended ([`Served`]). At most 1,024 lines have been read and not answered.
+//!
+//! Each message carries the fact that makes it right: what the line at its place asks for, and that the answer fits it and is what each
+//! list of postings says that goes on from what was known (`IsSaidAt` of specs/OneList). So the k-th answer that is printed is to the
+//! k-th line (`HasPrintedBy` of specs/Prints, `HasText` of specs/Gathers), and the board need only be shown to have what was known.
+//!
+//! Who answers the lines is another crate's affair: nothing here knows of editors, forwarders or a committer.
+//!
+//! ```text
+//! let exchange = Exchange::<J, B>::new(alloc, editors, forwarders, known)?;
+//! let lines = read_lines(rt, &exchange, InputSource::new(alloc, editors, input))?;      // in a thread
+//! let (terminal, printed) = Terminal { alloc, out, err }.print(rt, &exchange);          // in another one
+//! ```
+#![tactic(auto)]
+
+mod console;
+mod exchange;
+mod gathering;
+mod input_source;
+mod line_source;
+mod messages;
+mod printed;
+mod printing;
+mod read_fault;
+mod reading;
+mod script_source;
+mod served;
+
+pub use console::{Console, Terminal, told};
+pub use exchange::Exchange;
+pub use gathering::Gatherer;
+pub use input_source::InputSource;
+pub use line_source::LineSource;
+pub use messages::{Answered, Ask, Stream};
+pub use printed::{PrintEnd, Printed};
+pub use read_fault::ReadFault;
+pub use reading::read_lines;
+pub use script_source::ScriptSource;
+pub use served::Served;

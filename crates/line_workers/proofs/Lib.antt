@@ -1,0 +1,4 @@
+pub mod OldTickets
+pub mod SaidPackets
+pub mod Submitting
+pub mod TablesPut

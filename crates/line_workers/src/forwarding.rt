@@ -1,0 +1,204 @@
+// A forwarder's thread.
+ghost use Rattle.std.specs.Prelude.{◌≡◌, ℕ, None, IfSome, IsTrue};
+ghost use Rattle.live_lines.specs.Answers.{Fits, Join, Leads};
+ghost use Rattle.line_exchange.specs.OneList.{AnswersBy};
+ghost use Rattle.line_workers.specs.Refusals.{IsRefusal};
+
+use crate::workplace::Workplace;
+use forwarders::Refused;
+use line_exchange::{Answered, Ask, Stream};
+use live_lines::{Answer, Asked};
+use node_table::{Address, Packet};
+use packet_ways::{BoardName, Carried, Trip};
+use service_workers::{ForwarderOf, Gate, StopCause};
+use std::marker::PhantomData;
+use std::sync::Wait;
+
+// All stop: two parts of the service disagree.
+fn halted<J: Stream, B: BoardName, R: Wait>(here: &Workplace<J, B, R>) -> Option<Answer>
+    ensures { result ≡ None }
+{
+    here.coordinator.stop(here.rt, StopCause::Internal);
+    None
+}
+
+// The nodes begin with the one and end with the other.
+fn join(nodes: &[u16], from: u16, to: u16) -> bool
+    ensures { IsTrue result → Join from to nodes.now }
+{
+    match (nodes.split_first(), nodes.split_last()) {
+        (Some((first, _)), Some((last, _))) => *first == from && *last == to,
+        _ => false,
+    }
+}
+
+// Whether a way goes from the one node to the other, where there is one. Its generation was seen.
+fn leads<J: Stream, B: BoardName, R: Wait>(
+    here: &Workplace<J, B, R>,
+    way: &Carried,
+    trip: Trip,
+) -> bool
+    ensures { IsTrue result → Leads trip.from trip.to way.now }
+{
+    match way {
+        Carried::Along {
+            generation,
+            nodes,
+            ..
+        } => {
+            here.coordinator.see(here.rt, *generation);
+            join(nodes, trip.from, trip.to)
+        }
+        Carried::Unreachable { generation } => {
+            here.coordinator.see(here.rt, *generation);
+            true
+        }
+        Carried::NoNode => true,
+    }
+}
+
+// The answer to a route. Without one all stop.
+fn route<J: Stream, B: BoardName, G: Gate, R: Wait>(
+    here: &Workplace<J, B, R>,
+    gate: &G,
+    forwarder: &mut ForwarderOf<B>,
+    from: u16,
+    to: u16,
+) -> Option<Answer>
+    ensures { IfSome result (λ answer. AnswersBy forwarder.new.forwarder (Asked.Route from to) answer) }
+{
+    let trip = Trip { from, to };
+    let way = forwarder.route(here.rt, here.alloc, here.coordinator, gate, trip)?;
+    if !leads(here, &way, trip) {
+        return halted(here);
+    }
+    Some(Answer::Way(way))
+}
+
+// The answer to who asks for an address. Without one all stop.
+fn address<J: Stream, B: BoardName, R: Wait>(
+    here: &Workplace<J, B, R>,
+    forwarder: &mut ForwarderOf<B>,
+    node: u16,
+) -> Option<Answer>
+    ensures { IfSome result (λ answer. AnswersBy forwarder.new.forwarder (Asked.Address node) answer) }
+{
+    match forwarder.address(here.rt, here.coordinator, node)? {
+        (generation, Ok(address)) if address.node == node => {
+            here.coordinator.see(here.rt, generation);
+            Some(Answer::Told(address))
+        }
+        (_, Err(Refused::NoNode)) => Some(Answer::NoNode),
+        _ => halted(here),
+    }
+}
+
+// A refusal, as a scheme's.
+fn named(refused: Refused) -> Option<Answer>
+    ensures launch { IfSome result (λ answer. (from : ℕ) (to : Address) → Fits (Asked.Launch from to) answer) }
+    ensures hop { IfSome result (λ answer. (at : ℕ) (packet : Packet) → Fits (Asked.Hop at packet) answer) }
+    ensures is { IfSome result (λ answer. IsRefusal refused answer) }
+{
+    match refused {
+        Refused::GenerationGone => Some(Answer::Gone),
+        Refused::NoNode => Some(Answer::NotCarried(node_table::Refused::NoNode)),
+        Refused::Unreachable => Some(Answer::NotCarried(node_table::Refused::Unreachable)),
+        Refused::Stray => Some(Answer::NotCarried(node_table::Refused::Stray)),
+        Refused::Spent => Some(Answer::NotCarried(node_table::Refused::Spent)),
+        Refused::BoardShut => None,
+    }
+}
+
+// The answer to a launch. Without one all stop.
+fn launch<J: Stream, B: BoardName, R: Wait>(
+    here: &Workplace<J, B, R>,
+    forwarder: &mut ForwarderOf<B>,
+    from: u16,
+    to: Address,
+) -> Option<Answer>
+    ensures { IfSome result (λ answer. AnswersBy forwarder.new.forwarder (Asked.Launch from to) answer) }
+{
+    match forwarder.launch(here.rt, here.coordinator, from, &to)? {
+        Ok(packet) => Some(Answer::Sent(packet)),
+        Err(refused) => named(refused),
+    }
+}
+
+// The answer to a hop. Without one all stop.
+fn hop<J: Stream, B: BoardName, G: Gate, R: Wait>(
+    here: &Workplace<J, B, R>,
+    gate: &G,
+    forwarder: &mut ForwarderOf<B>,
+    at: u16,
+    packet: Packet,
+) -> Option<Answer>
+    ensures { IfSome result (λ answer. AnswersBy forwarder.new.forwarder (Asked.Hop at packet) answer) }
+{
+    let generation = packet.generation;
+    match forwarder.hop(here.rt, here.coordinator, at, packet)? {
+        Ok(step) => {
+            gate.after_hop(generation);
+            Some(Answer::Moved(step))
+        }
+        Err(refused) => named(refused),
+    }
+}
+
+// The answer to a line that is a forwarder's. Without one all stop.
+fn answer_of<J: Stream, B: BoardName, G: Gate, R: Wait>(
+    here: &Workplace<J, B, R>,
+    gate: &G,
+    forwarder: &mut ForwarderOf<B>,
+    asked: Asked,
+) -> Option<Answer>
+    ensures { IfSome result (λ answer. AnswersBy forwarder.new.forwarder asked answer) }
+{
+    match asked {
+        Asked::Route { from, to } => route(here, gate, forwarder, from, to),
+        Asked::Address { node } => address(here, forwarder, node),
+        Asked::Launch { from, to } => launch(here, forwarder, from, to),
+        Asked::Hop { at, packet } => hop(here, gate, forwarder, at, packet),
+        _other => halted(here),
+    }
+}
+
+// A line, answered. Without an answer all stop.
+fn answered<J: Stream, B: BoardName, G: Gate, R: Wait>(
+    here: &Workplace<J, B, R>,
+    gate: &G,
+    forwarder: &mut ForwarderOf<B>,
+    ask: Ask<J>,
+) -> Option<Answered<J, B>> {
+    let Ask { place, asked, of } = ask;
+    let answer = answer_of(here, gate, forwarder, asked)?;
+    Some(Answered {
+        place,
+        answer,
+        known: forwarder.known(),
+        of,
+        at: PhantomData,
+    })
+}
+
+/// Answers the lines that are a forwarder's, one after the other, until no more comes or all stop.
+pub fn forward_lines<J: Stream, B: BoardName, G: Gate, R: Wait>(
+    here: &Workplace<J, B, R>,
+    gate: &G,
+    forwarder: ForwarderOf<B>,
+    place: usize,
+) {
+    let Some(mailbox) = here.exchange.forwarders.get(place) else {
+        here.coordinator.stop(here.rt, StopCause::Internal);
+        return;
+    };
+    let mut forwarder = forwarder;
+    for _ in here.rt.forever() {
+        let Some(ask) = mailbox.take(here.rt) else {
+            return;
+        };
+        let Some(answered) = answered(here, gate, &mut forwarder, ask) else {
+            return;
+        };
+        let _put = here.exchange.answers.put(here.rt, answered);
+    }
+}

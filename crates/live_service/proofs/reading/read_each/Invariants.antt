@@ -1,5 +1,0 @@
-use Rattle.live_service.proofs.reading.read_each.Given as goal
-
-abbrev pub invariant-loop : goal.invariant-loop
-invariant-loop g l =
-    (goal.iterator-loop g).can_next l.iterator' × ((goal.iterator-loop g).is_finite l.iterator' × g.L.LineSource.has_given l.source l.place)

@@ -1,5 +1,0 @@
-use Rattle.std.proofs.Common.{length}
-use Rattle.live_service.proofs.tabling.+scheme_in.Given as goal
-
-abbrev pub decreases-scheme_in : goal.decreases-scheme_in
-decreases-scheme_in l = length l.places.now

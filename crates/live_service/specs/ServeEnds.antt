@@ -1,0 +1,72 @@
+-- The faults of a service, and what they tell of its device.
+use Rattle.std.specs.Prelude.{◌≡◌, Option, IfSome, IsTrue}
+use Rattle.disk_trait.specs.declared.disk.Disk.{Ghosts}
+use Rattle.disk_trait.specs.Disk.{OnlyRead}
+use Rattle.layout_2.specs.State.{State}
+use Rattle.layout_2.specs.Standing.{StandsFor}
+use Rattle.command_output.specs.declared.fault.Fault.{Fault}
+use Rattle.command_output.specs.declared.fault.Fault.TheVariants as told
+use Rattle.device_commands.specs.Openings.{TellsOf}
+use Rattle.written_values.specs.Words.{IsWithin}
+use Rattle.written_values.specs.declared.words.LandmarkWords.{LandmarkWords}
+use Rattle.service_threads.specs.Kept.{HasFailed}
+use Rattle.service_threads.specs.declared.fault.Fault.{Fault as Stopped}
+use Rattle.service_threads.specs.declared.fault.Fault.TheVariants as why
+
+-- what is told of a service that gives no answers
+abbrev pub told_fault : Stopped → Fault
+told_fault why.NotFormatted = told.NotFormatted
+told_fault why.BadVersion = told.LayoutNotKnown
+told_fault why.Damaged = told.Damaged
+told_fault why.Words = told.Words
+told_fault why.Device = told.Device
+told_fault why.Worn = told.Worn
+told_fault why.Memory = told.Memory
+told_fault why.Board = told.Memory
+told_fault why.NoThread = told.NoThread
+told_fault why.Internal = told.Internal
+
+-- the faults of a service
+abbrev pub IsServeFault : Fault → Type 0
+IsServeFault told.NotFormatted = Unit {0}
+IsServeFault told.LayoutNotKnown = Unit {0}
+IsServeFault told.Damaged = Unit {0}
+IsServeFault told.Words = Unit {0}
+IsServeFault told.Device = Unit {0}
+IsServeFault told.Worn = Unit {0}
+IsServeFault told.Memory = Unit {0}
+IsServeFault told.NoThread = Unit {0}
+IsServeFault told.Internal = Unit {0}
+IsServeFault told.Output = Unit {0}
+IsServeFault fault = ⊥
+
+-- the faults of a service whose device was opened
+abbrev pub IsLater : Fault → Type 0
+IsLater told.Device = Unit {0}
+IsLater told.Worn = Unit {0}
+IsLater told.Memory = Unit {0}
+IsLater told.NoThread = Unit {0}
+IsLater told.Internal = Unit {0}
+IsLater told.Output = Unit {0}
+IsLater fault = ⊥
+
+-- the faults of a device that was refused, or whose nodes the words don't fit
+abbrev pub IsOpeningFault : Fault → Type 0
+IsOpeningFault told.NotFormatted = Unit {0}
+IsOpeningFault told.LayoutNotKnown = Unit {0}
+IsOpeningFault told.Damaged = Unit {0}
+IsOpeningFault told.Words = Unit {0}
+IsOpeningFault fault = ⊥
+
+-- What a fault that ended a service under these words tells of its device, and what is left of that.
+pub record IsServeEnd {D : Type 0} (model : Ghosts D) (disk : D) (asked : LandmarkWords) (back : Option D) (fault : Fault) : Type 0 where
+  pub named : IsServeFault fault
+  -- that its content stands for no state, by its front
+  pub tells : IsTrue (model.view disk).keeps_model → TellsOf fault (model.view disk).content
+  -- that the words name a node which it hasn't; also of a disk that doesn't keep the model, one which a state hasn't
+  pub not_within : IsTrue (model.view disk).keeps_model → (state : State) → StandsFor state (model.view disk).content → fault ≡ told.Words → ¬ IsWithin asked state.graph.nodes
+  pub of_one : fault ≡ told.Words → (state : State) × ¬ IsWithin asked state.graph.nodes
+  -- one that was refused was only read
+  pub refused : IsTrue (model.view disk).keeps_model → IsOpeningFault fault → IfSome back (λ d. OnlyRead (model.view disk) (model.view d))
+  -- one whose failure is the fault has failed
+  pub device : fault ≡ told.Device → IfSome back (λ d. HasFailed (model.view disk) (model.view d))
