@@ -1,5 +1,5 @@
 -- Which faults may end a run.
-use Rattle.std.proofs.Common.{◌≡◌, ◌≢◌, ◌∙◌, ℕ, List, Option, inl, refl, sym, subst, Result, Ok, Err, IfErr, IsErrAnd, IsErrOf}
+use Rattle.std.proofs.Common.{◌≡◌, ◌≢◌, ◌∙◌, ℕ, List, [], Option, inl, refl, sym, subst, Result, Ok, Err, IfErr, IsErrAnd, IsErrOf}
 use Rattle.clap.specs.Walk.{Text}
 use Rattle.disk_trait.specs.declared.disk.Disk.{Ghosts}
 use Rattle.written_values.specs.declared.words.LandmarkWords.{LandmarkWords}
@@ -13,11 +13,9 @@ use Rattle.command_line.specs.declared.refused.WordsRefused.{WordsRefused}
 use Rattle.command_line.specs.declared.refused.WordsRefused.TheVariants as why
 use Rattle.command_line.specs.declared.task.Task.{Task}
 use Rattle.command_output.specs.Faults.{IsNotUnderstood}
-use Rattle.command_output.specs.declared.ended.Ended.{Ended}
-use Rattle.commands.specs.declared.devices.Access.{Access}
-use Rattle.commands.specs.Runs.{EndsTask}
+use Rattle.commands.specs.Devices.{Doing}
 use Rattle.table_files.specs.Files.{Put}
-use Rattle.commands.specs.Endings.{IsCheckDeviceFault, IsRouteDeviceFault, IsFaultFor, IsRouteFault, IsQueryFault, IsThreadFault, IsWordsFault, NamesNodes, words_fault}
+use Rattle.commands.specs.Endings.{IsCheckDeviceFault, IsRouteDeviceFault, IsFaultFor, IsRouteFault, IsWordsFault, NamesNodes, words_fault}
 
 -- words of which a graph lacks a node name nodes
 pub names_nodes : (words : LandmarkWords) (nodes : ℕ) → ¬ IsWithin words nodes → NamesNodes words
@@ -56,10 +54,9 @@ route_opens words told.Device is = tt
 route_opens words told.Memory is = tt
 route_opens words _ is = absurd is
 
-pub check_asks : (words : LandmarkWords) (fault : Fault) → IsQueryFault words fault → IsCheckDeviceFault words fault
+pub check_asks : (words : LandmarkWords) (fault : Fault) → IsWordsFault words fault → IsCheckDeviceFault words fault
 check_asks words told.Words is = is
 check_asks words told.Memory is = tt
-check_asks words told.NoThread is = tt
 check_asks words _ is = absurd is
 
 pub route_asks : (words : LandmarkWords) (fault : Fault) → IsRouteFault words fault → IsRouteDeviceFault words fault
@@ -68,27 +65,16 @@ route_asks words told.Words is = is
 route_asks words told.Memory is = tt
 route_asks words _ is = absurd is
 
-pub thread_asks : (words : LandmarkWords) (fault : Fault) → IsThreadFault fault → IsQueryFault words fault
-thread_asks words told.Memory is = tt
-thread_asks words told.NoThread is = tt
-thread_asks words _ is = absurd is
-
-pub words_ask : (words : LandmarkWords) (fault : Fault) → IsWordsFault words fault → IsQueryFault words fault
-words_ask words told.Words is = is
-words_ask words told.Memory is = tt
-words_ask words _ is = absurd is
-
 pub words_route : (words : LandmarkWords) (fault : Fault) → IsWordsFault words fault → IsRouteFault words fault
 words_route words told.Words is = is
 words_route words told.Memory is = tt
 words_route words _ is = absurd is
 
--- ---- the faults of words and queries tell nothing of a content
+-- ---- the faults of words tell nothing of a content
 
-pub words_tell : (words : LandmarkWords) (fault : Fault) (content : List ℕ) → IsQueryFault words fault → TellsOf fault content
+pub words_tell : (words : LandmarkWords) (fault : Fault) (content : List ℕ) → IsWordsFault words fault → TellsOf fault content
 words_tell words told.Words content is = tt
 words_tell words told.Memory content is = tt
-words_tell words told.NoThread content is = tt
 words_tell words _ content is = absurd is
 
 pub route_tells : (words : LandmarkWords) (fault : Fault) (content : List ℕ) → IsRouteFault words fault → TellsOf fault content
@@ -107,9 +93,9 @@ memory_alone why.Op is = absurd (cc)
 memory_alone why.TooLong is = absurd (cc)
 
 -- words that are refused are so by a fault for them
-pub refused_for : {D : Type 0} (model : Ghosts D) (opened : List ℕ → Access → D → Type 0) (put : List Put → Type 0) (words : List Text) (given old new : Option (List ℕ)) (refused : WordsRefused) (fault : Fault) → fault ≡ words_fault refused → IsRefusedFor words refused
-    → ((task : Task) → IsAskedFor words task → IsInRange task → refused ≡ why.Memory) → IsFaultFor model opened put words given old new fault
-refused_for model opened put words given old new refused fault is cause memory = inl (refused, is, cause, λ task asked fits. is ∙ memory_alone refused (memory task asked fits))
+pub refused_for : {D : Type 0} (model : Ghosts D) (done : Doing D) (put : List Put → Type 0) (words : List Text) (given old new : Option (List ℕ)) (refused : WordsRefused) (fault : Fault) → fault ≡ words_fault refused → done [] → IsRefusedFor words refused
+    → ((task : Task) → IsAskedFor words task → IsInRange task → refused ≡ why.Memory) → IsFaultFor model done put words given old new fault
+refused_for model done put words given old new refused fault is none cause memory = inl (none, (refused, is, cause, λ task asked fits. is ∙ memory_alone refused (memory task asked fits)))
 
 -- a fault of a part, where it is handed up
 pub each_fault : {T : Type 0} (r : Result T Fault) (P Q : Fault → Type 0) → ((fault : Fault) → P fault → Q fault) → IfErr r P → IfErr r Q
@@ -124,8 +110,3 @@ handed_up (Err e) P fault is has = subst P (sym is) has
 -- a fault that can't come doesn't
 pub not_told : {T : Type 0} (r : Result T Fault) (fault : Fault) (P : Fault → Type 0) → (P fault → ⊥) → IfErr r P → IsErrOf r fault → ⊥
 not_told r fault P never may is = never (subst (λ x. IfErr x P) is may)
-
--- a task that was understood ends as the one that it is
-pub ends_task : {D W : Type 0} (model : Ghosts D) (opened : List ℕ → Access → D → Type 0) (put : List Put → Type 0) (r : Result Ended Fault) (given : Option (List ℕ)) (contents : W → Option (List ℕ)) (old new : W) (task shape : Task) → task ≡ shape
-    → EndsTask model opened put shape given contents old new r → EndsTask model opened put task given contents old new r
-ends_task model opened put r given contents old new task shape is ends = subst (λ (t : Task). EndsTask model opened put t given contents old new r) (sym is) ends

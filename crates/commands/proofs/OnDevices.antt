@@ -1,5 +1,7 @@
 -- What was answered of a device, printed.
-use Rattle.std.proofs.Common.{◌≡◌, ◌∙◌, ◌<◌, ◌⊎◌, ap, inl, inr, refl, subst, sym, ⊎_elim, ℕ, List, Option, Result, Ok, Err, IfErr, IfOk, IsErrAnd, IsErrOf, IsTrue, OnOk}
+use Rattle.std.proofs.Common.{◌≡◌, ◌∙◌, ◌<◌, ◌⊎◌, ap, inl, inr, refl, subst, sym, ⊎_elim, ℕ, List, [], ◌∷◌, ◌++◌, Option, Some, None, Result, Ok, Err, IfErr, IfOk, IsErrAnd, IsErrOf, IsTrue, OnOk}
+use Rattle.std.proofs.lemmas.List.{append-nil, append_assoc}
+use Rattle.std.proofs.lemmas.List.Elements.{All-cons, All-nil}
 use Rattle.std.proofs.lemmas.Result.{IfErr-at_err}
 use Rattle.std.specs.Prelude.{IsOkAnd}
 use Rattle.std.specs.Global.{Vec}
@@ -23,11 +25,18 @@ use Rattle.command_output.specs.Lines.{line, listing_text, ticket_text}
 use Rattle.device_commands.specs.Answer.{IsNew, state_after, verdict_of}
 use Rattle.device_commands.specs.Edits.{IsPastLimits}
 use Rattle.device_commands.specs.Openings.{IsEditFault, IsReading, IsUnwrittenFault, OfContent, TellsOf}
-use Rattle.commands.specs.Devices.{Ending, EndsBy, IsAnswerOf, IsFileFault, OfOpened, Printing}
-use Rattle.commands.specs.Endings.{IsAskingEnd, IsCheckDeviceFault, IsEditEnd, IsReadingEnd, IsRouteDeviceFault, IsRouteEnd}
+use Rattle.command_line.specs.declared.task.Task.{Task}
+use Rattle.command_line.specs.declared.task.Task.TheVariants.{Format, Show, Edit, Resume, Route as Routes, Check, Migrate, Serve, Tables}
+use Rattle.table_files.specs.Files.{Put}
+use Rattle.commands.specs.declared.devices.Access.{Access}
+use Rattle.commands.specs.declared.devices.Access.TheVariants.{New, ToChange, ToRead}
+use Rattle.commands.specs.Devices.{Doing, IsAnswerOf, IsFileFault, OfFirst, closing}
+use Rattle.commands.specs.Events.{Closed, Event, HasDone, IsOf, NotHad, Opened, Opening}
+use Rattle.commands.specs.Endings.{IsAskingEnd, IsCheckDeviceFault, IsEditEnd, IsReadingEnd, IsRouteDeviceFault, IsRouteEnd, access_of, device_of}
 use Rattle.commands.specs.Queries.{AnswersOf, AreRoutesIn, IsCheckIn, LacksNodeOf}
-use Rattle.commands.specs.Printed.{IsOnlyRead, PrintsCheck, PrintsListing, PrintsRoutes, PrintsTicket, PrintsVerdict, ended_by, verdict_text}
-use Rattle.commands.specs.Runs.{EndsAt, EndsOn}
+use Rattle.commands.specs.Printed.{PrintsCheck, PrintsListing, PrintsRoutes, PrintsTicket, PrintsVerdict, ended_by, verdict_text}
+use Rattle.commands.specs.Runs.{EndsAt, EndsMoveAt, EndsMoveOn, EndsTask, EndsTaskOn}
+use Rattle.commands.specs.ServedScripts.{IsMove, IsService}
 use Rattle.commands.specs.SchemeAnswers.{AreRoutesOf, checks_text, ended_after, ended_at, routes_text}
 
 -- ---- what was printed
@@ -36,33 +45,25 @@ use Rattle.commands.specs.SchemeAnswers.{AreRoutesOf, checks_text, ended_after, 
 pub listing_printed : {X : Type 0} (bytes : X → List ℕ) (r : Result Ended Fault) (answer : Result X Fault) (disk left : DiskView) (old new : Known)
     → IfOk answer (λ text. (state : State) × (bytes text ≡ listing_text state.count state.graph))
     → OfContent disk (λ state. IfOk answer (λ text. bytes text ≡ listing_text state.count state.graph))
-    → (IsTrue disk.keeps_model → OnlyRead disk left)
     → IfOk r (λ ended. IsOkAnd answer (λ text. (ended ≡ Done) × Appends old new (bytes text))) → IfOk r (λ ended. PrintsListing disk left ended old new)
-listing_printed bytes (Ok ended) (Ok text) disk left old new one this reads printed = (
-  record {
-    of_one = (one.0, (printed.0, subst (λ (shown : List ℕ). Appends old new shown) one.1 printed.1));
-    of_this = λ keeps state stands. (printed.0, subst (λ (shown : List ℕ). Appends old new shown) (this keeps state stands) printed.1);
-  },
-  reads,
-)
-listing_printed bytes (Ok ended) (Err fault) disk left old new one this reads printed = absurd printed
-listing_printed bytes (Err fault) answer disk left old new one this reads printed = tt
+listing_printed bytes (Ok ended) (Ok text) disk left old new one this printed = record {
+  of_one = (one.0, (printed.0, subst (λ (shown : List ℕ). Appends old new shown) one.1 printed.1));
+  of_this = λ keeps state stands. (printed.0, subst (λ (shown : List ℕ). Appends old new shown) (this keeps state stands) printed.1);
+}
+listing_printed bytes (Ok ended) (Err fault) disk left old new one this printed = absurd printed
+listing_printed bytes (Err fault) answer disk left old new one this printed = tt
 
 -- of a ticket
 pub ticket_printed : (r : Result Ended Fault) (answer : Result ℕ Fault) (session : ℕ) (disk left : DiskView) (old new : Known)
     → IfOk answer (λ ticket. (state : State) × (ticket ≡ last_of state.tickets session))
     → OfContent disk (λ state. IfOk answer (λ ticket. ticket ≡ last_of state.tickets session))
-    → (IsTrue disk.keeps_model → OnlyRead disk left)
     → IfOk r (λ ended. IsOkAnd answer (λ ticket. (ended ≡ Done) × Appends old new (line (ticket_text session ticket)))) → IfOk r (λ ended. PrintsTicket session disk left ended old new)
-ticket_printed (Ok ended) (Ok ticket) session disk left old new one this reads printed = (
-  record {
-    of_one = (one.0, (printed.0, subst (λ (t : ℕ). Appends old new (line (ticket_text session t))) one.1 printed.1));
-    of_this = λ keeps state stands. (printed.0, subst (λ (t : ℕ). Appends old new (line (ticket_text session t))) (this keeps state stands) printed.1);
-  },
-  reads,
-)
-ticket_printed (Ok ended) (Err fault) session disk left old new one this reads printed = absurd printed
-ticket_printed (Err fault) answer session disk left old new one this reads printed = tt
+ticket_printed (Ok ended) (Ok ticket) session disk left old new one this printed = record {
+  of_one = (one.0, (printed.0, subst (λ (t : ℕ). Appends old new (line (ticket_text session t))) one.1 printed.1));
+  of_this = λ keeps state stands. (printed.0, subst (λ (t : ℕ). Appends old new (line (ticket_text session t))) (this keeps state stands) printed.1);
+}
+ticket_printed (Ok ended) (Err fault) session disk left old new one this printed = absurd printed
+ticket_printed (Err fault) answer session disk left old new one this printed = tt
 
 -- of a verdict
 pub verdict_printed : (r : Result Ended Fault) (answer : Result Verdict Fault) (session : ℕ) (named : Option ℕ) (change : List Op) (disk left : DiskView) (old new : Known)
@@ -86,17 +87,14 @@ verdict_printed (Err fault) answer session named change disk left old new one fr
 found_printed : {T U : Type 0} (view : T → U) (asked : LandmarkWords) (IsAnswer : LandmarkWords → State → U → Type 0) (Named : LandmarkWords → Fault → Type 0) (ended_of : U → Ended) (text_of : ℕ → U → List ℕ) (r : Result Ended Fault) (answer : Result (ℕ × T) Fault) (disk left : DiskView) (old new : Known)
     → AnswersOf asked (λ words state found. IsAnswer words state (view found)) Named disk left answer
     → IfOk r (λ ended. IsOkAnd answer (λ found. (ended ≡ ended_of (view found.1)) × Appends old new (text_of found.0 (view found.1))))
-    → IfOk r (λ ended. IsAnswerOf disk (λ state. (x : U) × IsAnswer asked state x × (ended ≡ ended_of x) × Appends old new (text_of state.count x)) × IsOnlyRead disk left)
-found_printed view asked IsAnswer Named ended_of text_of (Ok ended) (Ok found) disk left old new by printed = (
-  record {
-    of_one =
-        let one = by.of_one in
-        (one.0, (view found.1, one.2, printed.0, subst (λ (n : ℕ). Appends old new (text_of n (view found.1))) one.1 printed.1));
-    of_this = λ keeps state stands.
-        (view found.1, by.answer keeps state stands, printed.0, subst (λ (n : ℕ). Appends old new (text_of n (view found.1))) (by.generation keeps state stands) printed.1);
-  },
-  by.reading.reads,
-)
+    → IfOk r (λ ended. IsAnswerOf disk (λ state. (x : U) × IsAnswer asked state x × (ended ≡ ended_of x) × Appends old new (text_of state.count x)))
+found_printed view asked IsAnswer Named ended_of text_of (Ok ended) (Ok found) disk left old new by printed = record {
+  of_one =
+      let one = by.of_one in
+      (one.0, (view found.1, one.2, printed.0, subst (λ (n : ℕ). Appends old new (text_of n (view found.1))) one.1 printed.1));
+  of_this = λ keeps state stands.
+      (view found.1, by.answer keeps state stands, printed.0, subst (λ (n : ℕ). Appends old new (text_of n (view found.1))) (by.generation keeps state stands) printed.1);
+}
 found_printed view asked IsAnswer Named ended_of text_of (Ok ended) (Err fault) disk left old new by printed = absurd printed
 found_printed view asked IsAnswer Named ended_of text_of (Err fault) answer disk left old new by printed = tt
 
@@ -130,7 +128,6 @@ reading_end (Err fault) Named disk left named reading = record {
   named = named;
   tells = reading.tells;
   device = λ is. reading.device (ap (λ (f : Fault). Err f) is);
-  reads = reading.reads;
 }
 
 -- a question about a graph
@@ -171,32 +168,153 @@ edit_end (Err fault) session named_ticket change disk left named tells already w
 
 -- ---- the device by a path
 
-pub opened_ok : {D : Type 0} (model : Ghosts D) (opened : D → Type 0) (disk left : D) (r : Result Ended Fault) (P : Ended → DiskView → DiskView → Type 0) → opened disk
-    → IfOk r (λ ended. P ended (model.view disk) (model.view left)) → IfOk r (λ ended. OfOpened model opened (P ended))
-opened_ok model opened disk left (Ok ended) P was holds = record { disk = disk; was = was; left = left; holds = holds }
-opened_ok model opened disk left (Err fault) P was holds = tt
+-- what is done at a place of devices after what was done there
+follows : {D : Type 0} (start done more mid new : List (Event D)) → mid ≡ start ++ done → new ≡ mid ++ more → new ≡ start ++ (done ++ more)
+follows {D = D} start done more mid new first second = second ∙ ap (λ (events : List (Event D)). events ++ more) first ∙ append_assoc start done more
 
-pub opened_err : {D : Type 0} (model : Ghosts D) (opened : D → Type 0) (disk left : D) (r : Result Ended Fault) (Ends : Ending) → opened disk
-    → IfErr r (λ fault. (fault ≡ told.Output) ⊎ Ends (model.view disk) (model.view left) fault) → IfErr r (λ fault. EndsBy model opened Ends fault)
-opened_err model opened disk left (Ok ended) Ends was ends = tt
-opened_err model opened disk left (Err fault) Ends was ends =
-    ⊎_elim (λ is. inr (inl is)) (λ why. inr (inr (record { disk = disk; was = was; left = left; holds = why }))) ends
+-- nothing was done
+pub nothing_done : {F D : Type 0} (opened : Opening D) (events : F → List (Event D)) (old : F) → HasDone opened events old old []
+nothing_done opened events old = record { listed = sym (append-nil (events old)); each = All-nil (IsOf opened) }
 
--- a command that ends so on the device that was opened ends so on the device by its path
-pub ends_at : {D W : Type 0} (model : Ghosts D) (opened : D → Type 0) (Prints : Printing) (MayFail : Ending) (contents : W → Known) (old new : W) (disk left : D) (r : Result Ended Fault)
-    → opened disk → EndsOn Prints MayFail (λ d. model.view d) disk left contents old new r → EndsAt model opened Prints MayFail contents old new r
-ends_at model opened Prints MayFail contents old new disk left r was ends = record {
-  printed = opened_ok model opened disk left r (λ ended before after. Prints before after ended (contents old) (contents new)) was ends.printed;
-  fault = opened_err model opened disk left r MayFail was ends.fault;
-  untouched = ends.untouched;
+-- one device couldn't be had
+pub not_had : {F D : Type 0} (opened : Opening D) (events : F → List (Event D)) (old new : F) (path : List ℕ) (access : Access)
+    → events new ≡ events old ++ NotHad path access ∷ [] → HasDone opened events old new (NotHad path access ∷ [])
+not_had opened events old new path access listed = record { listed = listed; each = All-cons (IsOf opened) (NotHad path access) [] tt (All-nil (IsOf opened)) }
+
+-- one was opened, and no more was done
+pub left_open : {F D : Type 0} (opened : Opening D) (events : F → List (Event D)) (old new : F) (path : List ℕ) (access : Access) (disk : D)
+    → opened path access disk → events new ≡ events old ++ Opened path access disk ∷ [] → HasDone opened events old new (Opened path access disk ∷ [])
+left_open opened events old new path access disk was listed = record { listed = listed; each = All-cons (IsOf opened) (Opened path access disk) [] was (All-nil (IsOf opened)) }
+
+-- and one was closed
+pub closed : {F D : Type 0} (opened : Opening D) (events : F → List (Event D)) (old mid new : F) (path : List ℕ) (access : Access) (disk left : D)
+    → opened path access disk → events mid ≡ events old ++ Opened path access disk ∷ [] → events new ≡ events mid ++ Closed left ∷ []
+    → HasDone opened events old new (Opened path access disk ∷ Closed left ∷ [])
+closed opened events old mid new path access disk left was first second = record {
+  listed = follows (events old) (Opened path access disk ∷ []) (Closed left ∷ []) (events mid) (events new) first second;
+  each = All-cons (IsOf opened) (Opened path access disk) (Closed left ∷ []) was (All-cons (IsOf opened) (Closed left) [] tt (All-nil (IsOf opened)));
+}
+
+-- where it came back
+pub served : {F D : Type 0} (opened : Opening D) (events : F → List (Event D)) (old mid new : F) (path : List ℕ) (disk : D) (back : Option D)
+    → opened path ToChange disk → events mid ≡ events old ++ Opened path ToChange disk ∷ [] → events new ≡ events mid ++ closing back
+    → HasDone opened events old new (Opened path ToChange disk ∷ closing back)
+served opened events old mid new path disk None was first second = record {
+  listed = follows (events old) (Opened path ToChange disk ∷ []) [] (events mid) (events new) first second;
+  each = All-cons (IsOf opened) (Opened path ToChange disk) [] was (All-nil (IsOf opened));
+}
+served opened events old mid new path disk (Some left) was first second = closed opened events old mid new path ToChange disk left was first second
+
+-- a task that ends so on the device that was opened ends so on the device by its path
+pub ends_at : {D W : Type 0} (model : Ghosts D) (done : Doing D) (put : List Put → Type 0) (task : Task) (path : List ℕ) (access : Access) (contents : W → Known) (old new : W) (disk left : D) (r : Result Ended Fault)
+    → path ≡ device_of task → access ≡ access_of task → done (Opened path access disk ∷ Closed left ∷ []) → EndsTaskOn put task (model.view disk) (model.view left) contents old new r → EndsAt model done put task contents old new r
+ends_at model done put task path access contents old new disk left (Ok ended) here so did is = record {
+  printed = record {
+    disk = disk;
+    left = left;
+    did = subst (λ (a : Access). done (Opened (device_of task) a disk ∷ Closed left ∷ [])) so (subst (λ (p : List ℕ). done (Opened p access disk ∷ Closed left ∷ [])) here did);
+    ran = is.ran;
+    holds = (is.leaves, is.ends.printed);
+  };
+  fault = tt;
+  untouched = tt;
+}
+ends_at model done put task path access contents old new disk left (Err fault) here so did is = record {
+  printed = tt;
+  fault = inr (record {
+    disk = disk;
+    left = left;
+    did = subst (λ (a : Access). done (Opened (device_of task) a disk ∷ Closed left ∷ [])) so (subst (λ (p : List ℕ). done (Opened p access disk ∷ Closed left ∷ [])) here did);
+    ran = is.ran;
+    holds = (is.leaves, is.ends.fault);
+  });
+  untouched = is.ends.untouched;
 }
 
 -- and one whose device can't be had tells that
-pub not_had : {D W : Type 0} (model : Ghosts D) (opened : D → Type 0) (Prints : Printing) (MayFail : Ending) (contents : W → Known) (old : W) (r : Result Ended Fault) (fault : Fault)
-    → IsErrAnd r (λ e. e ≡ fault) → IsFileFault fault → EndsAt model opened Prints MayFail contents old old r
-not_had model opened Prints MayFail contents old (Ok ended) fault is why = absurd is
-not_had model opened Prints MayFail contents old (Err e) fault is why = record {
+pub ends_early : {D W : Type 0} (model : Ghosts D) (done : Doing D) (put : List Put → Type 0) (task : Task) (path : List ℕ) (access : Access) (contents : W → Known) (old : W) (r : Result Ended Fault) (fault : Fault)
+    → path ≡ device_of task → access ≡ access_of task → IsErrAnd r (λ e. e ≡ fault) → done (NotHad path access ∷ []) → put [] → IsFileFault fault → EndsAt model done put task contents old old r
+ends_early model done put task path access contents old (Ok ended) fault here so is did none why = absurd is
+ends_early model done put task path access contents old (Err e) fault here so is did none why = record {
   printed = tt;
-  fault = inl (subst (λ (f : Fault). IsFileFault f) (sym is) why);
+  fault = inl (
+    subst (λ (a : Access). done (NotHad (device_of task) a ∷ [])) so (subst (λ (p : List ℕ). done (NotHad p access ∷ [])) here did),
+    none,
+    subst (λ (f : Fault). IsFileFault f) (sym is) why,
+  );
+  untouched = λ other. refl;
+}
+
+-- so ends a task on one device
+pub one_device : {D W : Type 0} (model : Ghosts D) (done : Doing D) (put : List Put → Type 0) (task : Task) (given : Known) (contents : W → Known) (old new : W) (r : Result Ended Fault) → ¬ IsService task → ¬ IsMove task
+    → EndsAt model done put task contents old new r → EndsTask model done put task given contents old new r
+one_device model done put (Format device nodes) given contents old new r batch alone is = is
+one_device model done put (Show device) given contents old new r batch alone is = is
+one_device model done put (Edit device session ticket change) given contents old new r batch alone is = is
+one_device model done put (Resume device session) given contents old new r batch alone is = is
+one_device model done put (Routes device pairs words) given contents old new r batch alone is = is
+one_device model done put (Check device words) given contents old new r batch alone is = is
+one_device model done put (Migrate device made) given contents old new r batch alone is = absurd (alone tt)
+one_device model done put (Serve device editors forwarders places live words) given contents old new r batch alone is = absurd (batch tt)
+one_device model done put (Tables device folder nodes words) given contents old new r batch alone is = is
+
+-- a task that is asked for ends as the one that it is
+pub on_task : {W : Type 0} (put : List Put → Type 0) (task shape : Task) (disk left : DiskView) (contents : W → Known) (old new : W) (r : Result Ended Fault) → task ≡ shape
+    → EndsTaskOn put shape disk left contents old new r → EndsTaskOn put task disk left contents old new r
+on_task put task shape disk left contents old new r is ends = subst (λ (t : Task). EndsTaskOn put t disk left contents old new r) (sym is) ends
+
+-- ---- two devices
+
+-- the second can't be had
+pub first_alone : {F D : Type 0} (opened : Opening D) (events : F → List (Event D)) (old mid last new : F) (from_path to_path : List ℕ) (from : D)
+    → opened from_path ToRead from → events mid ≡ events old ++ Opened from_path ToRead from ∷ [] → events last ≡ events mid ++ NotHad to_path New ∷ [] → events new ≡ events last ++ Closed from ∷ []
+    → OfFirst (HasDone opened events old new) from_path to_path
+first_alone opened events old mid last new from_path to_path from was first second third = (
+  from,
+  record {
+    listed = follows (events old) (Opened from_path ToRead from ∷ NotHad to_path New ∷ []) (Closed from ∷ []) (events last) (events new)
+        (follows (events old) (Opened from_path ToRead from ∷ []) (NotHad to_path New ∷ []) (events mid) (events last) first second) third;
+    each = All-cons (IsOf opened) (Opened from_path ToRead from) (NotHad to_path New ∷ Closed from ∷ []) was
+        (All-cons (IsOf opened) (NotHad to_path New) (Closed from ∷ []) tt (All-cons (IsOf opened) (Closed from) [] tt (All-nil (IsOf opened))));
+  },
+)
+
+-- both were opened and closed
+pub both : {F D : Type 0} (opened : Opening D) (events : F → List (Event D)) (e₀ e₁ e₂ e₃ e₄ : F) (from_path to_path : List ℕ) (from to from_left to_left : D)
+    → opened from_path ToRead from → opened to_path New to
+    → events e₁ ≡ events e₀ ++ Opened from_path ToRead from ∷ [] → events e₂ ≡ events e₁ ++ Opened to_path New to ∷ []
+    → events e₃ ≡ events e₂ ++ Closed from_left ∷ [] → events e₄ ≡ events e₃ ++ Closed to_left ∷ []
+    → HasDone opened events e₀ e₄ (Opened from_path ToRead from ∷ Opened to_path New to ∷ Closed from_left ∷ Closed to_left ∷ [])
+both opened events e₀ e₁ e₂ e₃ e₄ from_path to_path from to from_left to_left was made first second third fourth = record {
+  listed = follows (events e₀) (Opened from_path ToRead from ∷ Opened to_path New to ∷ Closed from_left ∷ []) (Closed to_left ∷ []) (events e₃) (events e₄)
+      (follows (events e₀) (Opened from_path ToRead from ∷ Opened to_path New to ∷ []) (Closed from_left ∷ []) (events e₂) (events e₃)
+      (follows (events e₀) (Opened from_path ToRead from ∷ []) (Opened to_path New to ∷ []) (events e₁) (events e₂) first second) third) fourth;
+  each = All-cons (IsOf opened) (Opened from_path ToRead from) (Opened to_path New to ∷ Closed from_left ∷ Closed to_left ∷ []) was
+      (All-cons (IsOf opened) (Opened to_path New to) (Closed from_left ∷ Closed to_left ∷ []) made
+      (All-cons (IsOf opened) (Closed from_left) (Closed to_left ∷ []) tt (All-cons (IsOf opened) (Closed to_left) [] tt (All-nil (IsOf opened)))));
+}
+
+-- `migrate` ends so by two paths
+pub moved_at : {D W : Type 0} (model : Ghosts D) (done : Doing D) (from_path to_path : List ℕ) (contents : W → Known) (old new : W) (from to from_left to_left : D) (r : Result Ended Fault)
+    → done (Opened from_path ToRead from ∷ Opened to_path New to ∷ Closed from_left ∷ Closed to_left ∷ []) → EndsMoveOn (model.view from) (model.view from_left) (model.view to) (model.view to_left) contents old new r
+    → EndsMoveAt model done from_path to_path contents old new r
+moved_at model done from_path to_path contents old new from to from_left to_left (Ok ended) did is = record {
+  printed = record { from = from; to = to; from_left = from_left; to_left = to_left; did = did; ran = is.ran; holds = (is.leaves, is.ends.printed) };
+  fault = tt;
+  untouched = tt;
+}
+moved_at model done from_path to_path contents old new from to from_left to_left (Err fault) did is = record {
+  printed = tt;
+  fault = inr (record { from = from; to = to; from_left = from_left; to_left = to_left; did = did; ran = is.ran; holds = (is.leaves, is.ends.fault) });
+  untouched = is.ends.untouched;
+}
+
+-- and one of whose devices can't be had tells that
+pub not_moved : {D W : Type 0} (model : Ghosts D) (done : Doing D) (from_path to_path : List ℕ) (contents : W → Known) (old : W) (r : Result Ended Fault) (fault : Fault)
+    → IsErrAnd r (λ e. e ≡ fault) → done (NotHad from_path ToRead ∷ []) ⊎ OfFirst done from_path to_path → IsFileFault fault → EndsMoveAt model done from_path to_path contents old old r
+not_moved model done from_path to_path contents old (Ok ended) fault is did why = absurd is
+not_moved model done from_path to_path contents old (Err e) fault is did why = record {
+  printed = tt;
+  fault = inl (did, subst (λ (f : Fault). IsFileFault f) (sym is) why);
   untouched = λ other. refl;
 }

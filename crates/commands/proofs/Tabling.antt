@@ -1,5 +1,5 @@
 -- Tables that are put: what was answered and why it ended, of a scheme, of a device and of a run.
-use Rattle.std.proofs.Common.{◌≡◌, ◌⊎◌, inl, inr, sym, subst, ⊎_elim, ℕ, List, [], Some, None, Result, Ok, Err, IfErr, IfOk, IsErrOf}
+use Rattle.std.proofs.Common.{◌≡◌, ◌⊎◌, inl, inr, sym, subst, ⊎_elim, ℕ, List, [], Option, Some, None, Result, Ok, Err, IfErr, IfOk, IsErrOf}
 use Rattle.std.proofs.lemmas.Result.{IfErr-at_err}
 use Rattle.std.specs.Prelude.{IsOkAnd}
 use Rattle.clap.specs.Walk.{Text}
@@ -12,19 +12,20 @@ use Rattle.written_values.specs.Words.{AreWords, IsWithin}
 use Rattle.written_values.specs.declared.words.LandmarkWords.{LandmarkWords}
 use Rattle.command_output.specs.Printing.{Known}
 use Rattle.command_output.specs.declared.ended.Ended.{Ended}
+use Rattle.command_output.specs.declared.ended.Ended.TheVariants.{Done, Refused}
+use Rattle.layout_2.specs.State.{State}
 use Rattle.command_output.specs.declared.fault.Fault.{Fault}
 use Rattle.command_line.specs.declared.task.Task.{Task}
 use Rattle.command_line.specs.declared.task.Task.TheVariants.{Format, Show, Edit, Resume, Route, Check, Migrate, Serve, Tables}
 use Rattle.commands.specs.declared.devices.Access.{Access}
-use Rattle.commands.specs.declared.outcome.Outcome.{Outcome}
-use Rattle.commands.specs.Endings.{EndsTables, IsCheckDeviceFault, IsCheckEnd, IsFaultFor, IsTablesEnd, MayEnd}
-use Rattle.commands.specs.Outcomes.{AnyPut, IsOutcome}
-use Rattle.commands.specs.Printed.{AnswersWords, PrintedFor, PrintsTables}
+use Rattle.commands.specs.Devices.{Doing, EndsBy, IsAnswerOf, OfOpened, OfServed, OfTwo}
+use Rattle.commands.specs.Events.{Event}
+use Rattle.commands.specs.Endings.{EndsOpened, IsCheckDeviceFault, IsCheckEnd, IsFaultFor, IsTablesEnd, Leaves, MayEnd, access_of, device_of}
+use Rattle.commands.specs.Printed.{AnswersWords, PrintedFor, PrintsOpened, PrintsTables}
 use Rattle.commands.specs.Queries.{AnswersOf, IsSchemeIn}
-use Rattle.commands.specs.Runs.{EndsPutFound}
+use Rattle.commands.specs.Runs.{EndsPutFound, Says}
 use Rattle.commands.proofs.Faults.{each_fault}
 use Rattle.commands.proofs.OnDevices.{asking_end}
-use Rattle.commands.proofs.ToldRuns.{so_too}
 use Rattle.table_files.specs.Files.{Put}
 use Rattle.commands.specs.SchemeAnswers.{IsSchemeBy}
 use Rattle.table_files.specs.Tables.{AnswersTables, EndsPutAsked, EndsPutting}
@@ -49,16 +50,13 @@ found_put answer found folder named put contents old new r is ends =
 pub tables_printed : (r : Result Ended Fault) (answer : Result (ℕ × Parts) Fault) (asked : LandmarkWords) (folder named : List ℕ) (put : List Put → Type 0) (disk left : DiskView) (old new : Known)
     → AnswersOf asked IsSchemeIn IsCheckDeviceFault disk left answer → IfOk r (λ ended. IsOkAnd answer (λ found. AnswersTables found.1 found.0 folder named put ended old new))
     → IfOk r (λ ended. PrintsTables asked folder named put disk left ended old new)
-tables_printed (Ok ended) (Ok found) asked folder named put disk left old new by printed = (
-  record {
-    of_one =
-        let one = by.of_one in
-        (one.0, (found.1, one.2, subst (λ (n : ℕ). AnswersTables found.1 n folder named put ended old new) one.1 printed));
-    of_this = λ keeps state stands.
-        (found.1, by.answer keeps state stands, subst (λ (n : ℕ). AnswersTables found.1 n folder named put ended old new) (by.generation keeps state stands) printed);
-  },
-  by.reading.reads,
-)
+tables_printed (Ok ended) (Ok found) asked folder named put disk left old new by printed = record {
+  of_one =
+      let one = by.of_one in
+      (one.0, (found.1, one.2, subst (λ (n : ℕ). AnswersTables found.1 n folder named put ended old new) one.1 printed));
+  of_this = λ keeps state stands.
+      (found.1, by.answer keeps state stands, subst (λ (n : ℕ). AnswersTables found.1 n folder named put ended old new) (by.generation keeps state stands) printed);
+}
 tables_printed (Ok ended) (Err fault) asked folder named put disk left old new by printed = absurd printed
 tables_printed (Err fault) answer asked folder named put disk left old new by printed = tt
 
@@ -68,108 +66,132 @@ pub tables_end : (r : Result Ended Fault) (answer : Result (ℕ × Parts) Fault)
 tables_end (Ok ended) answer asked folder named put disk left by ends = tt
 tables_end (Err fault) (Ok found) asked folder named put disk left by ends =
     ⊎_elim (λ is. absurd (let never : ◌≡◌ {A = Result (ℕ × Parts) Fault} (Ok found) (Err fault) = is.0 in cc))
-    (λ is. let one = by.of_one in inr (record { of_one = (one.0, (found.1, one.2, is)); of_this = λ keeps state stands. (found.1, by.answer keeps state stands, is) }, by.reading.reads)) ends
+    (λ is. let one = by.of_one in inr (record { of_one = (one.0, (found.1, one.2, is)); of_this = λ keeps state stands. (found.1, by.answer keeps state stands, is) })) ends
 tables_end (Err fault) (Err other) asked folder named put disk left by ends =
     ⊎_elim (λ is. inl (is.1, IfErr-at_err (λ (f : Fault). IsCheckEnd asked disk left f) is.0 (asking_end asked IsSchemeIn IsCheckDeviceFault disk left (Err other) by))) (λ is. absurd is) ends
 
--- of the device by a path
-pub tables_opened : {D : Type 0} (model : Ghosts D) (opened : D → Type 0) (asked : LandmarkWords) (folder named : List ℕ) (put : List Put → Type 0) (disk left : D) (r : Result Ended Fault) → opened disk
-    → IfErr r (λ fault. IsTablesEnd asked folder named put (model.view disk) (model.view left) fault) → IfErr r (λ fault. EndsTables model opened asked folder named put fault)
-tables_opened model opened asked folder named put disk left (Ok ended) was ends = tt
-tables_opened model opened asked folder named put disk left (Err fault) was ends = inr (record { disk = disk; was = was; left = left; holds = ends })
+-- ---- of places of which less is known
 
--- ---- of files of which nothing is known
+answers_too : (p : Parts) (generation : ℕ) (folder named : List ℕ) (put also : List Put → Type 0) (ended : Ended) (old new : Known) → ((puts : List Put) → put puts → also puts) → AnswersTables p generation folder named put ended old new
+    → AnswersTables p generation folder named also ended old new
+answers_too p generation folder named put also ended old new weaker (inl all) =
+    inl (record { there = all.there; ends = all.ends; order = all.order; files = weaker _ all.files; printed = all.printed })
+answers_too p generation folder named put also ended old new weaker (inr lacks) =
+    inr (record { lacks = lacks.lacks; ends = lacks.ends; nothing = weaker [] lacks.nothing; printed = lacks.printed })
 
-answers_any : (p : Parts) (generation : ℕ) (folder named : List ℕ) (put : List Put → Type 0) (ended : Ended) (old new : Known) → AnswersTables p generation folder named put ended old new
-    → AnswersTables p generation folder named AnyPut ended old new
-answers_any p generation folder named put ended old new (inl all) =
-    inl (record { there = all.there; ends = all.ends; order = all.order; files = tt; printed = all.printed })
-answers_any p generation folder named put ended old new (inr lacks) =
-    inr (record { lacks = lacks.lacks; ends = lacks.ends; nothing = tt; printed = lacks.printed })
+answer_too : (disk : DiskView) (P Q : State → Type 0) → ((state : State) → P state → Q state) → IsAnswerOf disk P → IsAnswerOf disk Q
+answer_too disk P Q weaker is = record { of_one = (is.of_one.0, weaker is.of_one.0 is.of_one.1); of_this = λ keeps state stands. weaker state (is.of_this keeps state stands) }
 
-prints_any : (words : LandmarkWords) (folder named : List ℕ) (put : List Put → Type 0) (disk left : DiskView) (ended : Ended) (old new : Known) → PrintsTables words folder named put disk left ended old new
-    → PrintsTables words folder named AnyPut disk left ended old new
-prints_any words folder named put disk left ended old new (is, reads) = (
-  record {
-    of_one =
-        let one = is.of_one in
-        (one.0, (one.1.0, one.1.1, answers_any one.1.0 one.0.count folder named put ended old new one.1.2));
-    of_this = λ keeps state stands.
-        let this = is.of_this keeps state stands in
-        (this.0, this.1, answers_any this.0 state.count folder named put ended old new this.2);
-  },
-  reads,
-)
+opened_too : (put also : List Put → Type 0) (task : Task) (disk left : DiskView) (ended : Ended) (old new : Known) → ((puts : List Put) → put puts → also puts) → PrintsOpened put task disk left ended old new → PrintsOpened also task disk left ended old new
+opened_too put also (Format device nodes) disk left ended old new weaker is = is
+opened_too put also (Show device) disk left ended old new weaker is = is
+opened_too put also (Edit device session ticket change) disk left ended old new weaker is = is
+opened_too put also (Resume device session) disk left ended old new weaker is = is
+opened_too put also (Route device pairs words) disk left ended old new weaker is = is
+opened_too put also (Check device words) disk left ended old new weaker is = is
+opened_too put also (Migrate device made) disk left ended old new weaker is = is
+opened_too put also (Serve device editors forwarders places live words) disk left ended old new weaker is = is
+opened_too put also (Tables device folder nodes words) disk left ended old new weaker is =
+    answer_too disk _ _ (λ state found. (found.0, found.1, answers_too found.0 state.count folder.now nodes.items put also ended old new weaker found.2)) is
 
-printed_any : {D : Type 0} (model : Ghosts D) (opened : List ℕ → Access → D → Type 0) (put : List Put → Type 0) (task : Task) (given : Known) (ended : Ended) (old new : Known)
-    → PrintedFor model opened put task given ended old new → PrintedFor model opened AnyPut task given ended old new
-printed_any model opened put (Format device nodes) given ended old new is = is
-printed_any model opened put (Show device) given ended old new is = is
-printed_any model opened put (Edit device session ticket change) given ended old new is = is
-printed_any model opened put (Resume device session) given ended old new is = is
-printed_any model opened put (Route device pairs words) given ended old new is = is
-printed_any model opened put (Check device words) given ended old new is = is
-printed_any model opened put (Migrate device made) given ended old new is = is
-printed_any model opened put (Serve device editors forwarders places None words) given ended old new is = is
-printed_any model opened put (Serve device editors forwarders places (Some rounds) words) given ended old new is = is
-printed_any model opened put (Tables device folder nodes words) given ended old new is = record {
-  disk = is.disk;
-  was = is.was;
-  left = is.left;
-  holds = prints_any words folder.now nodes.items put (model.view is.disk) (model.view is.left) ended old new is.holds;
-}
+putting_too : (p : Parts) (folder named : List ℕ) (put also : List Put → Type 0) (fault : Fault) → ((puts : List Put) → put puts → also puts) → EndsPutting p folder named put fault → EndsPutting p folder named also fault
+putting_too p folder named put also fault weaker (inl some) = inl (record { named = some.named; count = some.count; files = weaker _ some.files; internal = some.internal; output = some.output })
+putting_too p folder named put also fault weaker (inr lacks) = inr (lacks.0, weaker [] lacks.1, lacks.2)
 
-putting_any : (p : Parts) (folder named : List ℕ) (put : List Put → Type 0) (fault : Fault) → EndsPutting p folder named put fault → EndsPutting p folder named AnyPut fault
-putting_any p folder named put fault (inl some) = inl (record { named = some.named; count = some.count; files = tt; internal = some.internal; output = some.output })
-putting_any p folder named put fault (inr lacks) = inr (lacks.0, tt, lacks.2)
+fails_too : (put also : List Put → Type 0) (task : Task) (disk left : DiskView) (fault : Fault) → ((puts : List Put) → put puts → also puts) → EndsOpened put task disk left fault → EndsOpened also task disk left fault
+fails_too put also (Format device nodes) disk left fault weaker is = is
+fails_too put also (Show device) disk left fault weaker is = is
+fails_too put also (Edit device session ticket change) disk left fault weaker is = is
+fails_too put also (Resume device session) disk left fault weaker is = is
+fails_too put also (Route device pairs words) disk left fault weaker is = is
+fails_too put also (Check device words) disk left fault weaker is = is
+fails_too put also (Migrate device made) disk left fault weaker is = is
+fails_too put also (Serve device editors forwarders places live words) disk left fault weaker is = is
+fails_too put also (Tables device folder nodes words) disk left fault weaker (inl early) = inl (weaker [] early.0, early.1)
+fails_too put also (Tables device folder nodes words) disk left fault weaker (inr is) =
+    inr (answer_too disk _ _ (λ state found. (found.0, found.1, putting_too found.0 folder.now nodes.items put also fault weaker found.2)) is)
 
-end_any : (asked : LandmarkWords) (folder named : List ℕ) (put : List Put → Type 0) (disk left : DiskView) (fault : Fault) → IsTablesEnd asked folder named put disk left fault
-    → IsTablesEnd asked folder named AnyPut disk left fault
-end_any asked folder named put disk left fault (inl early) = inl (tt, early.1)
-end_any asked folder named put disk left fault (inr (is, reads)) = inr (
-  record {
-    of_one =
-        let one = is.of_one in
-        (one.0, (one.1.0, one.1.1, putting_any one.1.0 folder named put fault one.1.2));
-    of_this = λ keeps state stands.
-        let this = is.of_this keeps state stands in
-        (this.0, this.1, putting_any this.0 folder named put fault this.2);
-  },
-  reads,
-)
+-- what is said of one device
+one_too : {D : Type 0} (model : Ghosts D) (done did : Doing D) (path : List ℕ) (access : Access) (P Q : DiskView → DiskView → Type 0) → ((events : List (Event D)) → done events → did events) → ((disk left : DiskView) → P disk left → Q disk left)
+    → OfOpened model done path access P → OfOpened model did path access Q
+one_too model done did path access P Q so weaker is = record { disk = is.disk; left = is.left; did = so _ is.did; ran = is.ran; holds = weaker (model.view is.disk) (model.view is.left) is.holds }
 
-tables_any : {D : Type 0} (model : Ghosts D) (opened : D → Type 0) (asked : LandmarkWords) (folder named : List ℕ) (put : List Put → Type 0) (fault : Fault) → EndsTables model opened asked folder named put fault
-    → EndsTables model opened asked folder named AnyPut fault
-tables_any model opened asked folder named put fault (inl early) = inl (tt, early.1)
-tables_any model opened asked folder named put fault (inr is) = inr (record {
-  disk = is.disk;
-  was = is.was;
-  left = is.left;
-  holds = end_any asked folder named put (model.view is.disk) (model.view is.left) fault is.holds;
-})
+-- of two
+two_too : {D : Type 0} (model : Ghosts D) (done did : Doing D) (old new : List ℕ) (P : DiskView → DiskView → DiskView → DiskView → Type 0) → ((events : List (Event D)) → done events → did events) → OfTwo model done old new P → OfTwo model did old new P
+two_too model done did old new P so is = record { from = is.from; to = is.to; from_left = is.from_left; to_left = is.to_left; did = so _ is.did; ran = is.ran; holds = is.holds }
 
-may_any : {D : Type 0} (model : Ghosts D) (opened : List ℕ → Access → D → Type 0) (put : List Put → Type 0) (task : Task) (given old new : Known) (fault : Fault)
-    → MayEnd model opened put task given old new fault → MayEnd model opened AnyPut task given old new fault
-may_any model opened put (Format device nodes) given old new fault is = is
-may_any model opened put (Show device) given old new fault is = is
-may_any model opened put (Edit device session ticket change) given old new fault is = is
-may_any model opened put (Resume device session) given old new fault is = is
-may_any model opened put (Route device pairs words) given old new fault is = is
-may_any model opened put (Check device words) given old new fault is = is
-may_any model opened put (Migrate device made) given old new fault is = is
-may_any model opened put (Serve device editors forwarders places None words) given old new fault is = is
-may_any model opened put (Serve device editors forwarders places (Some rounds) words) given old new fault is = is
-may_any model opened put (Tables device folder nodes words) given old new fault is = tables_any model _ words folder.now nodes.items put fault is
+-- and of one that a service had
+served_too : {D : Type 0} (done did : Doing D) (path : List ℕ) (P : D → Option D → Type 0) → ((events : List (Event D)) → done events → did events) → OfServed done path P → OfServed did path P
+served_too done did path P so is = record { disk = is.disk; back = is.back; did = so _ is.did; holds = is.holds }
 
-fault_any : {D : Type 0} (model : Ghosts D) (opened : List ℕ → Access → D → Type 0) (put : List Put → Type 0) (words : List Text) (given old new : Known) (fault : Fault) → IsFaultFor model opened put words given old new fault
-    → IsFaultFor model opened AnyPut words given old new fault
-fault_any model opened put words given old new fault (inl refused) = inl refused
-fault_any model opened put words given old new fault (inr is) = inr (is.0, is.1, may_any model opened put is.0 given old new fault is.2)
+alone_too : {D : Type 0} (model : Ghosts D) (done did : Doing D) (put also : List Put → Type 0) (task : Task) (ended : Ended) (old new : Known) → ((events : List (Event D)) → done events → did events) → ((puts : List Put) → put puts → also puts)
+    → OfOpened model done (device_of task) (access_of task) (λ disk left. Leaves task disk left × PrintsOpened put task disk left ended old new)
+    → OfOpened model did (device_of task) (access_of task) (λ disk left. Leaves task disk left × PrintsOpened also task disk left ended old new)
+alone_too model done did put also task ended old new so weaker is =
+    one_too model done did (device_of task) (access_of task) _ _ so (λ disk left both. (both.0, opened_too put also task disk left ended old new weaker both.1)) is
 
--- a run on files of which nothing is known has the outcome of one on files of which all is
-pub outcome_any : {D : Type 0} (model : Ghosts D) (opened : List ℕ → Access → D → Type 0) (put : List Put → Type 0) (words : List Text) (given old new told_old told_new : Known) (outcome : Outcome)
-    → IsOutcome model opened put words given old new told_old told_new outcome → IsOutcome model opened AnyPut words given old new told_old told_new outcome
-outcome_any model opened put words given old new told_old told_new outcome is =
-    so_too (λ ended. AnswersWords model opened put words given ended old new) (λ ended. AnswersWords model opened AnyPut words given ended old new)
-    (λ fault. IsFaultFor model opened put words given old new fault) (λ fault. IsFaultFor model opened AnyPut words given old new fault)
-    told_old told_new outcome (λ ended answers. (answers.0, answers.1, printed_any model opened put answers.0 given ended old new answers.2)) (λ fault why. fault_any model opened put words given old new fault why) is
+printed_too : {D : Type 0} (model : Ghosts D) (done did : Doing D) (put also : List Put → Type 0) (task : Task) (given : Known) (ended : Ended) (old new : Known) → ((events : List (Event D)) → done events → did events) → ((puts : List Put) → put puts → also puts)
+    → PrintedFor model done put task given ended old new → PrintedFor model did also task given ended old new
+printed_too model done did put also (Migrate device made) given ended old new so weaker is = two_too model done did device.now made.now _ so is
+printed_too model done did put also (Serve device editors forwarders places None words) given ended old new so weaker is = (is.0, is.1, is.2, served_too done did device.now _ so is.3)
+printed_too model done did put also (Serve device editors forwarders places (Some rounds) words) given ended old new so weaker is = (is.0, is.1, served_too done did device.now _ so is.2)
+printed_too model done did put also (Format device nodes) given ended old new so weaker is = alone_too model done did put also (Format device nodes) ended old new so weaker is
+printed_too model done did put also (Show device) given ended old new so weaker is = alone_too model done did put also (Show device) ended old new so weaker is
+printed_too model done did put also (Edit device session ticket change) given ended old new so weaker is = alone_too model done did put also (Edit device session ticket change) ended old new so weaker is
+printed_too model done did put also (Resume device session) given ended old new so weaker is = alone_too model done did put also (Resume device session) ended old new so weaker is
+printed_too model done did put also (Route device pairs words) given ended old new so weaker is = alone_too model done did put also (Route device pairs words) ended old new so weaker is
+printed_too model done did put also (Check device words) given ended old new so weaker is = alone_too model done did put also (Check device words) ended old new so weaker is
+printed_too model done did put also (Tables device folder nodes words) given ended old new so weaker is = alone_too model done did put also (Tables device folder nodes words) ended old new so weaker is
+
+ends_too : {D : Type 0} (model : Ghosts D) (done did : Doing D) (put also : List Put → Type 0) (task : Task) (fault : Fault) → ((events : List (Event D)) → done events → did events) → ((puts : List Put) → put puts → also puts)
+    → EndsBy model done put (device_of task) (access_of task) (λ disk left why. Leaves task disk left × EndsOpened put task disk left why) fault
+    → EndsBy model did also (device_of task) (access_of task) (λ disk left why. Leaves task disk left × EndsOpened also task disk left why) fault
+ends_too model done did put also task fault so weaker (inl early) = inl (so _ early.0, weaker [] early.1, early.2)
+ends_too model done did put also task fault so weaker (inr is) =
+    inr (one_too model done did (device_of task) (access_of task) _ _ so (λ disk left both. (both.0, fails_too put also task disk left fault weaker both.1)) is)
+
+may_too : {D : Type 0} (model : Ghosts D) (done did : Doing D) (put also : List Put → Type 0) (task : Task) (given old new : Known) (fault : Fault) → ((events : List (Event D)) → done events → did events) → ((puts : List Put) → put puts → also puts)
+    → MayEnd model done put task given old new fault → MayEnd model did also task given old new fault
+may_too model done did put also (Migrate device made) given old new fault so weaker (inl (inl first, why)) = inl (inl (so _ first), why)
+may_too model done did put also (Migrate device made) given old new fault so weaker (inl (inr first, why)) = inl (inr (first.0, so _ first.1), why)
+may_too model done did put also (Migrate device made) given old new fault so weaker (inr is) = inr (two_too model done did device.now made.now _ so is)
+may_too model done did put also (Serve device editors forwarders places None words) given old new fault so weaker (inl none) = inl (so [] none.0, none.1)
+may_too model done did put also (Serve device editors forwarders places None words) given old new fault so weaker (inr (inl early)) = inr (inl (so _ early.0, early.1))
+may_too model done did put also (Serve device editors forwarders places None words) given old new fault so weaker (inr (inr is)) = inr (inr (served_too done did device.now _ so is))
+may_too model done did put also (Serve device editors forwarders places (Some rounds) words) given old new fault so weaker (inl (same, inl none)) = inl (same, inl (so [] none.0, none.1))
+may_too model done did put also (Serve device editors forwarders places (Some rounds) words) given old new fault so weaker (inl (same, inr early)) = inl (same, inr (so _ early.0, early.1))
+may_too model done did put also (Serve device editors forwarders places (Some rounds) words) given old new fault so weaker (inr is) = inr (is.0, served_too done did device.now _ so is.1)
+may_too model done did put also (Format device nodes) given old new fault so weaker is = ends_too model done did put also (Format device nodes) fault so weaker is
+may_too model done did put also (Show device) given old new fault so weaker is = ends_too model done did put also (Show device) fault so weaker is
+may_too model done did put also (Edit device session ticket change) given old new fault so weaker is = ends_too model done did put also (Edit device session ticket change) fault so weaker is
+may_too model done did put also (Resume device session) given old new fault so weaker is = ends_too model done did put also (Resume device session) fault so weaker is
+may_too model done did put also (Route device pairs words) given old new fault so weaker is = ends_too model done did put also (Route device pairs words) fault so weaker is
+may_too model done did put also (Check device words) given old new fault so weaker is = ends_too model done did put also (Check device words) fault so weaker is
+may_too model done did put also (Tables device folder nodes words) given old new fault so weaker is = ends_too model done did put also (Tables device folder nodes words) fault so weaker is
+
+words_too : {D : Type 0} (model : Ghosts D) (done did : Doing D) (put also : List Put → Type 0) (words : List Text) (given : Known) (ended : Ended) (old new : Known) → ((events : List (Event D)) → done events → did events) → ((puts : List Put) → put puts → also puts)
+    → AnswersWords model done put words given ended old new → AnswersWords model did also words given ended old new
+words_too model done did put also words given ended old new so weaker is = (is.0, is.1, printed_too model done did put also is.0 given ended old new so weaker is.2)
+
+fault_too : {D : Type 0} (model : Ghosts D) (done did : Doing D) (put also : List Put → Type 0) (words : List Text) (given old new : Known) (fault : Fault) → ((events : List (Event D)) → done events → did events) → ((puts : List Put) → put puts → also puts)
+    → IsFaultFor model done put words given old new fault → IsFaultFor model did also words given old new fault
+fault_too model done did put also words given old new fault so weaker (inl refused) = inl (so [] refused.0, refused.1)
+fault_too model done did put also words given old new fault so weaker (inr is) = inr (is.0, is.1, may_too model done did put also is.0 given old new fault so weaker is.2)
+
+-- what a status says of places of which all is known it says of those of which less is
+pub says_too : {D R W : Type 0} (model : Ghosts D) (done did : Doing D) (put also : List Put → Type 0) (words : List Text) (remaining : R → Known) (contents : W → Known) (script left : R) (out printed : W) (code : ℕ)
+    → ((events : List (Event D)) → done events → did events) → ((puts : List Put) → put puts → also puts) → Says model done put words remaining contents script left out printed code → Says model did also words remaining contents script left out printed code
+says_too model done did put also words remaining contents script left out printed code so weaker says =
+    let given = remaining script in
+    let before = contents out in
+    let after = contents printed in
+    record {
+      status = says.status;
+      answered = λ zero. words_too model done did put also words given Done before after so weaker (says.answered zero);
+      refused = λ one. ⊎_elim (λ is. inl (words_too model done did put also words given Refused before after so weaker is))
+          (λ why. inr (why.0, why.1, fault_too model done did put also words given before after why.0 so weaker why.2, why.3)) (says.refused one);
+      not_understood = λ two.
+          let why = says.not_understood two in
+          (why.0, (why.1.0, why.1.1, fault_too model done did put also words given before after why.1.0 so weaker why.1.2));
+      unread = says.unread;
+    }

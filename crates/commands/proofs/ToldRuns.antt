@@ -1,6 +1,5 @@
 -- How runs end whose faults are told, and those of live services.
-use Rattle.std.proofs.Common.{◌≡◌, ◌≢◌, ◌∙◌, ◌⊎◌, ◌==◌, if◌then◌else◌, ap, inl, inr, refl, sym, subst, ℕ, List, [], Option, Some, None, Result, Ok, Err, IfErr, IfOk, IfSome, IsErrAnd}
-use Rattle.std.specs.Borrow.{Bor}
+use Rattle.std.proofs.Common.{◌≡◌, ◌≢◌, ◌∙◌, ◌⊎◌, ◌==◌, if◌then◌else◌, ap, inl, inr, refl, sym, subst, ℕ, List, [], ◌∷◌, Option, Some, None, Result, Ok, Err, IfErr, IfOk, IfSome, IsErrAnd}
 use Rattle.std.specs.Io.KnownBytes.{prepend_known}
 use Rattle.std.specs.Io.Buffered.{reader_buffer, reader_capacity, reader_inner, reader_remaining}
 use Rattle.std.specs.declared.io.buffered.BufReader.{BufReader}
@@ -8,7 +7,6 @@ use Rattle.clap.specs.Walk.{Text}
 use Rattle.disk_trait.specs.declared.disk.Disk.{Ghosts}
 use Rattle.command_line.specs.Asked.{IsAskedFor}
 use Rattle.command_line.specs.declared.task.Task.{Task}
-use Rattle.command_line.specs.declared.task.Task.TheVariants.{Serve}
 use Rattle.command_output.specs.Printing.{Known}
 use Rattle.command_output.specs.declared.ended.Ended.{Ended}
 use Rattle.command_output.specs.declared.fault.Fault.{Fault}
@@ -21,16 +19,17 @@ use Rattle.service_threads.specs.Kept.{IsLeftBy}
 use Rattle.line_exchange.specs.Ends.{HasToldSo, fault_of}
 use Rattle.line_exchange.specs.Inputs.{Bytes}
 use Rattle.live_service.specs.Runs.{PrintsTo}
+use Rattle.live_service.specs.Services.{AnswersInput}
 use Rattle.table_files.specs.Files.{Put}
-use Rattle.commands.specs.declared.devices.Access.{Access}
 use Rattle.commands.specs.declared.devices.Access.TheVariants.{ToChange}
 use Rattle.commands.specs.declared.outcome.Outcome.{Outcome}
 use Rattle.commands.specs.declared.outcome.Outcome.TheVariants.{Answered, Told, Untold}
-use Rattle.commands.specs.Endings.{EndsServe, IsFaultFor, MayEnd}
-use Rattle.commands.specs.Outcomes.{AnswersOrTells, IsEndOf, IsLiveOutcome, IsOutcome, IsOutcomeOf, IsServiceOutcome, IsToldSo}
-use Rattle.commands.specs.Printed.{AnswersWords, PrintedFor}
+use Rattle.commands.specs.Devices.{Doing, IsFileFault, closing}
+use Rattle.commands.specs.Events.{NotHad, Opened}
+use Rattle.commands.specs.Endings.{EndsLive, EndsServe, IsFaultFor, MayEnd}
+use Rattle.commands.specs.Outcomes.{AnswersOrTells, IsEndOf, IsLiveOutcome, IsOutcome, IsOutcomeOf, IsToldSo}
+use Rattle.commands.specs.Printed.{AnswersWords, PrintedFor, PrintsLive}
 use Rattle.commands.specs.Runs.{EndsScript}
-use Rattle.commands.specs.ServedScripts.{IsLiveService}
 
 -- what was answered, or the fault that came, is the outcome of a run that tells its fault
 pub told_so : (Answers : Ended → Type 0) (MayFail : Fault → Type 0) (told_old told_new : Known) (r : Result Ended Fault) (outcome : Outcome) → IsToldSo r told_old told_new outcome → IfOk r Answers → IfErr r MayFail
@@ -49,31 +48,19 @@ so_too Answers Others MayFail May told_old told_new (Answered ended) answers fai
 so_too Answers Others MayFail May told_old told_new (Told fault) answers fails is = (fails fault is.0, is.1)
 so_too Answers Others MayFail May told_old told_new (Untold fault) answers fails is = fails fault is
 
--- the outcome of a service is one of the task
-pub service_so : {D : Type 0} (model : Ghosts D) (opened : List ℕ → Access → D → Type 0) (put : List Put → Type 0) (device : Bor Text) (editors forwarders places : ℕ) (live : Option ℕ) (words : LandmarkWords) (given old new told_old told_new : Known) (outcome : Outcome)
-    → IsServiceOutcome model (opened device.now ToChange) live given editors words old new told_old told_new outcome
-    → IsOutcomeOf model opened put (Serve device editors forwarders places live words) given old new told_old told_new outcome
-service_so model opened put device editors forwarders places None words given old new told_old told_new outcome is = is
-service_so model opened put device editors forwarders places (Some rounds) words given old new told_old told_new outcome is = is
-
--- a service that isn't live has no rounds
-pub not_live : (device : Bor Text) (editors forwarders places : ℕ) (live : Option ℕ) (words : LandmarkWords) → ¬ IsLiveService (Serve device editors forwarders places live words) → live ≡ None
-not_live device editors forwarders places None words other = refl
-not_live device editors forwarders places (Some rounds) words other = absurd (other tt)
-
 -- the outcome of a task that is asked for is one of the words
-pub asked_so : {D : Type 0} (model : Ghosts D) (opened : List ℕ → Access → D → Type 0) (put : List Put → Type 0) (words : List Text) (task : Task) (given old new told_old told_new : Known) (outcome : Outcome) → IsAskedFor words task
-    → IsOutcomeOf model opened put task given old new told_old told_new outcome → IsOutcome model opened put words given old new told_old told_new outcome
-asked_so model opened put words task given old new told_old told_new outcome asked is =
-    so_too (λ ended. PrintedFor model opened put task given ended old new) (λ ended. AnswersWords model opened put words given ended old new)
-    (λ fault. MayEnd model opened put task given old new fault) (λ fault. IsFaultFor model opened put words given old new fault)
+pub asked_so : {D : Type 0} (model : Ghosts D) (done : Doing D) (put : List Put → Type 0) (words : List Text) (task : Task) (given old new told_old told_new : Known) (outcome : Outcome) → IsAskedFor words task
+    → IsOutcomeOf model done put task given old new told_old told_new outcome → IsOutcome model done put words given old new told_old told_new outcome
+asked_so model done put words task given old new told_old told_new outcome asked is =
+    so_too (λ ended. PrintedFor model done put task given ended old new) (λ ended. AnswersWords model done put words given ended old new)
+    (λ fault. MayEnd model done put task given old new fault) (λ fault. IsFaultFor model done put words given old new fault)
     told_old told_new outcome (λ ended printed. (task, asked, printed)) (λ fault ends. inr (task, asked, ends)) is
 
 -- and so is a fault of theirs
-pub refused_so : {D : Type 0} (model : Ghosts D) (opened : List ℕ → Access → D → Type 0) (put : List Put → Type 0) (words : List Text) (given old new told_old told_new : Known) (fault : Fault) (outcome : Outcome)
-    → (let r : Result Ended Fault = Err fault in IsToldSo r told_old told_new outcome) → IsFaultFor model opened put words given old new fault → IsOutcome model opened put words given old new told_old told_new outcome
-refused_so model opened put words given old new told_old told_new fault outcome is why =
-    told_so (λ ended. AnswersWords model opened put words given ended old new) (λ f. IsFaultFor model opened put words given old new f) told_old told_new (Err fault) outcome is tt why
+pub refused_so : {D : Type 0} (model : Ghosts D) (done : Doing D) (put : List Put → Type 0) (words : List Text) (given old new told_old told_new : Known) (fault : Fault) (outcome : Outcome)
+    → (let r : Result Ended Fault = Err fault in IsToldSo r told_old told_new outcome) → IsFaultFor model done put words given old new fault → IsOutcome model done put words given old new told_old told_new outcome
+refused_so model done put words given old new told_old told_new fault outcome is why =
+    told_so (λ ended. AnswersWords model done put words given ended old new) (λ f. IsFaultFor model done put words given old new f) told_old told_new (Err fault) outcome is tt why
 
 -- what holds behind each fault but the output's holds behind the one that was told
 pub told_behind : (P : Type 0) (told_old told_new : Known) (r : Result Ended Fault) (outcome : Outcome) → IsToldSo r told_old told_new outcome → IfErr r (λ fault. fault ≢ told.Output → P)
@@ -101,37 +88,47 @@ untold_so (served.Told came) outcome fault is same = absurd (cc)
 untold_so (served.Untold came) outcome fault is same = cc
 
 -- the end of one that ran
-live_end : {D : Type 0} (model : Ghosts D) (opened : D → Type 0) (given : Known) (editors : ℕ) (words : LandmarkWords) (old new told_old told_new : Known) (disk : D) (back : Option D) (ended : Served) (outcome : Outcome)
-    → IsEndOf ended outcome → opened disk → PrintsTo (Bytes given) editors old new ended → HasToldSo told_old told_new ended → IfSome (fault_of ended) (λ fault. IsServeEnd model disk words back fault) → IsLeftBy model disk back
-    → IsLiveOutcome model opened given editors words old new told_old told_new outcome
-live_end model opened given editors words old new told_old told_new disk back served.Printed outcome is was prints tells ends left =
+live_end : {D : Type 0} (model : Ghosts D) (done : Doing D) (path : List ℕ) (given : Known) (editors : ℕ) (words : LandmarkWords) (old new told_old told_new : Known) (disk : D) (back : Option D) (ended : Served) (outcome : Outcome)
+    → IsEndOf ended outcome → done (Opened path ToChange disk ∷ closing back) → PrintsTo (Bytes given) editors old new ended → HasToldSo told_old told_new ended → IfSome (fault_of ended) (λ fault. IsServeEnd model disk words back fault) → IsLeftBy model disk back
+    → (ended ≡ served.Printed → AnswersInput model disk back (Bytes given) editors (λ known. known) old new)
+    → IsLiveOutcome model done path given editors words old new told_old told_new outcome
+live_end model done path given editors words old new told_old told_new disk back served.Printed outcome is did prints tells ends left list =
     let all = prints.answers (λ same. absurd (cc)) in
-    subst (λ (o : Outcome). IsLiveOutcome model opened given editors words old new told_old told_new o) (sym is)
-    ((refl, (all.0, all.1, all.2 refl), record { disk = disk; was = was; back = back; holds = left }), tells)
-live_end model opened given editors words old new told_old told_new disk back (served.Told fault) outcome is was prints tells ends left =
-    subst (λ (o : Outcome). IsLiveOutcome model opened given editors words old new told_old told_new o) (sym is) (
+    subst (λ (o : Outcome). IsLiveOutcome model done path given editors words old new told_old told_new o) (sym is)
+    ((refl, (all.0, all.1, all.2 refl), record { disk = disk; back = back; did = did; holds = (list refl, left) }), tells)
+live_end model done path given editors words old new told_old told_new disk back (served.Told fault) outcome is did prints tells ends left list =
+    subst (λ (o : Outcome). IsLiveOutcome model done path given editors words old new told_old told_new o) (sym is) (
       inr (
         λ other.
             let some = prints.answers (λ same. other (cc)) in
             (some.0, some.1),
-        record { disk = disk; was = was; back = back; holds = (ends, left) },
+        record { disk = disk; back = back; did = did; holds = (ends, left) },
       ),
       tells,
     )
-live_end model opened given editors words old new told_old told_new disk back (served.Untold fault) outcome is was prints tells ends left =
-    subst (λ (o : Outcome). IsLiveOutcome model opened given editors words old new told_old told_new o) (sym is)
+live_end model done path given editors words old new told_old told_new disk back (served.Untold fault) outcome is did prints tells ends left list =
+    subst (λ (o : Outcome). IsLiveOutcome model done path given editors words old new told_old told_new o) (sym is)
     (inr (
       λ other.
           let some = prints.answers (λ same. other (cc)) in
           (some.0, some.1),
-      record { disk = disk; was = was; back = back; holds = (ends, left) },
+      record { disk = disk; back = back; did = did; holds = (ends, left) },
     ))
 
-pub live_so : {D : Type 0} (model : Ghosts D) (opened : D → Type 0) (given read : Known) (editors : ℕ) (words : LandmarkWords) (old new told_old told_new : Known) (disk : D) (back : Option D) (ended : Served) (outcome : Outcome)
-    → read ≡ given → IsEndOf ended outcome → opened disk → PrintsTo (Bytes read) editors old new ended → HasToldSo told_old told_new ended → IfSome (fault_of ended) (λ fault. IsServeEnd model disk words back fault) → IsLeftBy model disk back
-    → IsLiveOutcome model opened given editors words old new told_old told_new outcome
-live_so model opened given read editors words old new told_old told_new disk back ended outcome same is was prints tells ends left =
-    live_end model opened given editors words old new told_old told_new disk back ended outcome is was (subst (λ (g : Known). PrintsTo (Bytes g) editors old new ended) same prints) tells ends left
+pub live_so : {D : Type 0} (model : Ghosts D) (done : Doing D) (path : List ℕ) (given read : Known) (editors : ℕ) (words : LandmarkWords) (old new told_old told_new : Known) (disk : D) (back : Option D) (ended : Served) (outcome : Outcome)
+    → read ≡ given → IsEndOf ended outcome → done (Opened path ToChange disk ∷ closing back) → PrintsTo (Bytes read) editors old new ended → HasToldSo told_old told_new ended → IfSome (fault_of ended) (λ fault. IsServeEnd model disk words back fault) → IsLeftBy model disk back
+    → (ended ≡ served.Printed → AnswersInput model disk back (Bytes read) editors (λ known. known) old new)
+    → IsLiveOutcome model done path given editors words old new told_old told_new outcome
+live_so model done path given read editors words old new told_old told_new disk back ended outcome same is did prints tells ends left list =
+    live_end model done path given editors words old new told_old told_new disk back ended outcome is did (subst (λ (g : Known). PrintsTo (Bytes g) editors old new ended) same prints) tells ends left
+    (subst (λ (g : Known). ended ≡ served.Printed → AnswersInput model disk back (Bytes g) editors (λ known. known) old new) same list)
+
+-- one that didn't begin
+pub live_early : {D : Type 0} (model : Ghosts D) (done : Doing D) (path : List ℕ) (given : Known) (editors : ℕ) (words : LandmarkWords) (old told_old told_new : Known) (fault : Fault) (outcome : Outcome)
+    → (let r : Result Ended Fault = Err fault in IsToldSo r told_old told_new outcome) → (done [] × (fault ≡ told.Memory)) ⊎ (done (NotHad path ToChange ∷ []) × IsFileFault fault)
+    → IsLiveOutcome model done path given editors words old old told_old told_new outcome
+live_early model done path given editors words old told_old told_new fault outcome is why =
+    told_so (λ ended. PrintsLive model done path given editors ended old old) (λ f. EndsLive model done path given editors words old old f) told_old told_new (Err fault) outcome is tt (inl (refl, why))
 
 nothing_before : (known : Known) → prepend_known [] known ≡ known
 nothing_before None = refl
@@ -149,11 +146,11 @@ fresh_reader {T} remaining r from inner empty capacity =
 -- ---- a service over a script
 
 -- a fault that is handed on ends it
-pub script_ends : {D W : Type 0} (model : Ghosts D) (opened : D → Type 0) (given : Known) (editors : ℕ) (words : LandmarkWords) (contents : W → Known) (old new : W) (r : Result Ended Fault) (fault : Fault)
-    → IsErrAnd r (λ e. e ≡ fault) → EndsServe model opened given editors words fault → (fault ≢ told.Output → new ≡ old) → EndsScript model opened given editors words contents old new r
-script_ends model opened given editors words contents old new (Ok ended) fault is why kept = absurd is
-script_ends model opened given editors words contents old new (Err e) fault is why kept = record {
+pub script_ends : {D W : Type 0} (model : Ghosts D) (done : Doing D) (path : List ℕ) (given : Known) (editors : ℕ) (words : LandmarkWords) (contents : W → Known) (old new : W) (r : Result Ended Fault) (fault : Fault)
+    → IsErrAnd r (λ e. e ≡ fault) → EndsServe model done path given editors words fault → (fault ≢ told.Output → new ≡ old) → EndsScript model done path given editors words contents old new r
+script_ends model done path given editors words contents old new (Ok ended) fault is why kept = absurd is
+script_ends model done path given editors words contents old new (Err e) fault is why kept = record {
   printed = tt;
-  fault = subst (λ (f : Fault). EndsServe model opened given editors words f) (sym is) why;
+  fault = subst (λ (f : Fault). EndsServe model done path given editors words f) (sym is) why;
   untouched = subst (λ (f : Fault). f ≢ told.Output → new ≡ old) (sym is) kept;
 }

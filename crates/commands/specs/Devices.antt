@@ -1,7 +1,7 @@
--- How a command has its device, and what is said of a device that was opened.
-use Rattle.std.specs.Prelude.{◌≡◌, ◌⊎◌, ℕ, List, Option}
+-- How a command has its device, and what is said of a device that was opened and closed.
+use Rattle.std.specs.Prelude.{◌≡◌, ◌⊎◌, ℕ, List, [], ◌∷◌, Option, Some, None, All}
 use Rattle.disk_trait.specs.declared.disk.Disk.{Ghosts}
-use Rattle.disk_trait.specs.Disk.{DiskView}
+use Rattle.disk_trait.specs.Disk.{DiskView, IsSameDevice}
 use Rattle.layout_2.specs.State.{State}
 use Rattle.command_output.specs.Printing.{Known}
 use Rattle.command_output.specs.declared.ended.Ended.{Ended}
@@ -12,12 +12,10 @@ use Rattle.device_files.specs.DeviceFiles.{lock_of}
 use Rattle.device_files.specs.declared.file.DeviceFile.{DeviceFile}
 use Rattle.device_files.specs.declared.file.Lock.{Lock}
 use Rattle.device_files.specs.declared.file.Lock.TheVariants.{Alone, Shared}
+use Rattle.table_files.specs.Files.{Put}
+use Rattle.commands.specs.Events.{Event, Opened, NotHad, Closed, IsOf}
 use Rattle.commands.specs.declared.devices.Access.{Access}
 use Rattle.commands.specs.declared.devices.Access.TheVariants.{ToRead, ToChange, Anew, New}
-
--- which devices openings by paths gave, each for an access
-abbrev pub Opening : Type 0 → Type 1
-Opening D = List ℕ → Access → D → Type 0
 
 -- what a command prints that ends so: of what a device was and is, and of what stood on the writer and stands there
 abbrev pub Printing : Type 1
@@ -27,6 +25,8 @@ Printing = DiskView → DiskView → Ended → Known → Known → Type 0
 abbrev pub Ending : Type 1
 Ending = DiskView → DiskView → Fault → Type 0
 
+-- ---- files
+
 -- the lock of a file that is opened so
 abbrev pub lock_for : Access → Lock
 lock_for ToRead = Shared
@@ -34,9 +34,13 @@ lock_for ToChange = Alone
 lock_for Anew = Alone
 lock_for New = Alone
 
--- a file that was opened so has this lock; by which path it was opened no clause of a file says
+-- a file that was opened so has this lock; that it is the one by the path no clause of a file says
 abbrev pub IsFileOf : List ℕ → Access → DeviceFile → Type 0
 IsFileOf path access file = lock_of file ≡ lock_for access
+
+-- what was done with files of the system, each of which has its lock
+abbrev pub AreFiles : List (Event DeviceFile) → Type 0
+AreFiles done = All (IsOf IsFileOf) done
 
 -- the faults of a file that is to be opened, made or locked
 abbrev pub IsFileFault : Fault → Type 0
@@ -44,23 +48,51 @@ IsFileFault told.DeviceFile = Unit {0}
 IsFileFault told.DeviceInUse = Unit {0}
 IsFileFault fault = ⊥
 
--- a device was opened, and this holds of what it was then and of what it was when it was given up
-pub record OfOpened {D : Type 0} (model : Ghosts D) (opened : D → Type 0) (P : DiskView → DiskView → Type 0) : Type 0 where
+-- ---- devices
+
+-- what a run does with devices: `done events` says that just this was done, in this order
+abbrev pub Doing : Type 0 → Type 1
+Doing D = List (Event D) → Type 0
+
+-- One device was opened by this path and closed, and nothing else was done with devices; this holds of what it was when it was opened and
+-- of what it was when it was closed.
+pub record OfOpened {D : Type 0} (model : Ghosts D) (done : Doing D) (path : List ℕ) (access : Access) (P : DiskView → DiskView → Type 0) : Type 0 where
   pub disk : D
-  pub was : opened disk
   pub left : D
+  pub did : done (Opened path access disk ∷ Closed left ∷ [])
+  pub ran : IsSameDevice (model.view disk) (model.view left)
   pub holds : P (model.view disk) (model.view left)
 
--- the same of a device that may not come back
-pub record OfServed {D : Type 0} (opened : D → Type 0) (P : D → Option D → Type 0) : Type 0 where
+-- how a device is closed that may not have come back
+abbrev pub closing : {D : Type 0} → Option D → List (Event D)
+closing None = []
+closing (Some left) = Closed left ∷ []
+
+-- the same of a device that a service was given, and that is closed if it comes back
+pub record OfServed {D : Type 0} (done : Doing D) (path : List ℕ) (P : D → Option D → Type 0) : Type 0 where
   pub disk : D
-  pub was : opened disk
   pub back : Option D
+  pub did : done (Opened path ToChange disk ∷ closing back)
   pub holds : P disk back
 
--- A fault of a command that opens a device by itself: that can't be had, the output failed, or the device was opened and this ends the command.
-abbrev pub EndsBy : {D : Type 0} → Ghosts D → (D → Type 0) → Ending → Fault → Type 0
-EndsBy {D} model opened Ends fault = IsFileFault fault ⊎ (fault ≡ told.Output) ⊎ OfOpened model opened (λ disk left. Ends disk left fault)
+-- Two devices were opened and closed, the first to read it, the second made new.
+pub record OfTwo {D : Type 0} (model : Ghosts D) (done : Doing D) (old new : List ℕ) (P : DiskView → DiskView → DiskView → DiskView → Type 0) : Type 0 where
+  pub from : D
+  pub to : D
+  pub from_left : D
+  pub to_left : D
+  pub did : done (Opened old ToRead from ∷ Opened new New to ∷ Closed from_left ∷ Closed to_left ∷ [])
+  pub ran : IsSameDevice (model.view from) (model.view from_left) × IsSameDevice (model.view to) (model.view to_left)
+  pub holds : P (model.view from) (model.view from_left) (model.view to) (model.view to_left)
+
+-- The second of two can't be had: the first was opened, and closed as it was.
+abbrev pub OfFirst : {D : Type 0} → Doing D → List ℕ → List ℕ → Type 0
+OfFirst {D} done old new = (from : D) × done (Opened old ToRead from ∷ NotHad new New ∷ Closed from ∷ [])
+
+-- A fault of a command on one device: the device can't be had, and no file was put; or it was opened, and this ends the command.
+abbrev pub EndsBy : {D : Type 0} → Ghosts D → Doing D → (List Put → Type 0) → List ℕ → Access → Ending → Fault → Type 0
+EndsBy model done put path access MayFail fault =
+    (done (NotHad path access ∷ []) × put [] × IsFileFault fault) ⊎ OfOpened model done path access (λ disk left. MayFail disk left fault)
 
 -- An answer of the state for which a device's content stands; where it stands for none, or nothing is known of it, of some state.
 pub record IsAnswerOf (disk : DiskView) (P : State → Type 0) : Type 0 where

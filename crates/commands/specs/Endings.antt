@@ -1,10 +1,12 @@
 -- Which faults may end a run.
-use Rattle.std.specs.Prelude.{◌≡◌, ◌≢◌, ◌<◌, ◌⊎◌, ℕ, List, [], Option, Some, None, IsTrue, length}
+use Rattle.std.specs.Prelude.{◌≡◌, ◌≢◌, ◌<◌, ◌⊎◌, ℕ, List, [], ◌∷◌, Option, Some, None, IsTrue, length}
 use Rattle.clap.specs.Walk.{Text}
 use Rattle.disk_trait.specs.declared.disk.Disk.{Ghosts}
-use Rattle.disk_trait.specs.Disk.{DiskView, OnlyRead}
+use Rattle.disk_trait.specs.Disk.{DiskView, LeavesOnly, OnlyRead}
 use Rattle.graph_edits.specs.declared.edits.Op.{Op}
 use Rattle.layout_2.specs.Layout.{device_len}
+use Rattle.layout_2.specs.Standing.{KeepsThrough, StandsFor}
+use Rattle.migrate.specs.Moved.{MovesWholly}
 use Rattle.node_table.specs.declared.parts.Parts.{Parts}
 use Rattle.written_values.specs.Words.{IsWithin}
 use Rattle.written_values.specs.declared.words.LandmarkWords.{LandmarkWords}
@@ -12,7 +14,7 @@ use Rattle.written_values.specs.declared.words.LandmarkWords.TheVariants.{Greate
 use Rattle.command_output.specs.Printing.{Known}
 use Rattle.command_output.specs.declared.fault.Fault.{Fault}
 use Rattle.command_output.specs.declared.fault.Fault.TheVariants as told
-use Rattle.device_commands.specs.Answer.{IsNew}
+use Rattle.device_commands.specs.Answer.{IsNew, state_after}
 use Rattle.device_commands.specs.Edits.{IsPastLimits}
 use Rattle.device_commands.specs.Openings.{IsEditFault, IsFormatFault, IsOpenFault, IsUnwrittenFault, OfContent, TellsOf}
 use Rattle.device_commands.specs.Moves.{IsMoveFault, TellsOfOld}
@@ -25,8 +27,10 @@ use Rattle.command_line.specs.declared.refused.WordsRefused.{WordsRefused}
 use Rattle.command_line.specs.declared.refused.WordsRefused.TheVariants as why
 use Rattle.command_line.specs.declared.task.Task.{Task}
 use Rattle.command_line.specs.declared.task.Task.TheVariants.{Format, Show, Edit, Resume, Route, Check, Migrate, Serve, Tables}
-use Rattle.commands.specs.declared.devices.Access.TheVariants.{ToRead, ToChange, Anew, New}
-use Rattle.commands.specs.Devices.{EndsBy, IsAnswerOf, IsFileFault, OfOpened, OfServed, Opening}
+use Rattle.commands.specs.declared.devices.Access.{Access}
+use Rattle.commands.specs.declared.devices.Access.TheVariants.{ToRead, ToChange, Anew}
+use Rattle.commands.specs.Devices.{Doing, EndsBy, Ending, IsAnswerOf, IsFileFault, OfFirst, OfServed, OfTwo}
+use Rattle.commands.specs.Events.{NotHad}
 use Rattle.commands.specs.Queries.{LacksNode}
 use Rattle.commands.specs.ServedScripts.{IsScriptFault}
 use Rattle.table_files.specs.Files.{Put}
@@ -47,7 +51,52 @@ NamesNodes Greatest = ⊥
 NamesNodes (ZeroAt nodes) = Unit {0}
 NamesNodes (Drawn seed) = ⊥
 
+-- ---- a task on one device
+
+-- the path of a task's device; of `migrate` the old one
+abbrev pub device_of : Task → List ℕ
+device_of (Format device nodes) = device.now
+device_of (Show device) = device.now
+device_of (Edit device session ticket change) = device.now
+device_of (Resume device session) = device.now
+device_of (Route device pairs words) = device.now
+device_of (Check device words) = device.now
+device_of (Migrate device made) = device.now
+device_of (Serve device editors forwarders places live words) = device.now
+device_of (Tables device folder nodes words) = device.now
+
+-- how a task has it
+abbrev pub access_of : Task → Access
+access_of (Format device nodes) = Anew
+access_of (Edit device session ticket change) = ToChange
+access_of (Serve device editors forwarders places live words) = ToChange
+access_of task = ToRead
+
+-- the device was only read
+abbrev pub IsOnlyRead : DiskView → DiskView → Type 0
+IsOnlyRead disk left = IsTrue disk.keeps_model → OnlyRead disk left
+
+-- At any moment of a change a crash leaves the state before it or the one after it.
+abbrev pub ChangesWholly : ℕ → Option ℕ → List Op → DiskView → DiskView → Type 0
+ChangesWholly session ticket change disk left =
+    OfContent disk (λ state. KeepsThrough disk state
+    → LeavesOnly disk left (λ image. StandsFor state image ⊎ StandsFor (state_after state session ticket change) image))
+
+-- what a task does to its device, whatever ends it, and at any moment until it is closed
+abbrev pub Leaves : Task → DiskView → DiskView → Type 0
+Leaves (Format device nodes) disk left = Unit {0}
+Leaves (Edit device session ticket change) disk left = ChangesWholly session ticket change disk left
+Leaves task disk left = IsOnlyRead disk left
+
+-- and `migrate` to its two
+abbrev pub LeavesMoved : DiskView → DiskView → DiskView → DiskView → Type 0
+LeavesMoved from from_left to to_left = IsOnlyRead from from_left × MovesWholly from to to_left
+
 -- ---- why a command on a device ends, which it has opened
+
+-- the output failed, or this ends it
+abbrev pub OrOutput : Ending → Ending
+OrOutput MayFail disk left fault = (fault ≡ told.Output) ⊎ MayFail disk left fault
 
 -- A device can't be formatted for so many nodes.
 pub record IsFormatEnd (nodes : ℕ) (disk left : DiskView) (fault : Fault) : Type 0 where
@@ -55,12 +104,11 @@ pub record IsFormatEnd (nodes : ℕ) (disk left : DiskView) (fault : Fault) : Ty
   pub wrong_length : fault ≡ told.DeviceLength → length disk.content ≢ device_len
   pub device : fault ≡ told.Device → disk.failures < left.failures
 
--- A device is refused, or what was asked of it is: the fault is one of these, it tells of the content, and the device was only read.
+-- A device is refused, or what was asked of it is: the fault is one of these, and it tells of the content.
 pub record IsReadingEnd (Named : Fault → Type 0) (disk left : DiskView) (fault : Fault) : Type 0 where
   pub named : Named fault
   pub tells : IsTrue disk.keeps_model → TellsOf fault disk.content
   pub device : fault ≡ told.Device → disk.failures < left.failures
-  pub reads : IsTrue disk.keeps_model → OnlyRead disk left
 
 -- A change isn't made.
 pub record IsEditEnd (session : ℕ) (ticket : Option ℕ) (change : List Op) (disk left : DiskView) (fault : Fault) : Type 0 where
@@ -74,10 +122,9 @@ pub record IsEditEnd (session : ℕ) (ticket : Option ℕ) (change : List Op) (d
 -- the faults of a check of a device: the words are not understood only where they name nodes
 abbrev pub IsCheckDeviceFault : LandmarkWords → Fault → Type 0
 IsCheckDeviceFault words told.Words = NamesNodes words
-IsCheckDeviceFault words told.NoThread = Unit {0}
 IsCheckDeviceFault words fault = IsOpenFault fault
 
--- and of routes on one, which take no thread
+-- and of routes on one
 abbrev pub IsRouteDeviceFault : LandmarkWords → Fault → Type 0
 IsRouteDeviceFault words told.NoNode = Unit {0}
 IsRouteDeviceFault words told.Words = NamesNodes words
@@ -104,51 +151,56 @@ pub record IsMoveEnd (from from_left to to_left : DiskView) (fault : Fault) : Ty
   pub wrong_length : fault ≡ told.DeviceLength → length to.content ≢ device_len
   pub device : fault ≡ told.Device → (from.failures < from_left.failures) ⊎ (to.failures < to_left.failures)
 
--- No script is run: it is none, the device can't be had, or the service ended by this fault.
-abbrev pub EndsServe : {D : Type 0} → Ghosts D → (D → Type 0) → Known → ℕ → LandmarkWords → Fault → Type 0
-EndsServe model opened given editors words fault =
-    IsScriptFault given editors fault ⊎ IsFileFault fault ⊎ OfServed opened (λ disk back. IsServeEnd model disk words back fault × IsLeftBy model disk back)
+-- what a service leaves of its device that a fault ended
+abbrev pub FailsServing : {D : Type 0} → Ghosts D → LandmarkWords → Fault → D → Option D → Type 0
+FailsServing model words fault disk back = IsServeEnd model disk words back fault × IsLeftBy model disk back
+
+-- No script is run: it is none, and no device was opened; the device can't be had; or the service ended by this fault.
+abbrev pub EndsServe : {D : Type 0} → Ghosts D → Doing D → List ℕ → Known → ℕ → LandmarkWords → Fault → Type 0
+EndsServe model done path given editors words fault =
+    (done [] × IsScriptFault given editors fault) ⊎ (done (NotHad path ToChange ∷ []) × IsFileFault fault)
+    ⊎ OfServed done path (FailsServing model words fault)
 
 -- unless the output failed, answers to the first lines that a reader gives were printed, in their order, and nothing else
 abbrev pub BeginsAnswers : Known → ℕ → Known → Known → Fault → Type 0
 BeginsAnswers given editors old new fault = fault ≢ told.Output → (count : ℕ) × HasPrinted (Bytes given) editors old new count
 
--- No lines are answered, since memory ran out or the device can't be had; or the live service ended by this fault.
-abbrev pub EndsLive : {D : Type 0} → Ghosts D → (D → Type 0) → Known → ℕ → LandmarkWords → Known → Known → Fault → Type 0
-EndsLive model opened given editors words old new fault =
-    ((new ≡ old) × ((fault ≡ told.Memory) ⊎ IsFileFault fault))
-    ⊎ (BeginsAnswers given editors old new fault × OfServed opened (λ disk back. IsServeEnd model disk words back fault × IsLeftBy model disk back))
+-- No lines are answered, since memory ran out before the device was opened, or it can't be had; or the live service ended by this fault.
+abbrev pub EndsLive : {D : Type 0} → Ghosts D → Doing D → List ℕ → Known → ℕ → LandmarkWords → Known → Known → Fault → Type 0
+EndsLive model done path given editors words old new fault =
+    ((new ≡ old) × ((done [] × (fault ≡ told.Memory)) ⊎ (done (NotHad path ToChange ∷ []) × IsFileFault fault)))
+    ⊎ (BeginsAnswers given editors old new fault × OfServed done path (FailsServing model words fault))
 
--- No tables are asked of a scheme, and nothing is put; or the scheme is there, and some of them may be put by then. The device was only read.
+-- No tables are asked of a scheme, and nothing is put; or the scheme is there, and some of them may be put by then.
 abbrev pub IsTablesEnd : LandmarkWords → List ℕ → List ℕ → (List Put → Type 0) → DiskView → DiskView → Fault → Type 0
 IsTablesEnd asked folder named put disk left fault =
     (put [] × IsCheckEnd asked disk left fault)
-    ⊎ (IsAnswerOf disk (λ state. (p : Parts) × IsSchemeBy state.graph state.count asked p × EndsPutting p folder named put fault) × (IsTrue disk.keeps_model → OnlyRead disk left))
+    ⊎ IsAnswerOf disk (λ state. (p : Parts) × IsSchemeBy state.graph state.count asked p × EndsPutting p folder named put fault)
 
--- No tables are put, since the device can't be had, or it was opened and this ends the command.
-abbrev pub EndsTables : {D : Type 0} → Ghosts D → (D → Type 0) → LandmarkWords → List ℕ → List ℕ → (List Put → Type 0) → Fault → Type 0
-EndsTables model opened asked folder named put fault = (put [] × IsFileFault fault) ⊎ OfOpened model opened (λ disk left. IsTablesEnd asked folder named put disk left fault)
+-- which fault ends a task on one device, which is open
+abbrev pub EndsOpened : (List Put → Type 0) → Task → DiskView → DiskView → Fault → Type 0
+EndsOpened put (Format device nodes) disk left fault = OrOutput (IsFormatEnd nodes) disk left fault
+EndsOpened put (Show device) disk left fault = OrOutput (IsReadingEnd IsOpenFault) disk left fault
+EndsOpened put (Edit device session ticket change) disk left fault = OrOutput (IsEditEnd session ticket change) disk left fault
+EndsOpened put (Resume device session) disk left fault = OrOutput (IsReadingEnd IsOpenFault) disk left fault
+EndsOpened put (Route device pairs words) disk left fault = OrOutput (IsRouteEnd pairs.items words) disk left fault
+EndsOpened put (Check device words) disk left fault = OrOutput (IsCheckEnd words) disk left fault
+EndsOpened put (Tables device folder nodes words) disk left fault = IsTablesEnd words folder.now nodes.items put disk left fault
+EndsOpened put task disk left fault = ⊥
+
+-- No device is brought over: one of the two can't be had, the output failed, or this ends it.
+abbrev pub EndsMove : {D : Type 0} → Ghosts D → Doing D → List ℕ → List ℕ → Fault → Type 0
+EndsMove model done old new fault =
+    ((done (NotHad old ToRead ∷ []) ⊎ OfFirst done old new) × IsFileFault fault)
+    ⊎ OfTwo model done old new (λ from from_left to to_left. LeavesMoved from from_left to to_left × ((fault ≡ told.Output) ⊎ IsMoveEnd from from_left to to_left fault))
 
 -- ---- the parts of these
 
--- the faults of a query in a thread of its own
-abbrev pub IsThreadFault : Fault → Type 0
-IsThreadFault told.Memory = Unit {0}
-IsThreadFault told.NoThread = Unit {0}
-IsThreadFault fault = ⊥
-
--- the faults of landmark words for a graph
+-- the faults of landmark words for a graph, and of a scheme or a check of it under them
 abbrev pub IsWordsFault : LandmarkWords → Fault → Type 0
 IsWordsFault words told.Words = NamesNodes words
 IsWordsFault words told.Memory = Unit {0}
 IsWordsFault words fault = ⊥
-
--- the faults of a check of a graph under landmark words
-abbrev pub IsQueryFault : LandmarkWords → Fault → Type 0
-IsQueryFault words told.Words = NamesNodes words
-IsQueryFault words told.Memory = Unit {0}
-IsQueryFault words told.NoThread = Unit {0}
-IsQueryFault words fault = ⊥
 
 -- and of routes between pairs of nodes
 abbrev pub IsRouteFault : LandmarkWords → Fault → Type 0
@@ -158,22 +210,15 @@ IsRouteFault words fault = IsWordsFault words fault
 -- ---- why a run ends
 
 -- the faults that may end a task that is under way, and what a live service has printed by then
-abbrev pub MayEnd : {D : Type 0} → Ghosts D → Opening D → (List Put → Type 0) → Task → Known → Known → Known → Fault → Type 0
-MayEnd model opened put (Format device nodes) given old new fault = EndsBy model (opened device.now Anew) (IsFormatEnd nodes) fault
-MayEnd model opened put (Show device) given old new fault = EndsBy model (opened device.now ToRead) (IsReadingEnd IsOpenFault) fault
-MayEnd model opened put (Edit device session ticket change) given old new fault = EndsBy model (opened device.now ToChange) (IsEditEnd session ticket change) fault
-MayEnd model opened put (Resume device session) given old new fault = EndsBy model (opened device.now ToRead) (IsReadingEnd IsOpenFault) fault
-MayEnd model opened put (Route device pairs words) given old new fault = EndsBy model (opened device.now ToRead) (IsRouteEnd pairs.items words) fault
-MayEnd model opened put (Check device words) given old new fault = EndsBy model (opened device.now ToRead) (IsCheckEnd words) fault
-MayEnd model opened put (Migrate device made) given old new fault = IsFileFault fault ⊎ (fault ≡ told.Output)
-    ⊎ OfOpened model (opened device.now ToRead) (λ from from_left. OfOpened model (opened made.now New) (λ to to_left. IsMoveEnd from from_left to to_left fault))
-MayEnd model opened put (Serve device editors forwarders places None words) given old new fault = EndsServe model (opened device.now ToChange) given editors words fault
-MayEnd model opened put (Serve device editors forwarders places (Some rounds) words) given old new fault = EndsLive model (opened device.now ToChange) given editors words old new fault
-MayEnd model opened put (Tables device folder nodes words) given old new fault = EndsTables model (opened device.now ToRead) words folder.now nodes.items put fault
+abbrev pub MayEnd : {D : Type 0} → Ghosts D → Doing D → (List Put → Type 0) → Task → Known → Known → Known → Fault → Type 0
+MayEnd model done put (Migrate device made) given old new fault = EndsMove model done device.now made.now fault
+MayEnd model done put (Serve device editors forwarders places None words) given old new fault = EndsServe model done device.now given editors words fault
+MayEnd model done put (Serve device editors forwarders places (Some rounds) words) given old new fault = EndsLive model done device.now given editors words old new fault
+MayEnd model done put task given old new fault = EndsBy model done put (device_of task) (access_of task) (λ disk left why. Leaves task disk left × EndsOpened put task disk left why) fault
 
--- The words are no task that is in range, and the fault is the one for what is wrong with them, or memory ran out while they were read;
--- or they ask for a task, and the fault is one that may end it.
-abbrev pub IsFaultFor : {D : Type 0} → Ghosts D → Opening D → (List Put → Type 0) → List Text → Known → Known → Known → Fault → Type 0
-IsFaultFor model opened put words given old new fault =
-    ((refused : WordsRefused) × (fault ≡ words_fault refused) × IsRefusedFor words refused × ((task : Task) → IsAskedFor words task → IsInRange task → fault ≡ told.Memory))
-    ⊎ ((task : Task) × IsAskedFor words task × MayEnd model opened put task given old new fault)
+-- The words are no task that is in range, no device was opened, and the fault is the one for what is wrong with them, or memory ran out
+-- while they were read; or they ask for a task, and the fault is one that may end it.
+abbrev pub IsFaultFor : {D : Type 0} → Ghosts D → Doing D → (List Put → Type 0) → List Text → Known → Known → Known → Fault → Type 0
+IsFaultFor model done put words given old new fault =
+    (done [] × ((refused : WordsRefused) × (fault ≡ words_fault refused) × IsRefusedFor words refused × ((task : Task) → IsAskedFor words task → IsInRange task → fault ≡ told.Memory)))
+    ⊎ ((task : Task) × IsAskedFor words task × MayEnd model done put task given old new fault)

@@ -1,3 +1,4 @@
+pub mod Events
 pub mod Devices
 pub mod SchemeAnswers
 pub mod ServedScripts

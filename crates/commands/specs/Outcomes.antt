@@ -1,5 +1,5 @@
 -- How a run ends, and what it has printed and told by then.
-use Rattle.std.specs.Prelude.{◌≡◌, ℕ, List, Option, Some, None, Result, Ok, Err}
+use Rattle.std.specs.Prelude.{◌≡◌, ℕ, List, Result, Ok, Err}
 use Rattle.std.specs.Io.KnownBytes.{Appends}
 use Rattle.clap.specs.Walk.{Text}
 use Rattle.disk_trait.specs.declared.disk.Disk.{Ghosts}
@@ -12,11 +12,11 @@ use Rattle.command_output.specs.declared.fault.Fault.{Fault}
 use Rattle.line_exchange.specs.declared.served.Served.{Served}
 use Rattle.line_exchange.specs.declared.served.Served.TheVariants as served
 use Rattle.written_values.specs.declared.words.LandmarkWords.{LandmarkWords}
-use Rattle.commands.specs.Devices.{Opening}
+use Rattle.commands.specs.Devices.{Doing}
 use Rattle.commands.specs.declared.outcome.Outcome.{Outcome}
 use Rattle.commands.specs.declared.outcome.Outcome.TheVariants.{Answered, Told, Untold}
-use Rattle.commands.specs.Endings.{EndsLive, EndsServe, IsFaultFor, MayEnd}
-use Rattle.commands.specs.Printed.{AnswersWords, PrintedFor, PrintsLive, PrintsServed}
+use Rattle.commands.specs.Endings.{EndsLive, IsFaultFor, MayEnd}
+use Rattle.commands.specs.Printed.{AnswersWords, PrintedFor, PrintsLive}
 use Rattle.table_files.specs.Files.{Put}
 
 -- the exit status of a run that ends so
@@ -36,33 +36,22 @@ AnswersOrTells Answers MayFail told_old told_new (Told fault) = MayFail fault ×
 AnswersOrTells Answers MayFail told_old told_new (Untold fault) = MayFail fault
 
 -- What a run of these words, with what its reader gives, has printed on a writer, and told on another.
-abbrev pub IsOutcome : {D : Type 0} → Ghosts D → Opening D → (List Put → Type 0) → List Text → Known → Known → Known → Known → Known → Outcome → Type 0
-IsOutcome model opened put words given old new told_old told_new outcome =
-    AnswersOrTells (λ ended. AnswersWords model opened put words given ended old new) (λ fault. IsFaultFor model opened put words given old new fault)
+abbrev pub IsOutcome : {D : Type 0} → Ghosts D → Doing D → (List Put → Type 0) → List Text → Known → Known → Known → Known → Known → Outcome → Type 0
+IsOutcome model done put words given old new told_old told_new outcome =
+    AnswersOrTells (λ ended. AnswersWords model done put words given ended old new) (λ fault. IsFaultFor model done put words given old new fault)
     told_old told_new outcome
 
 -- the same of a task that is asked for
-abbrev pub IsOutcomeOf : {D : Type 0} → Ghosts D → Opening D → (List Put → Type 0) → Task → Known → Known → Known → Known → Known → Outcome → Type 0
-IsOutcomeOf model opened put task given old new told_old told_new outcome =
-    AnswersOrTells (λ ended. PrintedFor model opened put task given ended old new) (λ fault. MayEnd model opened put task given old new fault)
+abbrev pub IsOutcomeOf : {D : Type 0} → Ghosts D → Doing D → (List Put → Type 0) → Task → Known → Known → Known → Known → Known → Outcome → Type 0
+IsOutcomeOf model done put task given old new told_old told_new outcome =
+    AnswersOrTells (λ ended. PrintedFor model done put task given ended old new) (λ fault. MayEnd model done put task given old new fault)
     told_old told_new outcome
 
--- of a service over a script
-abbrev pub IsScriptOutcome : {D : Type 0} → Ghosts D → (D → Type 0) → Known → ℕ → LandmarkWords → Known → Known → Known → Known → Outcome → Type 0
-IsScriptOutcome model opened given editors words old new told_old told_new outcome =
-    AnswersOrTells (λ ended. PrintsServed model opened given editors ended old new) (λ fault. EndsServe model opened given editors words fault)
+-- of a live service, by a device's path
+abbrev pub IsLiveOutcome : {D : Type 0} → Ghosts D → Doing D → List ℕ → Known → ℕ → LandmarkWords → Known → Known → Known → Known → Outcome → Type 0
+IsLiveOutcome model done path given editors words old new told_old told_new outcome =
+    AnswersOrTells (λ ended. PrintsLive model done path given editors ended old new) (λ fault. EndsLive model done path given editors words old new fault)
     told_old told_new outcome
-
--- of a live service
-abbrev pub IsLiveOutcome : {D : Type 0} → Ghosts D → (D → Type 0) → Known → ℕ → LandmarkWords → Known → Known → Known → Known → Outcome → Type 0
-IsLiveOutcome model opened given editors words old new told_old told_new outcome =
-    AnswersOrTells (λ ended. PrintsLive model opened given editors ended old new) (λ fault. EndsLive model opened given editors words old new fault)
-    told_old told_new outcome
-
--- and of any service
-abbrev pub IsServiceOutcome : {D : Type 0} → Ghosts D → (D → Type 0) → Option ℕ → Known → ℕ → LandmarkWords → Known → Known → Known → Known → Outcome → Type 0
-IsServiceOutcome model opened None given editors words old new told_old told_new outcome = IsScriptOutcome model opened given editors words old new told_old told_new outcome
-IsServiceOutcome model opened (Some rounds) given editors words old new told_old told_new outcome = IsLiveOutcome model opened given editors words old new told_old told_new outcome
 
 -- the outcome is what was answered, or the fault that came, told where that could be written
 abbrev pub IsToldSo : Result Ended Fault → Known → Known → Outcome → Type 0

@@ -4,7 +4,7 @@ use Rattle.std.specs.FinMap.{len}
 use Rattle.std.specs.Io.KnownBytes.{Appends}
 use Rattle.clap.specs.Walk.{Text}
 use Rattle.disk_trait.specs.declared.disk.Disk.{Ghosts}
-use Rattle.disk_trait.specs.Disk.{DiskView, OnlyRead}
+use Rattle.disk_trait.specs.Disk.{DiskView}
 use Rattle.graph_edits.specs.Edges.{Network}
 use Rattle.graph_edits.specs.declared.edits.Op.{Op}
 use Rattle.layout_2.specs.State.{first_state}
@@ -32,8 +32,9 @@ use Rattle.service_threads.specs.Kept.{IsLeftBy}
 use Rattle.line_exchange.specs.Gathers.{IsServed}
 use Rattle.line_exchange.specs.Inputs.{Bytes}
 use Rattle.line_exchange.specs.Prints.{AreAllLines, HasPrinted}
-use Rattle.commands.specs.declared.devices.Access.TheVariants.{ToRead, ToChange, Anew, New}
-use Rattle.commands.specs.Devices.{IsAnswerOf, OfOpened, OfServed, Opening}
+use Rattle.live_service.specs.Services.{AnswersInput, AnswersScript}
+use Rattle.commands.specs.Devices.{Doing, IsAnswerOf, OfOpened, OfServed, OfTwo}
+use Rattle.commands.specs.Endings.{Leaves, LeavesMoved, access_of, device_of}
 use Rattle.commands.specs.ServedScripts.{IsScriptOf}
 use Rattle.table_files.specs.Files.{Put}
 use Rattle.table_files.specs.Tables.{AnswersTables}
@@ -51,10 +52,6 @@ verdict_text (Refused op code) = refused_text op code
 
 -- ---- what a command on a device has printed that ends so, and what it leaves of the device
 
--- the device was only read
-abbrev pub IsOnlyRead : DiskView → DiskView → Type 0
-IsOnlyRead disk left = IsTrue disk.keeps_model → OnlyRead disk left
-
 -- `format`: how many nodes, and a device that was formatted for them
 abbrev pub PrintsFormatted : ℕ → DiskView → DiskView → Ended → Known → Known → Type 0
 PrintsFormatted nodes disk left ended old new =
@@ -62,7 +59,7 @@ PrintsFormatted nodes disk left ended old new =
 
 -- `show`: the listing of the device's state
 abbrev pub PrintsListing : DiskView → DiskView → Ended → Known → Known → Type 0
-PrintsListing disk left ended old new = IsAnswerOf disk (λ state. (ended ≡ Done) × Appends old new (listing_text state.count state.graph)) × IsOnlyRead disk left
+PrintsListing disk left ended old new = IsAnswerOf disk (λ state. (ended ≡ Done) × Appends old new (listing_text state.count state.graph))
 
 -- `edit`: what becomes of the change in that state, to which its ticket is new, and a device that stands for the state behind it
 abbrev pub PrintsVerdict : ℕ → Option ℕ → List Op → DiskView → DiskView → Ended → Known → Known → Type 0
@@ -73,54 +70,61 @@ PrintsVerdict session ticket change disk left ended old new =
 -- `resume`: the last ticket of a session in that state
 abbrev pub PrintsTicket : ℕ → DiskView → DiskView → Ended → Known → Known → Type 0
 PrintsTicket session disk left ended old new =
-    IsAnswerOf disk (λ state. (ended ≡ Done) × Appends old new (line (ticket_text session (last_of state.tickets session)))) × IsOnlyRead disk left
+    IsAnswerOf disk (λ state. (ended ≡ Done) × Appends old new (line (ticket_text session (last_of state.tickets session))))
 
 -- `route`: for each pair of nodes what becomes of a packet in that state's graph
 abbrev pub PrintsRoutes : List (ℕ × ℕ) → LandmarkWords → DiskView → DiskView → Ended → Known → Known → Type 0
 PrintsRoutes pairs words disk left ended old new =
-    IsAnswerOf disk (λ state. (routes : List Found) × AreRoutesOf state.graph words pairs routes × (ended ≡ ended_after routes) × Appends old new (routes_text state.count routes)) × IsOnlyRead disk left
+    IsAnswerOf disk (λ state. (routes : List Found) × AreRoutesOf state.graph words pairs routes × (ended ≡ ended_after routes) × Appends old new (routes_text state.count routes))
 
 -- `check`: what the checks say of a scheme of that graph
 abbrev pub PrintsCheck : LandmarkWords → DiskView → DiskView → Ended → Known → Known → Type 0
 PrintsCheck words disk left ended old new =
     IsAnswerOf disk (λ state. (checked : Checked) × IsCheckOf state.graph state.count words checked × (ended ≡ ended_at checked.fault)
-    × Appends old new (line (checks_text state.count checked.landmarks checked.fault))) × IsOnlyRead disk left
+    × Appends old new (line (checks_text state.count checked.landmarks checked.fault)))
 
 -- `migrate`: how much the old device held, and a new one that holds the same
 abbrev pub PrintsMoved : DiskView → DiskView → DiskView → Ended → Known → Known → Type 0
 PrintsMoved from to left ended old new = (ended ≡ Done) × (moved : Moved) × ((graph : Network) × (moved.edges ≡ len graph.edges)) × Appends old new (line (migrated_text moved.count moved.edges))
     × (IsTrue from.keeps_model → IsTrue to.keeps_model → HasMoved moved from.content left)
 
--- `serve`: the lines of answers to the script that a reader gives
-abbrev pub PrintsServed : {D : Type 0} → Ghosts D → (D → Type 0) → Known → ℕ → Ended → Known → Known → Type 0
-PrintsServed model opened given editors ended old new =
-    (ended ≡ Done) × (lines : List ScriptLine) × IsScriptOf given editors lines × OfServed opened (λ disk back. IsServed lines old new × IsLeftBy model disk back)
+-- `serve`: the lines of answers to the script that a reader gives, of one list of requests, which the device has
+abbrev pub PrintsServed : {D : Type 0} → Ghosts D → Doing D → List ℕ → Known → ℕ → Ended → Known → Known → Type 0
+PrintsServed model done path given editors ended old new =
+    (ended ≡ Done) × (lines : List ScriptLine) × IsScriptOf given editors lines
+    × OfServed done path (λ disk back. IsServed lines old new × AnswersScript model disk back lines editors (λ known. known) old new × IsLeftBy model disk back)
 
--- `serve --live`: a line for each line that a reader gives, an answer to it, in their order
-abbrev pub PrintsLive : {D : Type 0} → Ghosts D → (D → Type 0) → Known → ℕ → Ended → Known → Known → Type 0
-PrintsLive model opened given editors ended old new =
-    (ended ≡ Done) × ((count : ℕ) × HasPrinted (Bytes given) editors old new count × AreAllLines (Bytes given) count) × OfServed opened (λ disk back. IsLeftBy model disk back)
+-- `serve --live`: a line for each line that a reader gives, an answer to it, in their order, of one list of requests, which the device has
+abbrev pub PrintsLive : {D : Type 0} → Ghosts D → Doing D → List ℕ → Known → ℕ → Ended → Known → Known → Type 0
+PrintsLive model done path given editors ended old new =
+    (ended ≡ Done) × ((count : ℕ) × HasPrinted (Bytes given) editors old new count × AreAllLines (Bytes given) count)
+    × OfServed done path (λ disk back. AnswersInput model disk back (Bytes given) editors (λ known. known) old new × IsLeftBy model disk back)
 
 -- `tables`: the files of the tables that a scheme of that graph has of nodes, and their line, or that a node isn't there
 abbrev pub PrintsTables : LandmarkWords → List ℕ → List ℕ → (List Put → Type 0) → DiskView → DiskView → Ended → Known → Known → Type 0
 PrintsTables words folder named put disk left ended old new =
-    IsAnswerOf disk (λ state. (p : Parts) × IsSchemeBy state.graph state.count words p × AnswersTables p state.count folder named put ended old new) × IsOnlyRead disk left
+    IsAnswerOf disk (λ state. (p : Parts) × IsSchemeBy state.graph state.count words p × AnswersTables p state.count folder named put ended old new)
 
--- A command that ends so has printed the answer to its task, and nothing else: of the device that it opened. The script of a service is
--- what a reader gives, and the files of `tables` are those that were put.
-abbrev pub PrintedFor : {D : Type 0} → Ghosts D → Opening D → (List Put → Type 0) → Task → Known → Ended → Known → Known → Type 0
-PrintedFor model opened put (Format device nodes) given ended old new = OfOpened model (opened device.now Anew) (λ disk left. PrintsFormatted nodes disk left ended old new)
-PrintedFor model opened put (Show device) given ended old new = OfOpened model (opened device.now ToRead) (λ disk left. PrintsListing disk left ended old new)
-PrintedFor model opened put (Edit device session ticket change) given ended old new = OfOpened model (opened device.now ToChange) (λ disk left. PrintsVerdict session ticket change disk left ended old new)
-PrintedFor model opened put (Resume device session) given ended old new = OfOpened model (opened device.now ToRead) (λ disk left. PrintsTicket session disk left ended old new)
-PrintedFor model opened put (Route device pairs words) given ended old new = OfOpened model (opened device.now ToRead) (λ disk left. PrintsRoutes pairs.items words disk left ended old new)
-PrintedFor model opened put (Check device words) given ended old new = OfOpened model (opened device.now ToRead) (λ disk left. PrintsCheck words disk left ended old new)
-PrintedFor model opened put (Migrate device made) given ended old new =
-    OfOpened model (opened device.now ToRead) (λ from left. OfOpened model (opened made.now New) (λ to made. PrintsMoved from to made ended old new))
-PrintedFor model opened put (Serve device editors forwarders places None words) given ended old new = PrintsServed model (opened device.now ToChange) given editors ended old new
-PrintedFor model opened put (Serve device editors forwarders places (Some rounds) words) given ended old new = PrintsLive model (opened device.now ToChange) given editors ended old new
-PrintedFor model opened put (Tables device folder nodes words) given ended old new = OfOpened model (opened device.now ToRead) (λ disk left. PrintsTables words folder.now nodes.items put disk left ended old new)
+-- what a task on one device has printed, which is open, and what it leaves of it
+abbrev pub PrintsOpened : (List Put → Type 0) → Task → DiskView → DiskView → Ended → Known → Known → Type 0
+PrintsOpened put (Format device nodes) disk left ended old new = PrintsFormatted nodes disk left ended old new
+PrintsOpened put (Show device) disk left ended old new = PrintsListing disk left ended old new
+PrintsOpened put (Edit device session ticket change) disk left ended old new = PrintsVerdict session ticket change disk left ended old new
+PrintsOpened put (Resume device session) disk left ended old new = PrintsTicket session disk left ended old new
+PrintsOpened put (Route device pairs words) disk left ended old new = PrintsRoutes pairs.items words disk left ended old new
+PrintsOpened put (Check device words) disk left ended old new = PrintsCheck words disk left ended old new
+PrintsOpened put (Tables device folder nodes words) disk left ended old new = PrintsTables words folder.now nodes.items put disk left ended old new
+PrintsOpened put task disk left ended old new = ⊥
+
+-- A command that ends so has printed the answer to its task, and nothing else: of the device that it opened, and closed. The script of a
+-- service is what a reader gives, and the files of `tables` are those that were put.
+abbrev pub PrintedFor : {D : Type 0} → Ghosts D → Doing D → (List Put → Type 0) → Task → Known → Ended → Known → Known → Type 0
+PrintedFor model done put (Migrate device made) given ended old new =
+    OfTwo model done device.now made.now (λ from from_left to to_left. LeavesMoved from from_left to to_left × PrintsMoved from to to_left ended old new)
+PrintedFor model done put (Serve device editors forwarders places None words) given ended old new = PrintsServed model done device.now given editors ended old new
+PrintedFor model done put (Serve device editors forwarders places (Some rounds) words) given ended old new = PrintsLive model done device.now given editors ended old new
+PrintedFor model done put task given ended old new = OfOpened model done (device_of task) (access_of task) (λ disk left. Leaves task disk left × PrintsOpened put task disk left ended old new)
 
 -- the answer to a task that the words ask for was printed, and nothing else
-abbrev pub AnswersWords : {D : Type 0} → Ghosts D → Opening D → (List Put → Type 0) → List Text → Known → Ended → Known → Known → Type 0
-AnswersWords model opened put words given ended old new = (task : Task) × IsAskedFor words task × PrintedFor model opened put task given ended old new
+abbrev pub AnswersWords : {D : Type 0} → Ghosts D → Doing D → (List Put → Type 0) → List Text → Known → Ended → Known → Known → Type 0
+AnswersWords model done put words given ended old new = (task : Task) × IsAskedFor words task × PrintedFor model done put task given ended old new

@@ -18,31 +18,33 @@
 //! is 64 and R is 16. Of all commands `serve` alone reads what the reader gives. What ends a command is a `Fault`, told on the second
 //! writer as `tznode: TEXT`; a live service has printed by then what it answered.
 //!
-//! Here stand where devices are, what is printed of each command's answer, the routes, the threads that build a scheme for a check and
-//! for tables, and the run. The words are read in `command_line`, the lines and faults are spelt in `command_output`, and what
-//! `format`, `show`, `edit`, `resume` and `migrate` do on a device is in `device_commands`; the files of `tables` are put in
-//! `table_files`, the threads of `serve` are in `live_service`, and the lines and their answers in `line_exchange`.
+//! Here stand where devices are, what is printed of each command's answer, the routes, and the run. The words are read in
+//! `command_line`, the lines and faults are spelt in `command_output`, and what `format`, `show`, `edit`, `resume` and `migrate` do on a
+//! device is in `device_commands`; the files of `tables` are put in `table_files`, the threads of `serve` are in `live_service`, and the
+//! lines of a script and its answers in `line_exchange`.
 //!
-//! A command is a call on a disk. The run opens that disk by the path of its words, at a place of [`Devices`], and drops it behind the
-//! call. The program's place is the system's files. `tables` puts its files at a place of `TableFiles`, which lists what was put.
+//! A command is a call on a disk. The run opens that disk by the path of its words, at a place of [`Devices`], and closes it there behind
+//! the call. The place lists what is opened and closed, and as what, so a contract names all that a run does with devices. The program's
+//! place is the system's files. `tables` puts its files at a place of `TableFiles`, which lists what was put.
 //!
 //! The contract that the layer above uses is that of [`run_words`] (`Says` of `specs/Runs`): of any run that what it printed is the
 //! answer to what its words ask for, or which fault ended it, and with which status, and that no other command reads what is meant for
-//! `serve`. [`run_words_at`] says it of a place of `tables` that the caller brings. [`run`] says the same of how it ended ([`Outcome`];
-//! `Runs` of `specs/Runs`), and that a fault is untold only where a write of its `FaultWriter` has failed. [`run_on`] says it of devices
-//! and files of any kind, and that no other command than `tables` puts a file there: what a line of a live service asks to be put is put
-//! into files of the system. Where a device keeps the disk model, the answer is that of the state for which the content of the device by
-//! that path stands, and the fault is true of that device. Of a live service it says that its lines are answers, each to the line at its
-//! place. What a file of the system holds is tested.
+//! `serve`. [`run_words_at`] says it of a place of `tables` that the caller brings. [`run_on`] says the same of how it ended
+//! ([`Outcome`]; `RunsWords` of `specs/Runs`), of devices and files of any kind: the device of the path was opened once and for its
+//! access, nothing else was done there, and it was closed as the answer or the fault says; whatever ends `edit`, `migrate` or `serve`,
+//! a crash at any moment leaves the device as they promise. A fault is untold only where a write of its `FaultWriter` has failed, and no
+//! other command than `tables` puts a file there: what a line of a live service asks to be put is put into files of the system. Where a
+//! device keeps the disk model, the answer is that of the state for which the content of the device by that path stands, and the fault
+//! is true of that device. What `serve` prints is of one list of requests, which the device has. What a file of the system holds is tested.
 //!
 //! ```text
 //! let words = ["edit", "device", "add:0:1:1"];
-//! let status = run_words(rt, &words, &mut rt.stdin(), &mut rt.stdout(), &mut rt.stderr()); // 0, and accepted count=1
+//! let mut streams = Streams { script: rt.stdin(), out: rt.stdout(), err: WatchedWriter::new(rt.stderr()) };
+//! let status = run_words(rt, &words, &mut streams); // 0, and accepted count=1
 //! ```
 #![tactic(auto)]
 
-mod building;
-mod checking;
+mod device_log;
 mod devices;
 mod on_device;
 mod outcome;
@@ -50,9 +52,12 @@ mod routing;
 mod running;
 mod scheme_tasks;
 mod service;
+mod streams;
 mod tables;
 
+pub use device_log::DeviceLog;
 pub use devices::{Access, Devices};
 pub use outcome::Outcome;
-pub use running::{run, run_on, run_words, run_words_at};
+pub use running::{run_on, run_words, run_words_at};
 pub use scheme_tasks::{check_device, route_device};
+pub use streams::Streams;

@@ -5,9 +5,9 @@ ghost use Rattle.requests.specs.Tickets.{sessions};
 ghost use Rattle.command_output.specs.Lines.{line, migrated_text, ticket_text};
 ghost use Rattle.command_output.specs.Printing.{PrintsText};
 ghost use Rattle.device_commands.specs.Openings.{IsOpenFault};
-ghost use Rattle.commands.specs.Endings.{IsEditEnd, IsFormatEnd, IsReadingEnd};
+ghost use Rattle.commands.specs.Endings.{ChangesWholly, IsEditEnd, IsFormatEnd, IsOnlyRead, IsReadingEnd, OrOutput};
 ghost use Rattle.commands.specs.Printed.{PrintsFormatted, PrintsListing, PrintsTicket, PrintsVerdict, ended_by, verdict_text};
-ghost use Rattle.commands.specs.Runs.{ChangesWholly, EndsAfter, EndsMoveOn, EndsOn};
+ghost use Rattle.commands.specs.Runs.{EndsAfter, EndsMoveOn, EndsOn};
 
 use command_output::{
     AcceptedLine, Ended, Fault, Formatted, MigratedLine, RefusedLine, TicketLine, print_line,
@@ -28,7 +28,7 @@ pub(crate) fn format_on<D: Disk, O: Write>(
     nodes: u16,
     out: &mut O,
 ) -> Result<Ended, Fault>
-    ensures { EndsOn (PrintsFormatted nodes) (IsFormatEnd nodes) D.view disk.old disk.new
+    ensures { EndsOn (λ _ _. Unit {0}) (PrintsFormatted nodes) (OrOutput (IsFormatEnd nodes)) (D.view disk.old) (D.view disk.new)
         O.contents out.old out.new result }
 {
     device_commands::format(disk, nodes)?;
@@ -42,7 +42,8 @@ pub(crate) fn show_on<D: Disk, O: Write>(
     disk: D,
     out: &mut O,
 ) -> (Result<Ended, Fault>, D)
-    ensures { EndsOn PrintsListing (IsReadingEnd IsOpenFault) D.view disk result.1 O.contents out.old out.new result.0 }
+    ensures { EndsOn IsOnlyRead PrintsListing (OrOutput (IsReadingEnd IsOpenFault)) (D.view disk) (D.view result.1)
+        O.contents out.old out.new result.0 }
 {
     let (answer, disk) = device_commands::listing(alloc, disk);
     (print_listing(out, answer), disk)
@@ -66,11 +67,8 @@ pub(crate) fn edit_on<D: Disk, R: Threads + Wait + Sync + AllocGlobal, O: Write>
     out: &mut O,
 ) -> (Result<Ended, Fault>, D)
     requires { session < sessions }
-    ensures ends { EndsOn (PrintsVerdict session ticket change) (IsEditEnd session ticket change)
-        D.view disk result.1 O.contents out.old out.new result.0 }
-
-    // Whatever ends it, and at any moment of it: a crash leaves the state before the change or the one after it.
-    ensures any_moment { ChangesWholly session ticket change (D.view disk) (D.view result.1) }
+    ensures { EndsOn (ChangesWholly session ticket change) (PrintsVerdict session ticket change)
+        (OrOutput (IsEditEnd session ticket change)) (D.view disk) (D.view result.1) O.contents out.old out.new result.0 }
 {
     let (answer, disk) = device_commands::edit(rt, rt.alloc(), disk, session, ticket, change);
     (print_verdict(out, answer), disk)
@@ -99,7 +97,7 @@ pub(crate) fn resume_on<D: Disk, O: Write>(
     out: &mut O,
 ) -> (Result<Ended, Fault>, D)
     requires { session < sessions }
-    ensures { EndsOn (PrintsTicket session) (IsReadingEnd IsOpenFault) D.view disk result.1
+    ensures { EndsOn IsOnlyRead (PrintsTicket session) (OrOutput (IsReadingEnd IsOpenFault)) (D.view disk) (D.view result.1)
         O.contents out.old out.new result.0 }
 {
     let (answer, disk) = device_commands::resume(alloc, disk, session);
@@ -126,7 +124,7 @@ pub(crate) fn migrate_on<D: Disk, N: Disk, O: Write>(
     new: &mut N,
     out: &mut O,
 ) -> Result<Ended, Fault>
-    ensures { EndsMoveOn D.view old.old old.new N.view new.old new.new O.contents out.old out.new result }
+    ensures { EndsMoveOn (D.view old.old) (D.view old.new) (N.view new.old) (N.view new.new) O.contents out.old out.new result }
 {
     let moved = device_commands::migrate(alloc, old, new)?;
     print_moved(out, moved)?;

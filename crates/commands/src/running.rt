@@ -1,29 +1,26 @@
 //! The program, on any words, reader and writers.
-ghost use Rattle.std.specs.Prelude.{◌≡◌, ◌<◌, ℕ, IsTrue, List, Option, None};
+ghost use Rattle.std.specs.Prelude.{◌≡◌, ℕ, IsTrue, List, Option};
 ghost use Rattle.command_output.specs.declared.fault.Fault.{Fault};
 ghost use Rattle.clap.specs.Walk.{texts};
-ghost use Rattle.requests.specs.Tickets.{sessions};
-ghost use Rattle.device_commands.specs.Openings.{IsOpenFault};
-ghost use Rattle.commands.specs.Devices.{IsFileOf};
-ghost use Rattle.commands.specs.Endings.{IsEditEnd, IsFormatEnd, IsReadingEnd, words_fault};
+ghost use Rattle.commands.specs.Devices.{AreFiles};
+ghost use Rattle.commands.specs.Endings.{access_of, device_of, words_fault};
+ghost use Rattle.commands.specs.Events.{HasDone};
 ghost use Rattle.commands.specs.Outcomes.{AnyPut};
-ghost use Rattle.commands.specs.Printed.{PrintsFormatted, PrintsListing, PrintsTicket, PrintsVerdict};
-ghost use Rattle.commands.specs.Runs.{EndsAt, EndsMoveAt, EndsTask, PutsOnlyAsked, RunsService, RunsTask, RunsWords, Says, UnlessOutput};
-ghost use Rattle.commands.specs.ServedScripts.{AskService, IsLiveService, IsOfTables, IsService, MayRun};
-ghost use Rattle.service_threads.specs.Config.{IsServiceConfig};
+ghost use Rattle.commands.specs.Runs.{EndsAt, EndsMoveAt, EndsTask, EndsTaskOn, PutsOnlyAsked, RunsTask, RunsWords, Says, streams_of};
+ghost use Rattle.commands.specs.ServedScripts.{IsLiveService, IsMove, IsOfTables, IsService, MayRun};
 ghost use Rattle.table_files.specs.Files.{PutBy};
 
 use crate::devices::{Access, Devices, FileDevices};
 use crate::on_device::{edit_on, format_on, migrate_on, resume_on, show_on};
 use crate::outcome::{Outcome, told};
-use crate::scheme_tasks::{run_check, run_route};
-use crate::service::{run_live, run_serve};
-use crate::tables::run_tables;
+use crate::scheme_tasks::{check_on, route_on};
+use crate::service::{LiveService, Service, run_live, run_serve};
+use crate::streams::Streams;
+use crate::tables::tables_on;
 use command_line::{Task, WordsRefused, understood};
 use command_output::{Ended, Fault, FaultWriter, WatchedWriter};
 use device_files::DeviceFile;
 use disk_trait::Disk;
-use graph_edits::Change;
 use service_threads::ServiceConfig;
 use std::alloc::Global;
 use std::fs::File;
@@ -32,7 +29,6 @@ use std::rt::Files;
 use std::sync::Wait;
 use std::thread::Threads;
 use table_files::{TableFiles, TablePlaces};
-use written_values::LandmarkWords;
 
 /// Does what the words ask for on files, and answers the exit status: 0 done, 1 refused, 2 not understood.
 ///
@@ -50,13 +46,10 @@ where
     S: Read + Send,
     O: Write,
     E: Write,
-    ensures says { Says ⟦<DeviceFile as Disk>⟧ IsFileOf AnyPut (texts words.now)
-        (S.remaining script.old) O.contents out.old out.new result }
-
-    ensures unread { ¬ AskService (texts words.now) → script.new ≡ script.old }
+    ensures { Says ⟦<DeviceFile as Disk>⟧ AreFiles AnyPut (texts words.now)
+        S.remaining O.contents script.old script.new out.old out.new result }
 {
-    let mut faults = WatchedWriter::new(err);
-    run(rt, words, script, out, &mut faults).status()
+    run_words_at(rt, &mut rt.place(), words, script, out, err)
 }
 
 /// The same with the files of `tables` put at this place.
@@ -74,69 +67,55 @@ where
     S: Read + Send,
     O: Write,
     E: Write,
-    ensures says { Says ⟦<DeviceFile as Disk>⟧ IsFileOf (PutBy T.puts tables.old tables.new) (texts words.now)
-        (S.remaining script.old) O.contents out.old out.new result }
-
-    ensures unread { ¬ AskService (texts words.now) → script.new ≡ script.old }
+    ensures says { Says ⟦<DeviceFile as Disk>⟧ AreFiles (PutBy T.puts tables.old tables.new) (texts words.now)
+        S.remaining O.contents script.old script.new out.old out.new result }
 
     ensures unput { PutsOnlyAsked (texts words.now) T.puts tables.old tables.new }
 {
     let mut faults = WatchedWriter::new(err);
-    run_at(rt, tables, words, script, out, &mut faults).status()
-}
-
-/// Does what the words ask for on files, and answers how it ended.
-pub fn run<'a, R, S, O, E>(
-    rt: &'a R,
-    words: &[&str],
-    script: &mut S,
-    out: &mut O,
-    err: &mut E,
-) -> Outcome
-where
-    R: Files<File = File> + AllocGlobal + Threads + Wait + Sync + TablePlaces<'a>,
-    S: Read + Send,
-    O: Write,
-    E: FaultWriter,
-    ensures runs { RunsWords ⟦<DeviceFile as Disk>⟧ IsFileOf AnyPut (texts words.now)
-        S.remaining script.old script.new O.contents out.old out.new E.contents err.old err.new result }
-
-    // A fault that wasn't told couldn't be: a write of this writer has failed.
-    ensures untold { (fault : Fault) → result ≡ Outcome.Untold fault → IsTrue (E.has_failed err.new) }
-{
-    run_at(rt, &mut rt.place(), words, script, out, err)
-}
-
-// The same with the files of `tables` put at this place.
-fn run_at<R, T, S, O, E>(
-    rt: &R,
-    tables: &mut T,
-    words: &[&str],
-    script: &mut S,
-    out: &mut O,
-    err: &mut E,
-) -> Outcome
-where
-    R: Files<File = File> + AllocGlobal + Threads + Wait + Sync,
-    T: TableFiles + Send,
-    S: Read + Send,
-    O: Write,
-    E: FaultWriter,
-    ensures runs { RunsWords ⟦<DeviceFile as Disk>⟧ IsFileOf (PutBy T.puts tables.old tables.new) (texts words.now)
-        S.remaining script.old script.new O.contents out.old out.new E.contents err.old err.new result }
-
-    ensures untold { (fault : Fault) → result ≡ Outcome.Untold fault → IsTrue (E.has_failed err.new) }
-
-    ensures unput { PutsOnlyAsked (texts words.now) T.puts tables.old tables.new }
-{
-    let devices = FileDevices { files: rt };
-    run_on(rt, &devices, tables, words, script, out, err)
+    let mut devices = FileDevices::new(rt);
+    run_at(rt, &mut devices, tables, words, script, out, &mut faults).status()
 }
 
 /// Does what the words ask for on devices of any kind, and answers how it ended.
 pub fn run_on<R, F, T, S, O, E>(
     rt: &R,
-    devices: &F,
+    devices: &mut F,
+    tables: &mut T,
+    words: &[&str],
+    streams: &mut Streams<S, O, E>,
+) -> Outcome
+where
+    R: AllocGlobal + Threads + Wait + Sync,
+    F: Devices,
+    T: TableFiles + Send,
+    S: Read + Send,
+    O: Write,
+    E: FaultWriter,
+    ensures runs { RunsWords F.Device.Disk (HasDone F.opened F.events devices.old devices.new)
+        (PutBy T.puts tables.old tables.new) (texts words.now)
+        S.remaining O.contents E.contents streams.old streams.new result }
+
+    // A fault that wasn't told couldn't be: a write of this writer has failed.
+    ensures untold { (fault : Fault) → result ≡ Outcome.Untold fault → IsTrue (E.has_failed streams.new.err) }
+
+    ensures unput { PutsOnlyAsked (texts words.now) T.puts tables.old tables.new }
+{
+    run_at(
+        rt,
+        devices,
+        tables,
+        words,
+        &mut streams.script,
+        &mut streams.out,
+        &mut streams.err,
+    )
+}
+
+// The same over a reader and writers that stand apart.
+fn run_at<R, F, T, S, O, E>(
+    rt: &R,
+    devices: &mut F,
     tables: &mut T,
     words: &[&str],
     script: &mut S,
@@ -144,14 +123,15 @@ pub fn run_on<R, F, T, S, O, E>(
     err: &mut E,
 ) -> Outcome
 where
-    R: Files<File = File> + AllocGlobal + Threads + Wait + Sync,
+    R: AllocGlobal + Threads + Wait + Sync,
     F: Devices,
     T: TableFiles + Send,
     S: Read + Send,
     O: Write,
     E: FaultWriter,
-    ensures runs { RunsWords F.Device.Disk (F.opened devices.now) (PutBy T.puts tables.old tables.new) (texts words.now)
-        S.remaining script.old script.new O.contents out.old out.new E.contents err.old err.new result }
+    ensures runs { RunsWords F.Device.Disk (HasDone F.opened F.events devices.old devices.new)
+        (PutBy T.puts tables.old tables.new) (texts words.now)
+        S.remaining O.contents E.contents (streams_of script.old out.old err.old) (streams_of script.new out.new err.new) result }
 
     ensures untold { (fault : Fault) → result ≡ Outcome.Untold fault → IsTrue (E.has_failed err.new) }
 
@@ -166,7 +146,7 @@ where
 // Does what a task asks for, and answers how it ended.
 fn run_understood<R, F, T, S, O, E>(
     rt: &R,
-    devices: &F,
+    devices: &mut F,
     tables: &mut T,
     task: Task<'_>,
     script: &mut S,
@@ -174,15 +154,16 @@ fn run_understood<R, F, T, S, O, E>(
     err: &mut E,
 ) -> Outcome
 where
-    R: Files<File = File> + AllocGlobal + Threads + Wait + Sync,
+    R: AllocGlobal + Threads + Wait + Sync,
     F: Devices,
     T: TableFiles + Send,
     S: Read + Send,
     O: Write,
     E: FaultWriter,
     requires { MayRun task }
-    ensures runs { RunsTask F.Device.Disk (F.opened devices.now) (PutBy T.puts tables.old tables.new) task.entry
-        S.remaining script.old script.new O.contents out.old out.new E.contents err.old err.new result }
+    ensures runs { RunsTask F.Device.Disk (HasDone F.opened F.events devices.old devices.new)
+        (PutBy T.puts tables.old tables.new) task.entry
+        S.remaining O.contents E.contents (streams_of script.old out.old err.old) (streams_of script.new out.new err.new) result }
 
     ensures untold { (fault : Fault) → result ≡ Outcome.Untold fault → IsTrue (E.has_failed err.new) }
 
@@ -202,59 +183,33 @@ where
                 forwarders,
                 places,
             };
-            run_service(
-                rt, devices, tables, device, words, config, live, script, out, err,
-            )
+            let service = Service {
+                device,
+                words,
+                config,
+            };
+            match live {
+                None => {
+                    let ended = run_serve(rt, devices, service, script, out);
+                    told(err, ended)
+                }
+                Some(rounds) => {
+                    let live = LiveService { service, rounds };
+                    run_live(rt, devices, tables, live, script, out, err)
+                }
+            }
         }
-        task => told(err, run_task(rt, devices, tables, task, out)),
-    }
-}
-
-// Runs a service, over a script or over lines as they come.
-fn run_service<R, F, T, S, O, E>(
-    rt: &R,
-    devices: &F,
-    tables: &mut T,
-    device: &str,
-    words: LandmarkWords,
-    config: ServiceConfig,
-    live: Option<u16>,
-    script: &mut S,
-    out: &mut O,
-    err: &mut E,
-) -> Outcome
-where
-    R: AllocGlobal + Threads + Wait + Sync,
-    F: Devices,
-    T: TableFiles + Send,
-    S: Read + Send,
-    O: Write,
-    E: FaultWriter,
-    requires { IsServiceConfig config }
-    ensures outcome { RunsService F.Device.Disk (F.opened devices.now device.now Access.ToChange) live
-        (S.remaining script.old) config.editors words O.contents out.old out.new E.contents err.old err.new result }
-
-    ensures untouched { live ≡ None → UnlessOutput result (out.new ≡ out.old) }
-
-    ensures untold { (fault : Fault) → result ≡ Outcome.Untold fault → IsTrue (E.has_failed err.new) }
-
-    ensures unput { live ≡ None → T.puts tables.new ≡ T.puts tables.old }
-{
-    match live {
-        None => told(
-            err,
-            run_serve(rt, devices, device, words, config, script, out),
-        ),
-        Some(rounds) => run_live(
-            rt, devices, tables, device, words, config, rounds, script, out, err,
-        ),
+        task => {
+            let ended = run_task(rt, devices, tables, task, out);
+            told(err, ended)
+        }
     }
 }
 
 // Does what a task asks for that is no service.
 fn run_task<R, F, T, O>(
     rt: &R,
-    devices: &F,
+    devices: &mut F,
     tables: &mut T,
     task: Task<'_>,
     out: &mut O,
@@ -266,35 +221,149 @@ where
     O: Write,
     requires batch { ¬ IsService task }
     requires numbers { MayRun task }
-    ensures ends { (given : Option (List ℕ)) → EndsTask F.Device.Disk (F.opened devices.now)
-        (PutBy T.puts tables.old tables.new) task.entry given O.contents out.old out.new result }
+    ensures ends { (given : Option (List ℕ)) → EndsTask F.Device.Disk
+        (HasDone F.opened F.events devices.old devices.new) (PutBy T.puts tables.old tables.new) task.entry given
+        O.contents out.old out.new result }
 
     ensures unput { ¬ IsOfTables task.entry → T.puts tables.new ≡ T.puts tables.old }
 {
     match task {
-        Task::Format { device, nodes } => run_format(devices, device, nodes, out),
-        Task::Show { device } => run_show(rt.alloc(), devices, device, out),
+        Task::Migrate { old, new } => run_migrate(rt.alloc(), devices, old, new, out),
+        task => run_opened(rt, devices, tables, task, out),
+    }
+}
+
+// Does what a task asks for on its device, which is opened and closed.
+#[tactic(auto, using(table_files::proofs::PutFiles::none_put))]
+fn run_opened<R, F, T, O>(
+    rt: &R,
+    devices: &mut F,
+    tables: &mut T,
+    task: Task<'_>,
+    out: &mut O,
+) -> Result<Ended, Fault>
+where
+    R: AllocGlobal + Threads + Wait + Sync,
+    F: Devices,
+    T: TableFiles,
+    O: Write,
+    requires batch { ¬ IsService task }
+    requires alone { ¬ IsMove task }
+    requires numbers { MayRun task }
+    ensures ends { EndsAt F.Device.Disk (HasDone F.opened F.events devices.old devices.new)
+        (PutBy T.puts tables.old tables.new) task.entry O.contents out.old out.new result }
+
+    ensures unput { ¬ IsOfTables task.entry → T.puts tables.new ≡ T.puts tables.old }
+{
+    let disk = devices.open(path_of(&task), access_for(&task))?;
+    let (ended, disk) = perform(rt, disk, tables, task, out);
+    devices.close(disk);
+    ended
+}
+
+// The path of a task's device.
+fn path_of<'a>(task: &Task<'a>) -> &'a str
+    ensures { result.now ≡ device_of task.now }
+{
+    match task {
+        Task::Format { device, .. }
+        | Task::Show { device }
+        | Task::Edit { device, .. }
+        | Task::Resume { device, .. }
+        | Task::Route { device, .. }
+        | Task::Check { device, .. }
+        | Task::Serve { device, .. }
+        | Task::Tables { device, .. } => device,
+        Task::Migrate { old, .. } => old,
+    }
+}
+
+// How a task has its device.
+fn access_for(task: &Task<'_>) -> Access
+    ensures { result ≡ access_of task.now }
+{
+    match task {
+        Task::Format { .. } => Access::Anew,
+        Task::Edit { .. } | Task::Serve { .. } => Access::ToChange,
+        _ => Access::ToRead,
+    }
+}
+
+// Does what a task asks for on its device, which is open.
+fn perform<R, D, T, O>(
+    rt: &R,
+    disk: D,
+    tables: &mut T,
+    task: Task<'_>,
+    out: &mut O,
+) -> (Result<Ended, Fault>, D)
+where
+    R: AllocGlobal + Threads + Wait + Sync,
+    D: Disk,
+    T: TableFiles,
+    O: Write,
+    requires batch { ¬ IsService task }
+    requires alone { ¬ IsMove task }
+    requires numbers { MayRun task }
+    ensures ends { EndsTaskOn (PutBy T.puts tables.old tables.new) task.entry (D.view disk) (D.view result.1)
+        O.contents out.old out.new result.0 }
+
+    ensures unput { ¬ IsOfTables task.entry → T.puts tables.new ≡ T.puts tables.old }
+{
+    match task {
+        Task::Format { device: _, nodes } => {
+            let mut disk = disk;
+            let ended = format_on(&mut disk, nodes, out);
+            (ended, disk)
+        }
+        Task::Show { device: _ } => show_on(rt.alloc(), disk, out),
         Task::Edit {
-            device,
+            device: _,
             session,
             ticket,
             change,
-        } => run_edit(rt, devices, device, session, ticket, change, out),
-        Task::Resume { device, session } => run_resume(rt.alloc(), devices, device, session, out),
+        } => edit_on(rt, disk, session, ticket, change, out),
+        Task::Resume { device: _, session } => resume_on(rt.alloc(), disk, session, out),
         Task::Route {
-            device,
+            device: _,
             pairs,
             words,
-        } => run_route(rt.alloc(), devices, device, &pairs, &words, out),
-        Task::Check { device, words } => run_check(rt, devices, device, &words, out),
-        Task::Migrate { old, new } => run_migrate(rt.alloc(), devices, old, new, out),
+        } => route_on(rt.alloc(), disk, &pairs, &words, out),
+        Task::Check { device: _, words } => check_on(rt, disk, &words, out),
         Task::Tables {
-            device,
+            device: _,
             folder,
             nodes,
             words,
-        } => run_tables(rt, devices, device, tables, &words, folder, &nodes, out),
-        Task::Serve { .. } => unreachable!(),
+        } => tables_on(rt, disk, tables, &words, folder, &nodes, out),
+        Task::Migrate { .. } | Task::Serve { .. } => unreachable!(),
+    }
+}
+
+// Brings what the old device holds to a new one. The old one is opened first, and for reading alone.
+fn run_migrate<F: Devices, O: Write>(
+    alloc: Global,
+    devices: &mut F,
+    old: &str,
+    new: &str,
+    out: &mut O,
+) -> Result<Ended, Fault>
+    ensures { EndsMoveAt F.Device.Disk (HasDone F.opened F.events devices.old devices.new) old.now new.now
+        O.contents out.old out.new result }
+{
+    let mut from = devices.open(old, Access::ToRead)?;
+    match devices.open(new, Access::New) {
+        Ok(to) => {
+            let mut to = to;
+            let ended = migrate_on(alloc, &mut from, &mut to, out);
+            devices.close(from);
+            devices.close(to);
+            ended
+        }
+        Err(fault) => {
+            devices.close(from);
+            Err(fault)
+        }
     }
 }
 
@@ -309,82 +378,4 @@ fn fault_of(refused: WordsRefused) -> Fault
         WordsRefused::TooLong => Fault::ChangeTooLong,
         WordsRefused::Memory => Fault::Memory,
     }
-}
-
-fn run_format<F: Devices, O: Write>(
-    devices: &F,
-    device: &str,
-    nodes: u16,
-    out: &mut O,
-) -> Result<Ended, Fault>
-    ensures { EndsAt F.Device.Disk (F.opened devices.now device.now Access.Anew)
-        (PrintsFormatted nodes) (IsFormatEnd nodes) O.contents out.old out.new result }
-{
-    let mut disk = devices.open(device, Access::Anew)?;
-    format_on(&mut disk, nodes, out)
-}
-
-fn run_show<F: Devices, O: Write>(
-    alloc: Global,
-    devices: &F,
-    device: &str,
-    out: &mut O,
-) -> Result<Ended, Fault>
-    ensures { EndsAt F.Device.Disk (F.opened devices.now device.now Access.ToRead)
-        PrintsListing (IsReadingEnd IsOpenFault) O.contents out.old out.new result }
-{
-    let disk = devices.open(device, Access::ToRead)?;
-    show_on(alloc, disk, out).0
-}
-
-fn run_edit<R, F, O>(
-    rt: &R,
-    devices: &F,
-    device: &str,
-    session: u8,
-    ticket: Option<u64>,
-    change: Change,
-    out: &mut O,
-) -> Result<Ended, Fault>
-where
-    R: AllocGlobal + Threads + Wait + Sync,
-    F: Devices,
-    O: Write,
-    requires { session < sessions }
-    ensures { EndsAt F.Device.Disk (F.opened devices.now device.now Access.ToChange)
-        (PrintsVerdict session ticket change) (IsEditEnd session ticket change) O.contents out.old out.new result }
-{
-    let disk = devices.open(device, Access::ToChange)?;
-    edit_on(rt, disk, session, ticket, change, out).0
-}
-
-fn run_resume<F: Devices, O: Write>(
-    alloc: Global,
-    devices: &F,
-    device: &str,
-    session: u8,
-    out: &mut O,
-) -> Result<Ended, Fault>
-    requires { session < sessions }
-    ensures { EndsAt F.Device.Disk (F.opened devices.now device.now Access.ToRead)
-        (PrintsTicket session) (IsReadingEnd IsOpenFault) O.contents out.old out.new result }
-{
-    let disk = devices.open(device, Access::ToRead)?;
-    resume_on(alloc, disk, session, out).0
-}
-
-// The old device is opened first, and for reading alone.
-fn run_migrate<F: Devices, O: Write>(
-    alloc: Global,
-    devices: &F,
-    old: &str,
-    new: &str,
-    out: &mut O,
-) -> Result<Ended, Fault>
-    ensures { EndsMoveAt F.Device.Disk (F.opened devices.now old.now Access.ToRead)
-        (F.opened devices.now new.now Access.New) O.contents out.old out.new result }
-{
-    let mut from = devices.open(old, Access::ToRead)?;
-    let mut to = devices.open(new, Access::New)?;
-    migrate_on(alloc, &mut from, &mut to, out)
 }

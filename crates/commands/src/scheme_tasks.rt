@@ -4,14 +4,12 @@ ghost use Rattle.checkpoint.specs.StoreWords.{state_of};
 ghost use Rattle.written_values.specs.Words.{AreWords, IsWithin};
 ghost use Rattle.command_output.specs.Lines.{line};
 ghost use Rattle.command_output.specs.Printing.{PrintsText};
-ghost use Rattle.commands.specs.Endings.{IsCheckDeviceFault, IsCheckEnd, IsRouteDeviceFault, IsRouteEnd, IsRouteFault, IsQueryFault, IsWordsFault};
+ghost use Rattle.commands.specs.Endings.{IsCheckDeviceFault, IsCheckEnd, IsRouteDeviceFault, IsRouteEnd, IsRouteFault, IsOnlyRead, IsWordsFault, OrOutput};
 ghost use Rattle.commands.specs.Printed.{PrintsCheck, PrintsRoutes};
 ghost use Rattle.commands.specs.Queries.{AnswersIn, AnswersOf, AreRoutesIn, IsCheckIn, IsOfState, LacksNode, LacksNodeOf};
-ghost use Rattle.commands.specs.Runs.{EndsAfter, EndsAt, EndsOn};
+ghost use Rattle.commands.specs.Runs.{EndsAfter, EndsOn};
 ghost use Rattle.commands.specs.SchemeAnswers.{AreRoutesOf, IsCheckOf, answered_text, checks_text, ended_after, ended_at, is_along, routes_text};
 
-use crate::checking::check_in_thread;
-use crate::devices::{Access, Devices};
 use crate::routing::{are_nodes, routes_by};
 use checkpoint::{Store, standing_law};
 use command_output::{
@@ -20,7 +18,7 @@ use command_output::{
 use device_commands::open;
 use disk_trait::Disk;
 use graph_edits::Graph;
-use scheme_builds::{Checked, Route};
+use scheme_builds::{Checked, Route, check_scheme, workers_here};
 use std::alloc::Global;
 use std::io::Write;
 use std::sync::Wait;
@@ -73,11 +71,12 @@ fn check_in_graph<R: Threads + Wait + Sync + AllocGlobal>(
     generation: u64,
     asked: &LandmarkWords,
 ) -> Result<Checked, Fault>
-    ensures { AnswersIn graph.now asked.now (IsCheckOf graph.now generation asked.now) (IsQueryFault asked.now) result }
+    ensures { AnswersIn graph.now asked.now (IsCheckOf graph.now generation asked.now) (IsWordsFault asked.now) result }
 {
     let alloc = rt.alloc();
     let words = words_of(alloc, graph, asked)?;
-    check_in_thread(rt, alloc, graph, &words, generation)
+    let workers = workers_here(rt, graph.nodes());
+    Ok(check_scheme(rt, alloc, graph, &words, generation, workers)?)
 }
 
 // The generation of a store's graph, and what becomes of packets in it.
@@ -128,7 +127,7 @@ fn check_in_store<R: Threads + Wait + Sync + AllocGlobal, D: Disk>(
     asked: &LandmarkWords,
 ) -> Result<(u64, Checked), Fault>
     ensures { AnswersIn (state_of store.now).graph asked.now
-        (IsOfState IsCheckIn asked.now (state_of store.now)) (IsQueryFault asked.now) result }
+        (IsOfState IsCheckIn asked.now (state_of store.now)) (IsWordsFault asked.now) result }
 {
     let generation = store.count();
     let checked = check_in_graph(rt, store.graph(), generation, asked)?;
@@ -153,34 +152,18 @@ pub fn check_device<R: Threads + Wait + Sync + AllocGlobal, D: Disk>(
 
 /// Prints a line for each pair of nodes of a device: the route of a packet from the first to the second, or that there is none. The
 /// device was only read.
-fn route_on<D: Disk, O: Write>(
+pub(crate) fn route_on<D: Disk, O: Write>(
     alloc: Global,
     disk: D,
     pairs: &[(u16, u16)],
     asked: &LandmarkWords,
     out: &mut O,
 ) -> (Result<Ended, Fault>, D)
-    ensures { EndsOn (PrintsRoutes pairs.now asked.now) (IsRouteEnd pairs.now asked.now)
-        D.view disk result.1 O.contents out.old out.new result.0 }
+    ensures { EndsOn IsOnlyRead (PrintsRoutes pairs.now asked.now) (OrOutput (IsRouteEnd pairs.now asked.now))
+        (D.view disk) (D.view result.1) O.contents out.old out.new result.0 }
 {
     let (answer, disk) = route_device(alloc, disk, asked, pairs);
     (print_found(out, answer), disk)
-}
-
-/// The same of the device by a path.
-pub(crate) fn run_route<F: Devices, O: Write>(
-    alloc: Global,
-    devices: &F,
-    device: &str,
-    pairs: &[(u16, u16)],
-    asked: &LandmarkWords,
-    out: &mut O,
-) -> Result<Ended, Fault>
-    ensures { EndsAt F.Device.Disk (F.opened devices.now device.now Access.ToRead)
-        (PrintsRoutes pairs.now asked.now) (IsRouteEnd pairs.now asked.now) O.contents out.old out.new result }
-{
-    let disk = devices.open(device, Access::ToRead)?;
-    route_on(alloc, disk, pairs, asked, out).0
 }
 
 fn print_found<O: Write>(
@@ -246,36 +229,17 @@ fn print_route<O: Write>(out: &mut O, generation: u64, route: &Route) -> Result<
 }
 
 /// Prints what the checks say of the scheme of a device's graph. The device was only read.
-fn check_on<R: Threads + Wait + Sync + AllocGlobal, D: Disk, O: Write>(
+pub(crate) fn check_on<R: Threads + Wait + Sync + AllocGlobal, D: Disk, O: Write>(
     rt: &R,
     disk: D,
     asked: &LandmarkWords,
     out: &mut O,
 ) -> (Result<Ended, Fault>, D)
-    ensures { EndsOn (PrintsCheck asked.now) (IsCheckEnd asked.now) D.view disk result.1
+    ensures { EndsOn IsOnlyRead (PrintsCheck asked.now) (OrOutput (IsCheckEnd asked.now)) (D.view disk) (D.view result.1)
         O.contents out.old out.new result.0 }
 {
     let (answer, disk) = check_device(rt, disk, asked);
     (print_checked(out, answer), disk)
-}
-
-/// The same of the device by a path.
-pub(crate) fn run_check<R, F, O>(
-    rt: &R,
-    devices: &F,
-    device: &str,
-    asked: &LandmarkWords,
-    out: &mut O,
-) -> Result<Ended, Fault>
-where
-    R: AllocGlobal + Threads + Wait + Sync,
-    F: Devices,
-    O: Write,
-    ensures { EndsAt F.Device.Disk (F.opened devices.now device.now Access.ToRead)
-        (PrintsCheck asked.now) (IsCheckEnd asked.now) O.contents out.old out.new result }
-{
-    let disk = devices.open(device, Access::ToRead)?;
-    check_on(rt, disk, asked, out).0
 }
 
 fn print_checked<O: Write>(

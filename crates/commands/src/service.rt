@@ -1,10 +1,12 @@
 //! The command `serve`, over a script or over lines as they come.
-ghost use Rattle.std.specs.Prelude.{◌≡◌, IfOk, IfErr, IsTrue};
+ghost use Rattle.std.specs.Prelude.{◌≡◌, ◌++◌, IfOk, IfErr, IsTrue};
 ghost use Rattle.command_output.specs.declared.fault.Fault.{Fault};
 ghost use Rattle.written_values.specs.Scripts.{AreOfSessions};
 ghost use Rattle.service_threads.specs.Config.{IsServiceConfig};
+ghost use Rattle.commands.specs.Devices.{closing};
+ghost use Rattle.commands.specs.Events.{HasDone};
 ghost use Rattle.commands.specs.Outcomes.{IsEndOf};
-ghost use Rattle.commands.specs.Runs.{EndsScript, RunsLive};
+ghost use Rattle.commands.specs.Runs.{EndsScript, RunsLive, streams_of};
 ghost use Rattle.commands.specs.ServedScripts.{IsReadFault, IsScriptFault, IsScriptOf};
 
 use crate::devices::{Access, Devices};
@@ -50,14 +52,36 @@ fn reading_fault(error: io::Error) -> Fault
     }
 }
 
+/// A service that is asked for: its device, the landmarks, and its threads.
+#[derive(Drop)]
+pub(crate) struct Service<'a> {
+    pub(crate) device: &'a str,
+    pub(crate) words: LandmarkWords,
+    pub(crate) config: ServiceConfig,
+}
+
+/// A live service that is asked for, and how many rounds its tables may be behind.
+#[derive(Drop)]
+pub(crate) struct LiveService<'a> {
+    pub(crate) service: Service<'a>,
+    pub(crate) rounds: u16,
+}
+
+// Closes a device, where a service gave it back.
+fn close_back<F: Devices>(devices: &mut F, back: Option<F::Device>)
+    ensures { F.events devices.new ≡ F.events devices.old ++ closing back }
+{
+    if let Some(device) = back {
+        devices.close(device);
+    }
+}
+
 /// Runs the script that a reader gives on a device, and prints a line for each of its lines. The script is judged before the device
 /// is opened, and a node that the words name right after that.
 pub(crate) fn run_serve<R, F, S, O>(
     rt: &R,
-    devices: &F,
-    device: &str,
-    words: LandmarkWords,
-    config: ServiceConfig,
+    devices: &mut F,
+    service: Service<'_>,
     script: &mut S,
     out: &mut O,
 ) -> Result<Ended, Fault>
@@ -66,13 +90,19 @@ where
     F: Devices,
     S: Read,
     O: Write,
-    requires { IsServiceConfig config }
-    ensures { EndsScript F.Device.Disk (F.opened devices.now device.now Access.ToChange)
-        (S.remaining script.old) config.editors words O.contents out.old out.new result }
+    requires { IsServiceConfig service.config }
+    ensures { EndsScript F.Device.Disk (HasDone F.opened F.events devices.old devices.new) service.entry.device.now
+        (S.remaining script.old) service.entry.config.editors service.entry.words O.contents out.old out.new result }
 {
+    let Service {
+        device,
+        words,
+        config,
+    } = service;
     let lines = read_script(rt.alloc(), script, config.editors)?;
     let disk = devices.open(device, Access::ToChange)?;
-    let (answer, _) = serve_lines(rt, rt.alloc(), disk, words, config, lines, &OpenGate, out);
+    let (answer, left) = serve_lines(rt, rt.alloc(), disk, words, config, lines, &OpenGate, out);
+    close_back(devices, left);
     answer?;
     Ok(Ended::Done)
 }
@@ -92,13 +122,10 @@ fn outcome_of(served: Served) -> Outcome
 /// for are put at this place.
 pub(crate) fn run_live<R, F, T, S, O, E>(
     rt: &R,
-    devices: &F,
+    devices: &mut F,
     tables: &mut T,
-    device: &str,
-    words: LandmarkWords,
-    config: ServiceConfig,
-    rounds: u16,
-    from: &mut S,
+    live: LiveService<'_>,
+    script: &mut S,
     out: &mut O,
     err: &mut E,
 ) -> Outcome
@@ -109,32 +136,39 @@ where
     S: Read + Send,
     O: Write,
     E: FaultWriter,
-    requires { IsServiceConfig config }
-    ensures runs { RunsLive F.Device.Disk (F.opened devices.now device.now Access.ToChange)
-        (S.remaining from.old) config.editors words O.contents out.old out.new E.contents err.old err.new result }
+    requires { IsServiceConfig live.service.config }
+    ensures runs { RunsLive F.Device.Disk (HasDone F.opened F.events devices.old devices.new) live.entry.service.device.now
+        live.entry.service.config.editors live.entry.service.words S.remaining O.contents E.contents
+        (streams_of script.old out.old err.old) (streams_of script.new out.new err.new) result }
 
     ensures untold { (fault : Fault) → result ≡ Outcome.Untold fault → IsTrue (E.has_failed err.new) }
 {
-    let Ok(input) = BufReader::new(rt.alloc(), from) else {
+    let LiveService { service, rounds } = live;
+    let Service {
+        device,
+        words,
+        config,
+    } = service;
+    let Ok(input) = BufReader::new(rt.alloc(), script) else {
         return told(err, Err(Fault::Memory));
     };
     let disk = match devices.open(device, Access::ToChange) {
         Ok(disk) => disk,
         Err(fault) => return told(err, Err(fault)),
     };
-    let rounds = u32::from(rounds);
-    let (served, _) = serve_live(
+    let (served, back) = serve_live(
         rt,
         rt.alloc(),
         disk,
         words,
         config,
-        rounds,
+        u32::from(rounds),
         input,
         &OpenGate,
         LentTables::new(tables),
         out,
         err,
     );
+    close_back(devices, back);
     outcome_of(served)
 }

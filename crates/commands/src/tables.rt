@@ -1,13 +1,12 @@
 //! The command `tables`.
 ghost use Rattle.checkpoint.specs.StoreWords.{state_of};
 ghost use Rattle.table_files.specs.Files.{PutBy};
-ghost use Rattle.commands.specs.Endings.{IsCheckDeviceFault, IsQueryFault};
+ghost use Rattle.commands.specs.Endings.{IsCheckDeviceFault, IsOnlyRead, IsTablesEnd, IsWordsFault};
+ghost use Rattle.commands.specs.Printed.{PrintsTables};
 ghost use Rattle.commands.specs.Queries.{AnswersIn, AnswersOf, IsOfState, IsSchemeIn};
-ghost use Rattle.commands.specs.Runs.{EndsPutFound, EndsTablesAt, EndsTablesOn};
+ghost use Rattle.commands.specs.Runs.{EndsOn, EndsPutFound};
 ghost use Rattle.commands.specs.SchemeAnswers.{IsSchemeBy};
 
-use crate::building::scheme_in_thread;
-use crate::devices::{Access, Devices};
 use crate::scheme_tasks::words_of;
 use checkpoint::{Store, standing_law};
 use command_output::{Ended, Fault};
@@ -15,6 +14,7 @@ use device_commands::open;
 use disk_trait::Disk;
 use graph_edits::Graph;
 use node_table::Scheme;
+use scheme_builds::{scheme_of_in_threads, workers_here};
 use std::alloc::Global;
 use std::io::Write;
 use std::sync::Wait;
@@ -30,11 +30,12 @@ fn scheme_in_graph<R: Threads + Wait + Sync + AllocGlobal>(
     asked: &LandmarkWords,
 ) -> Result<Scheme, Fault>
     ensures { AnswersIn graph.now asked.now (IsSchemeBy graph.now generation asked.now)
-        (IsQueryFault asked.now) result }
+        (IsWordsFault asked.now) result }
 {
     let alloc = rt.alloc();
     let words = words_of(alloc, graph, asked)?;
-    scheme_in_thread(rt, alloc, graph, &words, generation)
+    let workers = workers_here(rt, graph.nodes());
+    Ok(scheme_of_in_threads(rt, alloc, graph, &words, generation, workers)?)
 }
 
 // The generation of a store's graph, and its scheme.
@@ -44,7 +45,7 @@ fn scheme_in_store<R: Threads + Wait + Sync + AllocGlobal, D: Disk>(
     asked: &LandmarkWords,
 ) -> Result<(u64, Scheme), Fault>
     ensures { AnswersIn (state_of store.now).graph asked.now
-        (IsOfState IsSchemeIn asked.now (state_of store.now)) (IsQueryFault asked.now) result }
+        (IsOfState IsSchemeIn asked.now (state_of store.now)) (IsWordsFault asked.now) result }
 {
     let generation = store.count();
     let scheme = scheme_in_graph(rt, store.graph(), generation, asked)?;
@@ -85,7 +86,7 @@ fn put_found<T: TableFiles, O: Write>(
 }
 
 /// Puts the tables of nodes of a device, and prints their line. The device was only read.
-fn tables_on<R: Threads + Wait + Sync + AllocGlobal, D: Disk, T: TableFiles, O: Write>(
+pub(crate) fn tables_on<R: Threads + Wait + Sync + AllocGlobal, D: Disk, T: TableFiles, O: Write>(
     rt: &R,
     disk: D,
     tables: &mut T,
@@ -94,7 +95,8 @@ fn tables_on<R: Threads + Wait + Sync + AllocGlobal, D: Disk, T: TableFiles, O: 
     named: &[u16],
     out: &mut O,
 ) -> (Result<Ended, Fault>, D)
-    ensures { EndsTablesOn asked.now folder.now named.now (PutBy T.puts tables.old tables.new)
+    ensures { EndsOn IsOnlyRead (PrintsTables asked.now folder.now named.now (PutBy T.puts tables.old tables.new))
+        (IsTablesEnd asked.now folder.now named.now (PutBy T.puts tables.old tables.new))
         (D.view disk) (D.view result.1) O.contents out.old out.new result.0 }
 {
     let (answer, disk) = scheme_of_device(rt, disk, asked);
@@ -102,28 +104,4 @@ fn tables_on<R: Threads + Wait + Sync + AllocGlobal, D: Disk, T: TableFiles, O: 
         put_found(rt.alloc(), tables, answer, folder, named, out),
         disk,
     )
-}
-
-/// The same of the device by a path.
-#[tactic(auto, using(table_files::proofs::PutFiles::none_put))]
-pub(crate) fn run_tables<R, F, T, O>(
-    rt: &R,
-    devices: &F,
-    device: &str,
-    tables: &mut T,
-    asked: &LandmarkWords,
-    folder: &str,
-    named: &[u16],
-    out: &mut O,
-) -> Result<Ended, Fault>
-where
-    R: AllocGlobal + Threads + Wait + Sync,
-    F: Devices,
-    T: TableFiles,
-    O: Write,
-    ensures { EndsTablesAt F.Device.Disk (F.opened devices.now device.now Access.ToRead)
-        asked.now folder.now named.now (PutBy T.puts tables.old tables.new) O.contents out.old out.new result }
-{
-    let disk = devices.open(device, Access::ToRead)?;
-    tables_on(rt, disk, tables, asked, folder, named, out).0
 }

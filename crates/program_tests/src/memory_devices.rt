@@ -2,7 +2,7 @@
 use crate::helpers::{same, text_of, words_of};
 use checkpoint::DEVICE_LEN;
 use command_output::{Fault, WatchedWriter};
-use commands::{Access, Devices, run_on};
+use commands::{Access, DeviceLog, Devices, Streams, run_on};
 use device_commands::format;
 use disk_trait::MemDisk;
 use std::alloc::Global;
@@ -12,22 +12,43 @@ use table_files::{TableFile, TableFiles};
 #[derive(Drop)]
 struct MemoryDevices {
     alloc: Global,
+    done: DeviceLog<MemDisk>,
 }
 
 impl Devices for MemoryDevices {
+    ghost use Rattle.commands.specs.Events.{events_in};
+
     type Device = MemDisk;
 
-    ghost opened = { λ devices path access disk. Unit {0} };
+    ghost opened = { λ path access disk. Unit {0} };
 
-    fn open(&self, path: &str, _access: Access) -> Result<MemDisk, Fault> {
-        let Ok(mut disk) = MemDisk::new(self.alloc, DEVICE_LEN) else {
-            return Err(Fault::DeviceFile);
-        };
-        if path == "three" && format(&mut disk, 3).is_err() {
-            return Err(Fault::DeviceFile);
+    ghost events = { λ devices. events_in devices.done };
+
+    fn open(&mut self, path: &str, access: Access) -> Result<MemDisk, Fault> {
+        match disk_by(self.alloc, path) {
+            Some(disk) => {
+                self.done.opened(path, access, &disk);
+                Ok(disk)
+            }
+            None => {
+                self.done.not_had(path, access);
+                Err(Fault::DeviceFile)
+            }
         }
-        Ok(disk)
     }
+
+    fn close(&mut self, disk: MemDisk) {
+        self.done.closed(&disk);
+    }
+}
+
+// A disk, if there is memory.
+fn disk_by(alloc: Global, path: &str) -> Option<MemDisk> {
+    let mut disk = MemDisk::new(alloc, DEVICE_LEN).ok()?;
+    if path == "three" {
+        format(&mut disk, 3).ok()?;
+    }
+    Some(disk)
 }
 
 // No file can be put.
@@ -108,20 +129,21 @@ const ROWS: [Row; 17] = [
 // Each command answers for the device of its path.
 #[test]
 fn commands_answer_for_the_device_of_their_path(rt: HostRuntime) {
-    let devices = MemoryDevices { alloc: rt.alloc() };
+    let mut devices = MemoryDevices {
+        alloc: rt.alloc(),
+        done: DeviceLog::new(),
+    };
     for (line, script, status, printed, told) in &ROWS {
         let words = words_of(&rt, "", line);
         let mut script = script.as_bytes();
         let (mut out, mut err) = (Vec::new(rt.alloc()), Vec::new(rt.alloc()));
-        let outcome = run_on(
-            &rt,
-            &devices,
-            &mut NoFiles,
-            &words,
-            &mut script,
-            &mut out,
-            &mut WatchedWriter::new(&mut err),
-        );
+        let mut streams = Streams {
+            script: &mut script,
+            out: &mut out,
+            err: WatchedWriter::new(&mut err),
+        };
+        let outcome = run_on(&rt, &mut devices, &mut NoFiles, &words, &mut streams);
+        drop(streams);
         let found = (outcome.status(), text_of(&rt, &out), text_of(&rt, &err));
         same(&rt, found, (*status, *printed, *told), line);
     }

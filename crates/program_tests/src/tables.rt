@@ -6,7 +6,7 @@ use crate::helpers::{
 };
 use checkpoint::DEVICE_LEN;
 use command_output::{Fault, WatchedWriter};
-use commands::{Access, Devices, run_on};
+use commands::{Access, DeviceLog, Devices, Streams, run_on};
 use device_commands::{edit, format};
 use disk_trait::{Disk, MemDisk};
 use graph_edits::{Change, Graph, Op};
@@ -27,22 +27,41 @@ use table_files::{TableFile, TableFiles, TablePlaces};
 struct Copies {
     alloc: Global,
     bytes: Vec<u8>,
+    done: DeviceLog<MemDisk>,
 }
 
 impl Devices for Copies {
+    ghost use Rattle.commands.specs.Events.{events_in};
+
     type Device = MemDisk;
 
-    ghost opened = { λ devices path access disk. Unit {0} };
+    ghost opened = { λ path access disk. Unit {0} };
 
-    fn open(&self, _path: &str, _access: Access) -> Result<MemDisk, Fault> {
-        let Ok(mut disk) = MemDisk::new(self.alloc, self.bytes.len()) else {
-            return Err(Fault::DeviceFile);
-        };
-        if disk.write_at(0, &self.bytes).is_err() {
-            return Err(Fault::DeviceFile);
+    ghost events = { λ devices. events_in devices.done };
+
+    fn open(&mut self, path: &str, access: Access) -> Result<MemDisk, Fault> {
+        match disk_of(self.alloc, &self.bytes) {
+            Some(disk) => {
+                self.done.opened(path, access, &disk);
+                Ok(disk)
+            }
+            None => {
+                self.done.not_had(path, access);
+                Err(Fault::DeviceFile)
+            }
         }
-        Ok(disk)
     }
+
+    fn close(&mut self, disk: MemDisk) {
+        self.done.closed(&disk);
+    }
+}
+
+// A disk of these bytes, if there is memory.
+fn disk_of(alloc: Global, bytes: &[u8]) -> Option<MemDisk> {
+    let mut disk = MemDisk::new(alloc, bytes.len()).ok()?;
+    disk.write_at(0, bytes).ok()?;
+    Some(disk)
 }
 
 // Files in memory: there is room for so many, and the next one is refused.
@@ -95,6 +114,7 @@ fn path_device<R: AllocGlobal + Abort + Threads + Wait + Sync>(rt: &R) -> Copies
     Copies {
         alloc: rt.alloc(),
         bytes: contents_of(rt, &mut disk),
+        done: DeviceLog::new(),
     }
 }
 
@@ -280,7 +300,7 @@ fn expect_files<R: AllocGlobal + Abort>(
 // Runs a row, and compares all that it answers and puts.
 fn expect_row<R: Files<File = File> + AllocGlobal + Abort + Threads + Wait + Sync>(
     rt: &R,
-    devices: &Copies,
+    devices: &mut Copies,
     row: &Row,
 ) {
     let (line, room, status, printed, told, landmarks, nodes) = *row;
@@ -290,15 +310,13 @@ fn expect_row<R: Files<File = File> + AllocGlobal + Abort + Threads + Wait + Syn
         room,
     };
     let (mut out, mut err) = (Vec::new(rt.alloc()), Vec::new(rt.alloc()));
-    let outcome = run_on(
-        rt,
-        devices,
-        &mut files,
-        &words,
-        &mut io::empty(),
-        &mut out,
-        &mut WatchedWriter::new(&mut err),
-    );
+    let mut streams = Streams {
+        script: io::empty(),
+        out: &mut out,
+        err: WatchedWriter::new(&mut err),
+    };
+    let outcome = run_on(rt, devices, &mut files, &words, &mut streams);
+    drop(streams);
     let found = (outcome.status(), text_of(rt, &out), text_of(rt, &err));
     same(rt, found, (status, printed, told), line);
     expect_files(rt, &files.files, landmarks, nodes, line);
@@ -306,9 +324,9 @@ fn expect_row<R: Files<File = File> + AllocGlobal + Abort + Threads + Wait + Syn
 
 #[test]
 fn tables_of_a_path(rt: HostRuntime) {
-    let devices = path_device(&rt);
+    let mut devices = path_device(&rt);
     for row in &ROWS {
-        expect_row(&rt, &devices, row);
+        expect_row(&rt, &mut devices, row);
     }
 }
 

@@ -9,9 +9,13 @@ returns g c =
     let disk = g.D.Disk.view c.args.disk in
     let left = g.D.Disk.view c.resume-answer.result.1 in
     record {
-      printed = ticket_printed c.print_ticket.result c.resume-answer.result.0 c.args.session disk left (g.O.Write.contents c.args.out.now) (g.O.Write.contents c.print_ticket.new.out)
-          by.of_one by.of_content by.reading.reads c.print_ticket.ensures.printed;
-      fault = told_of c.print_ticket.result c.resume-answer.result.0 (λ fault. IsReadingEnd IsOpenFault disk left fault) c.print_ticket.ensures.fault
-          (reading_end c.resume-answer.result.0 IsOpenFault disk left by.faults by.reading);
-      untouched = c.print_ticket.ensures.untouched;
+      ran = by.reading.ran;
+      leaves = by.reading.reads;
+      ends = record {
+        printed = ticket_printed c.print_ticket.result c.resume-answer.result.0 c.args.session disk left (g.O.Write.contents c.args.out.now) (g.O.Write.contents c.print_ticket.new.out)
+            by.of_one by.of_content c.print_ticket.ensures.printed;
+        fault = told_of c.print_ticket.result c.resume-answer.result.0 (λ fault. IsReadingEnd IsOpenFault disk left fault) c.print_ticket.ensures.fault
+            (reading_end c.resume-answer.result.0 IsOpenFault disk left by.faults by.reading);
+        untouched = c.print_ticket.ensures.untouched;
+      };
     }

@@ -1,21 +1,40 @@
-use denote.Builtin.{unit}
-use denote.Param.Send.{IsSend, sendable}
-use Rattle.std.proofs.Crossing.{crosses}
-use Rattle.disk_trait.specs.contracts.file.FileDisk as disk
-use Rattle.disk_trait.specs.contracts.log.Log as log
-use Rattle.device_files.specs.contracts.file.DeviceFile as file
+use Rattle.std.proofs.Common.{refl}
+use Rattle.clap.specs.Walk.{texts}
+use Rattle.table_files.specs.Files.{PutBy}
+use Rattle.commands.specs.Events.{HasDone}
+use Rattle.commands.proofs.Faults.{refused_for}
+use Rattle.commands.proofs.OnDevices.{nothing_done}
+use Rattle.commands.proofs.Serving.{may_run}
+use Rattle.commands.proofs.ToldRuns.{asked_so, refused_so}
 use Rattle.commands.proofs.running.run_at.Goals as goal
 
-logged : IsSend (log.the_row unit)
-logged = search (crosses, sendable) depth 40
+pub run_understood-requires-after_bounds : goal.run_understood-requires-after_bounds
+run_understood-requires-after_bounds g c κs within = may_run (texts c.args.words.now) c.in-Ok.task c.in-Ok.ensures.asked
 
--- a disk on a file may go to another thread
-disk_send : IsSend disk.the_row
-disk_send = search (crosses, sendable, logged) depth 40
+pub returns-in-Ok-clause-runs : goal.returns-in-Ok-clause-runs
+returns-in-Ok-clause-runs g c =
+    let by = c.run_understood.ensures.runs in
+    let asked = c.in-Ok.ensures.asked in
+    record {
+      outcome = asked_so g.F.Device.Disk (HasDone g.F.Devices.opened g.F.Devices.events c.args.devices.now c.run_understood.new.devices) (PutBy g.T.TableFiles.puts c.args.tables.now c.run_understood.new.tables) (texts c.args.words.now) c.in-Ok.task (g.S.Read.remaining c.args.script.now)
+          (g.O.Write.contents c.args.out.now) (g.O.Write.contents c.run_understood.new.out) (g.E.FaultWriter.contents c.args.err.now) (g.E.FaultWriter.contents c.run_understood.new.err) c.run_understood.result asked by.outcome;
+      untouched = λ other. by.untouched (λ live. other (c.in-Ok.task, asked, live));
+      unread = λ other. by.unread (λ service. other (c.in-Ok.task, asked, service));
+    }
 
--- and so may one that is locked
-file_send : IsSend file.the_row
-file_send = search (crosses, sendable, disk_send) depth 40
+pub returns-in-Ok-clause-unput : goal.returns-in-Ok-clause-unput
+returns-in-Ok-clause-unput g c other batch = c.run_understood.ensures.unput (λ tables. other (c.in-Ok.task, c.in-Ok.ensures.asked, tables)) (λ live. batch (c.in-Ok.task, c.in-Ok.ensures.asked, live))
 
-pub run_on-requires-send-F-Device : goal.run_on-requires-send-F-Device
-run_on-requires-send-F-Device g c κs within = search (crosses, sendable, file_send) depth 60
+pub returns-in-Err-clause-runs : goal.returns-in-Err-clause-runs
+returns-in-Err-clause-runs g c =
+    let done = HasDone g.F.Devices.opened g.F.Devices.events c.args.devices.now c.args.devices.now in
+    let put = PutBy g.T.TableFiles.puts c.args.tables.now c.args.tables.now in
+    let given = g.S.Read.remaining c.args.script.now in
+    let old = g.O.Write.contents c.args.out.now in
+    let why = c.in-Err.ensures in
+    record {
+      outcome = refused_so g.F.Device.Disk done put (texts c.args.words.now) given old old (g.E.FaultWriter.contents c.args.err.now) (g.E.FaultWriter.contents c.told.new.err) c.fault_of.result c.told.result c.told.ensures.told
+          (refused_for g.F.Device.Disk done put (texts c.args.words.now) given old old c.in-Err.refused c.fault_of.result c.fault_of.ensures (nothing_done g.F.Devices.opened g.F.Devices.events c.args.devices.now) why.cause (λ task asked fits. why.refused task asked fits));
+      untouched = λ batch fault other which. refl {a = c.args.out.now};
+      unread = λ other. refl {a = c.args.script.now};
+    }

@@ -9,8 +9,12 @@ returns g c =
     let disk = g.D.Disk.view c.args.disk in
     let left = g.D.Disk.view c.check_device-answer.result.1 in
     record {
-      printed = check_printed c.print_checked.result c.check_device-answer.result.0 c.args.asked.now disk left (g.O.Write.contents c.args.out.now) (g.O.Write.contents c.print_checked.new.out) by c.print_checked.ensures.printed;
-      fault = told_of c.print_checked.result c.check_device-answer.result.0 (λ fault. IsCheckEnd c.args.asked.now disk left fault) c.print_checked.ensures.fault
-          (asking_end c.args.asked.now IsCheckIn IsCheckDeviceFault disk left c.check_device-answer.result.0 by);
-      untouched = c.print_checked.ensures.untouched;
+      ran = by.reading.ran;
+      leaves = by.reading.reads;
+      ends = record {
+        printed = check_printed c.print_checked.result c.check_device-answer.result.0 c.args.asked.now disk left (g.O.Write.contents c.args.out.now) (g.O.Write.contents c.print_checked.new.out) by c.print_checked.ensures.printed;
+        fault = told_of c.print_checked.result c.check_device-answer.result.0 (λ fault. IsCheckEnd c.args.asked.now disk left fault) c.print_checked.ensures.fault
+            (asking_end c.args.asked.now IsCheckIn IsCheckDeviceFault disk left c.check_device-answer.result.0 by);
+        untouched = c.print_checked.ensures.untouched;
+      };
     }

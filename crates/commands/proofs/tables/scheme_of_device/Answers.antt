@@ -1,4 +1,4 @@
-use Rattle.commands.specs.Endings.{IsCheckDeviceFault, IsQueryFault}
+use Rattle.commands.specs.Endings.{IsCheckDeviceFault, IsWordsFault}
 use Rattle.commands.specs.Queries.{IsSchemeIn}
 use Rattle.commands.proofs.Faults.{check_asks, words_tell}
 use Rattle.commands.proofs.SchemeAnswering.{of_device}
@@ -7,5 +7,5 @@ use Rattle.commands.proofs.tables.scheme_of_device.Goals as goal
 pub returns-in-Ok : goal.returns-in-Ok
 returns-in-Ok g c =
     let asked = c.args.asked.now in
-    of_device c.args.disk c.into_disk.result c.in-Ok.store asked IsSchemeIn IsQueryFault IsCheckDeviceFault c.scheme_in_store.result c.in-Ok.ensures.opened c.into_disk.ensures c.scheme_in_store.ensures
+    of_device c.args.disk c.into_disk.result c.in-Ok.store asked IsSchemeIn IsWordsFault IsCheckDeviceFault c.scheme_in_store.result c.in-Ok.ensures.opened c.into_disk.ensures c.scheme_in_store.ensures
     c.standing_law.ensures (λ fault is. words_tell asked fault (g.D.Disk.view c.args.disk).content is) (λ never. never) (check_asks asked)
