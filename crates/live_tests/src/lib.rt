@@ -1,7 +1,6 @@
 //! Tests of the live service, by what it prints.
 //!
-//! There is nothing here but tests: conversations in which a line is given once all before it are answered, with every line of the
-//! table; lines of 64 sessions, judged by a plain network of its own; lines behind a commit that the device holds; each call of the
+//! There is nothing here but tests: lines of 64 sessions, judged by a plain network of its own; lines behind a commit that the device holds; each call of the
 //! device and each write failing; inputs that end, fail or stay open; want of memory and of threads; rebuilds that coalesce;
 //! tables that are put while edits go on.
 #![tactic(auto)]
@@ -30,8 +29,6 @@ mod places;
 mod plain;
 #[cfg(test)]
 mod rebuilds;
-#[cfg(test)]
-mod table;
 #[cfg(test)]
 mod tables;
 #[cfg(test)]

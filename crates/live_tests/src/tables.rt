@@ -157,36 +157,6 @@ fn tables_between_edits(rt: HostRuntime) {
     expect_files(&rt, alloc, part_of(&files, 10, 5), "whole/of/it", &whole, 5);
 }
 
-// Lines at once are worked on one after the other.
-#[test]
-fn tables_three_times(rt: HostRuntime) {
-    let alloc = rt.alloc();
-    let whole = scheme_after(&rt, alloc, 4, 1);
-    let line = line_of(&rt, alloc, &whole, 1);
-    same(
-        &rt,
-        line.as_str(),
-        "generation=1 tables=5 bytes=689 greatest=146",
-        "by hand",
-    );
-    let lines = got(&rt, format!(in alloc; "{line}\n{line}\n{line}"));
-    let rows: [Row<'_>; 3] = [
-        (
-            b"edit 0 - add:0:1:1 add:1:2:1 add:2:3:1 add:3:4:1\nwait",
-            "0 1 accepted count=1\ngeneration=1",
-        ),
-        (b"tables a\ntables b\ntables a", lines.as_str()),
-        (b"state", "count=1 generation=1 queue=0"),
-    ];
-    let kept = files_of(&rt, alloc, &rows, 99);
-    let files = kept.lock(&rt);
-    same(&rt, files.len(), 15, "files");
-    for (turn, folder) in ["a", "b", "a"].iter().enumerate() {
-        let from = turn.wrapping_mul(5);
-        expect_files(&rt, alloc, part_of(&files, from, 5), folder, &whole, 5);
-    }
-}
-
 // The files before the one that is refused stay, and the service goes on.
 #[test]
 fn files_that_are_refused(rt: HostRuntime) {

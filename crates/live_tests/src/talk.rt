@@ -283,19 +283,6 @@ fn expect_answers(rt: &impl Abort, alloc: Global, printed: &[u8], rows: &[Row<'_
     same(rt, printed.len(), wanted.len(), "the length of all answers");
 }
 
-/// Gives rows to a service on a disk, sees that each has its answers and that the service ends with its input, and gives the disk
-/// back.
-pub(crate) fn expect_talk<R: Threads + Wait + Abort + Sync>(
-    rt: &R,
-    alloc: Global,
-    disk: MemDisk,
-    setup: &Setup,
-    rows: &[Row<'_>],
-) -> MemDisk {
-    let talked = talk_on(rt, alloc, disk, setup, rows);
-    expect_talked(rt, alloc, talked, rows)
-}
-
 /// The same with a place for tables.
 pub(crate) fn expect_talk_at<T: TableFiles + Drop + Send, R: Threads + Wait + Abort + Sync>(
     rt: &R,

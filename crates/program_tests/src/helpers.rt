@@ -10,15 +10,6 @@ use std::thread::Threads;
 use std::{env, fs, process, str};
 use table_files::TablePlaces;
 
-/// How many bytes a device has.
-pub(crate) const DEVICE_BYTES: usize = 3_158_016;
-
-/// Where a device's first checkpoint begins.
-pub(crate) const CHECKPOINT: usize = 4_096;
-
-/// Where its first record begins.
-pub(crate) const RECORD: usize = 532_480;
-
 /// The status, what is printed and what is told.
 pub(crate) type Answer<'a> = (u8, &'a str, &'a str);
 
@@ -72,15 +63,6 @@ pub(crate) fn bytes_of<R: Files<File = File> + AllocGlobal + Abort>(rt: &R, path
     got(rt, fs::read(rt, path))
 }
 
-/// Makes a file of these bytes, in the place of what stands there.
-pub(crate) fn put_file<R: Files<File = File> + AllocGlobal + Abort>(
-    rt: &R,
-    path: &str,
-    bytes: &[u8],
-) {
-    got(rt, fs::write(rt, path, bytes));
-}
-
 /// Sees that a file has these bytes.
 pub(crate) fn expect_bytes<R: Files<File = File> + AllocGlobal + Abort>(
     rt: &R,
@@ -89,22 +71,6 @@ pub(crate) fn expect_bytes<R: Files<File = File> + AllocGlobal + Abort>(
 ) {
     let bytes = bytes_of(rt, path);
     same(rt, bytes.as_slice() == want, true, path);
-}
-
-/// Whether this text stands at this place.
-pub(crate) fn stands_at(bytes: &[u8], place: usize, text: &[u8]) -> bool {
-    match bytes.get(place..) {
-        Some(rest) => rest.starts_with(text),
-        None => false,
-    }
-}
-
-/// Whether there are so many bytes, all zero from this place on.
-pub(crate) fn is_zero_from(bytes: &[u8], place: usize, len: usize) -> bool {
-    match bytes.get(place..) {
-        Some(rest) => bytes.len() == len && rest.iter().all(|byte| *byte == 0),
-        None => false,
-    }
 }
 
 // ---- runs
@@ -182,14 +148,4 @@ pub(crate) fn expect_script<
         let (status, text) = got(rt, answer.split_once(' ').ok_or("no status"));
         expect_run(rt, d, line, got(rt, status.parse()), text);
     }
-}
-
-/// Runs a script on a device in this folder, and removes the folder.
-pub(crate) fn expect_on_device<
-    'a,
-    R: Files<File = File> + AllocGlobal + Abort + Threads + Wait + Sync + TablePlaces<'a>,
->(rt: &'a R, folder: &str, script: &str) {
-    let path = device_in(rt, folder);
-    expect_script(rt, path.as_str(), script);
-    remove_folder(rt, folder);
 }

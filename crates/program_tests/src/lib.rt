@@ -1,9 +1,9 @@
 //! Tests of the program, as one call over its words, on real files and on devices in memory, and of the commands on a disk in memory.
 //!
-//! There is nothing here but tests: so the crates below are proved once in the gate, and not again with their tests. Each command's
-//! texts and status, the bytes of devices, files that are no device, numbers at their limit, outputs and inputs that fail, routes and
-//! checks, devices of layout 1 that are brought over, devices that another program holds, edits that lack memory or a thread, scripts of services, and tables that are put
-//! into folders. Expected texts and bytes are written out from the tables of docs/FORMATS.md, and lines are worked out by hand.
+//! There is nothing here but tests: so the crates below are proved once in the gate, and not again with their tests. What words, lines and
+//! bytes a command takes and prints are steps of `conformance/`. Here stands what no command shows: outputs and inputs that fail, devices
+//! that another program holds, devices and files in memory, edits that lack memory or a thread, the longest path, and readers of tables
+//! that are written meanwhile. Expected texts and bytes are written out from the tables of docs/FORMATS.md, and lines are worked out by hand.
 #![tactic(auto)]
 
 #[cfg(test)]
@@ -18,8 +18,6 @@ mod helpers;
 mod locks;
 #[cfg(test)]
 mod memory_devices;
-#[cfg(test)]
-mod migrations;
 #[cfg(test)]
 mod routes;
 #[cfg(test)]

@@ -1,9 +1,6 @@
 // `tables`, over devices and files in memory, and on real files. The numbers of the lines are worked out by hand: by docs/FORMATS.md a
 // table has 100 bytes, 2 for each port, 13 for each entry, and 5 for each member of the directory and 2 for each port of its label.
-use crate::helpers::{
-    bytes_of, device_in, expect_run, got, make_folder, path_in, remove_folder, same, text_of,
-    words_of,
-};
+use crate::helpers::{got, same, text_of, words_of};
 use checkpoint::DEVICE_LEN;
 use command_output::{Fault, WatchedWriter};
 use commands::{Access, DeviceLog, Devices, Streams, run_on};
@@ -15,12 +12,12 @@ use router_table::RouterTable;
 use scheme_builds::scheme_of;
 use std::alloc::Global;
 use std::fs::File;
+use std::io;
 use std::process::Abort;
 use std::rt::Files;
 use std::sync::Wait;
 use std::thread::Threads;
-use std::{fs, io};
-use table_files::{TableFile, TableFiles, TablePlaces};
+use table_files::{TableFile, TableFiles};
 
 // Devices in memory: each opening gives a disk of these bytes, whatever the path.
 #[derive(Drop)]
@@ -328,58 +325,4 @@ fn tables_of_a_path(rt: HostRuntime) {
     for row in &ROWS {
         expect_row(&rt, &mut devices, row);
     }
-}
-
-// Runs `tables` on the device of a folder, into a folder of it, and compares what it answers.
-fn expect_tables<
-    'a,
-    R: Files<File = File> + AllocGlobal + Abort + Threads + Wait + Sync + TablePlaces<'a>,
->(rt: &'a R, folder: &str, nodes: &str, status: u8, text: &str) {
-    let device = device_in(rt, folder);
-    let into = path_in(rt, folder, "out");
-    let line = got(
-        rt,
-        format!(in rt.alloc(); "tables @ {} --words at:2{nodes}", into.as_str()),
-    );
-    expect_run(rt, device.as_str(), line.as_str(), status, text);
-}
-
-// Sees that a file is read as the table of a node.
-fn expect_read<R: Files<File = File> + AllocGlobal + Abort>(rt: &R, path: &str, node: u16) {
-    let bytes = bytes_of(rt, path);
-    let read = got(rt, RouterTable::read(rt.alloc(), &bytes));
-    same(rt, read.head().node, node, path);
-    same(rt, read.head().generation, 1, path);
-}
-
-// Sees that the tables of these nodes stand in a folder, and nothing else: it's empty once they are removed.
-fn expect_all<R: Files<File = File> + AllocGlobal + Abort>(rt: &R, folder: &str, nodes: u16) {
-    for node in 0..nodes {
-        let path = got(rt, format!(in rt.alloc(); "{folder}/{node}.table"));
-        expect_read(rt, path.as_str(), node);
-        got(rt, fs::remove_file(rt, path.as_str()));
-    }
-    got(rt, fs::remove_dir(rt, folder));
-}
-
-const NOT_PUT: &str = "tznode: table file cannot be written";
-
-// Real files: each has its name alone, and stands in the place of the one before.
-#[test]
-fn tables_in_a_folder(rt: HostRuntime) {
-    let folder = got(&rt, make_folder(&rt, "tables_in_a_folder"));
-    let folder = folder.as_str();
-    let out = path_in(&rt, folder, "out");
-    let device = device_in(&rt, folder);
-    let made = "edit @ add:0:1:1 add:1:2:1 add:2:3:1 add:3:4:1";
-    expect_run(&rt, device.as_str(), "format @ 5", 0, "formatted nodes=5");
-    expect_run(&rt, device.as_str(), made, 0, "accepted count=1");
-    expect_tables(&rt, folder, "", 1, NOT_PUT);
-    got(&rt, fs::create_dir(&rt, out.as_str()));
-    let whole = "generation=1 tables=5 bytes=689 greatest=146";
-    expect_tables(&rt, folder, "", 0, whole);
-    let two = "generation=1 tables=2 bytes=257 greatest=140";
-    expect_tables(&rt, folder, " --node 3 --node 2", 0, two);
-    expect_all(&rt, out.as_str(), 5);
-    remove_folder(&rt, folder);
 }

@@ -1,8 +1,7 @@
 //! Tests of the readers of both layouts, and of the way over from layout 1.
 //!
 //! There is nothing here but tests: so the crates below are proved once in the gate, and not again with their tests. Images are written
-//! by hand and loaded; each byte that may not stand there is put alone, beside what is still allowed; each call of a device fails in
-//! turn; and a device of layout 1 is brought over, with each write of the new one stopped inside under several words of the crash.
+//! by hand and loaded; each call of a device fails in turn; and a device of layout 1 is brought over, with each write of the new one stopped inside under several words of the crash.
 #![tactic(auto)]
 
 #[cfg(test)]

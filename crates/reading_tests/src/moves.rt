@@ -1,7 +1,7 @@
 // What goes over.
 use crate::helpers::{
-    Answer, FIRST_AREA, FIRST_EDGES, FIRST_SLOT, MOVED, NEW_LEN, OLD_LEN, PATH_EDGES, SECOND_AREA,
-    SECOND_SLOT, Text, blank, got, holds, path, put, same, same_bytes, settled,
+    Answer, FIRST_AREA, FIRST_EDGES, FIRST_SLOT, NEW_LEN, OLD_LEN, SECOND_AREA, SECOND_SLOT, Text,
+    blank, got, holds, path, put, same, settled,
 };
 use checkpoint::{Store, format};
 use disk_trait::MemDisk;
@@ -21,30 +21,6 @@ fn refusals_have_their_numbers(rt: HostRuntime) {
         MigrateRefused::NewDevice as u8,
     ];
     same(&rt, all, [1, 2, 3, 4, 5, 6, 7], "refusals");
-}
-
-// What the path becomes: an open gate, epoch 1, count 1, five nodes, four edges; and the edges. The tickets and all else are 0.
-const HEAD: [u8; 23] = [
-    1, 0, 0, 0, 0, 0, 0, 0, 1, 0, 0, 0, 0, 0, 0, 0, 1, 0, 5, 0, 0, 0, 4,
-];
-
-const EDGES: [u8; 32] = [
-    0, 0, 0, 1, 0, 0, 0, 1, 0, 1, 0, 2, 0, 0, 0, 1, //
-    0, 2, 0, 3, 0, 0, 0, 1, 0, 3, 0, 4, 0, 0, 0, 1, //
-];
-
-#[test]
-fn moves_a_path_written_by_hand(rt: HostRuntime) {
-    let mut old = path(&rt, rt.alloc());
-    let mut new = blank(&rt, rt.alloc(), NEW_LEN);
-    let answer = bring_over(rt.alloc(), &mut old, &mut new);
-    same(&rt, answer, MOVED, "the path");
-    let mut before = path(&rt, rt.alloc());
-    same_bytes(&rt, &mut old, &mut before, "the old device");
-    let texts: [Text; 3] = [(0, b"TZNODE02\x00\x05"), (4096, &HEAD), (4631, &EDGES)];
-    let mut want = settled(&rt, rt.alloc(), NEW_LEN, &texts);
-    same_bytes(&rt, &mut new, &mut want, "the new device");
-    holds(&rt, rt.alloc(), new, 1, &PATH_EDGES);
 }
 
 // Epoch 2, count 3, five nodes, the edges 0-1 of weight 7 and 2-3 of weight 1.

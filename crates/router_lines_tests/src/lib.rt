@@ -1,8 +1,8 @@
 //! Tests of routers' lines.
 //!
-//! There is nothing here but tests: the routers of a path of five nodes, whose tables are written down by hand, with each line and each
-//! answer written out; packets that go from router to router by their lines; shelves of up to six generations, loaded in every order;
-//! files that aren't loaded; and each refusal of memory.
+//! There is nothing here but tests: the routers of a path of five nodes, whose tables are written down by hand; shelves of up to six
+//! generations, loaded in every order; and each refusal of memory. Lines and their answers, ways, and files that aren't loaded are in
+//! conformance/routers.txt and router_tables.txt.
 #![tactic(auto)]
 
 #[cfg(test)]
@@ -17,5 +17,3 @@ mod memory;
 mod orders;
 #[cfg(test)]
 mod path;
-#[cfg(test)]
-mod ways;

@@ -16,9 +16,9 @@ pub enum Unread {
 pub trait TableSource {
     ghost use Rattle.router_runs.specs.Reads.{FileRead, read_of};
 
-    ghost reads: { Self → List ℕ → FileRead → Type 0 };
+    ghost reads: { List ℕ → FileRead → Type 0 };
 
     /// The bytes of a file.
-    fn read(&self, alloc: Global, file: &[u8]) -> Result<Vec<u8>, Unread>
-        ensures { reads self.now file.now (read_of result) };
+    fn read(&mut self, alloc: Global, file: &[u8]) -> Result<Vec<u8>, Unread>
+        ensures { reads file.now (read_of result) };
 }

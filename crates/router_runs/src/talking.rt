@@ -34,8 +34,8 @@ impl From<AllocError> for RunFault {
 }
 
 // Loads the table of a file.
-fn load<F: TableSource>(alloc: Global, shelf: &mut Shelf, files: &F, file: &[u8]) -> Answer
-    ensures { Loads (F.reads files.now) shelf.old file.now result shelf.new }
+fn load<F: TableSource>(alloc: Global, shelf: &mut Shelf, files: &mut F, file: &[u8]) -> Answer
+    ensures { Loads F.reads shelf.old file.now result shelf.new }
 {
     match files.read(alloc, file) {
         Ok(bytes) => shelf.load_bytes(alloc, &bytes),
@@ -45,8 +45,13 @@ fn load<F: TableSource>(alloc: Global, shelf: &mut Shelf, files: &F, file: &[u8]
 }
 
 // Answers a line.
-fn answer_line<F: TableSource>(alloc: Global, shelf: &mut Shelf, files: &F, line: &[u8]) -> Answer
-    ensures { IsAnswered (F.reads files.now) shelf.old line.now result shelf.new }
+fn answer_line<F: TableSource>(
+    alloc: Global,
+    shelf: &mut Shelf,
+    files: &mut F,
+    line: &[u8],
+) -> Answer
+    ensures { IsAnswered F.reads shelf.old line.now result shelf.new }
 {
     match file_in(line) {
         Some(file) => load(alloc, shelf, files, file),
@@ -58,13 +63,13 @@ fn answer_line<F: TableSource>(alloc: Global, shelf: &mut Shelf, files: &F, line
 fn answer_next<F: TableSource>(
     alloc: Global,
     shelf: &mut Shelf,
-    files: &F,
+    files: &mut F,
     next: NextLine,
     line: &[u8],
 ) -> Answer
     requires { next ≢ NextLine.End }
     ensures { (bytes : List ℕ) → IsNext bytes next line.now
-        → IsAnsweredNext (F.reads files.now) shelf.old bytes result shelf.new }
+        → IsAnsweredNext F.reads shelf.old bytes result shelf.new }
 {
     match next {
         NextLine::Line => answer_line(alloc, shelf, files, line),
@@ -92,14 +97,14 @@ fn print<O: Write>(alloc: Global, out: &mut O, answer: &Answer) -> Result<(), Ru
 pub fn answer_lines<R: BufRead, O: Write, F: TableSource>(
     alloc: Global,
     shelf: &mut Shelf,
-    files: &F,
+    files: &mut F,
     reader: &mut R,
     out: &mut O,
 ) -> Result<(), RunFault>
-    ensures ok { OnOk result (AnswersAll (F.reads files.now) (R.remaining reader.old) shelf.old (O.contents out.old)
+    ensures ok { OnOk result (AnswersAll F.reads (R.remaining reader.old) shelf.old (O.contents out.old)
         shelf.new (O.contents out.new)) }
     // Unless the output failed, the answers of the first lines were printed, and nothing else.
-    ensures fault { IfErr result (λ fault. IsOutputFault fault (AnswersSome (F.reads files.now) (R.remaining reader.old)
+    ensures fault { IfErr result (λ fault. IsOutputFault fault (AnswersSome F.reads (R.remaining reader.old)
         shelf.old (O.contents out.old) (O.contents out.new))) }
 {
     let mut line = Vec::new(alloc);

@@ -1,7 +1,6 @@
 //! Tests of the service, by what it prints.
 //!
-//! There is nothing here but tests: a launch that goes on while a commit is held by the device, scripts one after another on one
-//! device, the least and the most editors, forwarders and places, each fault, each device call failing, outputs that refuse, want of
+//! There is nothing here but tests: a launch that goes on while a commit is held by the device, the least and the most editors, forwarders and places, each fault, each device call failing, outputs that refuse, want of
 //! memory, and long scripts on a file, whose lines are judged by a graph of its own.
 #![tactic(auto)]
 

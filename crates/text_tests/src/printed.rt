@@ -2,9 +2,9 @@
 use command_output::{
     AbsentLine, AcceptedLine, BrokenLine, CheckedLine, Ended, Fault, FaultWriter, Formatted,
     MigratedLine, RefusedLine, RouteLine, TablesLine, TicketLine, UnreachableLine, WatchedWriter,
-    listing_of, print_line, print_text, tell,
+    print_line, tell,
 };
-use graph_edits::{Change, Code, Graph, Op};
+use graph_edits::{Code, Op};
 use std::alloc::AllocError;
 use std::fmt::Display;
 use std::io;
@@ -64,21 +64,6 @@ fn texts_of_lines(rt: HostRuntime) {
     expect_line(&rt, BrokenLine { check: "K4" }, "fault K4\n");
     assert_eq!(&rt; Ended::Done.status(), 0);
     assert_eq!(&rt; Ended::Refused.status(), 1);
-}
-
-#[test]
-fn listing_of_a_graph(rt: HostRuntime) -> io::Result<()> {
-    let mut graph = Graph::empty(rt.alloc(), 3)?;
-    let change = Change::new(&[Op::Add(2, 1, 3), Op::Add(0, 2, 7)]).expect(&rt, "two ops");
-    assert_eq!(&rt; graph.apply(&change), Ok(()));
-    let text = listing_of(rt.alloc(), 1, &graph)?;
-    let mut out = Vec::new(rt.alloc());
-    assert_eq!(&rt; print_text(&mut out, text.as_str()), Ok(()));
-    assert_eq!(&rt;
-        out.as_slice(),
-        "count=1 edges=2\n0 2 7\n1 2 3\n".as_bytes()
-    );
-    Ok(())
 }
 
 // Each fault, its text and its status.

@@ -54,30 +54,3 @@ fn sessions_that_have_editors(rt: HostRuntime) {
         same(&rt, read.is_some(), *found, text);
     }
 }
-
-// Texts that are no scripts for two editors, with a bar between each two.
-const NO_SCRIPTS: &str =
-    "\n|0 add:0:1:1\n\n|\n0 add:0:1:1|0|0 |0 add:0:1| 0 add:0:1:1|0  add:0:1:1|0 add:0:1:1 |00 add:0:1:1|+0 add:0:1:1|2 add:0:1:1|0 add:0:1:1\r\n|0\tadd:0:1:1|0 add:0:1:1 route|0 add:65536:1:1|0 add:0:1:4294967296|route|route 0|route 0 |route 0 1 2|route 0 1 |Route 0 1|route 65536 0|route 0 65536|route -1 0|route 0 01|route  0 1|route 0:1|show|route 0 1\n\n|0 route 0 1";
-
-#[test]
-fn texts_of_another_form(rt: HostRuntime) {
-    for text in NO_SCRIPTS.split('|') {
-        let read = got(&rt, script(rt.alloc(), text, 2));
-        same(&rt, read.is_none(), true, text);
-    }
-}
-
-// Sixteen ops, and one more.
-const SIXTEEN: &str =
-    "0 cut:0:1 cut:0:1 cut:0:1 cut:0:1 cut:0:1 cut:0:1 cut:0:1 cut:0:1 cut:0:1 cut:0:1 cut:0:1 cut:0:1 cut:0:1 cut:0:1 cut:0:1 cut:0:1";
-
-const SEVENTEEN: &str =
-    "0 cut:0:1 cut:0:1 cut:0:1 cut:0:1 cut:0:1 cut:0:1 cut:0:1 cut:0:1 cut:0:1 cut:0:1 cut:0:1 cut:0:1 cut:0:1 cut:0:1 cut:0:1 cut:0:1 cut:0:1";
-
-#[test]
-fn changes_of_sixteen_ops(rt: HostRuntime) {
-    let sixteen = got(&rt, script(rt.alloc(), SIXTEEN, 1));
-    same(&rt, sixteen.is_some(), true, SIXTEEN);
-    let seventeen = got(&rt, script(rt.alloc(), SEVENTEEN, 1));
-    same(&rt, seventeen.is_none(), true, SEVENTEEN);
-}

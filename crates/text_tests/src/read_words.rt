@@ -40,25 +40,6 @@ fn greatest_numbers(rt: HostRuntime) {
     }
 }
 
-// Texts that are no ops, with a bar between each two.
-const NOT_OPS: &str =
-    "|:|add|add:|add:0:1|add:0:1:|add:0:1:1:|add:0:1:1:1|add:0::1|add::1:1|set:0:1|cut:0|cut:0:1:5|cut:0:1:|Add:0:1:1| add:0:1:1|add:0:1:1 |add: 0:1:1|sub:0:1:1|0:1:1|add:00:1:1|add:0:01:1|add:0:1:01|cut:0:01|add:+0:1:1|add:0:-1:1|add:0:1:+1|cut:+0:1|add:65536:1:1|add:0:65536:1|add:0:1:4294967296|cut:0:65536|add:0:1:18446744073709551617|add:0:1:0x1|add:0:1:1.0|add:0:1:one";
-
-// Texts that are no landmark words.
-const NOT_WORDS: &str =
-    "|None|none | none|none:|at|at:|at:,|at:1,|at:,1|at:1,,2|at:1 ,2|at:1, 2|at:01|at:+1|at:-1|at:65536|at:1;2|At:1|at:1:2|at: 1|at:none|draw|draw:|draw:01|draw:+1|draw:-1|draw:18446744073709551616|draw:1,2|draw:1:2|Draw:1|draw:0x1|2,5|7|:|all";
-
-#[test]
-fn texts_of_another_form(rt: HostRuntime) {
-    for text in NOT_OPS.split('|') {
-        same(&rt, got(&rt, op(rt.alloc(), text)), None, text);
-    }
-    for text in NOT_WORDS.split('|') {
-        let read = got(&rt, landmark_words(rt.alloc(), text));
-        same(&rt, read.as_ref(), None, text);
-    }
-}
-
 // Landmark words, and the words of five nodes by them.
 const WORDS: [(&str, [u64; 5]); 7] = [
     ("none", [u64::MAX, u64::MAX, u64::MAX, u64::MAX, u64::MAX]),

@@ -1,44 +1,51 @@
 //! The program `tzrouter`: one node of a network, which forwards by its own tables.
 //!
-//! `tzrouter TABLE..` reads tables of one node (`tables.rt`), and hands the standard streams to the crate `router_runs` (`lines.rt`),
-//! which answers each line of the input with one line, and flushes it. The page of `router_lines` has the lines. The table of the newest
-//! generation tells where the router is; a packet goes by the table of its own generation. It knows no graph, no store and no thread.
-//!
-//! The grammar is clap's (`words.rt`), with its own help. The status is 0 at the end of the input, 2 where the words aren't understood,
-//! and 1 where a table isn't read, a line can't be read or printed, or memory ran out. What went wrong is told on standard error as
-//! `tzrouter: TEXT`, with the file and the system's own error where there are such (`telling.rt`).
+//! The whole program is one call, [`run_words`] of the crate `router_commands`, over the words and the standard streams; its page says
+//! what is answered. `main` makes the call on the arguments, and ends with the status that it answers. Words that can't be had end it
+//! with status 1. Before all that, it sees to it that no file gets the number of a standard stream that is closed.
 #![tactic(auto)]
 
+use router_commands::run_words;
 use standard_streams::hold_streams;
+use std::alloc::AllocError;
+use std::env;
+use std::io::{self, Write};
 use std::process::ExitCode;
 
-mod lines;
-mod tables;
-mod telling;
-mod words;
-
-use telling::told;
-
 fn main(rt: HostRuntime) -> ExitCode {
-    match run(&rt) {
-        Ok(()) => ExitCode::SUCCESS,
-        Err(status) => ExitCode::from(status),
-    }
+    let Ok(streams) = hold_streams(&rt) else {
+        return ended_by(&rt, "input or output failed");
+    };
+    let Ok(given) = arguments(&rt) else {
+        return ended_by(&rt, "the words can't be had");
+    };
+    let Ok(words) = borrowed(&rt, &given) else {
+        return ended_by(&rt, "out of memory");
+    };
+    let (mut input, mut out, mut err) = (rt.reader(), rt.stdout(), rt.stderr());
+    let status = run_words(&rt, &words, &mut input, &mut out, &mut err);
+    drop(streams);
+    ExitCode::from(status)
 }
 
-// Does what the words ask for, or answers the exit status where that can't be done. No file gets the number of a standard stream.
-fn run(rt: &HostRuntime) -> Result<(), u8> {
-    let Ok(streams) = hold_streams(rt) else {
-        return Err(told(rt, 1, "input or output failed"));
-    };
-    let given = words::arguments(rt)?;
-    let words = words::borrowed(rt, &given)?;
-    let found = words::parsed(rt, &words)?;
-    let Some(files) = found.get_strs("tables") else {
-        return Err(told(rt, 2, "no table is named"));
-    };
-    let mut shelf = tables::shelf_of(rt, files)?;
-    lines::answer_lines(rt, &mut shelf)?;
-    drop(streams);
-    Ok(())
+fn ended_by(rt: &HostRuntime, text: &str) -> ExitCode {
+    let _told = writeln!(rt.stderr(), "tzrouter: {text}");
+    ExitCode::from(1)
+}
+
+// The program's words, without its name.
+fn arguments(rt: &HostRuntime) -> io::Result<Vec<String>> {
+    let mut words = Vec::new(rt.alloc());
+    for word in env::args(rt)?.skip(1) {
+        words.push(word)?;
+    }
+    Ok(words)
+}
+
+fn borrowed<'a>(rt: &HostRuntime, given: &'a [String]) -> Result<Vec<&'a str>, AllocError> {
+    let mut words = Vec::new(rt.alloc());
+    for word in given {
+        words.push(word.as_str())?;
+    }
+    Ok(words)
 }

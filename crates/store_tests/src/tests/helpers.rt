@@ -6,7 +6,6 @@ ghost use Rattle.layout_2.specs.State.{changes_of, AreInTurn};
 use super::*;
 
 // Where the header names the nodes, where the slots begin, their edges and their journals; and the bytes of a journal's area.
-pub(super) const NODES: usize = 8;
 
 pub(super) const FIRST_SLOT: usize = 4096;
 

@@ -1,4 +1,4 @@
-// What is kept of tickets: over an opening and a roll, and which tickets a device may hold.
+// What is kept of tickets over an opening and a roll.
 use super::*;
 
 // Tickets of three sessions, some left out.
@@ -45,86 +45,4 @@ fn keeps_the_last_tickets(rt: HostRuntime) {
         shows(rt, &mut disk, *at, text);
     }
     let _disk = kept(rt, opened(rt, alloc, disk), "opened after a roll");
-}
-
-// A session, its last ticket in the checkpoint, and whether it may stand there.
-const LAST: [(u8, u64, bool); 5] = [
-    (0, 0x7fff_ffff_ffff_ffff, true),
-    (0, 0x8000_0000_0000_0000, false),
-    (1, 0xffff_ffff_ffff_ffff, false),
-    (63, 0x7fff_ffff_ffff_ffff, true),
-    (63, 0x8000_0000_0000_0000, false),
-];
-
-#[test]
-fn tells_tickets_past_the_limit(rt: HostRuntime) {
-    let alloc = rt.alloc();
-    let rt = &rt;
-    for (session, ticket, is_sound) in &LAST {
-        let mut disk = formatted(rt, alloc, 5);
-        let place = 4119 + 8 * *session as usize;
-        put(rt, &mut disk, place, &ticket.to_be_bytes());
-        let want = if *is_sound { Some(*ticket) } else { None };
-        assert_last(rt, alloc, disk, *session, want);
-    }
-}
-
-// Opens a device, and sees that it is damaged, or that this is the last ticket of the session.
-fn assert_last(rt: &impl Abort, alloc: Global, disk: MemDisk, session: u8, want: Option<u64>) {
-    assert!(rt; session < 64, "no session");
-    let found = match store_of(rt, alloc, disk, "a last ticket") {
-        Some(store) => Some(store.resume(session)),
-        None => None,
-    };
-    same(rt, found, want, "a last ticket");
-}
-
-// Where session 0 and session 63 have the last tickets 4 and 256: session and ticket of a record, session and ticket of one behind
-// it, and whether both may stand there.
-const TURNS: [((u8, u64), (u8, u64), bool); 18] = [
-    ((0, 5), (0, 6), true),
-    ((0, 4), (0, 6), false),
-    ((0, 3), (0, 6), false),
-    ((0, 0), (0, 6), false),
-    ((0, 5), (0, 5), false),
-    ((0, 6), (0, 5), false),
-    ((0, 5), (1, 1), true),
-    ((0, 5), (1, 0), false),
-    ((63, 257), (0, 5), true),
-    ((63, 256), (0, 5), false),
-    ((63, 0x7fff_ffff_ffff_ffff), (0, 5), true),
-    ((63, 0x8000_0000_0000_0000), (0, 5), false),
-    ((0, 5), (63, 0xffff_ffff_ffff_ffff), false),
-    ((62, 1), (0, 5), true),
-    ((64, 1), (0, 5), false),
-    ((64, 300), (0, 5), false),
-    ((255, 300), (0, 5), false),
-    ((0, 5), (64, 1), false),
-];
-
-#[test]
-fn tells_tickets_out_of_turn(rt: HostRuntime) {
-    let alloc = rt.alloc();
-    let rt = &rt;
-    for (first, second, is_sound) in &TURNS {
-        let mut disk = formatted(rt, alloc, 5);
-        put_text(rt, &mut disk, 4119, "0000000000000004");
-        put_text(rt, &mut disk, 4623, "0000000000000100");
-        let add = "01 01 0000 0001 00000007";
-        put_asked(rt, &mut disk, FIRST_AREA, *first, add);
-        let set = "01 02 0000 0001 00000008";
-        put_asked(rt, &mut disk, 532_506, *second, set);
-        let shown = Some((2, 1, Some(8)));
-        let want = if *is_sound { shown } else { None };
-        assert_opens(rt, alloc, disk, want, "a ticket in turn");
-    }
-}
-
-// Puts a record of one request, whose change is spelled by the text.
-fn put_asked(rt: &impl Abort, disk: &mut MemDisk, at: usize, asked: (u8, u64), text: &str) {
-    let (session, ticket) = asked;
-    put_text(rt, disk, at, "01 00000015 0001");
-    put(rt, disk, at.wrapping_add(7), &[session]);
-    put(rt, disk, at.wrapping_add(8), &ticket.to_be_bytes());
-    put_text(rt, disk, at.wrapping_add(16), text)
 }

@@ -8,21 +8,21 @@ use Rattle.router_runs.proofs.Talks.{all_answered, handed_up, output_or, so_far_
 use Rattle.router_runs.proofs.talking.answer_lines.Goals as goal
 
 pub returns-in-Err-clause-fault : goal.returns-in-Err-clause-fault
-returns-in-Err-clause-fault g c = some_answered (g.F.TableSource.reads c.args.files.now) _ _ _ _ _ _ c.loop.invariant
+returns-in-Err-clause-fault g c = some_answered g.F.TableSource.reads _ _ _ _ _ _ c.loop.invariant
 
 pub returns-clause-fault : goal.returns-clause-fault
-returns-clause-fault g c = some_answered (g.F.TableSource.reads c.args.files.now) _ _ _ _ _ _ c.loop.invariant
+returns-clause-fault g c = some_answered g.F.TableSource.reads _ _ _ _ _ _ c.loop.invariant
 
 pub returns-then-eq-clause-ok : goal.returns-then-eq-clause-ok
 returns-then-eq-clause-ok g c =
     let line = c.next_line.new.line.items in
     let left = g.R.Read.remaining c.loop.reader in
     let end : c.in-Ok.next ≡ End = search rules in
-    all_answered (g.F.TableSource.reads c.args.files.now) _ _ _ left _ _ line c.loop.invariant (subst (λ (n : NextLine). IfSome left (λ bytes. IsNext bytes n line)) end c.in-Ok.ensures.next)
+    all_answered g.F.TableSource.reads _ _ _ left _ _ line c.loop.invariant (subst (λ (n : NextLine). IfSome left (λ bytes. IsNext bytes n line)) end c.in-Ok.ensures.next)
 
 pub returns-in_err-print-clause-fault : goal.returns-in_err-print-clause-fault
 returns-in_err-print-clause-fault g c =
-    let reads = g.F.TableSource.reads c.args.files.now in
+    let reads = g.F.TableSource.reads in
     let known = g.R.Read.remaining c.args.reader.now in
     let before = g.O.Write.contents c.args.out.now in
     handed_up c.from_residual.result (λ fault. IsOutputFault fault (AnswersSome reads known c.args.shelf.now before (g.O.Write.contents c.print.new.out))) c.in_err-print.field-0.0 c.from_residual.ensures.1
@@ -30,7 +30,7 @@ returns-in_err-print-clause-fault g c =
 
 pub loop-preserved : goal.loop-preserved
 loop-preserved g c =
-    let reads = g.F.TableSource.reads c.args.files.now in
+    let reads = g.F.TableSource.reads in
     let line = c.next_line.new.line.items in
     let mid = c.loop.shelf in
     let answer = c.answer_next-answer.result in
