@@ -17,9 +17,10 @@ use Rattle.interleave.specs.WorldWords.{machine_of}
 use Rattle.life_chain.specs.declared.life.Life.{Life}
 use Rattle.life_chain.specs.declared.report.LifeReport.{LifeReport}
 use Rattle.life_chain.specs.Reports.{opened_of, taken_of, life_of, ended_with}
+use Rattle.life_chain.specs.Sound.{AreEach, AreSound}
 use Rattle.life_chain.specs.Lived.{IsLived, IsRefusedOpening, AreLived}
 use Rattle.life_chain.specs.Chains.{IsFirst, IsNextOf, AreChained, AreExactlyOnce, IsLastRefused}
-use Rattle.life_chain.specs.Laws.{AreOne, AreNext}
+use Rattle.life_chain.specs.Laws.{GoOn, AreNext}
 use Rattle.life_chain.proofs.LifeLemmas.{Ended, ended_of, settled_is}
 
 -- what a refusal tells of the front, refusal by refusal
@@ -35,31 +36,40 @@ tells Memory content a b d m = m refl
 abbrev pub TicketsKept : Type 0
 TicketsKept = (first : State) (m : Machine) → IsListed first m → IsLife (life_in first m)
 
+-- lives behind lives
+pub are_one : {D : Type 0} (Is : D → Life → LifeReport → D → Type 0) (Refused : D → OpenRefused → D → Type 0) → GoOn Is Refused
+are_one Is Refused disk mid left [] more [] others refused so rest = subst (λ d. AreEach Is Refused d more others refused left) so rest
+are_one Is Refused disk mid left [] more (r ∷ rs) others refused so rest = absurd so
+are_one Is Refused disk mid left (x ∷ xs) more [] others refused so rest = absurd so
+are_one Is Refused disk mid left (x ∷ xs) more (r ∷ rs) others refused so rest = (so.0, (so.1.0, are_one Is Refused so.0 mid left xs more rs others refused so.1.1 rest))
+
 module _ {D : Type 0} (model : Ghosts D) (by_word : D → ℕ → D → Type 0) where
-  -- ---- lives behind lives
-
-  pub are_one : AreOne model by_word
-  are_one disk mid left [] more [] others refused so rest = subst (λ (d : D). AreLived model by_word d more others refused left) so rest
-  are_one disk mid left [] more (r ∷ rs) others refused so rest = absurd so
-  are_one disk mid left (x ∷ xs) more [] others refused so rest = absurd so
-  are_one disk mid left (x ∷ xs) more (r ∷ rs) others refused so rest = (so.0, (so.1.0, are_one so.0 mid left xs more rs others refused so.1.1 rest))
-
   -- one life more
   pub one_more : (disk mid left : D) (lives : List Life) (reports : List LifeReport) (life : Life) (report : LifeReport) → AreLived model by_word disk lives reports None mid → IsLived model by_word mid life report left
       → AreLived model by_word disk (lives ++ life ∷ []) (reports ++ report ∷ []) None left
-  one_more disk mid left lives reports life report so lived = are_one disk mid left lives (life ∷ []) reports (report ∷ []) None so (left, (lived, refl))
+  one_more disk mid left lives reports life report so lived = are_one (IsLived model by_word) (IsRefusedOpening model) disk mid left lives (life ∷ []) reports (report ∷ []) None so (left, (lived, refl))
 
   -- up to one that couldn't open
   pub up_to : (disk mid left : D) (lives : List Life) (reports : List LifeReport) (life : Life) (rest : List Life) (refused : OpenRefused) → AreLived model by_word disk lives reports None mid → IsRefusedOpening model mid refused left
       → AreLived model by_word disk (lives ++ life ∷ rest) reports (Some refused) left
   up_to disk mid left lives reports life rest refused so why =
-      subst (λ (l : List LifeReport). AreLived model by_word disk (lives ++ life ∷ rest) l (Some refused) left) (append-nil reports) (are_one disk mid left lives (life ∷ rest) reports [] (Some refused) so why)
+      subst (λ (l : List LifeReport). AreLived model by_word disk (lives ++ life ∷ rest) l (Some refused) left) (append-nil reports) (are_one (IsLived model by_word) (IsRefusedOpening model) disk mid left lives (life ∷ rest) reports [] (Some refused) so why)
+
+  -- each is sound
+  pub are_sound : (disk left : D) (lives : List Life) (reports : List LifeReport) (refused : Option OpenRefused) → AreLived model by_word disk lives reports refused left → AreSound model by_word disk lives reports refused left
+  are_sound disk left [] [] None so = so
+  are_sound disk left [] [] (Some refused) so = absurd so
+  are_sound disk left [] (r ∷ rs) refused so = absurd so
+  are_sound disk left (x ∷ xs) [] None so = absurd so
+  are_sound disk left (x ∷ xs) [] (Some refused) so = so.not_opened
+  are_sound disk left (x ∷ xs) (r ∷ rs) refused so =
+      (so.0, (record { started = so.1.0.started; worlds = so.1.0.worlds; stopped = so.1.0.stopped; sound = so.1.0.sound }, are_sound so.0 left xs rs refused so.1.1))
 
   -- the first of them opened to what the first content stands for
   pub first_opened : (disk left : D) (lives : List Life) (reports : List LifeReport) (refused : Option OpenRefused) → AreLived model by_word disk lives reports refused left → IsFirst reports (model.view disk).content
   first_opened disk left lives [] refused so = tt
   first_opened disk left [] (r ∷ rs) refused so = absurd so
-  first_opened disk left (x ∷ xs) (r ∷ rs) refused so = so.1.0.opened
+  first_opened disk left (x ∷ xs) (r ∷ rs) refused so = so.1.0.sound.opened
 
   -- where the first content stands for something, only the device or memory refuses an opening
   pub last_refused : (disk left : D) (lives : List Life) (reports : List LifeReport) (refused : Option OpenRefused) → AreLived model by_word disk lives reports refused left
@@ -67,10 +77,10 @@ module _ {D : Type 0} (model : Ghosts D) (by_word : D → ℕ → D → Type 0) 
   last_refused disk left lives reports None so s stands = tt
   last_refused disk left [] [] (Some refused) so s stands = absurd so
   last_refused disk left [] (r ∷ rs) (Some refused) so s stands = absurd so
-  last_refused disk left (x ∷ xs) [] (Some refused) so s stands = λ fault. so.none fault s stands
+  last_refused disk left (x ∷ xs) [] (Some refused) so s stands = λ fault. so.not_opened.none fault s stands
   last_refused disk left (x ∷ xs) (r ∷ rs) (Some refused) so s stands =
       let m : Machine = machine_of so.1.0.stopped in
-      let prefix = (so.1.0.safe.now (model.view so.0).content so.1.0.run_on.crashed.image).holds.prefix in
+      let prefix = (so.1.0.sound.safe.now (model.view so.0).content so.1.0.sound.crashed.image).holds.prefix in
       last_refused so.0 left xs rs (Some refused) so.1.1 (state_at (opened_of r) (history_of m).taken prefix.at) prefix.stands
 
   -- ---- each life is the next one of the life before
@@ -96,7 +106,7 @@ module _ {D : Type 0} (model : Ghosts D) (by_word : D → ℕ → D → Type 0) 
   are_chained one disk left [] (r ∷ rs) refused so = absurd so
   are_chained one disk left (x ∷ xs) (r ∷ []) refused so = tt
   are_chained one disk left (x ∷ []) (r ∷ (next ∷ more)) refused so = absurd so.1.1
-  are_chained one disk left (x ∷ (y ∷ ys)) (r ∷ (next ∷ more)) refused so = (next_of one disk so.0 x r next so.1.0 so.1.1.1.0.opened, are_chained one so.0 left (y ∷ ys) (next ∷ more) refused so.1.1)
+  are_chained one disk left (x ∷ (y ∷ ys)) (r ∷ (next ∷ more)) refused so = (next_of one disk so.0 x r next so.1.0 so.1.1.1.0.sound.opened, are_chained one so.0 left (y ∷ ys) (next ∷ more) refused so.1.1)
 
   -- ---- exactly once
 
@@ -113,7 +123,7 @@ module _ {D : Type 0} (model : Ghosts D) (by_word : D → ℕ → D → Type 0) 
   joined kept one disk left (x ∷ xs) report [] refused so = is_life kept disk so.0 x report so.1.0
   joined kept one disk left (x ∷ []) report (next ∷ rest) refused so = absurd so.1.1
   joined kept one disk left (x ∷ (y ∷ ys)) report (next ∷ rest) refused so =
-      (is_life kept disk so.0 x report so.1.0, follows x report next (next_of one disk so.0 x report next so.1.0 so.1.1.1.0.opened), joined kept one so.0 left (y ∷ ys) next rest refused so.1.1)
+      (is_life kept disk so.0 x report so.1.0, follows x report next (next_of one disk so.0 x report next so.1.0 so.1.1.1.0.sound.opened), joined kept one so.0 left (y ∷ ys) next rest refused so.1.1)
 
   pub exactly_once : TicketsKept → ExactlyOnce → OneState → (disk left : D) (lives : List Life) (reports : List LifeReport) (refused : Option OpenRefused) → AreLived model by_word disk lives reports refused left → AreExactlyOnce reports
   exactly_once kept law one disk left lives [] refused so = tt

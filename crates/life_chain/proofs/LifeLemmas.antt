@@ -8,7 +8,6 @@ use Rattle.disk_trait.specs.declared.disk.Disk.{Ghosts}
 use Rattle.graph_edits.specs.Edges.{Network}
 use Rattle.requests.specs.declared.request.Request.{Request}
 use Rattle.layout_2.specs.State.{State, state_with}
-use Rattle.layout_2.specs.Standing.{StandsFor}
 use Rattle.generations.specs.declared.posting.Notice.{Notice}
 use Rattle.group_commit.specs.Settling.{settle}
 use Rattle.run_laws.specs.History.{Lists, begun as none_yet, state_at, IsPrefixState}
@@ -22,17 +21,18 @@ use Rattle.run_laws.specs.Listed.{IsListed}
 use Rattle.run_laws.specs.OneLife.{history_of}
 use Rattle.run_laws.specs.QueueLaws.{AcknowledgedStay}
 use Rattle.run_laws.specs.Queues.{all_let_in}
-use Rattle.run_laws.specs.Courses.{AreRoutedWell}
 use Rattle.run_laws.specs.Replies.{RunRoutes}
 use Rattle.interleave.specs.declared.world.World.{World}
 use Rattle.interleave.specs.WorldWords.{lists_of, machine_of, world_view}
 use Rattle.interleave.specs.Crashes.{HoldsSince, HasWorlds}
+use Rattle.interleave.specs.Desks.{WorldRun}
 use Rattle.interleave.proofs.Desks.{desks_run}
 use Rattle.life_chain.specs.declared.life.Life.{Life}
 use Rattle.life_chain.specs.declared.report.LifeReport.{LifeReport}
 use Rattle.life_chain.specs.Groups.{nothing_given, given_by}
 use Rattle.life_chain.specs.Reports.{opened_of, taken_of, ended_with}
-use Rattle.life_chain.specs.Lived.{IsLived, IsServed, IsAnswered, IsRunOn, IsSafe, IsSafeAtAnyMoment}
+use Rattle.life_chain.specs.Sound.{ServesOpened, IsSafe, IsSoundIn}
+use Rattle.life_chain.specs.Lived.{IsLived, IsServed, IsAnswered}
 use Rattle.life_chain.proofs.EventLemmas.{come_to}
 use Rattle.life_chain.proofs.GroupLemmas.{Fits, nothing_yet, life_fits}
 
@@ -56,7 +56,7 @@ ended_of model by_word disk left life report lived =
       state = m.state;
       down = m.down;
       listed = subst (λ (n : Machine). IsListed first n) lived.answered.reported lived.answered.listed;
-      safe = subst (λ (n : Machine). IsSafe first life report n n content) lived.answered.reported (lived.safe.now content lived.run_on.crashed.image);
+      safe = subst (λ (n : Machine). IsSafe first life report n n content) lived.answered.reported (lived.sound.safe.now content lived.sound.crashed.image);
     }
 
 -- the store's state at the end is that after the settled requests
@@ -72,29 +72,33 @@ pub by_parts : (count n : ℕ) (graph g : Network) (tickets t : List ℕ) → co
 by_parts count n graph g tickets t e f h = cc
 
 -- what a rebuild posts at the beginning of a life
-served : (first : State) (capacity n : ℕ) (words : List ℕ) (reply : Reply) (built : Machine) → RebuildAnswers words (begun capacity n first false) reply built → IsServed first words reply built
+pub served : (first : State) (capacity n : ℕ) (words : List ℕ) (reply : Reply) (built : Machine) → RebuildAnswers words (begun capacity n first false) reply built → IsServed first words reply built
 served first capacity n words (Rebuilt generation) built is = ⊎_elim
     (λ had. absurd (let none : ◌≡◌ {A = Option ℕ} None (Some first.count) = had.0 in cc))
     (λ made. (is.1, (made.1.0, (made.1.1.0, ap (λ (m : Machine). m.postings) made.1.1.1))))
     is.2
 served first capacity n words reply built is = tt
 
--- a life that ended as the machine m, of which the report has all but what was due and the store
-pub answered_is : (first : State) (life : Life) (report : LifeReport) (built m : Machine) → m ≡ ended_with report m.due m.state m.down → RebuildAnswers life.words.items (begun life.capacity life.sessions first false) report.rebuilt built
-    → m.asked ≡ built.asked ++ all_let_in life.events.items report.replies.items → RunRoutes first built life.events.items report.replies.items m → IsListed first m → AreRoutedWell first m → IsAnswered first life report built m
-answered_is first life report built m e rebuilt asked_is answers listed well =
+-- .. which serves the network
+pub serves_opened : (first : State) (words : List ℕ) (reply : Reply) (built : Machine) → IsServed first words reply built → ServesOpened first reply built
+serves_opened first words (Rebuilt generation) built is = (is.0, (is.1.0, (is.1.1.0.serves, is.1.1.1)))
+serves_opened first words reply built is = tt
+
+-- what was asked, taken and settled in a life whose report has it all
+pub record Counted (life : Life) (report : LifeReport) : Type 0 where
+  pub asked : report.stored.asked.items ≡ all_let_in life.events.items report.replies.items
+  pub taken : report.stored.taken ≡ (given_by nothing_given life.events.items report.replies.items).taken
+  pub done : report.stored.done ≡ (given_by nothing_given life.events.items report.replies.items).done
+
+pub counted_is : (first : State) (life : Life) (report : LifeReport) (built m : Machine) → m ≡ ended_with report m.due m.state m.down → RebuildAnswers life.words.items (begun life.capacity life.sessions first false) report.rebuilt built
+    → m.asked ≡ built.asked ++ all_let_in life.events.items report.replies.items → RunRoutes first built life.events.items report.replies.items m → Counted life report
+counted_is first life report built m e rebuilt asked_is answers =
     let fits = life_fits first life.capacity life.sessions life.words.items report.rebuilt built life.events.items report.replies.items m rebuilt answers in
     record {
-      rebuilt = rebuilt;
-      serves = served first life.capacity life.sessions life.words.items report.rebuilt built rebuilt;
-      answers = answers;
-      reported = e;
       asked =
           sym (ap (λ (n : Machine). n.asked) e) ∙ (asked_is ∙ ap (λ (l : List Request). l ++ all_let_in life.events.items report.replies.items) (nothing_yet first life.capacity life.sessions life.words.items report.rebuilt built rebuilt).0);
       taken = sym (ap (λ (n : Machine). n.taken) e) ∙ fits.taken;
       done = sym (ap (λ (n : Machine). n.done) e) ∙ fits.done;
-      listed = listed;
-      routed_well = well;
     }
 
 -- no group that is told of is in part in an image that holds what it has to
@@ -136,17 +140,16 @@ handed_is model stay first disk started stopped events replies ran kept listed n
 
 -- a life that opened to this state
 pub record LivedFrom {D : Type 0} (model : Ghosts D) (by_word : D → ℕ → D → Type 0) (disk : D) (first : State) (life : Life) (report : LifeReport) (left : D) : Type 0 where
-  pub opened : StandsFor first (model.view disk).content
   pub started : World D model
   pub worlds : List (World D model)
   pub stopped : World D model
+  pub sound : IsSoundIn model by_word disk first life report started worlds stopped left
   pub answered : IsAnswered first life report (machine_of started) (machine_of stopped)
-  pub run_on : IsRunOn model by_word disk life report started worlds stopped left
-  pub safe : IsSafeAtAnyMoment model disk first life report started worlds stopped
+  pub ran : WorldRun started life.events.items report.replies.items worlds stopped
 
 -- .. which is that of its report
 pub lived_is : {D : Type 0} → (model : Ghosts D) → (by_word : D → ℕ → D → Type 0) → (disk left : D) (first : State) (life : Life) (report : LifeReport) → opened_of report ≡ first → LivedFrom model by_word disk first life report left
     → IsLived model by_word disk life report left
 lived_is model by_word disk left first life report is from =
     let here : LivedFrom model by_word disk (opened_of report) life report left = subst (λ (s : State). LivedFrom model by_word disk s life report left) (sym is) from in
-    record { opened = here.opened; started = here.started; worlds = here.worlds; stopped = here.stopped; answered = here.answered; run_on = here.run_on; safe = here.safe }
+    record { started = here.started; worlds = here.worlds; stopped = here.stopped; sound = here.sound; answered = here.answered; ran = here.ran }

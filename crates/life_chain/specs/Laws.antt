@@ -4,13 +4,18 @@ use Rattle.disk_trait.specs.declared.disk.Disk.{Ghosts}
 use Rattle.layout_parts.specs.declared.refusals.OpenRefused.{OpenRefused}
 use Rattle.life_chain.specs.declared.life.Life.{Life}
 use Rattle.life_chain.specs.declared.report.LifeReport.{LifeReport}
-use Rattle.life_chain.specs.Lived.{AreLived}
+use Rattle.life_chain.specs.Sound.{AreEach, IsNotOpened, IsSound}
+use Rattle.life_chain.specs.Lived.{AreLived, IsLived, IsRefusedOpening}
 use Rattle.life_chain.specs.Chains.{AreChained, AreExactlyOnce}
 
--- lives, and then more lives of the disk that these left, are lives of the first disk: two calls are one
+-- lives, and then more lives of the disk that these left, are lives of the first disk, where this is said of each
+abbrev pub GoOn : {D : Type 0} → (D → Life → LifeReport → D → Type 0) → (D → OpenRefused → D → Type 0) → Type 0
+GoOn {D} Is Refused = (disk mid left : D) (lives more : List Life) (reports others : List LifeReport) (refused : Option OpenRefused)
+    → AreEach Is Refused disk lives reports None mid → AreEach Is Refused mid more others refused left → AreEach Is Refused disk (lives ++ more) (reports ++ others) refused left
+
+-- two calls are one: of sound lives, and with all that was answered in them
 abbrev pub AreOne : {D : Type 0} → Ghosts D → (D → ℕ → D → Type 0) → Type 0
-AreOne {D} model by_word = (disk mid left : D) (lives more : List Life) (reports others : List LifeReport) (refused : Option OpenRefused)
-    → AreLived model by_word disk lives reports None mid → AreLived model by_word mid more others refused left → AreLived model by_word disk (lives ++ more) (reports ++ others) refused left
+AreOne model by_word = GoOn (IsSound model by_word) (IsNotOpened model) × GoOn (IsLived model by_word) (IsRefusedOpening model)
 
 -- what is said of lives follows from that they are lives: each next one is one of the life before, and each ticket is in at most once
 abbrev pub AreNext : {D : Type 0} → Ghosts D → (D → ℕ → D → Type 0) → Type 0

@@ -2,6 +2,7 @@ pub mod Rooms
 pub mod Groups
 pub mod Reports
 pub mod Words
+pub mod Sound
 pub mod Lived
 pub mod Chains
 pub mod Laws

@@ -5,6 +5,7 @@ use Rattle.layout_2.specs.State.{State}
 use Rattle.layout_2.specs.Standing.{StandsFor}
 use Rattle.life_chain.specs.declared.life.Life.{Life}
 use Rattle.life_chain.specs.declared.report.LivesReport.{LivesReport}
+use Rattle.life_chain.specs.Sound.{AreSound}
 use Rattle.life_chain.specs.Lived.{AreLived}
 use Rattle.life_chain.specs.Chains.{IsFirst, AreChained, AreExactlyOnce, IsLastRefused}
 
@@ -19,8 +20,6 @@ ReportsEach model by_word disk lives report left = AreLived model by_word disk l
 -- What the report tells of lives of a disk that keeps the model, up to the disk that is left.
 pub record AreTold {D : Type 0} (model : Ghosts D) (by_word : D → ℕ → D → Type 0)
     (disk : D) (lives : List Life) (report : LivesReport) (left : D) : Type 0 where
-  -- each report is that of its life, of the very disk that the crash of the one before had left
-  pub lived : ReportsEach model by_word disk lives report left
   -- the first life opened to what the disk stood for
   pub first : IsFirst report.lives.items (model.view disk).content
   -- each next life opened to a prefix state of the one before
@@ -29,9 +28,5 @@ pub record AreTold {D : Type 0} (model : Ghosts D) (by_word : D → ℕ → D �
   pub exactly_once : AreExactlyOnce report.lives.items
   -- where the disk stood for anything, only the device or memory refuses an opening
   pub refused : (state : State) → StandsFor state (model.view disk).content → IsLastRefused report.refused
-
--- What it tells of lives of any disk.
-pub record AreToldOnDisk {D : Type 0} (model : Ghosts D) (by_word : D → ℕ → D → Type 0)
-    (disk : D) (lives : List Life) (report : LivesReport) (left : D) : Type 0 where
-  -- where the disk keeps the model, all that
-  pub of_model : KeepsModel model disk → AreTold model by_word disk lives report left
+  -- each life is sound, on the very disk that the crash of the one before had left: safe at any moment, and its packets arrive
+  pub sound : AreSound model by_word disk lives report.lives.items report.refused left

@@ -2,7 +2,7 @@
 ghost use Rattle.std.specs.Prelude.{◌≡◌, ◌≤◌, [], length, vec_capacity, IfOk, OnErr};
 ghost use Rattle.life_chain.specs.Rooms.{HaveRooms};
 ghost use Rattle.life_chain.specs.Words.{IsLeftByWord, any_word};
-ghost use Rattle.life_chain.specs.Telling.{KeepsModel, ReportsEach, AreTold, AreToldOnDisk};
+ghost use Rattle.life_chain.specs.Telling.{KeepsModel, ReportsEach, AreTold};
 
 use crate::crash::{Crash, ImageOfWord, SomeImage};
 use crate::life::Life;
@@ -20,18 +20,24 @@ use std::alloc::{AllocError, Global};
 ///
 /// On a disk that keeps the model the report tells (`AreTold`, specs/Telling.antt):
 ///
-/// - each report is that of its life (`lived`, in words at [`lives_on`]);
-/// - so the first life opened to what the disk stood for (`first`), and each next one to the state after some of the requests that the
+/// - the first life opened to what the disk stood for (`first`), and each next one to the state after some of the requests that the
 ///   one before took, none of the groups in part that its events and replies say it gave to commits, with all that its commits answered Ok for and
 ///   all that it told an editor was accepted (`chained`);
 /// - over all these lives each session's ticket is in at most once, and exactly once where an editor was told (`exactly_once`);
-/// - a life that couldn't open had no memory or a device that failed, where the disk stood for anything at first (`refused`).
+/// - a life that couldn't open had no memory or a device that failed, where the disk stood for anything at first (`refused`);
+/// - each life is sound (`sound`, in words at [`lives_on`]).
+///
+/// The clause `answered` says of the same lives what the rebuild and each event was answered (`AreLived`, specs/Lived.antt).
 pub fn lives<D: CrashDisk + Drop>(
     alloc: Global,
     disk: D,
     lives: &[Life],
 ) -> Result<LivesReport, AllocError>
-    ensures told { IfOk result (λ report. (left : D) × AreToldOnDisk D.Disk any_word disk lives.now report left) }
+    ensures told { IfOk result (λ report. (left : D) × (KeepsModel D.Disk disk
+        → AreTold D.Disk any_word disk lives.now report left)) }
+
+    ensures answered { IfOk result (λ report. (left : D) × (KeepsModel D.Disk disk
+        → ReportsEach D.Disk any_word disk lives.now report left)) }
 {
     lives_on(alloc, disk, lives).0
 }
@@ -39,15 +45,20 @@ pub fn lives<D: CrashDisk + Drop>(
 /// The same lives, and the disk comes back: as the crash of the last life left it, or only read by an opening that was refused, or, where
 /// there was no room for the replies, as it was handed over. So more lives may go on where these ended ([`crate::lives_law`]).
 ///
-/// On a disk that keeps the model each report is that of its life (`lived`): what it opened to, what the rebuild and the events were
-/// answered, what its world stored, and what a crash would have left at any moment since the disk was handed over to it. Each next life was handed
-/// the very disk that the crash of the one before had left. A life that couldn't open tells of the content's front, or of a device that failed in the opening.
+/// On a disk that keeps the model each life is sound (`AreSound`, specs/Sound.antt): what it opened to, what a crash would have left at any
+/// moment since the disk was handed over to it, and which ways its packets went. Each next life was handed the very disk that the crash of
+/// the one before had left. A life that couldn't open only read the disk, which failed in the opening if the device is told. And each report is that of
+/// its life (`AreLived`): what the rebuild and the events were answered, and what its world stored; a refusal tells of the content's front.
 pub fn lives_on<D: CrashDisk + Drop>(
     alloc: Global,
     disk: D,
     lives: &[Life],
 ) -> (Result<LivesReport, AllocError>, D)
-    ensures told { IfOk result.0 (λ report. AreToldOnDisk D.Disk any_word disk lives.now report result.1) }
+    ensures told { KeepsModel D.Disk disk
+        → IfOk result.0 (λ report. AreTold D.Disk any_word disk lives.now report result.1) }
+
+    ensures answered { KeepsModel D.Disk disk
+        → IfOk result.0 (λ report. ReportsEach D.Disk any_word disk lives.now report result.1) }
 
     ensures no_memory { OnErr result.0 (result.1 ≡ disk) }
 {
@@ -63,6 +74,8 @@ pub fn lives_in_memory(
 ) -> (Result<LivesReport, AllocError>, MemDisk)
     ensures told { IfOk result.0 (λ report. AreTold ⟦<MemDisk as Disk>⟧ IsLeftByWord disk lives.now report result.1) }
 
+    ensures answered { IfOk result.0 (λ report. ReportsEach ⟦<MemDisk as Disk>⟧ IsLeftByWord disk lives.now report result.1) }
+
     ensures no_memory { OnErr result.0 (result.1 ≡ disk) }
 {
     lives_by::<MemDisk, ImageOfWord>(alloc, disk, lives)
@@ -74,7 +87,11 @@ fn lives_by<D: CrashDisk + Drop, C: Crash<D>>(
     disk: D,
     lives: &[Life],
 ) -> (Result<LivesReport, AllocError>, D)
-    ensures told { IfOk result.0 (λ report. AreToldOnDisk D.Disk C.by_word disk lives.now report result.1) }
+    ensures told { KeepsModel D.Disk disk
+        → IfOk result.0 (λ report. AreTold D.Disk C.by_word disk lives.now report result.1) }
+
+    ensures answered { KeepsModel D.Disk disk
+        → IfOk result.0 (λ report. ReportsEach D.Disk C.by_word disk lives.now report result.1) }
 
     ensures no_memory { OnErr result.0 (result.1 ≡ disk) }
 {

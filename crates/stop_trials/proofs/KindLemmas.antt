@@ -10,7 +10,8 @@ use Rattle.interleave.specs.WorldWords.{machine_of}
 use Rattle.life_chain.specs.declared.life.Life.{Life}
 use Rattle.life_chain.specs.declared.report.LifeReport.{LifeReport}
 use Rattle.life_chain.specs.Reports.{opened_of, taken_of}
-use Rattle.life_chain.specs.Lived.{IsLived, AreLived, IsSafe}
+use Rattle.life_chain.specs.Sound.{IsSafe}
+use Rattle.life_chain.specs.Lived.{IsLived, AreLived}
 use Rattle.life_chain.specs.Chains.{IsNextOf, AreChained}
 use Rattle.life_chain.proofs.LifeLemmas.{Ended, settled_is}
 use Rattle.stop_trials.specs.Kinds.{accepted_by, AreKept}
@@ -30,7 +31,7 @@ module _ {D : Type 0} (model : Ghosts D) (by_word : D → ℕ → D → Type 0) 
         state = m.state;
         down = m.down;
         listed = subst (λ (n : Machine). IsListed first n) lived.answered.reported lived.answered.listed;
-        safe = subst (λ (n : Machine). IsSafe first life report n n content) lived.answered.reported (lived.safe.now content lived.run_on.crashed.image);
+        safe = subst (λ (n : Machine). IsSafe first life report n n content) lived.answered.reported (lived.sound.safe.now content lived.sound.crashed.image);
       } in
       let settled : m.state ≡ state_at first (taken_of report) report.stored.done = settled_is first life report content end in
       let start : first.count ≡ (machine_of lived.started).state.count = rebuild_same life.words.items (begun life.capacity life.sessions first false) report.rebuilt (machine_of lived.started) lived.answered.rebuilt in

@@ -22,9 +22,9 @@ use Rattle.interleave.specs.Runs.{HasRun}
 use Rattle.life_chain.specs.declared.life.Life.{Life}
 use Rattle.life_chain.specs.declared.report.LifeReport.{LifeReport}
 use Rattle.life_chain.specs.Reports.{opened_of}
-use Rattle.life_chain.specs.Lived.{IsAnswered, HasCrashed}
+use Rattle.life_chain.specs.Sound.{HasCrashed}
 use Rattle.life_chain.proofs.GroupLemmas.{life_fits}
-use Rattle.life_chain.proofs.LifeLemmas.{lived_is, answered_is, safe_is, all_as, read_same, handed_is, by_parts}
+use Rattle.life_chain.proofs.LifeLemmas.{Counted, lived_is, counted_is, served, serves_opened, safe_is, all_as, read_same, handed_is, by_parts}
 use Rattle.life_chain.proofs.ChainLemmas.{tells}
 use Rattle.life_chain.proofs.living.live.Goals as goal
 
@@ -33,12 +33,8 @@ returns-in-Err-clause-refused g c model =
     let is = c.in-Err.ensures.refused in
     let content = is.of_model model in
     record {
+      not_opened = record { read = content.reads; ran = is.ran; device = is.device; served = is.served; none = content.stands_for_none };
       front = tells c.in-Err.refused.0 (g.D.Disk.view c.args.disk).content content.not_formatted content.bad_version content.damaged content.memory;
-      read = content.reads;
-      ran = is.ran;
-      device = is.device;
-      served = is.served;
-      none = content.stands_for_none;
     }
 
 pub returns-clause-lived : goal.returns-clause-lived
@@ -86,32 +82,37 @@ returns-clause-lived g c model =
     let read : OnlyRead (g.D.Disk.view disk) (world_view armed) =
     read_same (g.D.Disk.view disk) (world_view built) (world_view armed) (subst (λ st. OnlyRead (g.D.Disk.view disk) (view_of st)) (sym built_is) (opened.of_model model).reads) c.arm.ensures.same in
     let reported : machine_of end ≡ machine_with report.stored due state down = ap (λ (x : Stored). machine_with x due state down) (sym c.into_parts-stored.ensures.stored) in
-    let answered : IsAnswered s life report (machine_of armed) (machine_of end) =
-    answered_is s life report (machine_of armed) (machine_of end) reported rebuilt run.machine.asked answers (run.machine.lists s listed_armed) (run.machine.routed_well s listed_armed ways_armed) in
+    let built_of = served s life.capacity life.sessions life.words.items reply (machine_of armed) rebuilt in
+    let counted : Counted life report = counted_is s life report (machine_of armed) (machine_of end) reported rebuilt run.machine.asked answers in
     let fits = life_fits s life.capacity life.sessions life.words.items reply (machine_of armed) life.events.items replies.items (machine_of end) rebuilt answers in
     let disk_is : c.into_disk-2.result ≡ disk_of (world_store end) = c.into_disk-2.ensures ∙ ap (λ st. disk_of st) (c.into_store.ensures ∙ ap (λ d. store_of d) c.into_parts-stored.ensures.desk) in
     let crashed : HasCrashed g.D.Disk (disk_of (world_store end)) left =
     subst (λ d. IsTrue (g.D.Disk.view d).keeps_model → HasCrashed g.D.Disk d left) disk_is (λ m. record { image = c.crash-disk.ensures.image m; settled = c.crash-disk.ensures.settled m; ran = c.crash-disk.ensures.ran }) model_end in
     let opened_is : opened_of report ≡ s = by_parts c.count-count.result s.count c.in-Ok-parts_of.graph s.graph c.starts-tickets.result s.tickets c.count-count.ensures.same c.in-Ok-parts_of.ensures.graph c.starts-tickets.ensures in
     lived_is g.D.Disk g.C.Crash.by_word disk left s life report opened_is (record {
-      opened = (opened.of_model model).stands;
       started = armed;
       worlds = run.worlds.each;
       stopped = end;
-      answered = answered;
-      run_on = record {
+      sound = record {
+        opened = (opened.of_model model).stands;
         read = read;
         served = c.arm.ensures.same.failures ∙ (ap (λ st. (view_of st).failures) built_is ∙ opened.no_failure);
         keeps_model = model_armed;
-        ran = run.worlds.steps;
+        safe = record {
+          handed = λ stands image was.
+              safe_is s life report (machine_of end) fits (machine_of armed) image
+              (handed_is g.D.Disk c.acknowledged_law.ensures.later s disk armed end life.events.items replies.items run.worlds model_armed listed_armed lists_is armed_run read (c.history_law.ensures.begins s disk stands) image was);
+          since = all_as (λ w safe image was. safe_is s life report (machine_of end) fits (machine_of w) image (safe image was)) (armed ∷ run.worlds.each) (run.safe model_armed s armed_run listed_armed);
+          now = λ image is. safe_is s life report (machine_of end) fits (machine_of end) image (run.acknowledged model_armed s [] armed_run listed_armed image is);
+        };
         crashed = crashed;
         word = subst (λ d. g.C.Crash.by_word d life.word left) disk_is c.crash-disk.ensures.by_word;
+        asked = counted.asked;
+        taken = counted.taken;
+        done = counted.done;
+        serves = serves_opened s life.words.items reply (machine_of armed) built_of;
+        routed_well = run.machine.routed_well s listed_armed ways_armed;
       };
-      safe = record {
-        handed = λ stands image was.
-            safe_is s life report (machine_of end) fits (machine_of armed) image
-            (handed_is g.D.Disk c.acknowledged_law.ensures.later s disk armed end life.events.items replies.items run.worlds model_armed listed_armed lists_is armed_run read (c.history_law.ensures.begins s disk stands) image was);
-        since = all_as (λ w safe image was. safe_is s life report (machine_of end) fits (machine_of w) image (safe image was)) (armed ∷ run.worlds.each) (run.safe model_armed s armed_run listed_armed);
-        now = λ image is. safe_is s life report (machine_of end) fits (machine_of end) image (run.acknowledged model_armed s [] armed_run listed_armed image is);
-      };
+      answered = record { rebuilt = rebuilt; serves = built_of; answers = answers; reported = reported; listed = run.machine.lists s listed_armed };
+      ran = run.worlds.steps;
     })

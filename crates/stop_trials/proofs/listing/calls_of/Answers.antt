@@ -9,8 +9,8 @@ use Rattle.stop_trials.proofs.listing.calls_of.Goals as goal
 
 pub returns : goal.returns
 returns c =
-    let told_there = rw c.in_ok-report.was at c.lives_on-report.ensures.told in
-    let told = told_there.of_model refl in
+    let told = (rw c.in_ok-report.was at c.lives_on-report.ensures.told) refl in
+    let answered = (rw c.in_ok-report.was at c.lives_on-report.ensures.answered) refl in
     let whole : is_whole c.in_ok-report.report ≡ true = grind (arith, common_steps) in
     record {
       report = c.in_ok-report.report;
@@ -18,7 +18,7 @@ returns c =
       reported = record {
         disk = c.new.result;
         formatted = subst (λ (d : MemDisk). StandsFor (first_state c.args.nodes) (mem_view d).content) (sym c.new.ensures.disk) c.in_ok-disk.ensures.formatted;
-        lived = told.lived;
+        lived = answered;
         chained = told.chained;
         exactly_once = told.exactly_once;
       };
