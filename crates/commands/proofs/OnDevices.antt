@@ -155,15 +155,17 @@ pub edit_end : {X : Type 0} (answer : Result X Fault) (session : ℕ) (named_tic
     → OfContent disk (λ state. IsErrOf answer told.Worn → IsPastLimits state session named_ticket change)
     → (IsErrOf answer told.Device → disk.failures < left.failures)
     → (IsTrue disk.keeps_model → IfErr answer (λ fault. IsUnwrittenFault fault → OnlyRead disk left))
+    → OfContent disk (λ state. KeepsThrough disk state → IfErr answer (λ fault. fault ≢ told.Device → KeepsThrough left state))
     → IfErr answer (λ fault. IsEditEnd session named_ticket change disk left fault)
-edit_end (Ok x) session named_ticket change disk left named tells already worn device unwritten = tt
-edit_end (Err fault) session named_ticket change disk left named tells already worn device unwritten = record {
+edit_end (Ok x) session named_ticket change disk left named tells already worn device unwritten kept = tt
+edit_end (Err fault) session named_ticket change disk left named tells already worn device unwritten kept = record {
   named = named;
   tells = tells;
   already_in = λ keeps state stands is. already keeps state stands (ap (λ (f : Fault). Err f) is);
   worn = λ keeps state stands is. worn keeps state stands (ap (λ (f : Fault). Err f) is);
   device = λ is. device (ap (λ (f : Fault). Err f) is);
   unwritten = unwritten;
+  kept = kept;
 }
 
 -- ---- the device by a path

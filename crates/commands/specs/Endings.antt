@@ -118,6 +118,8 @@ pub record IsEditEnd (session : ℕ) (ticket : Option ℕ) (change : List Op) (d
   pub worn : OfContent disk (λ state. fault ≡ told.Worn → IsPastLimits state session ticket change)
   pub device : fault ≡ told.Device → disk.failures < left.failures
   pub unwritten : IsTrue disk.keeps_model → IsUnwrittenFault fault → OnlyRead disk left
+  -- unless the device failed, it stands for what it stood for, whatever a crash leaves from then on
+  pub kept : OfContent disk (λ state. KeepsThrough disk state → fault ≢ told.Device → KeepsThrough left state)
 
 -- the faults of a check of a device: the words are not understood only where they name nodes
 abbrev pub IsCheckDeviceFault : LandmarkWords → Fault → Type 0

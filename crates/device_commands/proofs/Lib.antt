@@ -1,3 +1,4 @@
 pub mod OneRound
 pub mod OneRequest
 pub mod OpenFaults
+pub mod Found

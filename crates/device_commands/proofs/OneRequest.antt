@@ -246,12 +246,12 @@ edit_keeps {V = V} back done (Ok verdict) state is model same up =
     subst (λ s. KeepsThrough (V.view back) s) same (subst (λ d. KeepsThrough (V.view d) (state_of done)) (sym is) (λ image left. stands_now done model up image left))
 edit_keeps {V = V} back done (Err fault) state is model same up = tt
 
--- the store's state stays whatever a crash leaves from then on
-pub edit_decides : {D : Type 0} {V : _} → (back : D) (done : Store D V) (state next : State) → back ≡ disk_of done → IsTrue (view_of done).keeps_model → (is_down done ≡ false) × ((state_of done ≡ state) ⊎ (state_of done ≡ next))
-    → KeepsThrough (V.view back) state ⊎ KeepsThrough (V.view back) next
-edit_decides {V = V} back done state next is model by =
-    let keeps : KeepsThrough (V.view back) (state_of done) = subst (λ d. KeepsThrough (V.view d) (state_of done)) (sym is) (λ image left. stands_now done model by.0 image left) in
-    ⊎_elim (λ same. inl (subst (λ s. KeepsThrough (V.view back) s) same keeps)) (λ same. inr (subst (λ s. KeepsThrough (V.view back) s) same keeps)) by.1
+-- a store's state that a fault left stays, whatever a crash leaves from then on
+pub edit_stays : {D : Type 0} {V : _} {P : Type 0} → (back : D) (done : Store D V) (r : Result Verdict Fault) (state : State) → back ≡ disk_of done → IsTrue (view_of done).keeps_model
+    → (¬ (IsErrOf r told.Device) → (is_down done ≡ false) × P) → IfErr r (λ fault. fault ≢ told.Device → state_of done ≡ state) → IfErr r (λ fault. fault ≢ told.Device → KeepsThrough (V.view back) state)
+edit_stays back done (Ok verdict) state is model up same = tt
+edit_stays {V = V} back done (Err fault) state is model up same = λ not.
+    subst (λ s. KeepsThrough (V.view back) s) (same not) (subst (λ d. KeepsThrough (V.view d) (state_of done)) (sym is) (λ image left. stands_now done model (up (λ e. not (let f : fault ≡ told.Device = cc in f))).0 image left))
 
 -- ---- a device that was opened
 

@@ -151,7 +151,7 @@ not_edited session named change disk left f told = record {
     already_in = λ is. absurd (never_told f fault.AlreadyIn (λ x. x) told.fault is);
     worn = λ is. absurd (never_told f fault.Worn (λ x. x) told.fault is);
     refused = λ refused. told.reads model;
-    decided = λ keeps not. inl (λ image may. keeps image ((told.reads model).left image may));
+    kept = λ keeps not image may. keeps image ((told.reads model).left image may);
     any_moment = λ keeps. reading_leaves disk left _ (told.reads model) (λ image may. inl (keeps image may));
   };
   unwritten = λ model un. told.reads model;

@@ -1,5 +1,5 @@
 -- What a change answers, and what it leaves.
-use Rattle.std.specs.Prelude.{◌≡◌, ◌⊎◌, ◌<◌, ℕ, List, Option, Result, IfErr, IfOk, IsErrOf, IsTrue, OnOk, false}
+use Rattle.std.specs.Prelude.{◌≡◌, ◌≢◌, ◌⊎◌, ◌<◌, ℕ, List, Option, Result, Ok, Err, IfErr, IfOk, IsErrOf, IsTrue, OnOk, false}
 use Rattle.disk_trait.specs.Disk.{DiskView, IsSameDevice, LeavesOnly, OnlyRead}
 use Rattle.graph_edits.specs.declared.edits.Op.{Op}
 use Rattle.requests.specs.Tickets.{worn_limit}
@@ -8,6 +8,7 @@ use Rattle.layout_2.specs.Standing.{KeepsThrough, StandsFor}
 use Rattle.checkpoint.specs.declared.store.Store.{Store}
 use Rattle.checkpoint.specs.StoreWords.{state_of, view_of, is_down}
 use Rattle.generations.specs.declared.posting.Verdict.{Verdict}
+use Rattle.generations.specs.declared.posting.Verdict.TheVariants.{Accepted}
 use Rattle.command_output.specs.declared.fault.Fault.{Fault}
 use Rattle.command_output.specs.declared.fault.Fault.TheVariants.{AlreadyIn, Device, NoThread, Worn}
 use Rattle.device_commands.specs.Answer.{IsNew, IsTaken, last_ticket, state_after, ticket_of, verdict_of}
@@ -37,6 +38,13 @@ pub record IsSettledTo {D : Type 0} {V : _} (next : State) (change : List Op) (o
   -- a crash at any moment leaves the state before the change or the one after it
   pub any_moment : IsTrue (view_of old).keeps_model → LeavesOnly (view_of old) (view_of new) (λ image. StandsFor (state_of old) image ⊎ StandsFor next image)
 
+-- What is answered of a change where no verdict was told but a fault: unless the device failed, it is in where its ticket is the session's
+-- last one.
+abbrev pub IsFound : State → ℕ → ℕ → Fault → Result Verdict Fault → Type 0
+IsFound state session ticket fault result =
+    ((fault ≡ Device) × (result ≡ Err fault))
+    ⊎ ((fault ≢ Device) × (((last_ticket state session ≡ ticket) × (result ≡ Ok (Accepted state.count))) ⊎ ((last_ticket state session ≢ ticket) × (result ≡ Err fault))))
+
 -- ---- on a device
 
 -- What an edit answers of the state for which a device stands that keeps the model, and what it leaves.
@@ -49,8 +57,8 @@ pub record EditsState (session : ℕ) (named : Option ℕ) (change : List Op) (d
   pub worn : IsErrOf result Worn → IsPastLimits state session named change
   -- a change that the graph refuses writes nothing
   pub refused : ¬ (IsTaken state change) → OnlyRead disk back
-  -- unless the device failed, it stands from then on for the one state or for the other, whatever a crash leaves
-  pub decided : KeepsThrough disk state → ¬ (IsErrOf result Device) → KeepsThrough back state ⊎ KeepsThrough back (state_after state session named change)
+  -- a fault changes nothing, unless the device failed, whatever a crash leaves from then on
+  pub kept : KeepsThrough disk state → IfErr result (λ fault. fault ≢ Device → KeepsThrough back state)
   -- a crash at any moment leaves the state before the change or the one after it
   pub any_moment : KeepsThrough disk state → LeavesOnly disk back (λ image. StandsFor state image ⊎ StandsFor (state_after state session named change) image)
 

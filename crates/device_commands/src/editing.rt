@@ -1,9 +1,9 @@
 //! One change of a device.
-ghost use Rattle.std.specs.Prelude.{◌≡◌, ◌<◌, ◌≤◌, ◌⊎◌, ◌↔◌, IfOk, IfErr, IsErrOf, OnOk, false};
+ghost use Rattle.std.specs.Prelude.{◌≡◌, ◌≢◌, ◌<◌, ◌≤◌, ◌⊎◌, ◌↔◌, IfOk, IfErr, IsErrOf, Ok, OnOk, false};
 ghost use Rattle.requests.specs.Tickets.{sessions, worn_limit};
 ghost use Rattle.checkpoint.specs.StoreWords.{state_of, is_down};
 ghost use Rattle.device_commands.specs.Answer.{state_after, ticket_of, IsNew};
-ghost use Rattle.device_commands.specs.Edits.{EditsDevice, IsPastLimits, IsSettledTo};
+ghost use Rattle.device_commands.specs.Edits.{EditsDevice, IsFound, IsPastLimits, IsSettledTo};
 ghost use Rattle.device_commands.specs.Openings.{IsChangeFault};
 
 use crate::one_round::settled;
@@ -52,6 +52,7 @@ fn settle_one<D: Disk, R: Threads + Wait + Sync>(
     requires up { is_down store ≡ false }
     requires there { session < sessions }
     ensures settled { IsSettledTo (state_after (state_of store) session named change) change store result.1 result.0 }
+    ensures kept { IfErr result.0 (λ fault. fault ≢ Fault.Device → state_of result.1 ≡ state_of store) }
     ensures new { OnOk result.0 (IsNew (state_of store) session named) }
 
     ensures already_in { IsErrOf result.0 Fault.AlreadyIn → ¬ (IsNew (state_of store) session named) }
@@ -66,9 +67,32 @@ fn settle_one<D: Disk, R: Threads + Wait + Sync>(
                 ticket,
                 change,
             };
-            settled(rt, alloc, store, request)
+            let (answer, store) = settled(rt, alloc, store, request);
+            (found(answer, &store, session, ticket), store)
         }
         Err(fault) => (Err(fault), store),
+    }
+}
+
+// What became of a change, also where its mark wasn't told: it is in exactly if its ticket is the session's last one. A store whose device
+// failed doesn't say.
+fn found<D: Disk>(
+    answer: Result<Verdict, Fault>,
+    store: &Store<D>,
+    session: u8,
+    ticket: u64,
+) -> Result<Verdict, Fault>
+    requires { session < sessions }
+    ensures told { IfOk answer (λ verdict. result ≡ Ok verdict) }
+    ensures untold { IfErr answer (λ fault. IsFound (state_of store.now) session ticket fault result) }
+{
+    match answer {
+        Ok(verdict) => Ok(verdict),
+        Err(Fault::Device) => Err(Fault::Device),
+        Err(_) if store.resume(session) == ticket => Ok(Verdict::Accepted {
+            count: store.count(),
+        }),
+        Err(fault) => Err(fault),
     }
 }
 

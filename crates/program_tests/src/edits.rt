@@ -35,15 +35,14 @@ fn is_in(rt: &impl Abort, alloc: Global, disk: MemDisk) -> (bool, MemDisk) {
     (done, store.into_disk())
 }
 
-// Want of memory may come before the commit or behind it; want of a thread comes before.
+// Want of memory or of a thread changes nothing: an edit that is in is answered as one.
 #[test]
 fn edits_once_memory_is_there(rt: HostRuntime) {
     let disk = got(&rt, formatted(rt.alloc(), 5));
     let (first, disk) = edited(&rt, rt.alloc(), disk);
     let (done, disk) = is_in(&rt, rt.alloc(), disk);
     match first {
-        Err(Fault::Memory) => {}
-        Err(Fault::NoThread) => same(&rt, done, false, "an edit without a thread"),
+        Err(Fault::Memory | Fault::NoThread) => same(&rt, done, false, "an edit that is refused"),
         _ => same(&rt, (first, done), (ACCEPTED, true), "an edit"),
     }
     let (second, disk) = edited(&rt, rt.alloc(), disk);

@@ -36,3 +36,7 @@ table_name node = decimal node ++ codes ".table"
 abbrev pub table_path : List ℕ → ℕ → List ℕ
 table_path [] node = table_name node
 table_path (c ∷ folder) node = (c ∷ folder) ++ (47 ∷ table_name node)
+
+-- the path by which a file is written first
+abbrev pub beside_path : List ℕ → List ℕ
+beside_path path = path ++ codes ".new"

@@ -2,8 +2,8 @@
 //!
 //! A [`TableFile`] has a path, `FOLDER/N.table` for the table of node N, and the bytes that `router_table` writes of it. It is put at
 //! a place of [`TableFiles`], which lists what was put (`puts`). Two places are the system's files: [`SystemTables`], and
-//! [`HostTables`], which may go to another thread. They write a file under another name first, `FOLDER/N.table.new`, and then rename
-//! it: whoever reads the file meanwhile has the old bytes or the new. [`WatchedTables`] puts each file at another place, and then
+//! [`HostTables`], which may go to another thread. They write a file under another name first, `FOLDER/N.table.new`, sync it, rename
+//! it, and sync the folder: whoever reads the file meanwhile, or after a power cut, has the old bytes or the new. [`WatchedTables`] puts each file at another place, and then
 //! tells a [`Progress`] how many were put. [`LentTables`] puts them at a place that is borrowed.
 //!
 //! The contract that the layer above uses is that of [`put_asked`]. What it put is exactly the files of the nodes that are named, in
@@ -19,6 +19,7 @@
 //! ```
 #![tactic(auto)]
 
+mod folder;
 mod lent;
 mod place;
 mod putting;

@@ -3,11 +3,10 @@ ghost use Rattle.std.specs.Prelude.{◌≡◌, ◌++◌, ◌∷◌, [], List, If
 ghost use Rattle.std.specs.String.{string_bytes};
 ghost use Rattle.table_files.specs.Files.{IsPutFault, put_of, table_path};
 
+use crate::folder::{Puts, SystemFolder};
 use command_output::Fault;
-use disk_trait::Log;
 use std::alloc::{AllocError, Global};
-use std::fs::{self, File};
-use std::io::{self, ErrorKind};
+use std::fs::File;
 use std::rt::Files;
 
 /// The file of a router's table, that is to be put.
@@ -36,8 +35,7 @@ pub trait TableFiles {
 #[derive(Drop)]
 pub struct SystemTables<'a, R> {
     files: &'a R,
-    // For contracts alone: it has no bytes.
-    put: Log<TableFile>,
+    put: Puts,
 }
 
 impl<'a, R> SystemTables<'a, R> {
@@ -45,7 +43,7 @@ impl<'a, R> SystemTables<'a, R> {
     pub fn new(files: &'a R) -> SystemTables<'a, R> {
         SystemTables {
             files,
-            put: Log::new(),
+            put: Puts::none(),
         }
     }
 }
@@ -64,8 +62,7 @@ pub trait TablePlaces<'a> {
 #[derive(Drop)]
 pub struct HostTables<'a> {
     files: &'a HostRuntime,
-    // For contracts alone: it has no bytes.
-    put: Log<TableFile>,
+    put: Puts,
 }
 
 impl<'a> HostTables<'a> {
@@ -73,7 +70,7 @@ impl<'a> HostTables<'a> {
     pub fn new(files: &'a HostRuntime) -> HostTables<'a> {
         HostTables {
             files,
-            put: Log::new(),
+            put: Puts::none(),
         }
     }
 }
@@ -89,68 +86,23 @@ impl<'a> TablePlaces<'a> for HostRuntime {
 impl TableFiles for HostTables<'_> {
     ghost use Rattle.table_files.specs.Files.{put_of};
 
-    ghost puts = { λ tables. map put_of tables.put.items };
+    ghost puts = { λ tables. map put_of tables.put.list.items };
 
     fn put(&mut self, file: TableFile) -> Result<(), Fault> {
-        put_file(self.files, &mut self.put, file)
+        let folder = SystemFolder::new(self.files);
+        self.put.put(self.files.alloc(), folder, &file)
     }
 }
 
 impl<R: Files<File = File> + AllocGlobal> TableFiles for SystemTables<'_, R> {
     ghost use Rattle.table_files.specs.Files.{put_of};
 
-    ghost puts = { λ tables. map put_of tables.put.items };
+    ghost puts = { λ tables. map put_of tables.put.list.items };
 
     fn put(&mut self, file: TableFile) -> Result<(), Fault> {
-        put_file(self.files, &mut self.put, file)
+        let folder = SystemFolder::new(self.files);
+        self.put.put(self.files.alloc(), folder, &file)
     }
-}
-
-// Puts a file in the place of what stands by its path, and lists it.
-fn put_file<R: Files<File = File> + AllocGlobal>(
-    files: &R,
-    list: &mut Log<TableFile>,
-    file: TableFile,
-) -> Result<(), Fault>
-    ensures put { OnOk result (map put_of list.new.items ≡ map put_of list.old.items ++ put_of file ∷ []) }
-    ensures kept { OnErr result (list.new ≡ list.old) }
-    ensures fault { IfErr result (λ fault. IsPutFault fault) }
-{
-    write_file(files, &file)?;
-    *list = list.with_entry(&file);
-    Ok(())
-}
-
-// Puts a file in the place of what stands by its path.
-fn write_file<R: Files<File = File> + AllocGlobal>(files: &R, file: &TableFile) -> Result<(), Fault>
-    ensures { IfErr result (λ fault. IsPutFault fault) }
-{
-    let beside = path_beside(files.alloc(), file.path.as_str())?;
-    match replace(files, beside.as_str(), file) {
-        Ok(()) => Ok(()),
-        Err(error) => Err(fault_of(error)),
-    }
-}
-
-// What is told of a file that can't be put.
-fn fault_of(error: io::Error) -> Fault
-    ensures { IsPutFault result }
-{
-    match error.kind() {
-        ErrorKind::OutOfMemory => Fault::Memory,
-        _ => Fault::TableFile,
-    }
-}
-
-// The path of what is written first.
-fn path_beside(alloc: Global, path: &str) -> Result<String, AllocError> {
-    format!(in alloc; "{path}.new")
-}
-
-// Writes a file by this path, and then gives it its own.
-fn replace<R: Files<File = File>>(files: &R, beside: &str, file: &TableFile) -> io::Result<()> {
-    fs::write(files, beside, file.bytes.as_slice())?;
-    fs::rename(files, beside, file.path.as_str())
 }
 
 /// The path of the file of a node's table in a folder.

@@ -16,7 +16,7 @@ returns g c =
             c.print_verdict.ensures.printed;
         fault = told_of c.print_verdict.result c.edit-answer.result.0 (λ fault. IsEditEnd c.args.session c.args.ticket c.args.change disk left fault) c.print_verdict.ensures.fault
             (edit_end c.edit-answer.result.0 c.args.session c.args.ticket c.args.change disk left by.faults by.tells
-            (λ model state stands. (by.of_content model state stands).already_in) (λ model state stands. (by.of_content model state stands).worn) by.device by.unwritten);
+            (λ model state stands. (by.of_content model state stands).already_in) (λ model state stands. (by.of_content model state stands).worn) by.device by.unwritten (λ model state stands. (by.of_content model state stands).kept));
         untouched = c.print_verdict.ensures.untouched;
       };
     }

@@ -5,7 +5,7 @@ use Rattle.layout_2.specs.State.{State}
 use Rattle.checkpoint.specs.StoreWords.{state_of, view_of}
 use Rattle.device_commands.specs.Answer.{state_after}
 use Rattle.device_commands.specs.Edits.{EditsState}
-use Rattle.device_commands.proofs.OneRequest.{edit_decides, edit_fails, edit_keeps, edit_leaves, edit_reads, of_one_state}
+use Rattle.device_commands.proofs.OneRequest.{edit_stays, edit_fails, edit_keeps, edit_leaves, edit_reads, of_one_state}
 use Rattle.device_commands.proofs.OpenFaults.{change_edits, change_tells, change_unwritten, not_edited}
 use Rattle.device_commands.proofs.editing.edit.Goals as goal
 
@@ -31,7 +31,7 @@ returns-in-Ok g c =
             already_in = by.already_in;
             worn = by.worn;
             refused = λ refused. edit_reads c.args.disk c.into_disk.result c.in-Ok.store done (by.settled.refused refused) c.into_disk.ensures (opened.of_model model).reads;
-            decided = λ held not. edit_decides c.into_disk.result done at (state_after at c.args.session c.args.named c.args.change) c.into_disk.ensures keeps (by.settled.decided not);
+            kept = λ held. edit_stays c.into_disk.result done answer at c.into_disk.ensures keeps by.settled.decided by.kept;
             any_moment = λ held. edit_leaves c.args.disk c.into_disk.result c.in-Ok.store done at (λ (s : State). state_after s c.args.session c.args.named c.args.change) refl c.into_disk.ensures (opened.of_model model).reads held
                 (by.settled.any_moment still);
           });

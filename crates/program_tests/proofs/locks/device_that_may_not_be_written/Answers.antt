@@ -1,0 +1,13 @@
+use denote.Param.Send.{sendable}
+use Rattle.std.proofs.Crossing.{crosses}
+use Rattle.program_tests.proofs.Sends.{place_send}
+use Rattle.program_tests.proofs.locks.device_that_may_not_be_written.Goals as goal
+
+pub expect_script-requires : goal.expect_script-requires
+expect_script-requires g c κs = search (crosses, sendable, place_send) depth 60
+
+pub expect_run-requires : goal.expect_run-requires
+expect_run-requires g c κs = search (crosses, sendable, place_send) depth 60
+
+pub expect_run-requires-2 : goal.expect_run-requires-2
+expect_run-requires-2 g c κs = search (crosses, sendable, place_send) depth 60
