@@ -1,7 +1,6 @@
 -- What is gathered of the answers to a script, and printed at the end.
 use Rattle.std.specs.Prelude.{ℕ, [], List, Option, Some}
 use Rattle.std.specs.Io.KnownBytes.{Appends}
-use Rattle.generations.specs.Beginnings.{Beginning}
 use Rattle.written_values.specs.declared.line.ScriptLine.{ScriptLine}
 use Rattle.live_lines.specs.declared.answer.Answer.{Answer}
 use Rattle.live_lines.specs.Answers.{script_text}
@@ -10,10 +9,11 @@ use Rattle.line_exchange.specs.declared.served.Served.TheVariants as served
 use Rattle.line_exchange.specs.Inputs.{Input}
 use Rattle.line_exchange.specs.Scripts.{AreOfScript}
 use Rattle.line_exchange.specs.Prints.{HasPrintedBy, lines_of}
+use Rattle.line_exchange.specs.declared.tally.Tally.{Tally}
 
--- the text is the lines that a script has of so many answers, which each list says that goes on from here
-abbrev pub HasText : Beginning → Input → ℕ → ℕ → List ℕ → Type 0
-HasText known input editors count text = HasPrintedBy script_text known input editors (Some []) (Some text) count
+-- the text is the lines that a script has of so many answers, which each list says that goes on from what the tally knows
+abbrev pub HasText : Tally → Input → ℕ → List ℕ → Type 0
+HasText tally input editors text = HasPrintedBy script_text tally input editors (Some []) (Some text)
 
 -- a service that ended so has printed the text, unless a fault ended it
 abbrev pub PrintsAtEnd : List ℕ → Option (List ℕ) → Option (List ℕ) → Served → Type 0

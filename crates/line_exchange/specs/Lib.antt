@@ -2,6 +2,7 @@ pub mod Inputs
 pub mod Scripts
 pub mod Streams
 pub mod OneList
+pub mod Tallies
 pub mod Prints
 pub mod Gathers
 pub mod Reads

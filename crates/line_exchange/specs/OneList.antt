@@ -1,5 +1,5 @@
 -- What the one list of postings says of what is asked for.
-use Rattle.std.specs.Prelude.{◌≡◌, ◌<◌, ◌≤◌, ℕ, List, None, Result, Ok, Err}
+use Rattle.std.specs.Prelude.{◌≡◌, ◌<◌, ◌≤◌, ℕ, List, Some, None, Result, Ok, Err, IsSome, slice_get, take}
 use Rattle.std.specs.List.{Contains}
 use Rattle.node_table.specs.declared.parts.Parts.{Parts}
 use Rattle.node_table.specs.declared.packet.Address.{Address}
@@ -11,14 +11,15 @@ use Rattle.generations.specs.Boards.{scheme_of}
 use Rattle.requests.specs.Tickets.{last_of}
 use Rattle.generations.specs.declared.posting.Mark.{Mark}
 use Rattle.generations.specs.declared.posting.Verdict.TheVariants as verdicts
-use Rattle.generations.specs.Notices.{marks_in}
+use Rattle.generations.specs.Notices.{marks_in, newest_in}
 use Rattle.generations.specs.Beginnings.{Beginning, GoesOn, board_after}
 use Rattle.forwarders.specs.Arrivals.{IsPublished}
 use Rattle.packet_ways.specs.Carried.{HoldsOf, IsAnswerBy}
+use Rattle.packet_ways.specs.Standing.{Counts, IsNewest}
 use Rattle.live_lines.specs.declared.asked.Asked.{Asked}
 use Rattle.live_lines.specs.declared.asked.Asked.TheVariants as asks
 use Rattle.live_lines.specs.declared.answer.Answer.{Answer}
-use Rattle.live_lines.specs.declared.answer.Answer.TheVariants.{Settled, AlreadyIn, RefusedBefore, OldTicket, Way, NoNode, Told, Sent, Moved, NotCarried, Gone}
+use Rattle.live_lines.specs.declared.answer.Answer.TheVariants.{Settled, AlreadyIn, RefusedBefore, OldTicket, Way, NoNode, Told, Sent, Moved, NotCarried, Gone, State, Waited}
 use Rattle.live_lines.specs.Answers.{Fits}
 use Rattle.line_exchange.specs.Inputs.{Input}
 use Rattle.line_exchange.specs.Streams.{AreEachAt, IsAskedAt}
@@ -61,14 +62,9 @@ IsAddressIn all node (Told a) = GivesIn all a.generation (λ t. address_given t 
 IsAddressIn all node NoNode = (generation : ℕ) × (p : Parts) × IsPublished all generation p × (node < p.nodes → ⊥)
 IsAddressIn all node other = Unit {0}
 
--- after some beginning of the list the board had no such generation any more
-abbrev pub IsGone : Beginning → ℕ → Type 0
-IsGone all generation = (seen : Beginning) × GoesOn seen all × (scheme_of generation (board_after seen).shelf ≡ None)
-
--- why a packet isn't carried is by the scheme of a generation; or the generation is gone
+-- why a packet isn't carried is by the scheme of a generation
 abbrev pub IsRefusalIn : {A : Type 0} → Beginning → ℕ → (Tables → Result A scheme.Refused) → Answer → Type 0
 IsRefusalIn all generation ask (NotCarried why) = GivesIn all generation ask (Err why)
-IsRefusalIn all generation ask Gone = IsGone all generation
 IsRefusalIn all generation ask other = Unit {0}
 
 -- a packet that is sent, or why none is, is by the scheme of the address's generation
@@ -81,14 +77,26 @@ abbrev pub IsHopIn : Beginning → ℕ → Packet → Answer → Type 0
 IsHopIn all at packet (Moved move) = GivesIn all packet.generation (λ t. node_step t at packet) (Ok move)
 IsHopIn all at packet other = IsRefusalIn all packet.generation (λ t. node_step t at packet) other
 
--- The answer to what is asked for is what the list says. Of a session's last ticket, of tables and of how the service stands nothing is
--- said here.
+-- after some beginning of the list so many changes were accepted, and the newest generation was this one
+abbrev pub IsStateIn : Beginning → Answer → Type 0
+IsStateIn all (State count generation queue) = (seen : Beginning) × GoesOn seen all × Counts seen count × IsNewest seen generation
+IsStateIn all other = Unit {0}
+
+-- the list has the generation that was waited for
+abbrev pub IsWaitedIn : Beginning → Answer → Type 0
+IsWaitedIn all (Waited generation) = (p : Parts) × IsPublished all generation p
+IsWaitedIn all other = Unit {0}
+
+-- The answer to what is asked for is what the list says. Of a session's last ticket and of tables nothing is said here, nor of how many
+-- changes wait at the queue. `AreGone` says when a generation is gone.
 abbrev pub IsSaidIn : Beginning → Asked → Answer → Type 0
 IsSaidIn all (asks.Edit session ticket change) answer = IsVerdictIn all answer
 IsSaidIn all (asks.Route from to) answer = IsRouteIn all from to answer
 IsSaidIn all (asks.Address node) answer = IsAddressIn all node answer
 IsSaidIn all (asks.Launch from to) answer = IsLaunchIn all from to answer
 IsSaidIn all (asks.Hop at packet) answer = IsHopIn all at packet answer
+IsSaidIn all asks.State answer = IsStateIn all answer
+IsSaidIn all asks.Wait answer = IsWaitedIn all answer
 IsSaidIn all asked answer = Unit {0}
 
 -- An answer to what the line at a place asks for, which a list says: `Says` tells how.
@@ -106,6 +114,35 @@ IsAnswerIn all input editors place answer = IsAnswerOf IsSaidIn all input editor
 abbrev pub AreAnswersIn : Beginning → Input → ℕ → List Answer → Type 0
 AreAnswersIn all input editors answers = AreEachAt (IsAnswerIn all input editors) answers
 
+-- ---- generations that are gone
+
+-- After this beginning of the list, which has a generation, this one isn't on the shelf, which has the newest four: the list hasn't got it
+-- so far, or it has four later ones.
+abbrev pub IsGoneAfter : Beginning → ℕ → Type 0
+IsGoneAfter seen generation = IsSome (newest_in seen.log) × (scheme_of generation (board_after seen).shelf ≡ None)
+
+-- so it is of the generation of an address or a packet that is asked for
+abbrev pub IsOff : Beginning → Asked → Type 0
+IsOff seen (asks.Launch from to) = IsGoneAfter seen to.generation
+IsOff seen (asks.Hop at packet) = IsGoneAfter seen packet.generation
+IsOff seen asked = Unit {0}
+
+-- what the line at a place asks for is of a generation that is gone after this beginning
+pub record IsOffAt (seen : Beginning) (input : Input) (editors place : ℕ) : Type 0 where
+  pub asked : Asked
+  pub by : IsAskedAt input editors place asked
+  pub off : IsOff seen asked
+
+-- The k-th answer tells that a generation is gone: it is so after a beginning of the list that says all answers before it. `Says` tells how.
+pub record IsGoneBehind (Says : Beginning → List Answer → Type 0) (all : Beginning) (input : Input) (editors k : ℕ) (answers : List Answer) : Type 0 where
+  pub seen : Beginning
+  pub on : GoesOn seen all
+  pub earlier : Says seen (take k answers)
+  pub gone : IsOffAt seen input editors k
+
+abbrev pub AreGone : (Beginning → List Answer → Type 0) → Beginning → Input → ℕ → List Answer → Type 0
+AreGone Says all input editors answers = (k : ℕ) → slice_get answers k ≡ Some Gone → ∥ IsGoneBehind Says all input editors k answers ∥₁
+
 -- ---- by a beginning of it that was seen
 
 -- each list that goes on from here says it
@@ -118,6 +155,8 @@ pub record AnswersBy (known : Beginning) (asked : Asked) (answer : Answer) : Typ
   pub fits : Fits asked answer
   -- each list says it that goes on from here
   pub said : IsSaidBy known asked answer
+  -- it tells that a generation is gone only where that is so
+  pub off : answer ≡ Gone → IsOff known asked
 
 -- an answer to what the line at a place asks for, which each list says that goes on from here
 abbrev pub IsSaidAt : Beginning → Input → ℕ → ℕ → Answer → Type 0

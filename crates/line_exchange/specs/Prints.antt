@@ -8,8 +8,9 @@ use Rattle.live_lines.specs.declared.answer.Answer.{Answer}
 use Rattle.live_lines.specs.Answers.{answer_text}
 use Rattle.line_exchange.specs.Inputs.{Input, Bytes, Script}
 use Rattle.line_exchange.specs.Streams.{AreEachAt, IsAnswerAt}
-use Rattle.line_exchange.specs.OneList.{AreSaid}
-use Rattle.generations.specs.Beginnings.{Beginning}
+use Rattle.line_exchange.specs.OneList.{AreGone, AreSaid}
+use Rattle.line_exchange.specs.Tallies.{AreAwaited, AreInTurn, AreReached}
+use Rattle.line_exchange.specs.declared.tally.Tally.{Tally}
 use Rattle.line_exchange.specs.declared.printed.Printed.{Printed}
 use Rattle.line_exchange.specs.declared.printed.PrintEnd.TheVariants.{Output}
 
@@ -31,17 +32,22 @@ pub record HasPrinted (input : Input) (editors : ℕ) (old new : Option (List �
   pub are : AreAnswers input editors answers
   pub printed : Appends old new (answers_text answers)
 
--- So many answers were printed, a line of this text each, and nothing else: the k-th is to the k-th line, and each list that goes on from
--- here says it.
-pub record HasPrintedBy (text : Answer → List ℕ) (known : Beginning) (input : Input) (editors : ℕ) (old new : Option (List ℕ)) (count : ℕ) : Type 0 where
+-- As many answers as the tally has were printed, a line of this text each, and nothing else: the k-th is to the k-th line, and each list
+-- that goes on from what the tally knows says it.
+pub record HasPrintedBy (text : Answer → List ℕ) (tally : Tally) (input : Input) (editors : ℕ) (old new : Option (List ℕ)) : Type 0 where
   pub answers : List Answer
-  pub many : length answers ≡ count
-  pub said : AreSaid known input editors answers
+  pub many : length answers ≡ tally.count
+  pub said : AreSaid tally.known input editors answers
+  pub gone : AreGone (λ seen before. AreSaid seen input editors before) tally.known input editors answers
+  -- a generation that was waited for has what was told before
+  pub awaited : AreAwaited answers
+  pub reached : AreReached tally.reached answers
+  pub in_turn : AreInTurn tally.tickets answers
   pub printed : Appends old new (lines_of text answers)
 
--- what was printed, unless the output failed: answers to so many lines, by what is known of the list of postings
+-- what was printed, unless the output failed: answers to the first lines, by what is known of the list of postings
 abbrev pub PrintsSo : Input → ℕ → Option (List ℕ) → Option (List ℕ) → Printed → Type 0
-PrintsSo input editors old new printed = printed.end ≢ Output → HasPrintedBy answer_text printed.known input editors old new printed.count
+PrintsSo input editors old new printed = printed.end ≢ Output → HasPrintedBy answer_text printed.tally input editors old new
 
 -- these are all lines, where that is known
 abbrev pub AreAllLines : Input → ℕ → Type 0

@@ -28,7 +28,7 @@ pub trait Console<J: Stream> {
     /// Takes the answers in the order of their lines, until none comes any more. `B` names the board at which they were given.
     fn print<B: BoardName, R: Wait>(self, rt: &R, exchange: &Exchange<J, B>) -> (Self, Printed)
         ensures prints { prints self result.0 result.1 }
-        ensures opening { result.1.known.opening ≡ B.opening };
+        ensures opening { result.1.tally.known.opening ≡ B.opening };
 
     /// Tells the fault, where there is one. Without one it may still meet that its output fails.
     fn finish(self, fault: Option<Fault>) -> (Self, Served)

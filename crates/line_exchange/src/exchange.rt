@@ -7,6 +7,8 @@ use mailboxes::{Mailbox, ReorderBuffer};
 use packet_ways::BoardName;
 use std::alloc::{AllocError, Global};
 use std::sync::Wait;
+use std::sync::atomic::{AtomicU64, Ordering};
+use std::time::Duration;
 
 /// How many lines there are at most between the one that is read and the one that is printed.
 pub const WINDOW: usize = 1_024;
@@ -21,6 +23,8 @@ pub struct Exchange<J: Stream, B: BoardName> {
     pub answers: ReorderBuffer<Answered<J, B>>,
     // What was posted then.
     pub known: History,
+    // How many answers were printed, and no less than any place once none comes any more.
+    printed: AtomicU64,
     ghost named: { known.opening ≡ B.opening },
 }
 
@@ -53,6 +57,7 @@ impl<J: Stream, B: BoardName> Exchange<J, B> {
             tables: Mailbox::new(alloc),
             answers,
             known,
+            printed: AtomicU64::new(0),
         })
     }
 
@@ -80,8 +85,25 @@ impl<J: Stream, B: BoardName> Exchange<J, B> {
         self.tables.shut(rt);
     }
 
+    /// So many answers were printed.
+    pub fn print_to(&self, count: u64) {
+        self.printed.store(count, Ordering::SeqCst);
+    }
+
+    /// Whether all answers before a place were printed, or none comes any more. Where not, it sleeps for a millisecond at most first.
+    pub fn is_turn<R: Wait>(&self, rt: &R, place: u64) -> bool {
+        let printed = self.printed.load(Ordering::SeqCst);
+        if place <= printed {
+            return true;
+        }
+        let low = (printed % (1 << 32)) as u32;
+        self.printed.park_timeout(rt, low, Duration::from_millis(1));
+        false
+    }
+
     /// No answer comes any more.
     pub fn end<R: Wait>(&self, rt: &R) {
         self.answers.end(rt);
+        self.print_to(u64::MAX);
     }
 }

@@ -9,8 +9,9 @@ ghost use Rattle.line_exchange.specs.Gathers.{HasText, PrintsAtEnd};
 use crate::console::Console;
 use crate::exchange::Exchange;
 use crate::messages::{Answered, Stream};
-use crate::printed::{PrintEnd, Printed, furthest};
+use crate::printed::{PrintEnd, Printed};
 use crate::served::Served;
+use crate::tally::Tally;
 use command_output::{Fault, print_text};
 use live_lines::Answer;
 use packet_ways::BoardName;
@@ -63,27 +64,38 @@ fn gather_each<J: Stream, B: BoardName, R: Wait>(
 ) -> Printed
     requires { string_bytes text.old ≡ [] }
     ensures text { result.end ≡ PrintEnd.Whole
-        → HasText result.known J.input J.editors result.count (string_bytes text.new) }
-    ensures opening { result.known.opening ≡ B.opening }
+        → HasText result.tally J.input J.editors (string_bytes text.new) }
+    ensures opening { result.tally.known.opening ≡ B.opening }
 {
-    let mut count: u64 = 0;
-    let mut known = exchange.known.again();
+    let mut tally = Tally::new(exchange.known.again());
     for _ in rt.forever() {
-        let Some(answered) = next(rt, exchange, count) else {
-            return Printed::new(count, PrintEnd::Whole, known);
+        let Some(answered) = next(rt, exchange, tally.count) else {
+            return Printed {
+                tally,
+                end: PrintEnd::Whole,
+            };
         };
-        let Some(more) = count.checked_add(1) else {
-            return Printed::new(count, PrintEnd::Whole, known);
+        let Some(more) = tally.with(&answered) else {
+            return Printed {
+                tally,
+                end: PrintEnd::Internal,
+            };
         };
         match push_line(alloc, text, &answered.answer) {
             Ok(()) => {
-                known = furthest(known, &answered.known);
-                count = more;
+                tally = more;
+                exchange.print_to(tally.count);
             }
-            Err(_) => return Printed::new(count, PrintEnd::Memory, known),
+            Err(_) => return Printed {
+                tally,
+                end: PrintEnd::Memory,
+            },
         }
     }
-    Printed::new(count, PrintEnd::Whole, known)
+    Printed {
+        tally,
+        end: PrintEnd::Whole,
+    }
 }
 
 // Takes the answers in the order of their lines, until none comes any more, and makes their lines.
@@ -93,8 +105,8 @@ fn gather_all<J: Stream, B: BoardName, R: Wait>(
     exchange: &Exchange<J, B>,
 ) -> (Printed, String)
     ensures text { result.0.end ≡ PrintEnd.Whole
-        → HasText result.0.known J.input J.editors result.0.count (string_bytes result.1) }
-    ensures opening { result.0.known.opening ≡ B.opening }
+        → HasText result.0.tally J.input J.editors (string_bytes result.1) }
+    ensures opening { result.0.tally.known.opening ≡ B.opening }
 {
     let mut text = String::new(alloc);
     let printed = gather_each(rt, alloc, exchange, &mut text);
@@ -127,7 +139,7 @@ impl<'a, J: Stream, O: Write> Console<J> for Gatherer<'a, O> {
     ghost use Rattle.line_exchange.specs.declared.printed.PrintEnd.TheVariants.{Whole};
 
     ghost prints = { λ c d p. (d.out.ghost_name ≡ c.out.ghost_name) × (d.out.now ≡ c.out.now)
-        × (p.end ≡ Whole → HasText p.known J.input J.editors p.count (string_bytes d.text)) };
+        × (p.end ≡ Whole → HasText p.tally J.input J.editors (string_bytes d.text)) };
 
     ghost finishes = { λ c d s. (d.out.ghost_name ≡ c.out.ghost_name)
         × PrintsAtEnd (string_bytes c.text) (O.contents c.out.now) (O.contents d.out.now) s

@@ -10,6 +10,10 @@
 //! list of postings says that goes on from what was known (`IsSaidAt` of specs/OneList). So the k-th answer that is printed is to the
 //! k-th line (`HasPrintedBy` of specs/Prints, `HasText` of specs/Gathers), and the board need only be shown to have what was known.
 //!
+//! Whoever prints keeps a [`Tally`] of what was printed, and ends the service where an answer doesn't go with those before it: a generation
+//! that was waited for lacks a change that was told as accepted, a verdict's ticket isn't behind its session's last one, or who tells that
+//! a generation is gone knew less than the answers before (`Adds` of specs/Tallies).
+//!
 //! Who answers the lines is another crate's affair: nothing here knows of editors, forwarders or a committer.
 //!
 //! ```text
@@ -31,6 +35,7 @@ mod read_fault;
 mod reading;
 mod script_source;
 mod served;
+mod tally;
 
 pub use console::{Console, Terminal, told};
 pub use exchange::Exchange;
@@ -43,3 +48,4 @@ pub use read_fault::ReadFault;
 pub use reading::read_lines;
 pub use script_source::ScriptSource;
 pub use served::Served;
+pub use tally::Tally;

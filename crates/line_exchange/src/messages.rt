@@ -1,7 +1,8 @@
 // What threads send to one another of the lines of a service.
 ghost use Rattle.std.specs.Prelude.{◌≡◌};
+ghost use Rattle.live_lines.specs.declared.answer.Answer.TheVariants.{Gone};
 ghost use Rattle.line_exchange.specs.Streams.{IsAskedAt};
-ghost use Rattle.line_exchange.specs.OneList.{IsSaidAt};
+ghost use Rattle.line_exchange.specs.OneList.{IsOffAt, IsSaidAt};
 
 use generations::History;
 use live_lines::{Answer, Asked};
@@ -49,6 +50,7 @@ pub struct Answered<J: Stream, B: BoardName> {
     pub at: PhantomData<B>,
     ghost named: { known.opening ≡ B.opening },
     ghost is_answer: { ∥ IsSaidAt known J.input J.editors place answer ∥₁ },
+    ghost is_off: { answer ≡ Gone → ∥ IsOffAt known J.input J.editors place ∥₁ },
 }
 
 impl<J: Stream, B: BoardName> Placed for Answered<J, B> {

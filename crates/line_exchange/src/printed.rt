@@ -1,8 +1,5 @@
 // How far the printing came.
-ghost use Rattle.std.specs.Prelude.{◌≡◌};
-ghost use Rattle.generations.specs.Beginnings.{GoesOn};
-
-use generations::History;
+use crate::tally::Tally;
 
 /// How the printing ended.
 #[derive(Clone, Copy, Debug, PartialEq, Eq, Drop)]
@@ -13,34 +10,13 @@ pub enum PrintEnd {
     Output,
     /// Memory ran out.
     Memory,
+    /// An answer doesn't go with those before it. No run is known that ends so.
+    Internal,
 }
 
-/// How many answers were printed, how that ended, and what the answers know of the list of postings.
+/// What is kept of the answers that were printed, and how that ended.
 #[derive(Drop)]
 pub struct Printed {
-    pub count: u64,
+    pub tally: Tally,
     pub end: PrintEnd,
-    pub known: History,
-}
-
-impl Printed {
-    pub fn new(count: u64, end: PrintEnd, known: History) -> Printed
-        ensures { (result.count ≡ count) × (result.end ≡ end) × (result.known ≡ known) }
-    {
-        Printed { count, end, known }
-    }
-}
-
-/// Of two histories of one board the one that goes further.
-#[tactic(auto, using(crate::proofs::Further::same_goes, crate::proofs::Further::longer_goes, crate::proofs::Further::longer_on))]
-pub fn furthest(known: History, other: &History) -> History
-    requires { other.now.opening ≡ known.opening }
-    ensures on { GoesOn known result }
-    ensures covers { GoesOn other.now result }
-{
-    if known.covers(other) {
-        known
-    } else {
-        other.again()
-    }
 }

@@ -8,7 +8,8 @@ ghost use Rattle.line_exchange.specs.Prints.{PrintsSo};
 
 use crate::exchange::Exchange;
 use crate::messages::{Answered, Stream};
-use crate::printed::{PrintEnd, Printed, furthest};
+use crate::printed::{PrintEnd, Printed};
+use crate::tally::Tally;
 use live_lines::Answer;
 use packet_ways::BoardName;
 use std::alloc::{AllocError, Global};
@@ -68,28 +69,36 @@ fn print_each<J: Stream, B: BoardName, O: Write, R: Wait>(
     out: &mut O,
 ) -> Printed
     ensures printed { PrintsSo J.input J.editors (O.contents out.old) (O.contents out.new) result }
-    ensures opening { result.known.opening ≡ B.opening }
+    ensures opening { result.tally.known.opening ≡ B.opening }
 {
-    let mut count: u64 = 0;
-    let mut known = exchange.known.again();
+    let mut tally = Tally::new(exchange.known.again());
     for _ in rt.forever() {
-        let answered = match next(rt, exchange, count, out) {
+        let answered = match next(rt, exchange, tally.count, out) {
             Ok(Some(answered)) => answered,
-            Ok(None) => return Printed::new(count, PrintEnd::Whole, known),
-            Err(end) => return Printed::new(count, end, known),
+            Ok(None) => return Printed {
+                tally,
+                end: PrintEnd::Whole,
+            },
+            Err(end) => return Printed { tally, end },
         };
-        let Some(more) = count.checked_add(1) else {
-            return Printed::new(count, PrintEnd::Whole, known);
+        let Some(more) = tally.with(&answered) else {
+            return Printed {
+                tally,
+                end: PrintEnd::Internal,
+            };
         };
         match print_one(alloc, &answered.answer, out) {
             Ok(()) => {
-                known = furthest(known, &answered.known);
-                count = more;
+                tally = more;
+                exchange.print_to(tally.count);
             }
-            Err(end) => return Printed::new(count, end, known),
+            Err(end) => return Printed { tally, end },
         }
     }
-    Printed::new(count, PrintEnd::Whole, known)
+    Printed {
+        tally,
+        end: PrintEnd::Whole,
+    }
 }
 
 /// Prints the answers in the order of their lines, each as soon as it is there, until none comes any more. Where one can't be printed
@@ -101,7 +110,7 @@ pub fn print_all<J: Stream, B: BoardName, O: Write, R: Wait>(
     out: &mut O,
 ) -> Printed
     ensures printed { PrintsSo J.input J.editors (O.contents out.old) (O.contents out.new) result }
-    ensures opening { result.known.opening ≡ B.opening }
+    ensures opening { result.tally.known.opening ≡ B.opening }
 {
     let printed = print_each(rt, alloc, exchange, out);
     exchange.shut(rt);

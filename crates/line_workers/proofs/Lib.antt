@@ -1,4 +1,5 @@
 pub mod OldTickets
 pub mod SaidPackets
+pub mod Standing
 pub mod Submitting
 pub mod TablesPut

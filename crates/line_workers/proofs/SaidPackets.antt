@@ -1,6 +1,6 @@
 -- What forwarders answer, by each list that goes on from what they know.
 use Rattle.std.proofs.Common.{◌≡◌, ℕ, refl, sym, ap, ◌∙◌, subst}
-use Rattle.std.specs.Prelude.{Option, Some, None, IfSome, Result, Ok, Err}
+use Rattle.std.specs.Prelude.{Option, Some, None, IfSome, IsSome, Result, Ok, Err}
 use Rattle.node_table.specs.declared.parts.Parts.{Parts}
 use Rattle.node_table.specs.declared.packet.Address.{Address}
 use Rattle.node_table.specs.declared.packet.Packet.{Packet}
@@ -10,6 +10,7 @@ use Rattle.node_table.specs.declared.packet.Refused.TheVariants as by_scheme
 use Rattle.node_table.specs.Tables.{Tables, tables}
 use Rattle.node_table.specs.Service.{address_given, decide, node_step}
 use Rattle.generations.specs.Boards.{scheme_of}
+use Rattle.generations.specs.Notices.{newest_in}
 use Rattle.generations.specs.Beginnings.{Beginning, board_after}
 use Rattle.forwarders.specs.declared.refused.Refused.{Refused}
 use Rattle.forwarders.specs.declared.refused.Refused.TheVariants as refused
@@ -23,7 +24,7 @@ use Rattle.live_lines.specs.declared.asked.Asked.TheVariants as asks
 use Rattle.live_lines.specs.declared.answer.Answer.{Answer}
 use Rattle.live_lines.specs.Answers.{Fits}
 use Rattle.live_lines.specs.declared.answer.Answer.TheVariants.{Way, NoNode, Told, Sent, Moved, NotCarried, Gone}
-use Rattle.line_exchange.specs.OneList.{AnswersBy, GivesIn, IsGone, IsSaidBy}
+use Rattle.line_exchange.specs.OneList.{AnswersBy, GivesIn, IsGoneAfter, IsSaidBy}
 use Rattle.line_workers.specs.Refusals.{IsRefusal}
 
 -- ---- routes
@@ -99,13 +100,20 @@ refuses_said known generation ask e is all lawful are_named on =
     let found = err_by ask (scheme_of generation (board_after known).shelf) e is in
     (found.0, published_there all known generation found.0 on found.1, found.2)
 
-gone_said : {A : Type 0} (known : Beginning) (generation : ℕ) (ask : Tables → Result A scheme.Refused) → Err refused.GenerationGone ≡ by ask (scheme_of generation (board_after known).shelf) → HoldsOf known (λ all. IsGone all generation)
-gone_said known generation ask is all lawful are_named on = (known, on, gone_by ask (scheme_of generation (board_after known).shelf) is)
+-- the board had a generation, and this one wasn't on its shelf
+gone_after : {A : Type 0} (known : Beginning) (generation : ℕ) (ask : Tables → Result A scheme.Refused) (why : Refused) (answer : Answer) → IsSome (newest_in known.log) → IsRefusal why answer
+    → Err why ≡ by ask (scheme_of generation (board_after known).shelf) → answer ≡ Gone → IsGoneAfter known generation
+gone_after known generation ask refused.GenerationGone answer some so is gone = (some, gone_by ask (scheme_of generation (board_after known).shelf) is)
+gone_after known generation ask refused.NoNode answer some so is gone = (let same = sym so ∙ gone in absurd (cc))
+gone_after known generation ask refused.Unreachable answer some so is gone = (let same = sym so ∙ gone in absurd (cc))
+gone_after known generation ask refused.Stray answer some so is gone = (let same = sym so ∙ gone in absurd (cc))
+gone_after known generation ask refused.Spent answer some so is gone = (let same = sym so ∙ gone in absurd (cc))
+gone_after known generation ask refused.BoardShut answer some so is gone = absurd so
 
 -- so each answer to a refusal is said
 no_step_said : {A : Type 0} (P : Answer → Type 0) (known : Beginning) (generation : ℕ) (ask : Tables → Result A scheme.Refused) → ((e : scheme.Refused) → HoldsOf known (λ all. GivesIn all generation ask (Err e)) → P (NotCarried e))
-    → (HoldsOf known (λ all. IsGone all generation) → P Gone) → (why : Refused) (answer : Answer) → IsRefusal why answer → Err why ≡ by ask (scheme_of generation (board_after known).shelf) → P answer
-no_step_said P known generation ask refuses gone refused.GenerationGone answer so is = subst P (sym so) (gone (gone_said known generation ask is))
+    → P Gone → (why : Refused) (answer : Answer) → IsRefusal why answer → Err why ≡ by ask (scheme_of generation (board_after known).shelf) → P answer
+no_step_said P known generation ask refuses gone refused.GenerationGone answer so is = subst P (sym so) gone
 no_step_said P known generation ask refuses gone refused.NoNode answer so is = subst P (sym so) (refuses by_scheme.NoNode (refuses_said known generation ask by_scheme.NoNode is))
 no_step_said P known generation ask refuses gone refused.Unreachable answer so is = subst P (sym so) (refuses by_scheme.Unreachable (refuses_said known generation ask by_scheme.Unreachable is))
 no_step_said P known generation ask refuses gone refused.Stray answer so is = subst P (sym so) (refuses by_scheme.Stray (refuses_said known generation ask by_scheme.Stray is))
@@ -118,12 +126,13 @@ pub launch_said : (known : Beginning) (from : ℕ) (to : Address) (packet : Pack
 launch_said known from to packet is = gives_said known to.generation (λ t. decide t from to) packet is
 
 -- where no packet is sent
-pub no_launch : (known : Beginning) (from : ℕ) (to : Address) (why : Refused) (o : Option Answer) → IfSome o (λ answer. (from : ℕ) (to : Address) → Fits (asks.Launch from to) answer) → IfSome o (λ answer. IsRefusal why answer)
+pub no_launch : (known : Beginning) (from : ℕ) (to : Address) (why : Refused) (o : Option Answer) → IsSome (newest_in known.log) → IfSome o (λ answer. (from : ℕ) (to : Address) → Fits (asks.Launch from to) answer) → IfSome o (λ answer. IsRefusal why answer)
     → Err why ≡ launch_at from to (board_after known).shelf → IfSome o (λ answer. AnswersBy known (asks.Launch from to) answer)
-no_launch known from to why None fits so is = tt
-no_launch known from to why (Some answer) fits so is = record {
+no_launch known from to why None some fits so is = tt
+no_launch known from to why (Some answer) some fits so is = record {
   fits = fits from to;
-  said = no_step_said (λ a. IsSaidBy known (asks.Launch from to) a) known to.generation (λ t. decide t from to) (λ e said. said) (λ said. said) why answer so is;
+  said = no_step_said (λ a. IsSaidBy known (asks.Launch from to) a) known to.generation (λ t. decide t from to) (λ e said. said) (λ all lawful are_named on. tt) why answer so is;
+  off = gone_after known to.generation (λ t. decide t from to) why answer some so is;
 }
 
 -- ---- hops
@@ -132,10 +141,11 @@ pub hop_said : (known : Beginning) (at : ℕ) (packet : Packet) (move : Move) �
 hop_said known at packet move is = gives_said known packet.generation (λ t. node_step t at packet) move is
 
 -- where the packet isn't moved
-pub no_hop : (known : Beginning) (at : ℕ) (packet : Packet) (why : Refused) (o : Option Answer) → IfSome o (λ answer. (at : ℕ) (packet : Packet) → Fits (asks.Hop at packet) answer) → IfSome o (λ answer. IsRefusal why answer)
+pub no_hop : (known : Beginning) (at : ℕ) (packet : Packet) (why : Refused) (o : Option Answer) → IsSome (newest_in known.log) → IfSome o (λ answer. (at : ℕ) (packet : Packet) → Fits (asks.Hop at packet) answer) → IfSome o (λ answer. IsRefusal why answer)
     → Err why ≡ hop_at at packet (board_after known).shelf → IfSome o (λ answer. AnswersBy known (asks.Hop at packet) answer)
-no_hop known at packet why None fits so is = tt
-no_hop known at packet why (Some answer) fits so is = record {
+no_hop known at packet why None some fits so is = tt
+no_hop known at packet why (Some answer) some fits so is = record {
   fits = fits at packet;
-  said = no_step_said (λ a. IsSaidBy known (asks.Hop at packet) a) known packet.generation (λ t. node_step t at packet) (λ e said. said) (λ said. said) why answer so is;
+  said = no_step_said (λ a. IsSaidBy known (asks.Hop at packet) a) known packet.generation (λ t. node_step t at packet) (λ e said. said) (λ all lawful are_named on. tt) why answer so is;
+  off = gone_after known packet.generation (λ t. node_step t at packet) why answer some so is;
 }

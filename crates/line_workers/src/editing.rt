@@ -1,5 +1,5 @@
 // An editor's thread.
-ghost use Rattle.std.specs.Prelude.{◌≡◌, [], IfSome};
+ghost use Rattle.std.specs.Prelude.{◌≡◌, ◌≢◌, [], IfSome};
 ghost use Rattle.service_workers.specs.Edited.{IsSameEditor};
 ghost use Rattle.live_lines.specs.Answers.{Fits};
 ghost use Rattle.line_exchange.specs.OneList.{IsSaidBy};
@@ -35,6 +35,7 @@ fn edited<J: Stream, B: BoardName, R: Wait>(
     ensures said { IfSome result (λ r. ∥ IsSaidBy r.0.editor.known (Asked.Edit session ticket change) r.1 ∥₁) }
     ensures same { IfSome result (λ r. IsSameEditor editor.editor r.0.editor) }
     ensures put { IfSome result (λ r. HasPutFor (Asked.Edit session ticket change) r.1 editor.editor r.0.editor) }
+    ensures never { IfSome result (λ r. r.1 ≢ Answer.Gone) }
 {
     if session != editor.session() {
         here.coordinator.stop(here.rt, StopCause::Internal);
@@ -80,6 +81,7 @@ fn answer_of<J: Stream, B: BoardName, R: Wait>(
     ensures said { IfSome result (λ r. ∥ IsSaidBy r.0.editor.known asked r.1 ∥₁) }
     ensures same { IfSome result (λ r. IsSameEditor editor.editor r.0.editor) }
     ensures put { IfSome result (λ r. HasPutFor asked r.1 editor.editor r.0.editor) }
+    ensures never { IfSome result (λ r. r.1 ≢ Answer.Gone) }
 {
     match asked {
         Asked::Edit {

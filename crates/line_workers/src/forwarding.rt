@@ -114,11 +114,11 @@ fn launch<J: Stream, B: BoardName, R: Wait>(
     here: &Workplace<J, B, R>,
     forwarder: &mut ForwarderOf<B>,
     from: u16,
-    to: Address,
+    to: &Address,
 ) -> Option<Answer>
-    ensures { IfSome result (λ answer. AnswersBy forwarder.new.forwarder (Asked.Launch from to) answer) }
+    ensures { IfSome result (λ answer. AnswersBy forwarder.new.forwarder (Asked.Launch from to.now) answer) }
 {
-    match forwarder.launch(here.rt, here.coordinator, from, &to)? {
+    match forwarder.launch(here.rt, here.coordinator, from, to)? {
         Ok(packet) => Some(Answer::Sent(packet)),
         Err(refused) => named(refused),
     }
@@ -130,14 +130,13 @@ fn hop<J: Stream, B: BoardName, G: Gate, R: Wait>(
     gate: &G,
     forwarder: &mut ForwarderOf<B>,
     at: u16,
-    packet: Packet,
+    packet: &Packet,
 ) -> Option<Answer>
-    ensures { IfSome result (λ answer. AnswersBy forwarder.new.forwarder (Asked.Hop at packet) answer) }
+    ensures { IfSome result (λ answer. AnswersBy forwarder.new.forwarder (Asked.Hop at packet.now) answer) }
 {
-    let generation = packet.generation;
-    match forwarder.hop(here.rt, here.coordinator, at, packet)? {
+    match forwarder.hop(here.rt, here.coordinator, at, packet.copy())? {
         Ok(step) => {
-            gate.after_hop(generation);
+            gate.after_hop(packet.generation);
             Some(Answer::Moved(step))
         }
         Err(refused) => named(refused),
@@ -149,16 +148,37 @@ fn answer_of<J: Stream, B: BoardName, G: Gate, R: Wait>(
     here: &Workplace<J, B, R>,
     gate: &G,
     forwarder: &mut ForwarderOf<B>,
-    asked: Asked,
+    asked: &Asked,
 ) -> Option<Answer>
-    ensures { IfSome result (λ answer. AnswersBy forwarder.new.forwarder asked answer) }
+    ensures { IfSome result (λ answer. AnswersBy forwarder.new.forwarder asked.now answer) }
 {
     match asked {
-        Asked::Route { from, to } => route(here, gate, forwarder, from, to),
-        Asked::Address { node } => address(here, forwarder, node),
-        Asked::Launch { from, to } => launch(here, forwarder, from, to),
-        Asked::Hop { at, packet } => hop(here, gate, forwarder, at, packet),
+        Asked::Route { from, to } => route(here, gate, forwarder, *from, *to),
+        Asked::Address { node } => address(here, forwarder, *node),
+        Asked::Launch { from, to } => launch(here, forwarder, *from, to),
+        Asked::Hop { at, packet } => hop(here, gate, forwarder, *at, packet),
         _other => halted(here),
+    }
+}
+
+// The answer to the line at a place. That a generation is gone is told by a look behind all answers to earlier lines. Without one all stop.
+fn answer_at<J: Stream, B: BoardName, G: Gate, R: Wait>(
+    here: &Workplace<J, B, R>,
+    gate: &G,
+    forwarder: &mut ForwarderOf<B>,
+    place: u64,
+    asked: &Asked,
+) -> Option<Answer>
+    ensures { IfSome result (λ answer. AnswersBy forwarder.new.forwarder asked.now answer) }
+{
+    match answer_of(here, gate, forwarder, asked)? {
+        Answer::Gone => {
+            if !here.await_turn(place) {
+                return None;
+            }
+            answer_of(here, gate, forwarder, asked)
+        }
+        answer => Some(answer),
     }
 }
 
@@ -170,7 +190,7 @@ fn answered<J: Stream, B: BoardName, G: Gate, R: Wait>(
     ask: Ask<J>,
 ) -> Option<Answered<J, B>> {
     let Ask { place, asked, of } = ask;
-    let answer = answer_of(here, gate, forwarder, asked)?;
+    let answer = answer_at(here, gate, forwarder, place, &asked)?;
     Some(Answered {
         place,
         answer,

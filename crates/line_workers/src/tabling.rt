@@ -132,7 +132,7 @@ fn newest_now<J: Stream, B: BoardName, R: Wait>(
         if news.stopped {
             return (reader, None);
         }
-        reader.learn(news.told.told());
+        reader.learn(news.stand.told.told());
         let (back, newest) = look_for_newest(reader);
         match newest {
             Some(newest) => return (back, Some(newest)),
@@ -315,6 +315,20 @@ fn answer_of<J: Stream, T: TableFiles, B: BoardName, R: Wait>(
     }
 }
 
+// The reader once it has looked behind all answers to the lines before a place. None where all stop.
+fn looked_again<J: Stream, B: BoardName, R: Wait>(
+    here: &Workplace<J, B, R>,
+    reader: TablesReader<B>,
+    place: u64,
+) -> Option<TablesReader<B>> {
+    if !here.await_turn(place) {
+        return None;
+    }
+    let TablesReader { reader, of } = reader;
+    let (reader, _newest) = newest_now(here, reader);
+    Some(TablesReader { reader, of })
+}
+
 // A line, answered. Without an answer all stop.
 fn answered<J: Stream, T: TableFiles, B: BoardName, R: Wait>(
     here: &Workplace<J, B, R>,
@@ -324,6 +338,10 @@ fn answered<J: Stream, T: TableFiles, B: BoardName, R: Wait>(
 ) -> Option<(TablesReader<B>, Answered<J, B>)> {
     let Ask { place, asked, of } = ask;
     let (reader, answer) = answer_of(here, tables, reader, asked)?;
+    let reader = match answer {
+        Answer::Gone => looked_again(here, reader, place)?,
+        _ => reader,
+    };
     let answered = Answered {
         place,
         answer,

@@ -1,6 +1,5 @@
 // The thread that answers how a service stands.
 ghost use Rattle.std.specs.Prelude.{◌≡◌, IfSome};
-ghost use Rattle.generations.specs.Beginnings.{Beginning};
 ghost use Rattle.line_exchange.specs.OneList.{AnswersBy};
 
 use crate::workplace::Workplace;
@@ -8,17 +7,20 @@ use generations::History;
 use line_exchange::{Answered, Ask, Stream};
 use live_lines::{Answer, Asked};
 use packet_ways::BoardName;
-use service_workers::StopCause;
+use service_workers::{Standing, StopCause};
 use std::marker::PhantomData;
 use std::sync::Wait;
 
-// The newest generation, once all changes are in it that are accepted now. None where all stop.
-fn awaited<J: Stream, B: BoardName, R: Wait>(here: &Workplace<J, B, R>) -> Option<u64> {
-    let count = here.coordinator.standing(here.rt).count;
+// How the service stands, once so many changes and this generation are told. None where all stop.
+fn standing_from<J: Stream, B: BoardName, R: Wait>(
+    here: &Workplace<J, B, R>,
+    count: u64,
+    generation: u64,
+) -> Option<Standing<B>> {
     for _ in here.rt.forever() {
         let standing = here.coordinator.standing(here.rt);
-        if count <= standing.generation {
-            return Some(standing.generation);
+        if count <= standing.stand.count && generation <= standing.stand.generation {
+            return Some(standing);
         }
         if standing.stopped {
             return None;
@@ -28,25 +30,47 @@ fn awaited<J: Stream, B: BoardName, R: Wait>(here: &Workplace<J, B, R>) -> Optio
     None
 }
 
-// The answer to a line that is the waiter's. Without one all stop.
+// What is answered of how the service stands, and what was told by then.
+fn state_of<B: BoardName>(standing: &Standing<B>) -> (Answer, History)
+    ensures answers { AnswersBy result.1 Asked.State result.0 }
+    ensures named { result.1.opening ≡ B.opening }
+{
+    let answer = Answer::State {
+        count: standing.stand.count,
+        generation: standing.stand.generation,
+        queue: standing.queue,
+    };
+    (answer, standing.stand.told.told().history())
+}
+
+// The same of the newest generation.
+fn waited_of<B: BoardName>(standing: &Standing<B>) -> (Answer, History)
+    ensures answers { AnswersBy result.1 Asked.Wait result.0 }
+    ensures named { result.1.opening ≡ B.opening }
+{
+    let answer = Answer::Waited {
+        generation: standing.stand.generation,
+    };
+    (answer, standing.stand.told.told().history())
+}
+
+// The answer to a line that is the waiter's, and what was told by then. Without one all stop.
 fn answer_of<J: Stream, B: BoardName, R: Wait>(
     here: &Workplace<J, B, R>,
     asked: Asked,
-) -> Option<Answer>
-    ensures { IfSome result (λ answer. (known : Beginning) → AnswersBy known asked answer) }
+) -> Option<(Answer, History)>
+    ensures answers { IfSome result (λ r. AnswersBy r.1 asked r.0) }
+    ensures named { IfSome result (λ r. r.1.opening ≡ B.opening) }
 {
+    let first = here.coordinator.standing(here.rt);
     match asked {
         Asked::State => {
-            let standing = here.coordinator.standing(here.rt);
-            Some(Answer::State {
-                count: standing.count,
-                generation: standing.generation,
-                queue: standing.queue,
-            })
+            let now = standing_from(here, first.reached, first.seen)?;
+            Some(state_of(&now))
         }
         Asked::Wait => {
-            let generation = awaited(here)?;
-            Some(Answer::Waited { generation })
+            let now = standing_from(here, 0, first.reached.max(first.stand.count))?;
+            Some(waited_of(&now))
         }
         _ => {
             here.coordinator.stop(here.rt, StopCause::Internal);
@@ -59,12 +83,9 @@ fn answer_of<J: Stream, B: BoardName, R: Wait>(
 fn answered<J: Stream, B: BoardName, R: Wait>(
     here: &Workplace<J, B, R>,
     ask: Ask<J>,
-    known: History,
-) -> Option<Answered<J, B>>
-    requires { known.opening ≡ B.opening }
-{
+) -> Option<Answered<J, B>> {
     let Ask { place, asked, of } = ask;
-    let answer = answer_of(here, asked)?;
+    let (answer, known) = answer_of(here, asked)?;
     Some(Answered {
         place,
         answer,
@@ -84,8 +105,7 @@ pub fn wait_lines<J: Stream, B: BoardName, R: Wait>(here: &Workplace<J, B, R>) {
         if !here.exchange.answers.await_turn(here.rt, ask.place) {
             return;
         }
-        let known = here.exchange.known.again();
-        let Some(answered) = answered(here, ask, known) else {
+        let Some(answered) = answered(here, ask) else {
             return;
         };
         let _put = here.exchange.answers.put(here.rt, answered);

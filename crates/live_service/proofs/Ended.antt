@@ -1,6 +1,6 @@
 -- How a live service ends.
 use Rattle.std.proofs.Common.{◌≡◌, ◌≢◌, ⊎_elim, refl, sym, subst, List, ℕ, Option, Some, None, Result, Ok, Err, IfErr, IfOk, OnOk, IsErrOf, false, arith}
-use Rattle.std.specs.Prelude.{IfSome}
+use Rattle.std.specs.Prelude.{IfSome, IsSome, IsSomeAnd}
 use Rattle.disk_trait.specs.declared.disk.Disk.{Ghosts}
 use Rattle.disk_trait.specs.Disk.{DiskView, IsSameDevice}
 use Rattle.checkpoint.specs.StoreWords.{state_of, view_of, is_down}
@@ -42,11 +42,20 @@ stopped_early opening store input editors c new other settled =
 not_memory : cause.Memory ≢ cause.Device
 not_memory is = cc
 
+not_thread : cause.NoThread ≢ cause.Device
+not_thread is = cc
+
 -- .. and want of memory is no such failure
 pub memory_early : {D : Type 0} {V : _} → (opening : Opening) (store back : Store D V) (input : Input) (editors : ℕ) → is_down store ≡ false → back ≡ store → EndsServed opening store input editors (Err cause.Memory) (view_of back)
 memory_early opening store back input editors up same =
     stopped_early opening store input editors cause.Memory (view_of back) not_memory
     (subst (λ s. HasSettledSome (state_of store) (view_of store) (view_of s)) (sym same) (some_settled store up))
+
+-- .. nor is want of a thread
+pub thread_early : {D : Type 0} {V : _} → (opening : Opening) (store : Store D V) (new : DiskView) (input : Input) (editors : ℕ) → is_down store ≡ false → new ≡ view_of store → EndsServed opening store input editors (Err cause.NoThread) new
+thread_early opening store new input editors up same =
+    stopped_early opening store input editors cause.NoThread new not_thread
+    (subst (λ (v : DiskView). HasSettledSome (state_of store) (view_of store) v) (sym same) (some_settled store up))
 
 -- ---- faults
 
@@ -86,9 +95,10 @@ no_words : (f : Fault) → IsLater f → f ≡ told.Words → ⊥
 no_words f is = later_each (λ (e : Fault). e ≡ told.Words → ⊥) f is (λ same. cc) (λ same. cc) (λ same. cc) (λ same. cc) (λ same. cc) (λ same. cc)
 
 -- the device of a service that ended so
-pub later_end : {D : Type 0} (model : Ghosts D) (disk : D) (asked : LandmarkWords) (back : Option D) (f : Fault) → IsLater f
+pub later_end : {D : Type 0} (model : Ghosts D) (disk : D) (asked : LandmarkWords) (back : Option D) (f : Fault) → IsLater f → IsSome back
     → (f ≡ told.Device → IfSome back (λ d. HasFailed (model.view disk) (model.view d))) → IsServeEnd model disk asked back f
-later_end model disk asked back f is device = record {
+later_end model disk asked back f is came device = record {
+  given_back = came;
   named = later_each (λ (e : Fault). IsServeFault e) f is tt tt tt tt tt tt;
   tells = λ keeps. later_each (λ (e : Fault). TellsOf e (model.view disk).content) f is tt tt tt tt tt tt;
   not_within = λ keeps state stands same. absurd (no_words f is same);
@@ -116,21 +126,23 @@ no_cause a b is same = cc
 no_fault : told.Memory ≡ told.Device → ⊥
 no_fault same = cc
 
+no_thread_fault : told.NoThread ≡ told.Device → ⊥
+no_thread_fault same = cc
+
 -- what a service prints that printed so much
 pub prints_to : (input : Input) (editors : ℕ) (old new : Option (List ℕ)) (printed : Printed) (ended : Served) → PrintsSo input editors old new printed → IsPrintEnd input printed ended
     → PrintsTo input editors old new ended
 prints_to input editors old new printed ended so end =
     record {
       answers = λ unfailed.
-          (printed.count, printed_of printed.known input editors old new printed.count (so (λ is. unfailed (end.output is))), end.whole);
+          (printed.tally.count, printed_of printed.tally input editors old new (so (λ is. unfailed (end.output is))), end.whole);
     }
 
 -- .. and by what is known of the list, where no fault ended it
 pub prints_on : {D : Type 0} {V : _} → (store : Store D V) (input : Input) (editors : ℕ) (old new : Option (List ℕ)) (printed : Printed) (ended : Served) (back : Option D) → PrintsSo input editors old new printed → IsPrintEnd input printed ended
-    → (ended ≡ served.Printed → HasServedOn store input editors printed.known back) → ended ≡ served.Printed → HasPrintedOn answer_text store input editors old new back
+    → (ended ≡ served.Printed → HasServedOn store input editors printed.tally.known back) → ended ≡ served.Printed → HasPrintedOn answer_text store input editors old new back
 prints_on store input editors old new printed ended back so end on is = record {
-  known = printed.known;
-  count = printed.count;
+  tally = printed.tally;
   printed = so (λ failed. not_printed ended told.Output (end.output failed) is);
   whole = end.whole is;
   on = on is;
@@ -148,14 +160,15 @@ pub run_prints : {C D : Type 0} {V : _} {prints : C → C → Printed → Type 0
     → PrintsTo input editors (text old) (text new) ended
 run_prints {input = input} {old = old} {new = new} {ended = ended} run editors text so same =
     ⊎_elim (λ ran. prints_to input editors (text old) (text new) ran.printed ended (so ran.mid ran.printed ran.printing ran.finishing) ran.print_end)
-    (λ none. none_to input editors (text old) (text new) ended told.Memory (same none.finishing) none.memory) run.console
+    (λ none. ⊎_elim (λ lacks. none_to input editors (text old) (text new) ended told.Memory (same none.finishing) lacks) (λ lacks. none_to input editors (text old) (text new) ended told.NoThread (same none.finishing) lacks) none.lacks)
+    run.console
 
 -- the threads of a service ran that no fault ended
 pub ran_of : {C D : Type 0} {V : _} {prints : C → C → Printed → Type 0} {finishes : C → C → Served → Type 0} {input : Input} {many : ℕ} {store : Store D V} {old new : C} {ended : Served} {back : Option D}
     → HasRun prints finishes input many store old new ended back → ended ≡ served.Printed → IsRun prints finishes input many store old new ended back
-ran_of {ended = ended} run is = ⊎_elim (λ ran. ran) (λ none. absurd (not_printed ended told.Memory none.memory is)) run.console
+ran_of {ended = ended} run is = ⊎_elim (λ ran. ran) (λ none. absurd (⊎_elim (λ lacks. not_printed ended told.Memory lacks is) (λ lacks. not_printed ended told.NoThread lacks is) none.lacks)) run.console
 
--- no engine was started
+-- no engine was started, since memory ran out
 pub memory_ended : {D : Type 0} {V : _} → (store : Store D V) (ended : Served) (disk : D) → is_down store ≡ false → V.view disk ≡ view_of store → fault_of ended ≡ Some told.Memory → HasEnded store ended (Some disk)
 memory_ended {V = V} store ended disk up is fault = (
   Err cause.Memory,
@@ -167,6 +180,25 @@ memory_ended {V = V} store ended disk up is fault = (
     fault = subst (λ (o : Option Fault). IfSome o (λ f. IsFaultOf {T = Beginning} (Err cause.Memory) f)) (sym fault) (tt, λ same. absurd (no_fault same));
   },
 )
+
+-- .. or no thread could be made
+pub thread_ended : {D : Type 0} {V : _} → (store : Store D V) (ended : Served) (disk : D) → HasSettledSome (state_of store) (view_of store) (V.view disk) → fault_of ended ≡ Some told.NoThread → HasEnded store ended (Some disk)
+thread_ended store ended disk settled fault = (
+  Err cause.NoThread,
+  record {
+    disk = record { settled = settled; device = λ same. absurd (not_thread (cause_of {T = Beginning} cause.NoThread cause.Device same)) };
+    fault = subst (λ (o : Option Fault). IfSome o (λ f. IsFaultOf {T = Beginning} (Err cause.NoThread) f)) (sym fault) (tt, λ same. absurd (no_thread_fault same));
+  },
+)
+
+-- what came back
+pub came_back : {D : Type 0} (P : D → Type 0) (back : Option D) → IsSomeAnd back P → IsSome back
+came_back P (Some d) has = refl
+came_back P None has = absurd has
+
+pub of_back : {D : Type 0} (P : D → Type 0) (back : Option D) → IsSomeAnd back P → IfSome back P
+of_back P (Some d) has = has
+of_back P None has = absurd has
 
 failed_since : (old mid new : DiskView) → IsSameDevice old mid → HasFailed mid new → HasFailed old new
 failed_since old mid new same failed = omega (arith, same.no_fewer, failed)
@@ -181,13 +213,14 @@ served_failed store engine (Some d) left is = left.device is
 served_failed store engine None left is = tt
 
 one_end : {D T : Type 0} {V : _} → (disk : D) (asked : LandmarkWords) (store : Store D V) (engine : Result T StopCause) (back : Option D) (f : Fault) → IsSameDevice (V.view disk) (view_of store)
-    → IfSome back (λ d. IsServedDisk store engine (V.view d)) → IsFaultOf engine f → IsServeEnd V disk asked back f
+    → IsSomeAnd back (λ d. IsServedDisk store engine (V.view d)) → IsFaultOf engine f → IsServeEnd V disk asked back f
 one_end {V = V} disk asked store engine back f same left is =
-    later_end V disk asked back f is.0 (λ device. back_failed V (V.view disk) (view_of store) back same (served_failed store engine back left (is.1 device)))
+    later_end V disk asked back f is.0 (came_back (λ d. IsServedDisk store engine (V.view d)) back left)
+    (λ device. back_failed V (V.view disk) (view_of store) back same (served_failed store engine back (of_back (λ d. IsServedDisk store engine (V.view d)) back left) (is.1 device)))
 
 -- the device of a service whose engine ended so
 pub engine_ends : {D T : Type 0} {V : _} → (disk : D) (asked : LandmarkWords) (store : Store D V) (engine : Result T StopCause) (back : Option D) (fault : Option Fault) → IsSameDevice (V.view disk) (view_of store)
-    → IfSome back (λ d. IsServedDisk store engine (V.view d)) → IfSome fault (λ f. IsFaultOf engine f) → IfSome fault (λ f. IsServeEnd V disk asked back f)
+    → IsSomeAnd back (λ d. IsServedDisk store engine (V.view d)) → IfSome fault (λ f. IsFaultOf engine f) → IfSome fault (λ f. IsServeEnd V disk asked back f)
 engine_ends disk asked store engine back (Some f) same left is = one_end disk asked store engine back f same left is
 engine_ends disk asked store engine back None same left is = tt
 

@@ -54,28 +54,31 @@ of_script known script editors answers many said =
 
 -- a service that ended without a fault has printed the answers to a whole script
 pub script_served : (input : Input) (script : List ScriptLine) (editors : ℕ) (printed : Printed) (ended : Served) (text : List ℕ) (old new : Option (List ℕ)) → input ≡ Script script
-    → (printed.end ≡ Whole → HasText printed.known input editors printed.count text) → PrintsAtEnd text old new ended → IsPrintEnd input printed ended → ended ≡ served.Printed → IsServed script old new
+    → (printed.end ≡ Whole → HasText printed.tally input editors text) → PrintsAtEnd text old new ended → IsPrintEnd input printed ended → ended ≡ served.Printed → IsServed script old new
 script_served input script editors printed ended text old new names has prints end is =
-    let has_all : HasText printed.known (Script script) editors printed.count text = subst (λ (i : Input). HasText printed.known i editors printed.count text) names (has (end.done is)) in
-    let all : printed.count ≡ length script = (subst (λ (i : Input). IsPrintEnd i printed ended) names end).whole is in (
+    let has_all : HasText printed.tally (Script script) editors text = subst (λ (i : Input). HasText printed.tally i editors text) names (has (end.done is)) in
+    let all : printed.tally.count ≡ length script = (subst (λ (i : Input). IsPrintEnd i printed ended) names end).whole is in (
       has_all.answers,
-      of_script printed.known script editors has_all.answers (has_all.many ∙ all) has_all.said,
+      of_script printed.tally.known script editors has_all.answers (has_all.many ∙ all) has_all.said,
       subst (λ (t : List ℕ). Appends old new t) has_all.printed (subst (λ (s : Served). PrintsAtEnd text old new s) is prints),
     )
 
 -- and its answers are by what is known
 pub script_gathered : {D : Type 0} {V : _} → (store : Store D V) (input : Input) (editors : ℕ) (printed : Printed) (ended : Served) (text : List ℕ) (old new : Option (List ℕ)) (back : Option D)
-    → (printed.end ≡ Whole → HasText printed.known input editors printed.count text) → PrintsAtEnd text old new ended → IsPrintEnd input printed ended → (ended ≡ served.Printed → HasServedOn store input editors printed.known back)
+    → (printed.end ≡ Whole → HasText printed.tally input editors text) → PrintsAtEnd text old new ended → IsPrintEnd input printed ended → (ended ≡ served.Printed → HasServedOn store input editors printed.tally.known back)
     → ended ≡ served.Printed → HasPrintedOn script_text store input editors old new back
 script_gathered store input editors printed ended text old new back has prints end on is =
     let gathered = has (end.done is) in
     record {
-      known = printed.known;
-      count = printed.count;
+      tally = printed.tally;
       printed = record {
         answers = gathered.answers;
         many = gathered.many;
         said = gathered.said;
+        gone = gathered.gone;
+        awaited = gathered.awaited;
+        reached = gathered.reached;
+        in_turn = gathered.in_turn;
         printed = subst (λ (t : List ℕ). Appends old new t) gathered.printed (subst (λ (s : Served). PrintsAtEnd text old new s) is prints);
       };
       whole = end.whole is;

@@ -1,6 +1,6 @@
 -- The one list of a service that no fault ended.
 use Rattle.std.proofs.Common.{◌≡◌, Bool, true, inl, inr, ◌<◌, ◌++◌, ◌∷◌, [], ℕ, zero, suc, List, Option, Some, None, Result, Ok, Err, IfOk, OnOk, IsTrue, length, sym, ap, subst, ◌∙◌, arith}
-use Rattle.std.specs.Prelude.{IfSome, IsOk, IsOkAnd, IsSome, IsSomeAnd, slice_index_or}
+use Rattle.std.specs.Prelude.{IsOkAnd, IsSomeAnd, slice_index_or, take}
 use Rattle.std.specs.Io.KnownBytes.{Appends}
 use mathlib.Core.Logic.{∥∥₁_map}
 use Rattle.disk_trait.specs.declared.disk.Disk.{Ghosts}
@@ -22,36 +22,65 @@ use Rattle.forwarders.proofs.Published.{Among}
 use Rattle.committer.specs.declared.committer.Committer.{Committer}
 use Rattle.committer.specs.CommitterWords.{store_of, got_of, posts_of}
 use Rattle.committer.specs.Listed.{IsListedFrom}
+use Rattle.group_commit.specs.Settling.{settle}
 use Rattle.settled_lists.specs.Posted.{ArePosted}
 use Rattle.intake.specs.Turns.{of}
 use Rattle.service_workers.specs.declared.stop_cause.StopCause.{StopCause}
-use Rattle.packet_ways.specs.Carried.{AreNamed, HoldsOf}
+use Rattle.packet_ways.specs.Carried.{AreNamed}
+use Rattle.packet_ways.specs.Standing.{IsNewest}
+use Rattle.packet_ways.proofs.Newest.{published_on}
+use Rattle.generations.proofs.Lawfulness.{lawful_first}
+use Rattle.generations.proofs.Sharing.{goes_self, goes_trans}
+use Rattle.service_threads.specs.Pace.{IsUpToDate}
 use Rattle.service_threads.specs.Kept.{HasSettled, IsLeftBy, IsOnCourse, IsServedDisk, StandsForBeginning}
 use Rattle.service_threads.proofs.Settling.{on_course_posted, read_leaves, served_leaves, served_same}
 use Rattle.live_lines.specs.declared.answer.Answer.{Answer}
 use Rattle.line_exchange.specs.Inputs.{Input}
-use Rattle.line_exchange.specs.OneList.{AreAnswersIn, AreSaid, IsSaidIn}
-use Rattle.line_exchange.specs.Prints.{AreAllLines}
+use Rattle.line_exchange.specs.OneList.{AreAnswersIn, AreGone, AreSaid}
+use Rattle.line_exchange.specs.Prints.{AreAllLines, HasPrintedBy}
+use Rattle.line_exchange.specs.declared.tally.Tally.{Tally}
 use Rattle.line_workers.specs.Submits.{ArePutInOrder}
+use Rattle.live_service.proofs.Ended.{of_back}
 use Rattle.live_service.specs.ServedList.{AreOfOneList, EndsServed, HasAnswered, HasPrintedOn, HasServedAll, HasServedOn}
 
 -- ---- the committer
 
+no_ok : {T : Type 0} (e : StopCause) (t : T) → Err e ≡ Ok t → ⊥
+no_ok e t is = cc
+
+same_ok : {T : Type 0} (s t : T) → ◌≡◌ {A = Result T StopCause} (Ok s) (Ok t) → s ≡ t
+same_ok s t is = cc
+
+-- the newest generation is that of the state after all that was taken
+newest_of : {D R : Type 0} {V : _} → (first now : Committer D R V) → IsOnCourse first now → IsUpToDate now
+    → IsNewest (record { opening = (posts_of now).opening; log = (posts_of now).posted }) (settle (state_of (store_of first)) (got_of now)).state.count
+newest_of first now on shown =
+    subst (λ (s : State). IsNewest (record { opening = (posts_of now).opening; log = (posts_of now).posted }) s.count) on.state shown.newest
+
 -- what a committer posted that nothing stopped, and the store that it gives back
-pub served_all : {D R : Type 0} {V : _} → (first now : Committer D R V) (store : Store D V) (input : Input) (editors : ℕ) (own : Result (Unit {0}) StopCause) (result : Result Beginning StopCause) (opening : Opening) (board : Beginning)
-    → IsServedDisk (store_of first) result (view_of store) → IsListedFrom (state_of (store_of first)) first → OnOk own (IsOnCourse first now) → OnOk own ((posts_of now).opening ≡ opening) → board ≡ record { opening = (posts_of now).opening; log = (posts_of now).posted }
-    → OnOk result (IsOk own) → IfOk result (λ b. b ≡ board) → OnOk result ((session : ℕ) → ArePutInOrder input editors (of session (got_of now))) → store ≡ store_of now
-    → EndsServed opening (store_of first) input editors result (view_of store)
-served_all first now store input editors own (Err e) opening board disk listed on named is ok same put left = record { disk = disk; named = tt; all = tt }
-served_all first now store input editors (Err e) (Ok b) opening board disk listed on named is ok same put left = absurd (cc)
-served_all first now store input editors (Ok u) (Ok b) opening board disk listed on named is ok same put left =
+pub served_all : {D R : Type 0} {V : _} → (first now : Committer D R V) (store : Store D V) (input : Input) (editors : ℕ) (own : Result Bool StopCause) (result : Result Beginning StopCause) (opening : Opening) (board : Beginning)
+    → IsServedDisk (store_of first) result (view_of store) → IsListedFrom (state_of (store_of first)) first → OnOk own (IsOnCourse first now) → OnOk own ((posts_of now).opening ≡ opening) → IfOk own (λ left. IsTrue left → IsUpToDate now)
+    → board ≡ record { opening = (posts_of now).opening; log = (posts_of now).posted } → OnOk result (own ≡ Ok true) → IfOk result (λ b. b ≡ board) → OnOk result ((session : ℕ) → ArePutInOrder input editors (of session (got_of now)))
+    → store ≡ store_of now → EndsServed opening (store_of first) input editors result (view_of store)
+served_all first now store input editors own (Err e) opening board disk listed on named shown is ok same put left = record { disk = disk; named = tt; all = tt }
+served_all first now store input editors (Err e) (Ok b) opening board disk listed on named shown is ok same put left = absurd (no_ok e true ok)
+served_all first now store input editors (Ok u) (Ok b) opening board disk listed on named shown is ok same put left =
     let whole = on.listed (state_of (store_of first)) listed in
+    let newest = newest_of first now on (shown (same_ok u true ok)) in
     record {
       disk = disk;
       named = ap (λ (c : Beginning). c.opening) (same ∙ is) ∙ named;
       all = subst (λ (c : Beginning). HasServedAll (store_of first) input editors c (view_of store)) (sym (same ∙ is))
           (subst (λ s. HasServedAll (store_of first) input editors (record { opening = (posts_of now).opening; log = (posts_of now).posted }) (view_of s)) (sym left)
-          (record { taken = got_of now; begins = whole.begins; posted = on_course_posted first now on (state_of (store_of first)) listed; settled = on.settled; stands = on.stands; of_input = put }));
+          (record {
+            taken = got_of now;
+            begins = whole.begins;
+            posted = on_course_posted first now on (state_of (store_of first)) listed;
+            newest = newest;
+            settled = on.settled;
+            stands = on.stands;
+            of_input = put;
+          }));
     }
 
 -- each session's requests were put by lines of the input, where an engine ended so that asks for all of that
@@ -64,18 +93,11 @@ pub same_board : (engine : Result Beginning StopCause) (known opening : Opening)
 same_board (Ok b) known opening same is = same ∙ sym is
 same_board (Err e) known opening same is = tt
 
--- what an engine left of its disk, where that came back
-pub served_disk : {D : Type 0} {V : _} → (opening : Opening) (store : Store D V) (input : Input) (editors : ℕ) (engine : Result Beginning StopCause) (back : Option D)
-    → IfSome back (λ d. EndsServed opening store input editors engine (V.view d)) → IfSome back (λ d. IsServedDisk store engine (V.view d))
-served_disk opening store input editors engine (Some d) ends = ends.disk
-served_disk opening store input editors engine None ends = tt
-
 -- the board of an engine that nothing stopped has all that was known
-pub served_on : {D : Type 0} {V : _} → (opening : Opening) (store : Store D V) (input : Input) (editors : ℕ) (engine : Result Beginning StopCause) (known : Beginning) (back : Option D) → IsOkAnd engine (λ board. GoesOn known board)
-    → IfSome back (λ d. EndsServed opening store input editors engine (V.view d)) → OnOk engine (IsSome back) → HasServedOn store input editors known back
-served_on opening store input editors (Ok board) known (Some d) on ends there = record { board = board; on = on; all = ends.all }
-served_on opening store input editors (Ok board) known None on ends there = absurd (cc)
-served_on opening store input editors (Err e) known back on ends there = absurd on
+pub served_on : {D : Type 0} {V : _} → (opening : Opening) (store : Store D V) (input : Input) (editors : ℕ) (engine : Result Beginning StopCause) (known : Beginning) (back : D) → IsOkAnd engine (λ board. GoesOn known board)
+    → EndsServed opening store input editors engine (V.view back) → HasServedOn store input editors known (Some back)
+served_on opening store input editors (Ok board) known back on ends = record { board = board; on = on; all = ends.all }
+served_on opening store input editors (Err e) known back on ends = absurd on
 
 -- ---- a whole list
 
@@ -107,15 +129,26 @@ are_named first taken all posted number p has =
 lawful_list : (first : State) (taken : List Request) (all : Beginning) → (all.opening.starts ≡ first.tickets) × (all.opening.count ≡ first.count) → ArePosted first taken all.log → IsLawfulList all
 lawful_list first taken all begins posted = subst (λ (x : List ℕ × ℕ). IsLawful x.0 x.1 all.log) (λ i. (sym begins.0 i, sym begins.1 i)) posted.lawful
 
--- what each list says that goes on from what is known, the board says
-board_says : (first : State) (taken : List Request) (known board : Beginning) (P : Beginning → Type 0) → (board.opening.starts ≡ first.tickets) × (board.opening.count ≡ first.count) → ArePosted first taken board.log → GoesOn known board
-    → HoldsOf known P → P board
-board_says first taken known board P begins posted on holds = holds board (lawful_list first taken board begins posted) (are_named first taken board posted) on
+-- what each list says that goes on from what is known, a lawful one says
+answers_by : (known board : Beginning) (input : Input) (editors : ℕ) (answers : List Answer) → IsLawfulList board → AreNamed board → GoesOn known board → AreSaid known input editors answers → AreAnswersIn board input editors answers
+answers_by known board input editors answers lawful are_named on said k answer at = ∥∥₁_map (said k answer at) (λ x. record { asked = x.asked; by = x.by; fits = x.fits; said = x.said board lawful are_named on })
 
-answers_in : (first : State) (taken : List Request) (known board : Beginning) (input : Input) (editors : ℕ) (answers : List Answer) → (board.opening.starts ≡ first.tickets) × (board.opening.count ≡ first.count)
-    → ArePosted first taken board.log → GoesOn known board → AreSaid known input editors answers → AreAnswersIn board input editors answers
-answers_in first taken known board input editors answers begins posted on said k answer at =
-    ∥∥₁_map (said k answer at) (λ x. record { asked = x.asked; by = x.by; fits = x.fits; said = board_says first taken known board (λ all. IsSaidIn all x.asked answer) begins posted on x.said })
+-- and so does a beginning of it
+beginning_lawful : (seen board : Beginning) → GoesOn seen board → IsLawfulList board → IsLawfulList seen
+beginning_lawful seen board on lawful =
+    subst (λ (o : Opening). IsLawful o.starts o.count seen.log) on.0 (lawful_first board.opening.starts board.opening.count seen.log board.log on.1 lawful)
+
+gone_by : (known board : Beginning) (input : Input) (editors : ℕ) (answers : List Answer) → IsLawfulList board → AreNamed board → GoesOn known board → AreGone (λ seen before. AreSaid seen input editors before) known input editors answers
+    → AreGone (λ seen before. AreAnswersIn seen input editors before) board input editors answers
+gone_by known board input editors answers lawful are_named on are k at =
+    ∥∥₁_map (are k at) (λ x.
+    let here = goes_trans x.seen known board x.on on in
+    record {
+      seen = x.seen;
+      on = here;
+      earlier = answers_by x.seen x.seen input editors (take k answers) (beginning_lawful x.seen board here lawful) (λ number p has. are_named number p (published_on x.seen board number p here has)) (goes_self x.seen) x.earlier;
+      gone = x.gone;
+    })
 
 -- ---- the device
 
@@ -127,20 +160,22 @@ opened_leaves state disk opened new taken reads keeps model done =
     (λ image here. (0, omega arith, here)) (λ image here. here)
 
 -- what is left of a device that was opened
-pub opened_left : {D T : Type 0} {V : _} → (disk : D) (store : Store D V) (engine : Result T StopCause) (back : Option D) → OneState → IsOpened (V.view disk) store → IfSome back (λ d. IsServedDisk store engine (V.view d)) → IsLeftBy V disk back
-opened_left {V = V} disk store engine back one opened left = record {
+pub opened_left : {D T : Type 0} {V : _} → (disk : D) (store : Store D V) (engine : Result T StopCause) (back : Option D) → OneState → IsOpened (V.view disk) store → IsSomeAnd back (λ d. IsServedDisk store engine (V.view d)) → IsLeftBy V disk back
+opened_left {V = V} disk store engine back one opened came = (let left = of_back (λ d. IsServedDisk store engine (V.view d)) back came in record {
   ran = served_same disk store engine back opened.ran left;
   any_moment = λ model state stands keeps.
       served_leaves state disk store engine back (one (state_of store) state (V.view disk).content (opened.of_model model).stands stands) (opened.of_model model).reads keeps (subst IsTrue (sym opened.ran.model) model) left;
-}
+})
 
 -- .. and of one that was only read
 pub read_left : {D : Type 0} (model : Ghosts D) (disk back : D) → IsSameDevice (model.view disk) (model.view back) → (IsTrue (model.view disk).keeps_model → OnlyRead (model.view disk) (model.view back)) → IsLeftBy model disk (Some back)
 read_left model disk back same reads = record { ran = same; any_moment = λ keeps_model state stands keeps. read_leaves state (model.view disk) (model.view back) (reads keeps_model) keeps }
 
-of_one_list : {D : Type 0} {V : _} → (disk back : D) (store : Store D V) (known board : Beginning) (input : Input) (editors : ℕ) (answers : List Answer) → IsOpened (V.view disk) store → HasServedAll store input editors board (V.view back)
-    → GoesOn known board → AreSaid known input editors answers → AreOfOneList V disk back input editors answers
-of_one_list {V = V} disk back store known board input editors answers opened all on said =
+of_one_list : {D : Type 0} {V : _} → (text : Answer → List ℕ) (disk back : D) (store : Store D V) (tally : Tally) (board : Beginning) (input : Input) (editors : ℕ) (old new : Option (List ℕ)) → IsOpened (V.view disk) store
+    → HasServedAll store input editors board (V.view back) → GoesOn tally.known board → (has : HasPrintedBy text tally input editors old new) → AreOfOneList V disk back input editors has.answers
+of_one_list {V = V} text disk back store tally board input editors old new opened all on has =
+    let lawful = lawful_list (state_of store) all.taken board all.begins all.posted in
+    let named = are_named (state_of store) all.taken board all.posted in
     let still : IsTrue (V.view disk).keeps_model → IsTrue (view_of store).keeps_model = λ model. subst IsTrue (sym opened.ran.model) model in
     record {
       first = state_of store;
@@ -150,7 +185,11 @@ of_one_list {V = V} disk back store known board input editors answers opened all
       begins = all.begins;
       of_input = all.of_input;
       posted = all.posted;
-      said = answers_in (state_of store) all.taken known board input editors answers all.begins all.posted on said;
+      newest = all.newest;
+      said = answers_by tally.known board input editors has.answers lawful named on has.said;
+      gone = gone_by tally.known board input editors has.answers lawful named on has.gone;
+      in_turn = has.in_turn.rises;
+      awaited = has.awaited;
       any_moment = λ model keeps. opened_leaves (state_of store) (V.view disk) (view_of store) (V.view back) all.taken (opened.of_model model).reads keeps (still model) all.settled;
       left = λ model. all.stands (subst IsTrue (sym all.settled.same.model) (still model));
     }
@@ -166,5 +205,5 @@ answered {V = V} text disk store input editors old new back opened has = of back
       answers = has.printed.answers;
       all = subst (λ (n : ℕ). AreAllLines input n) (sym has.printed.many) has.whole;
       printed = has.printed.printed;
-      one_list = of_one_list disk d store has.known has.on.board input editors has.printed.answers opened all has.on.on has.printed.said;
+      one_list = of_one_list text disk d store has.tally has.on.board input editors old new opened all has.on.on has.printed;
     }

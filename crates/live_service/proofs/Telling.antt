@@ -1,6 +1,5 @@
 -- What is told of a service's fault says what the service's fault does.
-use Rattle.std.proofs.Common.{◌≡◌, refl, List, ℕ, Option, IsTrue}
-use Rattle.std.specs.Prelude.{IfSome}
+use Rattle.std.proofs.Common.{◌≡◌, refl, List, ℕ, Some, IsTrue}
 use Rattle.disk_trait.specs.declared.disk.Disk.{Ghosts}
 use Rattle.disk_trait.specs.Disk.{OnlyRead}
 use Rattle.layout_2.specs.State.{State}
@@ -81,14 +80,15 @@ opening_told why.NoThread is = absurd is
 opening_told why.Internal is = absurd is
 
 -- what a service's fault tells of its device, told of what is told
-pub told_end : {D : Type 0} (model : Ghosts D) (disk : D) (asked : LandmarkWords) (back : Option D) (f : Stopped)
+pub told_end : {D : Type 0} (model : Ghosts D) (disk back : D) (asked : LandmarkWords) (f : Stopped)
     → (IsTrue (model.view disk).keeps_model → StoppedTells f (model.view disk).content)
     → (IsTrue (model.view disk).keeps_model → (state : State) → StandsFor state (model.view disk).content → f ≡ why.Words → ¬ IsWithin asked state.graph.nodes)
     → (f ≡ why.Words → (state : State) × ¬ IsWithin asked state.graph.nodes)
-    → (IsTrue (model.view disk).keeps_model → IsStoppedOpening f → IfSome back (λ d. OnlyRead (model.view disk) (model.view d)))
-    → (f ≡ why.Device → IfSome back (λ d. HasFailed (model.view disk) (model.view d)))
-    → IsServeEnd model disk asked back (told_fault f)
-told_end model disk asked back f tells not_within of_one refused device = record {
+    → (IsTrue (model.view disk).keeps_model → IsStoppedOpening f → OnlyRead (model.view disk) (model.view back))
+    → (f ≡ why.Device → HasFailed (model.view disk) (model.view back))
+    → IsServeEnd model disk asked (Some back) (told_fault f)
+told_end model disk back asked f tells not_within of_one refused device = record {
+  given_back = refl;
   named = serve_told f;
   tells = λ keeps. content_told f (model.view disk).content (tells keeps);
   not_within = λ keeps state stands is. not_within keeps state stands (words_told f is);

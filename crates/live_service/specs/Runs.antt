@@ -1,5 +1,5 @@
 -- How the threads of a live service end, and what it prints.
-use Rattle.std.specs.Prelude.{◌≡◌, ◌≢◌, ◌⊎◌, ℕ, List, Option, Result, Some, IfSome, IsErrOf}
+use Rattle.std.specs.Prelude.{◌≡◌, ◌≢◌, ◌⊎◌, ℕ, List, Option, Result, Some, IfSome, IsErrOf, IsSomeAnd}
 use Rattle.generations.specs.Beginnings.{Beginning}
 use Rattle.command_output.specs.declared.fault.Fault.{Fault}
 use Rattle.command_output.specs.declared.fault.Fault.TheVariants as told
@@ -24,9 +24,9 @@ use Rattle.live_service.specs.ServedList.{HasPrintedOn, HasServedOn}
 abbrev pub IsFaultOf : {T : Type 0} → Result T StopCause → Fault → Type 0
 IsFaultOf engine fault = IsLater fault × (fault ≡ told.Device → IsErrOf engine cause.Device)
 
--- how the engine of a service ended, and what it left of the disk that a store was on
+-- how the engine of a service ended, and what it left of the disk that a store was on, which came back
 pub record IsEngineEnd {D T : Type 0} {V : _} (store : Store D V) (engine : Result T StopCause) (ended : Served) (back : Option D) : Type 0 where
-  pub disk : IfSome back (λ d. IsServedDisk store engine (V.view d))
+  pub disk : IsSomeAnd back (λ d. IsServedDisk store engine (V.view d))
   pub fault : IfSome (fault_of ended) (λ fault. IsFaultOf engine fault)
 
 -- some engine ended so
@@ -37,7 +37,7 @@ HasEnded store ended back = (engine : Result Beginning StopCause) × IsEngineEnd
 pub record IsPrintEnd (input : Input) (printed : Printed) (ended : Served) : Type 0 where
   pub output : printed.end ≡ Output → fault_of ended ≡ Some told.Output
   pub done : ended ≡ served.Printed → printed.end ≡ Whole
-  pub whole : ended ≡ served.Printed → AreAllLines input printed.count
+  pub whole : ended ≡ served.Printed → AreAllLines input printed.tally.count
 
 -- What a service prints that ended so: unless its output failed, answers to its first lines, and to all of them where
 -- no fault ended it.
@@ -51,12 +51,12 @@ pub record IsRun {C D : Type 0} {V : _} (prints : C → C → Printed → Type 0
   pub printing : prints old mid printed
   pub finishing : finishes mid new ended
   pub print_end : IsPrintEnd input printed ended
-  pub one_list : ended ≡ served.Printed → HasServedOn store input editors printed.known back
+  pub one_list : ended ≡ served.Printed → HasServedOn store input editors printed.tally.known back
 
--- No thread was started, since memory ran out: that was told.
+-- No thread was started, since memory ran out or none could be made: that was told.
 pub record IsUnstarted {C : Type 0} (finishes : C → C → Served → Type 0) (old new : C) (ended : Served) : Type 0 where
   pub finishing : finishes old new ended
-  pub memory : fault_of ended ≡ Some told.Memory
+  pub lacks : (fault_of ended ≡ Some told.Memory) ⊎ (fault_of ended ≡ Some told.NoThread)
 
 -- a service on a store that was opened ended so, between two values of its console
 pub record HasRun {C D : Type 0} {V : _} (prints : C → C → Printed → Type 0) (finishes : C → C → Served → Type 0) (input : Input) (editors : ℕ) (store : Store D V) (old new : C) (ended : Served) (back : Option D) : Type 0 where

@@ -1,5 +1,5 @@
 -- The faults of a service, and what they tell of its device.
-use Rattle.std.specs.Prelude.{◌≡◌, Option, IfSome, IsTrue}
+use Rattle.std.specs.Prelude.{◌≡◌, Option, IfSome, IsSome, IsTrue}
 use Rattle.disk_trait.specs.declared.disk.Disk.{Ghosts}
 use Rattle.disk_trait.specs.Disk.{OnlyRead}
 use Rattle.layout_2.specs.State.{State}
@@ -61,6 +61,8 @@ IsOpeningFault fault = ⊥
 -- What a fault that ended a service under these words tells of its device, and what is left of that.
 pub record IsServeEnd {D : Type 0} (model : Ghosts D) (disk : D) (asked : LandmarkWords) (back : Option D) (fault : Fault) : Type 0 where
   pub named : IsServeFault fault
+  -- whatever the fault, the device came back
+  pub given_back : IsSome back
   -- that its content stands for no state, by its front
   pub tells : IsTrue (model.view disk).keeps_model → TellsOf fault (model.view disk).content
   -- that the words name a node which it hasn't; also of a disk that doesn't keep the model, one which a state hasn't

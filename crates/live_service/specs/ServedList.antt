@@ -19,7 +19,11 @@ use Rattle.live_lines.specs.declared.answer.Answer.{Answer}
 use Rattle.intake.specs.Turns.{of}
 use Rattle.line_exchange.specs.Inputs.{Input}
 use Rattle.line_workers.specs.Submits.{ArePutInOrder}
-use Rattle.line_exchange.specs.OneList.{AreAnswersIn}
+use Rattle.packet_ways.specs.Standing.{IsNewest}
+use Rattle.line_exchange.specs.OneList.{AreAnswersIn, AreGone}
+use Rattle.line_exchange.specs.Tallies.{AreAwaited, no_tickets, told_in}
+use Rattle.requests.specs.Tickets.{Rises}
+use Rattle.line_exchange.specs.declared.tally.Tally.{Tally}
 use Rattle.line_exchange.specs.Prints.{AreAllLines, HasPrintedBy, lines_of}
 
 -- ---- a board at its beginning
@@ -37,12 +41,13 @@ pub record IsBoardOf (opening : Opening) (state : State) (writer : Posts) (reade
 -- ---- an engine that nothing stopped
 
 -- From the state of a store on requests were taken and all settled: what is on the board has the marks of the first of them, and each
--- generation there serves the state that its number names. A crash at any moment left the state after a beginning of them, and one now
--- leaves the state after all. Each session's requests were put by lines of the input, in the lines' order.
+-- generation there serves the state that its number names, the newest that after all of them. A crash at any moment left the state after a
+-- beginning of them, and one now leaves the state after all. Each session's requests were put by lines of the input, in the lines' order.
 pub record HasServedAll {D : Type 0} {V : _} (store : Store D V) (input : Input) (editors : ℕ) (board : Beginning) (new : DiskView) : Type 0 where
   pub taken : List Request
   pub begins : (board.opening.starts ≡ (state_of store).tickets) × (board.opening.count ≡ (state_of store).count)
   pub posted : ArePosted (state_of store) taken board.log
+  pub newest : IsNewest board (settle (state_of store) taken).state.count
   pub settled : HasSettled (state_of store) taken (view_of store) new
   pub stands : IsTrue new.keeps_model → KeepsThrough new (settle (state_of store) taken).state
   pub of_input : (session : ℕ) → ArePutInOrder input editors (of session taken)
@@ -62,13 +67,12 @@ pub record HasServedOn {D : Type 0} {V : _} (store : Store D V) (input : Input) 
   pub on : GoesOn known board
   pub all : IsSomeAnd back (λ d. HasServedAll store input editors board (V.view d))
 
--- Lines were answered over a store: so much was printed by what was known, a line of this text for each answer, and the board has it.
+-- Lines were answered over a store: all were printed by what was known, a line of this text for each answer, and the board has it.
 pub record HasPrintedOn {D : Type 0} {V : _} (text : Answer → List ℕ) (store : Store D V) (input : Input) (editors : ℕ) (old new : Option (List ℕ)) (back : Option D) : Type 0 where
-  pub known : Beginning
-  pub count : ℕ
-  pub printed : HasPrintedBy text known input editors old new count
-  pub whole : AreAllLines input count
-  pub on : HasServedOn store input editors known back
+  pub tally : Tally
+  pub printed : HasPrintedBy text tally input editors old new
+  pub whole : AreAllLines input tally.count
+  pub on : HasServedOn store input editors tally.known back
 
 -- ---- a service that no fault ended
 
@@ -85,8 +89,16 @@ pub record AreOfOneList {D : Type 0} (model : Ghosts D) (disk back : D) (input :
   pub of_input : (session : ℕ) → ArePutInOrder input editors (of session taken)
   -- the marks on the board are those of settling the first of the requests, and each generation there serves the state that its number names
   pub posted : ArePosted first taken board.log
+  -- the newest generation there is that of the state after all of them
+  pub newest : IsNewest board (settle first taken).state.count
   -- each answer is to the line at its place, and the board says it
   pub said : AreAnswersIn board input editors answers
+  -- the tickets that are told as verdicts rise in each session
+  pub in_turn : Rises no_tickets (told_in answers)
+  -- where one tells that a generation is gone, it is so after a beginning of the board's list that says all answers before it
+  pub gone : AreGone (λ seen before. AreAnswersIn seen input editors before) board input editors answers
+  -- a generation that was waited for has all changes that an earlier answer tells as accepted
+  pub awaited : AreAwaited answers
   -- a crash at any moment left the state after a beginning of the requests
   pub any_moment : IsTrue (model.view disk).keeps_model → KeepsThrough (model.view disk) first → LeavesOnly (model.view disk) (model.view back) (StandsForBeginning first taken)
   -- and one now leaves the state after all of them

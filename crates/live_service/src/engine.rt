@@ -1,5 +1,5 @@
 // The engine's threads: the committer in the caller's, and one for each editor, each forwarder, the waiter and tables.
-ghost use Rattle.std.specs.Prelude.{◌≡◌, ◌⊎◌, ◌+◌, ℕ, [], All, IfOk, IfSome, IsErrOf, IsOk, OnOk, map, true, vec_len, ◌<◌, ◌≤◌};
+ghost use Rattle.std.specs.Prelude.{◌≡◌, ◌⊎◌, ◌+◌, ℕ, [], All, IfOk, IfSome, IsErrOf, Ok, OnOk, map, true, vec_len, ◌<◌, ◌≤◌};
 ghost use Rattle.atomic_table.specs.Seated.{TableId};
 ghost use Rattle.requests.specs.Tickets.{last_of};
 ghost use Rattle.layout_2.specs.State.{State};
@@ -9,6 +9,7 @@ ghost use Rattle.settled_lists.specs.Posted.{ArePosted};
 ghost use Rattle.committer.specs.CommitterWords.{got_of, posts_of, queue_of, store_of, taker_of};
 ghost use Rattle.committer.specs.Listed.{IsListedFrom};
 ghost use Rattle.service_threads.specs.Kept.{IsFresh};
+ghost use Rattle.service_threads.specs.Pace.{IsUpToDate};
 ghost use Rattle.live_service.specs.Seated.{IsSeated};
 ghost use Rattle.live_service.specs.ServedList.{EndsServed};
 ghost use Rattle.line_workers.specs.Submits.{AreAllEditors, ArePutInOrder, ComesBack};
@@ -250,24 +251,24 @@ fn joined<J: Stream, B: BoardName, R: Threads + Wait>(
 }
 
 // Why the threads stopped, if they did, and else what was posted. What the committer itself met goes before what another thread met; of
-// the device it alone knows. If nothing stopped them, all that editors put was taken, or two parts disagree.
+// the device it alone knows. If nothing stopped them, all editors have left and all that they put was taken, or two parts disagree.
 fn ended(
-    own: Result<(), StopCause>,
+    own: Result<bool, StopCause>,
     cause: Option<StopCause>,
     all_taken: bool,
     board: History,
 ) -> Result<History, StopCause>
     ensures device { IsErrOf result StopCause.Device → IsErrOf own StopCause.Device }
     ensures board { IfOk result (λ b. b ≡ board) }
-    ensures own { OnOk result (IsOk own) }
+    ensures own { OnOk result (own ≡ Ok true) }
     ensures all { OnOk result (all_taken ≡ true) }
 {
     match (own, cause) {
         (Err(cause), _) => Err(cause),
-        (Ok(()), Some(StopCause::Device)) => Err(StopCause::Internal),
-        (Ok(()), Some(cause)) => Err(cause),
-        (Ok(()), None) if all_taken => Ok(board),
-        (Ok(()), None) => Err(StopCause::Internal),
+        (Ok(_), Some(StopCause::Device)) => Err(StopCause::Internal),
+        (Ok(_), Some(cause)) => Err(cause),
+        (Ok(true), None) if all_taken => Ok(board),
+        (Ok(_), None) => Err(StopCause::Internal),
     }
 }
 
@@ -291,6 +292,7 @@ fn run_seats<
     requires opening { (posts_of committer).opening ≡ B.opening }
     requires fresh { IsFresh committer }
     requires listed { IsListedFrom (state_of (store_of committer)) committer }
+    requires shown { IsUpToDate committer }
     requires editors { AreAllEditors (taker_of committer) (map (λ e. e.editor) seats.editors.items) }
     ensures { EndsServed B.opening (store_of committer) J.input J.editors result.0 (view_of result.1) }
 {
@@ -301,6 +303,7 @@ fn run_seats<
             requires opening { (posts_of committer).opening ≡ B.opening }
             requires fresh { IsFresh committer }
             requires listed { IsListedFrom (state_of (store_of committer)) committer }
+            requires shown { IsUpToDate committer }
             requires editors { AreAllEditors (taker_of committer) (map (λ e. e.editor) seats.editors.items) }
             ensures { EndsServed B.opening (store_of committer) J.input J.editors result.0 (view_of result.1) }
         {

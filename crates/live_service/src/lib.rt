@@ -19,17 +19,18 @@
 //!
 //! The contract of [`serve_live`] says more of each line. Unless input or output failed, what is printed is lines of
 //! answers and nothing else: the k-th fits what the k-th line of the input asks for (`PrintsTo` of `specs/Runs`), and if no fault
-//! ended the service each line has one. The lines are those of an input whose bytes are known. If the disk comes back, it is the very
-//! device, and a crash at any moment leaves the state after a beginning of the requests that were taken (`IsLeftBy`). A fault is
-//! told, and is true of the device (`IsServeEnd`).
+//! ended the service each line has one. The lines are those of an input whose bytes are known. The disk comes back, whatever ends the
+//! service: it is the very device, and a crash at any moment leaves the state after a beginning of the requests that were taken
+//! (`IsLeftBy`). A fault is told, and is true of the device (`IsServeEnd`).
 //!
 //! Where no fault ended a service, all its answers are of one list of requests, which it took from the state of the opened device on
 //! (`AreOfOneList` of `specs/ServedList`). Each session's are edits that lines of the input ask for, in the order of the lines, each line
 //! at most once (`ArePutInOrder` of `line_workers`). A verdict is the mark that settling the first of them gives this session and this
-//! ticket, and an edit that is in already has a ticket that was taken before. Each generation serves the graph of the state that its number names. A route is the
-//! way that a packet goes there, and so are addresses, launches and hops by the scheme of their generation (`IsSaidIn` of
-//! `line_exchange`). The device holds the state after all of the requests. Nothing of this kind is said of `resume`, `tables`, `state`
-//! and `wait`, nor of a way's length. The same holds of a script.
+//! ticket, and an edit that is in already has a ticket that was taken before. Each generation serves the graph of the state that its
+//! number names. A route is the way that a packet goes there, and so are addresses, launches and hops by the scheme of their generation
+//! (`IsSaidIn` of `line_exchange`). `state` tells how the board stood, and the generation that `wait` answers has each change that was told
+//! as accepted before. The device holds the state after all of the requests. Nothing of this kind is said of `resume` and `tables`, nor of
+//! a way's length. The same holds of a script.
 //!
 //! ```text
 //! let mut err = WatchedWriter::new(rt.stderr());

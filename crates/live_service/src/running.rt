@@ -1,9 +1,10 @@
 // The threads of a service: the engine's, the reader's, and the caller's, which prints.
-ghost use Rattle.std.specs.Prelude.{◌≡◌, ◌≢◌, IfOk, IfSome, IsOkAnd, IsSome, None, OnOk, Some, false};
-ghost use Rattle.checkpoint.specs.StoreWords.{is_down, state_of};
+ghost use Rattle.std.specs.Prelude.{◌≡◌, ◌≢◌, IfErr, IfOk, IfSome, IsOkAnd, None, Some, false};
+ghost use Rattle.checkpoint.specs.StoreWords.{is_down, state_of, view_of};
 ghost use Rattle.command_output.specs.declared.fault.Fault.{Fault};
 ghost use Rattle.generations.specs.Beginnings.{GoesOn};
 ghost use Rattle.service_threads.specs.Faults.{stop_fault};
+ghost use Rattle.service_threads.specs.Kept.{HasSettledSome};
 ghost use Rattle.live_service.specs.ServeEnds.{IsLater, told_fault};
 ghost use Rattle.line_exchange.specs.declared.served.Served.{Served};
 ghost use Rattle.line_exchange.specs.Ends.{fault_of};
@@ -30,6 +31,7 @@ use std::alloc::Global;
 use std::marker::PhantomData;
 use std::snapshot::Snapshot;
 use std::sync::Wait;
+use std::sync::atomic::{AtomicBool, Ordering};
 use std::thread;
 use std::thread::{Promise, PromisedHandle, Scope, Threads};
 use table_files::TableFiles;
@@ -72,18 +74,19 @@ fn told_cause(cause: StopCause) -> Fault
 // board has all that the answers know, or two parts disagree.
 #[tactic(auto, using(crate::proofs::Ended::cause_later, crate::proofs::Ended::cause_device))]
 fn early_fault(printed: &Printed, engine: &Result<History, StopCause>) -> Option<Fault>
-    requires { IfOk engine.now (λ board. printed.now.known.opening ≡ board.opening) }
+    requires { IfOk engine.now (λ board. printed.now.tally.known.opening ≡ board.opening) }
     ensures fault { IfSome result (λ fault. IsFaultOf engine.now fault) }
     ensures output { printed.now.end ≡ PrintEnd.Output → result ≡ Some Fault.Output }
     ensures none { result ≡ None → printed.now.end ≡ PrintEnd.Whole }
-    ensures on { result ≡ None → IsOkAnd engine.now (λ board. GoesOn printed.now.known board) }
+    ensures on { result ≡ None → IsOkAnd engine.now (λ board. GoesOn printed.now.tally.known board) }
 {
     match (printed.end, engine) {
         (PrintEnd::Output, _) => Some(Fault::Output),
         (_, Err(cause)) => Some(told_cause(*cause)),
         (PrintEnd::Memory, Ok(_)) => Some(Fault::Memory),
+        (PrintEnd::Internal, Ok(_)) => Some(Fault::Internal),
         (PrintEnd::Whole, Ok(board)) => {
-            if board.covers(&printed.known) {
+            if board.covers(&printed.tally.known) {
                 None
             } else {
                 Some(Fault::Internal)
@@ -95,10 +98,10 @@ fn early_fault(printed: &Printed, engine: &Result<History, StopCause>) -> Option
 // The fault that is known once the reader has ended too: it failed, or not all its lines have answers.
 fn late_fault(printed: &Printed, read: &Result<Option<u64>, ReadFault>) -> Option<Fault>
     ensures fault { IfSome result (λ fault. IsLater fault × (fault ≢ Fault.Device)) }
-    ensures none { result ≡ None → read.now ≡ Ok (Some printed.now.count) }
+    ensures none { result ≡ None → read.now ≡ Ok (Some printed.now.tally.count) }
 {
     match read {
-        Ok(Some(lines)) if *lines == printed.count => None,
+        Ok(Some(lines)) if *lines == printed.tally.count => None,
         Ok(_) => Some(Fault::Internal),
         Err(ReadFault::Input) => Some(Fault::Output),
         Err(ReadFault::Memory) => Some(Fault::Memory),
@@ -128,11 +131,11 @@ fn conclude<J: Stream, C: Console<J>, R: Threads>(
     engine: &Result<History, StopCause>,
     reader: Option<PromisedHandle<Result<Option<u64>, ReadFault>, ReaderPromise<J>>>,
 ) -> (C, Served)
-    requires { IfOk engine.now (λ board. printed.known.opening ≡ board.opening) }
+    requires { IfOk engine.now (λ board. printed.tally.known.opening ≡ board.opening) }
     ensures finishes { C.finishes console result.0 result.1 }
     ensures fault { IfSome (fault_of result.1) (λ fault. IsFaultOf engine.now fault) }
     ensures printed { IsPrintEnd J.input printed result.1 }
-    ensures on { result.1 ≡ Served.Printed → IsOkAnd engine.now (λ board. GoesOn printed.known board) }
+    ensures on { result.1 ≡ Served.Printed → IsOkAnd engine.now (λ board. GoesOn printed.tally.known board) }
 {
     match early_fault(&printed, engine) {
         Some(fault) => {
@@ -147,27 +150,8 @@ fn conclude<J: Stream, C: Console<J>, R: Threads>(
     }
 }
 
-// Waits for the engine. The disk comes back, unless it had no thread.
-fn join_engine<J: Stream, B: BoardName, D: Disk, R: Threads>(
-    rt: &R,
-    engine: Option<PromisedHandle<(Result<History, StopCause>, D), EnginePromise<J, B, D>>>,
-) -> (Result<History, StopCause>, Option<D>)
-    // Whichever store it was started over.
-    ensures ends { (store : Store D D.Disk) → IfSome engine (λ handle. handle.promise.store.value ≡ store)
-        → IfSome result.1 (λ d. EndsServed B.opening store J.input J.editors result.0 (D.view d)) }
-    ensures opening { IfOk result.0 (λ board. board.opening ≡ B.opening) }
-    ensures back { OnOk result.0 (IsSome result.1) }
-{
-    match engine {
-        Some(engine) => {
-            let (result, disk) = engine.join(rt);
-            (result, Some(disk))
-        }
-        None => (Err(StopCause::NoThread), None),
-    }
-}
-
-// Starts the engine in a thread of its own, with a stack for deep trees. None where it can't be made.
+// Starts the engine in a thread of its own, with a stack for deep trees. Where none can be made the disk comes back: then `unmade` is
+// set, and the engine's own closure hands the disk out instead.
 fn start_engine<
     's,
     E,
@@ -185,8 +169,11 @@ fn start_engine<
     parts: EngineParts<B, D, T, Q>,
     gate: &'s G,
     exchange: &'s Exchange<J, B>,
-) -> Option<PromisedHandle<(Result<History, StopCause>, D), EnginePromise<J, B, D>>>
-    ensures { IfSome result (λ handle. handle.promise.store.value ≡ parts.opened.store) }
+    unmade: &'s AtomicBool,
+) -> Result<PromisedHandle<(Result<History, StopCause>, D), EnginePromise<J, B, D>>, D>
+    ensures made { IfOk result (λ handle. handle.promise.store.value ≡ parts.opened.store) }
+    ensures unmade { IfErr result (λ disk.
+        HasSettledSome (state_of parts.opened.store) (view_of parts.opened.store) (D.view disk)) }
 {
     let promise: EnginePromise<J, B, D> = EnginePromise {
         store: Snapshot::of(&parts.opened.store),
@@ -212,6 +199,9 @@ fn start_engine<
         requires up { is_down store ≡ false }
         ensures { EndsServed B.opening store J.input J.editors result.0 (D.view result.1) }
     {
+        if unmade.load(Ordering::SeqCst) {
+            return (Err(StopCause::NoThread), store.into_disk());
+        }
         let opened = Opened {
             config,
             store,
@@ -230,13 +220,16 @@ fn start_engine<
         .stack_size(STACK_LEN)
         .spawn_scoped_with(scope, promise, job)
     {
-        Ok(handle) => Some(handle),
-        Err(_) => None,
+        Ok(handle) => Ok(handle),
+        Err(refused) => {
+            unmade.store(true, Ordering::SeqCst);
+            let (_, disk) = (refused.value)();
+            Err(disk)
+        }
     }
 }
 
-/// All threads: the engine's, the reader's, and the caller's, which prints. The disk comes back, unless no thread could be made for the
-/// engine.
+/// All threads: the engine's, the reader's, and the caller's, which prints. Where no thread can be made for the engine nothing is printed.
 pub(crate) fn run_threads<
     'a,
     J: Stream + Send + Sync,
@@ -260,6 +253,8 @@ pub(crate) fn run_threads<
     requires given { L.has_given lines 0 }
     ensures { HasRun C.prints C.finishes J.input J.editors parts.opened.store console result.0 result.1 result.2 }
 {
+    let unmade = AtomicBool::new(false);
+    let unmade = &unmade;
     thread::scope(
         thread::scope_env(),
         rt,
@@ -268,11 +263,13 @@ pub(crate) fn run_threads<
             ensures { HasRun C.prints C.finishes J.input J.editors parts.opened.store
                 console result.0 result.1 result.2 }
         {
-            let engine_thread = start_engine(scope, rt, alloc, parts, gate, exchange);
-            if engine_thread.is_none() {
-                exchange.shut(rt);
-                exchange.end(rt);
-            }
+            let engine = match start_engine(scope, rt, alloc, parts, gate, exchange, unmade) {
+                Ok(engine) => engine,
+                Err(disk) => {
+                    let (console, served) = console.finish(Some(Fault::NoThread));
+                    return (console, served, Some(disk));
+                }
+            };
             let reader_promise: ReaderPromise<J> = ReaderPromise { of: PhantomData };
             let reader_job = move || -> Result<Option<u64>, ReadFault>
                 requires given { L.has_given lines 0 }
@@ -286,9 +283,9 @@ pub(crate) fn run_threads<
                 }
             };
             let (console, printed) = console.print(rt, exchange);
-            let (ended, disk) = join_engine(rt, engine_thread);
+            let (ended, disk) = engine.join(rt);
             let (console, served) = conclude::<J, C, R>(rt, console, printed, &ended, reader);
-            (console, served, disk)
+            (console, served, Some(disk))
         },
     )
 }

@@ -1,5 +1,5 @@
 // A script on a device: the live service's engine runs it, and its answers are printed at the end.
-ghost use Rattle.std.specs.Prelude.{◌≡◌, ◌≢◌, ◌≤◌, ◌⊎◌, IfErr, IfOk, IfSome, OnOk, Some};
+ghost use Rattle.std.specs.Prelude.{◌≡◌, ◌≢◌, ◌≤◌, ◌⊎◌, IfErr, IfOk, IfSome, IsSome, OnOk, Some};
 ghost use Rattle.command_output.specs.declared.fault.Fault.{Fault};
 ghost use Rattle.command_output.specs.Faults.{status_of};
 ghost use Rattle.written_values.specs.Scripts.{AreOfSessions};
@@ -125,8 +125,8 @@ fn result_of(served: Served) -> Result<(), Fault>
     }
 }
 
-/// Runs a script on a device, and prints a line for each of its lines, in their order. The device comes back, unless no thread
-/// could be made for it. What was accepted before a fault stays on it.
+/// Runs a script on a device, and prints a line for each of its lines, in their order. The device comes back, whatever ends the
+/// service. What was accepted before a fault stays on it.
 ///
 /// The engine is that of a live service, and all answers are kept until it has ended. A generation is built before any line is answered,
 /// and again behind a round that changed the graph. The k-th route, from 0, goes to the forwarder `k` modulo their number. With the most
@@ -153,6 +153,7 @@ where
     ensures ended { IfErr result.0 (λ fault. IsServeEnd D.Disk disk words result.1 fault) }
     // No line is printed where the service gives no answers.
     ensures untouched { IfErr result.0 (λ fault. fault ≢ Fault.Output → out.new ≡ out.old) }
+    ensures back { IsSome result.1 }
     ensures left { IsLeftBy D.Disk disk result.1 }
     // Where no fault comes, the device came back, and the answers are of one list of requests.
     ensures one_list { OnOk result.0
@@ -177,7 +178,7 @@ where
 }
 
 /// Runs a script on a device, prints a line for each of its lines, in their order, and answers how that ended. A fault is told on
-/// `err`. The device comes back, unless no thread could be made for it.
+/// `err`. The device comes back.
 pub fn serve_told<'a, D, G, R, O, E>(
     rt: &'a R,
     alloc: Global,
@@ -202,6 +203,7 @@ where
     ensures quiet { result.0 ≡ Served.Printed → err.new ≡ err.old }
     ensures fault { IfSome (fault_of result.0) (λ fault. FailsScript D.Disk disk words result.1 out.old out.new fault) }
     ensures told { TellsEnd E.contents E.has_failed err.old err.new result.0 }
+    ensures back { IsSome result.1 }
     ensures left { IsLeftBy D.Disk disk result.1 }
 {
     let (result, disk) = serve_lines(rt, alloc, disk, words, config, script, gate, out);
@@ -215,7 +217,7 @@ where
 }
 
 /// Runs a script on a device, prints a line for each of its lines, in their order, and answers the exit status: 0, also where
-/// changes were refused. A fault is told on `err`. The device comes back, unless no thread could be made for it.
+/// changes were refused. A fault is told on `err`. The device comes back.
 pub fn serve_on<'a, D, G, R, O, E>(
     rt: &'a R,
     alloc: Global,
@@ -242,6 +244,7 @@ where
     ensures fault { (result.0 ≡ 0) ⊎ ((fault : Fault) × FailsScript D.Disk disk words result.1 out.old out.new fault
         × (result.0 ≡ status_of fault)
         × IsToldOrFailed (E.contents err.old) (E.contents err.new) (E.has_failed err.new) fault) }
+    ensures back { IsSome result.1 }
     ensures left { IsLeftBy D.Disk disk result.1 }
 {
     let (served, disk) = serve_told(rt, alloc, disk, words, config, script, gate, out, err);

@@ -1,5 +1,5 @@
 // The live service on a device.
-ghost use Rattle.std.specs.Prelude.{◌≡◌, IfSome, IsTrue};
+ghost use Rattle.std.specs.Prelude.{◌≡◌, IfSome, IsSome, IsTrue};
 ghost use Rattle.command_output.specs.declared.fault.Fault.{Fault};
 ghost use Rattle.service_threads.specs.Config.{IsServiceConfig};
 ghost use Rattle.service_threads.specs.Kept.{IsLeftBy};
@@ -77,7 +77,7 @@ where
 ///
 /// What ends the service before the input's end is told on `err`, once all answers before the first line without one are printed.
 /// [`Served::Printed`]: the input came to its end, and all its lines are answered. What was accepted stays on the device, which comes
-/// back, unless no thread could be made for its engine.
+/// back whatever ends the service.
 pub fn serve_live<'a, D, G, T, R, S, O, E>(
     rt: &'a R,
     alloc: Global,
@@ -108,7 +108,9 @@ where
     ensures untold { (fault : Fault) → result.0 ≡ Served.Untold fault → IsTrue (E.has_failed err.new) }
     // A fault is true of the device.
     ensures ended { IfSome (fault_of result.0) (λ fault. IsServeEnd D.Disk disk words result.1 fault) }
-    // The very device comes back: a crash at any moment leaves the state after a beginning of the requests that were taken.
+    // The device comes back, whatever ended it.
+    ensures back { IsSome result.1 }
+    // It is the very device: a crash at any moment leaves the state after a beginning of the requests that were taken.
     ensures left { IsLeftBy D.Disk disk result.1 }
     // Where no fault ended it, the device came back, and the answers are of one list of requests.
     ensures one_list { result.0 ≡ Served.Printed

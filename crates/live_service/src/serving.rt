@@ -117,7 +117,7 @@ where
 }
 
 /// The service of a device that was opened, for the lines that `J` names: all threads, from these lines to this console. The disk
-/// comes back, unless no thread could be made for the engine.
+/// comes back.
 pub fn serve_opened<'a, J, D, G, T, R, L, C>(
     rt: &'a R,
     alloc: Global,

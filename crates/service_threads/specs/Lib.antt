@@ -1,3 +1,4 @@
 pub mod Config
 pub mod Faults
 pub mod Kept
+pub mod Pace

@@ -1,11 +1,12 @@
 // The committer's thread.
 ghost use Rattle.std.specs.Arc.{arc_value};
-ghost use Rattle.std.specs.Prelude.{◌≡◌, ◌≢◌, IfErr, IfOk, IsErrOf, OnOk, false};
+ghost use Rattle.std.specs.Prelude.{◌≡◌, ◌≢◌, ◌⊎◌, ◌↔◌, ◌+◌, ◌-◌, ◌^◌, min, IfErr, IfOk, IsErrOf, IsTrue, OnOk, false};
 ghost use Rattle.node_table.specs.Service.{Serves};
 ghost use Rattle.node_table.specs.Tables.{tables};
-ghost use Rattle.checkpoint.specs.StoreWords.{is_down};
+ghost use Rattle.checkpoint.specs.StoreWords.{is_down, state_of};
 ghost use Rattle.committer.specs.CommitterWords.{posts_of, store_of};
 ghost use Rattle.committer.specs.Listed.{StaysListed};
+ghost use Rattle.service_threads.specs.Pace.{IsDue, IsShown, IsUpToDate};
 ghost use Rattle.service_threads.specs.Kept.{HasLostDevice, HasSettledAll, HasSettledFrom, HasTurned, IsFresh, IsOnCourse, KeepsQueue, OnlyRebuilds, PostsAlong};
 
 use crate::committer_stop::CommitterStop;
@@ -17,7 +18,7 @@ use node_table::Scheme;
 use packet_ways::BoardName;
 use scheme_builds::{SCRATCH_LEN, scheme_of_in_threads, workers_here};
 use service_workers::{
-    Coordinator, GenerationGraph, Graphs, StopCause, ToldOf, WordSource, shared_graph,
+    Coordinator, GenerationGraph, Graphs, Stand, StopCause, ToldOf, WordSource, shared_graph,
 };
 use std::alloc::{AllocError, Global};
 use std::sync::{Arc, Wait};
@@ -33,6 +34,8 @@ pub struct Rebuilds {
     rounds: u32,
     // How many rounds there were since the first change that is in none, that one's among them.
     owed: u32,
+    // The number of the newest generation.
+    newest: u64,
 }
 
 impl Rebuilds {
@@ -45,15 +48,23 @@ impl Rebuilds {
             heap,
             rounds,
             owed: 0,
+            newest: 0,
         })
     }
 
-    // Whether a generation is due behind a round.
-    fn is_due(&mut self, round: &Round) -> bool {
-        if round.accepted > 0 || self.owed > 0 {
-            self.owed = self.owed.saturating_add(1);
+    // Whether a generation is due behind a round that took so many requests, where so many changes are accepted now.
+    fn is_due(&mut self, taken: usize, count: u64) -> bool
+        ensures due { IsTrue result
+            ↔ IsDue self.old.newest count taken (self.old.owed + 1) self.old.rounds }
+        ensures owed { IsTrue result ⊎ (self.old.newest ≡ count)
+            ⊎ (self.new.owed ≡ min (self.old.owed + 1) (2 ^ 32 - 1)) }
+        ensures same { (self.new.newest ≡ self.old.newest) × (self.new.rounds ≡ self.old.rounds) }
+    {
+        if self.newest == count {
+            return false;
         }
-        if self.owed == 0 || (round.taken > 0 && self.owed < self.rounds) {
+        self.owed = self.owed.saturating_add(1);
+        if taken > 0 && self.owed < self.rounds {
             return false;
         }
         self.owed = 0;
@@ -69,7 +80,9 @@ impl Rebuilds {
     ) -> Result<(), CommitterStop>
         requires opening { (posts_of committer.old).opening ≡ J.opening }
         requires up { is_down (store_of committer.old) ≡ false }
-        ensures { OnlyRebuilds J.opening committer.old committer.new result }
+        ensures only { OnlyRebuilds J.opening committer.old committer.new result }
+        ensures shown { OnOk result (IsUpToDate committer.new) }
+        ensures newest { OnOk result (self.new.newest ≡ (state_of (store_of committer.new)).count) }
     {
         let Rebuilds { source, heap, .. } = self;
         match source {
@@ -81,6 +94,7 @@ impl Rebuilds {
                 rebuild_by::<D, R, S>(rt, alloc, committer, &words, heap)?;
             }
         }
+        self.newest = committer.store().count();
         Ok(())
     }
 }
@@ -94,7 +108,8 @@ fn rebuild_by<D: Disk, R: Wait + Drop, S: Threads + Wait + Sync>(
     heap: &LocalHeap,
 ) -> Result<(), CommitterStop>
     requires up { is_down (store_of committer.old) ≡ false }
-    ensures { OnlyRebuilds (posts_of committer.old).opening committer.old committer.new result }
+    ensures only { OnlyRebuilds (posts_of committer.old).opening committer.old committer.new result }
+    ensures shown { OnOk result (IsUpToDate committer.new) }
 {
     let workers = workers_here(rt, committer.store().nodes());
     if workers < 2 {
@@ -136,11 +151,19 @@ fn next_graph<D: Disk, R: Wait + Drop>(
     Ok(shared_graph(alloc, store.count(), store.graph())?)
 }
 
-// What the committer tells.
-fn told<J: BoardName, D: Disk, R: Wait + Drop>(committer: &Committer<D, R>) -> ToldOf<J>
-    requires { (posts_of committer.now).opening ≡ J.opening }
+// What the committer tells, whose newest generation has this number.
+fn stand_of<J: BoardName, D: Disk, R: Wait + Drop>(
+    committer: &Committer<D, R>,
+    generation: u64,
+) -> Stand<J>
+    requires opening { (posts_of committer.now).opening ≡ J.opening }
+    requires shown { IsShown generation committer.now }
 {
-    ToldOf::new(committer.told())
+    Stand {
+        told: ToldOf::new(committer.told()),
+        count: committer.store().count(),
+        generation,
+    }
 }
 
 // One round, its marks told, and the generation that is due behind it, told too. Its graph is shown before it is posted, so that
@@ -155,7 +178,11 @@ fn turn<J: BoardName, D: Disk, R: Wait + Drop, S: Threads + Wait + Sync>(
 ) -> Result<Round, CommitterStop>
     requires opening { (posts_of committer.old).opening ≡ J.opening }
     requires up { is_down (store_of committer.old) ≡ false }
+    requires shown { IsShown rebuilds.old.newest committer.old }
     ensures opening { OnOk result ((posts_of committer.new).opening ≡ J.opening) }
+    ensures shown { OnOk result (IsShown rebuilds.new.newest committer.new) }
+    // Where nothing was taken the newest generation has all that is accepted.
+    ensures up_to_date { IfOk result (λ round. round.taken ≡ 0 → IsUpToDate committer.new) }
     ensures turned { HasTurned committer.old committer.new }
     ensures queue { KeepsQueue committer.old committer.new }
     ensures settled { OnOk result (HasSettledAll committer.old committer.new) }
@@ -164,19 +191,22 @@ fn turn<J: BoardName, D: Disk, R: Wait + Drop, S: Threads + Wait + Sync>(
 {
     let round = committer.round(alloc, rt)?;
     if round.taken > 0 {
-        coordinator.count(rt, round.taken, committer.store().count());
-        coordinator.tell(rt, told::<J, D, R>(committer));
+        coordinator.tell(
+            rt,
+            stand_of::<J, D, R>(committer, rebuilds.newest),
+            round.taken,
+        );
     }
-    if rebuilds.is_due(&round) {
+    if rebuilds.is_due(round.taken, committer.store().count()) {
         coordinator.show(rt, next_graph(alloc, committer)?);
         rebuilds.rebuild::<J, D, R, S>(rt, alloc, committer)?;
-        coordinator.see(rt, committer.store().count());
-        coordinator.tell(rt, told::<J, D, R>(committer));
+        coordinator.tell(rt, stand_of::<J, D, R>(committer, rebuilds.newest), 0);
     }
     Ok(round)
 }
 
-/// Commits what editors submit, until all of them have left, or all stop. An `Err` is why the committer itself stopped.
+/// Commits what editors submit, until all of them have left, or all stop: which of the two it was. An `Err` is why the committer itself
+/// stopped.
 #[tactic(auto, using(crate::proofs::Settling::on_course_first, crate::proofs::Settling::turned_settles, crate::proofs::Settling::queue_first))]
 pub fn commit_all<J: BoardName, D: Disk, R: Wait + Drop, S: Threads + Wait + Sync>(
     rt: &S,
@@ -184,9 +214,10 @@ pub fn commit_all<J: BoardName, D: Disk, R: Wait + Drop, S: Threads + Wait + Syn
     coordinator: &Coordinator<J>,
     committer: &mut Committer<D, R>,
     rebuilds: &mut Rebuilds,
-) -> Result<(), StopCause>
+) -> Result<bool, StopCause>
     requires opening { (posts_of committer.old).opening ≡ J.opening }
     requires fresh { IsFresh committer.old }
+    requires shown { IsUpToDate committer.old }
     ensures settled { HasSettledFrom committer.old committer.new }
     ensures device { IsErrOf result StopCause.Device → HasLostDevice committer.old committer.new }
 
@@ -200,16 +231,19 @@ pub fn commit_all<J: BoardName, D: Disk, R: Wait + Drop, S: Threads + Wait + Syn
     // Where nothing stopped the committer, that is the whole list, and the device stands for the state after it.
     ensures all { OnOk result (IsOnCourse committer.old committer.new) }
     ensures opening { OnOk result ((posts_of committer.new).opening ≡ J.opening) }
+    // And where all editors have left, the newest generation is that of this state.
+    ensures up_to_date { IfOk result (λ left. IsTrue left → IsUpToDate committer.new) }
 {
+    rebuilds.newest = committer.store().count();
     for _ in rt.forever() {
         // What there is to do is read before the round, so that nothing is missed that comes behind it.
         let work = coordinator.work(rt);
         if work.stopped {
-            return Ok(());
+            return Ok(false);
         }
         match turn::<J, D, R, S>(rt, alloc, coordinator, committer, rebuilds) {
             Ok(round) if round.taken > 0 => {}
-            Ok(_) if work.editing == 0 => return Ok(()),
+            Ok(_) if work.editing == 0 => return Ok(true),
             Ok(_) => coordinator.await_work(rt, work.asked),
             Err(stop) => {
                 coordinator.stop(rt, stop.cause);
@@ -217,7 +251,7 @@ pub fn commit_all<J: BoardName, D: Disk, R: Wait + Drop, S: Threads + Wait + Syn
             }
         }
     }
-    Ok(())
+    Ok(false)
 }
 
 /// Builds the first generation, and gives the coordinator that begins with it.
@@ -230,13 +264,12 @@ pub fn first_generation<J: BoardName, D: Disk, R: Wait + Drop, S: Threads + Wait
 ) -> Result<Coordinator<J>, CommitterStop>
     requires opening { (posts_of committer.old).opening ≡ J.opening }
     requires up { is_down (store_of committer.old) ≡ false }
-    ensures { OnlyRebuilds J.opening committer.old committer.new result }
+    ensures only { OnlyRebuilds J.opening committer.old committer.new result }
+    ensures shown { OnOk result (IsUpToDate committer.new) }
 {
     let mut graphs = Graphs::new();
     graphs.push(next_graph(alloc, committer)?);
     rebuilds.rebuild::<J, D, R, S>(rt, alloc, committer)?;
-    let coordinator = Coordinator::new(told::<J, D, R>(committer), graphs, editing);
-    coordinator.count(rt, 0, committer.store().count());
-    coordinator.see(rt, committer.store().count());
-    Ok(coordinator)
+    let stand = stand_of::<J, D, R>(committer, rebuilds.newest);
+    Ok(Coordinator::new(stand, graphs, editing))
 }

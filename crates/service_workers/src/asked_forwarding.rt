@@ -1,6 +1,7 @@
 // What a forwarder answers one at a time, as it is asked for.
-ghost use Rattle.std.specs.Prelude.{◌≡◌, IfSome};
+ghost use Rattle.std.specs.Prelude.{◌≡◌, IfSome, IsSome};
 ghost use Rattle.generations.specs.Beginnings.{GoesOn, board_after};
+ghost use Rattle.generations.specs.Notices.{newest_in};
 ghost use Rattle.forwarders.specs.Answers.{address_at, hop_at, launch_at};
 ghost use Rattle.packet_ways.specs.Carried.{IsCarried};
 
@@ -31,7 +32,7 @@ fn address_now<J: BoardName, R: Wait>(
         if news.stopped {
             return None;
         }
-        forwarder.learn(news.told.told());
+        forwarder.learn(news.stand.told.told());
         let Ok(Some(generation)) = forwarder.latest() else {
             thread::yield_now();
             continue;
@@ -56,13 +57,14 @@ fn launch_now<J: BoardName, R: Wait>(
     requires { forwarder.old.opening ≡ J.opening }
     ensures opening { forwarder.new.opening ≡ J.opening }
     ensures answer { IfSome result (λ r. r ≡ launch_at from to.now (board_after forwarder.new).shelf) }
+    ensures some { IfSome result (λ _. IsSome (newest_in forwarder.new.log)) }
 {
     for _ in rt.forever() {
         let news = coordinator.news(rt);
         if news.stopped {
             return None;
         }
-        forwarder.learn(news.told.told());
+        forwarder.learn(news.stand.told.told());
         match forwarder.launch(from, to) {
             Ok(packet) => return Some(Ok(packet)),
             Err(Refused::BoardShut) => thread::yield_now(),
@@ -83,6 +85,7 @@ fn hop_now<J: BoardName, R: Wait>(
     requires { forwarder.old.opening ≡ J.opening }
     ensures opening { forwarder.new.opening ≡ J.opening }
     ensures answer { IfSome result (λ r. r ≡ hop_at at packet (board_after forwarder.new).shelf) }
+    ensures some { IfSome result (λ _. IsSome (newest_in forwarder.new.log)) }
 {
     let mut packet = packet;
     for _ in rt.forever() {
@@ -90,7 +93,7 @@ fn hop_now<J: BoardName, R: Wait>(
         if news.stopped {
             return None;
         }
-        forwarder.learn(news.told.told());
+        forwarder.learn(news.stand.told.told());
         match forwarder.hop(at, packet) {
             Ok(step) => return Some(Ok(step)),
             Err((Refused::BoardShut, back)) => {
@@ -147,7 +150,9 @@ impl<J: BoardName> ForwarderOf<J> {
         from: u16,
         to: &Address,
     ) -> Option<Result<Packet, Refused>>
-        ensures { IfSome result (λ r. r ≡ launch_at from to.now (board_after self.new.forwarder).shelf) }
+        ensures answer { IfSome result (λ r. r ≡ launch_at from to.now (board_after self.new.forwarder).shelf) }
+        // The board has a generation by then.
+        ensures some { IfSome result (λ _. IsSome (newest_in self.new.forwarder.log)) }
     {
         launch_now(rt, coordinator, &mut self.forwarder, from, to)
     }
@@ -160,7 +165,8 @@ impl<J: BoardName> ForwarderOf<J> {
         at: u16,
         packet: Packet,
     ) -> Option<Result<Move, Refused>>
-        ensures { IfSome result (λ r. r ≡ hop_at at packet (board_after self.new.forwarder).shelf) }
+        ensures answer { IfSome result (λ r. r ≡ hop_at at packet (board_after self.new.forwarder).shelf) }
+        ensures some { IfSome result (λ _. IsSome (newest_in self.new.forwarder.log)) }
     {
         hop_now(rt, coordinator, &mut self.forwarder, at, packet)
     }

@@ -1,7 +1,7 @@
 // Where the threads wait for one another.
 use crate::graphs::{GenerationGraph, Graphs};
+use crate::stand::Stand;
 use crate::stop_cause::StopCause;
-use crate::told::ToldOf;
 use packet_ways::BoardName;
 use std::alloc::Global;
 use std::sync::{Arc, Condvar, Mutex, Wait};
@@ -9,7 +9,8 @@ use std::sync::{Arc, Condvar, Mutex, Wait};
 // What lies under the lock.
 #[derive(Drop)]
 struct SharedState<J: BoardName> {
-    told: ToldOf<J>,
+    // As the committer told it last.
+    stand: Stand<J>,
     // Those of the newest generations.
     graphs: Graphs,
     // How often the committer told something.
@@ -20,19 +21,23 @@ struct SharedState<J: BoardName> {
     editing: usize,
     // Why all stop: the first fault.
     cause: Option<StopCause>,
-    standing: Standing,
+    // The greatest count and the newest generation that others saw on the board. The committer tells no less soon.
+    reached: u64,
+    seen: u64,
     // How many changes were submitted and taken.
     submitted: u64,
     taken: u64,
 }
 
 /// How a service stands, as far as its threads have told.
-#[derive(Clone, Copy, Debug, PartialEq, Eq, Drop)]
-pub struct Standing {
-    /// How many changes are accepted.
-    pub count: u64,
-    /// The number of the newest generation.
-    pub generation: u64,
+#[derive(Drop)]
+pub struct Standing<J: BoardName> {
+    /// As the committer told it last.
+    pub stand: Stand<J>,
+    /// The greatest count that others saw.
+    pub reached: u64,
+    /// The newest generation that others saw.
+    pub seen: u64,
     /// How many changes wait at the queue.
     pub queue: u64,
     pub turn: u64,
@@ -42,7 +47,7 @@ pub struct Standing {
 /// What the committer told last.
 #[derive(Drop)]
 pub struct News<J: BoardName> {
-    pub told: ToldOf<J>,
+    pub stand: Stand<J>,
     pub turn: u64,
     pub stopped: bool,
 }
@@ -66,7 +71,7 @@ pub struct Coordinator<J: BoardName> {
 impl<J: BoardName> SharedState<J> {
     fn news(&self) -> News<J> {
         News {
-            told: self.told.again(),
+            stand: self.stand.again(),
             turn: self.turn,
             stopped: self.cause.is_some(),
         }
@@ -80,8 +85,9 @@ impl<J: BoardName> SharedState<J> {
         }
     }
 
-    fn tell(&mut self, told: ToldOf<J>) {
-        self.told = told;
+    fn tell(&mut self, stand: Stand<J>, taken: usize) {
+        self.stand = stand;
+        self.taken = self.taken.wrapping_add(taken as u64);
         self.turn = self.turn.wrapping_add(1);
     }
 
@@ -100,27 +106,19 @@ impl<J: BoardName> SharedState<J> {
         self.ask();
     }
 
-    fn count(&mut self, count: u64) {
-        if self.standing.count < count {
-            self.standing.count = count;
-        }
+    fn reach(&mut self, count: u64) {
+        self.reached = self.reached.max(count);
     }
 
     fn see(&mut self, generation: u64) {
-        if self.standing.generation < generation {
-            self.standing.generation = generation;
-        }
+        self.seen = self.seen.max(generation);
     }
 
-    fn take(&mut self, taken: usize, count: u64) {
-        self.taken = self.taken.wrapping_add(taken as u64);
-        self.count(count);
-    }
-
-    fn standing(&self) -> Standing {
+    fn standing(&self) -> Standing<J> {
         Standing {
-            count: self.standing.count,
-            generation: self.standing.generation,
+            stand: self.stand.again(),
+            reached: self.reached,
+            seen: self.seen,
             queue: self.submitted.saturating_sub(self.taken),
             turn: self.turn,
             stopped: self.cause.is_some(),
@@ -135,22 +133,17 @@ impl<J: BoardName> SharedState<J> {
 
 impl<J: BoardName> Coordinator<J> {
     /// A coordinator of so many editors, to which this was told.
-    pub fn new(told: ToldOf<J>, graphs: Graphs, editing: usize) -> Coordinator<J> {
+    pub fn new(stand: Stand<J>, graphs: Graphs, editing: usize) -> Coordinator<J> {
         Coordinator {
             shared: Mutex::new(SharedState {
-                told,
+                stand,
                 graphs,
                 turn: 0,
                 asked: 0,
                 editing,
                 cause: None,
-                standing: Standing {
-                    count: 0,
-                    generation: 0,
-                    queue: 0,
-                    turn: 0,
-                    stopped: false,
-                },
+                reached: 0,
+                seen: 0,
                 submitted: 0,
                 taken: 0,
             }),
@@ -159,20 +152,15 @@ impl<J: BoardName> Coordinator<J> {
         }
     }
 
-    /// Tells all what was posted.
-    pub fn tell<R: Wait>(&self, rt: &R, told: ToldOf<J>) {
-        self.shared.lock(rt).tell(told);
+    /// Tells all what was posted, once so many changes more were taken from the queue.
+    pub fn tell<R: Wait>(&self, rt: &R, stand: Stand<J>, taken: usize) {
+        self.shared.lock(rt).tell(stand, taken);
         self.news.notify_all();
-    }
-
-    /// So many changes were taken from the queue, and so many are accepted now.
-    pub fn count<R: Wait>(&self, rt: &R, taken: usize, count: u64) {
-        self.shared.lock(rt).take(taken, count);
     }
 
     /// A change was accepted as the one of this number.
     pub fn reach<R: Wait>(&self, rt: &R, count: u64) {
-        self.shared.lock(rt).count(count);
+        self.shared.lock(rt).reach(count);
     }
 
     /// The generation of this number was seen.
@@ -181,7 +169,7 @@ impl<J: BoardName> Coordinator<J> {
     }
 
     /// How the service stands.
-    pub fn standing<R: Wait>(&self, rt: &R) -> Standing {
+    pub fn standing<R: Wait>(&self, rt: &R) -> Standing<J> {
         self.shared.lock(rt).standing()
     }
 

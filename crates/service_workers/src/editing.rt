@@ -29,7 +29,7 @@ pub(crate) fn settled<J: BoardName, R: Wait>(
         if news.stopped {
             return None;
         }
-        editor.learn(news.told.told());
+        editor.learn(news.stand.told.told());
         match editor.outcome() {
             Ok(Outcome::Accepted { ticket, count }) => {
                 return Some(Mark {

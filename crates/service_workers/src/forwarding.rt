@@ -168,7 +168,7 @@ pub(crate) fn forward<J: BoardName, G: Gate, R: Wait>(
         if news.stopped {
             return None;
         }
-        forwarder.learn(news.told.told());
+        forwarder.learn(news.stand.told.told());
         match launch(rt, alloc, coordinator, gate, forwarder, trip) {
             Launched::Answered(carried) => return Some(carried),
             Launched::Again => thread::yield_now(),

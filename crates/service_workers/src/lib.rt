@@ -10,7 +10,7 @@
 //! (`IsMarkOf` of specs/Settled).
 //!
 //! ```text
-//! let coordinator = Coordinator::new(told, graphs, 2);
+//! let coordinator = Coordinator::new(stand, graphs, 2);
 //! let (editor, ticket, end) = editor.edit(rt, &coordinator, None, change)?;
 //! let carried = forwarder.route(rt, alloc, &coordinator, &OpenGate, trip)?;
 //! ```
@@ -23,6 +23,7 @@ mod forwarding;
 mod gate;
 mod graphs;
 mod session_editor;
+mod stand;
 mod stop_cause;
 mod told;
 mod word_source;
@@ -32,6 +33,7 @@ pub use forwarding::ForwarderOf;
 pub use gate::{Gate, OpenGate};
 pub use graphs::{GenerationGraph, Graphs, shared_graph};
 pub use session_editor::{EditEnd, SessionEditor};
+pub use stand::Stand;
 pub use stop_cause::StopCause;
 pub use told::ToldOf;
 pub use word_source::WordSource;

@@ -74,7 +74,7 @@ fn put_as_asked<J: BoardName, R: Wait>(
         if news.stopped {
             return None;
         }
-        editor.learn(news.told.told());
+        editor.learn(news.stand.told.told());
         match editor.submit(rt, ticket, change) {
             Ok(()) => {
                 coordinator.ask(rt);

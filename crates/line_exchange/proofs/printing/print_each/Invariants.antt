@@ -6,4 +6,4 @@ use Rattle.line_exchange.proofs.printing.print_each.Given as goal
 abbrev pub invariant-loop : goal.invariant-loop
 invariant-loop g l =
     (goal.iterator-loop g).can_next l.iterator' × ((goal.iterator-loop g).is_finite l.iterator'
-    × ((l.known.opening ≡ g.B.BoardName.opening) × HasPrintedBy answer_text l.known g.J.Stream.input g.J.Stream.editors (g.O.Write.contents l.initial.out) (g.O.Write.contents l.out) l.count))
+    × ((l.tally.known.opening ≡ g.B.BoardName.opening) × HasPrintedBy answer_text l.tally g.J.Stream.input g.J.Stream.editors (g.O.Write.contents l.initial.out) (g.O.Write.contents l.out)))

@@ -3,9 +3,12 @@ use Rattle.line_exchange.proofs.Answering.{answers_known}
 use Rattle.line_workers.proofs.editing.answered.Goals as goal
 
 pub invariant_of-answered : goal.invariant_of-answered
-invariant_of-answered g c = record {
-  named = c.known.ensures.named;
-  is_answer = ∥∥₁_elim c.in_ok-editor.ensures.said ∥∥₁_prop
-      (λ said. answers_known c.known.result c.in_ok-editor.editor.editor.known g.J.Stream.input g.J.Stream.editors c.args.ask.place c.args.ask.asked c.in_ok-editor.answer c.known.ensures.same c.args.ask.is_line
-      (record { fits = c.in_ok-editor.ensures.fits; said = said }));
-}
+invariant_of-answered g c =
+    let never = c.in_ok-editor.ensures.never in
+    record {
+      named = c.known.ensures.named;
+      is_answer = ∥∥₁_elim c.in_ok-editor.ensures.said ∥∥₁_prop
+          (λ said. answers_known c.known.result c.in_ok-editor.editor.editor.known g.J.Stream.input g.J.Stream.editors c.args.ask.place c.args.ask.asked c.in_ok-editor.answer c.known.ensures.same c.args.ask.is_line
+          (record { fits = c.in_ok-editor.ensures.fits; said = said; off = λ gone. absurd (never gone) }));
+      is_off = λ gone. absurd (never gone);
+    }

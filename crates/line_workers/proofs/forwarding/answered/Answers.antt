@@ -1,9 +1,16 @@
-use Rattle.line_exchange.proofs.Answering.{answers_known}
+use Rattle.line_exchange.proofs.Answering.{answers_known, off_known}
 use Rattle.line_workers.proofs.forwarding.answered.Goals as goal
 
 pub invariant_of-result : goal.invariant_of-result
-invariant_of-result g c = record {
-  named = c.known.ensures.named;
-  is_answer = answers_known c.known.result c.answer_of.new.forwarder.forwarder g.J.Stream.input g.J.Stream.editors c.args.ask.place c.args.ask.asked c.in_ok-answer.answer c.known.ensures.same c.args.ask.is_line
-      c.in_ok-answer.ensures;
-}
+invariant_of-result g c =
+    let known = c.known.result in
+    let seen = c.answer_at.new.forwarder.forwarder in
+    let input = g.J.Stream.input in
+    let editors = g.J.Stream.editors in
+    let ask = c.args.ask in
+    let answer = c.in_ok-answer.answer in
+    record {
+      named = c.known.ensures.named;
+      is_answer = answers_known known seen input editors ask.place ask.asked answer c.known.ensures.same ask.is_line c.in_ok-answer.ensures;
+      is_off = off_known known seen input editors ask.place ask.asked answer c.known.ensures.same ask.is_line c.in_ok-answer.ensures;
+    }

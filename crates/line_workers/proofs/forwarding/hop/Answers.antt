@@ -1,9 +1,10 @@
-use Rattle.std.proofs.Common.{rules, ◌∙◌, sym}
+use Rattle.std.proofs.Common.{rules}
 use Rattle.line_workers.proofs.SaidPackets.{hop_said, no_hop}
 use Rattle.line_workers.proofs.forwarding.hop.Goals as goal
 
 pub returns-in-Ok : goal.returns-in-Ok
-returns-in-Ok g c = record { fits = tt; said = hop_said c.hop.new.self.forwarder c.args.at c.args.packet c.in-Ok.step (search rules) }
+returns-in-Ok g c = record { fits = tt; said = hop_said c.hop.new.self.forwarder c.args.at c.args.packet.now c.in-Ok.step (search rules); off = λ gone. absurd (cc) }
 
 pub returns-in-Err : goal.returns-in-Err
-returns-in-Err g c = no_hop c.hop.new.self.forwarder c.args.at c.args.packet c.in-Err.refused c.named.result c.named.ensures.hop c.named.ensures.is (sym c.in-Err.is ∙ c.in_ok-step.ensures)
+returns-in-Err g c =
+    no_hop c.hop.new.self.forwarder c.args.at c.args.packet.now c.in-Err.refused c.named.result c.in_ok-step.ensures.some c.named.ensures.hop c.named.ensures.is (search rules)

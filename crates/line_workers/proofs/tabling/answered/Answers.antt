@@ -1,8 +1,16 @@
-use Rattle.line_exchange.proofs.Answering.{answers}
+use Rattle.line_exchange.proofs.Answering.{answers, answers_off}
 use Rattle.line_workers.proofs.tabling.answered.Goals as goal
 
 pub invariant_of-answered : goal.invariant_of-answered
-invariant_of-answered g c = record {
-  named = c.known.ensures;
-  is_answer = answers c.known.result g.J.Stream.input g.J.Stream.editors c.args.ask.place c.args.ask.asked c.in_ok-reader.answer c.args.ask.is_line (c.in_ok-reader.ensures c.known.result);
-}
+invariant_of-answered g c =
+    let known = c.known.result in
+    let input = g.J.Stream.input in
+    let editors = g.J.Stream.editors in
+    let ask = c.args.ask in
+    let answer = c.in_ok-reader.answer in
+    let is = c.in_ok-reader.ensures known in
+    record {
+      named = c.known.ensures;
+      is_answer = answers known input editors ask.place ask.asked answer ask.is_line is;
+      is_off = answers_off known input editors ask.place ask.asked answer ask.is_line is;
+    }

@@ -10,7 +10,7 @@ use Rattle.live_service.proofs.running.start_engine.Given as given
 use Rattle.live_service.proofs.running.start_engine.Lts as lts
 use Rattle.live_service.proofs.running.start_engine.Goals as goal
 
-job_send : (g : given.Over) (κs : Lfts 9) → IsSend (param 1 g.row.J) → IsSync (param 1 g.row.J) → IsSend (param 2 g.row.B) → IsSync (param 2 g.row.B) → IsSend (param 3 g.row.D) → IsSync (param 4 g.row.G) → IsSend (param 5 g.row.T)
+job_send : (g : given.Over) (κs : Lfts 10) → IsSend (param 1 g.row.J) → IsSync (param 1 g.row.J) → IsSend (param 2 g.row.B) → IsSync (param 2 g.row.B) → IsSend (param 3 g.row.D) → IsSync (param 4 g.row.G) → IsSend (param 5 g.row.T)
     → IsSend (param 6 g.row.Q) → IsSync (param 7 g.row.R)
     → IsSend (lts.arg-3-2 g.row.E g.row.J g.row.B g.row.D g.row.G g.row.T g.row.Q g.row.R g.E.laws g.J.laws g.B.laws g.D.laws g.G.laws g.T.laws g.Q.laws g.R.laws g.J.Stream g.J.Stream-dict g.B.BoardName g.B.BoardName-dict g.D.Disk g.D.Disk-dict g.G.Gate g.G.Gate-dict g.T.TableFiles g.T.TableFiles-dict g.Q.Wait g.Q.Wait-dict g.R.Threads g.R.Threads-dict g.R.Wait g.R.Wait-dict g.D.Destruct-dict g.T.Destruct-dict g.Q.Destruct-dict κs)
 job_send g κs j k b y d h t q r = search (crosses, sendable, store_send, source_send, config_send, exchange_sync, writer_send, reader_send) depth 80

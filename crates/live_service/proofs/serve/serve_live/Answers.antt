@@ -18,7 +18,7 @@ returns-in-Err-clause-printed g c =
 pub returns-in-Err-clause-ended : goal.returns-in-Err-clause-ended
 returns-in-Err-clause-ended g c =
     subst (λ o. IfSome o (λ f. IsServeEnd g.D.Disk c.args.disk c.args.words (Some c.in-Err.disk) f)) (sym (c.told.ensures.fault ∙ ap Some c.fault_of.ensures))
-    (told_end g.D.Disk c.args.disk c.args.words (Some c.in-Err.disk) c.in-Err.fault c.in-Err.ensures.refused.tells c.in-Err.ensures.refused.words c.in-Err.ensures.refused.of_one (λ keeps is. c.in-Err.ensures.refused.reads keeps)
+    (told_end g.D.Disk c.args.disk c.in-Err.disk c.args.words c.in-Err.fault c.in-Err.ensures.refused.tells c.in-Err.ensures.refused.words c.in-Err.ensures.refused.of_one (λ keeps is. c.in-Err.ensures.refused.reads keeps)
     c.in-Err.ensures.refused.device)
 
 pub returns-in-Err-clause-left : goal.returns-in-Err-clause-left

@@ -13,7 +13,7 @@ loop-preserved-then-round-gt0 g c = (
       c.in-Ok.ensures.opening,
       (
         on_course_still c.args.committer.now c.loop.committer c.turn.new.committer c.loop.invariant.1.1.1.0 c.turn.ensures.turned c.in-Ok.ensures.settled c.turn.ensures.listed,
-        queue_twice c.args.committer.now c.loop.committer c.turn.new.committer c.loop.invariant.1.1.1.1 c.turn.ensures.queue,
+        (queue_twice c.args.committer.now c.loop.committer c.turn.new.committer c.loop.invariant.1.1.1.1.0 c.turn.ensures.queue, c.in-Ok.ensures.shown),
       ),
     ),
   ),
@@ -28,7 +28,7 @@ loop-preserved g c = (
       c.in-Ok-3.ensures.opening,
       (
         on_course_still c.args.committer.now c.loop.committer c.turn.new.committer c.loop.invariant.1.1.1.0 c.turn.ensures.turned c.in-Ok-3.ensures.settled c.turn.ensures.listed,
-        queue_twice c.args.committer.now c.loop.committer c.turn.new.committer c.loop.invariant.1.1.1.1 c.turn.ensures.queue,
+        (queue_twice c.args.committer.now c.loop.committer c.turn.new.committer c.loop.invariant.1.1.1.1.0 c.turn.ensures.queue, c.in-Ok-3.ensures.shown),
       ),
     ),
   ),
@@ -50,7 +50,7 @@ pub returns-in-Err-clause-posted : goal.returns-in-Err-clause-posted
 returns-in-Err-clause-posted g c = turned_posted c.args.committer.now c.loop.committer c.turn.new.committer c.loop.invariant.1.1.1.0 c.turn.ensures.listed
 
 pub returns-in-Ok-2-clause-queue : goal.returns-in-Ok-2-clause-queue
-returns-in-Ok-2-clause-queue g c = queue_twice c.args.committer.now c.loop.committer c.turn.new.committer c.loop.invariant.1.1.1.1 c.turn.ensures.queue
+returns-in-Ok-2-clause-queue g c = queue_twice c.args.committer.now c.loop.committer c.turn.new.committer c.loop.invariant.1.1.1.1.0 c.turn.ensures.queue
 
 pub returns-in-Err-clause-queue : goal.returns-in-Err-clause-queue
-returns-in-Err-clause-queue g c = queue_twice c.args.committer.now c.loop.committer c.turn.new.committer c.loop.invariant.1.1.1.1 c.turn.ensures.queue
+returns-in-Err-clause-queue g c = queue_twice c.args.committer.now c.loop.committer c.turn.new.committer c.loop.invariant.1.1.1.1.0 c.turn.ensures.queue

@@ -31,7 +31,7 @@ returns g c =
       settled = (got_of now, subst (λ s. HasSettled (state_of (store_of first)) (got_of now) (view_of (store_of first)) (view_of s)) (sym left) c.commit_all-own.ensures.settled);
       device = λ is. subst (λ s. HasFailed (view_of (store_of first)) (view_of s)) (sym left) (c.commit_all-own.ensures.device (c.ended.ensures.device is));
     })
-    c.requires.listed c.commit_all-own.ensures.all c.commit_all-own.ensures.opening (c.history-board.ensures ∙ c.told.ensures.posted) c.ended.ensures.own c.ended.ensures.board
+    c.requires.listed c.commit_all-own.ensures.all c.commit_all-own.ensures.opening c.commit_all-own.ensures.up_to_date (c.history-board.ensures ∙ c.told.ensures.posted) c.ended.ensures.own c.ended.ensures.board
     (put_of_all c.ended.result _ ((session : _) → ArePutInOrder g.J.Stream.input g.J.Stream.editors (of session (got_of now))) c.ended.ensures.all
     (λ is. all_sessions g.J.Stream.input g.J.Stream.editors first now c.ended_editors-taken.result c.requires.fresh.got c.commit_all-own.ensures.queue
     (eqb-true c.ended_editors-taken.result c.len-sessions.result is ∙ (c.len-sessions.ensures ∙ (c.captures.seats-editors.ok.0 ∙ (sym (length-map c.captures.seats-editors.items (λ e. e.editor)) ∙ c.requires.editors.many))))

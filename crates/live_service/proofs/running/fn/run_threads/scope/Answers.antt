@@ -1,25 +1,38 @@
-use Rattle.std.proofs.Common.{inl}
-use Rattle.live_service.proofs.OneListed.{same_board, served_disk, served_on}
+use Rattle.std.proofs.Common.{◌≡◌, inl, inr, ap, subst}
+use Rattle.checkpoint.specs.declared.store.Store.{Store}
+use Rattle.command_output.specs.declared.fault.Fault.TheVariants.{NoThread}
+use Rattle.live_service.specs.ServedList.{EndsServed}
+use Rattle.live_service.proofs.Ended.{finished_so, thread_ended}
+use Rattle.live_service.proofs.OneListed.{same_board, served_on}
 use Rattle.live_service.proofs.running.fn.run_threads.scope.Goals as goal
 
 pub returns : goal.returns
 returns g c =
     let store = c.captures.parts.opened.store in
     let printed = c.print-console.result.1 in
-    let engine = c.join_engine-ended.result.0 in
-    let back = c.join_engine-ended.result.1 in
-    let ends = c.join_engine-ended.ensures.ends store c.start_engine-engine_thread.ensures in
+    let engine = c.join-ended.result.0 in
+    let back = c.join-ended.result.1 in
+    let ends : EndsServed g.B.BoardName.opening store g.J.Stream.input g.J.Stream.editors engine (g.D.Disk.view back) =
+    subst (λ (s : Store g.row.D.Denot g.D.Disk). EndsServed g.B.BoardName.opening s g.J.Stream.input g.J.Stream.editors engine (g.D.Disk.view back)) c.in-Ok.ensures.made c.join-ended.ensures in
     record {
-      engine_end = (engine, record { disk = served_disk g.B.BoardName.opening store g.J.Stream.input g.J.Stream.editors engine back ends; fault = c.conclude-console.ensures.fault });
+      engine_end = (engine, record { disk = ends.disk; fault = c.conclude-console.ensures.fault });
       console = inl (record {
         mid = c.print-console.result.0;
         printed = printed;
         printing = c.print-console.ensures.prints;
         finishing = c.conclude-console.ensures.finishes;
         print_end = c.conclude-console.ensures.printed;
-        one_list = λ is. served_on g.B.BoardName.opening store g.J.Stream.input g.J.Stream.editors engine printed.known back (c.conclude-console.ensures.on is) ends c.join_engine-ended.ensures.back;
+        one_list = λ is. served_on g.B.BoardName.opening store g.J.Stream.input g.J.Stream.editors engine printed.tally.known back (c.conclude-console.ensures.on is) ends;
       });
     }
 
+pub returns-in-Err : goal.returns-in-Err
+returns-in-Err g c =
+    let fault = finished_so NoThread c.finish-console.result.1 c.finish-console.ensures.fault in
+    record {
+      engine_end = thread_ended c.captures.parts.opened.store c.finish-console.result.1 c.in-Err.disk c.in-Err.ensures.unmade fault;
+      console = inr (record { finishing = c.finish-console.ensures.finishes; lacks = inr fault });
+    }
+
 pub conclude-console-requires : goal.conclude-console-requires
-conclude-console-requires g c = same_board c.join_engine-ended.result.0 c.print-console.result.1.known.opening g.B.BoardName.opening c.print-console.ensures.opening c.join_engine-ended.ensures.opening
+conclude-console-requires g c = same_board c.join-ended.result.0 c.print-console.result.1.tally.known.opening g.B.BoardName.opening c.print-console.ensures.opening c.join-ended.ensures.named

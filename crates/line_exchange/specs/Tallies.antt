@@ -1,0 +1,63 @@
+-- How an answer goes with those before it.
+use Rattle.std.specs.Prelude.{◌≡◌, ◌+◌, ◌<◌, ◌≤◌, ℕ, List, [], ◌∷◌, Some, replicate, slice_get}
+use Rattle.std.specs.List.{flat_map}
+use Rattle.requests.specs.Tickets.{Rises, sessions, tickets_after}
+use Rattle.generations.specs.Notices.{told_to}
+use Rattle.generations.specs.declared.posting.Verdict.TheVariants.{Accepted}
+use Rattle.generations.specs.Beginnings.{Beginning, GoesOn}
+use Rattle.live_lines.specs.declared.answer.Answer.{Answer}
+use Rattle.live_lines.specs.declared.answer.Answer.TheVariants.{Gone, Settled, Waited}
+use Rattle.line_exchange.specs.declared.tally.Tally.{Tally}
+
+-- it tells that a change is accepted as the one of this number
+abbrev pub TellsCount : Answer → ℕ → Type 0
+TellsCount (Settled mark) count = mark.verdict ≡ Accepted count
+TellsCount other count = ⊥
+
+-- a generation that was waited for has all changes that an earlier answer tells as accepted
+abbrev pub AreAwaited : List Answer → Type 0
+AreAwaited answers = (before k count generation : ℕ) (earlier : Answer) → before < k → slice_get answers before ≡ Some earlier → TellsCount earlier count
+    → slice_get answers k ≡ Some (Waited generation) → count ≤ generation
+
+-- no change is told as accepted whose number is above this one
+abbrev pub AreReached : ℕ → List Answer → Type 0
+AreReached reached answers = (k count : ℕ) (answer : Answer) → slice_get answers k ≡ Some answer → TellsCount answer count → count ≤ reached
+
+-- an answer behind others that reach so far, and how far it reaches with them
+pub record IsReached (old : ℕ) (answer : Answer) (new : ℕ) : Type 0 where
+  pub kept : old ≤ new
+  pub told : (count : ℕ) → TellsCount answer count → count ≤ new
+  pub awaited : (generation : ℕ) → answer ≡ Waited generation → old ≤ generation
+
+-- the session and the ticket that an answer tells as a verdict
+abbrev pub told_by : Answer → List (ℕ × ℕ)
+told_by (Settled mark) = told_to mark ∷ []
+told_by other = []
+
+-- .. those of all answers, in order
+abbrev pub told_in : List Answer → List (ℕ × ℕ)
+told_in answers = flat_map told_by answers
+
+-- before any answer, no session has a ticket
+abbrev pub no_tickets : List ℕ
+no_tickets = replicate sessions 0
+
+-- An answer behind others whose last tickets are these, and the last tickets with it.
+pub record IsInTurn (old : List ℕ) (answer : Answer) (new : List ℕ) : Type 0 where
+  pub rises : Rises old (told_by answer)
+  pub last : new ≡ tickets_after old (told_by answer)
+
+-- the tickets that are told as verdicts rise in each session, and these are the last ones
+pub record AreInTurn (tickets : List ℕ) (answers : List Answer) : Type 0 where
+  pub rises : Rises no_tickets (told_in answers)
+  pub last : tickets ≡ tickets_after no_tickets (told_in answers)
+
+-- an answer more, by what was known of the list of postings
+pub record Adds (old : Tally) (seen : Beginning) (answer : Answer) (new : Tally) : Type 0 where
+  pub count : new.count ≡ old.count + 1
+  pub reached : IsReached old.reached answer new.reached
+  pub in_turn : IsInTurn old.tickets answer new.tickets
+  pub on : GoesOn old.known new.known
+  pub covers : GoesOn seen new.known
+  -- who tells that a generation is gone knows all that was known before
+  pub gone : answer ≡ Gone → GoesOn old.known seen

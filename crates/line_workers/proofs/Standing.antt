@@ -1,0 +1,24 @@
+-- How a service stands, by what was told of its board.
+use Rattle.std.proofs.Common.{◌≡◌, ℕ, sym, subst}
+use Rattle.generations.specs.Beginnings.{Beginning}
+use Rattle.packet_ways.specs.Standing.{Counts, IsNewest}
+use Rattle.packet_ways.proofs.Newest.{newest_published, published_on}
+use Rattle.live_lines.specs.declared.asked.Asked.TheVariants as asks
+use Rattle.live_lines.specs.declared.answer.Answer.TheVariants as answers
+use Rattle.line_exchange.specs.OneList.{AnswersBy}
+
+state_told : (told : Beginning) (count generation queue : ℕ) → Counts told count → IsNewest told generation → AnswersBy told asks.State (answers.State count generation queue)
+state_told told count generation queue counted newest = record { fits = tt; said = λ all lawful are_named on. (told, on, counted, newest); off = λ gone. tt }
+
+pub state_said : (known told : Beginning) (count generation queue : ℕ) → known ≡ told → Counts told count → IsNewest told generation → AnswersBy known asks.State (answers.State count generation queue)
+state_said known told count generation queue same counted newest = subst (λ (b : Beginning). AnswersBy b asks.State (answers.State count generation queue)) (sym same) (state_told told count generation queue counted newest)
+
+waited_told : (told : Beginning) (generation : ℕ) → IsNewest told generation → AnswersBy told asks.Wait (answers.Waited generation)
+waited_told told generation newest = record {
+  fits = tt;
+  said = λ all lawful are_named on. (let found = newest_published told generation newest in (found.0, published_on told all generation found.0 on found.1));
+  off = λ gone. tt;
+}
+
+pub waited_said : (known told : Beginning) (generation : ℕ) → known ≡ told → IsNewest told generation → AnswersBy known asks.Wait (answers.Waited generation)
+waited_said known told generation same newest = subst (λ (b : Beginning). AnswersBy b asks.Wait (answers.Waited generation)) (sym same) (waited_told told generation newest)

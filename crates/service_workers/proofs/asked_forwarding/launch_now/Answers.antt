@@ -1,0 +1,15 @@
+use Rattle.std.proofs.Common.{sym, subst}
+use Rattle.generations.specs.Beginnings.{Beginning}
+use Rattle.packet_ways.specs.Standing.{IsNewest}
+use Rattle.packet_ways.proofs.Newest.{newest_later}
+use Rattle.service_workers.proofs.asked_forwarding.launch_now.Goals as goal
+
+pub returns-in-Ok-clause-some : goal.returns-in-Ok-clause-some
+returns-in-Ok-clause-some g c =
+    let stand = c.news-news.result.stand in
+    newest_later c.told.result.now c.learn.new.self c.launch.new.self stand.generation c.learn.ensures.told c.in-Ok.ensures.kept (subst (λ (b : Beginning). IsNewest b stand.generation) (sym c.told.ensures.same) stand.newest)
+
+pub returns-in-Err-clause-some : goal.returns-in-Err-clause-some
+returns-in-Err-clause-some g c =
+    let stand = c.news-news.result.stand in
+    newest_later c.told.result.now c.learn.new.self c.launch.new.self stand.generation c.learn.ensures.told c.in-Err.ensures.kept (subst (λ (b : Beginning). IsNewest b stand.generation) (sym c.told.ensures.same) stand.newest)

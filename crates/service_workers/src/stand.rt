@@ -1,0 +1,28 @@
+// How a board stood when it was told.
+ghost use Rattle.packet_ways.specs.Standing.{Counts, IsNewest};
+
+use crate::told::ToldOf;
+use packet_ways::BoardName;
+
+/// What was told of the board that `J` names, and how the board stood then.
+#[derive(Drop)]
+pub struct Stand<J: BoardName> {
+    pub told: ToldOf<J>,
+    /// How many changes were accepted.
+    pub count: u64,
+    /// The number of the newest generation.
+    pub generation: u64,
+    ghost counted: { Counts told count },
+    ghost newest: { IsNewest told generation },
+}
+
+impl<J: BoardName> Stand<J> {
+    /// The same again.
+    pub fn again(&self) -> Stand<J> {
+        Stand {
+            told: self.told.again(),
+            count: self.count,
+            generation: self.generation,
+        }
+    }
+}
