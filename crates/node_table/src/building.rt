@@ -25,7 +25,7 @@ use landmarks::Landmarks;
 use std::alloc::{AllocError, Allocator, Global};
 
 /// For how many entries a list has room at first. A node is in many trees, so a smaller list would only grow more often.
-const LEAST_ROOM: usize = 16;
+const LEAST_ROOM: usize = 4;
 
 /// A list with an entry more. A full list grows by a quarter: where it doubles, a third of what the lists take lies unused.
 fn push_entry(list: &mut Vec<Entry>, entry: Entry) -> Result<(), AllocError>
@@ -414,7 +414,7 @@ pub fn build_between<A: Allocator + Clone>(
     add_roots(
         alloc, graph, landmarks, nearest, &mut parts, first, last, &lists,
     )?;
-    Ok(PartialScheme::of(parts))
+    Ok(PartialScheme::of(parts, first, last))
 }
 
 /// The scheme of all roots, whose trees are numbered one after the other.
@@ -440,7 +440,7 @@ fn build_by<N: Numbering>(
         graph.nodes(),
         numbering,
     )?;
-    let scheme = PartialScheme::of(parts).finish(alloc, graph)?;
+    let scheme = PartialScheme::of(parts, 0, graph.nodes()).finish(alloc, graph)?;
     Ok(scheme)
 }
 

@@ -19,6 +19,9 @@ use std::mem;
 #[derive(Drop)]
 pub struct PartialScheme {
     parts: Parts,
+    // The roots are those from the first to below the last. They tell how long the lists will be.
+    first: u16,
+    last: u16,
 }
 
 impl Model for PartialScheme {
@@ -29,12 +32,56 @@ impl Model for PartialScheme {
     ghost view = { λ partial. partial.parts };
 }
 
+/// How many roots a build has, and how many more its lists are given room for, the landmarks among them counted too.
+#[derive(Clone, Copy)]
+struct Outlook {
+    done: usize,
+    left: usize,
+    landmarks_done: usize,
+    landmarks_left: usize,
+    is_last: bool,
+}
+
+impl Outlook {
+    /// With the roots from the first to below the last. While these are few they tell little of the others, so lists are given room for a
+    /// quarter of all roots first.
+    fn of(landmarks: &[bool], first: u16, last: u16) -> Outlook {
+        let (first, last) = (first as usize, last as usize);
+        let all = landmarks.len();
+        let until = if last < all / 5 { all / 4 } else { all };
+        Outlook {
+            done: last.saturating_sub(first),
+            left: until.saturating_sub(last),
+            landmarks_done: count_between(landmarks, first, last),
+            landmarks_left: count_between(landmarks, last, until),
+            is_last: last >= all,
+        }
+    }
+
+    /// How many entries will probably come to a node that has so many: one for each landmark, and of other roots as many as they brought.
+    fn more_for(&self, entries: usize) -> usize {
+        let others = entries.saturating_sub(self.landmarks_done);
+        let more = others.saturating_mul(self.left) / self.done.max(1);
+        more.saturating_add(self.landmarks_left)
+    }
+}
+
+/// How many flags stand from one place to below another.
+fn count_between(flags: &[bool], from: usize, to: usize) -> usize {
+    flags
+        .iter()
+        .take(to)
+        .skip(from)
+        .filter(|flag| **flag)
+        .count()
+}
+
 impl PartialScheme {
-    /// These tables, of a range.
-    pub(crate) fn of(parts: Parts) -> PartialScheme
+    /// These tables, of the range of roots from the first to below the last.
+    pub(crate) fn of(parts: Parts, first: u16, last: u16) -> PartialScheme
         ensures { result ≡ parts }
     {
-        PartialScheme { parts }
+        PartialScheme { parts, first, last }
     }
 
     /// What both have, joined. Where the roots of the next one begin where these end, it is what a build has of both ranges.
@@ -44,8 +91,11 @@ impl PartialScheme {
         ensures tables { IfOk result (λ joined. IsJoined self next joined) }
         ensures ranges { IfOk result (λ joined. JoinsRanges self next joined) }
     {
-        let parts = join_parts(self.parts, next.parts)?;
-        Ok(PartialScheme { parts })
+        let (first, last) = (self.first, next.last);
+        let flags = self.parts.landmarks.as_slice();
+        let outlook = Outlook::of(flags, first, last);
+        let parts = join_parts(self.parts, next.parts, &outlook)?;
+        Ok(PartialScheme { parts, first, last })
     }
 
     /// The scheme of what has the trees of all roots. An `Err` means that memory was refused.
@@ -60,7 +110,7 @@ impl PartialScheme {
 }
 
 /// Both tables, joined.
-fn join_parts(first: Parts, next: Parts) -> Result<Parts, AllocError>
+fn join_parts(first: Parts, next: Parts, outlook: &Outlook) -> Result<Parts, AllocError>
     requires { AreAsLong first next }
     ensures { IfOk result (λ joined. IsJoined first next joined) }
 {
@@ -74,41 +124,29 @@ fn join_parts(first: Parts, next: Parts) -> Result<Parts, AllocError>
         directories,
         homes,
     } = first;
-    let last = has_last_root(&next);
     Ok(Parts {
         nodes,
         generation,
         landmarks,
         ports,
         nearest,
-        entries: join_entries(entries, next.entries, last)?,
+        entries: join_entries(entries, next.entries, outlook)?,
         directories: join_directories(directories, next.directories)?,
         homes: join_homes(homes, next.homes),
     })
 }
 
-/// Whether the last of all roots is in the range: it is in its own tree, so its own entry is the last of its entries.
-fn has_last_root(parts: &Parts) -> bool {
-    let Some(entries) = parts.entries.as_slice().last() else {
-        return false;
-    };
-    let Some(entry) = entries.as_slice().last() else {
-        return false;
-    };
-    entry.root() as usize == parts.entries.len() - 1
-}
-
-/// The entries of each node, and behind them those of the next range, which may be the last.
+/// The entries of each node, and behind them those of the next range.
 fn join_entries(
     mut lists: Vec<Vec<Entry>>,
     mut next: Vec<Vec<Entry>>,
-    last: bool,
+    outlook: &Outlook,
 ) -> Result<Vec<Vec<Entry>>, AllocError>
     requires { length lists.items ≡ length next.items }
     ensures { IfOk result (λ joined. GrowBy lists.items joined.items (items_at next.items)) }
 {
     for x in 0..lists.len() {
-        append_at(&mut lists, &mut next, x, last)?;
+        append_at(&mut lists, &mut next, x, outlook)?;
     }
     Ok(lists)
 }
@@ -118,28 +156,34 @@ fn append_at(
     lists: &mut Vec<Vec<Entry>>,
     next: &mut Vec<Vec<Entry>>,
     at: usize,
-    last: bool,
+    outlook: &Outlook,
 ) -> Result<(), AllocError>
     requires here { at < length lists.old.items }
     requires there { at < length next.old.items }
     ensures { OnOk result (IsJoinedAt at items_at (λ xs ys. xs ++ ys)
         lists.old.items lists.new.items next.old.items next.new.items) }
 {
-    append(&mut lists[at], &mut next[at], last)
+    append(&mut lists[at], &mut next[at], outlook)
 }
 
-/// Puts the second list behind the first. With the last one the list has just the room that both take. Before that, a list that has
-/// no room grows by a quarter at least, so that not each range copies it anew.
-fn append<T: Drop>(list: &mut Vec<T>, more: &mut Vec<T>, last: bool) -> Result<(), AllocError>
+/// Puts the second list behind the first. A list without room is given as much as it will probably need, so that it seldom moves; and
+/// when no root is left it has just the room that it takes.
+fn append<T: Drop>(
+    list: &mut Vec<T>,
+    more: &mut Vec<T>,
+    outlook: &Outlook,
+) -> Result<(), AllocError>
     ensures { OnOk result (list.new.items ≡ list.old.items ++ more.old.items) }
 {
-    if last {
-        return append_exactly(list, more);
-    }
     if list.capacity() - list.len() < more.len() {
-        list.reserve_exact(more.len().max(list.len() / 4))?;
+        let both = list.len().saturating_add(more.len());
+        list.reserve_exact(more.len().saturating_add(outlook.more_for(both)))?;
     }
-    list.append(more)
+    list.append(more)?;
+    if outlook.is_last {
+        list.shrink_to_fit();
+    }
+    Ok(())
 }
 
 /// Puts the second list behind the first, in a new list with just the room that both take.

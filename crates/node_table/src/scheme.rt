@@ -10,13 +10,13 @@ use crate::numbers_apart::NumbersApart;
 use crate::packet::{Address, Home, Move, Packet, Refused};
 use crate::parts::{Listed, Near, Parts};
 use crate::rows::{RowsAt, move_from, packet_from};
-use crate::search::{first_place, tables_ascend};
+use crate::search::{first_place, place_by_eighths, tables_ascend};
 use heavy_labels::Label;
 use std::alloc::{AllocError, Global};
 use std::marker::Model;
 
-/// A scheme: its tables, and whether they can be searched by halving. What it is searched by stands apart in a scheme that was
-/// built; an assembled one is searched in its tables. Contracts see the tables.
+/// A scheme: its tables, and whether they can be searched by halving. The roots by which entries are searched stand apart in a scheme
+/// that was built; all else is searched in the tables. Contracts see the tables.
 #[derive(Drop)]
 pub struct Scheme {
     parts: Parts,
@@ -72,9 +72,10 @@ impl Scheme {
         ensures some { AreAscending self.now → 0 < length (entries_at self.now x) → 0 < result.1 }
         ensures few { AreAscending self.now → (k : ℕ) → length (entries_at self.now x) < 2 ^ k → result.1 ≤ k }
     {
+        let entries = self.entries_of(x);
         match &self.apart {
-            Some(apart) => first_place(apart.roots_at(x), root, self.ascending),
-            None => first_place(self.entries_of(x), root, self.ascending),
+            Some(apart) if self.ascending => place_by_eighths(entries, apart.roots_at(x), root),
+            _ => first_place(entries, root, self.ascending),
         }
     }
 
@@ -82,10 +83,7 @@ impl Scheme {
     fn place_of_label(&self, u: u16, v: u16) -> Option<usize>
         ensures { result ≡ index_of v (nodes_of (directory_at self.now u)) }
     {
-        let (place, _) = match &self.apart {
-            Some(apart) => first_place(apart.members_at(u), v, self.ascending),
-            None => first_place(self.directory_of(u), v, self.ascending),
-        };
+        let (place, _) = first_place(self.directory_of(u), v, self.ascending);
         place
     }
 

@@ -1,8 +1,9 @@
 // How the lists of a scheme are searched, each item by a number of its own: by halving where the numbers strictly ascend, else
 // from the front. The numbers alone are searched in the same way.
-ghost use Rattle.std.specs.Prelude.{◌≡◌, ◌<◌, ◌≤◌, ◌^◌, ◌↔◌, IsTrue, ℕ, length, map};
+ghost use Rattle.std.specs.Prelude.{◌≡◌, ◌<◌, ◌≤◌, ◌+◌, ◌-◌, ◌*◌, ◌/◌, ◌^◌, ◌↔◌, IsTrue, ℕ, length, map};
 ghost use Rattle.std.specs.List.{All};
 ghost use Rattle.std.specs.List.Sorted.{IsStrictlyIncreasing};
+ghost use Rattle.node_table.specs.Apart.{AreEighths, IsLocated, LiesBetween};
 ghost use Rattle.node_table.specs.Ports.{index_of};
 ghost use Rattle.node_table.specs.Tables.{AreAscending, nodes_of, roots_of};
 
@@ -77,22 +78,30 @@ pub(crate) fn tables_ascend(parts: &Parts) -> bool
     entries_ascend(parts.entries.as_slice()) && directories_ascend(parts.directories.as_slice())
 }
 
-/// The place of a number among ascending ones, and how many places were looked at.
-fn place_by_halving<T: Keyed>(items: &[T], number: u16) -> (Option<usize>, u32)
-    requires { IsStrictlyIncreasing (map T.key items.now) }
-    ensures place { result.0 ≡ index_of number (map T.key items.now) }
-    ensures some { 0 < length items.now → 0 < result.1 }
-    ensures few { (k : ℕ) → length items.now < 2 ^ k → result.1 ≤ k }
+/// The place of a number among ascending ones, or that of the first greater one; and how many places were looked at. The number lies at
+/// `from` or later and before `to`, if it is there.
+fn halve_between<T: Keyed>(
+    items: &[T],
+    number: u16,
+    from: usize,
+    to: usize,
+) -> (Result<usize, usize>, u32)
+    requires ascending { IsStrictlyIncreasing (map T.key items.now) }
+    requires between { LiesBetween (map T.key items.now) number from to }
+    ensures place { IsLocated (map T.key items.now) number result.0 }
+    ensures some { from < to → 0 < result.1 }
+    ensures few { (k : ℕ) → to - from < 2 ^ k → result.1 ≤ k }
+    ensures bounded { result.1 ≤ 64 }
 {
-    let mut low = 0;
-    let mut high = items.len();
+    let mut low = from;
+    let mut high = to;
     let mut probes = 0;
     while low < high {
         let middle = low + (high - low) / 2;
         let there = items[middle].key();
         probes += 1;
         if there == number {
-            return (Some(middle), probes);
+            return (Ok(middle), probes);
         }
         if there < number {
             low = middle + 1;
@@ -100,7 +109,51 @@ fn place_by_halving<T: Keyed>(items: &[T], number: u16) -> (Option<usize>, u32)
             high = middle;
         }
     }
-    (None, probes)
+    (Err(low), probes)
+}
+
+/// The place of a number among ascending ones, and how many places were looked at.
+fn place_by_halving<T: Keyed>(items: &[T], number: u16) -> (Option<usize>, u32)
+    requires { IsStrictlyIncreasing (map T.key items.now) }
+    ensures place { result.0 ≡ index_of number (map T.key items.now) }
+    ensures some { 0 < length items.now → 0 < result.1 }
+    ensures few { (k : ℕ) → length items.now < 2 ^ k → result.1 ≤ k }
+{
+    let (place, probes) = halve_between(items, number, 0, items.len());
+    (place.ok(), probes)
+}
+
+/// Where the places between two eighths of so many items end: at the second of them, or behind the items.
+fn behind_eighth(i: usize, eighths: usize, items: usize) -> usize
+    requires { eighths ≡ items / 8 }
+    ensures next { i < eighths → result ≡ 8 * i + 7 }
+    ensures last { eighths ≤ i → result ≡ items }
+{
+    if i < eighths { 8 * i + 7 } else { items }
+}
+
+/// The place of a number among ascending ones of which every eighth stands apart, and how many places were looked at: first among those,
+/// and then among the seven between two of them.
+pub(crate) fn place_by_eighths<T: Keyed>(
+    items: &[T],
+    eighths: &[u16],
+    number: u16,
+) -> (Option<usize>, u32)
+    requires ascending { IsStrictlyIncreasing (map T.key items.now) }
+    requires eighths { AreEighths (map T.key items.now) eighths.now }
+    ensures place { result.0 ≡ index_of number (map T.key items.now) }
+    ensures some { 0 < length items.now → 0 < result.1 }
+    ensures few { (k : ℕ) → length items.now < 2 ^ k → result.1 ≤ k }
+{
+    let (found, probes) = halve_between(eighths, number, 0, eighths.len());
+    match found {
+        Ok(i) => (Some(8 * i + 7), probes),
+        Err(i) => {
+            let to = behind_eighth(i, eighths.len(), items.len());
+            let (place, more) = halve_between(items, number, 8 * i, to);
+            (place.ok(), probes + more)
+        }
+    }
 }
 
 /// The first place of a number among others, and how many places were looked at.

@@ -18,7 +18,7 @@
 //! before the next. [`scheme_of`], one worker in a larger network, and each range of several workers number members over lists, as
 //! [`node_table::build_by_lists`] does, in less time. So no tree here is deeper than [`LEAST_SHARED`], and no call needs a large stack.
 //!
-//! A range has 512 roots at most. In a larger network the workers build range after range, round by round, and what a round has built is
+//! A range has 384 roots at most. In a larger network the workers build range after range, round by round, and what a round has built is
 //! joined before the next: so beside the tables a build takes little memory, however large they are.
 //!
 //! ```text

@@ -18,7 +18,7 @@ pub const SCRATCH_LEN: usize = 67_108_864;
 
 /// The most roots of one range. What a range takes beside the tables is given back before the next ones are built, so it is little
 /// beside the tables of a large network.
-const MOST_ROOTS: u16 = 512;
+const MOST_ROOTS: u16 = 384;
 
 /// What a build has of the roots from `first` on and below `last`. Members are numbered over lists in a heap of this call's own.
 fn build_roots(
@@ -83,8 +83,17 @@ fn join_ranges(
     Ok(whole)
 }
 
-/// What a build has of all roots. They are cut into ranges of this size, or of [`MOST_ROOTS`] where that is less. As many ranges as
-/// there would be of this size are built side by side, each in a thread of its own where one can be made, and joined before the next.
+/// How many roots a range has where each worker is to build so many: an equal part of them, of at most [`MOST_ROOTS`].
+fn range_size(size: u16) -> u16
+    ensures { 0 < result }
+{
+    let rounds = size.div_ceil(MOST_ROOTS).max(1);
+    size.div_ceil(rounds).max(1)
+}
+
+/// What a build has of all roots. They are cut into ranges of this size, or of equal parts of it that have at most [`MOST_ROOTS`]. As
+/// many ranges as there would be of this size are built side by side, each in a thread of its own where one can be made, and joined
+/// before the next.
 pub(crate) fn build_ranges<R: Threads + Sync>(
     rt: &R,
     alloc: Global,
@@ -99,7 +108,7 @@ pub(crate) fn build_ranges<R: Threads + Sync>(
     ensures { HasBuilt graph.now landmarks.now nearest.now.nearest generation 0 graph.now.nodes result }
 {
     let workers = graph.nodes().div_ceil(size).max(1) as usize;
-    let roots = size.min(MOST_ROOTS);
+    let roots = range_size(size);
     let count = graph.nodes().div_ceil(roots) as usize;
     let mut whole = build_roots(alloc, graph, landmarks, nearest, generation, 0, 0)?;
     let mut begun: usize = 0;

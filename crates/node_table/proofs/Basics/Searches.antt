@@ -1,11 +1,14 @@
 -- The place of a number in a list, as a search has narrowed it down.
 use Rattle.std.proofs.Common.{◌≡◌, ◌≢◌, ◌⊎◌, inl, inr, ℕ, zero, suc, ◌+◌, ◌-◌, ◌/◌, ◌^◌, ◌≤◌, ◌<◌, ◌==◌, Bool, true, false, cond, sym, refl, ap, subst, ◌∙◌, arith, add-one, List, [], ◌∷◌, length, map, nat_lt}
-use Rattle.std.specs.Prelude.{Option, Some, None, IsTrue, ◌↔◌, slice_index, get_or}
+use Rattle.std.specs.Prelude.{Option, Some, None, Result, Ok, Err, IsTrue, ◌↔◌, slice_index, get_or}
+use Rattle.std.proofs.Common.{◌*◌}
+use Rattle.std.specs.Result.{result_ok}
 use Rattle.std.specs.List.{IsAllAdjacentAnswer}
 use Rattle.std.specs.List.Sorted.{IsStrictlyIncreasing}
 use Rattle.std.proofs.lemmas.Bool.Decides.{nat_tests}
 use Rattle.std.proofs.lemmas.Bool.{eq-eqb}
-use Rattle.std.proofs.lemmas.List.{get_or-map, length-map}
+use Rattle.std.proofs.lemmas.List.{get_or-map, length-map, map-id}
+use Rattle.node_table.specs.Apart.{AreEighths, IsLocated, LiesBetween}
 use Rattle.node_table.specs.Entry.{Entry}
 use Rattle.node_table.specs.declared.parts.Listed.{Listed}
 use Rattle.node_table.specs.Ports.{index_of, one_more}
@@ -117,28 +120,27 @@ halved_more n looks left rest h pos le k lt = go (h k lt).0 (h k lt).1.0 (h k lt
 pub halved_few : (n looks left : ℕ) → IsHalved n looks left → (k : ℕ) → n < 2 ^ k → looks ≤ k
 halved_few n looks left h k lt = (let g = h k lt in omega (arith, g.1.0))
 
--- the number lies at low or later and before high, if it's there
-pub record IsNarrowed (ks : List ℕ) (r low high looks : ℕ) : Type 0 where
-  pub ordered : low ≤ high
-  pub within : high ≤ length ks
-  pub below : (i : ℕ) → i < low → slice_index ks i < r
-  pub above : (i : ℕ) → high ≤ i → i < length ks → r < slice_index ks i
-  pub halved : IsHalved (length ks) looks (high - low)
-  pub begun : looks ≡ 0 → high - low ≡ length ks
-  pub fits : length ks < 2 ^ 64
+-- what a search has narrowed down after some looks, where at first so many places were left
+pub record IsNarrowed (ks : List ℕ) (r first low high looks : ℕ) : Type 0 where
+  pub between : LiesBetween ks r low high
+  pub halved : IsHalved first looks (high - low)
+  pub begun : looks ≡ 0 → high - low ≡ first
+  pub fits : first < 2 ^ 64
 
 abbrev pub middle : ℕ → ℕ → ℕ
 middle low high = low + (high - low) / 2
 
-pub narrowed_up : (ks : List ℕ) (r low high looks : ℕ) → IsStrictlyIncreasing ks → IsNarrowed ks r low high looks → low < high
-    → (a : ℕ) → slice_index ks (middle low high) ≡ a → a < r → IsNarrowed ks r (middle low high + 1) high (looks + 1)
-narrowed_up ks r low high looks up h lt key at smaller = record {
-  ordered = omega arith;
-  within = h.within;
+pub narrowed_up : (ks : List ℕ) (r n low high looks : ℕ) → IsStrictlyIncreasing ks → IsNarrowed ks r n low high looks → low < high
+    → (a : ℕ) → slice_index ks (middle low high) ≡ a → a < r → IsNarrowed ks r n (middle low high + 1) high (looks + 1)
+narrowed_up ks r n low high looks up h lt key at smaller = record {
+  between = record {
+    ordered = omega arith;
+    within = h.between.within;
+    below = λ i l. go i l (nat_lt i (middle low high)) refl;
+    above = h.between.above;
+  };
   fits = h.fits;
-  below = λ i l. go i l (nat_lt i (middle low high)) refl;
-  above = h.above;
-  halved = halved_more (length ks) looks (high - low) (high - (middle low high + 1)) h.halved (omega arith) (omega arith);
+  halved = halved_more n looks (high - low) (high - (middle low high + 1)) h.halved (omega arith) (omega arith);
   begun = λ e. absurd (omega (arith, e));
 }
   where
@@ -146,18 +148,20 @@ narrowed_up ks r low high looks up h lt key at smaller = record {
     less = omega (arith, at, smaller)
 
     go : (i : ℕ) → i < middle low high + 1 → (c : Bool) → nat_lt i (middle low high) ≡ c → slice_index ks i < r
-    go i l true t = (let a = rises ks up i (middle low high) (grind (arith, nat_tests)) (omega (arith, lt, h.within)) in omega (arith, a, less))
+    go i l true t = (let a = rises ks up i (middle low high) (grind (arith, nat_tests)) (omega (arith, lt, h.between.within)) in omega (arith, a, less))
     go i l false t = (let s : i ≡ middle low high = grind (arith, nat_tests) in subst (λ z. slice_index ks z < r) (sym s) less)
 
-pub narrowed_down : (ks : List ℕ) (r low high looks : ℕ) → IsStrictlyIncreasing ks → IsNarrowed ks r low high looks → low < high
-    → (a : ℕ) → slice_index ks (middle low high) ≡ a → a ≢ r → r ≤ a → IsNarrowed ks r low (middle low high) (looks + 1)
-narrowed_down ks r low high looks up h lt key at other greater = record {
-  ordered = omega arith;
-  within = omega (arith, h.within, lt);
+pub narrowed_down : (ks : List ℕ) (r n low high looks : ℕ) → IsStrictlyIncreasing ks → IsNarrowed ks r n low high looks → low < high
+    → (a : ℕ) → slice_index ks (middle low high) ≡ a → a ≢ r → r ≤ a → IsNarrowed ks r n low (middle low high) (looks + 1)
+narrowed_down ks r n low high looks up h lt key at other greater = record {
+  between = record {
+    ordered = omega arith;
+    within = omega (arith, h.between.within, lt);
+    below = h.between.below;
+    above = λ i l m. go i l m (nat_lt (middle low high) i) refl;
+  };
   fits = h.fits;
-  below = h.below;
-  above = λ i l m. go i l m (nat_lt (middle low high) i) refl;
-  halved = halved_more (length ks) looks (high - low) (middle low high - low) h.halved (omega arith) (omega arith);
+  halved = halved_more n looks (high - low) (middle low high - low) h.halved (omega arith) (omega arith);
   begun = λ e. absurd (omega (arith, e));
 }
   where
@@ -168,21 +172,155 @@ narrowed_down ks r low high looks up h lt key at other greater = record {
     go i l m true t = (let a = rises ks up (middle low high) i (grind (arith, nat_tests)) m in omega (arith, a, less))
     go i l m false t = (let s : middle low high ≡ i = grind (arith, nat_tests) in subst (λ z. r < slice_index ks z) s less)
 
-pub narrowed_found : (ks : List ℕ) (r low high looks : ℕ) → IsStrictlyIncreasing ks → IsNarrowed ks r low high looks → low < high
-    → slice_index ks (middle low high) ≡ r → index_of r ks ≡ Some (middle low high)
-narrowed_found ks r low high looks up h lt e =
-    index_at ks r (middle low high) (omega (arith, lt, h.within)) e
-    (λ i l k. (let a = rises ks up i (middle low high) l (omega (arith, lt, h.within)) in absurd (omega (arith, a, e, k))))
+pub narrowed_few : (ks : List ℕ) (r n low high looks : ℕ) → IsNarrowed ks r n low high looks → low < high → (k : ℕ) → n < 2 ^ k → looks + 1 ≤ k
+narrowed_few ks r n low high looks h lt k l = halved_few n (looks + 1) 0 (halved_more n looks (high - low) 0 h.halved (omega arith) (omega arith)) k l
 
-pub narrowed_none : (ks : List ℕ) (r low high looks : ℕ) → IsNarrowed ks r low high looks → high ≤ low → index_of r ks ≡ None
-narrowed_none ks r low high looks h le = index_none ks r (λ i l k. go i l k (nat_lt i low) refl)
+-- where nothing is left, the number isn't there
+pub narrowed_away : (ks : List ℕ) (r low high : ℕ) → LiesBetween ks r low high → high ≤ low → LiesBetween ks r low low
+narrowed_away ks r low high h le = record {
+  ordered = omega arith;
+  within = omega (arith, h.ordered, h.within, le);
+  below = h.below;
+  above = λ i l m. h.above i (omega (arith, le, l)) m;
+}
+
+-- a number that ascending ones have is found at its place
+pub located_at : (ks : List ℕ) (r i : ℕ) → IsStrictlyIncreasing ks → i < length ks → slice_index ks i ≡ r → index_of r ks ≡ Some i
+located_at ks r i up l e = index_at ks r i l e (λ j m k. (let a = rises ks up j i m l in absurd (omega (arith, a, e, k))))
+
+pub located_nowhere : (ks : List ℕ) (r at : ℕ) → LiesBetween ks r at at → index_of r ks ≡ None
+located_nowhere ks r at h = index_none ks r (λ i l k. go i l k (nat_lt i at) refl)
   where
-    go : (i : ℕ) → i < length ks → slice_index ks i ≡ r → (c : Bool) → nat_lt i low ≡ c → ⊥
+    go : (i : ℕ) → i < length ks → slice_index ks i ≡ r → (c : Bool) → nat_lt i at ≡ c → ⊥
     go i l k true t = (let a = h.below i (grind (arith, nat_tests)) in omega (arith, a, k))
-    go i l k false t = (let b : low ≤ i = grind (arith, nat_tests) in let a = h.above i (omega (arith, b, le)) l in omega (arith, a, k))
+    go i l k false t = (let b : at ≤ i = grind (arith, nat_tests) in let a = h.above i b l in omega (arith, a, k))
 
-pub narrowed_few : (ks : List ℕ) (r low high looks : ℕ) → IsNarrowed ks r low high looks → low < high → (k : ℕ) → length ks < 2 ^ k → looks + 1 ≤ k
-narrowed_few ks r low high looks h lt k l = halved_few (length ks) (looks + 1) 0 (halved_more (length ks) looks (high - low) 0 h.halved (omega arith) (omega arith)) k l
+-- what a search by halving finds
+pub located : (ks : List ℕ) (r : ℕ) (place : Result ℕ ℕ) → IsStrictlyIncreasing ks → IsLocated ks r place → result_ok place ≡ index_of r ks
+located ks r (Ok i) up h = sym (located_at ks r i up h.0 h.1)
+located ks r (Err i) up h = sym (located_nowhere ks r i h)
+
+-- ---- every eighth apart
+
+-- a number of a list of so many lies anywhere in it
+pub between_all : (ks : List ℕ) (r n : ℕ) → n ≡ length ks → LiesBetween ks r 0 n
+between_all ks r n e = record {
+  ordered = omega arith;
+  within = omega (arith, e);
+  below = λ i l. absurd (omega (arith, l));
+  above = λ i l m. absurd (omega (arith, e, l, m));
+}
+
+pub eighths_ascend : (ks fs : List ℕ) → AreEighths ks fs → IsStrictlyIncreasing ks → IsStrictlyIncreasing fs
+eighths_ascend ks fs h up k l =
+    let here = h.each k (omega (arith, l)) in
+    let next = h.each (k + 1) l in
+    let size = h.size in
+    let less = rises ks up (8 * k + 7) (8 * (k + 1) + 7) (omega arith) (omega (arith, l, size)) in
+    omega (arith, here, next, less)
+
+-- where the eighths have no such number, it lies between two of them
+pub eighths_between : (ks fs : List ℕ) (r i n : ℕ) → AreEighths ks fs → IsStrictlyIncreasing ks → LiesBetween fs r i i
+    → (i < length fs → n ≡ 8 * i + 7) → (length fs ≤ i → n ≡ length ks) → LiesBetween ks r (8 * i) n
+eighths_between ks fs r i n h up b next last = go (nat_lt i (length fs)) refl
+  where
+    under : (j : ℕ) → j < 8 * i → slice_index ks j < r
+    under j l = under_in i refl
+      where
+        under_in : (k : ℕ) → k ≡ i → slice_index ks j < r
+        under_in zero e = absurd (omega (arith, l, e))
+        under_in (suc k) e = at (nat_lt j (8 * k + 7)) refl
+          where
+            size : length fs ≡ length ks / 8
+            size = h.size
+
+            in_eighths : k < length fs
+            in_eighths = (let w = b.within in omega (arith, w, e))
+
+            there : slice_index ks (8 * k + 7) < r
+            there = (let f = h.each k in_eighths in let g = b.below k (omega (arith, e)) in omega (arith, f, g))
+
+            at : (c : Bool) → nat_lt j (8 * k + 7) ≡ c → slice_index ks j < r
+            at true t = (let a = rises ks up j (8 * k + 7) (grind (arith, nat_tests)) (omega (arith, in_eighths, size)) in omega (arith, a, there))
+            at false t = (let s : j ≡ 8 * k + 7 = grind (arith, nat_tests) in subst (λ z. slice_index ks z < r) (sym s) there)
+
+    go : (c : Bool) → nat_lt i (length fs) ≡ c → LiesBetween ks r (8 * i) n
+    go true t = record {
+      ordered = omega (arith, e);
+      within = omega (arith, e, l, size);
+      below = under;
+      above = λ j m o. over j m o (nat_lt (8 * i + 7) j) refl;
+    }
+      where
+        l : i < length fs
+        l = grind (arith, nat_tests)
+
+        e : n ≡ 8 * i + 7
+        e = next l
+
+        size : length fs ≡ length ks / 8
+        size = h.size
+
+        there : r < slice_index ks (8 * i + 7)
+        there = (let f = h.each i l in let g = b.above i (omega arith) l in omega (arith, f, g))
+
+        over : (j : ℕ) → n ≤ j → j < length ks → (c : Bool) → nat_lt (8 * i + 7) j ≡ c → r < slice_index ks j
+        over j m o true t = (let a = rises ks up (8 * i + 7) j (grind (arith, nat_tests)) o in omega (arith, a, there))
+        over j m o false t = (let s : 8 * i + 7 ≡ j = grind (arith, nat_tests) in subst (λ z. r < slice_index ks z) s there)
+    go false t = record {
+      ordered = omega (arith, e, w, size);
+      within = omega (arith, e);
+      below = under;
+      above = λ j m o. absurd (omega (arith, e, m, o));
+    }
+      where
+        l : length fs ≤ i
+        l = grind (arith, nat_tests)
+
+        e : n ≡ length ks
+        e = last l
+
+        w : i ≤ length fs
+        w = b.within
+
+        size : length fs ≡ length ks / 8
+        size = h.size
+
+-- what was found among the eighths, or where it is to be looked for
+pub eighths_found : (ks fs : List ℕ) (r i : ℕ) (place : Result ℕ ℕ) → AreEighths ks fs → IsStrictlyIncreasing ks → IsLocated (map (λ (n : ℕ). n) fs) r place → place ≡ Ok i
+    → Some (8 * i + 7) ≡ index_of r ks
+eighths_found ks fs r i place h up at e = sym (located_at ks r (8 * i + 7) up (omega (arith, there.0, size)) (sym (h.each i there.0) ∙ there.1))
+  where
+    there : (i < length fs) × (slice_index fs i ≡ r)
+    there = subst (λ gs. IsLocated gs r (Ok i)) (map-id fs) (subst (λ p. IsLocated (map (λ (n : ℕ). n) fs) r p) e at)
+
+    size : length fs ≡ length ks / 8
+    size = h.size
+
+pub eighths_missed : (fs : List ℕ) (r i : ℕ) (place : Result ℕ ℕ) → IsLocated (map (λ (n : ℕ). n) fs) r place → place ≡ Err i → LiesBetween fs r i i
+eighths_missed fs r i place at e = subst (λ gs. LiesBetween gs r i i) (map-id fs) (subst (λ p. IsLocated (map (λ (n : ℕ). n) fs) r p) e at)
+
+-- seven places at most lie between two of them
+pub eighths_apart : (n m i to : ℕ) → m ≡ n / 8 → (i < m → to ≡ 8 * i + 7) → (m ≤ i → to ≡ n) → to - 8 * i ≤ 7
+eighths_apart n m i to e next last = go (nat_lt i m) refl
+  where
+    go : (c : Bool) → nat_lt i m ≡ c → to - 8 * i ≤ 7
+    go true t = (let a = next (grind (arith, nat_tests)) in omega (arith, a))
+    go false t = (let l : m ≤ i = grind (arith, nat_tests) in let a = last l in omega (arith, a, l, e))
+
+pub eighths_within : (n m i to : ℕ) → m ≡ n / 8 → (i < m → to ≡ 8 * i + 7) → (m ≤ i → to ≡ n) → to ≤ n
+eighths_within n m i to e next last = go (nat_lt i m) refl
+  where
+    go : (c : Bool) → nat_lt i m ≡ c → to ≤ n
+    go true t = (let l : i < m = grind (arith, nat_tests) in let a = next l in omega (arith, a, l, e))
+    go false t = (let a = last (grind (arith, nat_tests)) in omega (arith, a))
+
+-- the looks at the eighths, and then between two of them, are no more than those at all
+pub eighths_few : (n m w p q k : ℕ) → m ≡ n / 8 → w ≤ 7 → w ≤ n → ((j : ℕ) → m < 2 ^ j → p ≤ j) → ((j : ℕ) → w < 2 ^ j → q ≤ j) → n < 2 ^ k → p + q ≤ k
+eighths_few n m w p q zero e t l f g lt = (let a = f 0 (omega (arith, e, lt)) in let b = g 0 (omega (arith, l, lt)) in omega (arith, a, b))
+eighths_few n m w p q (suc zero) e t l f g lt = (let a = f 0 (omega (arith, e, lt)) in let b = g 1 (omega (arith, l, lt)) in omega (arith, a, b))
+eighths_few n m w p q (suc (suc zero)) e t l f g lt = (let a = f 0 (omega (arith, e, lt)) in let b = g 2 (omega (arith, l, lt)) in omega (arith, a, b))
+eighths_few n m w p q (suc (suc (suc k))) e t l f g lt = (let a = f k (omega (arith, e, lt)) in let b = g 3 (omega (arith, t)) in omega (arith, a, b))
 
 -- ---- what stands at the place that was found
 

@@ -9,13 +9,13 @@ use Rattle.scheme_builds.proofs.ranges.build_ranges.Goals as goal
 pub join_ranges-requires-clause-ranges : goal.join_ranges-requires-clause-ranges
 join_ranges-requires-clause-ranges g c =
     let items = c.in_ok-made.made.items in
-    each_range c.args.graph.now c.args.landmarks.now c.args.nearest.now.nearest c.args.generation c.min-roots.result items c.loop-begun.begun
+    each_range c.args.graph.now c.args.landmarks.now c.args.nearest.now.nearest c.args.generation c.range_size-roots.result items c.loop-begun.begun
     (λ k d l. (c.in_ok-made.ensures.each k d (omega (arith, l, c.in_ok-made.ensures.len))).1.met)
 
 pub loop-begun-preserved : goal.loop-begun-preserved
 loop-begun-preserved g c =
     let m = c.args.graph.now in
-    let roots = c.min-roots.result in
+    let roots = c.range_size-roots.result in
     let all : length c.in_ok-made.made.items ≡ c.min-many.result = omega (arith, c.in_ok-made.ensures.len) in
     record {
       within = omega (arith, c.loop-begun-test.true, c.min-many.ensures);
@@ -28,9 +28,9 @@ returns g c =
     let flags = c.args.landmarks.now in
     let near = c.args.nearest.now.nearest in
     let given = c.args.generation in
-    let roots = c.min-roots.result in
+    let roots = c.range_size-roots.result in
     let count = c.div_ceil-count.result in
-    let some : 0 < roots = omega (arith, c.min-roots.ensures, c.requires.some) in
+    let some : 0 < roots = c.range_size-roots.ensures in
     let bound : c.nodes-2.result ≤ div_ceil c.nodes-2.result roots * roots = (div_ceil_times c.nodes-2.result roots some).0 in
     let same : count * roots ≡ div_ceil c.nodes-2.result roots * roots = ap (λ k. k * roots) c.div_ceil-count.ensures in
     let all : m.nodes ≤ count * roots = omega (arith, bound, same, c.nodes-2.ensures.nodes) in
