@@ -1,3 +1,3 @@
 pub mod Asking
-pub mod Pairing
-pub mod OneTask
+pub mod Commands
+pub mod Nodes

@@ -1,5 +1,6 @@
 -- The program's grammar, as clap takes it.
-use Rattle.std.specs.Prelude.{◌≡◌, Some, codes, false, true}
+use Rattle.std.specs.Prelude.{◌≡◌, List, [], ◌∷◌, Some, codes, false, map, true}
+use Rattle.std.specs.List.{flat_map}
 use Rattle.clap.specs.Lexer.{usize_max}
 use Rattle.clap.specs.Walk.{Rule, Text, rule_of}
 use Rattle.clap.specs.Simple.{App, app_of, new_app, new_rule, on_top, with_rule, with_subcommand}
@@ -7,28 +8,19 @@ use Rattle.clap.specs.declared.builder.action.ArgAction.TheVariants.{Append, Set
 use Rattle.clap.specs.declared.builder.arg.Arg.{Arg}
 use Rattle.clap.specs.declared.builder.command.Command.{Command}
 use Rattle.clap.specs.declared.builder.command.Command.TheViews.{out-Command}
+use Rattle.command_line.specs.declared.grammar.Argument.{Argument}
+use Rattle.command_line.specs.declared.grammar.Argument.TheVariants as given
+use Rattle.command_line.specs.Fields.{Field, Word, Number, Usual, Optional, Live, Nodes, Pairs, Landmarks, Ops, table}
 
 -- a text that has to be given
 abbrev pub text_rule : Text → Rule
 text_rule id = record (new_rule id) { required = true; action = Some Set }
 
--- `OP..`: one text or more
-abbrev pub ops_rule : Rule
-ops_rule = record (text_rule (codes "ops")) { range = Some (record { start_inclusive = 1; end_inclusive = usize_max }) }
-
--- `[NODE]..`: one text or more, or none
-abbrev pub more_rule : Rule
-more_rule = record (new_rule (codes "more")) { action = Some Append; range = Some (record { start_inclusive = 1; end_inclusive = usize_max }) }
-
--- `--words W`
-abbrev pub words_rule : Rule
-words_rule = record (text_rule (codes "words")) { long = Some (codes "words") }
-
 -- `--ID N`, which may be left out
 abbrev pub option_rule : Text → Rule
 option_rule id = record (new_rule id) { long = Some id; action = Some Set }
 
--- `--ID N`, which may be left out, and be given any number of times
+-- the same, which may be given any number of times
 abbrev pub repeated_rule : Text → Rule
 repeated_rule id = record (new_rule id) { long = Some id; action = Some Append }
 
@@ -36,75 +28,46 @@ repeated_rule id = record (new_rule id) { long = Some id; action = Some Append }
 abbrev pub flag_rule : Text → Rule
 flag_rule id = record (new_rule id) { long = Some id; action = Some SetTrue }
 
--- a command on a device: `NAME DEVICE`
-abbrev pub on_device_app : Text → App
-on_device_app name = with_rule (new_app name) (text_rule (codes "device"))
+-- `--ID TEXT`
+abbrev pub named_rule : Text → Rule
+named_rule id = record (text_rule id) { long = Some id }
 
--- the same with one text more: `NAME DEVICE TEXT`
-abbrev pub on_device_with_app : Text → Text → App
-on_device_with_app name id = with_rule (on_device_app name) (text_rule id)
+-- `TEXT..`: one text or more
+abbrev pub texts_rule : Text → Rule
+texts_rule id = record (text_rule id) { range = Some (record { start_inclusive = 1; end_inclusive = usize_max }) }
 
--- `format DEVICE N`
-abbrev pub format_app : App
-format_app = on_device_with_app (codes "format") (codes "nodes")
+-- `[TEXT]..`: one text or more, or none
+abbrev pub more_rule : Text → Rule
+more_rule id = record (new_rule id) { action = Some Append; range = Some (record { start_inclusive = 1; end_inclusive = usize_max }) }
 
--- `show DEVICE`
-abbrev pub show_app : App
-show_app = on_device_app (codes "show")
+-- the rules of a field
+abbrev pub rules_of : Field → List Rule
+rules_of (Word id) = text_rule id ∷ []
+rules_of (Number id least most) = text_rule id ∷ []
+rules_of (Usual id least most usual) = option_rule id ∷ []
+rules_of (Optional id least most) = option_rule id ∷ []
+rules_of Live = flag_rule (codes "live") ∷ option_rule (codes "rounds") ∷ []
+rules_of (Nodes id) = repeated_rule id ∷ []
+rules_of Pairs = text_rule (codes "from") ∷ text_rule (codes "to") ∷ more_rule (codes "more") ∷ []
+rules_of Landmarks = named_rule (codes "words") ∷ []
+rules_of Ops = texts_rule (codes "ops") ∷ []
 
--- `edit DEVICE OP..`
-abbrev pub ops_app : App
-ops_app = with_rule (on_device_app (codes "edit")) ops_rule
-
--- `edit DEVICE OP.. --session S --ticket T`
-abbrev pub edit_app : App
-edit_app = with_rule (with_rule ops_app (option_rule (codes "session"))) (option_rule (codes "ticket"))
-
--- `resume DEVICE S`
-abbrev pub resume_app : App
-resume_app = with_rule (on_device_app (codes "resume")) (text_rule (codes "session"))
-
--- `route DEVICE FROM TO [FROM TO].. --words W`
-abbrev pub route_app : App
-route_app = with_rule (with_rule (with_rule (with_rule (on_device_app (codes "route")) (text_rule (codes "from"))) (text_rule (codes "to"))) more_rule) words_rule
-
--- `check DEVICE --words W`
-abbrev pub check_app : App
-check_app = with_rule (on_device_app (codes "check")) words_rule
-
--- `migrate OLD NEW`
-abbrev pub migrate_app : App
-migrate_app = with_rule (on_device_app (codes "migrate")) (text_rule (codes "new"))
-
--- `serve DEVICE --words W [--editors E] [--forwarders F] [--queue Q]`
-abbrev pub seated_app : App
-seated_app =
-    with_rule (with_rule (with_rule (with_rule (on_device_app (codes "serve")) words_rule) (option_rule (codes "editors"))) (option_rule (codes "forwarders")))
-    (option_rule (codes "queue"))
-
--- the same with `[--live] [--rounds R]`
-abbrev pub serve_app : App
-serve_app = with_rule (with_rule seated_app (flag_rule (codes "live"))) (option_rule (codes "rounds"))
-
--- `tables DEVICE FOLDER --words W [--node N]..`
-abbrev pub tables_app : App
-tables_app = with_rule (with_rule (with_rule (on_device_app (codes "tables")) (text_rule (codes "folder"))) words_rule) (repeated_rule (codes "node"))
+-- a command with these rules more
+abbrev pub with_rules : App → List Rule → App
+with_rules app [] = app
+with_rules app (rule ∷ rules) = with_rules (with_rule app rule) rules
 
 -- one of the commands has to be given, and the program's name is not among the words
 abbrev pub bare_app : App
 bare_app = on_top (λ s. record s { no_binary_name = true; subcommand_required = true }) (new_app (codes "tznode"))
 
--- the commands that take no landmark words, but `migrate`
-abbrev pub plain_program : App
-plain_program = with_subcommand (with_subcommand (with_subcommand (with_subcommand bare_app format_app.top) show_app.top) edit_app.top) resume_app.top
+abbrev pub with_commands : App → List (Text × List Field) → App
+with_commands app [] = app
+with_commands app (row ∷ rows) = with_commands (with_subcommand app (with_rules (new_app row.0) (flat_map rules_of row.1)).top) rows
 
--- these, and the commands that answer of a network under landmark words
-abbrev pub asking_program : App
-asking_program = with_subcommand (with_subcommand (with_subcommand plain_program route_app.top) check_app.top) tables_app.top
-
--- the program's grammar
+-- the program's grammar: each command of the table, with the rules of its fields
 unfoldable pub program : App
-program = with_subcommand (with_subcommand asking_program migrate_app.top) serve_app.top
+program = with_commands bare_app table
 
 -- ---- what is built of it
 
@@ -118,7 +81,16 @@ pub record IsCommandOf (command : Command) (wanted : App) : Type 0 where
   pub app : app_of command ≡ wanted
   pub local : (out-Command command).has_globals ≡ false
 
--- The command has this rule more. It shares no argument with subcommands where it shared none before.
-pub record AddsRule (before after : Command) (rule : Rule) : Type 0 where
-  pub app : app_of after ≡ with_rule (app_of before) rule
-  pub local : (out-Command before).has_globals ≡ false → (out-Command after).has_globals ≡ false
+-- the rule of an argument
+abbrev pub rule_for : Argument → Rule
+rule_for (given.Text id) = text_rule id.now
+rule_for (given.Texts id) = texts_rule id.now
+rule_for (given.More id) = more_rule id.now
+rule_for (given.Named id) = named_rule id.now
+rule_for (given.Option id) = option_rule id.now
+rule_for (given.Repeated id) = repeated_rule id.now
+rule_for (given.Flag id) = flag_rule id.now
+
+-- the command of this name with these arguments
+abbrev pub app_named : Text → List Argument → App
+app_named name arguments = with_rules (new_app name) (map rule_for arguments)

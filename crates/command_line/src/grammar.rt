@@ -1,155 +1,122 @@
-//! The program's grammar.
-ghost use Rattle.std.specs.Prelude.{◌≡◌, IfOk};
-ghost use Rattle.clap.specs.Words.{app_of};
-ghost use Rattle.command_line.specs.Grammar.{AddsRule, IsArgOf, IsCommandOf, asking_program, check_app, edit_app, flag_rule, more_rule, on_device_app, on_device_with_app, ops_app, option_rule, plain_program, program, repeated_rule, route_app, seated_app, serve_app, tables_app, text_rule, words_rule};
+//! The program's grammar, as clap takes it.
+ghost use Rattle.std.specs.Prelude.{IfOk};
+ghost use Rattle.clap.specs.Simple.{App, with_subcommand};
+ghost use Rattle.command_line.specs.Grammar.{IsArgOf, IsCommandOf, app_named, program, rule_for};
 
 use clap::{Arg, ArgAction, Command};
 use std::alloc::{AllocError, Global};
 
-fn text<'a>(alloc: Global, id: &'a str) -> Arg<'a>
-    ensures { IsArgOf result (text_rule id.entry.now) }
-{
-    Arg::new(alloc, id).required(true).action(ArgAction::Set)
+/// How a command is given texts.
+#[derive(Clone, Copy, Drop)]
+pub(crate) enum Argument {
+    /// A text.
+    Text(&'static str),
+    /// `OP..`: one text or more.
+    Texts(&'static str),
+    /// Texts behind the others, if there are any.
+    More(&'static str),
+    /// `--ID TEXT`.
+    Named(&'static str),
+    /// `[--ID TEXT]`.
+    Option(&'static str),
+    /// `[--ID TEXT]..`.
+    Repeated(&'static str),
+    /// `[--ID]`.
+    Flag(&'static str),
 }
 
-fn on_device<'a>(alloc: Global, name: &'a str) -> Result<Command<'a>, AllocError>
-    ensures { IfOk result (λ command. IsCommandOf command (on_device_app name.entry.now)) }
+fn arg<'a>(alloc: Global, argument: Argument) -> Arg<'a>
+    ensures { IsArgOf result (rule_for argument) }
 {
-    Command::new(alloc, name).arg(text(alloc, "device"))
+    match argument {
+        Argument::Text(id) => Arg::new(alloc, id).required(true).action(ArgAction::Set),
+        Argument::Texts(id) => Arg::new(alloc, id)
+            .required(true)
+            .action(ArgAction::Set)
+            .num_args(1..),
+        Argument::More(id) => Arg::new(alloc, id).action(ArgAction::Append).num_args(1..),
+        Argument::Named(id) => Arg::new(alloc, id)
+            .required(true)
+            .action(ArgAction::Set)
+            .long(id),
+        Argument::Option(id) => Arg::new(alloc, id).long(id).action(ArgAction::Set),
+        Argument::Repeated(id) => Arg::new(alloc, id).long(id).action(ArgAction::Append),
+        Argument::Flag(id) => Arg::new(alloc, id).long(id).action(ArgAction::SetTrue),
+    }
 }
 
-fn on_device_with<'a>(alloc: Global, name: &'a str, id: &'a str) -> Result<Command<'a>, AllocError>
-    ensures { IfOk result (λ command. IsCommandOf command (on_device_with_app name.entry.now id.entry.now)) }
-{
-    on_device(alloc, name)?.arg(text(alloc, id))
-}
-
-fn ops_command<'a>(alloc: Global) -> Result<Command<'a>, AllocError>
-    ensures { IfOk result (λ command. IsCommandOf command ops_app) }
-{
-    let ops = text(alloc, "ops").num_args(1..);
-    on_device(alloc, "edit")?.arg(ops)
-}
-
-fn edit_command<'a>(alloc: Global) -> Result<Command<'a>, AllocError>
-    ensures { IfOk result (λ command. IsCommandOf command edit_app) }
-{
-    let named = with_option(alloc, ops_command(alloc)?, "session")?;
-    with_option(alloc, named, "ticket")
-}
-
-fn option<'a>(alloc: Global, id: &'a str) -> Arg<'a>
-    ensures { IsArgOf result (option_rule id.entry.now) }
-{
-    Arg::new(alloc, id).long(id).action(ArgAction::Set)
-}
-
-fn with_option<'a>(
+// A command of this name with these arguments.
+fn command<'a>(
     alloc: Global,
-    command: Command<'a>,
-    id: &'a str,
+    name: &'a str,
+    arguments: &[Argument],
 ) -> Result<Command<'a>, AllocError>
-    ensures { IfOk result (λ whole. AddsRule command.entry whole (option_rule id.entry.now)) }
+    ensures { IfOk result (λ command. IsCommandOf command (app_named name.entry.now arguments.now)) }
 {
-    command.arg(option(alloc, id))
+    let mut command = Command::new(alloc, name);
+    for argument in arguments {
+        command = command.arg(arg(alloc, *argument))?;
+    }
+    Ok(command)
 }
 
-// A flag, which takes no value.
-fn flag<'a>(alloc: Global, id: &'a str) -> Arg<'a>
-    ensures { IsArgOf result (flag_rule id.entry.now) }
+// A program with one command more.
+fn with<'a>(
+    alloc: Global,
+    program: Command<'a>,
+    name: &'a str,
+    arguments: &[Argument],
+) -> Result<Command<'a>, AllocError>
+    ensures { (app : App) → IsCommandOf program.entry app
+        → IfOk result (λ whole. IsCommandOf whole (with_subcommand app (app_named name.entry.now arguments.now).top)) }
 {
-    Arg::new(alloc, id).long(id).action(ArgAction::SetTrue)
-}
-
-// A service, with how many editors, forwarders and places it has.
-fn seated_command<'a>(alloc: Global) -> Result<Command<'a>, AllocError>
-    ensures { IfOk result (λ command. IsCommandOf command seated_app) }
-{
-    let plain = with_words(alloc, on_device(alloc, "serve")?)?;
-    let edited = with_option(alloc, plain, "editors")?;
-    let forwarded = with_option(alloc, edited, "forwarders")?;
-    with_option(alloc, forwarded, "queue")
-}
-
-fn serve_command<'a>(alloc: Global) -> Result<Command<'a>, AllocError>
-    ensures { IfOk result (λ command. IsCommandOf command serve_app) }
-{
-    let seated = seated_command(alloc)?;
-    let flagged = seated.arg(flag(alloc, "live"))?;
-    with_option(alloc, flagged, "rounds")
-}
-
-fn with_words<'a>(alloc: Global, command: Command<'a>) -> Result<Command<'a>, AllocError>
-    ensures { IfOk result (λ whole. AddsRule command.entry whole words_rule) }
-{
-    command.arg(text(alloc, "words").long("words"))
-}
-
-// Nodes behind the first two, if there are any.
-fn more_nodes<'a>(alloc: Global) -> Arg<'a>
-    ensures { IsArgOf result more_rule }
-{
-    Arg::new(alloc, "more")
-        .action(ArgAction::Append)
-        .num_args(1..)
-}
-
-fn route_command<'a>(alloc: Global) -> Result<Command<'a>, AllocError>
-    ensures { IfOk result (λ command. IsCommandOf command route_app) }
-{
-    let ends = on_device_with(alloc, "route", "from")?.arg(text(alloc, "to"))?;
-    with_words(alloc, ends.arg(more_nodes(alloc))?)
-}
-
-fn check_command<'a>(alloc: Global) -> Result<Command<'a>, AllocError>
-    ensures { IfOk result (λ command. IsCommandOf command check_app) }
-{
-    with_words(alloc, on_device(alloc, "check")?)
-}
-
-// An option that may be given any number of times.
-fn repeated<'a>(alloc: Global, id: &'a str) -> Arg<'a>
-    ensures { IsArgOf result (repeated_rule id.entry.now) }
-{
-    Arg::new(alloc, id).long(id).action(ArgAction::Append)
-}
-
-fn tables_command<'a>(alloc: Global) -> Result<Command<'a>, AllocError>
-    ensures { IfOk result (λ command. IsCommandOf command tables_app) }
-{
-    let folder = on_device_with(alloc, "tables", "folder")?;
-    let worded = with_words(alloc, folder)?;
-    worded.arg(repeated(alloc, "node"))
-}
-
-// The first commands. One at a time is joined to those before, so that an exit has few of them to drop.
-fn plain_commands<'a>(alloc: Global) -> Result<Command<'a>, AllocError>
-    ensures { IfOk result (λ command. app_of command ≡ plain_program) }
-{
-    let bare = Command::new(alloc, "tznode")
-        .no_binary_name(true)
-        .subcommand_required(true);
-    let formats = bare.subcommand(on_device_with(alloc, "format", "nodes")?)?;
-    let shows = formats.subcommand(on_device(alloc, "show")?)?;
-    let edits = shows.subcommand(edit_command(alloc)?)?;
-    edits.subcommand(on_device_with(alloc, "resume", "session")?)
-}
-
-// These, and the commands that answer of a network under landmark words.
-fn asking_commands<'a>(alloc: Global) -> Result<Command<'a>, AllocError>
-    ensures { IfOk result (λ command. app_of command ≡ asking_program) }
-{
-    let plain = plain_commands(alloc)?;
-    let routes = plain.subcommand(route_command(alloc)?)?;
-    let checks = routes.subcommand(check_command(alloc)?)?;
-    checks.subcommand(tables_command(alloc)?)
+    program.subcommand(command(alloc, name, arguments)?)
 }
 
 /// The grammar, as clap takes it.
 pub(crate) fn grammar<'a>(alloc: Global) -> Result<Command<'a>, AllocError>
-    ensures { IfOk result (λ command. app_of command ≡ program) }
+    ensures { IfOk result (λ command. IsCommandOf command program) }
 {
-    let asking = asking_commands(alloc)?;
-    let migrates = asking.subcommand(on_device_with(alloc, "migrate", "new")?)?;
-    migrates.subcommand(serve_command(alloc)?)
+    let device = Argument::Text("device");
+    let words = Argument::Named("words");
+    let bare = Command::new(alloc, "tznode")
+        .no_binary_name(true)
+        .subcommand_required(true);
+    let formats = with(alloc, bare, "format", &[device, Argument::Text("nodes")])?;
+    let shows = with(alloc, formats, "show", &[device])?;
+    let edit = [
+        device,
+        Argument::Texts("ops"),
+        Argument::Option("session"),
+        Argument::Option("ticket"),
+    ];
+    let edits = with(alloc, shows, "edit", &edit)?;
+    let resumes = with(alloc, edits, "resume", &[device, Argument::Text("session")])?;
+    let route = [
+        device,
+        Argument::Text("from"),
+        Argument::Text("to"),
+        Argument::More("more"),
+        words,
+    ];
+    let routes = with(alloc, resumes, "route", &route)?;
+    let checks = with(alloc, routes, "check", &[device, words])?;
+    let tables = [
+        device,
+        Argument::Text("folder"),
+        words,
+        Argument::Repeated("node"),
+    ];
+    let tabled = with(alloc, checks, "tables", &tables)?;
+    let migrates = with(alloc, tabled, "migrate", &[device, Argument::Text("new")])?;
+    let serve = [
+        device,
+        words,
+        Argument::Option("editors"),
+        Argument::Option("forwarders"),
+        Argument::Option("queue"),
+        Argument::Flag("live"),
+        Argument::Option("rounds"),
+    ];
+    with(alloc, migrates, "serve", &serve)
 }

@@ -29,6 +29,7 @@
 //! ```
 #![tactic(auto)]
 
+mod arguments;
 mod grammar;
 mod refused;
 mod task;

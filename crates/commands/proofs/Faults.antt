@@ -8,7 +8,7 @@ use Rattle.written_values.specs.Words.{IsWithin}
 use Rattle.command_output.specs.declared.fault.Fault.{Fault}
 use Rattle.command_output.specs.declared.fault.Fault.TheVariants as told
 use Rattle.device_commands.specs.Openings.{IsOpenFault, TellsOf}
-use Rattle.command_line.specs.Asked.{IsAskedFor, IsInRange, IsRefusedFor}
+use Rattle.command_line.specs.Asked.{IsAskedFor, IsRefusedFor}
 use Rattle.command_line.specs.declared.refused.WordsRefused.{WordsRefused}
 use Rattle.command_line.specs.declared.refused.WordsRefused.TheVariants as why
 use Rattle.command_line.specs.declared.task.Task.{Task}
@@ -94,8 +94,8 @@ memory_alone why.TooLong is = absurd (cc)
 
 -- words that are refused are so by a fault for them
 pub refused_for : {D : Type 0} (model : Ghosts D) (done : Doing D) (put : List Put → Type 0) (words : List Text) (given old new : Option (List ℕ)) (refused : WordsRefused) (fault : Fault) → fault ≡ words_fault refused → done [] → IsRefusedFor words refused
-    → ((task : Task) → IsAskedFor words task → IsInRange task → refused ≡ why.Memory) → IsFaultFor model done put words given old new fault
-refused_for model done put words given old new refused fault is none cause memory = inl (none, (refused, is, cause, λ task asked fits. is ∙ memory_alone refused (memory task asked fits)))
+    → ((task : Task) → IsAskedFor words task → refused ≡ why.Memory) → IsFaultFor model done put words given old new fault
+refused_for model done put words given old new refused fault is none cause memory = inl (none, (refused, is, cause, λ task asked. is ∙ memory_alone refused (memory task asked)))
 
 -- a fault of a part, where it is handed up
 pub each_fault : {T : Type 0} (r : Result T Fault) (P Q : Fault → Type 0) → ((fault : Fault) → P fault → Q fault) → IfErr r P → IfErr r Q

@@ -22,7 +22,7 @@ use Rattle.service_threads.specs.Kept.{IsLeftBy}
 use Rattle.live_service.specs.ServeEnds.{IsServeEnd}
 use Rattle.line_exchange.specs.Inputs.{Bytes}
 use Rattle.line_exchange.specs.Prints.{HasPrinted}
-use Rattle.command_line.specs.Asked.{IsAskedFor, IsInRange, IsRefusedFor}
+use Rattle.command_line.specs.Asked.{IsAskedFor, IsRefusedFor}
 use Rattle.command_line.specs.declared.refused.WordsRefused.{WordsRefused}
 use Rattle.command_line.specs.declared.refused.WordsRefused.TheVariants as why
 use Rattle.command_line.specs.declared.task.Task.{Task}
@@ -218,9 +218,9 @@ MayEnd model done put (Serve device editors forwarders places None words) given 
 MayEnd model done put (Serve device editors forwarders places (Some rounds) words) given old new fault = EndsLive model done device.now given editors words old new fault
 MayEnd model done put task given old new fault = EndsBy model done put (device_of task) (access_of task) (λ disk left why. Leaves task disk left × EndsOpened put task disk left why) fault
 
--- The words are no task that is in range, no device was opened, and the fault is the one for what is wrong with them, or memory ran out
+-- The words are no task, no device was opened, and the fault is the one for what is wrong with them, or memory ran out
 -- while they were read; or they ask for a task, and the fault is one that may end it.
 abbrev pub IsFaultFor : {D : Type 0} → Ghosts D → Doing D → (List Put → Type 0) → List Text → Known → Known → Known → Fault → Type 0
 IsFaultFor model done put words given old new fault =
-    (done [] × ((refused : WordsRefused) × (fault ≡ words_fault refused) × IsRefusedFor words refused × ((task : Task) → IsAskedFor words task → IsInRange task → fault ≡ told.Memory)))
+    (done [] × ((refused : WordsRefused) × (fault ≡ words_fault refused) × IsRefusedFor words refused × ((task : Task) → IsAskedFor words task → fault ≡ told.Memory)))
     ⊎ ((task : Task) × IsAskedFor words task × MayEnd model done put task given old new fault)

@@ -34,7 +34,7 @@ returns-in-Err-clause-runs g c =
     let why = c.in-Err.ensures in
     record {
       outcome = refused_so g.F.Device.Disk done put (texts c.args.words.now) given old old (g.E.FaultWriter.contents c.args.err.now) (g.E.FaultWriter.contents c.told.new.err) c.fault_of.result c.told.result c.told.ensures.told
-          (refused_for g.F.Device.Disk done put (texts c.args.words.now) given old old c.in-Err.refused c.fault_of.result c.fault_of.ensures (nothing_done g.F.Devices.opened g.F.Devices.events c.args.devices.now) why.cause (λ task asked fits. why.refused task asked fits));
+          (refused_for g.F.Device.Disk done put (texts c.args.words.now) given old old c.in-Err.refused c.fault_of.result c.fault_of.ensures (nothing_done g.F.Devices.opened g.F.Devices.events c.args.devices.now) why.cause why.refused);
       untouched = λ batch fault other which. refl {a = c.args.out.now};
       unread = λ other. refl {a = c.args.script.now};
     }

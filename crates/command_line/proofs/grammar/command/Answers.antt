@@ -1,0 +1,21 @@
+use Rattle.std.proofs.Common.{arith, ap, ap₂, drop, get_or, length, map, sym, ◌||◌, ◌≡◌, ◌∙◌, ◌<◌, ◌+◌, ℕ, List}
+use Rattle.std.proofs.lemmas.List.{drop_more}
+use Rattle.clap.specs.Simple.{App, with_rule}
+use Rattle.clap.specs.Walk.{Rule}
+use Rattle.command_line.specs.declared.grammar.Argument.{Argument}
+use Rattle.command_line.specs.Grammar.{rule_for, with_rules}
+use Rattle.command_line.proofs.grammar.command.Goals as goal
+
+one_more : (old new whole : App) (rule : Rule) (xs : List Argument) (i : ℕ) (d : Argument) → i < length xs → new ≡ with_rule old rule → rule ≡ rule_for (get_or xs i d)
+    → with_rules old (map rule_for (drop i xs)) ≡ whole → with_rules new (map rule_for (drop (i + 1) xs)) ≡ whole
+one_more old new whole rule xs i d lt added is rest =
+    ap (λ (a : App). with_rules a (map rule_for (drop (i + 1) xs))) (added ∙ ap (with_rule old) is)
+    ∙ ap (λ (ys : List Argument). with_rules old (map rule_for ys)) (sym (drop_more xs i d lt)) ∙ rest
+
+pub loop-argument-preserved : goal.loop-argument-preserved
+loop-argument-preserved c =
+    let added = c.in_ok-command.ensures in
+    record {
+      rest = one_more _ _ _ _ c.args.arguments.now c.loop-argument.argument-index _ (omega arith) (added.shape c.arg.ensures.local) c.arg.ensures.rule c.loop-argument.invariant.rest;
+      local = added.globals ∙ ap₂ ◌||◌ c.loop-argument.invariant.local c.arg.ensures.local;
+    }
