@@ -5,9 +5,9 @@
 //! what came and what should have come, and leaves the rest of that file. The status is 1 then, and 2 where a transcript isn't
 //! understood or a file can't be used. What the crate `transcripts` says of a comparison is proved; what files hold is not.
 //!
-//! A step of `tznode` is a call of `commands::run_words`, one of `tzrouter` of `router_commands::run_words`, and neither is a process: so
-//! nothing here shows what a program does with its standard streams, which `./conform` shows. `tzlab` has no such call yet: transcripts
-//! with a step of it are left out as a whole, since the other steps need the files that it makes, and are counted.
+//! A step of `tznode` is a call of `commands::run_words`, one of `tzlab` of `lab_commands::run_words`, one of `tzrouter` of
+//! `router_commands::run_words`, and none is a process: so nothing here shows what a program does with its standard streams, which
+//! `./conform` shows.
 #![tactic(auto)]
 
 mod files;
@@ -18,7 +18,7 @@ mod talk;
 use report::{Fault, told, told_at};
 use std::fs::File;
 use std::process::ExitCode;
-use std::rt::Files;
+use std::rt::{Clock, Files};
 use std::sync::Wait;
 use std::thread::Threads;
 use std::{env, fs, io};
@@ -62,7 +62,7 @@ fn named(rt: &HostRuntime) -> io::Result<Vec<String>> {
 // Runs a transcript, and answers the exit status.
 fn run_file<'a, R>(rt: &HostRuntime, programs: &'a R, name: &str) -> u8
 where
-    R: Files<File = File> + AllocGlobal + Threads + Wait + Sync + TablePlaces<'a>,
+    R: Files<File = File> + AllocGlobal + Clock + Threads + Wait + Sync + TablePlaces<'a>,
 {
     let text = match fs::read_to_string(rt, name) {
         Ok(text) => text,
@@ -78,13 +78,8 @@ where
 // Runs the steps of a transcript in a fresh folder, and answers the exit status.
 fn run_in_folder<'a, R>(rt: &HostRuntime, programs: &'a R, name: &str, steps: &[Step<'_>]) -> u8
 where
-    R: Files<File = File> + AllocGlobal + Threads + Wait + Sync + TablePlaces<'a>,
+    R: Files<File = File> + AllocGlobal + Clock + Threads + Wait + Sync + TablePlaces<'a>,
 {
-    if steps.iter().any(|step| is_of(step, "tzlab")) {
-        let count = steps.len();
-        let printed = println!(rt; "{name}: left out, {count} steps: they need tzlab");
-        return if printed.is_ok() { 0 } else { 2 };
-    }
     if let Err(error) = fs::create_dir(rt, FOLDER).and_then(|()| env::set_current_dir(rt, FOLDER)) {
         return told(rt, FOLDER, &error);
     }
@@ -97,18 +92,10 @@ where
     status
 }
 
-// Whether a step is of a command.
-fn is_of(step: &Step<'_>, command: &str) -> bool {
-    match step.words.first() {
-        Some(word) => word.as_str() == command,
-        None => false,
-    }
-}
-
 // Runs steps until one differs, and answers the exit status.
 fn run_steps<'a, R>(rt: &HostRuntime, programs: &'a R, name: &str, steps: &[Step<'_>]) -> u8
 where
-    R: Files<File = File> + AllocGlobal + Threads + Wait + Sync + TablePlaces<'a>,
+    R: Files<File = File> + AllocGlobal + Clock + Threads + Wait + Sync + TablePlaces<'a>,
 {
     for step in steps {
         match compared(rt, programs, name, step) {
@@ -130,7 +117,7 @@ fn compared<'a, R>(
     step: &Step<'_>,
 ) -> Result<bool, Fault>
 where
-    R: Files<File = File> + AllocGlobal + Threads + Wait + Sync + TablePlaces<'a>,
+    R: Files<File = File> + AllocGlobal + Clock + Threads + Wait + Sync + TablePlaces<'a>,
 {
     let found = ran(rt, programs, step)?;
     let same = match &found {

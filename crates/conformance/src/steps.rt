@@ -5,11 +5,13 @@ use crate::talk::{Output, PacedInput, Talk, Told};
 use std::alloc::{AllocError, Global};
 use std::fs::File;
 use std::io::Write;
-use std::rt::Files;
+use std::rt::{Clock, Files};
 use std::sync::Wait;
 use std::thread::Threads;
 use table_files::TablePlaces;
 use transcripts::{Came, Step, agrees};
+
+const PROGRAMS: [&str; 3] = ["tznode", "tzlab", "tzrouter"];
 
 /// What came of a command.
 #[derive(Drop)]
@@ -47,16 +49,16 @@ fn came_of<'a, R>(
     step: &Step<'_>,
 ) -> Result<CameOf, Fault>
 where
-    R: Files<File = File> + AllocGlobal + Threads + Wait + Sync + TablePlaces<'a>,
+    R: Files<File = File> + AllocGlobal + Clock + Threads + Wait + Sync + TablePlaces<'a>,
 {
     let talk = Talk::new(rt.alloc());
     let mut input = PacedInput::new(rt, &talk, &step.given);
     let mut out = Output::new(rt, &talk);
     let mut err = Told::new(rt, &talk);
-    let status = if program == "tzrouter" {
-        router_commands::run_words(rt, words, &mut input, &mut out, &mut err)
-    } else {
-        commands::run_words(rt, words, &mut input, &mut out, &mut err)
+    let status = match program {
+        "tzlab" => lab_commands::run_words(rt, words, &mut out, &mut err),
+        "tzrouter" => router_commands::run_words(rt, words, &mut input, &mut out, &mut err),
+        _ => commands::run_words(rt, words, &mut input, &mut out, &mut err),
     };
     out.flush()?;
     let told = err.told;
@@ -70,7 +72,7 @@ where
 /// Does what a step says.
 pub(crate) fn ran<'a, R>(rt: &HostRuntime, programs: &'a R, step: &Step<'_>) -> Result<Found, Fault>
 where
-    R: Files<File = File> + AllocGlobal + Threads + Wait + Sync + TablePlaces<'a>,
+    R: Files<File = File> + AllocGlobal + Clock + Threads + Wait + Sync + TablePlaces<'a>,
 {
     let mut words = Vec::new(rt.alloc());
     for word in &step.words {
@@ -78,7 +80,7 @@ where
     }
     match words.split_first() {
         Some((command, words)) => {
-            if *command == "tznode" || *command == "tzrouter" {
+            if PROGRAMS.iter().any(|name| name == command) {
                 Ok(Found::Came(came_of(programs, command, words, step)?))
             } else {
                 files::done(rt, command, words, step)

@@ -1,6 +1,6 @@
 // Conversations: a line that waits is given once there are as many lines of output as lines before it.
 use std::alloc::{AllocError, Global};
-use std::io::{self, Read, Write};
+use std::io::{self, IsTerminal, Read, Write};
 use std::sync::{Condvar, Mutex, Wait};
 use transcripts::Given;
 
@@ -178,5 +178,11 @@ impl<R: Wait> Write for Told<'_, R> {
 
     fn flush(&mut self) -> io::Result<()> {
         Ok(())
+    }
+}
+
+impl<R: Wait> IsTerminal for Told<'_, R> {
+    fn is_terminal(&self) -> bool {
+        false
     }
 }

@@ -1,7 +1,8 @@
 //! Tests of rehearsals.
 //!
-//! There is nothing here but tests: texts that are read and texts that are refused, each kind of event and reply with the line that it is
-//! told in, long files, and the examples with their output.
+//! There is nothing here but tests, of what no command shows: what each kind of line is read as, replies that no rehearsal is answered, long
+//! files, want of memory, and drawn lives. Texts that are refused, and the lines of worked lives, are in `conformance/rehearse.txt`,
+//! `crashes.txt` and `rehearsed_examples.txt`.
 #![tactic(auto)]
 
 #[cfg(test)]

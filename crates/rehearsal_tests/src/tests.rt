@@ -15,7 +15,6 @@ use std::process::Abort;
 use written_values::LandmarkWords;
 
 mod drawn;
-mod examples;
 mod memory;
 mod reading;
 mod told;

@@ -1,12 +1,5 @@
-// Texts that are read, and texts that are refused.
+// Texts that are read line by line, and long ones.
 use super::*;
-
-fn refuses(rt: &impl Abort, alloc: Global, text: &str, number: usize, form: Form) {
-    match read_rehearsal(alloc, text) {
-        Ok(Err(refused)) => { assert_eq!(rt; refused, LineRefused { number, form }, "{text}") }
-        _ => panic!(rt; "not refused: {text}"),
-    }
-}
 
 const EACH_KIND: &str = "# a comment
 device 5   # five nodes
@@ -75,127 +68,7 @@ fn reads_each_kind_of_line(rt: HostRuntime) {
     assert_eq!(rt; lines.as_slice(), want.as_slice());
 }
 
-#[test]
-fn reads_nothing_where_no_line_has_a_word(rt: HostRuntime) {
-    for text in ["", "\n", "   \n#device 5\n", "#"] {
-        assert_eq!(rt; read(&rt, rt.alloc(), text).len(), 0, "{text}");
-    }
-}
-
 const LIFE: &str = "device 5\nlife sessions=1 places=1 words=none crash=0\n";
-
-#[test]
-fn names_the_first_line_that_is_not_understood(rt: HostRuntime) {
-    let rows: [(&str, usize, Form); 24] = [
-        ("devices 5", 1, Form::Device),
-        ("\n# no device\ntake", 3, Form::Device),
-        ("device 0", 1, Form::Device),
-        ("device 16385", 1, Form::Device),
-        ("device 5 5", 1, Form::Device),
-        ("device 05", 1, Form::Device),
-        ("device", 1, Form::Device),
-        ("device\t5", 1, Form::Device),
-        ("device 5\ntake", 2, Form::Life),
-        ("device 5\n\n\ndevice 5", 4, Form::Life),
-        (
-            "device 5\nlife sessions=0 places=1 words=none crash=0",
-            2,
-            Form::Life,
-        ),
-        (
-            "device 5\nlife sessions=65 places=1 words=none crash=0",
-            2,
-            Form::Life,
-        ),
-        (
-            "device 5\nlife sessions=1 places=0 words=none crash=0",
-            2,
-            Form::Life,
-        ),
-        (
-            "device 5\nlife sessions=1 places=65 words=none crash=0",
-            2,
-            Form::Life,
-        ),
-        (
-            "device 5\nlife sessions=1 places=1 words=at:5 crash=0",
-            2,
-            Form::Life,
-        ),
-        (
-            "device 5\nlife places=1 sessions=1 words=none crash=0",
-            2,
-            Form::Life,
-        ),
-        (
-            "device 5\nlife sessions=1 places=1 words=none fail=1 stop=1:0 crash=0",
-            2,
-            Form::Life,
-        ),
-        (
-            "device 5\nlife sessions=1 places=1 words=none stop=1 crash=0",
-            2,
-            Form::Life,
-        ),
-        (
-            "device 5\nlife sessions=1 places=1 words=none crash=0 fail=1",
-            2,
-            Form::Life,
-        ),
-        (
-            "device 5\nlife sessions=1 places=1 words=none crash=18446744073709551616",
-            2,
-            Form::Life,
-        ),
-        (
-            "device 5\nlife sessions=1 places=1 words=none",
-            2,
-            Form::Life,
-        ),
-        ("device 5\r\n", 1, Form::Device),
-        ("Device 5", 1, Form::Device),
-        ("device 5#\nlife", 2, Form::Life),
-    ];
-    for (text, number, form) in &rows {
-        refuses(&rt, rt.alloc(), *text, *number, *form);
-    }
-}
-
-#[test]
-fn names_the_first_event_that_is_not_understood(rt: HostRuntime) {
-    let rows: [(&str, Form); 20] = [
-        ("device 5", Form::Line),
-        ("takes", Form::Line),
-        ("take 0", Form::Step),
-        ("commit x", Form::Step),
-        ("post post", Form::Step),
-        ("submit", Form::Submit),
-        ("submit 0 1", Form::Submit),
-        ("submit 256 1 cut:0:1", Form::Submit),
-        ("submit 0 1 add:0:1", Form::Submit),
-        ("submit 0 -1 cut:0:1", Form::Submit),
-        (
-            "submit 0 1 cut:0:1 cut:0:1 cut:0:1 cut:0:1 cut:0:1 cut:0:1 cut:0:1 cut:0:1 cut:0:1 cut:0:1 cut:0:1 cut:0:1 cut:0:1 cut:0:1 cut:0:1 cut:0:1 cut:0:1",
-            Form::Submit,
-        ),
-        ("look 0", Form::Look),
-        ("look 0 1 2", Form::Look),
-        ("rebuild at:0,5", Form::Rebuild),
-        ("rebuild", Form::Rebuild),
-        ("launch 0 1", Form::Launch),
-        ("launch 65536 1 0", Form::Launch),
-        ("hop 0", Form::Hop),
-        ("hop 18446744073709551616 0", Form::Hop),
-        ("life sessions=1", Form::Life),
-    ];
-    for (event, form) in &rows {
-        let text = got(
-            &rt,
-            format!(in rt.alloc(); "{LIFE}take\n\n{event}\nnot read"),
-        );
-        refuses(&rt, rt.alloc(), text.as_str(), 5, *form);
-    }
-}
 
 // A rehearsal of 20,000 events, the n-th by the ticket n.
 fn long_text(rt: &impl Abort, alloc: Global) -> String {
@@ -223,5 +96,9 @@ fn reads_a_long_rehearsal(rt: HostRuntime) {
 fn names_the_last_line_of_a_long_rehearsal(rt: HostRuntime) {
     let mut text = long_text(&rt, rt.alloc());
     got(&rt, text.push_str("sumbit 0 1 cut:0:1"));
-    refuses(&rt, rt.alloc(), text.as_str(), 100_003, Form::Line);
+    let Ok(Err(refused)) = read_rehearsal(rt.alloc(), text.as_str()) else {
+        panic!(&rt; "not refused");
+    };
+    let (number, form) = (100_003, Form::Line);
+    assert_eq!(rt; refused, LineRefused { number, form });
 }

@@ -1,0 +1,105 @@
+//! The run of the program `tzlab`: what the libraries do, tried out on a network of one's own.
+//!
+//! | Command | Does |
+//! |---|---|
+//! | `import DEVICE FILE [--nodes N] ..` | brings an edge list to a device, and its names beside it, by the proved call of `network_import` |
+//! | `export DEVICE [--as edges\|csv\|dot\|json] [--words W]` | prints the network of a device; in dot with its landmarks marked |
+//! | `info DEVICE [--json]` | prints what a device holds, in a few figures |
+//! | `stats DEVICE --words W ..` | builds a device's scheme, and prints how large its tables and how long its ways are |
+//! | `time DEVICE --words W [--runs R]` | times an opening, builds, searches, packets and commits |
+//! | `rehearse FILE [--every-stop]` | runs the lives that a text asks for, on a device in memory, and prints the report of the proved call |
+//!
+//! Each command has its words and its run in a crate below, in one form, and here they are put together: a command more is one line of
+//! [`grammar`] and one arm of [`run_words`]. The grammar is clap's, with its own help. What a command prints goes out on the first writer.
+//! What went wrong is told on the second as `tzlab: TEXT`, with the file, the line's number and the system's own error where there are such;
+//! where a terminal is behind it, it also shows how far long work has come.
+//!
+//! [`run_words`] promises that its answer is a status: 0 where it did what was asked for, 2 where the words or a line of the file aren't
+//! understood, and 1 where an edge or a name is refused, a file or a device can't be used, the output can't be written or memory ran out.
+//! What each command prints is promised in its crate, over any device or text.
+#![tactic(auto)]
+
+ghost use Rattle.std.specs.Prelude.{◌≤◌, IfErr};
+
+use clap::{ArgMatches, Command};
+use lab_figures::{info, stats, time};
+use lab_networks::{export, import};
+use lab_parts::told_memory;
+use lab_rehearsals::rehearse;
+use std::alloc::{AllocError, Global};
+use std::fs::File;
+use std::io::{IsTerminal, Write};
+use std::rt::{Clock, Files};
+use std::sync::Wait;
+use std::thread::Threads;
+
+/// Does what the words ask for, and answers the exit status.
+pub fn run_words<R, O, E>(rt: &R, words: &[&str], out: &mut O, err: &mut E) -> u8
+where
+    R: Files<File = File> + AllocGlobal + Clock + Threads + Wait + Sync,
+    O: Write,
+    E: Write + IsTerminal,
+    ensures { result ≤ 2 }
+{
+    let found = match parsed(rt.alloc(), words, out, err) {
+        Ok(found) => found,
+        Err(status) => return status,
+    };
+    match found.subcommand() {
+        Some(("import", found)) => import::run(rt, found, out, err),
+        Some(("export", found)) => export::run(rt, found, out, err),
+        Some(("info", found)) => info::run(rt, found, out, err),
+        Some(("stats", found)) => stats::run(rt, found, out, err),
+        Some(("time", found)) => time::run(rt, found, out, err),
+        Some(("rehearse", found)) => rehearse::run(rt, found, out, err),
+        _ => 2,
+    }
+}
+
+// The whole grammar.
+fn grammar<'a>(alloc: Global) -> Result<Command<'a>, AllocError> {
+    let whole = Command::new(alloc, "tzlab")
+        .about("Tries out a network with small routing tables")
+        .no_binary_name(true)
+        .subcommand_required(true);
+    let whole = with_command(whole, import::grammar(alloc))?;
+    let whole = with_command(whole, export::grammar(alloc))?;
+    let whole = with_command(whole, info::grammar(alloc))?;
+    let whole = with_command(whole, stats::grammar(alloc))?;
+    let whole = with_command(whole, time::grammar(alloc))?;
+    with_command(whole, rehearse::grammar(alloc))
+}
+
+// A command with one more below it.
+fn with_command<'a>(
+    whole: Command<'a>,
+    below: Result<Command<'a>, AllocError>,
+) -> Result<Command<'a>, AllocError> {
+    whole.subcommand(below?)
+}
+
+// What the words ask for, or the exit status where clap has answered them itself.
+fn parsed<'a, O: Write, E: Write>(
+    alloc: Global,
+    words: &'a [&'a str],
+    out: &mut O,
+    err: &mut E,
+) -> Result<ArgMatches<'a>, u8>
+    ensures { IfErr result (λ status. status ≤ 2) }
+{
+    let Ok(command) = grammar(alloc) else {
+        return Err(told_memory(err));
+    };
+    match command.try_get_matches_from(words) {
+        Ok(found) => Ok(found),
+        Err(error) => {
+            if error.use_stderr() {
+                let printed = write!(err, "{error}");
+                Err(if printed.is_ok() { 2 } else { 1 })
+            } else {
+                let printed = write!(out, "{error}");
+                Err(if printed.is_ok() { 0 } else { 1 })
+            }
+        }
+    }
+}

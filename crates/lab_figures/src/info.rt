@@ -1,0 +1,74 @@
+//! The command `info`.
+ghost use Rattle.std.specs.Prelude.{◌≡◌, ◌≢◌, ◌≤◌, IfErr, IfOk, OnOk};
+ghost use Rattle.std.specs.String.{string_bytes};
+ghost use Rattle.lab_figures.specs.Info.{IsInfoRefused, PrintsInfo, text_of_info};
+
+use crate::refused::FiguresRefused;
+use clap::{ArgMatches, Command};
+use device_files::DeviceFile;
+use device_info::{DeviceInfo, info_of, info_text};
+use disk_trait::Disk;
+use figure_lines::info_json;
+use lab_parts::{PrintRefused, command, device, flag, print, told_of};
+use std::alloc::{AllocError, Global};
+use std::fs::File;
+use std::io::Write;
+use std::rt::Files;
+
+/// Its grammar.
+pub fn grammar<'a>(alloc: Global) -> Result<Command<'a>, AllocError> {
+    command(
+        alloc,
+        "info",
+        "Prints what a device holds, in a few figures",
+        &[device(), flag("json", "Prints an object of JSON")],
+    )
+}
+
+/// Prints what the device that these matches name holds, and answers the exit status.
+pub fn run<R, O, E>(rt: &R, found: &ArgMatches<'_>, out: &mut O, err: &mut E) -> u8
+where
+    R: Files<File = File> + AllocGlobal,
+    O: Write,
+    E: Write,
+    ensures { result ≤ 2 }
+{
+    let Some(device) = found.get_str("device") else {
+        return 2;
+    };
+    let mut file = match DeviceFile::open_to_read(rt, device) {
+        Ok(file) => file,
+        Err(refused) => return told_of(err, device, refused),
+    };
+    match info_on(rt.alloc(), &mut file, found.get_flag("json"), out) {
+        Ok(()) => 0,
+        Err(refused) => refused.told(err, device),
+    }
+}
+
+/// Prints what a device holds: lines, or an object of JSON. The device is only read.
+pub fn info_on<D: Disk, O: Write>(
+    alloc: Global,
+    disk: &mut D,
+    as_json: bool,
+    out: &mut O,
+) -> Result<(), FiguresRefused>
+    ensures printed { OnOk result (PrintsInfo as_json (D.view disk.old) (D.view disk.new) O.contents out.old out.new) }
+    ensures refused { IfErr result (λ refused. IsInfoRefused (D.view disk.old) (D.view disk.new) refused) }
+    ensures untouched { IfErr result (λ refused. refused ≢ FiguresRefused.Print PrintRefused.Output → out.new ≡ out.old) }
+{
+    let info = info_of(alloc, disk)?;
+    let text = text_of(alloc, &info, as_json)?;
+    print(out, text.as_bytes())?;
+    Ok(())
+}
+
+fn text_of(alloc: Global, info: &DeviceInfo, as_json: bool) -> Result<String, AllocError>
+    ensures { IfOk result (λ text. string_bytes text ≡ text_of_info as_json info.now) }
+{
+    if as_json {
+        info_json(alloc, info)
+    } else {
+        info_text(alloc, info)
+    }
+}

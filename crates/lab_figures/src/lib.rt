@@ -1,0 +1,25 @@
+//! The lab's commands on figures: what a device holds, what its tables cost, and how long things take.
+//!
+//! | Command | Does |
+//! |---|---|
+//! | `info DEVICE [--json]` ([`info`]) | prints what a device holds, in a few figures |
+//! | `stats DEVICE --words W ..` ([`stats`]) | builds a device's scheme, and prints how large its tables and how long its ways are |
+//! | `time DEVICE --words W [--runs R]` ([`time`]) | times an opening, builds, searches, packets and commits |
+//!
+//! The contracts that the program uses, over any device and writer: where [`info::info_on`] answers Ok, what was printed is the lines or the
+//! JSON of figures, and where the device keeps the disk model they are its own (`PrintsInfo` of `specs/Info`); where [`stats::stats_on`] does,
+//! it is the lines, the CSV or the JSON of the figures of a scheme of the network that stands on the device, by the landmark words that
+//! were asked for, and of the ways of the drawn pairs in it (`PrintsStats` of `specs/Stats`). Else the refusal says why, and only a failed
+//! output can leave a part. What a clock says no contract knows: `time` promises its status alone.
+#![tactic(auto)]
+
+mod commits;
+mod forwarder;
+pub mod info;
+mod refused;
+mod samples;
+pub mod stats;
+pub mod time;
+mod walks;
+
+pub use refused::FiguresRefused;

@@ -1,0 +1,231 @@
+//! The command `stats`.
+ghost use Rattle.std.specs.Prelude.{◌≡◌, ◌≢◌, ◌≤◌, IfErr, IfOk, OnOk, map};
+ghost use Rattle.figure_lines.specs.Figures.{said};
+ghost use Rattle.written_values.specs.Words.{IsWithin};
+ghost use Rattle.node_table.specs.Checks.{IsChecked};
+ghost use Rattle.lab_figures.specs.Stats.{AreFiguresOf, AreMeasuredOf, AreStatsOf, IsStatsRefused, PrintsStats, text_in};
+
+use crate::refused::FiguresRefused;
+use clap::{ArgMatches, Command};
+use device_files::DeviceFile;
+use disk_trait::Disk;
+use figure_lines::{
+    Figure, figures_csv, figures_json, figures_text, scheme_figures_of, way_figures_of,
+};
+use graph_edits::Graph;
+use lab_parts::{
+    PrintRefused, command, device, flag, landmarks, print, told, told_memory, told_of, value,
+};
+use layout_2::{Loaded, load};
+use node_table::Scheme;
+use scheme_builds::{scheme_of_in_threads, workers_here};
+use scheme_figures::{MOST_PAIRS, Measured, drawn_pairs, measure_all};
+use std::alloc::{AllocError, Global};
+use std::fs::File;
+use std::io::Write;
+use std::rt::Files;
+use std::sync::Wait;
+use std::thread::Threads;
+use written_values::{LandmarkWords, landmark_words, number};
+
+/// What is asked for.
+#[derive(Drop)]
+pub struct Asked {
+    pub words: LandmarkWords,
+    /// How many pairs are measured; more than [`MOST_PAIRS`] are none.
+    pub pairs: u16,
+    /// The seed that draws them.
+    pub seed: u64,
+    pub layout: Layout,
+}
+
+/// How figures are printed.
+#[derive(Clone, Copy)]
+pub enum Layout {
+    Lines,
+    Csv,
+    Json,
+}
+
+/// Its grammar.
+pub fn grammar<'a>(alloc: Global) -> Result<Command<'a>, AllocError> {
+    command(
+        alloc,
+        "stats",
+        "Builds the scheme of a device, and prints how large its tables and how long its ways are",
+        &[
+            device(),
+            landmarks(),
+            value(
+                "pairs",
+                "N",
+                "How many pairs are measured, 1000 where none is named, at most 32767",
+            ),
+            value(
+                "seed",
+                "S",
+                "The seed that draws them, 0 where none is named",
+            ),
+            flag("csv", "Prints CSV"),
+            flag("json", "Prints an array of JSON"),
+        ],
+    )
+}
+
+/// Prints the figures of the scheme that these matches name, and answers the exit status.
+pub fn run<R, O, E>(rt: &R, found: &ArgMatches<'_>, out: &mut O, err: &mut E) -> u8
+where
+    R: Files<File = File> + AllocGlobal + Threads + Wait + Sync,
+    O: Write,
+    E: Write,
+    ensures { result ≤ 2 }
+{
+    let Some(device) = found.get_str("device") else {
+        return 2;
+    };
+    let asked = match asked_in(rt.alloc(), found) {
+        Ok(Ok(asked)) => asked,
+        Ok(Err(text)) => return told(err, 2, text),
+        Err(_) => return told_memory(err),
+    };
+    let mut file = match DeviceFile::open_to_read(rt, device) {
+        Ok(file) => file,
+        Err(refused) => return told_of(err, device, refused),
+    };
+    match stats_on(rt, &mut file, &asked, out) {
+        Ok(()) => 0,
+        Err(refused) => refused.told(err, device),
+    }
+}
+
+// What the matches ask for, or what in them isn't understood.
+fn asked_in(
+    alloc: Global,
+    found: &ArgMatches<'_>,
+) -> Result<Result<Asked, &'static str>, AllocError> {
+    let words = found.get_str("words").unwrap_or("none");
+    let Some(words) = landmark_words(alloc, words)? else {
+        return Ok(Err("words not understood"));
+    };
+    match measures_in(alloc, found)? {
+        Ok((pairs, seed, layout)) => Ok(Ok(Asked {
+            words,
+            pairs,
+            seed,
+            layout,
+        })),
+        Err(text) => Ok(Err(text)),
+    }
+}
+
+// The same beside the words: how many pairs, their seed, and how it is printed.
+fn measures_in(
+    alloc: Global,
+    found: &ArgMatches<'_>,
+) -> Result<Result<(u16, u64, Layout), &'static str>, AllocError> {
+    let pairs = found.get_str("pairs").unwrap_or("1000");
+    let Some(pairs) = number(alloc, pairs, MOST_PAIRS as u64)? else {
+        return Ok(Err("pairs not understood"));
+    };
+    let pairs = pairs.min(MOST_PAIRS as u64) as u16;
+    let seed = found.get_str("seed").unwrap_or("0");
+    let Some(seed) = number(alloc, seed, u64::MAX)? else {
+        return Ok(Err("seed not understood"));
+    };
+    match (found.get_flag("csv"), found.get_flag("json")) {
+        (true, true) => Ok(Err("either --csv or --json")),
+        (true, false) => Ok(Ok((pairs, seed, Layout::Csv))),
+        (false, true) => Ok(Ok((pairs, seed, Layout::Json))),
+        (false, false) => Ok(Ok((pairs, seed, Layout::Lines))),
+    }
+}
+
+/// Builds the scheme of a device, and prints how large its tables and how long its ways are. The device is only read.
+pub fn stats_on<R, D, O>(
+    rt: &R,
+    disk: &mut D,
+    asked: &Asked,
+    out: &mut O,
+) -> Result<(), FiguresRefused>
+where
+    R: Threads + Wait + Sync + AllocGlobal,
+    D: Disk,
+    O: Write,
+    ensures printed { OnOk result (PrintsStats asked.now (D.view disk.old) (D.view disk.new) O.contents out.old out.new) }
+    ensures refused { IfErr result (λ refused. IsStatsRefused asked.now (D.view disk.old) (D.view disk.new) refused) }
+    ensures untouched { IfErr result (λ refused. refused ≢ FiguresRefused.Print PrintRefused.Output → out.new ≡ out.old) }
+{
+    let loaded = load(rt.alloc(), disk)?;
+    if !asked.words.is_within(loaded.graph.nodes()) {
+        return Err(FiguresRefused::Words);
+    }
+    let text = text_of(rt, &loaded, asked)?;
+    print(out, &text)?;
+    Ok(())
+}
+
+// The text of the figures of a graph's scheme, and of those of the ways in it.
+fn text_of<R: Threads + Wait + Sync + AllocGlobal>(
+    rt: &R,
+    loaded: &Loaded,
+    asked: &Asked,
+) -> Result<Vec<u8>, AllocError>
+    requires { IsWithin asked.now.words loaded.now.graph.nodes }
+    ensures { IfOk result (λ text. AreStatsOf asked.now loaded.now.graph loaded.now.count text.items) }
+{
+    let (alloc, graph) = (rt.alloc(), &loaded.graph);
+    let words = asked.words.of_nodes(alloc, graph.nodes())?;
+    let workers = workers_here(rt, graph.nodes());
+    match scheme_of_in_threads(rt, alloc, graph, &words, loaded.count, workers) {
+        Ok(scheme) => {
+            let figures = figures_of(alloc, graph, &scheme, asked)?;
+            Ok(laid_out(alloc, &figures, asked.layout)?)
+        }
+        Err(AllocError) => Err(AllocError),
+    }
+}
+
+// The figures of a scheme, and behind them those of the ways in it.
+fn figures_of(
+    alloc: Global,
+    graph: &Graph,
+    scheme: &Scheme,
+    asked: &Asked,
+) -> Result<Vec<Figure>, AllocError>
+    requires { IsChecked graph.now scheme.now }
+    ensures { IfOk result (λ figures. AreFiguresOf asked.now graph.now scheme.now (map said figures.items)) }
+{
+    let mut figures = scheme_figures_of(alloc, scheme)?;
+    let measured = measured_by(alloc, graph, scheme, asked)?;
+    let mut ways = way_figures_of(alloc, &measured)?;
+    figures.append(&mut ways)?;
+    Ok(figures)
+}
+
+// What is measured of the pairs that are drawn. A node alone has none.
+fn measured_by(
+    alloc: Global,
+    graph: &Graph,
+    scheme: &Scheme,
+    asked: &Asked,
+) -> Result<Vec<Measured>, AllocError>
+    requires { IsChecked graph.now scheme.now }
+    ensures { IfOk result (λ measured. AreMeasuredOf asked.now graph.now scheme.now measured.items) }
+{
+    let nodes = graph.nodes();
+    if nodes < 2 || asked.pairs > MOST_PAIRS {
+        return Ok(Vec::new(alloc));
+    }
+    let pairs = drawn_pairs(alloc, nodes, asked.pairs, asked.seed)?;
+    measure_all(alloc, graph, scheme, &pairs)
+}
+
+fn laid_out(alloc: Global, figures: &[Figure], layout: Layout) -> Result<Vec<u8>, AllocError>
+    ensures { IfOk result (λ text. text.items ≡ text_in layout (map said figures.now)) }
+{
+    match layout {
+        Layout::Lines => Ok(figures_text(alloc, figures)?.into_bytes()),
+        Layout::Csv => figures_csv(alloc, figures),
+        Layout::Json => Ok(figures_json(alloc, figures)?.into_bytes()),
+    }
+}

@@ -1,0 +1,65 @@
+-- What `export` prints of a network.
+use Rattle.std.specs.Prelude.{◌≡◌, ◌⊎◌, ℕ, List, [], Bool, Option, Some, None, map}
+use Rattle.std.specs.Borrow.{Bor}
+use Rattle.std.specs.FinMap.{entries}
+use Rattle.command_output.specs.Printing.{Known, PrintsText}
+use Rattle.edge_lists.specs.declared.edge.Edge.{Edge}
+use Rattle.edge_lists.specs.Labels.{AreLabels}
+use Rattle.edge_lists.specs.Written.{AreRead, edges_text, said_of}
+use Rattle.figure_lines.specs.Json.{json_line}
+use Rattle.figure_lines.specs.Networks.{AreMarks, dot_text, edge_at, edge_rows, names_of, network_data}
+use Rattle.figure_lines.specs.declared.marks.Mark.{Mark}
+use Rattle.graph_edits.specs.Edges.{Network}
+use Rattle.lab_networks.specs.declared.networks.ExportRefused.{ExportRefused}
+use Rattle.lab_networks.specs.declared.networks.ExportRefused.TheVariants.{Words, Print}
+use Rattle.lab_networks.specs.declared.networks.Form.{Form}
+use Rattle.lab_networks.specs.declared.networks.Form.TheVariants.{Edges, Csv, Json, Dot}
+use Rattle.landmarks.specs.Chosen.{IsBound, chosen}
+use Rattle.written_values.specs.Reading.{texts_of}
+use Rattle.written_values.specs.Words.{AreWords, IsWithin}
+use Rattle.written_values.specs.declared.words.LandmarkWords.{LandmarkWords}
+
+-- names, as the library has them
+abbrev pub NameList : Type 0
+NameList = List (Bor (List ℕ))
+
+-- an edge list that is read as the same edges, or CSV where a name can't stand in its lines
+abbrev pub IsListOrCsv : NameList → List Edge → List ℕ → Type 0
+IsListOrCsv names edges text =
+    ((text ≡ edges_text (texts_of names) edges) × AreRead text (said_of (texts_of names) 0 edges))
+    ⊎ (¬ AreLabels names × (text ≡ edge_rows (names_of names) edges))
+
+-- the marks of a network's nodes by the landmarks that these words give
+pub record AreMarksBy (graph : Network) (asked : LandmarkWords) (marks : List (Option Mark)) : Type 0 where
+  pub words : List ℕ
+  pub bound : ℕ
+  pub by : AreWords asked graph.nodes words
+  pub is_bound : IsBound graph.nodes bound
+  pub are : AreMarks graph (chosen bound words) marks
+
+-- the text of edges in each form; in a picture nodes are marked where words say by which landmarks
+abbrev pub IsText : Network → NameList → Form → List Edge → List ℕ → Type 0
+IsText graph names Edges edges text = IsListOrCsv names edges text
+IsText graph names Csv edges text = text ≡ edge_rows (names_of names) edges
+IsText graph names Json edges text = text ≡ json_line (network_data graph.nodes edges (names_of names))
+IsText graph names (Dot None) edges text = text ≡ dot_text (names_of names) [] edges
+IsText graph names (Dot (Some words)) edges text =
+    (marks : List (Option Mark)) × AreMarksBy graph words marks × (text ≡ dot_text (names_of names) marks edges)
+
+-- the text of a network, with each edge once, in ascending order
+abbrev pub IsTextOf : Network → NameList → Form → List ℕ → Type 0
+IsTextOf graph names form text = (edges : List Edge) × (map edge_at edges ≡ entries graph.edges) × IsText graph names form edges text
+
+-- this was printed, and nothing else
+abbrev pub PrintsNetwork : Network → NameList → Form → {W : Type 0} → (W → Known) → W → W → Type 0
+PrintsNetwork graph names form contents old new = (text : List ℕ) × IsTextOf graph names form text × PrintsText contents old new text
+
+-- the words of a picture name a node that the network hasn't
+abbrev pub LacksNode : Network → Form → Type 0
+LacksNode graph (Dot (Some words)) = ¬ IsWithin words graph.nodes
+LacksNode graph form = ⊥
+
+-- why nothing is printed
+abbrev pub IsExportRefused : Network → Form → ExportRefused → Type 0
+IsExportRefused graph form Words = LacksNode graph form
+IsExportRefused graph form (Print refused) = Unit {0}

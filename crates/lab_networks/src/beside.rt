@@ -1,0 +1,234 @@
+//! What stands beside a device: how its nodes are called.
+ghost use Rattle.std.specs.Prelude.{◌≤◌, IfErr};
+
+use crate::files::text_of;
+use crate::taken::ToldPlace;
+use edge_lists::{Called, read_called};
+use graph_edits::{Graph, MOST_NODES};
+use lab_parts::{told_at, told_memory, told_of};
+use network_import::{NamesAt, NamesFault, NamesPlace};
+use std::alloc::{AllocError, Global};
+use std::fs::{self, File, OpenOptions};
+use std::io::{self, ErrorKind, Write};
+use std::path::Path;
+use std::rt::Files;
+
+/// The paths of the files beside a device.
+#[derive(Drop)]
+pub(crate) struct Beside {
+    /// What says how nodes are called.
+    pub(crate) names: String,
+    /// What is to take its place.
+    pub(crate) laid: String,
+}
+
+impl Beside {
+    /// The paths beside a device.
+    pub(crate) fn of(alloc: Global, device: &str) -> Result<Beside, AllocError> {
+        Ok(Beside {
+            names: format!(in alloc; "{device}.names")?,
+            laid: format!(in alloc; "{device}.names.new")?,
+        })
+    }
+}
+
+/// How the text of a file calls nodes, of which it may name so many. What isn't understood of it is told, and the exit
+/// status answered.
+pub(crate) fn called_in<'a, E: Write>(
+    alloc: Global,
+    file: &str,
+    text: &'a str,
+    most: u16,
+    err: &mut E,
+) -> Result<Called<'a>, u8>
+    ensures { IfErr result (λ status. status ≤ 2) }
+{
+    match read_called(alloc, text, most) {
+        Ok(Ok(called)) => Ok(called),
+        Ok(Err(refused)) => Err(told_at(err, 2, file, refused.number, refused.form)),
+        Err(_) => Err(told_memory(err)),
+    }
+}
+
+// Whether one of the nodes from this one on has an edge.
+fn reaches(graph: &Graph, from: usize) -> bool {
+    for node in 0..graph.nodes() {
+        if node as usize >= from && !graph.neighbours(node).is_empty() {
+            return true;
+        }
+    }
+    false
+}
+
+// Whether a network has edges at nodes that a text doesn't name, though it names nodes.
+fn leaves_out<E: Write>(
+    alloc: Global,
+    file: &str,
+    text: Option<&str>,
+    graph: &Graph,
+    err: &mut E,
+) -> Result<bool, u8>
+    ensures { IfErr result (λ status. status ≤ 2) }
+{
+    let Some(text) = text else {
+        return Ok(reaches(graph, 0));
+    };
+    match called_in(alloc, file, text, MOST_NODES, err)? {
+        Called::Numbers => Ok(false),
+        Called::Names(names) => Ok(reaches(graph, names.list().len())),
+    }
+}
+
+/// The text that says how nodes are called, and whether it still has to take its place.
+#[derive(Drop)]
+pub(crate) struct Kept {
+    pub(crate) text: Option<String>,
+    pub(crate) is_laid: bool,
+}
+
+impl Kept {
+    /// The file that has the text.
+    pub(crate) fn file<'a>(&self, beside: &'a Beside) -> &'a str {
+        if self.is_laid {
+            beside.laid.as_str()
+        } else {
+            beside.names.as_str()
+        }
+    }
+}
+
+/// What is kept beside the device of this network. What an import has laid counts where the network has an edge at a node
+/// that isn't named without it: so the import was cut off when its edges were in.
+pub(crate) fn kept_of<R: Files<File = File> + AllocGlobal, E: Write>(
+    rt: &R,
+    beside: &Beside,
+    graph: &Graph,
+    err: &mut E,
+) -> Result<Kept, u8>
+    ensures { IfErr result (λ status. status ≤ 2) }
+{
+    let file = beside.names.as_str();
+    let text = text_of(rt, file, err)?;
+    if leaves_out(rt.alloc(), file, text.as_deref(), graph, err)? {
+        if let Some(laid) = text_of(rt, beside.laid.as_str(), err)? {
+            return Ok(Kept {
+                text: Some(laid),
+                is_laid: true,
+            });
+        }
+    }
+    Ok(Kept {
+        text,
+        is_laid: false,
+    })
+}
+
+/// What is kept beside a device that isn't there.
+pub(crate) fn kept_alone<R: Files<File = File> + AllocGlobal, E: Write>(
+    rt: &R,
+    beside: &Beside,
+    err: &mut E,
+) -> Result<Kept, u8>
+    ensures { IfErr result (λ status. status ≤ 2) }
+{
+    Ok(Kept {
+        text: text_of(rt, beside.names.as_str(), err)?,
+        is_laid: false,
+    })
+}
+
+/// Puts what is laid in its place, where it is what is kept; else takes it away.
+pub(crate) fn settle<R: Files<File = File>, E: Write>(
+    rt: &R,
+    beside: &Beside,
+    is_laid: bool,
+    err: &mut E,
+) -> Result<(), u8>
+    ensures { IfErr result (λ status. status ≤ 2) }
+{
+    if is_laid {
+        return match put(rt, beside) {
+            Ok(()) => Ok(()),
+            Err(error) => Err(told_of(err, beside.names.as_str(), error)),
+        };
+    }
+    match fs::remove_file(rt, beside.laid.as_str()) {
+        Ok(()) => Ok(()),
+        Err(error) => match error.kind() {
+            ErrorKind::NotFound => Ok(()),
+            _ => Err(told_of(err, beside.laid.as_str(), error)),
+        },
+    }
+}
+
+// Syncs the folder in which a file stands, so that its name is kept.
+fn sync_folder<R: Files<File = File>>(rt: &R, path: &str) -> io::Result<()> {
+    let folder = match Path::new(path).parent() {
+        Some(folder) if !folder.as_os_str().is_empty() => folder.as_os_str(),
+        _ => ".",
+    };
+    OpenOptions::new().read(true).open(rt, folder)?.sync_all()
+}
+
+// Lays a text beside what is there.
+fn lay<R: Files<File = File>>(rt: &R, beside: &Beside, text: &str) -> io::Result<()> {
+    let mut made = File::create(rt, beside.laid.as_str())?;
+    made.write_all(text.as_bytes())?;
+    made.sync_all()?;
+    sync_folder(rt, beside.laid.as_str())
+}
+
+// Puts what is laid in its place.
+fn put<R: Files<File = File>>(rt: &R, beside: &Beside) -> io::Result<()> {
+    fs::rename(rt, beside.laid.as_str(), beside.names.as_str())?;
+    sync_folder(rt, beside.names.as_str())
+}
+
+/// The place of a text beside a device; without a text nothing is written.
+#[derive(Drop)]
+pub(crate) struct NamesFile<'a, R> {
+    pub(crate) rt: &'a R,
+    pub(crate) beside: &'a Beside,
+    pub(crate) text: Option<&'a str>,
+    pub(crate) at: NamesAt,
+    /// What went wrong, where something did.
+    pub(crate) error: Option<io::Error>,
+}
+
+impl<R> ToldPlace for NamesFile<'_, R> {
+    fn tell<E: Write>(&self, err: &mut E) {
+        let file = match self.at {
+            NamesAt::Old => self.beside.laid.as_str(),
+            _ => self.beside.names.as_str(),
+        };
+        if let Some(error) = &self.error {
+            let _status = told_of(err, file, error);
+        }
+    }
+}
+
+impl<R: Files<File = File>> NamesPlace for NamesFile<'_, R> {
+    ghost at = { λ names. names.at };
+
+    fn lay(&mut self) -> Result<(), NamesFault> {
+        if let Some(text) = self.text {
+            if let Err(error) = lay(self.rt, self.beside, text) {
+                self.error = Some(error);
+                return Err(NamesFault);
+            }
+        }
+        self.at = NamesAt::Laid;
+        Ok(())
+    }
+
+    fn put(&mut self) -> Result<(), NamesFault> {
+        if self.text.is_some() {
+            if let Err(error) = put(self.rt, self.beside) {
+                self.error = Some(error);
+                return Err(NamesFault);
+            }
+        }
+        self.at = NamesAt::Put;
+        Ok(())
+    }
+}

@@ -1,0 +1,43 @@
+//! The texts of files.
+ghost use Rattle.std.specs.Prelude.{◌≤◌, IfErr};
+
+use lab_parts::{told_at, told_of};
+use std::fs::{self, File};
+use std::io::{ErrorKind, Write};
+use std::rt::Files;
+
+// The number of the line in which the byte at a place stands, from 1.
+fn line_at(bytes: &[u8], place: usize) -> usize {
+    let mut line: usize = 1;
+    for byte in bytes.iter().take(place) {
+        if *byte == b'\n' {
+            line = line.saturating_add(1);
+        }
+    }
+    line
+}
+
+/// The text of a file, `None` where it isn't there. What else went wrong is told, and the exit status answered.
+pub(crate) fn text_of<R: Files<File = File> + AllocGlobal, E: Write>(
+    rt: &R,
+    file: &str,
+    err: &mut E,
+) -> Result<Option<String>, u8>
+    ensures { IfErr result (λ status. status ≤ 2) }
+{
+    let bytes = match fs::read(rt, file) {
+        Ok(bytes) => bytes,
+        Err(error) => match error.kind() {
+            ErrorKind::NotFound => return Ok(None),
+            _ => return Err(told_of(err, file, error)),
+        },
+    };
+    if let Err(error) = str::from_utf8(&bytes) {
+        let line = line_at(&bytes, error.valid_up_to());
+        return Err(told_at(err, 2, file, line, "the text is not UTF-8"));
+    }
+    match String::from_utf8(bytes) {
+        Ok(text) => Ok(Some(text)),
+        Err(_) => Err(2),
+    }
+}

@@ -1,0 +1,442 @@
+//! The command `import`.
+ghost use Rattle.std.specs.Prelude.{◌≡◌, ◌≤◌, IfErr, IfOk, IfSome, false};
+ghost use Rattle.checkpoint.specs.StoreWords.{is_down};
+
+use crate::beside::{Beside, Kept, NamesFile, called_in, kept_alone, kept_of, settle};
+use crate::files::text_of;
+use crate::taken::{Wanted, take_edges};
+use checkpoint::{DEVICE_LEN, Store};
+use clap::{ArgMatches, Command};
+use command_output::Fault;
+use device_files::DeviceFile;
+use edge_lists::{
+    Called, Edge, Heading, NUMBERS, Names, Row, by_numbers, call_numbers, read_edge_list,
+};
+use graph_edits::MOST_NODES;
+use lab_parts::{
+    command, fault_of, flag, store_in, told, told_at, told_memory, told_of, value, word,
+};
+use network_import::NamesAt;
+use std::alloc::{AllocError, Global};
+use std::fs::{self, File};
+use std::io::{IsTerminal, Write};
+use std::rt::Files;
+use written_values::number;
+
+/// Its grammar.
+pub fn grammar<'a>(alloc: Global) -> Result<Command<'a>, AllocError> {
+    command(
+        alloc,
+        "import",
+        "Brings an edge list to a device, which is made where it isn't there",
+        &[
+            word(
+                "device",
+                "DEVICE",
+                "The device's file; how its nodes are called is kept beside it, in DEVICE.names",
+            ),
+            word(
+                "file",
+                "FILE",
+                "An edge list: a line A B W or A,B,W for each edge",
+            ),
+            flag("names", "Takes all ends of edges for names, numbers too"),
+            flag("header", "Takes the first line for a header"),
+            flag("no-header", "Takes no line for a header"),
+            value(
+                "nodes",
+                "N",
+                "How many nodes a device has that is made; else as many as FILE names",
+            ),
+        ],
+    )
+}
+
+/// Brings an edge list to a device, and answers the exit status.
+pub fn run<R, O, E>(rt: &R, found: &ArgMatches<'_>, out: &mut O, err: &mut E) -> u8
+where
+    R: Files<File = File> + AllocGlobal,
+    O: Write,
+    E: Write + IsTerminal,
+    ensures { result ≤ 2 }
+{
+    let (Some(device), Some(file)) = (found.get_str("device"), found.get_str("file")) else {
+        return 2;
+    };
+    let nodes = match found.get_str("nodes") {
+        Some(word) => match number(rt.alloc(), word, MOST_NODES as u64) {
+            Ok(Some(nodes)) if nodes >= 1 => Some(nodes as u16),
+            Ok(_) => return told(err, 2, "--nodes takes 1 to 16384"),
+            Err(_) => return told_memory(err),
+        },
+        None => None,
+    };
+    let heading = match (found.get_flag("header"), found.get_flag("no-header")) {
+        (true, true) => return told(err, 2, "either --header or --no-header"),
+        (true, false) => Heading::There,
+        (false, true) => Heading::Absent,
+        (false, false) => Heading::ByWords,
+    };
+    let Ok(beside) = Beside::of(rt.alloc(), device) else {
+        return told_memory(err);
+    };
+    let import = Import {
+        rt,
+        device,
+        file,
+        nodes,
+        heading,
+        by_names: found.get_flag("names"),
+        beside,
+    };
+    match import.bring(out, err) {
+        Ok(status) => status,
+        Err(status) => status,
+    }
+}
+
+// What is asked for, and where.
+#[derive(Drop)]
+struct Import<'a, R> {
+    rt: &'a R,
+    device: &'a str,
+    file: &'a str,
+    nodes: Option<u16>,
+    heading: Heading,
+    by_names: bool,
+    beside: Beside,
+}
+
+// Edges by the numbers of their nodes, what is to be written beside the device, and how many nodes are called.
+#[derive(Drop)]
+struct List {
+    edges: Vec<Edge>,
+    text: Option<String>,
+    nodes: u16,
+}
+
+impl<R: Files<File = File> + AllocGlobal> Import<'_, R> {
+    fn bring<O: Write, E: Write + IsTerminal>(&self, out: &mut O, err: &mut E) -> Result<u8, u8>
+        ensures ok { IfOk result (λ status. status ≤ 2) }
+        ensures err { IfErr result (λ status. status ≤ 2) }
+    {
+        let Some(text) = text_of(self.rt, self.file, err)? else {
+            return Err(told_of(err, self.file, "the file is not there"));
+        };
+        let rows = self.rows_of(text.as_str(), err)?;
+        match self.opened(err)? {
+            Some(store) => self.bring_to(store, &rows, out, err),
+            None => self.bring_anew(&rows, out, err),
+        }
+    }
+
+    // The rows of a text, which may begin with a byte order mark. What isn't understood is told.
+    fn rows_of<E: Write>(&self, text: &str, err: &mut E) -> Result<Vec<Row>, u8>
+        ensures { IfErr result (λ status. status ≤ 2) }
+    {
+        let text = text.strip_prefix('\u{feff}').unwrap_or(text);
+        match read_edge_list(self.rt.alloc(), text, self.heading) {
+            Ok(Ok(rows)) => Ok(rows),
+            Ok(Err(refused)) => Err(told_at(err, 2, self.file, refused.number, refused.form)),
+            Err(_) => Err(told_memory(err)),
+        }
+    }
+
+    // ---- a device that is there, and one that is made
+
+    // Rows for a device that is there.
+    fn bring_to<O: Write, E: Write + IsTerminal>(
+        &self,
+        mut store: Store<DeviceFile>,
+        rows: &[Row],
+        out: &mut O,
+        err: &mut E,
+    ) -> Result<u8, u8>
+        requires { is_down store ≡ false }
+        ensures ok { IfOk result (λ status. status ≤ 2) }
+        ensures err { IfErr result (λ status. status ≤ 2) }
+    {
+        let kept = kept_of(self.rt, &self.beside, store.graph(), err)?;
+        let has_edges = store.graph().edges() > 0;
+        let list = self.list_of(rows, &kept, store.nodes(), has_edges, err)?;
+        settle(self.rt, &self.beside, kept.is_laid, err)?;
+        take(&*self, &list, false, &mut store, out, err)
+    }
+
+    // Rows for a device that is made. Where it doesn't come to all edges, it is taken away again.
+    fn bring_anew<O: Write, E: Write + IsTerminal>(
+        &self,
+        rows: &[Row],
+        out: &mut O,
+        err: &mut E,
+    ) -> Result<u8, u8>
+        ensures ok { IfOk result (λ status. status ≤ 2) }
+        ensures err { IfErr result (λ status. status ≤ 2) }
+    {
+        let kept = kept_alone(self.rt, &self.beside, err)?;
+        let most = self.nodes.unwrap_or(MOST_NODES);
+        let list = self.list_of(rows, &kept, most, false, err)?;
+        settle(self.rt, &self.beside, kept.is_laid, err)?;
+        let mut store = self.made(self.nodes.unwrap_or(list.nodes), err)?;
+        match take(&*self, &list, true, &mut store, out, err) {
+            Ok(status) => Ok(status),
+            Err(status) => Err(self.taken_back(status, err)),
+        }
+    }
+
+    // Takes a device and what is laid beside it away, and answers the same status. What can't be taken away is told.
+    fn taken_back<E: Write>(&self, status: u8, err: &mut E) -> u8
+        ensures { result ≡ status }
+    {
+        let (device, laid) = (self.device, self.beside.laid.as_str());
+        let _gone = fs::remove_file(self.rt, laid);
+        if fs::remove_file(self.rt, device).is_err() {
+            let _told = writeln!(
+                err,
+                "tzlab: remove {device} and {laid}: the import is refused, and they are left of it"
+            );
+        }
+        status
+    }
+
+    // ---- numbers or names
+
+    // The edges of rows, by what is kept beside a device of so many nodes, which has edges or none. A list is by numbers or by names as a
+    // whole.
+    fn list_of<E: Write>(
+        &self,
+        rows: &[Row],
+        kept: &Kept,
+        most: u16,
+        has_edges: bool,
+        err: &mut E,
+    ) -> Result<List, u8>
+        ensures { IfErr result (λ status. status ≤ 2) }
+    {
+        match &kept.text {
+            Some(text) => {
+                let file = kept.file(&self.beside);
+                match called_in(self.rt.alloc(), file, text.as_str(), most, err)? {
+                    Called::Names(names) => self.named(rows, names, most, err),
+                    Called::Numbers => {
+                        let why = "the device calls its nodes by numbers";
+                        self.by_device(rows, most, why, err)
+                    }
+                }
+            }
+            None if has_edges => {
+                let why = "the device has edges and no names beside it";
+                self.by_device(rows, most, why, err)
+            }
+            None => self.list_anew(rows, most, err),
+        }
+    }
+
+    // The edges of rows for a device whose nodes are called by numbers.
+    fn by_device<E: Write>(
+        &self,
+        rows: &[Row],
+        most: u16,
+        why: &str,
+        err: &mut E,
+    ) -> Result<List, u8>
+        ensures { IfErr result (λ status. status ≤ 2) }
+    {
+        if self.by_names {
+            let text = "its nodes are called by numbers, and --names does not change that";
+            return Err(told_of(err, self.device, text));
+        }
+        self.numbered(rows, most, why, err)
+    }
+
+    // The edges of rows where it isn't said yet how nodes are called.
+    fn list_anew<E: Write>(&self, rows: &[Row], most: u16, err: &mut E) -> Result<List, u8>
+        ensures { IfErr result (λ status. status ≤ 2) }
+    {
+        let alloc = self.rt.alloc();
+        if self.by_names || !call_numbers(rows) {
+            return self.named(rows, Names::new(alloc), most, err);
+        }
+        let mut list = self.numbered(rows, most, "with --names all ends are names", err)?;
+        match String::from_str(alloc, NUMBERS) {
+            Ok(text) => list.text = Some(text),
+            Err(_) => return Err(told_memory(err)),
+        }
+        Ok(list)
+    }
+
+    // The edges of rows whose ends are numbers of so many nodes. The first end that is none is told.
+    fn numbered<E: Write>(
+        &self,
+        rows: &[Row],
+        most: u16,
+        why: &str,
+        err: &mut E,
+    ) -> Result<List, u8>
+        ensures { IfErr result (λ status. status ≤ 2) }
+    {
+        let last = most.saturating_sub(1);
+        match by_numbers(self.rt.alloc(), rows, last) {
+            Ok(Ok(edges)) => {
+                let nodes = nodes_of(&edges);
+                Ok(List {
+                    edges,
+                    text: None,
+                    nodes,
+                })
+            }
+            Ok(Err(place)) => match rows.get(place) {
+                Some(row) => Err(self.told_end(row, last, why, err)),
+                None => Err(1),
+            },
+            Err(_) => Err(told_memory(err)),
+        }
+    }
+
+    // Tells that an end of a row is no number up to the last one.
+    fn told_end<E: Write>(&self, row: &Row, last: u16, why: &str, err: &mut E) -> u8
+        ensures { result ≡ 1 }
+    {
+        let end = match number(self.rt.alloc(), row.a.as_str(), last as u64) {
+            Ok(Some(_)) => row.b.as_str(),
+            Ok(None) => row.a.as_str(),
+            Err(_) => return told_memory(err),
+        };
+        let (file, line) = (self.file, row.line);
+        let _told = writeln!(
+            err,
+            "tzlab: {file}:{line}: `{end}` is no number of a node, 0 to {last}: {why}"
+        );
+        1
+    }
+
+    // The edges of rows whose ends are names, with those that there are already. A name that is one too many is told.
+    fn named<'a, E: Write>(
+        &self,
+        rows: &'a [Row],
+        mut names: Names<'a>,
+        most: u16,
+        err: &mut E,
+    ) -> Result<List, u8>
+        ensures { IfErr result (λ status. status ≤ 2) }
+    {
+        let alloc = self.rt.alloc();
+        let edges = match names.take_rows(alloc, rows, most) {
+            Ok(Ok(edges)) => edges,
+            Ok(Err(refused)) => {
+                let (file, number, form) = (self.file, refused.number, refused.form);
+                let _told = writeln!(err, "tzlab: {file}:{number}: {form}, which are {most}");
+                return Err(1);
+            }
+            Err(_) => return Err(told_memory(err)),
+        };
+        let nodes = u16::try_from(names.list().len()).unwrap_or(u16::MAX);
+        match names.written(alloc) {
+            Ok(text) => Ok(List {
+                edges,
+                text: Some(text),
+                nodes,
+            }),
+            Err(_) => Err(told_memory(err)),
+        }
+    }
+
+    // ---- the device
+
+    // The store of a device, where it is there. It is told where another number of nodes is asked for.
+    fn opened<E: Write>(&self, err: &mut E) -> Result<Option<Store<DeviceFile>>, u8>
+        ensures up { IfOk result (λ found. IfSome found (λ store. is_down store ≡ false)) }
+        ensures err { IfErr result (λ status. status ≤ 2) }
+    {
+        let (rt, device) = (self.rt, self.device);
+        if let Ok(false) = fs::exists(rt, device) {
+            return Ok(None);
+        }
+        let store = match store_in(rt.alloc(), DeviceFile::open(rt, device)) {
+            Ok(store) => store,
+            Err(fault) => return Err(told_of(err, device, fault)),
+        };
+        let has = store.nodes();
+        if self.nodes.unwrap_or(has) != has {
+            let _told = writeln!(err, "tzlab: {device}: it has {has} nodes");
+            return Err(1);
+        }
+        Ok(Some(store))
+    }
+
+    // The store of a device that is made, with so many nodes.
+    fn made<E: Write>(&self, nodes: u16, err: &mut E) -> Result<Store<DeviceFile>, u8>
+        ensures up { IfOk result (λ store. is_down store ≡ false) }
+        ensures err { IfErr result (λ status. status ≤ 2) }
+    {
+        let device = self.device;
+        if nodes < 1 {
+            return Err(told_of(err, device, Fault::NodeCount));
+        }
+        match DeviceFile::make_new(self.rt, device, DEVICE_LEN) {
+            Ok(file) => match formatted(self.rt.alloc(), file, nodes) {
+                Ok(store) => Ok(store),
+                Err(fault) => {
+                    let status = told_of(err, device, fault);
+                    Err(self.taken_back(status, err))
+                }
+            },
+            Err(refused) => Err(told_of(err, device, fault_of(refused))),
+        }
+    }
+}
+
+// Takes a list into a store, or answers the exit status where not all edges are in.
+fn take<'a, R, O, E>(
+    import: &'a Import<'a, R>,
+    list: &'a List,
+    is_new: bool,
+    store: &mut Store<DeviceFile>,
+    out: &mut O,
+    err: &mut E,
+) -> Result<u8, u8>
+where
+    R: Files<File = File> + AllocGlobal,
+    O: Write,
+    E: Write + IsTerminal,
+    requires { is_down store.old ≡ false }
+    ensures ok { IfOk result (λ status. status ≤ 2) }
+    ensures err { IfErr result (λ status. status ≤ 2) }
+{
+    let wanted = Wanted {
+        edges: &list.edges,
+        whole: is_new,
+        device: import.device,
+        file: import.file,
+    };
+    let mut names = NamesFile {
+        rt: import.rt,
+        beside: &import.beside,
+        text: list.text.as_deref(),
+        at: NamesAt::Old,
+        error: None,
+    };
+    let taken = take_edges(import.rt.alloc(), store, wanted, &mut names, out, err);
+    if taken.edges.is_err() {
+        return Err(taken.status());
+    }
+    Ok(taken.status())
+}
+
+// The store of a new device file, with so many nodes.
+fn formatted(alloc: Global, mut file: DeviceFile, nodes: u16) -> Result<Store<DeviceFile>, Fault>
+    ensures { IfOk result (λ store. is_down store ≡ false) }
+{
+    device_commands::format(&mut file, nodes)?;
+    store_in(alloc, Ok(file))
+}
+
+// One more than the greatest number.
+fn nodes_of(edges: &[Edge]) -> u16 {
+    let mut nodes = 0;
+    for edge in edges {
+        nodes = nodes.max(edge.a.saturating_add(1));
+        nodes = nodes.max(edge.b.saturating_add(1));
+    }
+    nodes
+}

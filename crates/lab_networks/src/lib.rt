@@ -1,0 +1,26 @@
+//! The lab's commands on networks: edge lists that come to a device, with what its nodes are called, and networks that are printed.
+//!
+//! | Command | Does |
+//! |---|---|
+//! | `import DEVICE FILE [--nodes N] ..` ([`import`]) | brings an edge list to a device, and its names beside it |
+//! | `export DEVICE [--as FORM] [--words W]` ([`export`]) | prints the network of a device |
+//!
+//! How the nodes of a device are called is kept beside it, in `DEVICE.names` (`beside.rt`).
+//!
+//! The contracts that the program uses, over any device, place of names and writer: [`take_edges`] is one call of `import_named` of
+//! `network_import`, with all that it promises, and where it says so, the line of what the store holds then was printed (`IsTaken` of
+//! `specs/Taken`); the status is 0 just where all edges and their names are in and the line was printed ([`Taken::status`]). Where
+//! [`export_graph`] answers Ok, what was printed is the text of that very network in the form that was asked for, a picture with its
+//! landmarks marked by the words that were asked for (`PrintsNetwork` of `specs/Networks`). What a file holds no contract says: that the
+//! lists and the names are those of the files is tested.
+#![tactic(auto)]
+
+mod beside;
+pub mod export;
+mod files;
+pub mod import;
+mod networks;
+mod taken;
+
+pub use networks::{ExportRefused, Form, export_graph};
+pub use taken::{Taken, Wanted, take_edges};
