@@ -19,16 +19,18 @@ named() {
 }
 
 "$top/tzlab" import "$device" "$here/backbone.txt"
-"$top/tznode" check "$device" --words draw:7
+words=$("$top/tzlab" landmarks "$device" --seed 7)
+echo "$words"
+"$top/tznode" check "$device" --words "$words"
 for pair in "Lisboa Helsinki" "Napoli Oslo" "Bilbao Krakow"; do
     read -r from to <<<"$pair"
-    "$top/tznode" route "$device" "$(number "$from")" "$(number "$to")" --words draw:7 | named
+    "$top/tznode" route "$device" "$(number "$from")" "$(number "$to")" --words "$words" | named
 done
 for form in edges csv json; do
     "$top/tzlab" export "$device" --as "$form" >"$folder/backbone.$form"
     echo "$folder/backbone.$form"
 done
-"$top/tzlab" export "$device" --as dot --words draw:7 >"$folder/backbone.dot"
+"$top/tzlab" export "$device" --as dot --words "$words" >"$folder/backbone.dot"
 echo "$folder/backbone.dot"
 if command -v dot >/dev/null; then
     dot -Kneato -Tsvg "$folder/backbone.dot" >"$folder/backbone.svg"

@@ -61,18 +61,21 @@ module _ {D : Type 0} {V : _} (old new : Store D V) (session ticket : ℕ) (chan
       (λ in_it. subst (λ r. IsSettledTo next change old new r × IfErr r (λ f. f ≢ told.Device → state_of new ≡ s)) (sym in_it.1)
       (⊎_elim
       (λ stays. absurd (stays.1 in_it.0))
-      (λ goes. (record {
-        verdict = goes.2;
-        state = goes.0;
-        up = decided.0;
-        refused = by.refused;
-        worn_leaves = λ e. absurd (cc);
-        threadless = λ e. absurd (cc);
-        device = λ e. absurd (cc);
-        decided = λ _. decided;
-        ran = by.ran;
-        any_moment = by.any_moment;
-      }, tt))
+      (λ goes. (
+        record {
+          verdict = goes.2;
+          state = goes.0;
+          up = decided.0;
+          refused = by.refused;
+          worn_leaves = λ e. absurd (cc);
+          threadless = λ e. absurd (cc);
+          device = λ e. absurd (cc);
+          decided = λ _. decided;
+          ran = by.ran;
+          any_moment = by.any_moment;
+        },
+        tt,
+      ))
       (which decided.1)))
       (λ out. subst (λ r. IsSettledTo next change old new r × IfErr r (λ f. f ≢ told.Device → state_of new ≡ s)) (sym out.1)
       (by, λ _. ⊎_elim (λ stays. stays.0) (λ goes. absurd (out.0 goes.1)) (which decided.1)))

@@ -24,3 +24,9 @@ pub pushed_alone : (old a b c d e now : List Said) → old ≡ [] → Behind old
 pushed_alone old a b c d e now none is =
     let regrouped : (((a ++ b) ++ c) ++ d) ++ e ≡ a ++ (b ++ (c ++ (d ++ e))) = simp append_assoc in
     is.is ∙ ap (λ fs. fs ++ ((((a ++ b) ++ c) ++ d) ++ e)) none ∙ regrouped
+
+-- the same of four
+pub pushed_four : (old a b c d now : List Said) → old ≡ [] → Behind old (((a ++ b) ++ c) ++ d) now → now ≡ a ++ (b ++ (c ++ d))
+pushed_four old a b c d now none is =
+    let regrouped : ((a ++ b) ++ c) ++ d ≡ a ++ (b ++ (c ++ d)) = simp append_assoc in
+    is.is ∙ ap (λ fs. fs ++ (((a ++ b) ++ c) ++ d)) none ∙ regrouped

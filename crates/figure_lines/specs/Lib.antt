@@ -3,5 +3,6 @@ pub mod Json
 pub mod Figures
 pub mod Info
 pub mod Schemes
+pub mod Tables
 pub mod Ways
 pub mod Networks

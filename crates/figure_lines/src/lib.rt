@@ -2,7 +2,8 @@
 //!
 //! A [`Figure`] has a name, a value and a unit. A value is a whole number, or a decimal with three digits behind the
 //! point, rounded to the nearest and a half up; where there is nothing to take it of it is `none`.
-//! [`scheme_figures_of`] and [`way_figures_of`] give the figures of a scheme and of what was measured in it.
+//! [`scheme_figures_of`] and [`way_figures_of`] give the figures of a scheme and of what was measured in it,
+//! and [`table_figures_of`] a few that compare its tables with those of another one.
 //! [`figures_text`], [`figures_csv`] and [`figures_json`] print the same list. [`info_json`] prints what a device holds
 //! as an object of JSON.
 //!
@@ -27,6 +28,7 @@ mod marks;
 mod networks;
 mod printed;
 mod schemes;
+mod tables;
 mod ways;
 
 pub use dot::network_dot;
@@ -36,4 +38,5 @@ pub use marks::{Mark, marks_of};
 pub use networks::{edges_of, network_csv, network_json};
 pub use printed::{figures_csv, figures_json, figures_text};
 pub use schemes::scheme_figures_of;
+pub use tables::table_figures_of;
 pub use ways::way_figures_of;

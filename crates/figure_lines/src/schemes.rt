@@ -129,8 +129,8 @@ fn push_lengths(alloc: Global, figures: &mut Vec<Figure>, lengths: &[u64]) -> Re
     push_whole(alloc, figures, "tables_all", sum, "bytes")
 }
 
-// The greatest length, 0 where there is none.
-fn greatest_of(lengths: &[u64]) -> u64
+/// The greatest length, 0 where there is none.
+pub(crate) fn greatest_of(lengths: &[u64]) -> u64
     ensures { result ≡ fold max 0 lengths.now }
 {
     let mut greatest = 0;

@@ -6,6 +6,7 @@
 //! | `export DEVICE [--as edges\|csv\|dot\|json] [--words W]` | prints the network of a device; in dot with its landmarks marked |
 //! | `info DEVICE [--json]` | prints what a device holds, in a few figures |
 //! | `stats DEVICE --words W ..` | builds a device's scheme, and prints how large its tables and how long its ways are |
+//! | `landmarks DEVICE ..` | chooses landmarks under which no table is large, and prints them as words |
 //! | `time DEVICE --words W [--runs R]` | times an opening, builds, searches, packets and commits |
 //! | `rehearse FILE [--every-stop]` | runs the lives that a text asks for, on a device in memory, and prints the report of the proved call |
 //!
@@ -50,6 +51,7 @@ where
         Some(("export", found)) => export::run(rt, found, out, err),
         Some(("info", found)) => info::run(rt, found, out, err),
         Some(("stats", found)) => stats::run(rt, found, out, err),
+        Some(("landmarks", found)) => lab_landmarks::run(rt, found, out, err),
         Some(("time", found)) => time::run(rt, found, out, err),
         Some(("rehearse", found)) => rehearse::run(rt, found, out, err),
         _ => 2,
@@ -66,6 +68,7 @@ fn grammar<'a>(alloc: Global) -> Result<Command<'a>, AllocError> {
     let whole = with_command(whole, export::grammar(alloc))?;
     let whole = with_command(whole, info::grammar(alloc))?;
     let whole = with_command(whole, stats::grammar(alloc))?;
+    let whole = with_command(whole, lab_landmarks::grammar(alloc))?;
     let whole = with_command(whole, time::grammar(alloc))?;
     with_command(whole, rehearse::grammar(alloc))
 }

@@ -45,7 +45,11 @@ fn edits_once_memory_is_there(rt: HostRuntime) {
         Err(Fault::Memory | Fault::NoThread) => same(&rt, done, false, "an edit that is refused"),
         _ => same(&rt, (first, done), (ACCEPTED, true), "an edit"),
     }
-    let (second, disk) = edited(&rt, rt.alloc(), disk);
+    // Where memory is refused to this one, it is sent once more.
+    let (second, disk) = match edited(&rt, rt.alloc(), disk) {
+        (Err(Fault::Memory), disk) => edited(&rt, rt.alloc(), disk),
+        answer => answer,
+    };
     let want = if done {
         Err(Fault::AlreadyIn)
     } else {

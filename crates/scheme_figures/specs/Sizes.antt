@@ -1,5 +1,5 @@
 -- How large the tables of a scheme are.
-use Rattle.std.specs.Prelude.{ℕ, zero, suc, ◌+◌, ◌-◌, ◌*◌, ◌^◌, List, [], ◌∷◌, ◌++◌, length, min}
+use Rattle.std.specs.Prelude.{◌≡◌, ◌⊎◌, ◌<◌, ◌≤◌, ℕ, zero, suc, ◌+◌, ◌-◌, ◌*◌, ◌^◌, List, [], ◌∷◌, ◌++◌, length, min}
 use Rattle.std.specs.List.{sum_by}
 use Rattle.node_table.specs.declared.parts.Parts.{Parts}
 use Rattle.node_table.specs.declared.parts.Listed.{Listed}
@@ -21,6 +21,15 @@ entry_sizes p = each_node (λ x. size_of (length (entries_at p x))) p.nodes
 -- how many members each node's directory has
 abbrev pub directory_sizes : Parts → List ℕ
 directory_sizes p = each_node (λ x. size_of (length (directory_at p x))) p.nodes
+
+-- a node's entries and the members of its directory, taken together
+abbrev pub table_size : Parts → ℕ → ℕ
+table_size p x = length (entries_at p x) + length (directory_at p x)
+
+-- no table has more, and one has as many, or there is none
+pub record IsGreatestSize (p : Parts) (greatest : ℕ) : Type 0 where
+  pub within : (x : ℕ) → x < p.nodes → table_size p x ≤ greatest
+  pub one : (greatest ≡ 0) ⊎ ((x : ℕ) × ((x < p.nodes) × (table_size p x ≡ greatest)))
 
 -- the bytes of a member of a directory: 8, and 2 for each port of its label
 abbrev pub listed_bytes : Listed → ℕ

@@ -1,7 +1,7 @@
 //! How large the tables of a scheme are.
 ghost use Rattle.std.specs.Prelude.{◌≡◌, ◌*◌, ◌-◌, ◌^◌, IfOk, count_by, length, map, min};
 ghost use Rattle.node_table.specs.Tables.{directory_at, entries_at};
-ghost use Rattle.scheme_figures.specs.Sizes.{directory_bytes, each_node, entry_sizes, directory_sizes, listed_bytes, size_of, table_bytes};
+ghost use Rattle.scheme_figures.specs.Sizes.{directory_bytes, each_node, entry_sizes, table_size as size_in, IsGreatestSize, directory_sizes, listed_bytes, size_of, table_bytes};
 
 use node_table::{Entry, Listed, Scheme};
 use std::alloc::{AllocError, Global};
@@ -54,6 +54,24 @@ pub fn directory_lengths(alloc: Global, scheme: &Scheme) -> Result<Vec<u32>, All
         sizes.push(size(scheme.directory_of(node).len()))?;
     }
     Ok(sizes)
+}
+
+/// How many entries and members the largest table has, taken together.
+pub fn greatest_size(scheme: &Scheme) -> u64
+    ensures { IsGreatestSize scheme.now result }
+{
+    let mut greatest = 0;
+    for node in 0..scheme.parts().nodes {
+        greatest = u64::max(greatest, table_size(scheme, node));
+    }
+    greatest
+}
+
+fn table_size(scheme: &Scheme, node: u16) -> u64
+    ensures { result ≡ size_in scheme.now node }
+{
+    let entries = scheme.entries_of(node).len();
+    (entries + scheme.directory_of(node).len()) as u64
 }
 
 /// How many bytes the table of each node takes, in the order of the nodes. One past a u64 stays at the greatest.

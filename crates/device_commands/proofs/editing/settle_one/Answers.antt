@@ -11,7 +11,6 @@ use Rattle.device_commands.proofs.editing.settle_one.Goals as goal
 pub returns-in-Err-clause-settled : goal.returns-in-Err-clause-settled
 returns-in-Err-clause-settled g c = untouched c.args.store _ _ c.in-Err.fault c.requires.up (λ same. ⊎_elim (λ is. absurd cc) (λ is. absurd cc) c.in-Err.ensures.faults)
 
-
 -- of a change whose ticket is new: what became of it, and what a fault leaves
 became : (g : _) (c : goal.After-found g) → IsSettledTo (state_under (state_of c.args.store) c.args.session c.in-Ok.ticket c.args.change) c.args.change c.args.store c.settled-answer.result.1 c.found.result
     × IfErr c.found.result (λ fault. fault ≢ Device → state_of c.settled-answer.result.1 ≡ state_of c.args.store)

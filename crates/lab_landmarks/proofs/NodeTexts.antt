@@ -1,0 +1,10 @@
+-- Nodes in decimal, one behind the others.
+use Rattle.std.proofs.Common.{◌≡◌, ℕ, sym, ap, List, [], ◌∷◌, ◌++◌, append-nil}
+use Rattle.std.specs.Prelude.{decimal}
+use Rattle.std.specs.List.{flat_map}
+use Rattle.written_values.specs.WordsText.{nodes_text}
+
+-- behind the first each has a comma before it
+pub nodes_after : (x : ℕ) (xs : List ℕ) → nodes_text (x ∷ xs) ≡ decimal x ++ flat_map (λ node. 44 ∷ decimal node) xs
+nodes_after x [] = sym (append-nil (decimal x))
+nodes_after x (y ∷ ys) = ap (λ text. decimal x ++ 44 ∷ text) (nodes_after y ys)
