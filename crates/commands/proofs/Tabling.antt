@@ -157,7 +157,7 @@ may_too model done did put also (Migrate device made) given old new fault so wea
 may_too model done did put also (Migrate device made) given old new fault so weaker (inr is) = inr (two_too model done did device.now made.now _ so is)
 may_too model done did put also (Serve device editors forwarders places None words) given old new fault so weaker (inl none) = inl (so [] none.0, none.1)
 may_too model done did put also (Serve device editors forwarders places None words) given old new fault so weaker (inr (inl early)) = inr (inl (so _ early.0, early.1))
-may_too model done did put also (Serve device editors forwarders places None words) given old new fault so weaker (inr (inr is)) = inr (inr (served_too done did device.now _ so is))
+may_too model done did put also (Serve device editors forwarders places None words) given old new fault so weaker (inr (inr is)) = inr (inr (is.0, served_too done did device.now _ so is.1))
 may_too model done did put also (Serve device editors forwarders places (Some rounds) words) given old new fault so weaker (inl (same, inl none)) = inl (same, inl (so [] none.0, none.1))
 may_too model done did put also (Serve device editors forwarders places (Some rounds) words) given old new fault so weaker (inl (same, inr early)) = inl (same, inr (so _ early.0, early.1))
 may_too model done did put also (Serve device editors forwarders places (Some rounds) words) given old new fault so weaker (inr is) = inr (is.0, served_too done did device.now _ so is.1)

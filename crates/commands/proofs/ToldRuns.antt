@@ -1,6 +1,6 @@
 -- How runs end whose faults are told, and those of live services.
 use Rattle.std.proofs.Common.{◌≡◌, ◌≢◌, ◌∙◌, ◌⊎◌, ◌==◌, if◌then◌else◌, ap, inl, inr, refl, sym, subst, ℕ, List, [], ◌∷◌, Option, Some, None, Result, Ok, Err, IfErr, IfOk, IfSome, IsErrAnd}
-use Rattle.std.specs.Io.KnownBytes.{prepend_known}
+use Rattle.std.specs.Io.KnownBytes.{Appends, prepend_known}
 use Rattle.std.specs.Io.Buffered.{reader_buffer, reader_capacity, reader_inner, reader_remaining}
 use Rattle.std.specs.declared.io.buffered.BufReader.{BufReader}
 use Rattle.clap.specs.Walk.{Text}
@@ -17,8 +17,11 @@ use Rattle.line_exchange.specs.declared.served.Served.{Served}
 use Rattle.line_exchange.specs.declared.served.Served.TheVariants as served
 use Rattle.service_threads.specs.Kept.{IsLeftBy}
 use Rattle.line_exchange.specs.Ends.{HasToldSo, fault_of}
-use Rattle.line_exchange.specs.Inputs.{Bytes}
-use Rattle.live_service.specs.Runs.{PrintsTo}
+use Rattle.line_exchange.specs.Begun.{PrintsUnless}
+use Rattle.line_exchange.specs.Inputs.{Bytes, Input}
+use Rattle.line_exchange.specs.Prints.{HasPrinted, answers_text}
+use Rattle.line_exchange.specs.declared.answer_writer.AnswerWriter.{Ghosts as Writers}
+use Rattle.live_service.specs.Runs.{HasBroken, PrintsTo}
 use Rattle.live_service.specs.Services.{AnswersInput}
 use Rattle.table_files.specs.Files.{Put}
 use Rattle.commands.specs.declared.devices.Access.TheVariants.{ToChange}
@@ -26,7 +29,7 @@ use Rattle.commands.specs.declared.outcome.Outcome.{Outcome}
 use Rattle.commands.specs.declared.outcome.Outcome.TheVariants.{Answered, Told, Untold}
 use Rattle.commands.specs.Devices.{Doing, IsFileFault, closing}
 use Rattle.commands.specs.Events.{NotHad, Opened}
-use Rattle.commands.specs.Endings.{EndsLive, EndsServe, IsFaultFor, MayEnd}
+use Rattle.commands.specs.Endings.{BeginsAnswers, EndsLive, EndsServe, IsFaultFor, MayEnd}
 use Rattle.commands.specs.Outcomes.{AnswersOrTells, IsEndOf, IsLiveOutcome, IsOutcome, IsOutcomeOf, IsToldSo}
 use Rattle.commands.specs.Printed.{AnswersWords, PrintedFor, PrintsLive}
 use Rattle.commands.specs.Runs.{EndsScript}
@@ -87,41 +90,54 @@ untold_so served.Printed outcome fault is same = absurd (cc)
 untold_so (served.Told came) outcome fault is same = absurd (cc)
 untold_so (served.Untold came) outcome fault is same = cc
 
--- the end of one that ran
-live_end : {D : Type 0} (model : Ghosts D) (done : Doing D) (path : List ℕ) (given : Known) (editors : ℕ) (words : LandmarkWords) (old new told_old told_new : Known) (disk : D) (back : Option D) (ended : Served) (outcome : Outcome)
-    → IsEndOf ended outcome → done (Opened path ToChange disk ∷ closing back) → PrintsTo (Bytes given) editors old new ended → HasToldSo told_old told_new ended → IfSome (fault_of ended) (λ fault. IsServeEnd model disk words back fault) → IsLeftBy model disk back
-    → (ended ≡ served.Printed → AnswersInput model disk back (Bytes given) editors (λ known. known) old new)
-    → IsLiveOutcome model done path given editors words old new told_old told_new outcome
-live_end model done path given editors words old new told_old told_new disk back served.Printed outcome is did prints tells ends left list =
-    let all = prints.answers (λ same. absurd (cc)) in
-    subst (λ (o : Outcome). IsLiveOutcome model done path given editors words old new told_old told_new o) (sym is)
-    ((refl, (all.0, all.1, all.2 refl), record { disk = disk; back = back; did = did; holds = (list refl, left) }), tells)
-live_end model done path given editors words old new told_old told_new disk back (served.Told fault) outcome is did prints tells ends left list =
-    subst (λ (o : Outcome). IsLiveOutcome model done path given editors words old new told_old told_new o) (sym is) (
-      inr (
-        λ other.
-            let some = prints.answers (λ same. other (cc)) in
-            (some.0, some.1),
-        record { disk = disk; back = back; did = did; holds = (ends, left) },
-      ),
-      tells,
-    )
-live_end model done path given editors words old new told_old told_new disk back (served.Untold fault) outcome is did prints tells ends left list =
-    subst (λ (o : Outcome). IsLiveOutcome model done path given editors words old new told_old told_new o) (sym is)
-    (inr (
-      λ other.
-          let some = prints.answers (λ same. other (cc)) in
-          (some.0, some.1),
-      record { disk = disk; back = back; did = did; holds = (ends, left) },
-    ))
+-- what was printed, where another thing holds of it
+printed_so : (input : Input) (editors count : ℕ) (P Q : List ℕ → Type 0) → HasPrinted input editors P count → ((lines : List ℕ) → P lines → Q lines) → HasPrinted input editors Q count
+printed_so input editors count P Q has so = record { answers = has.answers; many = has.many; are = has.are; printed = so (answers_text has.answers) has.printed }
 
-pub live_so : {D : Type 0} (model : Ghosts D) (done : Doing D) (path : List ℕ) (given read : Known) (editors : ℕ) (words : LandmarkWords) (old new told_old told_new : Known) (disk : D) (back : Option D) (ended : Served) (outcome : Outcome)
-    → read ≡ given → IsEndOf ended outcome → done (Opened path ToChange disk ∷ closing back) → PrintsTo (Bytes read) editors old new ended → HasToldSo told_old told_new ended → IfSome (fault_of ended) (λ fault. IsServeEnd model disk words back fault) → IsLeftBy model disk back
-    → (ended ≡ served.Printed → AnswersInput model disk back (Bytes read) editors (λ known. known) old new)
-    → IsLiveOutcome model done path given editors words old new told_old told_new outcome
-live_so model done path given read editors words old new told_old told_new disk back ended outcome same is did prints tells ends left list =
-    live_end model done path given editors words old new told_old told_new disk back ended outcome is did (subst (λ (g : Known). PrintsTo (Bytes g) editors old new ended) same prints) tells ends left
-    (subst (λ (g : Known). ended ≡ served.Printed → AnswersInput model disk back (Bytes g) editors (λ known. known) old new) same list)
+-- a service that a fault ended has begun its answers
+begins : {W : Type 0} (outlet : Writers W) (given : Known) (editors : ℕ) (out printed : W) (ended : Served) (fault : Fault) → fault_of ended ≡ Some fault → PrintsTo outlet (Bytes given) editors out printed ended
+    → BeginsAnswers given editors (outlet.contents out) (outlet.contents printed) fault
+begins outlet given editors out printed ended fault is prints =
+    let old = outlet.contents out in
+    let new = outlet.contents printed in
+    let count = prints.answers.0 in (
+      count,
+      printed_so (Bytes given) editors count (PrintsUnless (HasBroken outlet printed ended) old new) (PrintsUnless (fault ≡ told.Output) old new) prints.answers.1
+          (λ text was. (was.0, λ other. was.1 (λ broken. other (same_fault fault (sym is ∙ broken.0))))),
+    )
+  where
+    same_fault : (f : Fault) → Some f ≡ Some told.Output → f ≡ told.Output
+    same_fault f same = cc
+
+no_fault : (fault : Fault) → fault_of served.Printed ≡ Some fault → ⊥
+no_fault fault same = cc
+
+-- the end of one that ran
+live_end : {D W : Type 0} (model : Ghosts D) (done : Doing D) (path : List ℕ) (given : Known) (editors : ℕ) (words : LandmarkWords) (outlet : Writers W) (out printed : W) (told_old told_new : Known) (disk : D) (back : Option D) (ended : Served) (outcome : Outcome)
+    → IsEndOf ended outcome → done (Opened path ToChange disk ∷ closing back) → PrintsTo outlet (Bytes given) editors out printed ended → HasToldSo told_old told_new ended → IfSome (fault_of ended) (λ fault. IsServeEnd model disk words back fault) → IsLeftBy model disk back
+    → (ended ≡ served.Printed → AnswersInput model disk back (Bytes given) editors outlet.contents out printed)
+    → IsLiveOutcome model done path given editors words (outlet.contents out) (outlet.contents printed) told_old told_new outcome
+live_end model done path given editors words outlet out printed told_old told_new disk back served.Printed outcome is did prints tells ends left list =
+    let old = outlet.contents out in
+    let new = outlet.contents printed in
+    let all = prints.answers in
+    let lines = printed_so (Bytes given) editors all.0 (PrintsUnless (HasBroken outlet printed served.Printed) old new) (Appends old new) all.1 (λ text was. was.1 (λ broken. no_fault told.Output broken.0)) in
+    subst (λ (o : Outcome). IsLiveOutcome model done path given editors words old new told_old told_new o) (sym is)
+    ((refl, (all.0, lines, all.2 refl), record { disk = disk; back = back; did = did; holds = (list refl, left) }), tells)
+live_end model done path given editors words outlet out printed told_old told_new disk back (served.Told fault) outcome is did prints tells ends left list =
+    subst (λ (o : Outcome). IsLiveOutcome model done path given editors words (outlet.contents out) (outlet.contents printed) told_old told_new o) (sym is)
+    (inr (begins outlet given editors out printed (served.Told fault) fault refl prints, record { disk = disk; back = back; did = did; holds = (ends, left) }), tells)
+live_end model done path given editors words outlet out printed told_old told_new disk back (served.Untold fault) outcome is did prints tells ends left list =
+    subst (λ (o : Outcome). IsLiveOutcome model done path given editors words (outlet.contents out) (outlet.contents printed) told_old told_new o) (sym is)
+    (inr (begins outlet given editors out printed (served.Untold fault) fault refl prints, record { disk = disk; back = back; did = did; holds = (ends, left) }))
+
+pub live_so : {D W : Type 0} (model : Ghosts D) (done : Doing D) (path : List ℕ) (given read : Known) (editors : ℕ) (words : LandmarkWords) (outlet : Writers W) (out printed : W) (told_old told_new : Known) (disk : D) (back : Option D) (ended : Served) (outcome : Outcome)
+    → read ≡ given → IsEndOf ended outcome → done (Opened path ToChange disk ∷ closing back) → PrintsTo outlet (Bytes read) editors out printed ended → HasToldSo told_old told_new ended → IfSome (fault_of ended) (λ fault. IsServeEnd model disk words back fault) → IsLeftBy model disk back
+    → (ended ≡ served.Printed → AnswersInput model disk back (Bytes read) editors outlet.contents out printed)
+    → IsLiveOutcome model done path given editors words (outlet.contents out) (outlet.contents printed) told_old told_new outcome
+live_so model done path given read editors words outlet out printed told_old told_new disk back ended outcome same is did prints tells ends left list =
+    live_end model done path given editors words outlet out printed told_old told_new disk back ended outcome is did (subst (λ (g : Known). PrintsTo outlet (Bytes g) editors out printed ended) same prints) tells ends left
+    (subst (λ (g : Known). ended ≡ served.Printed → AnswersInput model disk back (Bytes g) editors outlet.contents out printed) same list)
 
 -- one that didn't begin
 pub live_early : {D : Type 0} (model : Ghosts D) (done : Doing D) (path : List ℕ) (given : Known) (editors : ℕ) (words : LandmarkWords) (old told_old told_new : Known) (fault : Fault) (outcome : Outcome)
@@ -147,10 +163,10 @@ fresh_reader {T} remaining r from inner empty capacity =
 
 -- a fault that is handed on ends it
 pub script_ends : {D W : Type 0} (model : Ghosts D) (done : Doing D) (path : List ℕ) (given : Known) (editors : ℕ) (words : LandmarkWords) (contents : W → Known) (old new : W) (r : Result Ended Fault) (fault : Fault)
-    → IsErrAnd r (λ e. e ≡ fault) → EndsServe model done path given editors words fault → (fault ≢ told.Output → new ≡ old) → EndsScript model done path given editors words contents old new r
+    → IsErrAnd r (λ e. e ≡ fault) → EndsServe model done path given editors words (contents old) (contents new) fault → (fault ≢ told.Output → new ≡ old) → EndsScript model done path given editors words contents old new r
 script_ends model done path given editors words contents old new (Ok ended) fault is why kept = absurd is
 script_ends model done path given editors words contents old new (Err e) fault is why kept = record {
   printed = tt;
-  fault = subst (λ (f : Fault). EndsServe model done path given editors words f) (sym is) why;
+  fault = subst (λ (f : Fault). EndsServe model done path given editors words (contents old) (contents new) f) (sym is) why;
   untouched = subst (λ (f : Fault). f ≢ told.Output → new ≡ old) (sym is) kept;
 }

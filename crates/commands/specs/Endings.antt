@@ -9,6 +9,7 @@ use Rattle.layout_2.specs.Standing.{KeepsThrough, StandsFor}
 use Rattle.migrate.specs.Moved.{MovesWholly}
 use Rattle.node_table.specs.declared.parts.Parts.{Parts}
 use Rattle.written_values.specs.Words.{IsWithin}
+use Rattle.written_values.specs.declared.line.ScriptLine.{ScriptLine}
 use Rattle.written_values.specs.declared.words.LandmarkWords.{LandmarkWords}
 use Rattle.written_values.specs.declared.words.LandmarkWords.TheVariants.{Greatest, ZeroAt, Drawn}
 use Rattle.command_output.specs.Printing.{Known}
@@ -20,6 +21,8 @@ use Rattle.device_commands.specs.Openings.{IsEditFault, IsFormatFault, IsOpenFau
 use Rattle.device_commands.specs.Moves.{IsMoveFault, TellsOfOld}
 use Rattle.service_threads.specs.Kept.{IsLeftBy}
 use Rattle.live_service.specs.ServeEnds.{IsServeEnd}
+use Rattle.line_exchange.specs.Begun.{Begins, PrintsUnless}
+use Rattle.line_exchange.specs.Gathers.{IsServed}
 use Rattle.line_exchange.specs.Inputs.{Bytes}
 use Rattle.line_exchange.specs.Prints.{HasPrinted}
 use Rattle.command_line.specs.Asked.{IsAskedFor, IsRefusedFor}
@@ -32,7 +35,7 @@ use Rattle.commands.specs.declared.devices.Access.TheVariants.{ToRead, ToChange,
 use Rattle.commands.specs.Devices.{Doing, EndsBy, Ending, IsAnswerOf, IsFileFault, OfFirst, OfServed, OfTwo}
 use Rattle.commands.specs.Events.{NotHad}
 use Rattle.commands.specs.Queries.{LacksNode}
-use Rattle.commands.specs.ServedScripts.{IsScriptFault}
+use Rattle.commands.specs.ServedScripts.{IsScriptFault, IsScriptOf}
 use Rattle.table_files.specs.Files.{Put}
 use Rattle.commands.specs.SchemeAnswers.{IsSchemeBy}
 use Rattle.table_files.specs.Tables.{EndsPutting}
@@ -157,15 +160,19 @@ pub record IsMoveEnd (from from_left to to_left : DiskView) (fault : Fault) : Ty
 abbrev pub FailsServing : {D : Type 0} → Ghosts D → LandmarkWords → Fault → D → Option D → Type 0
 FailsServing model words fault disk back = IsServeEnd model disk words back fault × IsLeftBy model disk back
 
--- No script is run: it is none, and no device was opened; the device can't be had; or the service ended by this fault.
-abbrev pub EndsServe : {D : Type 0} → Ghosts D → Doing D → List ℕ → Known → ℕ → LandmarkWords → Fault → Type 0
-EndsServe model done path given editors words fault =
-    (done [] × IsScriptFault given editors fault) ⊎ (done (NotHad path ToChange ∷ []) × IsFileFault fault)
-    ⊎ OfServed done path (FailsServing model words fault)
+-- where the output failed, a beginning of the lines of answers to the script was printed, and nothing else
+abbrev pub BeginsScript : Known → ℕ → Known → Known → Fault → Type 0
+BeginsScript given editors old new fault = fault ≡ told.Output → (lines : List ScriptLine) × IsScriptOf given editors lines × IsServed lines (Begins old new)
 
--- unless the output failed, answers to the first lines that a reader gives were printed, in their order, and nothing else
+-- No script is run: it is none, and no device was opened; the device can't be had; or the service ended by this fault.
+abbrev pub EndsServe : {D : Type 0} → Ghosts D → Doing D → List ℕ → Known → ℕ → LandmarkWords → Known → Known → Fault → Type 0
+EndsServe model done path given editors words old new fault =
+    (done [] × IsScriptFault given editors fault) ⊎ (done (NotHad path ToChange ∷ []) × IsFileFault fault)
+    ⊎ (BeginsScript given editors old new fault × OfServed done path (FailsServing model words fault))
+
+-- answers to the first lines that a reader gives were printed, in their order, and nothing else: a beginning of these where the output failed
 abbrev pub BeginsAnswers : Known → ℕ → Known → Known → Fault → Type 0
-BeginsAnswers given editors old new fault = fault ≢ told.Output → (count : ℕ) × HasPrinted (Bytes given) editors old new count
+BeginsAnswers given editors old new fault = (count : ℕ) × HasPrinted (Bytes given) editors (PrintsUnless (fault ≡ told.Output) old new) count
 
 -- No lines are answered, since memory ran out before the device was opened, or it can't be had; or the live service ended by this fault.
 abbrev pub EndsLive : {D : Type 0} → Ghosts D → Doing D → List ℕ → Known → ℕ → LandmarkWords → Known → Known → Fault → Type 0
@@ -214,7 +221,7 @@ IsRouteFault words fault = IsWordsFault words fault
 -- the faults that may end a task that is under way, and what a live service has printed by then
 abbrev pub MayEnd : {D : Type 0} → Ghosts D → Doing D → (List Put → Type 0) → Task → Known → Known → Known → Fault → Type 0
 MayEnd model done put (Migrate device made) given old new fault = EndsMove model done device.now made.now fault
-MayEnd model done put (Serve device editors forwarders places None words) given old new fault = EndsServe model done device.now given editors words fault
+MayEnd model done put (Serve device editors forwarders places None words) given old new fault = EndsServe model done device.now given editors words old new fault
 MayEnd model done put (Serve device editors forwarders places (Some rounds) words) given old new fault = EndsLive model done device.now given editors words old new fault
 MayEnd model done put task given old new fault = EndsBy model done put (device_of task) (access_of task) (λ disk left why. Leaves task disk left × EndsOpened put task disk left why) fault
 

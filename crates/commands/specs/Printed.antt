@@ -92,12 +92,12 @@ PrintsMoved from to left ended old new = (ended ≡ Done) × (moved : Moved) × 
 abbrev pub PrintsServed : {D : Type 0} → Ghosts D → Doing D → List ℕ → Known → ℕ → Ended → Known → Known → Type 0
 PrintsServed model done path given editors ended old new =
     (ended ≡ Done) × (lines : List ScriptLine) × IsScriptOf given editors lines
-    × OfServed done path (λ disk back. IsServed lines old new × AnswersScript model disk back lines editors (λ known. known) old new × IsLeftBy model disk back)
+    × OfServed done path (λ disk back. IsServed lines (Appends old new) × AnswersScript model disk back lines editors (λ known. known) old new × IsLeftBy model disk back)
 
 -- `serve --live`: a line for each line that a reader gives, an answer to it, in their order, of one list of requests, which the device has
 abbrev pub PrintsLive : {D : Type 0} → Ghosts D → Doing D → List ℕ → Known → ℕ → Ended → Known → Known → Type 0
 PrintsLive model done path given editors ended old new =
-    (ended ≡ Done) × ((count : ℕ) × HasPrinted (Bytes given) editors old new count × AreAllLines (Bytes given) count)
+    (ended ≡ Done) × ((count : ℕ) × HasPrinted (Bytes given) editors (Appends old new) count × AreAllLines (Bytes given) count)
     × OfServed done path (λ disk back. AnswersInput model disk back (Bytes given) editors (λ known. known) old new × IsLeftBy model disk back)
 
 -- `tables`: the files of the tables that a scheme of that graph has of nodes, and their line, or that a node isn't there

@@ -77,7 +77,7 @@ abbrev pub EndsScript : {D W : Type 0} → Ghosts D → Doing D → List ℕ →
     → (W → Known) → W → W → Result Ended Fault → Type 0
 EndsScript model done path given editors words contents old new result =
     Ends (λ ended before after. PrintsServed model done path given editors ended before after)
-    (λ fault. EndsServe model done path given editors words fault) contents old new result
+    (λ fault. EndsServe model done path given editors words (contents old) (contents new) fault) contents old new result
 
 -- any task that is no service
 abbrev pub EndsTask : {D W : Type 0} → Ghosts D → Doing D → (List Put → Type 0) → Task → Known

@@ -11,6 +11,7 @@ use Rattle.group_commit.specs.declared.desk.Desk.{Desk}
 use Rattle.committer.specs.declared.committer.Committer.{Committer}
 use Rattle.committer.specs.Outboxes.{Outgoing, with_posted, with_due}
 use Rattle.committer.specs.CommitterWords.{desk_of, store_of, got_of, posts_of}
+use Rattle.settled_lists.specs.declared.builds.Builds.{Builds}
 use Rattle.committer.specs.Listed.{IsListed, IsListedFrom}
 use Rattle.committer.proofs.Listings.{committed_listed}
 use Rattle.committer.proofs.Settles.{marks_said}
@@ -39,6 +40,6 @@ given_out old mid new accepted marks done up store held given = record {
 -- the list goes on, whether the marks are posted or due
 pub given_listed : {D R : Type 0} {V : _} → (old : Committer D R V) (desk : Desk D V) (posts : Outgoing) (marks : Posting) (told : _) → is_down (store_of old) ≡ false → (posts_of old).due ≡ []
     → IsGivenOut (desk_of old) desk marks → MatchBool told (posts ≡ with_posted (posts_of old) (notice_of marks)) (posts ≡ with_due (posts_of old) (notice_of marks))
-    → (first : State) → IsListedFrom first old → IsListed first posts (desk_held desk) (got_of old) (state_of (desk_store desk)) (is_down (desk_store desk))
-given_listed old desk posts marks told up none out say first is =
+    → (builds : Builds) (first : State) → IsListedFrom builds first old → IsListed builds first posts (desk_held desk) (got_of old) (state_of (desk_store desk)) (is_down (desk_store desk))
+given_listed old desk posts marks told up none out say builds first is =
     committed_listed first (posts_of old) posts (notice_of marks) told _ (desk_held desk) (got_of old) (got_of old) _ (state_of (desk_store desk)) _ (is_down (desk_store desk)) is up none out.said say out.held refl out.state out.up

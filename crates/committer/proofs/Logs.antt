@@ -1,5 +1,5 @@
 -- What an outbox has in all, once it was paid or told.
-use Rattle.std.proofs.Common.{◌≡◌, ◌≢◌, Some, ℕ, Bool, true, false, MatchBool, List, [], ◌∷◌, ◌++◌, Option, None, refl, ap, sym, ◌∙◌, subst, append-nil}
+use Rattle.std.proofs.Common.{◌≡◌, ◌≢◌, ◌≤◌, Some, ℕ, Bool, true, false, MatchBool, List, [], ◌∷◌, ◌++◌, Option, None, refl, ap, sym, ◌∙◌, subst, append-nil}
 use Rattle.layout_2.specs.State.{State, asked}
 use Rattle.requests.specs.Tickets.{Rises}
 use Rattle.requests.specs.declared.request.Request.{Request}
@@ -13,11 +13,11 @@ use Rattle.generations.specs.declared.posting.Notice.TheVariants.{Marked, Failed
 use Rattle.generations.specs.Beginnings.{Opening}
 use Rattle.generations.specs.Lawful.{IsLawful}
 use Rattle.generations.specs.Posts.{Posts}
+use Rattle.settled_lists.specs.Lists.{IsAhead}
 use Rattle.committer.specs.Outboxes.{Outgoing, outgoing, back_of, all_of, paid, with_posted, with_due}
-use Rattle.committer.specs.Rebuilds.{IsNumbered}
 use Rattle.committer.specs.Ties.{IsTied}
 use Rattle.committer.proofs.Settled.{IsSettled}
-use Rattle.committer.proofs.Tying.{tied_first, tied_taken, tied_marks, tied_down, tied_generation}
+use Rattle.committer.proofs.Tying.{tied_first, tied_taken, tied_marks, tied_down, tied_earlier}
 
 all_bare : (o : Outgoing) → o.due ≡ [] → all_of o ≡ o.posted
 all_bare o none = ap (λ l. o.posted ++ l) none ∙ append-nil o.posted
@@ -128,14 +128,13 @@ told_down o o' p b newest held held' got state state' down down' t up none is to
 -- ---- a generation
 
 -- it is tied behind what is posted and due, and so lawful
-pub generation_tied : (o : Outgoing) (scheme : Parts) (number : ℕ) (newest : Option ℕ) (held got : List Request) (state : State) (down : Bool) → IsTied o.opening (all_of o) newest held got state down → down ≡ false
-    → number ≡ state.count → (IsNumbered number (all_of o) → ⊥) → Serves state.graph (tables scheme)
+pub earlier_tied : (o : Outgoing) (scheme : Parts) (number : ℕ) (newest : Option ℕ) (held got : List Request) (state : State) (down : Bool) → IsTied o.opening (all_of o) newest held got state down → down ≡ false
+    → number ≤ state.count → IsAhead number (all_of o) → (number ≡ state.count → Serves state.graph (tables scheme))
     → IsTied o.opening (all_of o ++ Built number scheme ∷ []) (Some number) held got state down
-generation_tied o scheme number newest held got state down t up same news serves =
+earlier_tied o scheme number newest held got state down t up reached ahead serves =
     let now = retie o.opening (all_of o) got newest newest held held state state down false refl refl refl (sym up) t in
-    let other : newest ≢ Some state.count = λ e. news (sym t.newest_is ∙ (e ∙ ap Some (sym same))) in
-    let built : IsTied o.opening (all_of o ++ Built state.count scheme ∷ []) (Some state.count) held got state false = tied_generation o.opening (all_of o) newest held got state scheme now other serves in
-    subst (λ (x : ℕ × Bool). IsTied o.opening (all_of o ++ Built x.0 scheme ∷ []) (Some x.0) held got state x.1) (λ i. (sym same i, sym up i)) built
+    subst (λ (d : Bool). IsTied o.opening (all_of o ++ Built number scheme ∷ []) (Some number) held got state d) (sym up)
+    (tied_earlier o.opening (all_of o) newest held got state number scheme now reached ahead serves)
 
 -- ---- what was due is paid
 

@@ -1,5 +1,5 @@
 -- How a committer's lists and the state of its store stay tied.
-use Rattle.std.proofs.Common.{◌≡◌, ◌≢◌, ℕ, ◌+◌, ◌||◌, ◌≤◌, Bool, true, false, List, [], ◌∷◌, ◌++◌, length, map, fold, Option, Some, None, refl, ap, sym, ◌∙◌, subst, append-nil, arith}
+use Rattle.std.proofs.Common.{◌≡◌, ℕ, ◌+◌, ◌||◌, ◌≤◌, Bool, true, false, List, [], ◌∷◌, ◌++◌, length, map, fold, Option, Some, None, refl, ap, sym, ◌∙◌, subst, append-nil, arith}
 use Rattle.std.specs.Option.{option_map}
 use Rattle.std.proofs.lemmas.List.{map-append}
 use Rattle.std.proofs.lemmas.List.Sums.{fold-append}
@@ -19,6 +19,8 @@ use Rattle.generations.specs.Beginnings.{Opening}
 use Rattle.generations.specs.Boards.{accepting}
 use Rattle.generations.proofs.Lawfulness.{lawful_none, lawful_marks, lawful_down, lawful_generation, marks_push, counted_append, still_up}
 use Rattle.generations.proofs.Numbers.{same_newest, now_newest, all_below}
+use Rattle.settled_lists.specs.Lists.{IsAhead}
+use Rattle.settled_lists.proofs.Steps.{not_newest}
 use Rattle.committer.specs.Ties.{IsTied}
 use Rattle.committer.specs.Turns.{HoldsNoLater}
 use Rattle.committer.proofs.InTurns.{held_no_later}
@@ -117,21 +119,21 @@ tied_down opening log newest held got state h =
       serves = λ g at same. h.serves g (sym newest_same ∙ at) same;
     }
 
--- a generation of the store's graph, where the newest is another
-pub tied_generation : (opening : Opening) (log : List Notice) (newest : Option ℕ) (held got : List Request) (state : State) (scheme : Parts) → IsTied opening log newest held got state false
-    → newest ≢ Some state.count → Serves state.graph (tables scheme) → IsTied opening (log ++ Built state.count scheme ∷ []) (Some state.count) held got state false
-tied_generation opening log newest held got state scheme h other served =
-    let grown : marks_in (log ++ Built state.count scheme ∷ []) ≡ marks_in log = same_marks log (Built state.count scheme) refl in
-    let now : newest_in (log ++ Built state.count scheme ∷ []) ≡ Some (state.count, scheme) = now_newest log state.count scheme in
-    let below = all_below log state.count h.lawful.numbers h.behind (λ same. other (h.newest_is ∙ same)) in
+-- a generation of an earlier state, whose number is above that of the newest
+pub tied_earlier : (opening : Opening) (log : List Notice) (newest : Option ℕ) (held got : List Request) (state : State) (number : ℕ) (scheme : Parts) → IsTied opening log newest held got state false
+    → number ≤ state.count → IsAhead number log → (number ≡ state.count → Serves state.graph (tables scheme)) → IsTied opening (log ++ Built number scheme ∷ []) (Some number) held got state false
+tied_earlier opening log newest held got state number scheme h reached ahead served =
+    let grown : marks_in (log ++ Built number scheme ∷ []) ≡ marks_in log = same_marks log (Built number scheme) refl in
+    let now : newest_in (log ++ Built number scheme ∷ []) ≡ Some (number, scheme) = now_newest log number scheme in
+    let below = all_below log number h.lawful.numbers (λ g at. let a = ahead g at in omega (arith, a)) (not_newest log number ahead) in
     record {
-      lawful = lawful_generation opening.starts opening.count log state.count scheme h.lawful h.is_down below;
+      lawful = lawful_generation opening.starts opening.count log number scheme h.lawful h.is_down below;
       rises = h.rises;
       told = ap (λ (l : List Mark). map told_to l ++ asked held) grown ∙ h.told;
       counted = ap (λ (l : List Mark). opening.count + length (counts_of l)) grown ∙ h.counted;
       tickets = ap (fold accepting opening.starts) grown ∙ h.tickets;
-      is_down = still_up log (Built state.count scheme) h.is_down refl;
+      is_down = still_up log (Built number scheme) h.is_down refl;
       newest_is = sym (ap (option_map (λ g. g.0)) now);
-      behind = λ g at. let same : (state.count, scheme) ≡ g = cc in let e : state.count ≡ g.0 = ap (λ x. x.0) same in omega (arith, e);
-      serves = λ g at same. let e : (state.count, scheme) ≡ g = cc in ∣ subst (λ (x : ℕ × Parts). Serves state.graph (tables x.1)) e served ∣₁;
+      behind = λ g at. let same : (number, scheme) ≡ g = cc in let e : number ≡ g.0 = ap (λ x. x.0) same in omega (arith, e, reached);
+      serves = λ g at same. let e : (number, scheme) ≡ g = cc in let n : number ≡ g.0 = ap (λ x. x.0) e in ∣ subst (λ (x : ℕ × Parts). Serves state.graph (tables x.1)) e (served (n ∙ same)) ∣₁;
     }

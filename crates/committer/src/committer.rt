@@ -8,13 +8,15 @@ ghost use Rattle.checkpoint.specs.Kept.{kept_props};
 ghost use Rattle.checkpoint.specs.StoreWords.{state_of, view_of, is_down};
 ghost use Rattle.node_table.specs.Tables.{tables};
 ghost use Rattle.node_table.specs.Service.{Serves};
-ghost use Rattle.generations.specs.declared.posting.Notice.TheVariants.{Built};
+ghost use Rattle.generations.specs.declared.posting.Notice.TheVariants.{Built, Marked};
 ghost use Rattle.intake.specs.Turns.{of, last_asked, AreWithin};
 ghost use Rattle.intake.specs.Ends.{HasTaken};
 ghost use Rattle.scheme_builds.specs.Schemes.{IsSchemeOf};
 ghost use Rattle.group_commit.specs.DeskWords.{store_of as desk_store, held_of as desk_held, due_of as desk_due};
 ghost use Rattle.group_commit.specs.Limits.{most_held};
-ghost use Rattle.committer.specs.Outboxes.{all_of, with_posted};
+ghost use Rattle.settled_lists.specs.declared.builds.Builds.{Builds};
+ghost use Rattle.settled_lists.specs.Lists.{IsAhead};
+ghost use Rattle.committer.specs.Outboxes.{all_of, with_due, with_posted};
 ghost use Rattle.committer.specs.Turns.{HoldsNoLater};
 ghost use Rattle.committer.specs.Ties.{IsTied};
 ghost use Rattle.committer.specs.Rounds.{TellsUpTo};
@@ -91,7 +93,7 @@ fn fill<D: Disk, W: Wait>(rt: &W, taker: &mut Taker, desk: &mut Desk<D>) -> usiz
 
 impl<D: Disk, R: Wait + Drop> Committer<D, R> {
     ghost use Rattle.committer.specs.CommitterWords.{store_of, held_of, taker_of, queue_of, got_of, empties_of, posts_of, newest_of, taken, asked, settled};
-    ghost use Rattle.committer.specs.Listed.{IsListedFrom, StaysListed};
+    ghost use Rattle.committer.specs.Listed.{IsListedFrom, KeepsWithEarlier, StaysListed};
     ghost use Rattle.committer.specs.Answers.{Takes, MayTakeFewer, StaysPut, asked_group, held_group, settled_group, HasCommitted, OwesMarks, KeepsGroup, IsWorn, LosesDevice, LeavesEither, StaysDown, StaysOwed, GoesOn, IsAtRest, FindsDue, HasRebuilt, LacksScheme, IsNotTaken, IsDueOrDropped};
 
     /// A committer of a desk, a queue and a board at their beginning.
@@ -113,7 +115,7 @@ impl<D: Disk, R: Wait + Drop> Committer<D, R> {
         ensures taker { taker_of result ≡ taker }
         ensures posts { posts_of result ≡ record { opening = writer.opening; posted = []; due = [] } }
         // From the store's state on nothing was taken or posted yet.
-        ensures listed { IsListedFrom (state_of (store_of result)) result }
+        ensures listed { (builds : Builds) → IsListedFrom builds (state_of (store_of result)) result }
     {
         let outbox = Outbox::new(writer);
         Committer {
@@ -337,6 +339,34 @@ impl<D: Disk, R: Wait + Drop> Committer<D, R> {
         // What was taken stays one list, where the scheme has the number too.
         ensures listed { (arc_value scheme).generation ≡ number → StaysListed self.old self.new }
     {
+        self.announce_earlier(number, scheme)
+    }
+
+    /// Offers a generation that was built beside the rounds: its scheme serves the graph that the store had when it had this count.
+    ///
+    /// It is refused as `Board` alone, as by [`Committer::announce`].
+    pub fn announce_earlier(
+        &mut self,
+        number: u64,
+        scheme: Arc<Scheme, Global>,
+    ) -> Result<u64, RebuildRefused>
+        requires nothing_due { (posts_of self.old).due ≡ [] }
+        requires up { is_down (store_of self.old) ≡ false }
+        requires reached { number ≤ (state_of (store_of self.old)).count }
+        requires ahead { IsAhead number (all_of (posts_of self.old)) }
+        requires serves { number ≡ (state_of (store_of self.old)).count
+            → Serves (state_of (store_of self.old)).graph (tables (arc_value scheme)) }
+        ensures number { IfOk result (λ n. n ≡ number) }
+        ensures posted { OnOk result
+            (posts_of self.new ≡ with_posted (posts_of self.old) (Built number (arc_value scheme))) }
+        ensures only_board { IsErr result → IsErrOf result RebuildRefused.Board }
+        ensures board { IsErrOf result RebuildRefused.Board
+            → IsDueOrDropped (Built number (arc_value scheme)) self.old self.new }
+
+        ensures stays { StaysPut self.old self.new }
+        // What was taken stays one list, where the scheme is that of a state which the list led to.
+        ensures listed { KeepsWithEarlier number (arc_value scheme) self.old self.new }
+    {
         match self.outbox.offer(Posting::Generation { number, scheme }) {
             Offered::Posted => {
                 self.newest = Some(number);
@@ -348,6 +378,28 @@ impl<D: Disk, R: Wait + Drop> Committer<D, R> {
             }
             Offered::Dropped => Err(RebuildRefused::Board),
         }
+    }
+
+    /// Posts marks of no request. So each of the board's copies has what was posted before, and the oldest generation that this pushed
+    /// out is let go.
+    ///
+    /// It is refused as `Board` alone, where the board doesn't take it: then it is due.
+    pub fn refresh(&mut self, alloc: Global) -> Result<(), RebuildRefused>
+        requires nothing_due { (posts_of self.old).due ≡ [] }
+        requires up { is_down (store_of self.old) ≡ false }
+        requires held { held_of self.old ≡ [] }
+        ensures posted { OnOk result (posts_of self.new ≡ with_posted (posts_of self.old) (Marked [])) }
+        ensures due { OnErr result (posts_of self.new ≡ with_due (posts_of self.old) (Marked [])) }
+        ensures only_board { IsErr result → IsErrOf result RebuildRefused.Board }
+
+        ensures stays { StaysPut self.old self.new }
+        ensures listed { StaysListed self.old self.new }
+    {
+        let none = Vec::new(alloc);
+        if self.outbox.tell(Posting::Marks(none)) {
+            return Ok(());
+        }
+        Err(RebuildRefused::Board)
     }
 }
 

@@ -6,7 +6,8 @@
 //! 64 requests from the queue, has the desk settle and commit them as one group, and posts one mark for each, only after the
 //! commit answered `Ok`. [`Committer::rebuild`] builds the routing scheme of the store's graph and posts it as a generation, under
 //! the store's count. To build it elsewhere, as in threads, ask [`Committer::generation_due`] for the number and hand the scheme
-//! to [`Committer::announce`]. `rebuild` is these two with a build between.
+//! to [`Committer::announce`]. `rebuild` is these two with a build between. A scheme that was built while rounds went on is handed to
+//! [`Committer::announce_earlier`], under the count that its graph had.
 //!
 //! A post may be refused. Then the posting waits in the outbox, at most one at a time; each later call tries it first, and takes
 //! nothing until it is posted. If a commit lacks memory or meets a limit, its group is kept, and a later round settles it before

@@ -1,8 +1,7 @@
 -- Lists that are cut off.
 use Rattle.std.proofs.Common.{◌≡◌, ◌∙◌, refl, sym, ap, ℕ, zero, suc, ◌+◌, ◌<◌, List, [], ◌∷◌, ◌++◌, append_assoc, append-nil, get_or, length, length-append, map, min, take, arith, ◌≤◌}
-use Rattle.std.specs.List.{range_with_len}
 use Rattle.std.proofs.lemmas.List.{length-take-le, take_more}
-use Rattle.std.proofs.lemmas.List.FromFn.{length-map-range_with_len, map-range_with_len_more}
+use Rattle.std.proofs.lemmas.List.FromFn.{length-map-range_with_len}
 use Rattle.device_stops.specs.declared.stops.Call.{Call}
 use Rattle.device_stops.specs.declared.stops.Stop.{Stop}
 use Rattle.device_stops.specs.Stops.{bytes_of, stop, stop_count, stops_at, stops_from}
@@ -12,15 +11,6 @@ pub cut_more : {X : Type 0} → (most : ℕ) (xs ys : List X) → take most (tak
 cut_more zero xs ys = refl
 cut_more (suc n) [] ys = refl
 cut_more (suc n) (x ∷ xs) ys = ap (λ l. x ∷ l) (cut_more n xs ys)
-
--- one stop of a call more
-pub one_put_more : (most number put : ℕ) (old so_far new : List Stop) → so_far ≡ take most (old ++ map (stop number) (range_with_len 0 put)) → new ≡ take most (so_far ++ stop number put ∷ [])
-    → new ≡ take most (old ++ map (stop number) (range_with_len 0 (put + 1)))
-one_put_more most number put old so_far new was is =
-    let here : List Stop = old ++ map (stop number) (range_with_len 0 put) in
-    is ∙ ap (λ l. take most (l ++ stop number put ∷ [])) was ∙ cut_more most here (stop number put ∷ [])
-    ∙ ap (λ l. take most l) (append_assoc old (map (stop number) (range_with_len 0 put)) (stop number put ∷ []))
-    ∙ ap (λ l. take most (old ++ l)) (sym (map-range_with_len_more (stop number) 0 put put (omega arith)))
 
 -- the stops of one call more
 stops_behind : (number : ℕ) (calls : List Call) (call : Call) → stops_from number (calls ++ call ∷ []) ≡ stops_from number calls ++ stops_at (number + length calls) call

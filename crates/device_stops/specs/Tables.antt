@@ -1,5 +1,5 @@
 -- Kinds of trials, and a table of them.
-use Rattle.std.specs.Prelude.{◌≡◌, ◌==◌, ◌&&◌, ℕ, suc, ◌+◌, ◌<◌, nat_lt, Bool, true, false, cond, List, [], ◌∷◌, ◌++◌, get_or, length, codes, decimal}
+use Rattle.std.specs.Prelude.{◌≡◌, ◌==◌, ◌&&◌, ℕ, nat_lt, Bool, true, cond, List, [], ◌∷◌, ◌++◌, length, codes, decimal}
 use Rattle.std.specs.List.{AllByRecursion, count_by, sum_by}
 use Rattle.device_stops.specs.declared.kinds.Kind.{Kind}
 use Rattle.device_stops.specs.declared.kinds.KindCount.{KindCount}
@@ -34,29 +34,9 @@ pub record IsTableOf (kinds : List Kind) (rows : List KindCount) : Type 0 where
   pub each : AllByRecursion (λ row. row.trials ≡ times row.kind kinds) rows
   pub all : all_trials rows ≡ length kinds
 
--- how many rows in front stand before a kind
-abbrev pub place_in : List KindCount → Kind → ℕ
-place_in [] kind = 0
-place_in (row ∷ rows) kind = cond (is_below row.kind kind) (suc (place_in rows kind)) 0
-
--- the row at this place counts this kind
-abbrev pub CountsAt : List KindCount → ℕ → Kind → Type 0
-CountsAt rows place kind = (place < length rows) × ((d : KindCount) → is_kind (get_or rows place d).kind kind ≡ true)
-
--- no row at this place counts this kind
-abbrev pub IsFree : List KindCount → ℕ → Kind → Type 0
-IsFree rows place kind = place < length rows → (d : KindCount) → is_kind (get_or rows place d).kind kind ≡ false
-
--- the row of one trial
-abbrev pub first_of : Kind → KindCount
-first_of kind = record { kind = kind; trials = 1 }
-
--- the rows with one trial of this kind more
-abbrev pub counted : List KindCount → Kind → List KindCount
-counted [] kind = first_of kind ∷ []
-counted (row ∷ rows) kind =
-    cond (is_below row.kind kind) (row ∷ counted rows kind)
-    (cond (is_kind row.kind kind) (record row { trials = row.trials + 1 } ∷ rows) (first_of kind ∷ (row ∷ rows)))
+-- the row of a kind
+abbrev pub row_of : List Kind → Kind → KindCount
+row_of kinds kind = record { kind = kind; trials = times kind kinds }
 
 -- a row as it is printed
 abbrev pub count_text : KindCount → List ℕ

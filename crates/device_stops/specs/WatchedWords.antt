@@ -12,7 +12,7 @@ disk_in watched = watched.disk
 
 -- the calls that were made of it since it was armed last, in their order
 abbrev pub calls_made : Watched → List Call
-calls_made watched = watched.notes.made.items
+calls_made watched = watched.made.items
 
 -- what is seen of it
 abbrev pub watched_view : Watched → DiskView

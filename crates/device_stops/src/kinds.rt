@@ -1,11 +1,11 @@
 //! What a trial came to.
 ghost use Rattle.std.specs.Prelude.{◌≡◌, Some};
-ghost use Rattle.device_stops.specs.Tables.{count_text, is_below, is_kind};
+ghost use Rattle.device_stops.specs.Tables.{count_text, is_kind};
 
 use std::fmt;
 
-/// What a trial came to: three numbers of changes.
-#[derive(Clone, Copy, Debug, PartialEq, Eq, Drop)]
+/// What a trial came to: three numbers of changes. Kinds are in order by the first in which they differ.
+#[derive(Clone, Copy, Debug, PartialEq, Eq, PartialOrd, Ord, Drop)]
 pub struct Kind {
     /// Those that the stopped life found when it opened.
     pub found: u64,
@@ -16,19 +16,6 @@ pub struct Kind {
 }
 
 impl Kind {
-    /// Whether this kind stands before the other one.
-    pub fn is_below(&self, other: &Kind) -> bool
-        ensures { result ≡ is_below self.now other.now }
-    {
-        if self.found != other.found {
-            return self.found < other.found;
-        }
-        if self.acknowledged != other.acknowledged {
-            return self.acknowledged < other.acknowledged;
-        }
-        self.opened < other.opened
-    }
-
     /// Whether this is the same kind.
     pub fn is_same(&self, other: &Kind) -> bool
         ensures { result ≡ is_kind self.now other.now }

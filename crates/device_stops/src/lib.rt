@@ -21,7 +21,6 @@
 #![tactic(auto)]
 
 mod kinds;
-mod notes;
 mod stops;
 mod tables;
 mod watched;

@@ -1,5 +1,5 @@
 //! The stops of calls.
-ghost use Rattle.std.specs.Prelude.{◌≡◌, ◌≤◌, ◌-◌, ◌^◌, ◌++◌, [], ◌∷◌, length, min, take, IfOk, OnOk};
+ghost use Rattle.std.specs.Prelude.{◌≡◌, ◌-◌, ◌^◌, ◌++◌, min, take, IfOk, OnOk};
 ghost use Rattle.device_stops.specs.Stops.{bytes_of, first_stops, stop_count, stops_at};
 
 use std::alloc::{AllocError, Global};
@@ -45,33 +45,17 @@ pub fn stops_of(alloc: Global, calls: &[Call], most: usize) -> Result<Vec<Stop>,
     Ok(stops)
 }
 
-// The stops of one call behind the others, as long as there are fewer than `most`.
+// The stops of one call behind the others, of all of them the first `most`.
 fn push_stops(stops: &mut Vec<Stop>, number: u64, call: Call, most: usize) -> Result<(), AllocError>
-    requires { length stops.old.items ≤ most }
-    ensures few { length stops.new.items ≤ most }
-    ensures more { OnOk result (stops.new.items ≡ take most (stops.old.items ++ stops_at number call)) }
+    ensures { OnOk result (stops.new.items ≡ take most (stops.old.items ++ stops_at number call)) }
 {
     let bytes = call.bytes();
-    for put in 0..bytes {
-        push_stop(stops, Stop { call: number, put }, most)?;
-    }
-    let whole = Stop {
+    stops.extend((0..bytes).map(|put| Stop { call: number, put }))?;
+    stops.push(Stop {
         call: number,
         put: bytes,
-    };
-    push_stop(stops, whole, most)?;
-    Ok(())
-}
-
-// One stop behind the others, if there are fewer than `most`.
-fn push_stop(stops: &mut Vec<Stop>, stop: Stop, most: usize) -> Result<(), AllocError>
-    requires { length stops.old.items ≤ most }
-    ensures few { length stops.new.items ≤ most }
-    ensures more { OnOk result (stops.new.items ≡ take most (stops.old.items ++ stop ∷ [])) }
-{
-    if stops.len() < most {
-        stops.push(stop)?;
-    }
+    })?;
+    stops.truncate(most);
     Ok(())
 }
 

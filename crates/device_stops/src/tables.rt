@@ -1,6 +1,6 @@
 //! The table of kinds.
-ghost use Rattle.std.specs.Prelude.{◌≡◌, ◌≤◌, ◌+◌, ◌<◌, ◌^◌, true, false, length, IfOk, OnOk};
-ghost use Rattle.device_stops.specs.Tables.{CountsAt, IsFree, IsTableOf, all_trials, counted, place_in};
+ghost use Rattle.std.specs.Prelude.{◌≡◌, IfOk, map};
+ghost use Rattle.device_stops.specs.Tables.{IsTableOf, row_of};
 
 use crate::kinds::{Kind, KindCount};
 use std::alloc::{AllocError, Global};
@@ -9,44 +9,27 @@ use std::alloc::{AllocError, Global};
 pub fn table_of(alloc: Global, kinds: &[Kind]) -> Result<Vec<KindCount>, AllocError>
     ensures { IfOk result (λ rows. IsTableOf kinds.now rows.items) }
 {
-    let mut rows = Vec::new(alloc);
-    for kind in kinds {
-        count(&mut rows, *kind)?;
-    }
+    let mut each = Vec::from_slice(alloc, kinds)?;
+    each.sort_unstable();
+    each.dedup();
+    let rows = rows_of(alloc, kinds, &each)?;
     Ok(rows)
 }
 
-// One trial of this kind more.
-fn count(rows: &mut Vec<KindCount>, kind: Kind) -> Result<(), AllocError>
-    requires { all_trials rows.old.items + 1 < 2 ^ 64 }
-    ensures { OnOk result (rows.new.items ≡ counted rows.old.items kind) }
+// The row of each of these, in their order.
+fn rows_of(alloc: Global, kinds: &[Kind], each: &[Kind]) -> Result<Vec<KindCount>, AllocError>
+    ensures { IfOk result (λ rows. rows.items ≡ map (row_of kinds.now) each.now) }
 {
-    let place = place_of(rows, &kind);
-    if counts_at(rows, place, &kind) {
-        rows[place].trials += 1;
-        return Ok(());
-    }
-    rows.insert(place, KindCount { kind, trials: 1 })?;
-    Ok(())
+    each.iter().map(|kind| row_of(kinds, *kind)).collect(alloc)
 }
 
-// How many of the rows in front stand before this kind.
-fn place_of(rows: &[KindCount], kind: &Kind) -> usize
-    ensures place { result ≡ place_in rows.now kind.now }
-    ensures within { result ≤ length rows.now }
+// How many trials came to this kind.
+fn row_of(kinds: &[Kind], kind: Kind) -> KindCount
+    ensures { result ≡ row_of kinds.now kind }
 {
-    for i in 0..rows.len() {
-        if !rows[i].kind.is_below(kind) {
-            return i;
-        }
+    let trials = kinds.iter().filter(|other| kind.is_same(other)).count();
+    KindCount {
+        kind,
+        trials: trials as u64,
     }
-    rows.len()
-}
-
-// Whether the row at this place counts this kind.
-fn counts_at(rows: &[KindCount], place: usize, kind: &Kind) -> bool
-    ensures there { result ≡ true → CountsAt rows.now place kind.now }
-    ensures free { result ≡ false → IsFree rows.now place kind.now }
-{
-    place < rows.len() && rows[place].kind.is_same(kind)
 }

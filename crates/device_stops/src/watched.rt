@@ -1,18 +1,22 @@
 //! A disk in memory whose calls are noted.
-ghost use Rattle.std.specs.Prelude.{◌≡◌, ◌≤◌, ◌+◌, ◌++◌, [], ◌∷◌, length, IfOk, OnOk, IsTrue};
+ghost use Rattle.std.specs.Prelude.{◌≡◌, ◌≤◌, ◌+◌, ◌++◌, [], ◌∷◌, false, length, IfOk, OnOk, IsTrue};
 ghost use Rattle.disk_trait.specs.Disk.{MayLeave, IsSameDevice, IsDeviceCall, IsSettled, Unchanged, overwritten, bytes_at};
 ghost use Rattle.device_stops.specs.declared.stops.Call.{Call};
 
-use crate::notes::Notes;
 use crate::stops::Call;
-use disk_trait::{CrashDisk, DeviceFault, Disk, MemDisk, Plan};
+use disk_trait::{CrashDisk, DeviceFault, Disk, Log, MemDisk, Plan};
 use std::alloc::{AllocError, Global};
 
 /// A disk in memory that notes its calls. What is noted begins anew where the disk is armed.
 #[derive(Drop)]
 pub struct Watched {
     disk: MemDisk,
-    notes: Notes,
+    // All calls, which contracts alone see.
+    made: Log<Call>,
+    calls: Vec<Call>,
+    // Whether a call wasn't noted for want of memory.
+    missed: bool,
+    ghost noted: { missed ≡ false → calls.items ≡ made.items },
 }
 
 impl Watched {
@@ -25,7 +29,20 @@ impl Watched {
     {
         Watched {
             disk,
-            notes: Notes::new(alloc),
+            made: Log::new(),
+            calls: Vec::new(alloc),
+            missed: false,
+        }
+    }
+
+    // One call more.
+    fn note(&mut self, call: Call)
+        ensures disk { disk_in self.new ≡ disk_in self.old }
+        ensures made { calls_made self.new ≡ calls_made self.old ++ call ∷ [] }
+    {
+        self.made = self.made.with_entry(&call);
+        if self.calls.push(call).is_err() {
+            self.missed = true;
         }
     }
 
@@ -33,7 +50,10 @@ impl Watched {
     pub fn into_calls(self) -> Result<Vec<Call>, AllocError>
         ensures { IfOk result (λ calls. calls.items ≡ calls_made self) }
     {
-        self.notes.into_calls()
+        if self.missed {
+            return Err(AllocError);
+        }
+        Ok(self.calls)
     }
 }
 
@@ -55,7 +75,7 @@ impl Disk for Watched {
             OnOk result (bytes.new ≡ bytes_at (watched_view self.old).content at (length bytes.old)) }
         ensures noted { calls_made self.new ≡ calls_made self.old ++ Call.Read ∷ [] }
     {
-        self.notes.add(Call::Read);
+        self.note(Call::Read);
         self.disk.read(at, bytes)
     }
 
@@ -66,7 +86,7 @@ impl Disk for Watched {
             OnOk result ((watched_view self.new).content ≡ overwritten (watched_view self.old).content at bytes.now) }
         ensures noted { calls_made self.new ≡ calls_made self.old ++ Call.Write (length bytes.now) ∷ [] }
     {
-        self.notes.add(Call::Write(bytes.len()));
+        self.note(Call::Write(bytes.len()));
         self.disk.write_at(at, bytes)
     }
 
@@ -76,7 +96,7 @@ impl Disk for Watched {
             OnOk result (IsSettled (watched_view self.new)) }
         ensures noted { calls_made self.new ≡ calls_made self.old ++ Call.Sync ∷ [] }
     {
-        self.notes.add(Call::Sync);
+        self.note(Call::Sync);
         self.disk.sync()
     }
 }
@@ -93,7 +113,9 @@ impl CrashDisk for Watched {
     {
         Watched {
             disk: self.disk.crash(word),
-            notes: self.notes,
+            made: self.made,
+            calls: self.calls,
+            missed: self.missed,
         }
     }
 
@@ -101,7 +123,9 @@ impl CrashDisk for Watched {
         ensures same { Unchanged (watched_view self.old) (watched_view self.new) }
         ensures anew { calls_made self.new ≡ [] }
     {
-        self.notes.clear();
+        self.made = Log::new();
+        self.calls.clear();
+        self.missed = false;
         self.disk.arm(plan);
     }
 }

@@ -1,8 +1,6 @@
 // What the tests of this crate share: each call is made again where memory was refused.
 ghost use Rattle.node_table.specs.Checks.{IsChecked};
 
-use checkpoint::Store;
-use disk_trait::MemDisk;
 use graph_edits::Graph;
 use node_table::Scheme;
 pub(crate) use sample_networks::{Edge, PAIRS, PATH};
@@ -31,25 +29,9 @@ pub(crate) fn same<T: Copy + PartialEq + Debug>(rt: &impl Abort, found: T, want:
     assert_eq!(rt; found, want, "{name}");
 }
 
-/// Sees that two texts are the same.
-pub(crate) fn same_text(rt: &impl Abort, found: &str, want: &str, name: &str) {
-    same(rt, found, want, name);
-}
-
-/// Sees that two numbers are the same.
-pub(crate) fn same_number(rt: &impl Abort, found: u64, want: u64, name: &str) {
-    same(rt, found, want, name);
-}
-
 /// The graph of a table.
 pub(crate) fn graph_of(rt: &impl Abort, alloc: Global, nodes: u16, edges: &[Edge]) -> Graph {
     got(rt, sample_networks::graph_of(alloc, nodes, edges))
-}
-
-/// The store of a new device for so many nodes.
-pub(crate) fn new_store(rt: &impl Abort, alloc: Global, nodes: u16) -> Store<MemDisk> {
-    let disk = got(rt, stand_ins::formatted(alloc, nodes));
-    got(rt, stand_ins::opened(alloc, disk))
 }
 
 /// The words that make landmarks of these nodes alone.

@@ -1,7 +1,6 @@
 // Schemes that were worked out by hand.
 use crate::helpers::{
-    Edge, PAIRS, PATH, SQUARE, STAR, got, graph_of, measured_at, same, same_number, scheme_at,
-    stretches_in,
+    Edge, PAIRS, PATH, SQUARE, STAR, got, graph_of, measured_at, same, scheme_at, stretches_in,
 };
 use graph_edits::Graph;
 use node_table::Scheme;
@@ -87,9 +86,9 @@ fn tables_of_worked_schemes(rt: HostRuntime) {
     for want in &WORKED {
         expect_tables(rt, alloc, want);
     }
-    same_number(rt, full_length(1), 0, "one node");
-    same_number(rt, full_length(5), 8, "five nodes");
-    same_number(rt, full_length(16_384), 32_766, "the most nodes");
+    same(rt, full_length(1), 0, "one node");
+    same(rt, full_length(5), 8, "five nodes");
+    same(rt, full_length(16_384), 32_766, "the most nodes");
 }
 
 fn along(length: u64, distance: u64) -> Measured {

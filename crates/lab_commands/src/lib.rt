@@ -5,6 +5,7 @@
 //! | `import DEVICE FILE [--nodes N] ..` | brings an edge list to a device, and its names beside it, by the proved call of `network_import` |
 //! | `export DEVICE [--as edges\|csv\|dot\|json] [--words W]` | prints the network of a device; in dot with its landmarks marked |
 //! | `info DEVICE [--json]` | prints what a device holds, in a few figures |
+//! | `journal DEVICE [--last N]` | prints the changes since the checkpoint of a device |
 //! | `stats DEVICE --words W ..` | builds a device's scheme, and prints how large its tables and how long its ways are |
 //! | `landmarks DEVICE ..` | chooses landmarks under which no table is large, and prints them as words |
 //! | `time DEVICE --words W [--runs R]` | times an opening, builds, searches, packets and commits |
@@ -23,7 +24,7 @@
 ghost use Rattle.std.specs.Prelude.{◌≤◌, IfErr};
 
 use clap::{ArgMatches, Command};
-use lab_figures::{info, stats, time};
+use lab_figures::{info, recent, stats, time};
 use lab_networks::{export, import};
 use lab_parts::told_memory;
 use lab_rehearsals::rehearse;
@@ -50,6 +51,7 @@ where
         Some(("import", found)) => import::run(rt, found, out, err),
         Some(("export", found)) => export::run(rt, found, out, err),
         Some(("info", found)) => info::run(rt, found, out, err),
+        Some(("journal", found)) => recent::run(rt, found, out, err),
         Some(("stats", found)) => stats::run(rt, found, out, err),
         Some(("landmarks", found)) => lab_landmarks::run(rt, found, out, err),
         Some(("time", found)) => time::run(rt, found, out, err),
@@ -67,6 +69,7 @@ fn grammar<'a>(alloc: Global) -> Result<Command<'a>, AllocError> {
     let whole = with_command(whole, import::grammar(alloc))?;
     let whole = with_command(whole, export::grammar(alloc))?;
     let whole = with_command(whole, info::grammar(alloc))?;
+    let whole = with_command(whole, recent::grammar(alloc))?;
     let whole = with_command(whole, stats::grammar(alloc))?;
     let whole = with_command(whole, lab_landmarks::grammar(alloc))?;
     let whole = with_command(whole, time::grammar(alloc))?;

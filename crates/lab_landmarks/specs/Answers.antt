@@ -1,8 +1,8 @@
 -- What the command prints.
-use Rattle.std.specs.Prelude.{◌≡◌, ℕ, Bool, true, false, Option, Some, None, List, [], ◌∷◌, ◌++◌, map}
-use Rattle.std.specs.Io.KnownBytes.{Appends}
+use Rattle.std.specs.Prelude.{◌≡◌, ◌-◌, ℕ, Bool, true, false, not, Option, Some, None, List, [], ◌∷◌, ◌++◌, codes, cond, decimal, map}
 use Rattle.std.specs.List.{flat_map}
 use Rattle.std.specs.String.{string_bytes}
+use Rattle.command_output.specs.Printing.{Known, PrintsText}
 use Rattle.graph_edits.specs.Edges.{Network}
 use Rattle.figure_lines.specs.Figures.{figure_line, said}
 use Rattle.landmark_choice.specs.Choices.{IsChoice, IsFourRoots}
@@ -11,6 +11,8 @@ use Rattle.lab_landmarks.specs.Lines.{choice_text}
 use Rattle.lab_landmarks.specs.Reports.{IsReport}
 use Rattle.lab_landmarks.specs.declared.choosing.Answer.{Answer}
 use Rattle.lab_landmarks.specs.declared.choosing.Wanted.{Wanted}
+use Rattle.lab_landmarks.specs.declared.chosen.Chosen.{Chosen}
+use Rattle.lab_landmarks.specs.declared.chosen.Chosen.TheVariants.{Kept, Over, Output, Memory}
 use Rattle.lab_landmarks.specs.declared.reports.Report.{Report}
 
 -- the limit that is named, or four times the square root of the nodes
@@ -36,20 +38,44 @@ figures_text report = flat_map figure_line (map said report.figures.items)
 abbrev pub printed_text : Wanted → List ℕ → Report → List ℕ
 printed_text wanted nodes report = (choice_text nodes ++ 10 ∷ []) ++ where_asked wanted.with_figures (figures_text report)
 
--- an answer has the text of a choice within limits, and its report
-pub record IsAnswer (m : Network) (generation : ℕ) (wanted : Wanted) (limits : Limits) (answer : Answer) : Type 0 where
-  pub nodes : List ℕ
-  pub choice : IsChoice m.nodes limits.most nodes
-  pub report : IsReport m generation wanted.seed nodes limits answer.report
-  pub text : string_bytes answer.text ≡ printed_text wanted nodes answer.report
+-- by how much the largest table is over the limit, where limits aren't kept
+abbrev pub excess_text : Limits → Report → List ℕ
+excess_text limits report = cond report.is_kept [] (codes "tzlab: the largest table has " ++ (decimal report.greatest ++ (codes " entries and members, "
+    ++ (decimal (report.greatest - limits.most_entries) ++ (codes " more than " ++ (decimal limits.most_entries ++ 10 ∷ []))))))
 
--- a choice that keeps the limits was printed with its report
-pub record IsAnswered (m : Network) (generation : ℕ) (wanted : Wanted) (old new : Option (List ℕ)) : Type 0 where
+-- what is told of a choice and its report: the figures where they aren't printed, and by how much it is over the limit
+abbrev pub told_text : Wanted → Limits → Report → List ℕ
+told_text wanted limits report = where_asked (not wanted.with_figures) (figures_text report) ++ excess_text limits report
+
+-- these texts are printed and told of a choice within limits, which keeps them or doesn't
+pub record IsSaid (m : Network) (generation : ℕ) (wanted : Wanted) (text told : List ℕ) (is_kept : Bool) : Type 0 where
   pub limits : Limits
   pub nodes : List ℕ
   pub report : Report
   pub are_limits : AreLimits wanted m.nodes limits
   pub choice : IsChoice m.nodes limits.most nodes
   pub is_report : IsReport m generation wanted.seed nodes limits report
-  pub kept : report.is_kept ≡ true
-  pub printed : Appends old new (printed_text wanted nodes report)
+  pub kept : report.is_kept ≡ is_kept
+  pub printed : text ≡ printed_text wanted nodes report
+  pub to_tell : told ≡ told_text wanted limits report
+
+-- an answer has these texts
+abbrev pub IsAnswer : Network → ℕ → Wanted → Answer → Type 0
+IsAnswer m generation wanted answer = IsSaid m generation wanted (string_bytes answer.text) (string_bytes answer.told) answer.is_kept
+
+-- the text of a choice was printed, and the other one is to be told of it
+abbrev pub IsAnswered : Network → ℕ → Wanted → Bool → List ℕ → {W : Type 0} → (W → Known) → W → W → Type 0
+IsAnswered m generation wanted is_kept told contents old new =
+    (text : List ℕ) × IsSaid m generation wanted text told is_kept × PrintsText contents old new text
+
+-- What became of a choice: it was printed and keeps the limits, or doesn't; or the output failed; or memory ran out, and nothing was printed.
+abbrev pub HasChosen : Network → ℕ → Wanted → {W : Type 0} → (W → Known) → W → W → Chosen → Type 0
+HasChosen m generation wanted contents old new (Kept told) = IsAnswered m generation wanted true (string_bytes told) contents old new
+HasChosen m generation wanted contents old new (Over told) = IsAnswered m generation wanted false (string_bytes told) contents old new
+HasChosen m generation wanted contents old new Output = Unit {0}
+HasChosen m generation wanted contents old new Memory = new ≡ old
+
+-- a choice keeps the limits and was printed
+abbrev pub IsKept : Chosen → Type 0
+IsKept (Kept told) = Unit {0}
+IsKept other = ⊥

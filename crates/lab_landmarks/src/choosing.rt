@@ -1,16 +1,15 @@
 // Landmarks that are chosen for a network, and printed.
-ghost use Rattle.std.specs.Prelude.{◌≡◌, ◌≤◌, ◌++◌, IfOk, OnOk, true};
-ghost use Rattle.std.specs.Io.KnownBytes.{Appends};
+ghost use Rattle.std.specs.Prelude.{◌≡◌, ◌++◌, IfOk, OnOk, not};
 ghost use Rattle.landmark_choice.specs.Choices.{IsChoice};
 ghost use Rattle.std.specs.String.{string_bytes};
-ghost use Rattle.lab_landmarks.specs.Answers.{AreLimits, IsAnswer, IsAnswered, where_asked};
+ghost use Rattle.lab_landmarks.specs.Answers.{AreLimits, HasChosen, IsAnswer, excess_text, where_asked};
 
+use crate::chosen::Chosen;
 use crate::lines::line_of;
 use crate::reports::{Asked, Report, report_of};
-use crate::telling::{told, told_memory};
-use command_output::print_text;
 use figure_lines::figures_text;
 use graph_edits::Graph;
+use lab_parts::print;
 use landmark_choice::{Balls, Choice, Limits, Start, choose_best, choose_from, default_limit};
 use scheme_builds::workers_here;
 use std::alloc::AllocError;
@@ -33,16 +32,16 @@ pub struct Wanted {
     pub with_progress: bool,
 }
 
-/// What is printed of a choice, what is told of it, and its report.
+/// What is printed of a choice, what is told of it, and whether it keeps the limits.
 #[derive(Drop)]
 struct Answer {
     text: String,
     told: String,
-    report: Report,
+    is_kept: bool,
 }
 
-/// Chooses landmarks for a network of this generation and prints them, and answers the exit status: 0 where they keep the limits and all
-/// of it was printed, else 1.
+/// Chooses landmarks for a network of this generation and prints them. What is to be told of them is answered; on `err` it is only told what
+/// is being done.
 pub fn print_choice<R, O, E>(
     rt: &R,
     graph: &Graph,
@@ -50,20 +49,25 @@ pub fn print_choice<R, O, E>(
     wanted: Wanted,
     out: &mut O,
     err: &mut E,
-) -> u8
+) -> Chosen
 where
     R: AllocGlobal + Threads + Wait + Sync,
     O: Write,
     E: Write,
-    ensures status { result ≤ 1 }
-    ensures zero { result ≡ 0 → IsAnswered graph.now generation wanted (O.contents out.old) (O.contents out.new) }
+    ensures { HasChosen graph.now generation wanted O.contents out.old out.new result }
 {
-    let limits = limits_of(wanted, graph.nodes());
-    let answer = answer_of(rt, graph, generation, wanted, limits, err);
+    let answer = answer_of(rt, graph, generation, wanted, err);
     progress(err, wanted, "");
-    match answer {
-        Ok(answer) => print_answer(&answer, limits, out, err),
-        Err(_) => told_memory(err),
+    let Ok(answer) = answer else {
+        return Chosen::Memory;
+    };
+    if let Err(_) = print(out, answer.text.as_bytes()) {
+        return Chosen::Output;
+    }
+    if answer.is_kept {
+        Chosen::Kept(answer.told)
+    } else {
+        Chosen::Over(answer.told)
     }
 }
 
@@ -81,14 +85,14 @@ fn answer_of<R, E>(
     graph: &Graph,
     generation: u64,
     wanted: Wanted,
-    limits: Limits,
     err: &mut E,
 ) -> Result<Answer, AllocError>
 where
     R: AllocGlobal + Threads + Wait + Sync,
     E: Write,
-    ensures { IfOk result (λ answer. IsAnswer graph.now generation wanted limits answer) }
+    ensures { IfOk result (IsAnswer graph.now generation wanted) }
 {
+    let limits = limits_of(wanted, graph.nodes());
     let workers = workers_here(rt, graph.nodes());
     let choice = chosen(rt, graph, wanted, limits, workers, err)?;
     progress(err, wanted, "building the tables");
@@ -100,17 +104,23 @@ where
     let report = report_of(rt, rt.alloc(), graph, generation, &asked, workers)?;
     let mut text = line_of(rt.alloc(), &choice.nodes)?;
     let figures = figures_text(rt.alloc(), &report.figures)?;
-    let told = put_figures(&mut text, figures, wanted.with_figures)?;
-    Ok(Answer { text, told, report })
+    let mut told = put_figures(&mut text, figures, wanted.with_figures)?;
+    push_excess(&mut told, &report, limits)?;
+    Ok(Answer {
+        text,
+        told,
+        is_kept: report.is_kept,
+    })
 }
 
-// Puts figures behind a text where they are to stand there. What is left of them is answered.
+// Puts figures behind a text where they are to stand there; else they are answered, to be told.
 fn put_figures(
     text: &mut String,
     mut figures: String,
     with_figures: bool,
 ) -> Result<String, AllocError>
-    ensures { OnOk result (string_bytes text.new ≡ string_bytes text.old ++ where_asked with_figures (string_bytes figures)) }
+    ensures text { OnOk result (string_bytes text.new ≡ string_bytes text.old ++ where_asked with_figures (string_bytes figures)) }
+    ensures told { IfOk result (λ told. string_bytes told ≡ where_asked (not with_figures) (string_bytes figures)) }
 {
     if with_figures {
         text.push_str(figures.as_str())?;
@@ -151,28 +161,17 @@ fn progress<E: Write>(err: &mut E, wanted: Wanted, what: &str) {
     }
 }
 
-fn print_answer<O: Write, E: Write>(answer: &Answer, limits: Limits, out: &mut O, err: &mut E) -> u8
-    ensures status { result ≤ 1 }
-    ensures kept { result ≡ 0 → answer.now.report.is_kept ≡ true }
-    ensures printed { result ≡ 0 → Appends (O.contents out.old) (O.contents out.new) (string_bytes answer.now.text) }
+// Says by how much the largest table is over the limit, where the limits aren't kept.
+fn push_excess(told: &mut String, report: &Report, limits: Limits) -> Result<(), AllocError>
+    ensures { OnOk result (string_bytes told.new ≡ string_bytes told.old ++ excess_text limits report.now) }
 {
-    if let Err(_) = print_text(out, answer.text.as_str()) {
-        return told(err, 1, "output failed");
-    }
-    let figures = answer.told.as_str();
-    let _told = write!(err, "{figures}");
-    tell_excess(err, &answer.report, limits);
-    if answer.report.is_kept { 0 } else { 1 }
-}
-
-// Tells by how much the largest table is over the limit.
-fn tell_excess<E: Write>(err: &mut E, report: &Report, limits: Limits) {
-    let (greatest, most) = (report.greatest, limits.most_entries as u64);
-    let excess = greatest.saturating_sub(most);
-    if excess > 0 {
-        let _told = writeln!(
-            err,
+    if !report.is_kept {
+        let (greatest, most) = (report.greatest, limits.most_entries as u64);
+        let excess = greatest.saturating_sub(most);
+        writeln!(
+            told,
             "tzlab: the largest table has {greatest} entries and members, {excess} more than {most}"
-        );
+        )?;
     }
+    Ok(())
 }

@@ -2,9 +2,10 @@
 ghost use Rattle.std.specs.Prelude.{◌≤◌};
 
 use crate::choosing::{Wanted, print_choice};
-use crate::telling::{told, told_memory, told_of};
-use clap::ArgMatches;
+use crate::chosen::Chosen;
+use clap::{ArgMatches, Command};
 use device_files::DeviceFile;
+use lab_parts::{PrintRefused, command, device, flag, told, told_memory, told_of, value};
 use landmark_choice::Start;
 use layout_2::load;
 use std::alloc::{AllocError, Global};
@@ -14,6 +15,42 @@ use std::rt::Files;
 use std::sync::Wait;
 use std::thread::Threads;
 use written_values::number;
+
+/// Its grammar.
+pub fn grammar<'a>(alloc: Global) -> Result<Command<'a>, AllocError> {
+    command(
+        alloc,
+        "landmarks",
+        "Chooses landmarks under which no node's table is large, and prints them for --words",
+        &[
+            device(),
+            value(
+                "seed",
+                "S",
+                "The seed of draw, with which the choice is compared, 0 where none is named",
+            ),
+            value(
+                "start",
+                "START",
+                "With which landmarks it begins: none, draw, degree or best, the best of these, as without it",
+            ),
+            value(
+                "most-entries",
+                "M",
+                "How many entries and members a table may have, else four times the square root of the nodes",
+            ),
+            value(
+                "most",
+                "N",
+                "How many landmarks there may be, else four times the square root of the nodes",
+            ),
+            flag(
+                "figures",
+                "Prints the figures behind the landmarks, and not on standard error",
+            ),
+        ],
+    )
+}
 
 /// Chooses landmarks for the device that these matches name, prints them on `out`, and answers the exit status. What went wrong is told on
 /// `err`; where that is a terminal, it also says what is being done.
@@ -37,8 +74,27 @@ where
         Err(refused) => return told_of(err, device, refused),
     };
     match load(rt.alloc(), &mut file) {
-        Ok(loaded) => print_choice(rt, &loaded.graph, loaded.count, wanted, out, err),
+        Ok(loaded) => {
+            let chosen = print_choice(rt, &loaded.graph, loaded.count, wanted, out, err);
+            tell(&chosen, err);
+            chosen.status()
+        }
         Err(refused) => told_of(err, device, refused),
+    }
+}
+
+// Tells what became of a choice.
+fn tell<E: Write>(chosen: &Chosen, err: &mut E) {
+    match chosen {
+        Chosen::Kept(text) | Chosen::Over(text) => {
+            let _told = write!(err, "{text}");
+        }
+        Chosen::Output => {
+            let _status = told(err, 1, PrintRefused::Output);
+        }
+        Chosen::Memory => {
+            let _status = told_memory(err);
+        }
     }
 }
 

@@ -12,7 +12,7 @@ use Rattle.line_exchange.specs.Inputs.{Input, Bytes, Script}
 use Rattle.line_exchange.specs.Scripts.{line_asked}
 use Rattle.line_exchange.specs.Streams.{IsAskedAt, IsAskedBy}
 use Rattle.line_exchange.specs.Prints.{AreAllLines}
-use Rattle.line_exchange.specs.Reads.{AreGivenOf, AreReadOf}
+use Rattle.line_exchange.specs.Reads.{AreGivenOf, AreOfInput, AreReadOf}
 
 -- ---- an input
 
@@ -46,6 +46,11 @@ pub read_whole : (input : Input) (k : ℕ) (old : Option (List ℕ)) (next : Nex
 read_whole (Bytes None) k old next line are is end = tt
 read_whole (Bytes (Some xs)) k old next line are is end = subst (λ (n : NextLine). IsLineAt xs k n line) end (next_read xs k old are next line is)
 read_whole (Script script) k old next line are is end = absurd are
+
+-- a read may fail
+pub read_may_fail : (input : Input) (k : ℕ) (left : Option (List ℕ)) → AreReadOf input k left → AreOfInput input
+read_may_fail (Bytes bytes) k left are = tt
+read_may_fail (Script script) k left are = absurd are
 
 -- ---- a script
 

@@ -10,7 +10,9 @@ use Rattle.std.proofs.Math.Seq.{take-length}
 use Rattle.std.proofs.lemmas.Grind.{flat_map-append}
 use mathlib.Core.Logic.{∥∥₁_map}
 use Rattle.command_output.specs.Lines.{line}
-use Rattle.generations.specs.Beginnings.{Beginning, GoesOn}
+use Rattle.line_exchange.specs.Begun.{Begins, PrintsUnless}
+use Rattle.line_exchange.specs.declared.answer_writer.AnswerWriter.{Ghosts}
+use Rattle.generations.specs.Beginnings.{Beginning, GoesOn, Opening}
 use Rattle.generations.proofs.Sharing.{goes_trans}
 use Rattle.live_lines.specs.declared.asked.Asked.{Asked}
 use Rattle.live_lines.specs.declared.answer.Answer.{Answer}
@@ -18,12 +20,16 @@ use Rattle.live_lines.specs.declared.answer.Answer.TheVariants.{Gone, Settled, W
 use Rattle.live_lines.specs.Answers.{answer_text, script_text}
 use Rattle.line_exchange.specs.Inputs.{Input}
 use Rattle.line_exchange.specs.OneList.{AreGone, AreSaid, IsOffAt, IsSaidAt, IsSaidBy}
-use Rattle.line_exchange.specs.Prints.{HasPrinted, HasPrintedBy, lines_of}
+use Rattle.line_exchange.specs.Prints.{HasPrinted, HasPrintedBy, PrintsSo, lines_of}
+use Rattle.line_exchange.specs.declared.printed.PrintEnd.{PrintEnd}
+use Rattle.line_exchange.specs.declared.printed.PrintEnd.TheVariants.{Output}
 use Rattle.line_exchange.specs.Gathers.{HasText}
 use Rattle.line_exchange.proofs.Answering.{fit}
-use Rattle.line_exchange.specs.Tallies.{Adds, AreAwaited, AreInTurn, AreReached, IsInTurn, IsReached, TellsCount, no_tickets, told_by, told_in}
+use Rattle.line_exchange.specs.Tallies.{Adds, AreAwaited, AreDropped, AreInTurn, AreReached, IsDropped, IsInTurn, IsReached, TellsCount, accepted_by, accepted_in, no_tickets, told_by, told_in}
 use Rattle.line_exchange.specs.declared.tally.Tally.{Tally}
-use Rattle.line_exchange.proofs.PrintedLines.{appends_more, appends_none, appends_still, get_snoc, get_within}
+use Rattle.line_exchange.specs.PutLines.{no_puts}
+use Rattle.line_exchange.proofs.NotedLines.{more_noted, none_noted}
+use Rattle.line_exchange.proofs.PrintedLines.{appends_more, appends_none, appends_still, begins_all, begins_more, get_snoc, get_within}
 
 -- ---- knowing more
 
@@ -75,6 +81,26 @@ more_in_turn old new answers answer are is =
 pub in_turn_more : (old new : List ℕ) (mark : Mark) → length old ≡ sessions → mark.session < length old → last_of old mark.session < mark.ticket → new ≡ set old mark.session mark.ticket → IsInTurn old (Settled mark) new
 in_turn_more old new mark wide within less is = record { rises = (subst (λ (n : ℕ). mark.session < n) wide within, less, tt); last = is }
 
+-- the last tickets that were accepted, with an answer more
+more_accepted : (starts old new : List ℕ) (answers : List Answer) (answer : Answer) → old ≡ tickets_after starts (accepted_in answers) → new ≡ tickets_after old (accepted_by answer) → new ≡ tickets_after starts (accepted_in (answers ++ answer ∷ []))
+more_accepted starts old new answers answer was is =
+    let all : accepted_in (answers ++ answer ∷ []) ≡ accepted_in answers ++ accepted_by answer = flat_map-append accepted_by answers (answer ∷ []) ∙ ap (λ (l : List (ℕ × ℕ)). accepted_in answers ++ l) (append-nil (accepted_by answer)) in
+    is ∙ (ap (λ (ts : List ℕ). tickets_after ts (accepted_by answer)) was ∙ (sym (after_append starts (accepted_in answers) (accepted_by answer)) ∙ ap (tickets_after starts) (sym all)))
+
+-- what an edit is told that put nothing
+more_dropped : (starts accepted told : List ℕ) (answers : List Answer) (answer : Answer) → AreDropped starts answers → accepted ≡ tickets_after starts (accepted_in answers) → told ≡ tickets_after no_tickets (told_in answers)
+    → IsDropped accepted told answer → AreDropped starts (answers ++ answer ∷ [])
+more_dropped starts accepted told answers answer are was last is k other at =
+    ⊎_elim (λ there. subst (λ (before : List Answer). IsDropped (tickets_after starts (accepted_in before)) (tickets_after no_tickets (told_in before)) other)
+    (sym (take-append-le k answers (answer ∷ []) (let within = get_within answers k other there in omega (arith, within)))) (are k other there))
+    (λ end. subst (λ (before : List Answer). IsDropped (tickets_after starts (accepted_in before)) (tickets_after no_tickets (told_in before)) other) (sym (all_before k end.0))
+    (subst (λ (a : Answer). IsDropped (tickets_after starts (accepted_in answers)) (tickets_after no_tickets (told_in answers)) a) end.1
+    (subst (λ (ts : List ℕ). IsDropped (tickets_after starts (accepted_in answers)) ts answer) last (subst (λ (ts : List ℕ). IsDropped ts told answer) was is))))
+    (get_snoc answers answer k other at)
+  where
+    all_before : (n : ℕ) → n ≡ length answers → take n (answers ++ answer ∷ []) ≡ answers
+    all_before n same = ap (λ (m : ℕ). take m (answers ++ answer ∷ [])) same ∙ (take-append-le (length answers) answers (answer ∷ []) (omega arith) ∙ take-length answers)
+
 -- ---- generations that are gone
 
 -- answers by what is known are answers by more
@@ -107,8 +133,8 @@ more_gone known seen later input editors answers answer are said on covers knows
 -- ---- what is printed
 
 -- at first nothing is
-pub none_printed_by : (text : Answer → List ℕ) (tally : Tally) (input : Input) (editors : ℕ) (old : Option (List ℕ)) → tally.count ≡ 0 → tally.tickets ≡ no_tickets → HasPrintedBy text tally input editors old old
-none_printed_by text tally input editors old none untold = record {
+pub none_printed_by : (text : Answer → List ℕ) (tally : Tally) (input : Input) (editors : ℕ) (old : Option (List ℕ)) → tally.count ≡ 0 → tally.tickets ≡ no_tickets → tally.puts ≡ no_puts → tally.accepted ≡ tally.known.opening.starts → HasPrintedBy text tally input editors (Appends old old)
+none_printed_by text tally input editors old none untold unput starts = record {
   answers = [];
   many = sym none;
   said = none_said tally.known input editors;
@@ -116,20 +142,29 @@ none_printed_by text tally input editors old none untold = record {
   awaited = λ before k count generation earlier less at tells waits. absurd (cc);
   reached = λ k count answer at tells. absurd (cc);
   in_turn = record { rises = tt; last = untold };
+  noted = none_noted tally.puts tally.lines.lines unput;
+  dropped = λ k answer at. absurd (cc);
+  accepted = starts;
   printed = appends_none old;
 }
 
--- a flush prints nothing
-pub still_printed_by : (text : Answer → List ℕ) (tally : Tally) (input : Input) (editors : ℕ) (old mid new : Option (List ℕ)) → HasPrintedBy text tally input editors old mid → Keeps mid new
-    → HasPrintedBy text tally input editors old new
-still_printed_by text tally input editors old mid new has kept =
-    record { answers = has.answers; many = has.many; said = has.said; gone = has.gone; awaited = has.awaited; reached = has.reached; in_turn = has.in_turn; printed = appends_still old mid new (lines_of text has.answers) has.printed kept }
+-- the same answers, of whose lines another thing holds
+pub printed_as : (text : Answer → List ℕ) (tally : Tally) (input : Input) (editors : ℕ) (P Q : List ℕ → Type 0) → HasPrintedBy text tally input editors P → ((lines : List ℕ) → P lines → Q lines)
+    → HasPrintedBy text tally input editors Q
+printed_as text tally input editors P Q has so =
+    record { answers = has.answers; many = has.many; said = has.said; gone = has.gone; awaited = has.awaited; reached = has.reached; in_turn = has.in_turn; noted = has.noted; dropped = has.dropped; accepted = has.accepted; printed = so (lines_of text has.answers) has.printed }
 
--- the answer to the next line is printed
-pub one_printed_by : (text : Answer → List ℕ) (tally more : Tally) (seen : Beginning) (input : Input) (editors : ℕ) (old mid new : Option (List ℕ)) (answer : Answer) → HasPrintedBy text tally input editors old mid
-    → Adds tally seen answer more → ∥ IsSaidAt seen input editors tally.count answer ∥₁ → (answer ≡ Gone → ∥ IsOffAt seen input editors tally.count ∥₁) → Appends mid new (line (text answer))
-    → HasPrintedBy text more input editors old new
-one_printed_by text tally more seen input editors old mid new answer has adds is off printed =
+-- a flush prints nothing
+pub still_printed_by : (text : Answer → List ℕ) (tally : Tally) (input : Input) (editors : ℕ) (old mid new : Option (List ℕ)) → HasPrintedBy text tally input editors (Appends old mid) → Keeps mid new
+    → HasPrintedBy text tally input editors (Appends old new)
+still_printed_by text tally input editors old mid new has kept =
+    printed_as text tally input editors (Appends old mid) (Appends old new) has (λ lines was. appends_still old mid new lines was kept)
+
+-- an answer more: of its line behind those of the others something holds
+one_more_by : (text : Answer → List ℕ) (tally more : Tally) (seen : Beginning) (input : Input) (editors : ℕ) (P Q : List ℕ → Type 0) (answer : Answer) → HasPrintedBy text tally input editors P
+    → Adds tally seen answer more → ∥ IsSaidAt seen input editors tally.count answer ∥₁ → (answer ≡ Gone → ∥ IsOffAt seen input editors tally.count ∥₁) → ((lines : List ℕ) → P lines → Q (lines ++ line (text answer)))
+    → HasPrintedBy text more input editors Q
+one_more_by text tally more seen input editors P Q answer has adds is off so =
     let texts : lines_of text (has.answers ++ answer ∷ []) ≡ lines_of text has.answers ++ line (text answer) =
     flat_map-append (λ (a : Answer). line (text a)) has.answers (answer ∷ []) ∙ ap (λ (l : List ℕ). lines_of text has.answers ++ l) (append-nil (line (text answer))) in
     record {
@@ -140,12 +175,46 @@ one_printed_by text tally more seen input editors old mid new answer has adds is
       awaited = more_awaited tally.reached more.reached has.answers answer has.awaited has.reached adds.reached;
       reached = more_reached tally.reached more.reached has.answers answer has.reached adds.reached;
       in_turn = more_in_turn tally.tickets more.tickets has.answers answer has.in_turn adds.in_turn;
-      printed = subst (λ (l : List ℕ). Appends old new l) (sym texts) (appends_more old mid new (lines_of text has.answers) (line (text answer)) has.printed printed);
+      noted = more_noted tally.puts more.puts tally.lines more.lines tally.count has.answers answer has.noted has.many adds.noted;
+      dropped = subst (λ (o : Opening). AreDropped o.starts (has.answers ++ answer ∷ [])) (sym adds.on.0)
+          (more_dropped tally.known.opening.starts tally.accepted tally.tickets has.answers answer has.dropped has.accepted has.in_turn.last adds.dropped);
+      accepted = subst (λ (o : Opening). more.accepted ≡ tickets_after o.starts (accepted_in (has.answers ++ answer ∷ []))) (sym adds.on.0)
+          (more_accepted tally.known.opening.starts tally.accepted more.accepted has.answers answer has.accepted adds.accepted);
+      printed = subst Q (sym texts) (so (lines_of text has.answers) has.printed);
+    }
+
+-- the answer to the next line is printed
+pub one_printed_by : (text : Answer → List ℕ) (tally more : Tally) (seen : Beginning) (input : Input) (editors : ℕ) (old mid new : Option (List ℕ)) (answer : Answer) → HasPrintedBy text tally input editors (Appends old mid)
+    → Adds tally seen answer more → ∥ IsSaidAt seen input editors tally.count answer ∥₁ → (answer ≡ Gone → ∥ IsOffAt seen input editors tally.count ∥₁) → Appends mid new (line (text answer))
+    → HasPrintedBy text more input editors (Appends old new)
+one_printed_by text tally more seen input editors old mid new answer has adds is off printed =
+    one_more_by text tally more seen input editors (Appends old mid) (Appends old new) answer has adds is off (λ lines was. appends_more old mid new lines (line (text answer)) was printed)
+
+-- the printing ended where all of them are printed
+pub ends_whole : {W : Type 0} (outlet : Ghosts W) (tally : Tally) (end : PrintEnd) (input : Input) (editors : ℕ) (old mid new : W) → HasPrintedBy answer_text tally input editors (Appends (outlet.contents old) (outlet.contents mid))
+    → Keeps (outlet.contents mid) (outlet.contents new) → (end ≡ Output → outlet.has_failed new) → PrintsSo outlet input editors old new (record { tally = tally; end = end })
+ends_whole outlet tally end input editors old mid new has kept failed = record {
+  lines = printed_as answer_text tally input editors (Appends (outlet.contents old) (outlet.contents mid)) (PrintsUnless (end ≡ Output) (outlet.contents old) (outlet.contents new)) has
+      (λ lines was. let all = appends_still (outlet.contents old) (outlet.contents mid) (outlet.contents new) lines was kept in (begins_all (outlet.contents old) (outlet.contents new) lines all, λ other. all));
+  failed = failed;
+}
+
+-- .. or where a write of the next one's line failed
+pub ends_broken : {W : Type 0} (outlet : Ghosts W) (tally more : Tally) (seen : Beginning) (input : Input) (editors : ℕ) (old mid new : W) (answer : Answer)
+    → HasPrintedBy answer_text tally input editors (Appends (outlet.contents old) (outlet.contents mid))
+    → Adds tally seen answer more → ∥ IsSaidAt seen input editors tally.count answer ∥₁ → (answer ≡ Gone → ∥ IsOffAt seen input editors tally.count ∥₁) → Begins (outlet.contents mid) (outlet.contents new) (line (answer_text answer))
+    → outlet.has_failed new → PrintsSo outlet input editors old new (record { tally = more; end = Output })
+ends_broken outlet tally more seen input editors old mid new answer has adds is off begun failed =
+    let failing = PrintsUnless (Output ≡ Output) (outlet.contents old) (outlet.contents new) in
+    record {
+      lines = one_more_by answer_text tally more seen input editors (Appends (outlet.contents old) (outlet.contents mid)) failing answer has adds is off
+          (λ lines was. (begins_more (outlet.contents old) (outlet.contents mid) (outlet.contents new) lines (line (answer_text answer)) was begun, λ other. absurd (other refl)));
+      failed = λ same. failed;
     }
 
 -- these are answers to the lines, whatever is known
-pub printed_of : (tally : Tally) (input : Input) (editors : ℕ) (old new : Option (List ℕ)) → HasPrintedBy answer_text tally input editors old new → HasPrinted input editors old new tally.count
-printed_of tally input editors old new has = record {
+pub printed_of : (tally : Tally) (input : Input) (editors : ℕ) (Stands : List ℕ → Type 0) → HasPrintedBy answer_text tally input editors Stands → HasPrinted input editors Stands tally.count
+printed_of tally input editors Stands has = record {
   answers = has.answers;
   many = has.many;
   are = λ k answer at. ∥∥₁_map (has.said k answer at) (λ x. fit input editors k x.asked answer x.fits x.by);
@@ -154,8 +223,8 @@ printed_of tally input editors old new has = record {
 
 -- ---- what is gathered
 
-pub none_gathered : (tally : Tally) (input : Input) (editors : ℕ) (text : List ℕ) → tally.count ≡ 0 → tally.tickets ≡ no_tickets → text ≡ [] → HasText tally input editors text
-none_gathered tally input editors text first untold none = subst (λ (t : List ℕ). HasText tally input editors t) (sym none) (none_printed_by script_text tally input editors (Some []) first untold)
+pub none_gathered : (tally : Tally) (input : Input) (editors : ℕ) (text : List ℕ) → tally.count ≡ 0 → tally.tickets ≡ no_tickets → tally.puts ≡ no_puts → tally.accepted ≡ tally.known.opening.starts → text ≡ [] → HasText tally input editors text
+none_gathered tally input editors text first untold unput starts none = subst (λ (t : List ℕ). HasText tally input editors t) (sym none) (none_printed_by script_text tally input editors (Some []) first untold unput starts)
 
 pub one_gathered : (tally more : Tally) (seen : Beginning) (input : Input) (editors : ℕ) (answer : Answer) (old new : List ℕ) → HasText tally input editors old → Adds tally seen answer more
     → ∥ IsSaidAt seen input editors tally.count answer ∥₁ → (answer ≡ Gone → ∥ IsOffAt seen input editors tally.count ∥₁) → new ≡ old ++ line (script_text answer) → HasText more input editors new

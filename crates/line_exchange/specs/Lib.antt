@@ -2,7 +2,9 @@ pub mod Inputs
 pub mod Scripts
 pub mod Streams
 pub mod OneList
+pub mod PutLines
 pub mod Tallies
+pub mod Begun
 pub mod Prints
 pub mod Gathers
 pub mod Reads

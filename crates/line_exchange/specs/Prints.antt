@@ -1,15 +1,18 @@
 -- What a live service prints.
-use Rattle.std.specs.Prelude.{◌≡◌, ◌≢◌, ℕ, List, Option, IfSome, length}
+use Rattle.std.specs.Prelude.{◌≡◌, ℕ, List, IfSome, length}
 use Rattle.std.specs.List.{flat_map}
-use Rattle.std.specs.Io.KnownBytes.{Appends}
 use Rattle.command_output.specs.Lines.{line}
+use Rattle.line_exchange.specs.Begun.{PrintsUnless}
+use Rattle.line_exchange.specs.declared.answer_writer.AnswerWriter.{Ghosts}
 use Rattle.input_lines.specs.Lines.{lines_in}
+use Rattle.requests.specs.Tickets.{tickets_after}
 use Rattle.live_lines.specs.declared.answer.Answer.{Answer}
 use Rattle.live_lines.specs.Answers.{answer_text}
 use Rattle.line_exchange.specs.Inputs.{Input, Bytes, Script}
 use Rattle.line_exchange.specs.Streams.{AreEachAt, IsAnswerAt}
 use Rattle.line_exchange.specs.OneList.{AreGone, AreSaid}
-use Rattle.line_exchange.specs.Tallies.{AreAwaited, AreInTurn, AreReached}
+use Rattle.line_exchange.specs.PutLines.{AreNotedFirst}
+use Rattle.line_exchange.specs.Tallies.{AreAwaited, AreDropped, AreInTurn, AreReached, accepted_in}
 use Rattle.line_exchange.specs.declared.tally.Tally.{Tally}
 use Rattle.line_exchange.specs.declared.printed.Printed.{Printed}
 use Rattle.line_exchange.specs.declared.printed.PrintEnd.TheVariants.{Output}
@@ -25,16 +28,16 @@ answers_text answers = lines_of answer_text answers
 abbrev pub AreAnswers : Input → ℕ → List Answer → Type 0
 AreAnswers input editors answers = AreEachAt (IsAnswerAt input editors) answers
 
--- So many answers were printed, a line each, and nothing else: the k-th is to the k-th line.
-pub record HasPrinted (input : Input) (editors : ℕ) (old new : Option (List ℕ)) (count : ℕ) : Type 0 where
+-- Of so many answers this holds of their lines: the k-th answer is to the k-th line.
+pub record HasPrinted (input : Input) (editors : ℕ) (Stands : List ℕ → Type 0) (count : ℕ) : Type 0 where
   pub answers : List Answer
   pub many : length answers ≡ count
   pub are : AreAnswers input editors answers
-  pub printed : Appends old new (answers_text answers)
+  pub printed : Stands (answers_text answers)
 
--- As many answers as the tally has were printed, a line of this text each, and nothing else: the k-th is to the k-th line, and each list
+-- Of as many answers as the tally has this holds of their lines, of this text each: the k-th answer is to the k-th line, and each list
 -- that goes on from what the tally knows says it.
-pub record HasPrintedBy (text : Answer → List ℕ) (tally : Tally) (input : Input) (editors : ℕ) (old new : Option (List ℕ)) : Type 0 where
+pub record HasPrintedBy (text : Answer → List ℕ) (tally : Tally) (input : Input) (editors : ℕ) (Stands : List ℕ → Type 0) : Type 0 where
   pub answers : List Answer
   pub many : length answers ≡ tally.count
   pub said : AreSaid tally.known input editors answers
@@ -43,11 +46,19 @@ pub record HasPrintedBy (text : Answer → List ℕ) (tally : Tally) (input : In
   pub awaited : AreAwaited answers
   pub reached : AreReached tally.reached answers
   pub in_turn : AreInTurn tally.tickets answers
-  pub printed : Appends old new (lines_of text answers)
+  -- the lines of verdicts were noted by editors
+  pub noted : AreNotedFirst tally.puts tally.lines.lines answers
+  -- edits that put nothing are told so by what was told before
+  pub dropped : AreDropped tally.known.opening.starts answers
+  pub accepted : tally.accepted ≡ tickets_after tally.known.opening.starts (accepted_in answers)
+  pub printed : Stands (lines_of text answers)
 
--- what was printed, unless the output failed: answers to the first lines, by what is known of the list of postings
-abbrev pub PrintsSo : Input → ℕ → Option (List ℕ) → Option (List ℕ) → Printed → Type 0
-PrintsSo input editors old new printed = printed.end ≢ Output → HasPrintedBy answer_text printed.tally input editors old new
+-- What was printed on a writer: answers to the first lines, by what is known of the list of postings, and nothing else.
+pub record PrintsSo {W : Type 0} (outlet : Ghosts W) (input : Input) (editors : ℕ) (old new : W) (printed : Printed) : Type 0 where
+  -- all their lines, or a beginning of these where the output failed
+  pub lines : HasPrintedBy answer_text printed.tally input editors (PrintsUnless (printed.end ≡ Output) (outlet.contents old) (outlet.contents new))
+  -- then a write of this very writer did
+  pub failed : printed.end ≡ Output → outlet.has_failed new
 
 -- these are all lines, where that is known
 abbrev pub AreAllLines : Input → ℕ → Type 0

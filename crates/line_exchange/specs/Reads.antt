@@ -1,9 +1,10 @@
 -- How lines are read.
-use Rattle.std.specs.Prelude.{◌≡◌, ◌+◌, ◌++◌, ℕ, Bool, true, false, List, Option, Result, IfOk, IfSome, length}
+use Rattle.std.specs.Prelude.{◌≡◌, ◌+◌, ◌++◌, ℕ, Bool, true, false, List, Option, Result, IfErr, IfOk, IfSome, length}
 use Rattle.input_lines.specs.Reading.{AreRead}
 use Rattle.written_values.specs.declared.line.ScriptLine.{ScriptLine}
 use Rattle.line_exchange.specs.Inputs.{Input, Bytes, Script}
 use Rattle.line_exchange.specs.declared.read_fault.ReadFault.{ReadFault}
+use Rattle.line_exchange.specs.declared.read_fault.ReadFault.TheVariants.{Input as Failed}
 use Rattle.line_exchange.specs.Prints.{AreAllLines}
 
 -- where the bytes of an input are known, so many lines of them are read, and the others are left
@@ -26,6 +27,14 @@ abbrev pub AreGivenOf : Input → ℕ → List ScriptLine → Type 0
 AreGivenOf (Bytes bytes) count left = ⊥
 AreGivenOf (Script script) count left = AreGiven script count left
 
+-- lines that are read from an input: of a script no read fails
+abbrev pub AreOfInput : Input → Type 0
+AreOfInput (Bytes bytes) = Unit {0}
+AreOfInput (Script script) = ⊥
+
+abbrev pub MayFailSo : Input → ReadFault → Type 0
+MayFailSo input why = why ≡ Failed → AreOfInput input
+
 -- how the reading ended: where it came to the end, with so many lines
 abbrev pub IsReadEnd : Input → Result (Option ℕ) ReadFault → Type 0
-IsReadEnd input result = IfOk result (λ o. IfSome o (λ lines. AreAllLines input lines))
+IsReadEnd input result = IfOk result (λ o. IfSome o (λ lines. AreAllLines input lines)) × IfErr result (λ why. MayFailSo input why)

@@ -1,12 +1,14 @@
 -- How an answer goes with those before it.
-use Rattle.std.specs.Prelude.{◌≡◌, ◌+◌, ◌<◌, ◌≤◌, ℕ, List, [], ◌∷◌, Some, replicate, slice_get}
+use Rattle.std.specs.Prelude.{◌≡◌, ◌+◌, ◌<◌, ◌≤◌, ℕ, List, [], ◌∷◌, Some, replicate, slice_get, take}
 use Rattle.std.specs.List.{flat_map}
-use Rattle.requests.specs.Tickets.{Rises, sessions, tickets_after}
+use Rattle.requests.specs.Tickets.{Rises, last_of, sessions, tickets_after}
 use Rattle.generations.specs.Notices.{told_to}
-use Rattle.generations.specs.declared.posting.Verdict.TheVariants.{Accepted}
+use Rattle.generations.specs.declared.posting.Verdict.{Verdict}
+use Rattle.generations.specs.declared.posting.Verdict.TheVariants.{Accepted, Refused}
 use Rattle.generations.specs.Beginnings.{Beginning, GoesOn}
 use Rattle.live_lines.specs.declared.answer.Answer.{Answer}
-use Rattle.live_lines.specs.declared.answer.Answer.TheVariants.{Gone, Settled, Waited}
+use Rattle.live_lines.specs.declared.answer.Answer.TheVariants.{AlreadyIn, Gone, OldTicket, RefusedBefore, Settled, Waited}
+use Rattle.line_exchange.specs.PutLines.{NotesMore}
 use Rattle.line_exchange.specs.declared.tally.Tally.{Tally}
 
 -- it tells that a change is accepted as the one of this number
@@ -52,11 +54,41 @@ pub record AreInTurn (tickets : List ℕ) (answers : List Answer) : Type 0 where
   pub rises : Rises no_tickets (told_in answers)
   pub last : tickets ≡ tickets_after no_tickets (told_in answers)
 
+-- the session and the ticket of a request that was accepted
+abbrev pub accepted_as : Verdict → ℕ × ℕ → List (ℕ × ℕ)
+accepted_as (Accepted count) told = told ∷ []
+accepted_as (Refused op code) told = []
+
+-- .. by an answer
+abbrev pub accepted_by : Answer → List (ℕ × ℕ)
+accepted_by (Settled mark) = accepted_as mark.verdict (told_to mark)
+accepted_by other = []
+
+-- .. by all answers, in order
+abbrev pub accepted_in : List Answer → List (ℕ × ℕ)
+accepted_in answers = flat_map accepted_by answers
+
+-- An edit that put nothing is told so by the last tickets of its session before: `already in` of one that is at most the last one accepted,
+-- `refused before` of the last one, which was refused, and `old ticket` of one in between.
+abbrev pub IsDropped : List ℕ → List ℕ → Answer → Type 0
+IsDropped accepted told (AlreadyIn session ticket) = ticket ≤ last_of accepted session
+IsDropped accepted told (RefusedBefore session ticket op code) = (last_of accepted session < ticket) × (ticket ≡ last_of told session)
+IsDropped accepted told (OldTicket session ticket) = (last_of accepted session < ticket) × (ticket < last_of told session)
+IsDropped accepted told other = Unit {0}
+
+-- each one is, by what was told before it, where the sessions' tickets start so
+abbrev pub AreDropped : List ℕ → List Answer → Type 0
+AreDropped starts answers = (k : ℕ) (answer : Answer) → slice_get answers k ≡ Some answer
+    → IsDropped (tickets_after starts (accepted_in (take k answers))) (tickets_after no_tickets (told_in (take k answers))) answer
+
 -- an answer more, by what was known of the list of postings
 pub record Adds (old : Tally) (seen : Beginning) (answer : Answer) (new : Tally) : Type 0 where
   pub count : new.count ≡ old.count + 1
   pub reached : IsReached old.reached answer new.reached
   pub in_turn : IsInTurn old.tickets answer new.tickets
+  pub noted : NotesMore old.count answer old.puts new.puts old.lines new.lines
+  pub dropped : IsDropped old.accepted old.tickets answer
+  pub accepted : new.accepted ≡ tickets_after old.accepted (accepted_by answer)
   pub on : GoesOn old.known new.known
   pub covers : GoesOn seen new.known
   -- who tells that a generation is gone knows all that was known before

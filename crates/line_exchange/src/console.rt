@@ -2,6 +2,7 @@
 ghost use Rattle.std.specs.Prelude.{◌≡◌};
 ghost use Rattle.line_exchange.specs.Ends.{TellsEnd, fault_of};
 
+use crate::answer_writer::AnswerWriter;
 use crate::exchange::Exchange;
 use crate::messages::Stream;
 use crate::printed::Printed;
@@ -10,29 +11,30 @@ use crate::served::Served;
 use command_output::{Fault, FaultWriter};
 use packet_ways::BoardName;
 use std::alloc::Global;
-use std::io::Write;
 use std::sync::Wait;
 
 /// What takes the answers, prints them, and tells the end. The contract of a scope says nothing of a `&mut` that its closure holds, so the
 /// closure holds a value of such a type, and hands it back. `J` names the lines that are answered.
 pub trait Console<J: Stream> {
-    ghost use Rattle.std.specs.Prelude.{◌≡◌};
+    ghost use Rattle.std.specs.Prelude.{◌≡◌, Option};
+    ghost use Rattle.command_output.specs.declared.fault.Fault.{Fault};
     ghost use Rattle.line_exchange.specs.Ends.{IsFinish};
     ghost use Rattle.line_exchange.specs.declared.printed.Printed.{Printed};
     ghost use Rattle.line_exchange.specs.declared.served.Served.{Served};
 
     ghost prints: { Self → Self → Printed → Type 0 };
 
-    ghost finishes: { Self → Self → Served → Type 0 };
+    ghost finishes: { Self → Self → Option Fault → Served → Type 0 };
 
     /// Takes the answers in the order of their lines, until none comes any more. `B` names the board at which they were given.
     fn print<B: BoardName, R: Wait>(self, rt: &R, exchange: &Exchange<J, B>) -> (Self, Printed)
         ensures prints { prints self result.0 result.1 }
-        ensures opening { result.1.tally.known.opening ≡ B.opening };
+        ensures opening { result.1.tally.known.opening ≡ B.opening }
+        ensures book { result.1.tally.lines.book ≡ J.book };
 
     /// Tells the fault, where there is one. Without one it may still meet that its output fails.
     fn finish(self, fault: Option<Fault>) -> (Self, Served)
-        ensures finishes { finishes self result.0 result.1 }
+        ensures finishes { finishes self result.0 fault result.1 }
         ensures fault { IsFinish fault result.1 };
 }
 
@@ -58,15 +60,15 @@ pub fn told<E: FaultWriter>(err: &mut E, fault: Option<Fault>) -> Served
     }
 }
 
-impl<'a, 'b, J: Stream, O: Write, E: FaultWriter> Console<J> for Terminal<'a, 'b, O, E> {
+impl<'a, 'b, J: Stream, O: AnswerWriter, E: FaultWriter> Console<J> for Terminal<'a, 'b, O, E> {
     ghost use Rattle.std.specs.Prelude.{◌≡◌};
     ghost use Rattle.line_exchange.specs.Prints.{PrintsSo};
     ghost use Rattle.line_exchange.specs.Ends.{TellsEnd};
 
     ghost prints = { λ c d p. (d.out.ghost_name ≡ c.out.ghost_name) × (d.err.ghost_name ≡ c.err.ghost_name) × (d.err.now ≡ c.err.now)
-        × PrintsSo J.input J.editors (O.contents c.out.now) (O.contents d.out.now) p };
+        × PrintsSo O.AnswerWriter J.input J.editors c.out.now d.out.now p };
 
-    ghost finishes = { λ c d s. (d.out.ghost_name ≡ c.out.ghost_name) × (d.err.ghost_name ≡ c.err.ghost_name) × (d.out.now ≡ c.out.now)
+    ghost finishes = { λ c d f s. (d.out.ghost_name ≡ c.out.ghost_name) × (d.err.ghost_name ≡ c.err.ghost_name) × (d.out.now ≡ c.out.now)
         × TellsEnd E.contents E.has_failed c.err.now d.err.now s };
 
     fn print<B: BoardName, R: Wait>(self, rt: &R, exchange: &Exchange<J, B>) -> (Self, Printed) {

@@ -5,6 +5,8 @@ use crate::messages::{Answered, Ask, Stream};
 use generations::History;
 use mailboxes::{Mailbox, ReorderBuffer};
 use packet_ways::BoardName;
+use put_lines::{BlankBook, LineBook};
+use requests::SESSIONS;
 use std::alloc::{AllocError, Global};
 use std::sync::Wait;
 use std::sync::atomic::{AtomicU64, Ordering};
@@ -23,9 +25,15 @@ pub struct Exchange<J: Stream, B: BoardName> {
     pub answers: ReorderBuffer<Answered<J, B>>,
     // What was posted then.
     pub known: History,
+    // Where the sessions' tickets start.
+    pub starts: [u64; SESSIONS],
+    // Where editors note which lines put requests.
+    pub book: LineBook,
     // How many answers were printed, and no less than any place once none comes any more.
     printed: AtomicU64,
     ghost named: { known.opening ≡ B.opening },
+    ghost starts_are: { starts ≡ B.opening.starts },
+    ghost book_is: { book.book ≡ J.book },
 }
 
 // So many mailboxes.
@@ -44,8 +52,12 @@ impl<J: Stream, B: BoardName> Exchange<J, B> {
         editors: u8,
         forwarders: u8,
         known: History,
+        starts: &[u64; SESSIONS],
+        blank: BlankBook,
     ) -> Result<Exchange<J, B>, AllocError>
-        requires { known.opening ≡ B.opening }
+        requires known { known.opening ≡ B.opening }
+        requires starts { starts.now ≡ B.opening.starts }
+        requires blank { blank.book ≡ J.book }
     {
         let sessions = mailboxes(alloc, editors)?;
         let forwarders = mailboxes(alloc, forwarders)?;
@@ -57,6 +69,8 @@ impl<J: Stream, B: BoardName> Exchange<J, B> {
             tables: Mailbox::new(alloc),
             answers,
             known,
+            starts: *starts,
+            book: LineBook::new(alloc, blank)?,
             printed: AtomicU64::new(0),
         })
     }

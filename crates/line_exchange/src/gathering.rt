@@ -6,17 +6,17 @@ ghost use Rattle.live_lines.specs.Answers.{script_text};
 ghost use Rattle.line_exchange.specs.Ends.{IsFinish, fault_of};
 ghost use Rattle.line_exchange.specs.Gathers.{HasText, PrintsAtEnd};
 
+use crate::answer_writer::{AnswerWriter, print_text};
 use crate::console::Console;
 use crate::exchange::Exchange;
 use crate::messages::{Answered, Stream};
 use crate::printed::{PrintEnd, Printed};
 use crate::served::Served;
 use crate::tally::Tally;
-use command_output::{Fault, print_text};
+use command_output::Fault;
 use live_lines::Answer;
 use packet_ways::BoardName;
 use std::alloc::{AllocError, Global};
-use std::io::Write;
 use std::sync::Wait;
 
 /// What gathers the answers to a script, and prints them at its end. No fault is told: who has the gatherer back knows it.
@@ -65,9 +65,15 @@ fn gather_each<J: Stream, B: BoardName, R: Wait>(
     requires { string_bytes text.old ≡ [] }
     ensures text { result.end ≡ PrintEnd.Whole
         → HasText result.tally J.input J.editors (string_bytes text.new) }
+    ensures unbroken { result.end ≢ PrintEnd.Output }
     ensures opening { result.tally.known.opening ≡ B.opening }
+    ensures book { result.tally.lines.book ≡ J.book }
 {
-    let mut tally = Tally::new(exchange.known.again());
+    let mut tally = Tally::new(
+        exchange.known.again(),
+        &exchange.starts,
+        exchange.book.begin(),
+    );
     for _ in rt.forever() {
         let Some(answered) = next(rt, exchange, tally.count) else {
             return Printed {
@@ -106,7 +112,9 @@ fn gather_all<J: Stream, B: BoardName, R: Wait>(
 ) -> (Printed, String)
     ensures text { result.0.end ≡ PrintEnd.Whole
         → HasText result.0.tally J.input J.editors (string_bytes result.1) }
+    ensures unbroken { result.0.end ≢ PrintEnd.Output }
     ensures opening { result.0.tally.known.opening ≡ B.opening }
+    ensures book { result.0.tally.lines.book ≡ J.book }
 {
     let mut text = String::new(alloc);
     let printed = gather_each(rt, alloc, exchange, &mut text);
@@ -116,8 +124,8 @@ fn gather_all<J: Stream, B: BoardName, R: Wait>(
 }
 
 // Prints the text, unless there is a fault.
-fn printed_or<O: Write>(out: &mut O, text: &str, fault: Option<Fault>) -> Served
-    ensures printed { PrintsAtEnd text.now (O.contents out.old) (O.contents out.new) result }
+fn printed_or<O: AnswerWriter>(out: &mut O, text: &str, fault: Option<Fault>) -> Served
+    ensures printed { PrintsAtEnd O.AnswerWriter text.now out.old out.new fault result }
     ensures untouched { IfSome (fault_of result) (λ fault. fault ≢ Fault.Output → out.new ≡ out.old) }
     ensures fault { IsFinish fault result }
 {
@@ -125,24 +133,24 @@ fn printed_or<O: Write>(out: &mut O, text: &str, fault: Option<Fault>) -> Served
         Some(fault) => Served::Untold(fault),
         None => match print_text(out, text) {
             Ok(()) => Served::Printed,
-            Err(fault) => Served::Untold(fault),
+            Err(_) => Served::Untold(Fault::Output),
         },
     }
 }
 
-impl<'a, J: Stream, O: Write> Console<J> for Gatherer<'a, O> {
+impl<'a, J: Stream, O: AnswerWriter> Console<J> for Gatherer<'a, O> {
     ghost use Rattle.std.specs.Prelude.{◌≡◌, ◌≢◌, IfSome};
     ghost use Rattle.std.specs.String.{string_bytes};
     ghost use Rattle.command_output.specs.declared.fault.Fault.TheVariants.{Output};
     ghost use Rattle.line_exchange.specs.Ends.{fault_of};
     ghost use Rattle.line_exchange.specs.Gathers.{HasText, PrintsAtEnd};
-    ghost use Rattle.line_exchange.specs.declared.printed.PrintEnd.TheVariants.{Whole};
+    ghost use Rattle.line_exchange.specs.declared.printed.PrintEnd.TheVariants.{Output as Broken, Whole};
 
-    ghost prints = { λ c d p. (d.out.ghost_name ≡ c.out.ghost_name) × (d.out.now ≡ c.out.now)
+    ghost prints = { λ c d p. (d.out.ghost_name ≡ c.out.ghost_name) × (d.out.now ≡ c.out.now) × (p.end ≢ Broken)
         × (p.end ≡ Whole → HasText p.tally J.input J.editors (string_bytes d.text)) };
 
-    ghost finishes = { λ c d s. (d.out.ghost_name ≡ c.out.ghost_name)
-        × PrintsAtEnd (string_bytes c.text) (O.contents c.out.now) (O.contents d.out.now) s
+    ghost finishes = { λ c d f s. (d.out.ghost_name ≡ c.out.ghost_name)
+        × PrintsAtEnd O.AnswerWriter (string_bytes c.text) c.out.now d.out.now f s
         × IfSome (fault_of s) (λ fault. fault ≢ Output → d.out.now ≡ c.out.now) };
 
     fn print<B: BoardName, R: Wait>(self, rt: &R, exchange: &Exchange<J, B>) -> (Self, Printed) {

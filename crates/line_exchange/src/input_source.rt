@@ -1,8 +1,8 @@
 // The lines of an input, as they come.
-ghost use Rattle.std.specs.Prelude.{◌≡◌, ◌≢◌, ℕ, List, IfOk, IfSome, None, is_some};
+ghost use Rattle.std.specs.Prelude.{◌≡◌, ◌≢◌, ℕ, List, IfErr, IfOk, IfSome, None, is_some};
 ghost use Rattle.input_lines.specs.Reading.{IsLineAt};
 ghost use Rattle.line_exchange.specs.Inputs.{Input};
-ghost use Rattle.line_exchange.specs.Reads.{AreReadOf, IsReadSo};
+ghost use Rattle.line_exchange.specs.Reads.{AreReadOf, IsReadSo, MayFailSo};
 ghost use Rattle.line_exchange.specs.Streams.{IsAskedBy};
 
 use crate::line_source::LineSource;
@@ -51,6 +51,7 @@ fn fault_of(error: &Error) -> ReadFault {
     }
 }
 
+#[tactic(auto, using(crate::proofs::ReadLines::read_may_fail))]
 // Reads the next line. None where no line is left.
 fn read_ask<J: Stream, S: BufRead>(
     alloc: Global,
@@ -61,7 +62,8 @@ fn read_ask<J: Stream, S: BufRead>(
 ) -> Result<Option<Ask<J>>, ReadFault>
     requires editors { editors ≡ J.editors }
     requires read { AreReadOf J.input place (S.remaining input.old) }
-    ensures { IfOk result (λ o. IsReadSo J.input place (is_some o) (S.remaining input.new)) }
+    ensures read { IfOk result (λ o. IsReadSo J.input place (is_some o) (S.remaining input.new)) }
+    ensures failed { IfErr result (λ why. MayFailSo J.input why) }
 {
     let next = match next_line(input, line) {
         Ok(next) => next,

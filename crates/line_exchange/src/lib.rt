@@ -11,18 +11,23 @@
 //! k-th line (`HasPrintedBy` of specs/Prints, `HasText` of specs/Gathers), and the board need only be shown to have what was known.
 //!
 //! Whoever prints keeps a [`Tally`] of what was printed, and ends the service where an answer doesn't go with those before it: a generation
-//! that was waited for lacks a change that was told as accepted, a verdict's ticket isn't behind its session's last one, or who tells that
-//! a generation is gone knew less than the answers before (`Adds` of specs/Tallies).
+//! that was waited for lacks a change that was told as accepted, a verdict's ticket isn't behind its session's last one, or its line isn't
+//! the next one that the session's editor noted (`put_lines`), an edit that put nothing isn't told so by these tickets, or who tells that a
+//! generation is gone knew less than the answers before (`Adds` of specs/Tallies).
+//!
+//! Answers are printed on an [`AnswerWriter`]. Where a write of it fails, a beginning of their lines stands there, and of a [`WatchedOutput`] it
+//! is known that a write failed (`PrintsSo` of specs/Prints, `PrintsAtEnd` of specs/Gathers).
 //!
 //! Who answers the lines is another crate's affair: nothing here knows of editors, forwarders or a committer.
 //!
 //! ```text
-//! let exchange = Exchange::<J, B>::new(alloc, editors, forwarders, known)?;
+//! let exchange = Exchange::<J, B>::new(alloc, editors, forwarders, known, &starts, BlankBook::new())?;
 //! let lines = read_lines(rt, &exchange, InputSource::new(alloc, editors, input))?;      // in a thread
 //! let (terminal, printed) = Terminal { alloc, out, err }.print(rt, &exchange);          // in another one
 //! ```
 #![tactic(auto)]
 
+mod answer_writer;
 mod console;
 mod exchange;
 mod gathering;
@@ -37,12 +42,13 @@ mod script_source;
 mod served;
 mod tally;
 
+pub use answer_writer::{AnswerWriter, WatchedOutput};
 pub use console::{Console, Terminal, told};
 pub use exchange::Exchange;
 pub use gathering::Gatherer;
 pub use input_source::InputSource;
 pub use line_source::LineSource;
-pub use messages::{Answered, Ask, Stream};
+pub use messages::{Answered, Ask, Noted, NotedLine, Stream};
 pub use printed::{PrintEnd, Printed};
 pub use read_fault::ReadFault;
 pub use reading::read_lines;

@@ -4,8 +4,9 @@ use crate::read_fault::ReadFault;
 
 /// Where the lines of a service come from. The reader's thread asks for one after the other.
 pub trait LineSource<J: Stream> {
-    ghost use Rattle.std.specs.Prelude.{◌≡◌, ◌+◌, ℕ, IfOk, IfSome, None};
+    ghost use Rattle.std.specs.Prelude.{◌≡◌, ◌+◌, ℕ, IfErr, IfOk, IfSome, None};
     ghost use Rattle.line_exchange.specs.Prints.{AreAllLines};
+    ghost use Rattle.line_exchange.specs.Reads.{MayFailSo};
 
     /// The first so many lines were given.
     ghost has_given: { Self → ℕ → Type 0 };
@@ -14,5 +15,6 @@ pub trait LineSource<J: Stream> {
     fn next_ask(&mut self, place: u64) -> Result<Option<Ask<J>>, ReadFault>
         requires { has_given self.old place }
         ensures given { IfOk result (λ o. IfSome o (λ ask. has_given self.new (place + 1))) }
-        ensures end { IfOk result (λ o. o ≡ None → AreAllLines J.input place) };
+        ensures end { IfOk result (λ o. o ≡ None → AreAllLines J.input place) }
+        ensures failed { IfErr result (λ why. MayFailSo J.input why) };
 }

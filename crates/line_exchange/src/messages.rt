@@ -1,5 +1,6 @@
 // What threads send to one another of the lines of a service.
-ghost use Rattle.std.specs.Prelude.{◌≡◌};
+ghost use Rattle.std.specs.Prelude.{◌≡◌, Some, slice_get};
+ghost use Rattle.put_lines.specs.Lines.{lines_of};
 ghost use Rattle.live_lines.specs.declared.answer.Answer.TheVariants.{Gone};
 ghost use Rattle.line_exchange.specs.Streams.{IsAskedAt};
 ghost use Rattle.line_exchange.specs.OneList.{IsOffAt, IsSaidAt};
@@ -8,17 +9,22 @@ use generations::History;
 use live_lines::{Answer, Asked};
 use mailboxes::Placed;
 use packet_ways::BoardName;
+use put_lines::{PutLine, PutLines};
 use std::marker::{Brand, PhantomData};
 
 /// Which lines there are, and how many editors answer them. Each call of the service picks both.
 pub trait Stream {
     ghost use Rattle.std.specs.Prelude.{ℕ};
+    ghost use Rattle.logbook.specs.Pages.{Book};
     ghost use Rattle.line_exchange.specs.Inputs.{Input};
 
     /// What the lines are.
     ghost input: { Input };
 
     ghost editors: { ℕ };
+
+    /// Where editors note which lines put requests.
+    ghost book: { Book };
 }
 
 impl Stream for Brand {
@@ -28,6 +34,8 @@ impl Stream for Brand {
     ghost input = { Bytes None };
 
     ghost editors = { 0 };
+
+    ghost book = { record { number = 0; log_name = 0; cells_name = 0 } };
 }
 
 /// What the line at a place asks for.
@@ -39,6 +47,24 @@ pub struct Ask<J: Stream> {
     ghost is_line: { ∥ IsAskedAt J.input J.editors place asked ∥₁ },
 }
 
+/// What an editor noted of the lines that put requests, and how many of them are its session's.
+#[derive(Drop)]
+pub struct Noted {
+    pub number: u64,
+    pub lines: PutLines,
+}
+
+/// A line that put a request, as its editor noted it: the one behind so many of its session.
+#[derive(Drop)]
+pub struct NotedLine<J: Stream> {
+    pub line: PutLine,
+    pub number: u64,
+    pub lines: PutLines,
+    pub of: PhantomData<J>,
+    ghost book_is: { lines.book ≡ J.book },
+    ghost next: { slice_get (lines_of line.session lines.lines) number ≡ Some line },
+}
+
 /// An answer to the line at a place, and what was known of the list of postings when it was given: each list that goes on from there
 /// says it.
 #[derive(Drop)]
@@ -46,6 +72,8 @@ pub struct Answered<J: Stream, B: BoardName> {
     pub place: u64,
     pub answer: Answer,
     pub known: History,
+    // The line, where its editor noted it: that of a verdict.
+    pub noted: Option<NotedLine<J>>,
     pub of: PhantomData<J>,
     pub at: PhantomData<B>,
     ghost named: { known.opening ≡ B.opening },

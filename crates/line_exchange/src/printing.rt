@@ -1,11 +1,13 @@
 // The printer: it prints answers in the order of their lines.
-ghost use Rattle.std.specs.Prelude.{◌≡◌, ◌≢◌, IfErr, IfOk, IfSome, OnOk};
+ghost use Rattle.std.specs.Prelude.{◌≡◌, IfErr, IfOk, IfSome, OnErr, OnOk};
 ghost use Rattle.std.specs.String.{string_bytes};
 ghost use Rattle.std.specs.Io.KnownBytes.{Appends, Keeps};
 ghost use Rattle.command_output.specs.Lines.{line};
+ghost use Rattle.line_exchange.specs.Begun.{Begins};
 ghost use Rattle.live_lines.specs.Answers.{answer_text};
 ghost use Rattle.line_exchange.specs.Prints.{PrintsSo};
 
+use crate::answer_writer::AnswerWriter;
 use crate::exchange::Exchange;
 use crate::messages::{Answered, Stream};
 use crate::printed::{PrintEnd, Printed};
@@ -13,7 +15,7 @@ use crate::tally::Tally;
 use live_lines::Answer;
 use packet_ways::BoardName;
 use std::alloc::{AllocError, Global};
-use std::io::Write;
+use std::io;
 use std::sync::Wait;
 
 // An answer's line.
@@ -25,53 +27,67 @@ fn line_of(alloc: Global, answer: &Answer) -> Result<String, AllocError>
     Ok(text)
 }
 
+// Why an answer isn't printed.
+#[derive(Clone, Copy, Drop)]
+enum Unprinted {
+    Output,
+    Memory,
+}
+
 // Prints an answer's line.
-fn print_one<O: Write>(alloc: Global, answer: &Answer, out: &mut O) -> Result<(), PrintEnd>
+fn print_one<O: AnswerWriter>(alloc: Global, answer: &Answer, out: &mut O) -> Result<(), Unprinted>
     ensures ok { OnOk result (Appends (O.contents out.old) (O.contents out.new) (line (answer_text answer.now))) }
-    ensures kept { IfErr result (λ end. end ≢ PrintEnd.Output → out.new ≡ out.old) }
-    ensures err { IfErr result (λ end. end ≢ PrintEnd.Whole) }
+    ensures memory { IfErr result (λ why. why ≡ Unprinted.Memory → out.new ≡ out.old) }
+    ensures begun { IfErr result (λ why. why ≡ Unprinted.Output
+        → Begins (O.contents out.old) (O.contents out.new) (line (answer_text answer.now))) }
+    ensures failed { IfErr result (λ why. why ≡ Unprinted.Output → O.has_failed out.new) }
 {
     let Ok(text) = line_of(alloc, answer) else {
-        return Err(PrintEnd::Memory);
+        return Err(Unprinted::Memory);
     };
-    match out.write_all(text.as_bytes()) {
+    match out.put(text.as_bytes()) {
         Ok(()) => Ok(()),
-        Err(_) => Err(PrintEnd::Output),
+        Err(_) => Err(Unprinted::Output),
     }
 }
 
 // The answer to a line. While it isn't there, what was printed is flushed. None where no answer comes any more.
-fn next<J: Stream, B: BoardName, O: Write, R: Wait>(
+fn next<J: Stream, B: BoardName, O: AnswerWriter, R: Wait>(
     rt: &R,
     exchange: &Exchange<J, B>,
     place: u64,
     out: &mut O,
-) -> Result<Option<Answered<J, B>>, PrintEnd>
+) -> io::Result<Option<Answered<J, B>>>
     ensures place { IfOk result (λ o. IfSome o (λ answered. answered.place ≡ place)) }
     ensures keeps { Keeps (O.contents out.old) (O.contents out.new) }
-    ensures err { IfErr result (λ end. end ≡ PrintEnd.Output) }
+    ensures failed { OnErr result (O.has_failed out.new) }
 {
     if let Some(answered) = exchange.answers.try_take(rt, place) {
         return Ok(Some(answered));
     }
-    match out.flush() {
+    match out.hand_on() {
         Ok(()) => Ok(exchange.answers.take(rt, place)),
-        Err(_) => Err(PrintEnd::Output),
+        Err(error) => Err(error),
     }
 }
 
 // Prints the answers in the order of their lines, until none comes any more, or one can't be printed.
-#[tactic(auto, using(crate::proofs::SaidLines::none_printed_by, crate::proofs::SaidLines::still_printed_by, crate::proofs::SaidLines::one_printed_by))]
-fn print_each<J: Stream, B: BoardName, O: Write, R: Wait>(
+#[tactic(auto, using(crate::proofs::SaidLines::none_printed_by))]
+fn print_each<J: Stream, B: BoardName, O: AnswerWriter, R: Wait>(
     rt: &R,
     alloc: Global,
     exchange: &Exchange<J, B>,
     out: &mut O,
 ) -> Printed
-    ensures printed { PrintsSo J.input J.editors (O.contents out.old) (O.contents out.new) result }
+    ensures printed { PrintsSo O.AnswerWriter J.input J.editors out.old out.new result }
     ensures opening { result.tally.known.opening ≡ B.opening }
+    ensures book { result.tally.lines.book ≡ J.book }
 {
-    let mut tally = Tally::new(exchange.known.again());
+    let mut tally = Tally::new(
+        exchange.known.again(),
+        &exchange.starts,
+        exchange.book.begin(),
+    );
     for _ in rt.forever() {
         let answered = match next(rt, exchange, tally.count, out) {
             Ok(Some(answered)) => answered,
@@ -79,7 +95,10 @@ fn print_each<J: Stream, B: BoardName, O: Write, R: Wait>(
                 tally,
                 end: PrintEnd::Whole,
             },
-            Err(end) => return Printed { tally, end },
+            Err(_) => return Printed {
+                tally,
+                end: PrintEnd::Output,
+            },
         };
         let Some(more) = tally.with(&answered) else {
             return Printed {
@@ -92,7 +111,14 @@ fn print_each<J: Stream, B: BoardName, O: Write, R: Wait>(
                 tally = more;
                 exchange.print_to(tally.count);
             }
-            Err(end) => return Printed { tally, end },
+            Err(Unprinted::Output) => return Printed {
+                tally: more,
+                end: PrintEnd::Output,
+            },
+            Err(Unprinted::Memory) => return Printed {
+                tally,
+                end: PrintEnd::Memory,
+            },
         }
     }
     Printed {
@@ -103,14 +129,15 @@ fn print_each<J: Stream, B: BoardName, O: Write, R: Wait>(
 
 /// Prints the answers in the order of their lines, each as soon as it is there, until none comes any more. Where one can't be printed
 /// no more lines are answered.
-pub fn print_all<J: Stream, B: BoardName, O: Write, R: Wait>(
+pub fn print_all<J: Stream, B: BoardName, O: AnswerWriter, R: Wait>(
     rt: &R,
     alloc: Global,
     exchange: &Exchange<J, B>,
     out: &mut O,
 ) -> Printed
-    ensures printed { PrintsSo J.input J.editors (O.contents out.old) (O.contents out.new) result }
+    ensures printed { PrintsSo O.AnswerWriter J.input J.editors out.old out.new result }
     ensures opening { result.tally.known.opening ≡ B.opening }
+    ensures book { result.tally.lines.book ≡ J.book }
 {
     let printed = print_each(rt, alloc, exchange, out);
     exchange.shut(rt);

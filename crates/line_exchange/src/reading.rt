@@ -1,5 +1,5 @@
 // The reader's thread.
-ghost use Rattle.std.specs.Prelude.{◌≡◌, IfSome};
+ghost use Rattle.std.specs.Prelude.{◌≡◌, ◌≢◌, IfErr, IfSome};
 ghost use Rattle.generations.specs.Beginnings.{Beginning};
 ghost use Rattle.line_exchange.specs.OneList.{AnswersBy};
 ghost use Rattle.line_exchange.specs.Reads.{IsReadEnd};
@@ -57,6 +57,7 @@ fn answered<J: Stream, B: BoardName>(ask: Ask<J>, known: History) -> Option<Answ
         place,
         answer,
         known,
+        noted: None,
         of,
         at: PhantomData,
     })
@@ -68,7 +69,9 @@ fn deal<J: Stream, B: BoardName, R: Wait>(
     exchange: &Exchange<J, B>,
     ask: Ask<J>,
     turn: &mut usize,
-) -> Result<(), ReadFault> {
+) -> Result<(), ReadFault>
+    ensures { IfErr result (λ why. why ≢ ReadFault.Input) }
+{
     let put = match owned_by(&ask.asked) {
         Owner::Session(session) => match exchange.sessions.get(session as usize) {
             Some(mailbox) => mailbox.put(rt, ask),

@@ -1,12 +1,15 @@
 // What is kept of the answers that were printed.
 ghost use Rattle.std.specs.Prelude.{◌≡◌, IfSome, IsTrue};
 ghost use Rattle.generations.specs.Beginnings.{GoesOn};
-ghost use Rattle.line_exchange.specs.Tallies.{Adds, IsInTurn, IsReached, no_tickets};
+ghost use Rattle.line_exchange.specs.PutLines.{NotesMore, no_puts};
+ghost use Rattle.requests.specs.Tickets.{tickets_after};
+ghost use Rattle.line_exchange.specs.Tallies.{Adds, IsDropped, IsInTurn, IsReached, accepted_by, no_tickets};
 
 use crate::messages::{Answered, Stream};
 use generations::{History, Verdict};
 use live_lines::Answer;
 use packet_ways::BoardName;
+use put_lines::PutLines;
 use requests::SESSIONS;
 
 /// What is kept of the answers that were printed, to judge the next one by.
@@ -18,6 +21,12 @@ pub struct Tally {
     pub reached: u64,
     /// The last ticket that was told as a verdict, of each session.
     pub tickets: [u64; SESSIONS],
+    /// The last ticket that was told as accepted, of each session, or where its tickets start.
+    pub accepted: [u64; SESSIONS],
+    /// How many verdicts were told, of each session.
+    pub puts: [u64; SESSIONS],
+    /// What editors noted of their lines.
+    pub lines: PutLines,
     /// What they know of the list of postings.
     pub known: History,
 }
@@ -69,6 +78,88 @@ fn tickets_with(tickets: &[u64; SESSIONS], answer: &Answer) -> Option<[u64; SESS
     }
 }
 
+// The last tickets that were accepted, with an answer more. None where that is of no session.
+fn accepted_with(accepted: &[u64; SESSIONS], answer: &Answer) -> Option<[u64; SESSIONS]>
+    ensures { IfSome result (λ new. new ≡ tickets_after accepted.now (accepted_by answer.now)) }
+{
+    match answer {
+        Answer::Settled(mark) => match mark.verdict {
+            Verdict::Accepted { count: _ } => {
+                let session = mark.session as usize;
+                if session >= SESSIONS {
+                    return None;
+                }
+                let mut accepted = *accepted;
+                accepted[session] = mark.ticket;
+                Some(accepted)
+            }
+            Verdict::Refused { op: _, code: _ } => Some(*accepted),
+        },
+        _ => Some(*accepted),
+    }
+}
+
+// Whether an edit that put nothing is told so by the last tickets of its session.
+fn is_dropped(accepted: &[u64; SESSIONS], tickets: &[u64; SESSIONS], answer: &Answer) -> bool
+    ensures { IsTrue result → IsDropped accepted.now tickets.now answer.now }
+{
+    match answer {
+        Answer::AlreadyIn { session, ticket } => {
+            let session = *session as usize;
+            session < SESSIONS && *ticket <= accepted[session]
+        }
+        Answer::RefusedBefore {
+            session,
+            ticket,
+            ..
+        } => {
+            let session = *session as usize;
+            session < SESSIONS && accepted[session] < *ticket && *ticket == tickets[session]
+        }
+        Answer::OldTicket { session, ticket } => {
+            let session = *session as usize;
+            session < SESSIONS && accepted[session] < *ticket && *ticket < tickets[session]
+        }
+        _ => true,
+    }
+}
+
+#[tactic(auto, using(crate::proofs::NotedLines::notes_one, crate::proofs::NotedLines::notes_none))]
+// How many verdicts of each session, with an answer more, and what was noted of their lines. None where an editor didn't note that line
+// as the next one of its session.
+fn puts_with<J: Stream, B: BoardName>(
+    puts: &[u64; SESSIONS],
+    lines: &PutLines,
+    answered: &Answered<J, B>,
+) -> Option<([u64; SESSIONS], PutLines)>
+    requires { lines.now.book ≡ J.book }
+    ensures { IfSome result (λ r. NotesMore answered.now.place answered.now.answer puts.now r.0 lines.now r.1) }
+{
+    match &answered.answer {
+        Answer::Settled(mark) => {
+            let Some(noted) = &answered.noted else {
+                return None;
+            };
+            let line = &noted.line;
+            if line.session != mark.session || line.ticket != mark.ticket {
+                return None;
+            }
+            if line.place != answered.place {
+                return None;
+            }
+            let session = mark.session as usize;
+            if session >= SESSIONS || noted.number != puts[session] {
+                return None;
+            }
+            let next = noted.number.checked_add(1)?;
+            let mut puts = *puts;
+            puts[session] = next;
+            Some((puts, lines.learn(&noted.lines)))
+        }
+        _ => Some((*puts, lines.again())),
+    }
+}
+
 // Whether these know all that was known before, where they tell that a generation is gone.
 #[tactic(auto, using(crate::proofs::Further::longer_on))]
 fn knows_all(known: &History, seen: &History, answer: &Answer) -> bool
@@ -83,22 +174,30 @@ fn knows_all(known: &History, seen: &History, answer: &Answer) -> bool
 
 impl Tally {
     /// No answer yet.
-    pub fn new(known: History) -> Tally
+    pub fn new(known: History, starts: &[u64; SESSIONS], lines: PutLines) -> Tally
         ensures count { result.count ≡ 0 }
         ensures tickets { result.tickets ≡ no_tickets }
+        ensures accepted { result.accepted ≡ starts.now }
+        ensures puts { result.puts ≡ no_puts }
+        ensures lines { result.lines ≡ lines }
         ensures known { result.known ≡ known }
     {
         Tally {
             count: 0,
             reached: 0,
             tickets: [0; SESSIONS],
+            accepted: *starts,
+            puts: [0; SESSIONS],
+            lines,
             known,
         }
     }
 
     /// With an answer more. None where it doesn't go with those before it.
     pub fn with<J: Stream, B: BoardName>(&self, answered: &Answered<J, B>) -> Option<Tally>
-        requires { self.now.known.opening ≡ B.opening }
+        requires known { self.now.known.opening ≡ B.opening }
+        requires lines { self.now.lines.book ≡ J.book }
+        requires place { answered.now.place ≡ self.now.count }
         ensures { IfSome result (Adds self.now answered.now.known answered.now.answer) }
     {
         let count = self.count.checked_add(1)?;
@@ -106,10 +205,17 @@ impl Tally {
         if !knows_all(&self.known, &answered.known, &answered.answer) {
             return None;
         }
+        if !is_dropped(&self.accepted, &self.tickets, &answered.answer) {
+            return None;
+        }
+        let (puts, lines) = puts_with(&self.puts, &self.lines, answered)?;
         Some(Tally {
             count,
             reached,
             tickets: tickets_with(&self.tickets, &answered.answer)?,
+            accepted: accepted_with(&self.accepted, &answered.answer)?,
+            puts,
+            lines,
             known: furthest(&self.known, &answered.known),
         })
     }

@@ -1,11 +1,14 @@
--- Requests that lines put, in the order of the lines.
-use Rattle.std.proofs.Common.{◌≡◌, ◌⊎◌, inl, inr, ⊎_elim, ◌<◌, ◌≤◌, ◌+◌, ◌++◌, ◌∷◌, [], ℕ, zero, suc, Bool, true, false, cond, List, Option, Some, length, refl, sym, ap, subst, ◌∙◌, arith, append-nil, append_assoc, length-append}
-use Rattle.std.specs.Prelude.{nat_lt, slice_get}
-use Rattle.std.proofs.lemmas.Bool.{le-ltb, lt-ltb, ltb-false, ltb-true}
+-- Requests that lines put, and what was noted of the lines.
+use Rattle.std.proofs.Common.{◌≡◌, ◌+◌, ◌++◌, ◌∷◌, [], ℕ, List, Option, Some, length, refl, sym, ap, subst, ◌∙◌, append-nil, append_assoc, length-append}
+use Rattle.std.specs.Prelude.{slice_get}
 use mathlib.Core.Logic.{∥∥₁_map}
+use Rattle.logbook.specs.Pages.{Book}
 use Rattle.graph_edits.specs.declared.edits.Op.{Op}
 use Rattle.requests.specs.declared.request.Request.{Request}
+use Rattle.generations.specs.declared.posting.Mark.{Mark}
 use Rattle.generations.specs.declared.posting.Notice.{Notice}
+use Rattle.put_lines.specs.declared.put_line.PutLine.{PutLine}
+use Rattle.put_lines.specs.Lines.{AddsLine, Listed, lines_of}
 use Rattle.intake.specs.Editors.{Editing}
 use Rattle.service_workers.specs.Edited.{IsSameEditor}
 use Rattle.live_lines.specs.declared.asked.Asked.{Asked}
@@ -15,91 +18,17 @@ use Rattle.live_lines.specs.declared.answer.Answer.TheVariants.{Settled}
 use Rattle.live_lines.specs.Answers.{Fits, IsOfTicket}
 use Rattle.line_exchange.specs.Inputs.{Input}
 use Rattle.line_exchange.specs.Streams.{IsAskedAt}
-use Rattle.line_workers.specs.Submits.{ArePutInOrder, HasPutFor, IsPutAt}
+use Rattle.line_exchange.specs.PutLines.{put_by}
+use Rattle.line_exchange.specs.declared.messages.Noted.{Noted}
+use Rattle.line_workers.specs.Submits.{ArePutBy, HasNoted, HasPutFor, IsPutAt, NotesAnswer}
 
--- lines before a place put them, in order
-pub record ArePutBefore (input : Input) (editors next : ℕ) (requests : List Request) : Type 0 where
-  pub order : ArePutInOrder input editors requests
-  pub before : (k : ℕ) → k < length requests → order.place k < next
-
-none_there : (k : ℕ) (request : Request) → slice_get [] k ≡ Some request → ⊥
-none_there k request is = cc
-
-none_before : (input : Input) (editors next : ℕ) → ArePutBefore input editors next []
-none_before input editors next = record {
-  order = record {
-    place = λ k. 0;
-    in_order = λ k later less within. absurd (omega (arith, within));
-    by_line = λ k request at. absurd (none_there k request at);
-  };
-  before = λ k within. absurd (omega (arith, within));
-}
-
--- no request was put
-pub put_none : (input : Input) (editors next : ℕ) (requests : List Request) → requests ≡ [] → ArePutBefore input editors next requests
-put_none input editors next requests none = subst (λ (rs : List Request). ArePutBefore input editors next rs) (sym none) (none_before input editors next)
-
--- the last one of a list, or one before
-at_last : (rs : List Request) (r x : Request) (k : ℕ) → slice_get (rs ++ r ∷ []) k ≡ Some x → ((k < length rs) × (slice_get rs k ≡ Some x)) ⊎ ((k ≡ length rs) × (r ≡ x))
-at_last [] r x zero is = inr (refl, cc)
-at_last [] r x (suc k) is = absurd (cc)
-at_last (q ∷ rs) r x zero is = inl (omega arith, is)
-at_last (q ∷ rs) r x (suc k) is = ⊎_elim (λ there. inl ((let l = there.0 in omega (arith, l)), there.1)) (λ last. inr (ap suc last.0, last.1)) (at_last rs r x k is)
-
--- the places of lines, with one more behind them
-abbrev place_then : (ℕ → ℕ) → ℕ → ℕ → ℕ → ℕ
-place_then places many place k = cond (nat_lt k many) (places k) place
-
-old_place : (places : ℕ → ℕ) (many place k : ℕ) → k < many → place_then places many place k ≡ places k
-old_place places many place k less = ap (λ (b : Bool). cond b (places k) place) (lt-ltb k many less)
-
-new_place : (places : ℕ → ℕ) (many place k : ℕ) → many ≤ k → place_then places many place k ≡ place
-new_place places many place k past = ap (λ (b : Bool). cond b (places k) place) (le-ltb k many past)
-
--- one more was put
-put_more : (input : Input) (editors next place : ℕ) (rs : List Request) (r : Request) → ArePutBefore input editors next rs → next ≤ place → ∥ IsPutAt input editors place r ∥₁ → ArePutBefore input editors (place + 1) (rs ++ r ∷ [])
-put_more input editors next place rs r so behind put =
-    let long : length (rs ++ r ∷ []) ≡ length rs + 1 = length-append rs (r ∷ []) in
-    let places = so.order.place in
-    let many = length rs in
-    record {
-      order = record {
-        place = place_then places many place;
-        in_order = λ k later less within. by k later less (subst (λ (n : ℕ). later < n) long within) (nat_lt later many) refl;
-        by_line = λ k request at.
-            ⊎_elim (λ there. subst (λ (p : ℕ). ∥ IsPutAt input editors p request ∥₁) (sym (old_place places many place k there.0)) (so.order.by_line k request there.1))
-            (λ last. subst (λ (p : ℕ). ∥ IsPutAt input editors p request ∥₁) (sym (new_place places many place k (let e = last.0 in omega (arith, e)))) (subst (λ (q : Request). ∥ IsPutAt input editors place q ∥₁) last.1 put)) (at_last rs r request k at);
-      };
-      before = λ k within. below k (nat_lt k many) refl;
-    }
-  where
-    by : (k later : ℕ) → k < later → later < length rs + 1 → (test : Bool) → nat_lt later (length rs) ≡ test → place_then so.order.place (length rs) place k < place_then so.order.place (length rs) place later
-    by k later less within true test =
-        let there : later < length rs = ltb-true later (length rs) test in
-        let one = old_place so.order.place (length rs) place k (omega (arith, less, there)) in
-        let two = old_place so.order.place (length rs) place later there in
-        let rise = so.order.in_order k later less there in
-        subst (λ (p : ℕ). p < place_then so.order.place (length rs) place later) (sym one) (subst (λ (p : ℕ). so.order.place k < p) (sym two) rise)
-    by k later less within false test =
-        let past : length rs ≤ later = ltb-false later (length rs) test in
-        let first : k < length rs = omega (arith, less, within, past) in
-        let one = old_place so.order.place (length rs) place k first in
-        let two = new_place so.order.place (length rs) place later past in
-        let under = so.before k first in
-        subst (λ (p : ℕ). p < place_then so.order.place (length rs) place later) (sym one) (subst (λ (p : ℕ). so.order.place k < p) (sym two) (omega (arith, under, behind)))
-
-    below : (k : ℕ) → (test : Bool) → nat_lt k (length rs) ≡ test → place_then so.order.place (length rs) place k < place + 1
-    below k true test =
-        let there : k < length rs = ltb-true k (length rs) test in
-        let under = so.before k there in
-        subst (λ (p : ℕ). p < place + 1) (sym (old_place so.order.place (length rs) place k there)) (omega (arith, under, behind))
-    below k false test = subst (λ (p : ℕ). p < place + 1) (sym (new_place so.order.place (length rs) place k (ltb-false k (length rs) test))) (omega arith)
-
--- none more was put
-put_still : (input : Input) (editors next place : ℕ) (old new : List Request) → ArePutBefore input editors next old → next ≤ place → new ≡ old → ArePutBefore input editors (place + 1) new
-put_still input editors next place old new so behind same =
-    subst (λ (rs : List Request). ArePutBefore input editors (place + 1) rs) (sym same)
-    (record { order = so.order; before = λ k within. (let b = so.before k within in omega (arith, b, behind)) })
+-- one more was put, by a line more
+by_more : (input : Input) (editors : ℕ) (lines : List PutLine) (requests : List Request) (line : PutLine) (request : Request) → ArePutBy input editors lines requests → line.ticket ≡ request.ticket
+    → ∥ IsPutAt input editors line.place request ∥₁ → ArePutBy input editors (lines ++ line ∷ []) (requests ++ request ∷ [])
+by_more input editors [] [] line request are ticket put = (ticket, put, tt)
+by_more input editors (l ∷ lines) (r ∷ requests) line request are ticket put = (are.0, are.1, by_more input editors lines requests line request are.2 ticket put)
+by_more input editors [] (r ∷ requests) line request are ticket put = absurd are
+by_more input editors (l ∷ lines) [] line request are ticket put = absurd are
 
 -- a line that asks for an edit put this request
 put_at : (input : Input) (editors place session s told : ℕ) (ticket : Option ℕ) (change : List Op) → ∥ IsAskedAt input editors place (Edit session ticket change) ∥₁ → s ≡ session → IsOfTicket ticket told
@@ -107,20 +36,65 @@ put_at : (input : Input) (editors place session s told : ℕ) (ticket : Option �
 put_at input editors place session s told ticket change asked same under =
     ∥∥₁_map asked (λ a. record { ticket = ticket; asked = subst (λ (n : ℕ). IsAskedAt input editors place (Edit n ticket change)) (sym same) a; under = under })
 
--- an edit was answered
-put_for_edit : (input : Input) (editors next place session : ℕ) (ticket : Option ℕ) (change : List Op) (answer : Answer) (old new : Editing) → ArePutBefore input editors next old.put → next ≤ place
-    → ∥ IsAskedAt input editors place (Edit session ticket change) ∥₁ → Fits (Edit session ticket change) answer → HasPutFor (Edit session ticket change) answer old new → ArePutBefore input editors (place + 1) new.put
-put_for_edit input editors next place session ticket change (Settled mark) old new so behind asked fits put =
-    subst (λ (rs : List Request). ArePutBefore input editors (place + 1) rs) (sym put)
-    (put_more input editors next place old.put (record { session = mark.session; ticket = mark.ticket; change = change }) so behind
-    (put_at input editors place session mark.session mark.ticket ticket change asked fits.0 fits.1))
-put_for_edit input editors next place session ticket change _ old new so behind asked fits put = put_still input editors next place old.put new.put so behind put
+-- nothing was put, and nothing was noted
+noted_still : (book : Book) (input : Input) (editors : ℕ) (old new : Editing) (before after : Noted) → HasNoted book input editors old before → new.session ≡ old.session → new.put ≡ old.put → after.number ≡ before.number → after.lines ≡ before.lines
+    → HasNoted book input editors new after
+noted_still book input editors old new before after has own put number lines =
+    let same : lines_of new.session after.lines.lines ≡ lines_of old.session before.lines.lines = (λ i. lines_of (own i) (lines i).lines) in
+    record {
+      book_is = ap (λ (l : Listed). l.book) lines ∙ has.book_is;
+      number = number ∙ (has.number ∙ ap length (sym same));
+      put = subst (λ (rs : List Request). ArePutBy input editors (lines_of new.session after.lines.lines) rs) (sym put)
+          (subst (λ (ls : List PutLine). ArePutBy input editors ls old.put) (sym same) has.put);
+    }
+
+-- a line put a request, and was noted
+noted_put : (book : Book) (input : Input) (editors place session : ℕ) (ticket : Option ℕ) (change : List Op) (mark : Mark) (old new : Editing) (before after : Noted) → HasNoted book input editors old before → new.session ≡ old.session
+    → ∥ IsAskedAt input editors place (Edit session ticket change) ∥₁ → Fits (Edit session ticket change) (Settled mark) → HasPutFor (Edit session ticket change) (Settled mark) old new
+    → NotesAnswer old.session place (Settled mark) before after → HasNoted book input editors new after
+noted_put book input editors place session ticket change mark old new before after has own asked fits put notes =
+    let line = put_by mark place in
+    let request : Request = record { session = mark.session; ticket = mark.ticket; change = change } in
+    let mine : mark.session ≡ new.session = notes.0 ∙ sym own in
+    let all : lines_of new.session after.lines.lines ≡ lines_of old.session before.lines.lines ++ line ∷ [] =
+    subst (λ (s : ℕ). lines_of s after.lines.lines ≡ lines_of s before.lines.lines ++ line ∷ []) mine notes.2.added ∙ ap (λ (s : ℕ). lines_of s before.lines.lines ++ line ∷ []) own in
+    record {
+      book_is = notes.2.book ∙ has.book_is;
+      number = notes.1 ∙ (ap (λ (n : ℕ). n + 1) has.number ∙ sym (ap length all ∙ length-append (lines_of old.session before.lines.lines) (line ∷ [])));
+      put = subst (λ (rs : List Request). ArePutBy input editors (lines_of new.session after.lines.lines) rs) (sym put)
+          (subst (λ (ls : List PutLine). ArePutBy input editors ls (old.put ++ request ∷ [])) (sym all)
+          (by_more input editors (lines_of old.session before.lines.lines) old.put line request has.put refl (put_at input editors place session mark.session mark.ticket ticket change asked fits.0 fits.1)));
+    }
 
 -- a line was answered
-pub put_for : (input : Input) (editors next place : ℕ) (asked : Asked) (answer : Answer) (old new : Editing) → ArePutBefore input editors next old.put → next ≤ place → ∥ IsAskedAt input editors place asked ∥₁ → Fits asked answer
-    → HasPutFor asked answer old new → ArePutBefore input editors (place + 1) new.put
-put_for input editors next place (Edit session ticket change) answer old new so behind asked fits put = put_for_edit input editors next place session ticket change answer old new so behind asked fits put
-put_for input editors next place _ answer old new so behind asked fits put = put_still input editors next place old.put new.put so behind put
+pub noted_for : (book : Book) (input : Input) (editors place : ℕ) (asked : Asked) (answer : Answer) (old new : Editing) (before after : Noted) → HasNoted book input editors old before → new.session ≡ old.session
+    → ∥ IsAskedAt input editors place asked ∥₁ → Fits asked answer → HasPutFor asked answer old new → NotesAnswer old.session place answer before after → HasNoted book input editors new after
+noted_for book input editors place (Edit session ticket change) (Settled mark) old new before after has own asked fits put notes =
+    noted_put book input editors place session ticket change mark old new before after has own asked fits put notes
+noted_for book input editors place _ (Settled mark) old new before after has own asked fits put notes = absurd fits
+noted_for book input editors place (Edit session ticket change) _ old new before after has own asked fits put notes = noted_still book input editors old new before after has own put notes.0 notes.1
+noted_for book input editors place _ _ old new before after has own asked fits put notes = noted_still book input editors old new before after has own put notes.0 notes.1
+
+-- before any line
+pub none_noted : (book : Book) (input : Input) (editors : ℕ) (editor : Editing) (noted : Noted) → noted.lines.book ≡ book → noted.number ≡ 0 → noted.lines.lines ≡ [] → editor.put ≡ [] → HasNoted book input editors editor noted
+none_noted book input editors editor noted of number none put = record {
+  book_is = of;
+  number = number ∙ ap (λ (ls : List PutLine). length (lines_of editor.session ls)) (sym none);
+  put = subst (λ (ls : List PutLine). ArePutBy input editors (lines_of editor.session ls) editor.put) (sym none) (subst (λ (rs : List Request). ArePutBy input editors [] rs) (sym put) tt);
+}
+
+-- ---- a message
+
+last_there : (lines : List PutLine) (line : PutLine) → slice_get (lines ++ line ∷ []) (length lines) ≡ Some line
+last_there [] line = refl
+last_there (l ∷ lines) line = last_there lines line
+
+-- a line that was added is the next one
+pub next_there : (old : Listed) (line : PutLine) (new after : Listed) (number : ℕ) → AddsLine old line new → number ≡ length (lines_of line.session old.lines) → after ≡ new → slice_get (lines_of line.session after.lines) number ≡ Some line
+next_there old line new after number adds many same =
+    subst (λ (l : Listed). slice_get (lines_of line.session l.lines) number ≡ Some line) (sym same)
+    (subst (λ (n : ℕ). slice_get (lines_of line.session new.lines) n ≡ Some line) (sym many)
+    (subst (λ (ls : List PutLine). slice_get ls (length (lines_of line.session old.lines)) ≡ Some line) (sym adds.added) (last_there (lines_of line.session old.lines) line)))
 
 -- ---- one editor
 

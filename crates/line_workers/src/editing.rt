@@ -1,16 +1,18 @@
 // An editor's thread.
-ghost use Rattle.std.specs.Prelude.{◌≡◌, ◌≢◌, [], IfSome};
+ghost use Rattle.std.specs.Prelude.{◌≡◌, ◌≢◌, [], IfSome, length};
+ghost use Rattle.put_lines.specs.Lines.{lines_of};
 ghost use Rattle.service_workers.specs.Edited.{IsSameEditor};
 ghost use Rattle.live_lines.specs.Answers.{Fits};
 ghost use Rattle.line_exchange.specs.OneList.{IsSaidBy};
-ghost use Rattle.line_workers.specs.Submits.{ComesBack, HasPutFor};
+ghost use Rattle.line_workers.specs.Submits.{ComesBack, HasPutFor, NotesAnswer};
 
 use crate::workplace::Workplace;
 use generations::{Mark, Verdict};
 use graph_edits::Change;
-use line_exchange::{Answered, Ask, Stream};
+use line_exchange::{Answered, Ask, Noted, NotedLine, Stream};
 use live_lines::{Answer, Asked};
 use packet_ways::BoardName;
+use put_lines::PutLine;
 use service_workers::{EditEnd, SessionEditor, StopCause};
 use std::marker::PhantomData;
 use std::sync::Wait;
@@ -100,70 +102,120 @@ fn answer_of<J: Stream, B: BoardName, R: Wait>(
     }
 }
 
-// A line, answered. Without an answer all stop.
+#[tactic(auto, using(crate::proofs::Submitting::next_there))]
+// The line of a verdict of this session, noted behind those before it, and what is noted then. None where it can't be.
+fn noted_with<J: Stream, B: BoardName, R: Wait>(
+    here: &Workplace<J, B, R>,
+    noted: &Noted,
+    session: u8,
+    place: u64,
+    answer: &Answer,
+) -> Option<(Option<NotedLine<J>>, Noted)>
+    requires book { noted.now.lines.book ≡ J.book }
+    requires number { noted.now.number ≡ length (lines_of session noted.now.lines.lines) }
+    ensures { IfSome result (λ r. NotesAnswer session place answer.now noted.now r.1) }
+{
+    match answer {
+        Answer::Settled(mark) => {
+            if mark.session != session {
+                return None;
+            }
+            let line = PutLine {
+                session: mark.session,
+                ticket: mark.ticket,
+                place,
+            };
+            let number = noted.number.checked_add(1)?;
+            let lines = noted.lines.add(&here.exchange.book, &line, noted.number)?;
+            let told = NotedLine {
+                line,
+                number: noted.number,
+                lines: lines.again(),
+                of: PhantomData,
+            };
+            Some((Some(told), Noted { number, lines }))
+        }
+        _ => {
+            let same = Noted {
+                number: noted.number,
+                lines: noted.lines.again(),
+            };
+            Some((None, same))
+        }
+    }
+}
+
+// A line, answered, and noted where that put a request. Without an answer all stop.
 fn answered<J: Stream, B: BoardName, R: Wait>(
     here: &Workplace<J, B, R>,
     editor: SessionEditor<B>,
+    noted: &Noted,
     ask: Ask<J>,
-) -> Option<(SessionEditor<B>, Answered<J, B>)>
+) -> Option<(SessionEditor<B>, Noted, Answered<J, B>)>
+    requires book { noted.now.lines.book ≡ J.book }
+    requires number { noted.now.number ≡ length (lines_of editor.editor.session noted.now.lines.lines) }
     ensures same { IfSome result (λ r. IsSameEditor editor.editor r.0.editor) }
-    ensures fits { IfSome result (λ r. Fits ask.asked r.1.answer) }
-    ensures put { IfSome result (λ r. HasPutFor ask.asked r.1.answer editor.editor r.0.editor) }
+    ensures fits { IfSome result (λ r. Fits ask.asked r.2.answer) }
+    ensures put { IfSome result (λ r. HasPutFor ask.asked r.2.answer editor.editor r.0.editor) }
+    ensures noted { IfSome result (λ r. NotesAnswer editor.editor.session ask.place r.2.answer noted.now r.1) }
 {
     let Ask { place, asked, of } = ask;
+    let session = editor.session();
     let (editor, answer) = answer_of(here, editor, asked)?;
+    let Some((line, more)) = noted_with(here, noted, session, place, &answer) else {
+        here.coordinator.stop(here.rt, StopCause::Internal);
+        return None;
+    };
     let answered = Answered {
         place,
         answer,
         known: editor.known(),
+        noted: line,
         of,
         at: PhantomData,
     };
-    Some((editor, answered))
+    Some((editor, more, answered))
 }
 
-// Answers one line after the other, each behind the one before. The editor comes back, unless all stop.
+// Answers one line after the other. The editor comes back, unless all stop, with what it noted of the lines by which it put requests.
 fn answer_each<J: Stream, B: BoardName, R: Wait>(
     here: &Workplace<J, B, R>,
     editor: SessionEditor<B>,
-) -> Option<SessionEditor<B>>
+) -> Option<(SessionEditor<B>, Noted)>
     requires { editor.editor.put ≡ [] }
-    ensures { IfSome result (λ e. ComesBack J.input J.editors editor.editor e.editor) }
+    ensures { IfSome result (λ r. ComesBack J.book J.input J.editors editor.editor r.0.editor r.1) }
 {
     let Some(mailbox) = here.exchange.sessions.get(editor.session() as usize) else {
         here.coordinator.stop(here.rt, StopCause::Internal);
         return None;
     };
     let mut editor = editor;
-    // The least place that the next line may have.
-    let mut next: u64 = 0;
+    let mut noted = Noted {
+        number: 0,
+        lines: here.exchange.book.begin(),
+    };
     for _ in here.rt.forever() {
         let Some(ask) = mailbox.take(here.rt) else {
-            return Some(editor);
+            return Some((editor, noted));
         };
-        let place = ask.place;
-        if place < next || place == u64::MAX {
-            here.coordinator.stop(here.rt, StopCause::Internal);
-            return None;
-        }
-        let Some((back, answered)) = answered(here, editor, ask) else {
+        let Some((back, more, answered)) = answered(here, editor, &noted, ask) else {
             return None;
         };
         editor = back;
-        next = place + 1;
+        noted = more;
         let _put = here.exchange.answers.put(here.rt, answered);
     }
     unreachable!()
 }
 
 /// Answers the lines that are a session's, one after the other, until no more comes or all stop. The editor comes back, unless all
-/// stop: what it put, lines asked for, in their order.
+/// stop, with what it noted: which line put which of its requests.
 pub fn edit_lines<J: Stream, B: BoardName, R: Wait>(
     here: &Workplace<J, B, R>,
     editor: SessionEditor<B>,
-) -> Option<SessionEditor<B>>
+) -> Option<(SessionEditor<B>, Noted)>
     requires { editor.editor.put ≡ [] }
-    ensures { IfSome result (λ e. ComesBack J.input J.editors editor.editor e.editor) }
+    ensures { IfSome result (λ r. ComesBack J.book J.input J.editors editor.editor r.0.editor r.1) }
 {
     let back = answer_each(here, editor);
     here.coordinator.leave(here.rt);

@@ -195,6 +195,7 @@ fn answered<J: Stream, B: BoardName, G: Gate, R: Wait>(
         place,
         answer,
         known: forwarder.known(),
+        noted: None,
         of,
         at: PhantomData,
     })

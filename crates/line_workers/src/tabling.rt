@@ -128,11 +128,10 @@ fn newest_now<J: Stream, B: BoardName, R: Wait>(
 {
     let mut reader = reader;
     for _ in here.rt.forever() {
-        let news = here.coordinator.news(here.rt);
-        if news.stopped {
+        let Some(shown) = here.coordinator.shown(here.rt) else {
             return (reader, None);
-        }
-        reader.learn(news.stand.told.told());
+        };
+        reader.learn(shown.told.told());
         let (back, newest) = look_for_newest(reader);
         match newest {
             Some(newest) => return (back, Some(newest)),
@@ -346,6 +345,7 @@ fn answered<J: Stream, T: TableFiles, B: BoardName, R: Wait>(
         place,
         answer,
         known: reader.known(),
+        noted: None,
         of,
         at: PhantomData,
     };

@@ -1,6 +1,7 @@
 // The thread that answers how a service stands.
 ghost use Rattle.std.specs.Prelude.{◌≡◌, IfSome};
 ghost use Rattle.line_exchange.specs.OneList.{AnswersBy};
+ghost use Rattle.packet_ways.specs.Standing.{IsNewest};
 
 use crate::workplace::Workplace;
 use generations::History;
@@ -11,46 +12,48 @@ use service_workers::{Standing, StopCause};
 use std::marker::PhantomData;
 use std::sync::Wait;
 
-// How the service stands, once so many changes and this generation are told. None where all stop.
+// How the service stands, once so many changes and this generation are told, and the newest generation. None where all stop.
 fn standing_from<J: Stream, B: BoardName, R: Wait>(
     here: &Workplace<J, B, R>,
     count: u64,
     generation: u64,
-) -> Option<Standing<B>> {
+) -> Option<(Standing<B>, u64)>
+    ensures { IfSome result (λ r. IsNewest r.0.stand.told r.1) }
+{
     for _ in here.rt.forever() {
         let standing = here.coordinator.standing(here.rt);
-        if count <= standing.stand.count && generation <= standing.stand.generation {
-            return Some(standing);
+        match standing.stand.generation {
+            Some(newest) if count <= standing.stand.count && generation <= newest => {
+                return Some((standing, newest));
+            }
+            _ if standing.stopped => return None,
+            _ => here.coordinator.await_news(here.rt, standing.turn),
         }
-        if standing.stopped {
-            return None;
-        }
-        here.coordinator.await_news(here.rt, standing.turn);
     }
     None
 }
 
 // What is answered of how the service stands, and what was told by then.
-fn state_of<B: BoardName>(standing: &Standing<B>) -> (Answer, History)
+fn state_of<B: BoardName>(standing: &Standing<B>, newest: u64) -> (Answer, History)
+    requires { IsNewest standing.now.stand.told newest }
     ensures answers { AnswersBy result.1 Asked.State result.0 }
     ensures named { result.1.opening ≡ B.opening }
 {
     let answer = Answer::State {
         count: standing.stand.count,
-        generation: standing.stand.generation,
+        generation: newest,
         queue: standing.queue,
     };
     (answer, standing.stand.told.told().history())
 }
 
 // The same of the newest generation.
-fn waited_of<B: BoardName>(standing: &Standing<B>) -> (Answer, History)
+fn waited_of<B: BoardName>(standing: &Standing<B>, newest: u64) -> (Answer, History)
+    requires { IsNewest standing.now.stand.told newest }
     ensures answers { AnswersBy result.1 Asked.Wait result.0 }
     ensures named { result.1.opening ≡ B.opening }
 {
-    let answer = Answer::Waited {
-        generation: standing.stand.generation,
-    };
+    let answer = Answer::Waited { generation: newest };
     (answer, standing.stand.told.told().history())
 }
 
@@ -65,12 +68,12 @@ fn answer_of<J: Stream, B: BoardName, R: Wait>(
     let first = here.coordinator.standing(here.rt);
     match asked {
         Asked::State => {
-            let now = standing_from(here, first.reached, first.seen)?;
-            Some(state_of(&now))
+            let (now, newest) = standing_from(here, first.reached, first.seen)?;
+            Some(state_of(&now, newest))
         }
         Asked::Wait => {
-            let now = standing_from(here, 0, first.reached.max(first.stand.count))?;
-            Some(waited_of(&now))
+            let (now, newest) = standing_from(here, 0, first.reached.max(first.stand.count))?;
+            Some(waited_of(&now, newest))
         }
         _ => {
             here.coordinator.stop(here.rt, StopCause::Internal);
@@ -90,6 +93,7 @@ fn answered<J: Stream, B: BoardName, R: Wait>(
         place,
         answer,
         known,
+        noted: None,
         of,
         at: PhantomData,
     })

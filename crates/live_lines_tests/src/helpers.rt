@@ -30,13 +30,6 @@ pub(crate) fn expect_asked(rt: &impl Abort, alloc: Global, line: &str, editors: 
     );
 }
 
-/// Sees that none of these lines is understood, with two editors.
-pub(crate) fn expect_none(rt: &impl Abort, alloc: Global, lines: &[&str]) {
-    for line in lines {
-        expect_asked(rt, alloc, line, 2, &Asked::NotUnderstood);
-    }
-}
-
 /// Sees that an answer is printed so.
 pub(crate) fn expect_text(rt: &impl Abort, alloc: Global, answer: &Answer, want: &str) {
     let text = match answer.text(alloc) {

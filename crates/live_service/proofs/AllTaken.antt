@@ -8,6 +8,8 @@ use Rattle.std.proofs.lemmas.List.Elements.{Contains-append_left, filter-append}
 use mathlib.Core.Logic.{∥∥₁_elim}
 use mathlib.Core.HLevel.{⊥_prop}
 use mathlib.Core.List.{IsPrefix}
+use Rattle.logbook.specs.Pages.{Book}
+use Rattle.put_lines.specs.Lines.{lines_of}
 use Rattle.requests.specs.Requests.{asked_by}
 use Rattle.requests.specs.declared.request.Request.{Request}
 use Rattle.layout_2.specs.State.{State}
@@ -16,6 +18,7 @@ use Rattle.group_commit.proofs.SettlingLemmas.{one_mark_each}
 use Rattle.generations.specs.declared.posting.Mark.{Mark}
 use Rattle.generations.specs.declared.posting.Notice.{Notice}
 use Rattle.generations.specs.Notices.{marks_in, marks_of, told_to}
+use Rattle.settled_lists.specs.declared.builds.Builds.{Builds}
 use Rattle.settled_lists.specs.Posted.{ArePosted}
 use Rattle.intake.specs.Editors.{Editing}
 use Rattle.intake.specs.Turns.{AreOfEditors, last_or_start, of}
@@ -25,8 +28,8 @@ use Rattle.service_threads.specs.Kept.{KeepsQueue}
 use Rattle.service_workers.specs.AtRest.{IsAtRest, RisesFrom}
 use Rattle.service_workers.proofs.Resting.{start_more}
 use Rattle.line_exchange.specs.Inputs.{Input}
-use Rattle.line_workers.specs.Submits.{ArePutInOrder}
-use Rattle.line_workers.proofs.Submitting.{put_none}
+use Rattle.live_service.specs.Noting.{AreAllNoted, AreJoined}
+use Rattle.live_service.specs.declared.ending.Joined.{Joined}
 
 -- ---- elements of lists
 
@@ -113,7 +116,7 @@ last_in_front start xs y ys r rises there is =
 -- ---- what is taken
 
 -- a mark that is posted is that of a request that was taken
-marked : (first : State) (got : List Request) (log : List Notice) (mark : Mark) → ArePosted first got log → Contains (marks_in log) mark → (r : Request) × In r got × (asked_by r ≡ told_to mark)
+marked : {builds : Builds} → (first : State) (got : List Request) (log : List Notice) (mark : Mark) → ArePosted builds first got log → Contains (marks_in log) mark → (r : Request) × In r got × (asked_by r ≡ told_to mark)
 marked first got log mark posted has =
     let there : In mark (settle first (take posted.many got)).marks = subst (λ (ms : List Mark). In mark ms) posted.marks (in_list mark (marks_in log) has.0 has.1 has.2) in
     let told : In (told_to mark) (map asked_by (take posted.many got)) = subst (λ (l : List (ℕ × ℕ)). In (told_to mark) l) (one_mark_each first (take posted.many got)) (in_map told_to mark (settle first (take posted.many got)).marks there) in
@@ -121,7 +124,7 @@ marked first got log mark posted has =
     (found.0, in_whole found.0 posted.many got found.1, found.2)
 
 -- so it is one of its session
-marked_of : (first : State) (got : List Request) (log : List Notice) (mark : Mark) (session : ℕ) → mark.session ≡ session → ArePosted first got log → Contains (marks_in log) mark
+marked_of : {builds : Builds} → (first : State) (got : List Request) (log : List Notice) (mark : Mark) (session : ℕ) → mark.session ≡ session → ArePosted builds first got log → Contains (marks_in log) mark
     → (r : Request) × In r (of session got) × (r.ticket ≡ mark.ticket)
 marked_of first got log mark session own posted has =
     let found = marked first got log mark posted has in
@@ -135,7 +138,7 @@ known_mark known log mark on has =
     (subst (λ (ms : List Mark). Contains ms mark) (sym (flat_map-append marks_of known on.0)) (Contains-append_left (marks_in known) (marks_in on.0) mark has))
 
 -- the editor's last request was taken, so none stands behind it
-no_rest : (e : Editing) (last : Option Mark) (first : State) (got : List Request) (log : List Notice) (y : Request) (ys : List Request) → e.put ≡ of e.session got ++ y ∷ ys → IsAtRest e last → ArePosted first got log
+no_rest : {builds : Builds} → (e : Editing) (last : Option Mark) (first : State) (got : List Request) (log : List Notice) (y : Request) (ys : List Request) → e.put ≡ of e.session got ++ y ∷ ys → IsAtRest e last → ArePosted builds first got log
     → IsPrefix e.known.log log → ⊥
 no_rest e None first got log y ys put rests posted on = some_behind (of e.session got) y ys (sym put ∙ rests.told)
 no_rest e (Some mark) first got log y ys put rests posted on =
@@ -144,33 +147,35 @@ no_rest e (Some mark) first got log y ys put rests posted on =
     last_in_front e.start (of e.session got) y ys found.0 (subst (λ (rs : List Request). RisesFrom e.start rs) put rests.rises) found.1
     (found.2 ∙ (told.1 ∙ ap (λ (rs : List Request). last_or_start e.start rs) put))
 
-all_by : (e : Editing) (last : Option Mark) (first : State) (got : List Request) (log : List Notice) (rest : List Request) → e.put ≡ of e.session got ++ rest → ∥ IsAtRest e last ∥₁ → ArePosted first got log
+all_by : {builds : Builds} → (e : Editing) (last : Option Mark) (first : State) (got : List Request) (log : List Notice) (rest : List Request) → e.put ≡ of e.session got ++ rest → ∥ IsAtRest e last ∥₁ → ArePosted builds first got log
     → IsPrefix e.known.log log → e.put ≡ of e.session got
 all_by e last first got log [] put rests posted on = put ∙ append-nil (of e.session got)
 all_by e last first got log (y ∷ ys) put rests posted on = absurd (∥∥₁_elim rests ⊥_prop (λ r. no_rest e last first got log y ys put r posted on))
 
 -- all that an editor put has been taken, where all that it knows is posted
-pub all_taken : (e : Editing) (last : Option Mark) (first : State) (got waits : List Request) (log : List Notice) → e.put ≡ of e.session (got ++ waits) → ∥ IsAtRest e last ∥₁ → ArePosted first got log → IsPrefix e.known.log log
+pub all_taken : {builds : Builds} → (e : Editing) (last : Option Mark) (first : State) (got waits : List Request) (log : List Notice) → e.put ≡ of e.session (got ++ waits) → ∥ IsAtRest e last ∥₁ → ArePosted builds first got log → IsPrefix e.known.log log
     → e.put ≡ of e.session got
 all_taken e last first got waits log put rests posted on =
     all_by e last first got log (of e.session waits) (put ∙ filter-append (λ (r : Request). r.session == e.session) got waits) rests posted on
 
 -- ---- all sessions
 
--- what was taken was put by lines of the input, where each editor has ended, and all that it put was taken
-pub all_sessions : {D R : Type 0} {V : _} → (input : Input) (editors : ℕ) (first now : Committer D R V) (ended : ℕ) → got_of first ≡ [] → KeepsQueue first now → ended ≡ (taker_of first).made
-    → ((session : ℕ) → session < ended → ArePutInOrder input editors (of session (got_of now))) → (session : ℕ) → ArePutInOrder input editors (of session (got_of now))
-all_sessions input editors first now ended none keeps all each session = by (nat_lt session ended) refl
+-- all that was taken was noted, where each editor has ended, and all that it put was taken
+pub all_sessions : {D R : Type 0} {V : _} → (book : Book) (input : Input) (editors : ℕ) (first now : Committer D R V) (joined : Joined) → got_of first ≡ [] → KeepsQueue first now → joined.count ≡ (taker_of first).made
+    → AreJoined book input editors (got_of now) joined → (session : ℕ) → AreAllNoted input editors joined.puts joined.lines.lines session (of session (got_of now))
+all_sessions book input editors first now joined none keeps all are session = by (nat_lt session joined.count) refl
   where
     begun : AreOfEditors (taker_of first).made (got_of first)
     begun s above = ap (of s) none
 
-    by : (test : Bool) → nat_lt session ended ≡ test → ArePutInOrder input editors (of session (got_of now))
-    by true test = each session (ltb-true session ended test)
+    by : (test : Bool) → nat_lt session joined.count ≡ test → AreAllNoted input editors joined.puts joined.lines.lines session (of session (got_of now))
+    by true test = are.each session (ltb-true session joined.count test)
     by false test =
-        let past : ended ≤ session = ltb-false session ended test in
+        let past : joined.count ≤ session = ltb-false session joined.count test in
         let made = keeps.made in
-        (put_none input editors 0 (of session (got_of now)) (keeps.editors begun session (omega (arith, past, made, all)))).order
+        let empty : of session (got_of now) ≡ [] = keeps.editors begun session (omega (arith, past, made, all)) in
+        subst (λ (rs : List Request). AreAllNoted input editors joined.puts joined.lines.lines session rs) (sym empty)
+        (record { noted = []; put = tt; many = are.later session past; first = (lines_of session joined.lines.lines, refl) })
 
 -- what holds where there is no error
 pub ok_holds : {T E : Type 0} → (r : Result T E) (P : Type 0) → is_ok r ≡ true → OnOk r P → P

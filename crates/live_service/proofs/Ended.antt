@@ -1,14 +1,19 @@
 -- How a live service ends.
-use Rattle.std.proofs.Common.{◌≡◌, ◌≢◌, ⊎_elim, refl, sym, subst, List, ℕ, Option, Some, None, Result, Ok, Err, IfErr, IfOk, OnOk, IsErrOf, false, arith}
+use Rattle.std.proofs.Common.{◌≡◌, ◌≢◌, ◌∙◌, ⊎_elim, refl, sym, ap, subst, ℕ, Option, Some, None, Result, Ok, Err, IfErr, IfOk, OnOk, IsErrOf, false, arith}
 use Rattle.std.specs.Prelude.{IfSome, IsSome, IsSomeAnd}
-use Rattle.disk_trait.specs.declared.disk.Disk.{Ghosts}
+use Rattle.std.specs.Io.KnownBytes.{Appends}
+use Rattle.disk_trait.specs.declared.disk.Disk.{Ghosts as Disks}
 use Rattle.disk_trait.specs.Disk.{DiskView, IsSameDevice}
 use Rattle.checkpoint.specs.StoreWords.{state_of, view_of, is_down}
 use Rattle.checkpoint.specs.declared.store.Store.{Store}
 use Rattle.written_values.specs.declared.words.LandmarkWords.{LandmarkWords}
 use Rattle.command_output.specs.declared.fault.Fault.{Fault}
 use Rattle.command_output.specs.declared.fault.Fault.TheVariants as told
+use Rattle.line_exchange.specs.Begun.{PrintsUnless}
+use Rattle.line_exchange.specs.declared.answer_writer.AnswerWriter.{Ghosts}
 use Rattle.service_threads.specs.Faults.{stop_fault}
+use Rattle.service_threads.specs.declared.fault.Fault.{Fault as Stopped}
+use Rattle.service_threads.specs.declared.fault.Fault.TheVariants as why
 use Rattle.service_threads.specs.Kept.{HasFailed, HasSettledSome, IsServedDisk}
 use Rattle.service_threads.proofs.Settling.{some_settled}
 use Rattle.device_commands.specs.Openings.{TellsOf}
@@ -17,16 +22,22 @@ use Rattle.line_exchange.specs.declared.served.Served.{Served}
 use Rattle.line_exchange.specs.declared.served.Served.TheVariants as served
 use Rattle.service_workers.specs.declared.stop_cause.StopCause.{StopCause}
 use Rattle.service_workers.specs.declared.stop_cause.StopCause.TheVariants as cause
-use Rattle.generations.specs.Beginnings.{Beginning, Opening}
+use Rattle.generations.specs.Beginnings.{Opening}
+use Rattle.logbook.specs.Pages.{Book}
+use Rattle.live_service.specs.declared.ending.Ending.{Ending}
 use Rattle.line_exchange.specs.Inputs.{Input}
 use Rattle.line_exchange.specs.Ends.{IsFinish, fault_of}
+use Rattle.line_exchange.specs.Reads.{AreOfInput, IsReadEnd}
+use Rattle.line_exchange.specs.declared.read_fault.ReadFault.{ReadFault}
+use Rattle.line_exchange.specs.declared.read_fault.ReadFault.TheVariants.{Input as Failed}
 use Rattle.live_lines.specs.Answers.{answer_text}
-use Rattle.line_exchange.specs.Prints.{HasPrinted, PrintsSo}
-use Rattle.live_service.specs.Runs.{HasEnded, HasRun, IsFaultOf, IsPrintEnd, IsRun, PrintsTo}
+use Rattle.line_exchange.specs.Prints.{PrintsSo, answers_text}
+use Rattle.live_service.specs.Runs.{HasBroken, HasEnded, HasRun, IsFaultOf, IsPrintEnd, IsRun, PrintsTo}
 use Rattle.live_service.specs.ServedList.{EndsServed, HasPrintedOn, HasServedOn}
 use Rattle.line_exchange.specs.declared.printed.Printed.{Printed}
-use Rattle.line_exchange.proofs.PrintedLines.{none_printed}
-use Rattle.line_exchange.proofs.SaidLines.{printed_of}
+use Rattle.line_exchange.specs.declared.printed.PrintEnd.TheVariants.{Output}
+use Rattle.line_exchange.proofs.PrintedLines.{begins_all, none_printed}
+use Rattle.line_exchange.proofs.SaidLines.{printed_as, printed_of}
 
 -- ---- an engine that took nothing
 
@@ -34,9 +45,9 @@ cause_of : {T : Type 0} (a b : StopCause) → IsErrOf {T = T} (Err a) b → a �
 cause_of a b is = cc
 
 -- it stopped, and not since the device failed
-pub stopped_early : {D : Type 0} {V : _} → (opening : Opening) (store : Store D V) (input : Input) (editors : ℕ) (c : StopCause) (new : DiskView) → c ≢ cause.Device → HasSettledSome (state_of store) (view_of store) new
-    → EndsServed opening store input editors (Err c) new
-stopped_early opening store input editors c new other settled =
+pub stopped_early : {D : Type 0} {V : _} → (opening : Opening) (book : Book) (store : Store D V) (input : Input) (editors : ℕ) (c : StopCause) (new : DiskView) → c ≢ cause.Device → HasSettledSome (state_of store) (view_of store) new
+    → EndsServed opening book store input editors (Err c) new
+stopped_early opening book store input editors c new other settled =
     record { disk = record { settled = settled; device = λ is. absurd (other (cause_of c cause.Device is)) }; named = tt; all = tt }
 
 not_memory : cause.Memory ≢ cause.Device
@@ -46,15 +57,15 @@ not_thread : cause.NoThread ≢ cause.Device
 not_thread is = cc
 
 -- .. and want of memory is no such failure
-pub memory_early : {D : Type 0} {V : _} → (opening : Opening) (store back : Store D V) (input : Input) (editors : ℕ) → is_down store ≡ false → back ≡ store → EndsServed opening store input editors (Err cause.Memory) (view_of back)
-memory_early opening store back input editors up same =
-    stopped_early opening store input editors cause.Memory (view_of back) not_memory
+pub memory_early : {D : Type 0} {V : _} → (opening : Opening) (book : Book) (store back : Store D V) (input : Input) (editors : ℕ) → is_down store ≡ false → back ≡ store → EndsServed opening book store input editors (Err cause.Memory) (view_of back)
+memory_early opening book store back input editors up same =
+    stopped_early opening book store input editors cause.Memory (view_of back) not_memory
     (subst (λ s. HasSettledSome (state_of store) (view_of store) (view_of s)) (sym same) (some_settled store up))
 
 -- .. nor is want of a thread
-pub thread_early : {D : Type 0} {V : _} → (opening : Opening) (store : Store D V) (new : DiskView) (input : Input) (editors : ℕ) → is_down store ≡ false → new ≡ view_of store → EndsServed opening store input editors (Err cause.NoThread) new
-thread_early opening store new input editors up same =
-    stopped_early opening store input editors cause.NoThread new not_thread
+pub thread_early : {D : Type 0} {V : _} → (opening : Opening) (book : Book) (store : Store D V) (new : DiskView) (input : Input) (editors : ℕ) → is_down store ≡ false → new ≡ view_of store → EndsServed opening book store input editors (Err cause.NoThread) new
+thread_early opening book store new input editors up same =
+    stopped_early opening book store input editors cause.NoThread new not_thread
     (subst (λ (v : DiskView). HasSettledSome (state_of store) (view_of store) v) (sym same) (some_settled store up))
 
 -- ---- faults
@@ -77,6 +88,35 @@ cause_device cause.Board is = absurd (cc)
 cause_device cause.NoThread is = absurd (cc)
 cause_device cause.Internal is = absurd (cc)
 
+-- and it is never the output's
+pub cause_other : (c : StopCause) → told_fault (stop_fault c) ≡ told.Output → ⊥
+cause_other cause.Device is = cc
+cause_other cause.Worn is = cc
+cause_other cause.Memory is = cc
+cause_other cause.Board is = cc
+cause_other cause.NoThread is = cc
+cause_other cause.Internal is = cc
+
+-- that it is given behind the reading says that the reading of an input failed
+pub met_late : (input : Input) (given : Option Fault) (read : Result (Option ℕ) ReadFault) → (given ≡ Some told.Output → read ≡ Err Failed) → IsReadEnd input read → given ≡ Some told.Output → AreOfInput input
+met_late input given (Ok lines) why end is = (let other : ◌≡◌ {A = Result (Option ℕ) ReadFault} (Ok lines) (Err Failed) = why is in absurd (cc))
+met_late input given (Err fault) why end is =
+    let same : fault ≡ Failed = (let both : ◌≡◌ {A = Result (Option ℕ) ReadFault} (Err fault) (Err Failed) = why is in cc) in
+    end.1 same
+
+-- nor is that of an opening
+pub opening_other : (f : Stopped) → told_fault f ≡ told.Output → ⊥
+opening_other why.NotFormatted is = cc
+opening_other why.BadVersion is = cc
+opening_other why.Damaged is = cc
+opening_other why.Words is = cc
+opening_other why.Device is = cc
+opening_other why.Worn is = cc
+opening_other why.Memory is = cc
+opening_other why.Board is = cc
+opening_other why.NoThread is = cc
+opening_other why.Internal is = cc
+
 -- what holds of each fault of a service whose device was opened
 later_each : (P : Fault → Type 0) (f : Fault) → IsLater f → P told.Device → P told.Worn → P told.Memory → P told.NoThread → P told.Internal → P told.Output → P f
 later_each P told.Device is device worn memory thread internal output = device
@@ -95,7 +135,7 @@ no_words : (f : Fault) → IsLater f → f ≡ told.Words → ⊥
 no_words f is = later_each (λ (e : Fault). e ≡ told.Words → ⊥) f is (λ same. cc) (λ same. cc) (λ same. cc) (λ same. cc) (λ same. cc) (λ same. cc)
 
 -- the device of a service that ended so
-pub later_end : {D : Type 0} (model : Ghosts D) (disk : D) (asked : LandmarkWords) (back : Option D) (f : Fault) → IsLater f → IsSome back
+pub later_end : {D : Type 0} (model : Disks D) (disk : D) (asked : LandmarkWords) (back : Option D) (f : Fault) → IsLater f → IsSome back
     → (f ≡ told.Device → IfSome back (λ d. HasFailed (model.view disk) (model.view d))) → IsServeEnd model disk asked back f
 later_end model disk asked back f is came device = record {
   given_back = came;
@@ -120,7 +160,7 @@ no_some f same = cc
 pub finished_so : (f : Fault) (ended : Served) → IsFinish (Some f) ended → fault_of ended ≡ Some f
 finished_so f ended is = ⊎_elim (λ so. so) (λ none. absurd (no_some f none.0)) is
 
-no_cause : (a b : Result Beginning StopCause) → a ≡ Err cause.Memory → a ≡ Err cause.Device → ⊥
+no_cause : (a b : Result Ending StopCause) → a ≡ Err cause.Memory → a ≡ Err cause.Device → ⊥
 no_cause a b is same = cc
 
 no_fault : told.Memory ≡ told.Device → ⊥
@@ -129,44 +169,85 @@ no_fault same = cc
 no_thread_fault : told.NoThread ≡ told.Device → ⊥
 no_thread_fault same = cc
 
+-- a service that no fault ended was given none
+pub none_given : (given : Option Fault) (ended : Served) → IsFinish given ended → ended ≡ served.Printed → given ≡ None
+none_given given ended is whole = ⊎_elim (λ same. sym same ∙ ap fault_of whole) (λ none. none.0) is
+
 -- what a service prints that printed so much
-pub prints_to : (input : Input) (editors : ℕ) (old new : Option (List ℕ)) (printed : Printed) (ended : Served) → PrintsSo input editors old new printed → IsPrintEnd input printed ended
-    → PrintsTo input editors old new ended
-prints_to input editors old new printed ended so end =
+pub prints_to : {W : Type 0} (outlet : Ghosts W) (input : Input) (editors : ℕ) (old new : W) (printed : Printed) (given : Option Fault) (ended : Served) → PrintsSo outlet input editors old new printed
+    → IsPrintEnd input printed given ended → PrintsTo outlet input editors old new ended
+prints_to outlet input editors old new printed given ended so end =
+    let before = PrintsUnless (printed.end ≡ Output) (outlet.contents old) (outlet.contents new) in
+    let after = PrintsUnless (HasBroken outlet new ended) (outlet.contents old) (outlet.contents new) in
     record {
-      answers = λ unfailed.
-          (printed.tally.count, printed_of printed.tally input editors old new (so (λ is. unfailed (end.output is))), end.whole);
+      answers = (
+        printed.tally.count,
+        printed_of printed.tally input editors after (printed_as answer_text printed.tally input editors before after so.lines (λ lines was. (was.0, λ other. was.1 (λ is. other (end.output is, so.failed is))))),
+        λ is. end.whole (none_given given ended end.finish is),
+      );
     }
 
 -- .. and by what is known of the list, where no fault ended it
-pub prints_on : {D : Type 0} {V : _} → (store : Store D V) (input : Input) (editors : ℕ) (old new : Option (List ℕ)) (printed : Printed) (ended : Served) (back : Option D) → PrintsSo input editors old new printed → IsPrintEnd input printed ended
-    → (ended ≡ served.Printed → HasServedOn store input editors printed.tally.known back) → ended ≡ served.Printed → HasPrintedOn answer_text store input editors old new back
-prints_on store input editors old new printed ended back so end on is = record {
+pub prints_on : {D W : Type 0} {V : _} → (outlet : Ghosts W) (store : Store D V) (input : Input) (editors : ℕ) (old new : W) (printed : Printed) (given : Option Fault) (ended : Served) (back : Option D)
+    → PrintsSo outlet input editors old new printed → IsPrintEnd input printed given ended
+    → (ended ≡ served.Printed → HasServedOn store input editors printed.tally back) → ended ≡ served.Printed → HasPrintedOn answer_text store input editors (outlet.contents old) (outlet.contents new) back
+prints_on outlet store input editors old new printed given ended back so end on is = record {
   tally = printed.tally;
-  printed = so (λ failed. not_printed ended told.Output (end.output failed) is);
-  whole = end.whole is;
+  printed = printed_as answer_text printed.tally input editors (PrintsUnless (printed.end ≡ Output) (outlet.contents old) (outlet.contents new)) (Appends (outlet.contents old) (outlet.contents new)) so.lines
+      (λ lines was. was.1 (λ failed. not_printed ended told.Output (end.output failed) is));
+  whole = end.whole (none_given given ended end.finish is);
   on = on is;
 }
 
 -- .. and of one that a fault ended before anything was printed
-pub none_to : (input : Input) (editors : ℕ) (old new : Option (List ℕ)) (ended : Served) (f : Fault) → new ≡ old → fault_of ended ≡ Some f → PrintsTo input editors old new ended
-none_to input editors old new ended f same fault =
-    record { answers = λ unfailed. (0, subst (λ (o : Option (List ℕ)). HasPrinted input editors old o 0) (sym same) (none_printed input editors old), λ is. absurd (not_printed ended f fault is)) }
+pub none_to : {W : Type 0} (outlet : Ghosts W) (input : Input) (editors : ℕ) (old new : W) (ended : Served) (f : Fault) → new ≡ old → fault_of ended ≡ Some f → PrintsTo outlet input editors old new ended
+none_to outlet input editors old new ended f same fault =
+    let none = none_printed input editors (outlet.contents old) in
+    let text = answers_text none.answers in
+    let all : Appends (outlet.contents old) (outlet.contents new) text = subst (λ w. Appends (outlet.contents old) (outlet.contents w) text) (sym same) none.printed in
+    record {
+      answers = (
+        0,
+        record { answers = none.answers; many = none.many; are = none.are; printed = (begins_all (outlet.contents old) (outlet.contents new) text all, λ unless. all) },
+        λ is. absurd (not_printed ended f fault is),
+      );
+    }
 
--- of both, on a console of whose values this word reads what is printed
-pub run_prints : {C D : Type 0} {V : _} {prints : C → C → Printed → Type 0} {finishes : C → C → Served → Type 0} {input : Input} {many : ℕ} {store : Store D V} {old new : C} {ended : Served} {back : Option D}
-    → HasRun prints finishes input many store old new ended back → (editors : ℕ) (text : C → Option (List ℕ))
-    → ((mid : C) (printed : Printed) → prints old mid printed → finishes mid new ended → PrintsSo input editors (text old) (text new) printed) → (finishes old new ended → text new ≡ text old)
-    → PrintsTo input editors (text old) (text new) ended
-run_prints {input = input} {old = old} {new = new} {ended = ended} run editors text so same =
-    ⊎_elim (λ ran. prints_to input editors (text old) (text new) ran.printed ended (so ran.mid ran.printed ran.printing ran.finishing) ran.print_end)
-    (λ none. ⊎_elim (λ lacks. none_to input editors (text old) (text new) ended told.Memory (same none.finishing) lacks) (λ lacks. none_to input editors (text old) (text new) ended told.NoThread (same none.finishing) lacks) none.lacks)
+-- of both, on a console of whose values this word reads the writer
+pub run_prints : {C D W : Type 0} {V : _} {prints : C → C → Printed → Type 0} {finishes : C → C → Option Fault → Served → Type 0} {input : Input} {many : ℕ} {store : Store D V} {old new : C} {ended : Served} {back : Option D}
+    → HasRun prints finishes input many store old new ended back → (outlet : Ghosts W) (editors : ℕ) (out : C → W)
+    → ((mid : C) (printed : Printed) (given : Option Fault) → prints old mid printed → finishes mid new given ended → PrintsSo outlet input editors (out old) (out new) printed)
+    → ((given : Option Fault) → finishes old new given ended → out new ≡ out old) → PrintsTo outlet input editors (out old) (out new) ended
+run_prints {input = input} {old = old} {new = new} {ended = ended} run outlet editors out so same =
+    ⊎_elim (λ ran. prints_to outlet input editors (out old) (out new) ran.printed ran.given ended (so ran.mid ran.printed ran.given ran.printing ran.finishing) ran.print_end)
+    (λ none. ⊎_elim (λ lacks. none_to outlet input editors (out old) (out new) ended told.Memory (same none.given none.finishing) lacks) (λ lacks. none_to outlet input editors (out old) (out new) ended told.NoThread (same none.given none.finishing) lacks) none.lacks)
     run.console
 
--- the threads of a service ran that no fault ended
-pub ran_of : {C D : Type 0} {V : _} {prints : C → C → Printed → Type 0} {finishes : C → C → Served → Type 0} {input : Input} {many : ℕ} {store : Store D V} {old new : C} {ended : Served} {back : Option D}
+-- the threads of a service ran, unless it lacked memory or a thread
+pub ran_unless : {C D : Type 0} {V : _} {prints : C → C → Printed → Type 0} {finishes : C → C → Option Fault → Served → Type 0} {input : Input} {many : ℕ} {store : Store D V} {old new : C} {ended : Served} {back : Option D}
+    → HasRun prints finishes input many store old new ended back → (fault_of ended ≡ Some told.Memory → ⊥) → (fault_of ended ≡ Some told.NoThread → ⊥) → IsRun prints finishes input many store old new ended back
+ran_unless run memory thread = ⊎_elim (λ ran. ran) (λ none. absurd (⊎_elim (λ lacks. memory lacks) (λ lacks. thread lacks) none.lacks)) run.console
+
+-- so they did where no fault ended it
+pub ran_of : {C D : Type 0} {V : _} {prints : C → C → Printed → Type 0} {finishes : C → C → Option Fault → Served → Type 0} {input : Input} {many : ℕ} {store : Store D V} {old new : C} {ended : Served} {back : Option D}
     → HasRun prints finishes input many store old new ended back → ended ≡ served.Printed → IsRun prints finishes input many store old new ended back
-ran_of {ended = ended} run is = ⊎_elim (λ ran. ran) (λ none. absurd (⊎_elim (λ lacks. not_printed ended told.Memory lacks is) (λ lacks. not_printed ended told.NoThread lacks is) none.lacks)) run.console
+ran_of {ended = ended} run is = ran_unless run (λ lacks. not_printed ended told.Memory lacks is) (λ lacks. not_printed ended told.NoThread lacks is)
+
+-- .. or its output failed
+pub ran_broken : {C D : Type 0} {V : _} {prints : C → C → Printed → Type 0} {finishes : C → C → Option Fault → Served → Type 0} {input : Input} {many : ℕ} {store : Store D V} {old new : C} {ended : Served} {back : Option D}
+    → HasRun prints finishes input many store old new ended back → fault_of ended ≡ Some told.Output → IsRun prints finishes input many store old new ended back
+ran_broken run is = ran_unless run (λ lacks. two_faults (sym is ∙ lacks)) (λ lacks. two_thread_faults (sym is ∙ lacks))
+  where
+    two_faults : Some told.Output ≡ Some told.Memory → ⊥
+    two_faults same = cc
+
+    two_thread_faults : Some told.Output ≡ Some told.NoThread → ⊥
+    two_thread_faults same = cc
+
+-- what holds where the output failed
+pub broken_if : (fault : Option Fault) (P : Type 0) → (fault ≡ Some told.Output → P) → IfSome fault (λ f. f ≡ told.Output → P)
+broken_if None P holds = tt
+broken_if (Some f) P holds = λ is. holds (ap (λ (g : Fault). Some g) is)
 
 -- no engine was started, since memory ran out
 pub memory_ended : {D : Type 0} {V : _} → (store : Store D V) (ended : Served) (disk : D) → is_down store ≡ false → V.view disk ≡ view_of store → fault_of ended ≡ Some told.Memory → HasEnded store ended (Some disk)
@@ -177,7 +258,7 @@ memory_ended {V = V} store ended disk up is fault = (
       settled = subst (λ (v : DiskView). HasSettledSome (state_of store) (view_of store) v) (sym is) (some_settled store up);
       device = λ same. absurd (no_cause (Err cause.Memory) (Err cause.Memory) refl same);
     };
-    fault = subst (λ (o : Option Fault). IfSome o (λ f. IsFaultOf {T = Beginning} (Err cause.Memory) f)) (sym fault) (tt, λ same. absurd (no_fault same));
+    fault = subst (λ (o : Option Fault). IfSome o (λ f. IsFaultOf {T = Ending} (Err cause.Memory) f)) (sym fault) (tt, λ same. absurd (no_fault same));
   },
 )
 
@@ -186,8 +267,8 @@ pub thread_ended : {D : Type 0} {V : _} → (store : Store D V) (ended : Served)
 thread_ended store ended disk settled fault = (
   Err cause.NoThread,
   record {
-    disk = record { settled = settled; device = λ same. absurd (not_thread (cause_of {T = Beginning} cause.NoThread cause.Device same)) };
-    fault = subst (λ (o : Option Fault). IfSome o (λ f. IsFaultOf {T = Beginning} (Err cause.NoThread) f)) (sym fault) (tt, λ same. absurd (no_thread_fault same));
+    disk = record { settled = settled; device = λ same. absurd (not_thread (cause_of {T = Ending} cause.NoThread cause.Device same)) };
+    fault = subst (λ (o : Option Fault). IfSome o (λ f. IsFaultOf {T = Ending} (Err cause.NoThread) f)) (sym fault) (tt, λ same. absurd (no_thread_fault same));
   },
 )
 
@@ -203,7 +284,7 @@ of_back P None has = absurd has
 failed_since : (old mid new : DiskView) → IsSameDevice old mid → HasFailed mid new → HasFailed old new
 failed_since old mid new same failed = omega (arith, same.no_fewer, failed)
 
-back_failed : {D : Type 0} (model : Ghosts D) (old mid : DiskView) (back : Option D) → IsSameDevice old mid → IfSome back (λ d. HasFailed mid (model.view d)) → IfSome back (λ d. HasFailed old (model.view d))
+back_failed : {D : Type 0} (model : Disks D) (old mid : DiskView) (back : Option D) → IsSameDevice old mid → IfSome back (λ d. HasFailed mid (model.view d)) → IfSome back (λ d. HasFailed old (model.view d))
 back_failed model old mid (Some d) same failed = failed_since old mid (model.view d) same failed
 back_failed model old mid None same failed = tt
 

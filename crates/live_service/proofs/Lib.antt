@@ -1,3 +1,4 @@
+pub mod Noting
 pub mod AllTaken
 pub mod Backs
 pub mod Ended

@@ -23,6 +23,7 @@ use Rattle.committer.specs.declared.committer.Committer.{Committer}
 use Rattle.committer.specs.CommitterWords.{store_of, got_of, posts_of}
 use Rattle.committer.specs.Listed.{IsListedFrom}
 use Rattle.group_commit.specs.Settling.{settle}
+use Rattle.settled_lists.specs.declared.builds.Builds.{Builds}
 use Rattle.settled_lists.specs.Posted.{ArePosted}
 use Rattle.intake.specs.Turns.{of}
 use Rattle.service_workers.specs.declared.stop_cause.StopCause.{StopCause}
@@ -39,9 +40,20 @@ use Rattle.line_exchange.specs.Inputs.{Input}
 use Rattle.line_exchange.specs.OneList.{AreAnswersIn, AreGone, AreSaid}
 use Rattle.line_exchange.specs.Prints.{AreAllLines, HasPrintedBy}
 use Rattle.line_exchange.specs.declared.tally.Tally.{Tally}
-use Rattle.line_workers.specs.Submits.{ArePutInOrder}
+use Rattle.line_exchange.specs.PutLines.{AreNotedFirst, puts_in}
+use Rattle.line_exchange.specs.Tallies.{AreDropped}
+use Rattle.line_workers.specs.Submits.{ArePutBy}
+use Rattle.logbook.specs.Pages.{Book}
+use Rattle.put_lines.specs.declared.put_line.PutLine.{PutLine}
+use Rattle.put_lines.specs.Lines.{lines_of}
+use Rattle.put_lines.proofs.Appending.{lines_on}
+use Rattle.requests.specs.Tickets.{last_of}
+use Rattle.generations.proofs.Prefixes.{prefix_shorter, prefix_trans, prefix_whole}
+use Rattle.live_service.specs.Noting.{AreAllNoted, AreSamePuts}
+use Rattle.live_service.specs.declared.ending.Ending.{Ending}
+use mathlib.Core.List.{IsPrefix}
 use Rattle.live_service.proofs.Ended.{of_back}
-use Rattle.live_service.specs.ServedList.{AreOfOneList, EndsServed, HasAnswered, HasPrintedOn, HasServedAll, HasServedOn}
+use Rattle.live_service.specs.ServedList.{AreOfOneList, EndsServed, HasAnswered, HasPrintedOn, HasServedAll, HasServedOn, builds_of}
 
 -- ---- the committer
 
@@ -52,26 +64,29 @@ same_ok : {T : Type 0} (s t : T) → ◌≡◌ {A = Result T StopCause} (Ok s) (
 same_ok s t is = cc
 
 -- the newest generation is that of the state after all that was taken
-newest_of : {D R : Type 0} {V : _} → (first now : Committer D R V) → IsOnCourse first now → IsUpToDate now
+newest_of : {builds : Builds} {D R : Type 0} {V : _} → (first now : Committer D R V) → IsOnCourse builds first now → IsUpToDate now
     → IsNewest (record { opening = (posts_of now).opening; log = (posts_of now).posted }) (settle (state_of (store_of first)) (got_of now)).state.count
 newest_of first now on shown =
     subst (λ (s : State). IsNewest (record { opening = (posts_of now).opening; log = (posts_of now).posted }) s.count) on.state shown.newest
 
--- what a committer posted that nothing stopped, and the store that it gives back
-pub served_all : {D R : Type 0} {V : _} → (first now : Committer D R V) (store : Store D V) (input : Input) (editors : ℕ) (own : Result Bool StopCause) (result : Result Beginning StopCause) (opening : Opening) (board : Beginning)
-    → IsServedDisk (store_of first) result (view_of store) → IsListedFrom (state_of (store_of first)) first → OnOk own (IsOnCourse first now) → OnOk own ((posts_of now).opening ≡ opening) → IfOk own (λ left. IsTrue left → IsUpToDate now)
-    → board ≡ record { opening = (posts_of now).opening; log = (posts_of now).posted } → OnOk result (own ≡ Ok true) → IfOk result (λ b. b ≡ board) → OnOk result ((session : ℕ) → ArePutInOrder input editors (of session (got_of now)))
-    → store ≡ store_of now → EndsServed opening (store_of first) input editors result (view_of store)
-served_all first now store input editors own (Err e) opening board disk listed on named shown is ok same put left = record { disk = disk; named = tt; all = tt }
-served_all first now store input editors (Err e) (Ok b) opening board disk listed on named shown is ok same put left = absurd (no_ok e true ok)
-served_all first now store input editors (Ok u) (Ok b) opening board disk listed on named shown is ok same put left =
+-- what a committer posted that nothing stopped, what was noted, and the store that it gives back
+pub served_all : {D R : Type 0} {V : _} → (first now : Committer D R V) (store : Store D V) (input : Input) (editors : ℕ) (own : Result Bool StopCause) (result : Result Ending StopCause) (opening : Opening) (book : Book) (ending : Ending)
+    → IsServedDisk (store_of first) result (view_of store) → IsListedFrom (builds_of input) (state_of (store_of first)) first → OnOk own (IsOnCourse (builds_of input) first now) → OnOk own ((posts_of now).opening ≡ opening) → IfOk own (λ left. IsTrue left → IsUpToDate now)
+    → ending.board ≡ record { opening = (posts_of now).opening; log = (posts_of now).posted } → ending.lines.book ≡ book → OnOk result (own ≡ Ok true) → IfOk result (λ e. e ≡ ending)
+    → OnOk result ((session : ℕ) → AreAllNoted input editors ending.puts ending.lines.lines session (of session (got_of now))) → store ≡ store_of now → EndsServed opening book (store_of first) input editors result (view_of store)
+served_all first now store input editors own (Err e) opening book ending disk listed on named shown is noted ok same put left = record { disk = disk; named = tt; all = tt }
+served_all first now store input editors (Err e) (Ok b) opening book ending disk listed on named shown is noted ok same put left = absurd (no_ok e true ok)
+served_all first now store input editors (Ok u) (Ok b) opening book ending disk listed on named shown is noted ok same put left =
     let whole = on.listed (state_of (store_of first)) listed in
     let newest = newest_of first now on (shown (same_ok u true ok)) in
+    let board : Beginning = record { opening = (posts_of now).opening; log = (posts_of now).posted } in
+    let posted : Ending = record { board = board; puts = ending.puts; lines = ending.lines } in
+    let here : b ≡ posted = same ∙ (λ i. record { board = is i; puts = ending.puts; lines = ending.lines }) in
     record {
       disk = disk;
-      named = ap (λ (c : Beginning). c.opening) (same ∙ is) ∙ named;
-      all = subst (λ (c : Beginning). HasServedAll (store_of first) input editors c (view_of store)) (sym (same ∙ is))
-          (subst (λ s. HasServedAll (store_of first) input editors (record { opening = (posts_of now).opening; log = (posts_of now).posted }) (view_of s)) (sym left)
+      named = (ap (λ (c : Ending). c.board.opening) here ∙ named, ap (λ (c : Ending). c.lines.book) here ∙ noted);
+      all = subst (λ (c : Ending). HasServedAll (store_of first) input editors c (view_of store)) (sym here)
+          (subst (λ s. HasServedAll (store_of first) input editors posted (view_of s)) (sym left)
           (record {
             taken = got_of now;
             begins = whole.begins;
@@ -83,21 +98,39 @@ served_all first now store input editors (Ok u) (Ok b) opening board disk listed
           }));
     }
 
--- each session's requests were put by lines of the input, where an engine ended so that asks for all of that
-pub put_of_all : (result : Result Beginning StopCause) (all : Bool) (P : Type 0) → OnOk result (all ≡ true) → (all ≡ true → P) → OnOk result P
+-- what holds where an engine ended so that asks for all of that
+pub put_of_all : (result : Result Ending StopCause) (all : Bool) (P : Type 0) → OnOk result (all ≡ true) → (all ≡ true → P) → OnOk result P
 put_of_all (Ok b) all P is then = then is
 put_of_all (Err e) all P is then = tt
 
--- what is known is of the engine's board
-pub same_board : (engine : Result Beginning StopCause) (known opening : Opening) → known ≡ opening → IfOk engine (λ b. b.opening ≡ opening) → IfOk engine (λ b. known ≡ b.opening)
-same_board (Ok b) known opening same is = same ∙ sym is
-same_board (Err e) known opening same is = tt
+-- what is known is of the engine's board, and of its book
+pub same_board : (engine : Result Ending StopCause) (tally : Tally) (opening : Opening) (book : Book) → tally.known.opening ≡ opening → tally.lines.book ≡ book → IfOk engine (λ e. (e.board.opening ≡ opening) × (e.lines.book ≡ book))
+    → IfOk engine (λ e. (tally.known.opening ≡ e.board.opening) × (tally.lines.book ≡ e.lines.book))
+same_board (Ok e) tally opening book same noted is = (same ∙ sym is.0, noted ∙ sym is.1)
+same_board (Err e) tally opening book same noted is = tt
 
--- the board of an engine that nothing stopped has all that was known
-pub served_on : {D : Type 0} {V : _} → (opening : Opening) (store : Store D V) (input : Input) (editors : ℕ) (engine : Result Beginning StopCause) (known : Beginning) (back : D) → IsOkAnd engine (λ board. GoesOn known board)
-    → EndsServed opening store input editors engine (V.view back) → HasServedOn store input editors known (Some back)
-served_on opening store input editors (Ok board) known back on ends = record { board = board; on = on; all = ends.all }
-served_on opening store input editors (Err e) known back on ends = absurd on
+-- the board of an engine that nothing stopped has all that was known, and as many verdicts were told as lines were noted
+pub served_on : {D : Type 0} {V : _} → (opening : Opening) (book : Book) (store : Store D V) (input : Input) (editors : ℕ) (engine : Result Ending StopCause) (tally : Tally) (back : D)
+    → IsOkAnd engine (λ e. GoesOn tally.known e.board × AreSamePuts tally e) → EndsServed opening book store input editors engine (V.view back) → HasServedOn store input editors tally (Some back)
+served_on opening book store input editors (Ok ending) tally back on ends = record { ending = ending; on = on.0; told = on.1; all = ends.all }
+served_on opening book store input editors (Err e) tally back on ends = absurd on
+
+-- ---- which lines put requests
+
+-- two beginnings of one list that are as long are the same
+same_first : (xs ys zs : List PutLine) → IsPrefix xs zs → IsPrefix ys zs → length xs ≡ length ys → xs ≡ ys
+same_first xs ys zs one two long = prefix_whole xs ys (prefix_shorter xs ys zs one two (omega (arith, long))) (omega (arith, long))
+
+-- the lines of verdicts are those that were noted
+put_by_told : (input : Input) (editors : ℕ) (tally : Tally) (ending : Ending) (answers : List Answer) (session : ℕ) (requests : List Request) → AreNotedFirst tally.puts tally.lines.lines answers → AreSamePuts tally ending
+    → AreAllNoted input editors ending.puts ending.lines.lines session requests → ArePutBy input editors (lines_of session (puts_in answers)) requests
+put_by_told input editors tally ending answers session requests told same noted =
+    let all = lines_of session same.all in
+    let one : IsPrefix (lines_of session (puts_in answers)) all =
+    prefix_trans (lines_of session (puts_in answers)) (lines_of session tally.lines.lines) all (told.first session) (lines_on session tally.lines.lines same.all same.told) in
+    let two : IsPrefix noted.noted all = prefix_trans noted.noted (lines_of session ending.lines.lines) all noted.first (lines_on session ending.lines.lines same.all same.noted) in
+    let long : length (lines_of session (puts_in answers)) ≡ length noted.noted = sym (told.counted session) ∙ (ap (λ (ps : List ℕ). last_of ps session) (sym same.puts) ∙ noted.many) in
+    subst (λ (ls : List PutLine). ArePutBy input editors ls requests) (sym (same_first (lines_of session (puts_in answers)) noted.noted all one two long)) noted.put
 
 -- ---- a whole list
 
@@ -121,13 +154,13 @@ cut_at (Built m q ∷ log) n p (inl same) = ([], log, λ i. Built (same.0 i) (sa
 cut_at (Built m q ∷ log) n p (inr behind) = cut_more (Built m q) log n p (cut_at log n p behind)
 
 -- each scheme of what is posted is of the generation under whose number it stands
-are_named : (first : State) (taken : List Request) (all : Beginning) → ArePosted first taken all.log → AreNamed all
-are_named first taken all posted number p has =
+are_named : (builds : Builds) (first : State) (taken : List Request) (all : Beginning) → ArePosted builds first taken all.log → AreNamed all
+are_named builds first taken all posted number p has =
     let cut = cut_at all.log number p (among_at (generations_in all.log) number p has.0 has.1 has.2) in
     (posted.durable cut.0 cut.1 number p cut.2).named
 
-lawful_list : (first : State) (taken : List Request) (all : Beginning) → (all.opening.starts ≡ first.tickets) × (all.opening.count ≡ first.count) → ArePosted first taken all.log → IsLawfulList all
-lawful_list first taken all begins posted = subst (λ (x : List ℕ × ℕ). IsLawful x.0 x.1 all.log) (λ i. (sym begins.0 i, sym begins.1 i)) posted.lawful
+lawful_list : (builds : Builds) (first : State) (taken : List Request) (all : Beginning) → (all.opening.starts ≡ first.tickets) × (all.opening.count ≡ first.count) → ArePosted builds first taken all.log → IsLawfulList all
+lawful_list builds first taken all begins posted = subst (λ (x : List ℕ × ℕ). IsLawful x.0 x.1 all.log) (λ i. (sym begins.0 i, sym begins.1 i)) posted.lawful
 
 -- what each list says that goes on from what is known, a lawful one says
 answers_by : (known board : Beginning) (input : Input) (editors : ℕ) (answers : List Answer) → IsLawfulList board → AreNamed board → GoesOn known board → AreSaid known input editors answers → AreAnswersIn board input editors answers
@@ -171,11 +204,12 @@ opened_left {V = V} disk store engine back one opened came = (let left = of_back
 pub read_left : {D : Type 0} (model : Ghosts D) (disk back : D) → IsSameDevice (model.view disk) (model.view back) → (IsTrue (model.view disk).keeps_model → OnlyRead (model.view disk) (model.view back)) → IsLeftBy model disk (Some back)
 read_left model disk back same reads = record { ran = same; any_moment = λ keeps_model state stands keeps. read_leaves state (model.view disk) (model.view back) (reads keeps_model) keeps }
 
-of_one_list : {D : Type 0} {V : _} → (text : Answer → List ℕ) (disk back : D) (store : Store D V) (tally : Tally) (board : Beginning) (input : Input) (editors : ℕ) (old new : Option (List ℕ)) → IsOpened (V.view disk) store
-    → HasServedAll store input editors board (V.view back) → GoesOn tally.known board → (has : HasPrintedBy text tally input editors old new) → AreOfOneList V disk back input editors has.answers
-of_one_list {V = V} text disk back store tally board input editors old new opened all on has =
-    let lawful = lawful_list (state_of store) all.taken board all.begins all.posted in
-    let named = are_named (state_of store) all.taken board all.posted in
+of_one_list : {D : Type 0} {V : _} → (text : Answer → List ℕ) (disk back : D) (store : Store D V) (tally : Tally) (ending : Ending) (input : Input) (editors : ℕ) (old new : Option (List ℕ)) → IsOpened (V.view disk) store
+    → HasServedAll store input editors ending (V.view back) → GoesOn tally.known ending.board → AreSamePuts tally ending → (has : HasPrintedBy text tally input editors (Appends old new)) → AreOfOneList V disk back input editors has.answers
+of_one_list {V = V} text disk back store tally ending input editors old new opened all on told has =
+    let board = ending.board in
+    let lawful = lawful_list (builds_of input) (state_of store) all.taken board all.begins all.posted in
+    let named = are_named (builds_of input) (state_of store) all.taken board all.posted in
     let still : IsTrue (V.view disk).keeps_model → IsTrue (view_of store).keeps_model = λ model. subst IsTrue (sym opened.ran.model) model in
     record {
       first = state_of store;
@@ -183,12 +217,13 @@ of_one_list {V = V} text disk back store tally board input editors old new opene
       taken = all.taken;
       board = board;
       begins = all.begins;
-      of_input = all.of_input;
+      of_input = λ session. put_by_told input editors tally ending has.answers session (of session all.taken) has.noted told (all.of_input session);
       posted = all.posted;
       newest = all.newest;
       said = answers_by tally.known board input editors has.answers lawful named on has.said;
       gone = gone_by tally.known board input editors has.answers lawful named on has.gone;
       in_turn = has.in_turn.rises;
+      dropped = subst (λ (starts : List ℕ). AreDropped starts has.answers) (sym (ap (λ (o : Opening). o.starts) on.0) ∙ all.begins.0) has.dropped;
       awaited = has.awaited;
       any_moment = λ model keeps. opened_leaves (state_of store) (V.view disk) (view_of store) (V.view back) all.taken (opened.of_model model).reads keeps (still model) all.settled;
       left = λ model. all.stands (subst IsTrue (sym all.settled.same.model) (still model));
@@ -199,11 +234,11 @@ pub answered : {D : Type 0} {V : _} → (text : Answer → List ℕ) (disk : D) 
     → HasPrintedOn text store input editors old new back → IsSomeAnd back (λ d. HasAnswered text V disk d input editors old new)
 answered {V = V} text disk store input editors old new back opened has = of back has.on.all
   where
-    of : (b : Option _) → IsSomeAnd b (λ d. HasServedAll store input editors has.on.board (V.view d)) → IsSomeAnd b (λ d. HasAnswered text V disk d input editors old new)
+    of : (b : Option _) → IsSomeAnd b (λ d. HasServedAll store input editors has.on.ending (V.view d)) → IsSomeAnd b (λ d. HasAnswered text V disk d input editors old new)
     of None all = absurd all
     of (Some d) all = record {
       answers = has.printed.answers;
       all = subst (λ (n : ℕ). AreAllLines input n) (sym has.printed.many) has.whole;
       printed = has.printed.printed;
-      one_list = of_one_list text disk d store has.tally has.on.board input editors old new opened all has.on.on has.printed;
+      one_list = of_one_list text disk d store has.tally has.on.ending input editors old new opened all has.on.on has.on.told has.printed;
     }

@@ -1,4 +1,5 @@
 pub mod ServeEnds
+pub mod Noting
 pub mod ServedList
 pub mod Runs
 pub mod Services

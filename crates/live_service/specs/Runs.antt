@@ -1,11 +1,15 @@
 -- How the threads of a live service end, and what it prints.
-use Rattle.std.specs.Prelude.{◌≡◌, ◌≢◌, ◌⊎◌, ℕ, List, Option, Result, Some, IfSome, IsErrOf, IsSomeAnd}
-use Rattle.generations.specs.Beginnings.{Beginning}
+use Rattle.std.specs.Prelude.{◌≡◌, ◌≢◌, ◌⊎◌, ℕ, List, Option, Result, Some, None, IfSome, IsErrOf, IsSomeAnd}
+use Rattle.std.specs.Io.KnownBytes.{Appends}
+use Rattle.live_service.specs.declared.ending.Ending.{Ending}
 use Rattle.command_output.specs.declared.fault.Fault.{Fault}
 use Rattle.command_output.specs.declared.fault.Fault.TheVariants as told
+use Rattle.line_exchange.specs.Begun.{PrintsUnless}
+use Rattle.line_exchange.specs.Reads.{AreOfInput}
+use Rattle.line_exchange.specs.declared.answer_writer.AnswerWriter.{Ghosts}
 use Rattle.checkpoint.specs.declared.store.Store.{Store}
 use Rattle.written_values.specs.declared.line.ScriptLine.{ScriptLine}
-use Rattle.line_exchange.specs.Gathers.{IsServed}
+use Rattle.line_exchange.specs.Gathers.{BreaksOff, IsServed}
 use Rattle.line_exchange.specs.declared.served.Served.{Served}
 use Rattle.line_exchange.specs.declared.served.Served.TheVariants as served
 use Rattle.service_threads.specs.Kept.{IsServedDisk}
@@ -14,7 +18,7 @@ use Rattle.service_workers.specs.declared.stop_cause.StopCause.TheVariants as ca
 use Rattle.line_exchange.specs.declared.printed.Printed.{Printed}
 use Rattle.line_exchange.specs.declared.printed.PrintEnd.TheVariants.{Output, Whole}
 use Rattle.line_exchange.specs.Inputs.{Input}
-use Rattle.line_exchange.specs.Ends.{fault_of}
+use Rattle.line_exchange.specs.Ends.{IsFinish, fault_of}
 use Rattle.live_service.specs.ServeEnds.{IsLater}
 use Rattle.line_exchange.specs.Prints.{AreAllLines, HasPrinted}
 use Rattle.live_lines.specs.Answers.{script_text}
@@ -31,42 +35,54 @@ pub record IsEngineEnd {D T : Type 0} {V : _} (store : Store D V) (engine : Resu
 
 -- some engine ended so
 abbrev pub HasEnded : {D : Type 0} {V : _} → Store D V → Served → Option D → Type 0
-HasEnded store ended back = (engine : Result Beginning StopCause) × IsEngineEnd store engine ended back
+HasEnded store ended back = (engine : Result Ending StopCause) × IsEngineEnd store engine ended back
 
--- how a service ended that printed so much
-pub record IsPrintEnd (input : Input) (printed : Printed) (ended : Served) : Type 0 where
+-- How a service ended that printed so much, and whose console was given this fault or none.
+pub record IsPrintEnd (input : Input) (printed : Printed) (given : Option Fault) (ended : Served) : Type 0 where
   pub output : printed.end ≡ Output → fault_of ended ≡ Some told.Output
-  pub done : ended ≡ served.Printed → printed.end ≡ Whole
-  pub whole : ended ≡ served.Printed → AreAllLines input printed.tally.count
+  -- the output's fault is given only where the printing met it, or where the reading of an input failed
+  pub met : given ≡ Some told.Output → (printed.end ≡ Output) ⊎ AreOfInput input
+  -- and none where all lines have answers
+  pub done : given ≡ None → printed.end ≡ Whole
+  pub whole : given ≡ None → AreAllLines input printed.tally.count
+  pub finish : IsFinish given ended
 
--- What a service prints that ended so: unless its output failed, answers to its first lines, and to all of them where
--- no fault ended it.
-pub record PrintsTo (input : Input) (editors : ℕ) (old new : Option (List ℕ)) (ended : Served) : Type 0 where
-  pub answers : fault_of ended ≢ Some told.Output → (count : ℕ) × HasPrinted input editors old new count × (ended ≡ served.Printed → AreAllLines input count)
+-- the output's fault ended a service, and a write of this very writer has failed
+abbrev pub HasBroken : {W : Type 0} → Ghosts W → W → Served → Type 0
+HasBroken outlet new ended = (fault_of ended ≡ Some told.Output) × outlet.has_failed new
+
+-- What a service prints that ended so: answers to its first lines, and answers to all lines where no fault ended it. All their lines are
+-- printed, or a beginning of these where a write failed.
+pub record PrintsTo {W : Type 0} (outlet : Ghosts W) (input : Input) (editors : ℕ) (old new : W) (ended : Served) : Type 0 where
+  pub answers : (count : ℕ) × HasPrinted input editors (PrintsUnless (HasBroken outlet new ended) (outlet.contents old) (outlet.contents new)) count
+      × (ended ≡ served.Printed → AreAllLines input count)
 
 -- The threads of a service ran: it printed on a console and told its end there, between two values of that, and ended as its printing did.
-pub record IsRun {C D : Type 0} {V : _} (prints : C → C → Printed → Type 0) (finishes : C → C → Served → Type 0) (input : Input) (editors : ℕ) (store : Store D V) (old new : C) (ended : Served) (back : Option D) : Type 0 where
+pub record IsRun {C D : Type 0} {V : _} (prints : C → C → Printed → Type 0) (finishes : C → C → Option Fault → Served → Type 0) (input : Input) (editors : ℕ) (store : Store D V) (old new : C) (ended : Served) (back : Option D) : Type 0 where
   pub mid : C
   pub printed : Printed
+  pub given : Option Fault
   pub printing : prints old mid printed
-  pub finishing : finishes mid new ended
-  pub print_end : IsPrintEnd input printed ended
-  pub one_list : ended ≡ served.Printed → HasServedOn store input editors printed.tally.known back
+  pub finishing : finishes mid new given ended
+  pub print_end : IsPrintEnd input printed given ended
+  pub one_list : ended ≡ served.Printed → HasServedOn store input editors printed.tally back
 
 -- No thread was started, since memory ran out or none could be made: that was told.
-pub record IsUnstarted {C : Type 0} (finishes : C → C → Served → Type 0) (old new : C) (ended : Served) : Type 0 where
-  pub finishing : finishes old new ended
+pub record IsUnstarted {C : Type 0} (finishes : C → C → Option Fault → Served → Type 0) (old new : C) (ended : Served) : Type 0 where
+  pub given : Option Fault
+  pub finishing : finishes old new given ended
   pub lacks : (fault_of ended ≡ Some told.Memory) ⊎ (fault_of ended ≡ Some told.NoThread)
 
 -- a service on a store that was opened ended so, between two values of its console
-pub record HasRun {C D : Type 0} {V : _} (prints : C → C → Printed → Type 0) (finishes : C → C → Served → Type 0) (input : Input) (editors : ℕ) (store : Store D V) (old new : C) (ended : Served) (back : Option D) : Type 0 where
+pub record HasRun {C D : Type 0} {V : _} (prints : C → C → Printed → Type 0) (finishes : C → C → Option Fault → Served → Type 0) (input : Input) (editors : ℕ) (store : Store D V) (old new : C) (ended : Served) (back : Option D) : Type 0 where
   pub engine_end : HasEnded store ended back
   pub console : IsRun prints finishes input editors store old new ended back ⊎ IsUnstarted finishes old new ended
 
--- A service of a script ended so, between two values of its writer, whose contents are read so: without a fault it printed all answers, and
--- a fault but that of the printing left the writer as it was.
-pub record HasServedScript {W D : Type 0} {V : _} (contents : W → Option (List ℕ)) (script : List ScriptLine) (input : Input) (editors : ℕ) (store : Store D V) (old new : W) (ended : Served) (back : Option D) : Type 0 where
-  pub printed : ended ≡ served.Printed → IsServed script (contents old) (contents new)
+-- A service of a script ended so, between two values of its writer: without a fault it printed all answers, where the printing failed a
+-- beginning of them, and any other fault left the writer as it was.
+pub record HasServedScript {W D : Type 0} {V : _} (outlet : Ghosts W) (script : List ScriptLine) (input : Input) (editors : ℕ) (store : Store D V) (old new : W) (ended : Served) (back : Option D) : Type 0 where
+  pub printed : ended ≡ served.Printed → IsServed script (Appends (outlet.contents old) (outlet.contents new))
+  pub broken : IfSome (fault_of ended) (λ fault. fault ≡ told.Output → BreaksOff outlet script old new)
   pub untouched : IfSome (fault_of ended) (λ fault. fault ≢ told.Output → new ≡ old)
   pub engine_end : HasEnded store ended back
-  pub one_list : ended ≡ served.Printed → HasPrintedOn script_text store input editors (contents old) (contents new) back
+  pub one_list : ended ≡ served.Printed → HasPrintedOn script_text store input editors (outlet.contents old) (outlet.contents new) back

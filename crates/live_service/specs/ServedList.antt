@@ -3,6 +3,8 @@ use Rattle.std.specs.Prelude.{◌≡◌, ℕ, IfOk, IsSomeAnd, IsTrue, List, Opt
 use Rattle.std.specs.Io.KnownBytes.{Appends}
 use Rattle.disk_trait.specs.declared.disk.Disk.{Ghosts}
 use Rattle.disk_trait.specs.Disk.{DiskView, LeavesOnly}
+use Rattle.logbook.specs.Pages.{Book}
+use Rattle.put_lines.specs.Lines.{lines_of as session_lines}
 use Rattle.requests.specs.declared.request.Request.{Request}
 use Rattle.layout_2.specs.State.{State}
 use Rattle.layout_2.specs.Standing.{KeepsThrough, StandsFor}
@@ -12,16 +14,21 @@ use Rattle.group_commit.specs.Settling.{settle}
 use Rattle.generations.specs.Beginnings.{Beginning, GoesOn, Opening}
 use Rattle.generations.specs.Knowledges.{Knowledge}
 use Rattle.generations.specs.Posts.{Posts}
+use Rattle.settled_lists.specs.declared.builds.Builds.{Builds}
+use Rattle.settled_lists.specs.declared.builds.Builds.TheVariants.{InTurn, Beside}
 use Rattle.settled_lists.specs.Posted.{ArePosted}
 use Rattle.service_threads.specs.Kept.{HasSettled, IsServedDisk, StandsForBeginning}
 use Rattle.service_workers.specs.declared.stop_cause.StopCause.{StopCause}
 use Rattle.live_lines.specs.declared.answer.Answer.{Answer}
 use Rattle.intake.specs.Turns.{of}
-use Rattle.line_exchange.specs.Inputs.{Input}
-use Rattle.line_workers.specs.Submits.{ArePutInOrder}
+use Rattle.line_exchange.specs.Inputs.{Input, Bytes, Script}
+use Rattle.line_workers.specs.Submits.{ArePutBy}
+use Rattle.live_service.specs.Noting.{AreAllNoted, AreSamePuts}
+use Rattle.live_service.specs.declared.ending.Ending.{Ending}
 use Rattle.packet_ways.specs.Standing.{IsNewest}
 use Rattle.line_exchange.specs.OneList.{AreAnswersIn, AreGone}
-use Rattle.line_exchange.specs.Tallies.{AreAwaited, no_tickets, told_in}
+use Rattle.line_exchange.specs.PutLines.{puts_in}
+use Rattle.line_exchange.specs.Tallies.{AreAwaited, AreDropped, no_tickets, told_in}
 use Rattle.requests.specs.Tickets.{Rises}
 use Rattle.line_exchange.specs.declared.tally.Tally.{Tally}
 use Rattle.line_exchange.specs.Prints.{AreAllLines, HasPrintedBy, lines_of}
@@ -40,39 +47,45 @@ pub record IsBoardOf (opening : Opening) (state : State) (writer : Posts) (reade
 
 -- ---- an engine that nothing stopped
 
+-- the generations of a script are built in turn with the rounds, and those of an input beside them
+abbrev pub builds_of : Input → Builds
+builds_of (Bytes bytes) = Beside
+builds_of (Script lines) = InTurn
+
 -- From the state of a store on requests were taken and all settled: what is on the board has the marks of the first of them, and each
 -- generation there serves the state that its number names, the newest that after all of them. A crash at any moment left the state after a
--- beginning of them, and one now leaves the state after all. Each session's requests were put by lines of the input, in the lines' order.
-pub record HasServedAll {D : Type 0} {V : _} (store : Store D V) (input : Input) (editors : ℕ) (board : Beginning) (new : DiskView) : Type 0 where
+-- beginning of them, and one now leaves the state after all. Each session's requests were put by the lines that were noted.
+pub record HasServedAll {D : Type 0} {V : _} (store : Store D V) (input : Input) (editors : ℕ) (ending : Ending) (new : DiskView) : Type 0 where
   pub taken : List Request
-  pub begins : (board.opening.starts ≡ (state_of store).tickets) × (board.opening.count ≡ (state_of store).count)
-  pub posted : ArePosted (state_of store) taken board.log
-  pub newest : IsNewest board (settle (state_of store) taken).state.count
+  pub begins : (ending.board.opening.starts ≡ (state_of store).tickets) × (ending.board.opening.count ≡ (state_of store).count)
+  pub posted : ArePosted (builds_of input) (state_of store) taken ending.board.log
+  pub newest : IsNewest ending.board (settle (state_of store) taken).state.count
   pub settled : HasSettled (state_of store) taken (view_of store) new
   pub stands : IsTrue new.keeps_model → KeepsThrough new (settle (state_of store) taken).state
-  pub of_input : (session : ℕ) → ArePutInOrder input editors (of session taken)
+  pub of_input : (session : ℕ) → AreAllNoted input editors ending.puts ending.lines.lines session (of session taken)
 
 -- An engine over a store ended so, at a board of this name.
-pub record EndsServed {D : Type 0} {V : _} (opening : Opening) (store : Store D V) (input : Input) (editors : ℕ) (result : Result Beginning StopCause) (new : DiskView) : Type 0 where
+pub record EndsServed {D : Type 0} {V : _} (opening : Opening) (book : Book) (store : Store D V) (input : Input) (editors : ℕ) (result : Result Ending StopCause) (new : DiskView) : Type 0 where
   -- whatever ended it: requests were settled on the disk, which failed where that is the cause
   pub disk : IsServedDisk store result new
-  -- where nothing stopped it, its board is that of this name
-  pub named : IfOk result (λ board. board.opening ≡ opening)
+  -- where nothing stopped it, its board is that of this name, and lines were noted in this book
+  pub named : IfOk result (λ ending. (ending.board.opening ≡ opening) × (ending.lines.book ≡ book))
   -- .. and all that it took was settled
-  pub all : IfOk result (λ board. HasServedAll store input editors board new)
+  pub all : IfOk result (λ ending. HasServedAll store input editors ending new)
 
--- The board has all that was known, and the disk came back behind it.
-pub record HasServedOn {D : Type 0} {V : _} (store : Store D V) (input : Input) (editors : ℕ) (known : Beginning) (back : Option D) : Type 0 where
-  pub board : Beginning
-  pub on : GoesOn known board
-  pub all : IsSomeAnd back (λ d. HasServedAll store input editors board (V.view d))
+-- The board has all that was known, as many verdicts were told as lines were noted, and the disk came back behind that.
+pub record HasServedOn {D : Type 0} {V : _} (store : Store D V) (input : Input) (editors : ℕ) (tally : Tally) (back : Option D) : Type 0 where
+  pub ending : Ending
+  pub on : GoesOn tally.known ending.board
+  pub told : AreSamePuts tally ending
+  pub all : IsSomeAnd back (λ d. HasServedAll store input editors ending (V.view d))
 
 -- Lines were answered over a store: all were printed by what was known, a line of this text for each answer, and the board has it.
 pub record HasPrintedOn {D : Type 0} {V : _} (text : Answer → List ℕ) (store : Store D V) (input : Input) (editors : ℕ) (old new : Option (List ℕ)) (back : Option D) : Type 0 where
   pub tally : Tally
-  pub printed : HasPrintedBy text tally input editors old new
+  pub printed : HasPrintedBy text tally input editors (Appends old new)
   pub whole : AreAllLines input tally.count
-  pub on : HasServedOn store input editors tally.known back
+  pub on : HasServedOn store input editors tally back
 
 -- ---- a service that no fault ended
 
@@ -85,16 +98,20 @@ pub record AreOfOneList {D : Type 0} (model : Ghosts D) (disk back : D) (input :
   pub taken : List Request
   pub board : Beginning
   pub begins : (board.opening.starts ≡ first.tickets) × (board.opening.count ≡ first.count)
-  -- each session's requests were put by lines that ask for just these edits, in the order of the lines, each line at most once
-  pub of_input : (session : ℕ) → ArePutInOrder input editors (of session taken)
-  -- the marks on the board are those of settling the first of the requests, and each generation there serves the state that its number names
-  pub posted : ArePosted first taken board.log
+  -- of each session the lines that are answered by verdicts put its requests, one each and in their order: each asks for this edit, and is
+  -- told the mark under its ticket; no other line put one
+  pub of_input : (session : ℕ) → ArePutBy input editors (session_lines session (puts_in answers)) (of session taken)
+  -- the marks on the board are those of settling the first of the requests, and each generation there serves the state that its number
+  -- names. What stands before it has the marks of the requests that led there, and in a script's service just these
+  pub posted : ArePosted (builds_of input) first taken board.log
   -- the newest generation there is that of the state after all of them
   pub newest : IsNewest board (settle first taken).state.count
   -- each answer is to the line at its place, and the board says it
   pub said : AreAnswersIn board input editors answers
   -- the tickets that are told as verdicts rise in each session
   pub in_turn : Rises no_tickets (told_in answers)
+  -- an edit that put nothing is told so by its ticket and the last ones that its session was told before
+  pub dropped : AreDropped first.tickets answers
   -- where one tells that a generation is gone, it is so after a beginning of the board's list that says all answers before it
   pub gone : AreGone (λ seen before. AreAnswersIn seen input editors before) board input editors answers
   -- a generation that was waited for has all changes that an earlier answer tells as accepted

@@ -1,20 +1,24 @@
 // The engine's threads: the committer in the caller's, and one for each editor, each forwarder, the waiter and tables.
-ghost use Rattle.std.specs.Prelude.{◌≡◌, ◌⊎◌, ◌+◌, ℕ, [], All, IfOk, IfSome, IsErrOf, Ok, OnOk, map, true, vec_len, ◌<◌, ◌≤◌};
+ghost use Rattle.std.specs.Prelude.{◌≡◌, [], All, IfOk, IfSome, IsErrOf, IsTrue, None, Ok, OnOk, List, map, true, vec_len, ◌<◌, ◌≤◌};
 ghost use Rattle.atomic_table.specs.Seated.{TableId};
 ghost use Rattle.requests.specs.Tickets.{last_of};
+ghost use Rattle.requests.specs.declared.request.Request.{Request};
 ghost use Rattle.layout_2.specs.State.{State};
 ghost use Rattle.intake.specs.Turns.{of};
 ghost use Rattle.checkpoint.specs.StoreWords.{state_of, view_of};
+ghost use Rattle.settled_lists.specs.declared.builds.Builds.{Builds};
 ghost use Rattle.settled_lists.specs.Posted.{ArePosted};
 ghost use Rattle.committer.specs.CommitterWords.{got_of, posts_of, queue_of, store_of, taker_of};
-ghost use Rattle.committer.specs.Listed.{IsListedFrom};
-ghost use Rattle.service_threads.specs.Kept.{IsFresh};
-ghost use Rattle.service_threads.specs.Pace.{IsUpToDate};
+ghost use Rattle.committer.specs.Listed.{IsListedFrom, StaysListedSo};
+ghost use Rattle.service_threads.specs.Kept.{HasLostDevice, HasSettledFrom, IsFresh, IsOnCourse, KeepsQueue, PostsAlong};
+ghost use Rattle.service_threads.specs.Pace.{IsBegun, IsShown, IsUpToDate};
 ghost use Rattle.live_service.specs.Seated.{IsSeated};
-ghost use Rattle.live_service.specs.ServedList.{EndsServed};
-ghost use Rattle.line_workers.specs.Submits.{AreAllEditors, ArePutInOrder, ComesBack};
+ghost use Rattle.live_service.specs.ServedList.{EndsServed, builds_of};
+ghost use Rattle.line_workers.specs.Submits.{AreAllEditors, ComesBack, HasNoted};
+ghost use Rattle.live_service.specs.Noting.{AreJoined};
 ghost use Rattle.live_service.specs.Taken.{TakesNoMore};
 
+use crate::ending::{Ending, Joined};
 use crate::opened::{EngineParts, Opened};
 use checkpoint::Store;
 use committer::Committer;
@@ -22,12 +26,14 @@ use disk_trait::Disk;
 use generations::{BoardReader, History};
 use group_commit::Desk;
 use intake::{Editor, Taker, open_intake};
-use line_exchange::{Exchange, Stream};
+use line_exchange::{Exchange, Noted, Stream};
 use line_workers::{TablesReader, Workplace, edit_lines, forward_lines, table_lines, wait_lines};
 use packet_ways::BoardName;
+use put_lines::PutLines;
 use requests::SESSIONS;
-use service_threads::{Rebuilds, ServiceConfig, commit_all, first_generation};
+use service_threads::{Rebuilds, ServiceConfig, Site, begun, commit_all, commit_beside};
 use service_workers::{ForwarderOf, Gate, SessionEditor, StopCause};
+use settled_lists::Builds;
 use std::alloc::{AllocError, Global};
 use std::marker::PhantomData;
 use std::snapshot::Snapshot;
@@ -45,18 +51,18 @@ pub struct Seats<B: BoardName, T> {
     pub reader: TablesReader<B>,
 }
 
-// What an editor's thread answers: the editor that it was given, where that comes back. What this has put lines asked for, in their order.
+// What an editor's thread answers: the editor that it was given, where that comes back, and which line put which of its requests.
 #[derive(Drop)]
 struct EditorPromise<J: Stream, B: BoardName> {
     editor: Snapshot<SessionEditor<B>>,
     of: PhantomData<J>,
 }
 
-impl<J: Stream, B: BoardName> Promise<Option<SessionEditor<B>>> for EditorPromise<J, B> {
+impl<J: Stream, B: BoardName> Promise<Option<(SessionEditor<B>, Noted)>> for EditorPromise<J, B> {
     ghost use Rattle.std.specs.Prelude.{IfSome};
     ghost use Rattle.line_workers.specs.Submits.{ComesBack};
 
-    ghost kept_by = { λ p r. IfSome r (λ e. ComesBack J.input J.editors p.editor.value.editor e.editor) };
+    ghost kept_by = { λ p r. IfSome r (λ e. ComesBack J.book J.input J.editors p.editor.value.editor e.0.editor e.1) };
 }
 
 // Starts the editors' threads. Where one can't be made all stop.
@@ -64,7 +70,7 @@ fn start_editors<'s, E, J: Stream + Send + Sync, B: BoardName + Send + Sync + 's
     scope: &Scope<'s, E>,
     here: &'s Workplace<'s, J, B, R>,
     editors: Vec<SessionEditor<B>>,
-    handles: &mut Vec<PromisedHandle<Option<SessionEditor<B>>, EditorPromise<J, B>>>,
+    handles: &mut Vec<PromisedHandle<Option<(SessionEditor<B>, Noted)>, EditorPromise<J, B>>>,
 )
     requires fresh { All (λ e. e.put ≡ []) (map (λ e. e.editor) editors.items) }
     requires none { handles.old.items ≡ [] }
@@ -80,9 +86,9 @@ fn start_editors<'s, E, J: Stream + Send + Sync, B: BoardName + Send + Sync + 's
             editor: Snapshot::of(&editor),
             of: PhantomData,
         };
-        let job = move || -> Option<SessionEditor<B>>
+        let job = move || -> Option<(SessionEditor<B>, Noted)>
             requires { editor.editor.put ≡ [] }
-            ensures { IfSome result (λ e. ComesBack J.input J.editors editor.editor e.editor) }
+            ensures { IfSome result (λ e. ComesBack J.book J.input J.editors editor.editor e.0.editor e.1) }
         { edit_lines(here, editor) };
         match scope.spawn_with(promise, job) {
             Ok(handle) => handles.push_reserved(handle),
@@ -172,7 +178,7 @@ fn has_left_none<B: BoardName, D: Disk, Q: Wait + Drop>(
     editor: SessionEditor<B>,
 ) -> bool
     requires opening { board.now.opening ≡ B.opening }
-    requires posted { (first : State) × ArePosted first (got_of committer.old) board.now.log }
+    requires posted { (builds : Builds) × (first : State) × ArePosted builds first (got_of committer.old) board.now.log }
     requires queue { editor.editor.queue ≡ queue_of committer.old }
     ensures taken { result ≡ true → editor.editor.put ≡ of editor.editor.session (got_of committer.old) }
     ensures same { TakesNoMore committer.old committer.new }
@@ -182,53 +188,68 @@ fn has_left_none<B: BoardName, D: Disk, Q: Wait + Drop>(
     board.covers(&known)
 }
 
-// For how many sessions, from 0, the editor has come back and all that it put has been taken, with one editor more.
-fn ended_next<J: Stream, B: BoardName, D: Disk, Q: Wait + Drop>(
+// What was noted of the requests of the first sessions, with an editor more, where it is that of the next session and all that it put has
+// been taken.
+fn joined_next<J: Stream, B: BoardName, D: Disk, Q: Wait + Drop>(
     served: bool,
     board: &History,
     committer: &mut Committer<D, Q>,
-    ended: usize,
-    back: Option<SessionEditor<B>>,
-) -> usize
+    ended: Joined,
+    back: Option<(SessionEditor<B>, Noted)>,
+) -> Joined
     requires opening { served ≡ true → board.now.opening ≡ B.opening }
-    requires posted { (first : State) × ArePosted first (got_of committer.old) board.now.log }
-    requires queue { IfSome back (λ e. e.editor.queue ≡ queue_of committer.old) }
-    requires put { IfSome back (λ e. ArePutInOrder J.input J.editors e.editor.put) }
-    ensures more { (result ≡ ended)
-        ⊎ ((result ≡ ended + 1) × ArePutInOrder J.input J.editors (of ended (got_of committer.old))) }
+    requires posted { (builds : Builds) × (first : State) × ArePosted builds first (got_of committer.old) board.now.log }
+    requires queue { IfSome back (λ e. e.0.editor.queue ≡ queue_of committer.old) }
+    requires noted { IfSome back (λ e. HasNoted J.book J.input J.editors e.0.editor e.1) }
+    requires book { ended.lines.book ≡ J.book }
+    ensures more { (got : List Request) → got ≡ got_of committer.old
+        → AreJoined J.book J.input J.editors got ended → AreJoined J.book J.input J.editors got result }
     ensures same { TakesNoMore committer.old committer.new }
 {
-    let Some(editor) = back else {
+    let Some((editor, noted)) = back else {
         return ended;
     };
-    if !served || editor.session() as usize != ended {
+    let session = editor.session() as usize;
+    if !served || session != ended.count || session >= SESSIONS {
         return ended;
     }
     if !has_left_none::<B, D, Q>(board, committer, editor) {
         return ended;
     }
-    ended + 1
+    let mut puts = ended.puts;
+    puts[session] = noted.number;
+    Joined {
+        count: session + 1,
+        puts,
+        lines: ended.lines.learn(&noted.lines),
+    }
 }
 
-// Joins the editors' threads, and answers for how many sessions, from 0, the editor came back and all that it put has been taken.
-fn ended_editors<J: Stream, B: BoardName, D: Disk, Q: Wait + Drop, R: Threads + Wait>(
+#[tactic(auto, using(crate::proofs::Noting::none_joined))]
+// Joins the editors' threads. For how many sessions, from 0, the editor came back and all that it put has been taken, and what was noted.
+fn joined_editors<J: Stream, B: BoardName, D: Disk, Q: Wait + Drop, R: Threads + Wait>(
     rt: &R,
     served: bool,
     board: &History,
     committer: &mut Committer<D, Q>,
-    handles: Vec<PromisedHandle<Option<SessionEditor<B>>, EditorPromise<J, B>>>,
-) -> usize
+    handles: Vec<PromisedHandle<Option<(SessionEditor<B>, Noted)>, EditorPromise<J, B>>>,
+    lines: PutLines,
+) -> Joined
     requires opening { served ≡ true → board.now.opening ≡ B.opening }
-    requires posted { (first : State) × ArePosted first (got_of committer.old) board.now.log }
+    requires posted { (builds : Builds) × (first : State) × ArePosted builds first (got_of committer.old) board.now.log }
     requires queue { All (λ h. h.promise.editor.value.editor.queue ≡ queue_of committer.old) handles.items }
-    ensures put { (session : ℕ) → session < result
-        → ArePutInOrder J.input J.editors (of session (got_of committer.old)) }
+    requires lines { lines.book ≡ J.book }
+    ensures joined { AreJoined J.book J.input J.editors (got_of committer.old) result }
     ensures store { store_of committer.new ≡ store_of committer.old }
 {
-    let mut ended: usize = 0;
+    let mut ended = Joined {
+        count: 0,
+        puts: [0; SESSIONS],
+        lines,
+    };
     for handle in handles {
         let back = handle.join(rt);
-        ended = ended_next::<J, B, D, Q>(served, board, committer, ended, back);
+        ended = joined_next::<J, B, D, Q>(served, board, committer, ended, back);
     }
     ended
 }
@@ -256,10 +277,10 @@ fn ended(
     own: Result<bool, StopCause>,
     cause: Option<StopCause>,
     all_taken: bool,
-    board: History,
-) -> Result<History, StopCause>
+    ending: Ending,
+) -> Result<Ending, StopCause>
     ensures device { IsErrOf result StopCause.Device → IsErrOf own StopCause.Device }
-    ensures board { IfOk result (λ b. b ≡ board) }
+    ensures ending { IfOk result (λ e. e ≡ ending) }
     ensures own { OnOk result (own ≡ Ok true) }
     ensures all { OnOk result (all_taken ≡ true) }
 {
@@ -267,9 +288,55 @@ fn ended(
         (Err(cause), _) => Err(cause),
         (Ok(_), Some(StopCause::Device)) => Err(StopCause::Internal),
         (Ok(_), Some(cause)) => Err(cause),
-        (Ok(true), None) if all_taken => Ok(board),
+        (Ok(true), None) if all_taken => Ok(ending),
         (Ok(_), None) => Err(StopCause::Internal),
     }
+}
+
+// Commits what editors submit, and builds tables in turn with that or beside it, as the input has it.
+fn commit_lines<
+    's,
+    E,
+    J: Stream,
+    B: BoardName + Send + Sync,
+    D: Disk,
+    G: Gate + Sync,
+    Q: Wait + Drop,
+    R: Threads + Wait + Sync,
+>(
+    scope: &Scope<'s, E>,
+    here: &'s Workplace<'s, J, B, R>,
+    gate: &'s G,
+    committer: &mut Committer<D, Q>,
+    rebuilds: &mut Rebuilds,
+) -> Result<bool, StopCause>
+    requires opening { (posts_of committer.old).opening ≡ B.opening }
+    requires fresh { IsFresh committer.old }
+    requires begun { IsBegun (builds_of J.input) committer.old }
+    requires builds { rebuilds.old.builds ≡ builds_of J.input }
+    ensures settled { HasSettledFrom committer.old committer.new }
+    ensures device { IsErrOf result StopCause.Device → HasLostDevice committer.old committer.new }
+    ensures listed { StaysListedSo (builds_of J.input) committer.old committer.new }
+    ensures posted { PostsAlong (builds_of J.input) committer.old committer.new }
+    ensures queue { KeepsQueue committer.old committer.new }
+    ensures all { OnOk result (IsOnCourse (builds_of J.input) committer.old committer.new) }
+    ensures opening { OnOk result ((posts_of committer.new).opening ≡ B.opening) }
+    ensures up_to_date { IfOk result (λ left. IsTrue left → IsUpToDate committer.new) }
+{
+    let (rt, alloc) = (here.rt, here.alloc);
+    match rebuilds.builds {
+        Builds::InTurn => {
+            return commit_all::<B, D, Q, R>(rt, alloc, here.coordinator, committer, rebuilds);
+        }
+        Builds::Beside => {}
+    }
+    let site = Site {
+        rt,
+        alloc,
+        coordinator: here.coordinator,
+        gate,
+    };
+    commit_beside(scope, &site, committer, rebuilds)
 }
 
 // Runs the threads of all seats, the committer in the caller's, and gives the store back.
@@ -288,24 +355,26 @@ fn run_seats<
     committer: Committer<D, Q>,
     seats: Seats<B, T>,
     rebuilds: Rebuilds,
-) -> (Result<History, StopCause>, Store<D>)
+) -> (Result<Ending, StopCause>, Store<D>)
     requires opening { (posts_of committer).opening ≡ B.opening }
     requires fresh { IsFresh committer }
-    requires listed { IsListedFrom (state_of (store_of committer)) committer }
-    requires shown { IsUpToDate committer }
+    requires listed { IsListedFrom (builds_of J.input) (state_of (store_of committer)) committer }
+    requires begun { IsBegun (builds_of J.input) committer }
     requires editors { AreAllEditors (taker_of committer) (map (λ e. e.editor) seats.editors.items) }
-    ensures { EndsServed B.opening (store_of committer) J.input J.editors result.0 (view_of result.1) }
+    requires builds { rebuilds.builds ≡ builds_of J.input }
+    ensures { EndsServed B.opening J.book (store_of committer) J.input J.editors result.0 (view_of result.1) }
 {
     thread::scope(
         thread::scope_env(),
         here.rt,
-        |scope| -> (Result<History, StopCause>, Store<D>)
+        |scope| -> (Result<Ending, StopCause>, Store<D>)
             requires opening { (posts_of committer).opening ≡ B.opening }
             requires fresh { IsFresh committer }
-            requires listed { IsListedFrom (state_of (store_of committer)) committer }
-            requires shown { IsUpToDate committer }
+            requires listed { IsListedFrom (builds_of J.input) (state_of (store_of committer)) committer }
+            requires begun { IsBegun (builds_of J.input) committer }
             requires editors { AreAllEditors (taker_of committer) (map (λ e. e.editor) seats.editors.items) }
-            ensures { EndsServed B.opening (store_of committer) J.input J.editors result.0 (view_of result.1) }
+            requires builds { rebuilds.builds ≡ builds_of J.input }
+            ensures { EndsServed B.opening J.book (store_of committer) J.input J.editors result.0 (view_of result.1) }
         {
             let mut committer = committer;
             let mut rebuilds = rebuilds;
@@ -328,29 +397,32 @@ fn run_seats<
             start_forwarders(scope, here, gate, forwarders, &mut handles);
             start_tables(scope, here, tables, reader, &mut handles);
             let waiter = start_waiter(scope, here);
-            let own = commit_all::<B, D, Q, R>(
-                here.rt,
-                here.alloc,
-                here.coordinator,
-                &mut committer,
-                &mut rebuilds,
-            );
+            let own = commit_lines(scope, here, gate, &mut committer, &mut rebuilds);
             let board = committer.told().history();
             if here.coordinator.stopped(here.rt) {
                 here.exchange.shut(here.rt);
             }
-            let taken = ended_editors(here.rt, own.is_ok(), &board, &mut committer, editing);
+            let noted = here.exchange.book.begin();
+            let taken = joined_editors(
+                here.rt,
+                own.is_ok(),
+                &board,
+                &mut committer,
+                editing,
+                noted,
+            );
             joined(here, handles, waiter);
             let cause = here.coordinator.cause(here.rt);
-            (
-                ended(own, cause, taken == sessions, board),
-                committer.into_store(),
-            )
+            let all_taken = taken.count == sessions;
+            let puts = taken.puts;
+            let lines = taken.lines;
+            let ending = Ending { board, puts, lines };
+            (ended(own, cause, all_taken, ending), committer.into_store())
         },
     )
 }
 
-// Builds the first generation, runs the threads of all seats, the committer in the caller's, and gives the store back.
+// Runs the threads of all seats, the committer in the caller's, and gives the store back. A script's first generation is built before.
 fn run<
     J: Stream + Send + Sync,
     B: BoardName + Send + Sync,
@@ -367,17 +439,19 @@ fn run<
     rebuilds: Rebuilds,
     gate: &G,
     exchange: &Exchange<J, B>,
-) -> (Result<History, StopCause>, Store<D>)
+) -> (Result<Ending, StopCause>, Store<D>)
     requires opening { (posts_of committer).opening ≡ B.opening }
     requires fresh { IsFresh committer }
-    requires listed { IsListedFrom (state_of (store_of committer)) committer }
+    requires listed { IsListedFrom (builds_of J.input) (state_of (store_of committer)) committer }
+    requires bare { IsShown None committer }
     requires editors { AreAllEditors (taker_of committer) (map (λ e. e.editor) seats.editors.items) }
-    ensures { EndsServed B.opening (store_of committer) J.input J.editors result.0 (view_of result.1) }
+    requires builds { rebuilds.builds ≡ builds_of J.input }
+    ensures { EndsServed B.opening J.book (store_of committer) J.input J.editors result.0 (view_of result.1) }
 {
     let mut committer = committer;
     let mut rebuilds = rebuilds;
     let editing = seats.editors.len();
-    match first_generation::<B, D, Q, R>(rt, alloc, &mut committer, &mut rebuilds, editing) {
+    match begun::<B, D, Q, R>(rt, alloc, &mut committer, &mut rebuilds, editing) {
         Ok(coordinator) => {
             let here = Workplace {
                 rt,
@@ -485,8 +559,9 @@ fn seat<
     parts: EngineParts<B, D, T, Q>,
     gate: &G,
     exchange: &Exchange<J, B>,
-) -> (Result<History, StopCause>, Store<D>)
-    ensures { EndsServed B.opening parts.opened.store J.input J.editors result.0 (view_of result.1) }
+) -> (Result<Ending, StopCause>, Store<D>)
+    requires builds { parts.opened.config.builds ≡ builds_of J.input }
+    ensures { EndsServed B.opening J.book parts.opened.store J.input J.editors result.0 (view_of result.1) }
 {
     let EngineParts {
         opened,
@@ -500,7 +575,7 @@ fn seat<
         source,
         tables,
     } = opened;
-    let Ok(rebuilds) = Rebuilds::new(alloc, source, config.rounds) else {
+    let Ok(rebuilds) = Rebuilds::new(alloc, source, config.rounds, config.builds) else {
         return (Err(StopCause::Memory), store);
     };
     match seat_all::<B, T>(alloc, config.service, tables, readers, &store.starts()) {
@@ -528,8 +603,9 @@ pub fn engine<
     parts: EngineParts<B, D, T, Q>,
     gate: &G,
     exchange: &Exchange<J, B>,
-) -> (Result<History, StopCause>, D)
-    ensures { EndsServed B.opening parts.opened.store J.input J.editors result.0 (D.view result.1) }
+) -> (Result<Ending, StopCause>, D)
+    requires builds { parts.opened.config.builds ≡ builds_of J.input }
+    ensures { EndsServed B.opening J.book parts.opened.store J.input J.editors result.0 (D.view result.1) }
 {
     let (result, store) = seat::<J, B, D, G, T, Q, R>(rt, alloc, parts, gate, exchange);
     exchange.shut(rt);

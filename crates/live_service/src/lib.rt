@@ -6,10 +6,11 @@
 //! soon as it and all before it are there. A line that waits for a commit holds up the printing of later answers, not the work on them.
 //!
 //! Memory doesn't grow with the input: at most 1,024 lines have been read and not answered. A burst of edits costs one build of
-//! tables: they are built when no edit waits, or at the latest `rounds` rounds after the first edit that they lack.
+//! tables: a build begins when no edit waits, or at the latest `rounds` rounds after the first edit that they lack. It goes on beside the
+//! commits, one build at a time.
 //!
 //! [`serve_lines`] runs a script by the same engine. Its answers are gathered, and printed once all are there; tables are built behind
-//! each round that changed the graph. [`serve_told`] does so too, tells a fault on a second writer, and answers how it ended
+//! each round that changed the graph, in the committer's thread. [`serve_told`] does so too, tells a fault on a second writer, and answers how it ended
 //! ([`Served`]); [`serve_on`] answers the program's exit status instead: 0 also where changes were refused. Where no fault comes, the
 //! lines of answers were printed of which just those are verdicts whose line is an edit; a fault but that of the printing has printed
 //! nothing (`ServesScript` and `FailsScript` of `specs/Services`).
@@ -17,20 +18,22 @@
 //! A fault is told on a `FaultWriter` of `command_output`, which `WatchedWriter` makes of any writer. Where one of these calls answers
 //! that a fault wasn't told, a write of this very writer has failed.
 //!
-//! The contract of [`serve_live`] says more of each line. Unless input or output failed, what is printed is lines of
+//! The contract of [`serve_live`] says more of each line. What is printed is lines of
 //! answers and nothing else: the k-th fits what the k-th line of the input asks for (`PrintsTo` of `specs/Runs`), and if no fault
-//! ended the service each line has one. The lines are those of an input whose bytes are known. The disk comes back, whatever ends the
+//! ended the service each line has one. Where a write fails a beginning of such lines was printed; of a [`WatchedOutput`] it is known that
+//! a write of it failed. The lines are those of an input whose bytes are known. The disk comes back, whatever ends the
 //! service: it is the very device, and a crash at any moment leaves the state after a beginning of the requests that were taken
 //! (`IsLeftBy`). A fault is told, and is true of the device (`IsServeEnd`).
 //!
 //! Where no fault ended a service, all its answers are of one list of requests, which it took from the state of the opened device on
 //! (`AreOfOneList` of `specs/ServedList`). Each session's are edits that lines of the input ask for, in the order of the lines, each line
-//! at most once (`ArePutInOrder` of `line_workers`). A verdict is the mark that settling the first of them gives this session and this
-//! ticket, and an edit that is in already has a ticket that was taken before. Each generation serves the graph of the state that its
-//! number names. A route is the way that a packet goes there, and so are addresses, launches and hops by the scheme of their generation
-//! (`IsSaidIn` of `line_exchange`). `state` tells how the board stood, and the generation that `wait` answers has each change that was told
-//! as accepted before. The device holds the state after all of the requests. Nothing of this kind is said of `resume` and `tables`, nor of
-//! a way's length. The same holds of a script.
+//! at most once, and just those lines are told verdicts (`ArePutBy` of `line_workers`). A verdict is the mark that settling the first of
+//! them gives this session and this ticket; an edit that put none is told so by what its session was told before (`AreDropped`). Each
+//! generation serves the graph of the state that its number names, and the marks of the requests that led there were posted before it.
+//! A route is the way that a packet goes there, and so are addresses, launches and hops by the scheme of their generation (`IsSaidIn`
+//! of `line_exchange`). `state` tells how the board stood, and the generation that `wait` answers has each change that was told as
+//! accepted before. The device holds the state after all of the requests.
+//! Nothing of this kind is said of `resume` and `tables`, nor of a way's length. The same holds of a script.
 //!
 //! ```text
 //! let mut err = WatchedWriter::new(rt.stderr());
@@ -41,6 +44,7 @@
 //! ```
 #![tactic(auto)]
 
+mod ending;
 mod engine;
 mod faults;
 mod opened;
@@ -49,7 +53,7 @@ mod script;
 mod serve;
 mod serving;
 
-pub use line_exchange::Served;
+pub use line_exchange::{AnswerWriter, Served, WatchedOutput};
 pub use script::{serve_lines, serve_on, serve_told};
 pub use serve::serve_live;
 pub use service_threads::{Gate, OpenGate, ServiceConfig};

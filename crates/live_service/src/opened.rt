@@ -10,6 +10,7 @@ use generations::{BoardReader, BoardWriter};
 use packet_ways::BoardName;
 use service_threads::ServiceConfig;
 use service_workers::WordSource;
+use settled_lists::Builds;
 use std::marker::PhantomData;
 use std::sync::Wait;
 
@@ -17,8 +18,10 @@ use std::sync::Wait;
 #[derive(Clone, Copy, Drop)]
 pub struct EngineConfig {
     pub service: ServiceConfig,
-    /// After so many rounds a change that was accepted is in a generation.
+    /// A generation is begun so many rounds after the first accepted change that it has, at the latest.
     pub rounds: u32,
+    /// Where generations are built behind the first one.
+    pub builds: Builds,
 }
 
 /// The store of a device that was opened, and what its service works by.

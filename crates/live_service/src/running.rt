@@ -11,8 +11,10 @@ ghost use Rattle.line_exchange.specs.Ends.{fault_of};
 ghost use Rattle.line_exchange.specs.Reads.{IsReadEnd};
 ghost use Rattle.live_service.specs.Runs.{HasRun, IsFaultOf, IsPrintEnd};
 ghost use Rattle.live_service.specs.Seated.{IsSeated};
-ghost use Rattle.live_service.specs.ServedList.{EndsServed, IsBoardOf};
+ghost use Rattle.live_service.specs.Noting.{AreSamePuts};
+ghost use Rattle.live_service.specs.ServedList.{EndsServed, IsBoardOf, builds_of};
 
+use crate::ending::Ending;
 use crate::engine::engine;
 use crate::faults::fault_of as told_fault;
 use crate::opened::{EngineParts, Opened};
@@ -20,7 +22,6 @@ use checkpoint::Store;
 use command_output::Fault;
 use core::thread::Stack;
 use disk_trait::Disk;
-use generations::History;
 use line_exchange::{
     Console, Exchange, LineSource, PrintEnd, Printed, ReadFault, Served, Stream, read_lines,
 };
@@ -44,11 +45,11 @@ struct EnginePromise<J: Stream, B: BoardName, D: Disk> {
     at: PhantomData<B>,
 }
 
-impl<J: Stream, B: BoardName, D: Disk> Promise<(Result<History, StopCause>, D)>
+impl<J: Stream, B: BoardName, D: Disk> Promise<(Result<Ending, StopCause>, D)>
     for EnginePromise<J, B, D> {
     ghost use Rattle.live_service.specs.ServedList.{EndsServed};
 
-    ghost kept_by = { λ p r. EndsServed B.opening p.store.value J.input J.editors r.0 (D.view r.1) };
+    ghost kept_by = { λ p r. EndsServed B.opening J.book p.store.value J.input J.editors r.0 (D.view r.1) };
 }
 
 // What the reader's thread answers of its input.
@@ -71,22 +72,25 @@ fn told_cause(cause: StopCause) -> Fault
 }
 
 // The fault that is known once the answers are printed and the engine has ended: that the output failed goes before all others. The
-// board has all that the answers know, or two parts disagree.
-#[tactic(auto, using(crate::proofs::Ended::cause_later, crate::proofs::Ended::cause_device))]
-fn early_fault(printed: &Printed, engine: &Result<History, StopCause>) -> Option<Fault>
-    requires { IfOk engine.now (λ board. printed.now.tally.known.opening ≡ board.opening) }
+// board has all that the answers know, and each session was told as many verdicts as lines were noted, or two parts disagree.
+#[tactic(auto, using(crate::proofs::Ended::cause_later, crate::proofs::Ended::cause_device, crate::proofs::Ended::cause_other))]
+fn early_fault(printed: &Printed, engine: &Result<Ending, StopCause>) -> Option<Fault>
+    requires { IfOk engine.now (λ ending. (printed.now.tally.known.opening ≡ ending.board.opening)
+        × (printed.now.tally.lines.book ≡ ending.lines.book)) }
     ensures fault { IfSome result (λ fault. IsFaultOf engine.now fault) }
     ensures output { printed.now.end ≡ PrintEnd.Output → result ≡ Some Fault.Output }
+    ensures met { result ≡ Some Fault.Output → printed.now.end ≡ PrintEnd.Output }
     ensures none { result ≡ None → printed.now.end ≡ PrintEnd.Whole }
-    ensures on { result ≡ None → IsOkAnd engine.now (λ board. GoesOn printed.now.tally.known board) }
+    ensures on { result ≡ None → IsOkAnd engine.now (λ ending. GoesOn printed.now.tally.known ending.board
+        × AreSamePuts printed.now.tally ending) }
 {
     match (printed.end, engine) {
         (PrintEnd::Output, _) => Some(Fault::Output),
         (_, Err(cause)) => Some(told_cause(*cause)),
         (PrintEnd::Memory, Ok(_)) => Some(Fault::Memory),
         (PrintEnd::Internal, Ok(_)) => Some(Fault::Internal),
-        (PrintEnd::Whole, Ok(board)) => {
-            if board.covers(&printed.tally.known) {
+        (PrintEnd::Whole, Ok(ending)) => {
+            if ending.board.covers(&printed.tally.known) && ending.was_told(&printed.tally) {
                 None
             } else {
                 Some(Fault::Internal)
@@ -98,6 +102,7 @@ fn early_fault(printed: &Printed, engine: &Result<History, StopCause>) -> Option
 // The fault that is known once the reader has ended too: it failed, or not all its lines have answers.
 fn late_fault(printed: &Printed, read: &Result<Option<u64>, ReadFault>) -> Option<Fault>
     ensures fault { IfSome result (λ fault. IsLater fault × (fault ≢ Fault.Device)) }
+    ensures output { result ≡ Some Fault.Output → read.now ≡ Err ReadFault.Input }
     ensures none { result ≡ None → read.now ≡ Ok (Some printed.now.tally.count) }
 {
     match read {
@@ -123,29 +128,35 @@ fn join_reader<J: Stream, R: Threads>(
     }
 }
 
-// Tells how the service ended, and waits for the reader: a fault that is known before is told first, since a read may take long.
+#[tactic(auto, using(crate::proofs::Ended::met_late))]
+// Tells how the service ended, and waits for the reader: a fault that is known before is told first, since a read may take long. Which fault
+// the console was given stands beside how it ended.
 fn conclude<J: Stream, C: Console<J>, R: Threads>(
     rt: &R,
     console: C,
     printed: Printed,
-    engine: &Result<History, StopCause>,
+    engine: &Result<Ending, StopCause>,
     reader: Option<PromisedHandle<Result<Option<u64>, ReadFault>, ReaderPromise<J>>>,
-) -> (C, Served)
-    requires { IfOk engine.now (λ board. printed.tally.known.opening ≡ board.opening) }
-    ensures finishes { C.finishes console result.0 result.1 }
-    ensures fault { IfSome (fault_of result.1) (λ fault. IsFaultOf engine.now fault) }
-    ensures printed { IsPrintEnd J.input printed result.1 }
-    ensures on { result.1 ≡ Served.Printed → IsOkAnd engine.now (λ board. GoesOn printed.tally.known board) }
+) -> (C, Option<Fault>, Served)
+    requires { IfOk engine.now (λ ending. (printed.tally.known.opening ≡ ending.board.opening)
+        × (printed.tally.lines.book ≡ ending.lines.book)) }
+    ensures finishes { C.finishes console result.0 result.1 result.2 }
+    ensures fault { IfSome (fault_of result.2) (λ fault. IsFaultOf engine.now fault) }
+    ensures printed { IsPrintEnd J.input printed result.1 result.2 }
+    ensures on { result.2 ≡ Served.Printed → IsOkAnd engine.now (λ ending. GoesOn printed.tally.known ending.board
+        × AreSamePuts printed.tally ending) }
 {
     match early_fault(&printed, engine) {
         Some(fault) => {
             let (console, served) = console.finish(Some(fault));
             let _read = join_reader(rt, reader);
-            (console, served)
+            (console, Some(fault), served)
         }
         None => {
             let read = join_reader(rt, reader);
-            console.finish(late_fault(&printed, &read))
+            let fault = late_fault(&printed, &read);
+            let (console, served) = console.finish(fault);
+            (console, fault, served)
         }
     }
 }
@@ -170,7 +181,8 @@ fn start_engine<
     gate: &'s G,
     exchange: &'s Exchange<J, B>,
     unmade: &'s AtomicBool,
-) -> Result<PromisedHandle<(Result<History, StopCause>, D), EnginePromise<J, B, D>>, D>
+) -> Result<PromisedHandle<(Result<Ending, StopCause>, D), EnginePromise<J, B, D>>, D>
+    requires builds { parts.opened.config.builds ≡ builds_of J.input }
     ensures made { IfOk result (λ handle. handle.promise.store.value ≡ parts.opened.store) }
     ensures unmade { IfErr result (λ disk.
         HasSettledSome (state_of parts.opened.store) (view_of parts.opened.store) (D.view disk)) }
@@ -193,11 +205,12 @@ fn start_engine<
         source,
         tables,
     } = opened;
-    let job = move || -> (Result<History, StopCause>, D)
+    let job = move || -> (Result<Ending, StopCause>, D)
         requires config { IsSeated config.service }
+        requires builds { config.builds ≡ builds_of J.input }
         requires board { IsBoardOf B.opening (state_of store) writer readers.items }
         requires up { is_down store ≡ false }
-        ensures { EndsServed B.opening store J.input J.editors result.0 (D.view result.1) }
+        ensures { EndsServed B.opening J.book store J.input J.editors result.0 (D.view result.1) }
     {
         if unmade.load(Ordering::SeqCst) {
             return (Err(StopCause::NoThread), store.into_disk());
@@ -251,6 +264,7 @@ pub(crate) fn run_threads<
     console: C,
 ) -> (C, Served, Option<D>)
     requires given { L.has_given lines 0 }
+    requires builds { parts.opened.config.builds ≡ builds_of J.input }
     ensures { HasRun C.prints C.finishes J.input J.editors parts.opened.store console result.0 result.1 result.2 }
 {
     let unmade = AtomicBool::new(false);
@@ -260,6 +274,7 @@ pub(crate) fn run_threads<
         rt,
         |scope| -> (C, Served, Option<D>)
             requires given { L.has_given lines 0 }
+            requires builds { parts.opened.config.builds ≡ builds_of J.input }
             ensures { HasRun C.prints C.finishes J.input J.editors parts.opened.store
                 console result.0 result.1 result.2 }
         {
@@ -284,7 +299,7 @@ pub(crate) fn run_threads<
             };
             let (console, printed) = console.print(rt, exchange);
             let (ended, disk) = engine.join(rt);
-            let (console, served) = conclude::<J, C, R>(rt, console, printed, &ended, reader);
+            let (console, _, served) = conclude::<J, C, R>(rt, console, printed, &ended, reader);
             (console, served, Some(disk))
         },
     )

@@ -1,12 +1,13 @@
 // A script on a device: the live service's engine runs it, and its answers are printed at the end.
 ghost use Rattle.std.specs.Prelude.{◌≡◌, ◌≢◌, ◌≤◌, ◌⊎◌, IfErr, IfOk, IfSome, IsSome, OnOk, Some};
+ghost use Rattle.std.specs.Io.KnownBytes.{Appends};
 ghost use Rattle.command_output.specs.declared.fault.Fault.{Fault};
 ghost use Rattle.command_output.specs.Faults.{status_of};
 ghost use Rattle.written_values.specs.Scripts.{AreOfSessions};
 ghost use Rattle.service_threads.specs.Config.{IsServiceConfig};
 ghost use Rattle.service_threads.specs.Kept.{IsLeftBy};
 ghost use Rattle.live_service.specs.ServeEnds.{IsServeEnd};
-ghost use Rattle.line_exchange.specs.Gathers.{IsServed};
+ghost use Rattle.line_exchange.specs.Gathers.{BreaksOff, IsServed};
 ghost use Rattle.line_exchange.specs.declared.served.Served.{Served};
 ghost use Rattle.line_exchange.specs.Ends.{IsToldOrFailed, TellsEnd, fault_of};
 ghost use Rattle.line_exchange.specs.Inputs.{Script};
@@ -19,11 +20,12 @@ use crate::serving::{seated, serve_opened, take_back};
 use checkpoint::standing_law;
 use command_output::{Fault, FaultWriter};
 use disk_trait::Disk;
-use line_exchange::{Gatherer, ScriptSource, Served, Stream};
+use line_exchange::{AnswerWriter, Gatherer, ScriptSource, Served, Stream};
+use put_lines::BlankBook;
 use service_threads::{ServiceConfig, open_device};
 use service_workers::Gate;
+use settled_lists::Builds;
 use std::alloc::Global;
-use std::io::Write;
 use std::marker::Brand;
 use std::sync::Wait;
 use std::thread::Threads;
@@ -44,13 +46,15 @@ impl TableFiles for NoTables {
     }
 }
 
-// The service of a device that was opened, for the script that `J` names, over a gatherer, whose writer comes back.
+// The service of a device that was opened, for the script that `J` names and with a book of its own, over a gatherer, whose writer comes
+// back.
 fn run_gatherer<'a, 'b, J, D, G, R, O>(
     rt: &'a R,
     alloc: Global,
     opened: Opened<D, NoTables>,
     gate: &'a G,
     script: Vec<ScriptLine>,
+    blank: BlankBook,
     gatherer: Gatherer<'b, O>,
 ) -> (&'b mut O, Served, Option<D>)
 where
@@ -58,10 +62,12 @@ where
     D: Disk + Drop + Send,
     G: Gate + Sync,
     R: Threads + Wait + Sync,
-    O: Write,
-    requires { J.input ≡ Script script.items }
+    O: AnswerWriter,
+    requires script { J.input ≡ Script script.items }
+    requires builds { opened.config.builds ≡ Builds.InTurn }
+    requires book { blank.book ≡ J.book }
     ensures same_out { result.0.ghost_name ≡ gatherer.entry.out.ghost_name }
-    ensures served { HasServedScript O.contents script.items J.input J.editors opened.store
+    ensures served { HasServedScript O.AnswerWriter script.items J.input J.editors opened.store
         gatherer.entry.out.now result.0.now result.1 result.2 }
 {
     let lines = ScriptSource {
@@ -75,7 +81,7 @@ where
         R,
         ScriptSource,
         Gatherer<'b, O>,
-    >(rt, alloc, opened, gate, lines, gatherer);
+    >(rt, alloc, opened, gate, lines, blank, gatherer);
     let Gatherer {
         alloc: _,
         text: _,
@@ -91,6 +97,7 @@ fn serve_script<'a, J, D, G, R, O>(
     opened: Opened<D, NoTables>,
     gate: &'a G,
     script: Vec<ScriptLine>,
+    blank: BlankBook,
     out: &mut O,
 ) -> (Served, Option<D>)
 where
@@ -98,9 +105,11 @@ where
     D: Disk + Drop + Send,
     G: Gate + Sync,
     R: Threads + Wait + Sync,
-    O: Write,
-    requires { J.input ≡ Script script.items }
-    ensures { HasServedScript O.contents script.items J.input J.editors opened.store out.old out.new result.0 result.1 }
+    O: AnswerWriter,
+    requires script { J.input ≡ Script script.items }
+    requires builds { opened.config.builds ≡ Builds.InTurn }
+    requires book { blank.book ≡ J.book }
+    ensures { HasServedScript O.AnswerWriter script.items J.input J.editors opened.store out.old out.new result.0 result.1 }
 {
     let gatherer = Gatherer {
         alloc,
@@ -108,7 +117,7 @@ where
         out,
     };
     let (out, served, disk) = run_gatherer::<J, D, G, R, O>(
-        rt, alloc, opened, gate, script, gatherer,
+        rt, alloc, opened, gate, script, blank, gatherer,
     );
     take_back(out);
     (served, disk)
@@ -145,14 +154,16 @@ where
     D: Disk + Drop + Send,
     G: Gate + Sync,
     R: Threads + Wait + Sync,
-    O: Write,
+    O: AnswerWriter,
     requires config { IsServiceConfig config }
     requires sessions { AreOfSessions config.editors script.items }
-    ensures printed { OnOk result.0 (IsServed script.items (O.contents out.old) (O.contents out.new)) }
+    ensures printed { OnOk result.0 (IsServed script.items (Appends (O.contents out.old) (O.contents out.new))) }
     // A fault is true of the device.
     ensures ended { IfErr result.0 (λ fault. IsServeEnd D.Disk disk words result.1 fault) }
     // No line is printed where the service gives no answers.
     ensures untouched { IfErr result.0 (λ fault. fault ≢ Fault.Output → out.new ≡ out.old) }
+    // Where the printing failed, a write of this very writer did, and a beginning of the lines was printed.
+    ensures broken { IfErr result.0 (λ fault. fault ≡ Fault.Output → BreaksOff O.AnswerWriter script.items out.old out.new) }
     ensures back { IsSome result.1 }
     ensures left { IsLeftBy D.Disk disk result.1 }
     // Where no fault comes, the device came back, and the answers are of one list of requests.
@@ -168,12 +179,16 @@ where
         config: EngineConfig {
             service: seated(config),
             rounds: 1,
+            builds: Builds::InTurn,
         },
         store,
         source,
         tables: NoTables,
     };
-    let (served, disk) = serve_script::<Brand, D, G, R, O>(rt, alloc, opened, gate, script, out);
+    let blank = BlankBook::new();
+    let (served, disk) = serve_script::<Brand, D, G, R, O>(
+        rt, alloc, opened, gate, script, blank, out,
+    );
     (result_of(served), disk)
 }
 
@@ -194,14 +209,15 @@ where
     D: Disk + Drop + Send,
     G: Gate + Sync,
     R: Threads + Wait + Sync,
-    O: Write,
+    O: AnswerWriter,
     E: FaultWriter,
     requires config { IsServiceConfig config }
     requires sessions { AreOfSessions config.editors script.items }
     ensures done { result.0 ≡ Served.Printed
         → ServesScript D.Disk disk result.1 script.items config.editors O.contents out.old out.new }
     ensures quiet { result.0 ≡ Served.Printed → err.new ≡ err.old }
-    ensures fault { IfSome (fault_of result.0) (λ fault. FailsScript D.Disk disk words result.1 out.old out.new fault) }
+    ensures fault { IfSome (fault_of result.0) (λ fault.
+        FailsScript D.Disk disk words result.1 O.AnswerWriter script.items out.old out.new fault) }
     ensures told { TellsEnd E.contents E.has_failed err.old err.new result.0 }
     ensures back { IsSome result.1 }
     ensures left { IsLeftBy D.Disk disk result.1 }
@@ -233,7 +249,7 @@ where
     D: Disk + Drop + Send,
     G: Gate + Sync,
     R: Threads + Wait + Sync,
-    O: Write,
+    O: AnswerWriter,
     E: FaultWriter,
     requires config { IsServiceConfig config }
     requires sessions { AreOfSessions config.editors script.items }
@@ -241,7 +257,8 @@ where
     ensures done { result.0 ≡ 0
         → ServesScript D.Disk disk result.1 script.items config.editors O.contents out.old out.new }
     ensures quiet { result.0 ≡ 0 → err.new ≡ err.old }
-    ensures fault { (result.0 ≡ 0) ⊎ ((fault : Fault) × FailsScript D.Disk disk words result.1 out.old out.new fault
+    ensures fault { (result.0 ≡ 0) ⊎ ((fault : Fault)
+        × FailsScript D.Disk disk words result.1 O.AnswerWriter script.items out.old out.new fault
         × (result.0 ≡ status_of fault)
         × IsToldOrFailed (E.contents err.old) (E.contents err.new) (E.has_failed err.new) fault) }
     ensures back { IsSome result.1 }

@@ -18,24 +18,26 @@ use crate::serving::{seated, serve_opened, take_back};
 use checkpoint::standing_law;
 use command_output::FaultWriter;
 use disk_trait::Disk;
-use line_exchange::{InputSource, Served, Stream, Terminal, told};
+use line_exchange::{AnswerWriter, InputSource, Served, Stream, Terminal, told};
+use put_lines::BlankBook;
 use service_threads::{ServiceConfig, open_device};
 use service_workers::Gate;
+use settled_lists::Builds;
 use std::alloc::Global;
-use std::io::{BufRead, Write};
+use std::io::BufRead;
 use std::marker::Brand;
 use std::sync::Wait;
 use std::thread::Threads;
 use table_files::TableFiles;
 use written_values::LandmarkWords;
 
-// The service of a device that was opened, for the input that `J` names.
+// The service of a device that was opened, for the input that `J` names and with a book of its own.
 fn serve_stream<'a, J, D, G, T, R, S, O, E>(
     rt: &'a R,
     alloc: Global,
     opened: Opened<D, T>,
     gate: &'a G,
-    input: S,
+    input: (S, BlankBook),
     out: &mut O,
     err: &mut E,
 ) -> (Served, Option<D>)
@@ -46,20 +48,23 @@ where
     T: TableFiles + Drop + Send,
     R: Threads + Wait + Sync,
     S: BufRead + Send + Drop,
-    O: Write,
+    O: AnswerWriter,
     E: FaultWriter,
     requires editors { opened.config.service.editors ≡ J.editors }
-    requires input { J.input ≡ Bytes (S.remaining input) }
-    ensures printed { PrintsTo J.input J.editors (O.contents out.old) (O.contents out.new) result.0 }
+    requires builds { opened.config.builds ≡ Builds.Beside }
+    requires input { J.input ≡ Bytes (S.remaining input.0) }
+    requires book { input.1.book ≡ J.book }
+    ensures printed { PrintsTo O.AnswerWriter J.input J.editors out.old out.new result.0 }
     ensures told { TellsEnd E.contents E.has_failed err.old err.new result.0 }
     ensures ended { HasEnded opened.store result.0 result.1 }
     ensures one_list { result.0 ≡ Served.Printed
         → HasPrintedOn answer_text opened.store J.input J.editors (O.contents out.old) (O.contents out.new) result.1 }
 {
+    let (input, blank) = input;
     let lines = InputSource::new(alloc, opened.config.service.editors, input);
     let terminal = Terminal { alloc, out, err };
     let (terminal, served, disk) = serve_opened::<J, D, G, T, R, InputSource<S>, Terminal<O, E>>(
-        rt, alloc, opened, gate, lines, terminal,
+        rt, alloc, opened, gate, lines, blank, terminal,
     );
     let Terminal { alloc: _, out, err } = terminal;
     take_back(out);
@@ -70,8 +75,10 @@ where
 /// Answers the lines of an input on a device: each line as it comes, in the order of the lines, until the input's end.
 ///
 /// The committer runs in a thread whose stack has [`STACK_LEN`] bytes, each editor, each forwarder, the waiter and the reader in one
-/// of its own, and the printer in the caller's. A generation is built before any line is answered, and again where something that was
-/// accepted isn't in one and no more edits wait, or `rounds` rounds after the first such edit at the latest. An edit goes to its
+/// of its own, and the printer in the caller's. The first generation is begun at the start. The next one is begun where
+/// something that was accepted isn't in one and no more edits wait, or `rounds` rounds after the first such edit at the latest. Each is
+/// built in a thread of its own, one at a time, so that no edit waits for it, and no `resume`. What asks for a way, an address, a packet,
+/// tables or how the service stands waits until the first one is there. An edit goes to its
 /// session's editor; the k-th of the other lines but `state` and `wait`, from 0, to the forwarder `k` modulo their number.
 /// With the most editors there is one forwarder less than asked for, where that was the most too.
 ///
@@ -97,12 +104,12 @@ where
     T: TableFiles + Drop + Send,
     R: Threads + Wait + Sync,
     S: BufRead + Send + Drop,
-    O: Write,
+    O: AnswerWriter,
     E: FaultWriter,
     requires config { IsServiceConfig config }
-    // Lines of answers, the k-th to the k-th line of the input, where its bytes are known. Nothing is said where the output failed.
-    ensures printed { PrintsTo (Bytes (S.remaining input)) config.editors
-        (O.contents out.old) (O.contents out.new) result.0 }
+    // Lines of answers, the k-th to the k-th line of the input, where its bytes are known. Where a write of this writer failed, a beginning
+    // of such lines.
+    ensures printed { PrintsTo O.AnswerWriter (Bytes (S.remaining input)) config.editors out.old out.new result.0 }
     ensures told { HasToldSo (E.contents err.old) (E.contents err.new) result.0 }
     // A fault that wasn't told couldn't be: a write of this writer has failed.
     ensures untold { (fault : Fault) → result.0 ≡ Served.Untold fault → IsTrue (E.has_failed err.new) }
@@ -125,10 +132,12 @@ where
         config: EngineConfig {
             service: seated(config),
             rounds,
+            builds: Builds::Beside,
         },
         store,
         source,
         tables,
     };
+    let input = (input, BlankBook::new());
     serve_stream::<Brand, D, G, T, R, S, O, E>(rt, alloc, opened, gate, input, out, err)
 }

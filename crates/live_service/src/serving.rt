@@ -4,7 +4,7 @@ ghost use Rattle.checkpoint.specs.StoreWords.{state_of};
 ghost use Rattle.service_threads.specs.Config.{IsServiceConfig};
 ghost use Rattle.live_service.specs.Runs.{HasRun};
 ghost use Rattle.live_service.specs.Seated.{IsSeated};
-ghost use Rattle.live_service.specs.ServedList.{IsBoardOf};
+ghost use Rattle.live_service.specs.ServedList.{IsBoardOf, builds_of};
 
 use crate::opened::{EngineConfig, EngineParts, Opened};
 use crate::running::run_threads;
@@ -14,6 +14,7 @@ use disk_trait::Disk;
 use generations::{BoardReader, BoardWriter, MOST_READERS, board};
 use line_exchange::{Console, Exchange, LineSource, Served, Stream};
 use packet_ways::BoardName;
+use put_lines::BlankBook;
 use service_threads::ServiceConfig;
 use service_workers::Gate;
 use std::alloc::{AllocError, Global};
@@ -75,12 +76,12 @@ fn unstarted<J: Stream, D: Disk + Drop, T: Drop, C: Console<J>>(
     (console, served, Some(store.into_disk()))
 }
 
-// The service at the board that `B` names.
+// The service at the board that `B` names, whose editors note lines in the book that `J` names.
 fn serve_at_board<'a, J, B, D, G, T, Q, R, L, C>(
     rt: &'a R,
     alloc: Global,
     opened: Opened<D, T>,
-    board: (BoardWriter<Q>, Vec<BoardReader>),
+    board: (BoardWriter<Q>, Vec<BoardReader>, BlankBook),
     gate: &'a G,
     lines: L,
     console: C,
@@ -96,13 +97,23 @@ where
     L: LineSource<J> + Send + Drop,
     C: Console<J> + Drop,
     requires board { IsBoardOf B.opening (state_of opened.store) board.0 board.1.items }
+    requires blank { board.2.book ≡ J.book }
     requires given { L.has_given lines 0 }
+    requires builds { opened.config.builds ≡ builds_of J.input }
     ensures { HasRun C.prints C.finishes J.input J.editors opened.store console result.0 result.1 result.2 }
 {
-    let (writer, readers) = board;
+    let (writer, readers, blank) = board;
     let service = opened.config.service;
     let known = writer.tell().history();
-    match Exchange::<J, B>::new(alloc, service.editors, service.forwarders, known) {
+    let starts = opened.store.starts();
+    match Exchange::<J, B>::new(
+        alloc,
+        service.editors,
+        service.forwarders,
+        known,
+        &starts,
+        blank,
+    ) {
         Ok(exchange) => {
             let parts = EngineParts {
                 opened,
@@ -116,14 +127,15 @@ where
     }
 }
 
-/// The service of a device that was opened, for the lines that `J` names: all threads, from these lines to this console. The disk
-/// comes back.
-pub fn serve_opened<'a, J, D, G, T, R, L, C>(
+/// The service of a device that was opened, for the lines that `J` names: all threads, from these lines to this console. Editors note in
+/// the book that `J` names which lines put requests. The disk comes back.
+pub(crate) fn serve_opened<'a, J, D, G, T, R, L, C>(
     rt: &'a R,
     alloc: Global,
     opened: Opened<D, T>,
     gate: &'a G,
     lines: L,
+    blank: BlankBook,
     console: C,
 ) -> (C, Served, Option<D>)
 where
@@ -135,11 +147,19 @@ where
     L: LineSource<J> + Send + Drop,
     C: Console<J> + Drop,
     requires given { L.has_given lines 0 }
+    requires builds { opened.config.builds ≡ builds_of J.input }
+    requires blank { blank.book ≡ J.book }
     ensures { HasRun C.prints C.finishes J.input J.editors opened.store console result.0 result.1 result.2 }
 {
     match board_of(rt, alloc, &opened.config, &opened.store) {
-        Ok(board) => serve_at_board::<J, Brand, D, G, T, &R, R, L, C>(
-            rt, alloc, opened, board, gate, lines, console,
+        Ok((writer, readers)) => serve_at_board::<J, Brand, D, G, T, &R, R, L, C>(
+            rt,
+            alloc,
+            opened,
+            (writer, readers, blank),
+            gate,
+            lines,
+            console,
         ),
         Err(_) => unstarted::<J, D, T, C>(opened, console),
     }

@@ -83,12 +83,17 @@ impl<'a> Gate for HeldGate<'a> {
     fn after_hop(&self, _generation: u64) {
         let _before = self.0.hops.fetch_add(1, Ordering::SeqCst);
     }
+
+    fn before_build(&self) {}
 }
 
-/// An input of an edit, and so many lines of a kind behind it, a line a call.
+/// An input that waits for the first tables. Once its first answer is printed it gives an edit, and so many lines of a kind behind it,
+/// a line a call.
 #[derive(Drop)]
 struct Lines {
     signs: Arc<Signs, Global>,
+    // What it begins with, and the edit, until they are given.
+    wait: &'static [u8],
     edit: &'static [u8],
     line: &'static [u8],
     left: u64,
@@ -96,6 +101,15 @@ struct Lines {
 
 impl Read for Lines {
     fn read(&mut self, buf: &mut [u8]) -> io::Result<usize> {
+        if !self.wait.is_empty() && buf.len() >= self.wait.len() {
+            let len = self.wait.len();
+            buf[..len].copy_from_slice(self.wait);
+            self.wait = b"";
+            return Ok(len);
+        }
+        if !self.edit.is_empty() && !comes(&self.signs.printed, 1) {
+            self.signs.is_late.store(true, Ordering::SeqCst);
+        }
         let line = if self.edit.is_empty() {
             self.line
         } else {
@@ -149,16 +163,20 @@ const SETUP: Setup = Setup {
     rounds: 16,
 };
 
-// The edit's answer, and so many answers behind it.
+// The answer before the edit.
+const FIRST: &str = "generation=0\n";
+
+// That, the edit's, and so many answers behind it.
 fn answers_of(rt: &impl Abort, alloc: Global, row: &Row) -> String {
-    let mut text = got(rt, String::from_str(alloc, "0 1 accepted count=1\n"));
+    let mut text = got(rt, String::from_str(alloc, FIRST));
+    got(rt, text.push_str("0 1 accepted count=1\n"));
     for _ in 0..row.times {
         got(rt, text.push_str(row.answer));
     }
     text
 }
 
-// Runs on a device that holds the edit's commit, and sees all answers, of which none came before the edit's. Gives how many lines had
+// Runs on a device that holds the edit's commit, and sees all answers, of which just the first came before the edit's. Gives how many lines had
 // been read when the commit was let go.
 fn expect_row<R: Threads + Wait + Abort + Sync>(rt: &R, alloc: Global, row: &Row) -> u64 {
     let signs = got(
@@ -169,6 +187,7 @@ fn expect_row<R: Threads + Wait + Abort + Sync>(rt: &R, alloc: Global, row: &Row
     let disk = HookedDisk::new(fresh(rt, alloc, 5), hook);
     let lines = Lines {
         signs: got(rt, Arc::try_clone(&signs)),
+        wait: b"wait\n",
         edit: b"edit 0 - add:0:1:1\n",
         line: row.line,
         left: row.times.saturating_add(1),
@@ -194,7 +213,7 @@ fn expect_row<R: Threads + Wait + Abort + Sync>(rt: &R, alloc: Global, row: &Row
     same(
         rt,
         (is_late, printed),
-        (false, 0),
+        (false, FIRST.len() as u64),
         "lines behind a held commit",
     );
     signs.lines_then.load(Ordering::SeqCst)

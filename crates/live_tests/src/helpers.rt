@@ -3,7 +3,7 @@ use crate::places::NoFiles;
 use checkpoint::Store;
 use command_output::WatchedWriter;
 use disk_trait::{Disk, MemDisk};
-use live_service::{Served, serve_live};
+use live_service::{Served, WatchedOutput, serve_live};
 use service_threads::{Gate, OpenGate, ServiceConfig};
 use std::alloc::Global;
 use std::fmt::Debug;
@@ -95,7 +95,7 @@ where
         input,
         gate,
         tables,
-        out,
+        &mut WatchedOutput::new(out),
         &mut WatchedWriter::new(err),
     )
 }

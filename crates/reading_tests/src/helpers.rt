@@ -2,7 +2,7 @@
 use checkpoint::Store;
 use disk_trait::{Disk, MemDisk};
 use journal::Entry;
-use layout_parts::{Loaded, OpenRefused};
+use layout_parts::Loaded;
 use migrate::{MigrateRefused, Moved};
 use std::alloc::Global;
 use std::fmt::Debug;
@@ -70,9 +70,6 @@ pub(crate) type Stands = (
 pub(crate) const OF_FIRST: Stands = ((0, 9, 1), (2, 3, 5), (2, Some(7), Some(3)));
 
 pub(crate) const OF_NEWER: Stands = ((1, 10, 1), (4, 4, 5), (0, None, None));
-
-// How long a device is, what it begins with, and why it isn't loaded.
-pub(crate) type FrontRow<'a> = (usize, &'a [u8], OpenRefused);
 
 // What a migration answers.
 pub(crate) type Answer = Result<Moved, MigrateRefused>;
@@ -170,21 +167,4 @@ pub(crate) fn standing<E: Entry, T: Copy + Drop>(loaded: &Loaded<E, T>) -> Stand
         (loaded.base_count, loaded.count, graph.nodes()),
         (graph.edges(), graph.weight(1, 0), graph.weight(1, 2)),
     )
-}
-
-// The device of such a row.
-pub(crate) fn begun(rt: &impl Abort, alloc: Global, row: &FrontRow) -> MemDisk {
-    let (len, front, _) = *row;
-    device(rt, alloc, len, &[(0, front)])
-}
-
-// Sees why it isn't loaded.
-pub(crate) fn expect_front(rt: &impl Abort, row: &FrontRow, refused: Option<OpenRefused>) {
-    let (len, front, want) = *row;
-    same(
-        rt,
-        (len, front, refused),
-        (len, front, Some(want)),
-        "a front",
-    );
 }

@@ -1,9 +1,8 @@
-// Images of layout 1 written by hand: what stands on them, and what their fronts tell.
+// Images of layout 1 written by hand: what stands on them. What fronts tell is in conformance/fronts.txt.
 use crate::helpers::{
-    FRONT, FrontRow, NEWER, OF_FIRST, OF_NEWER, OLD_LEN, OLDER, Text, begun, device, expect_front,
-    got, same, standing,
+    FRONT, NEWER, OF_FIRST, OF_NEWER, OLD_LEN, OLDER, Text, device, got, same, standing,
 };
-use layout_1::{Loaded, OpenRefused, layout_law, load, standing_law};
+use layout_1::{Loaded, layout_law, load, standing_law};
 use std::alloc::Global;
 use std::process::Abort;
 
@@ -35,23 +34,4 @@ fn loads_images_written_by_hand(rt: HostRuntime) {
     same(&rt, standing(&l), OF_NEWER, "the newer slot");
     standing_law();
     layout_law();
-}
-
-const FRONTS: [FrontRow<'static>; 8] = [
-    (0, b"", OpenRefused::NotFormatted),
-    (9, b"TZNODE01\x00", OpenRefused::NotFormatted),
-    (10, b"TZNODF02\x00\x05", OpenRefused::NotFormatted),
-    (2_371_584, b"tZNODE01\x00\x05", OpenRefused::NotFormatted),
-    (10, b"TZNODE02\x00\x05", OpenRefused::BadVersion),
-    (2_371_584, b"TZNODE11\x00\x05", OpenRefused::BadVersion),
-    (10, b"TZNODE01\x00\x05", OpenRefused::Damaged),
-    (2_371_584, b"TZNODE01\x00\x05", OpenRefused::Damaged),
-];
-
-#[test]
-fn tells_the_front_first(rt: HostRuntime) {
-    for row in &FRONTS {
-        let mut disk = begun(&rt, rt.alloc(), row);
-        expect_front(&rt, row, load(rt.alloc(), &mut disk).err());
-    }
 }

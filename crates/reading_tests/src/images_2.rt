@@ -1,9 +1,8 @@
-// Images of layout 2 written by hand: what stands on them, and what their fronts tell.
+// Images of layout 2 written by hand: what stands on them. What fronts tell is in conformance/fronts.txt.
 use crate::helpers::{
-    FrontRow, NEW_LEN, NEWER, OF_FIRST, OF_NEWER, OLDER, Text, begun, device, expect_front, got,
-    same, standing,
+    NEW_LEN, NEWER, OF_FIRST, OF_NEWER, OLDER, Text, device, got, same, standing,
 };
-use layout_2::{Loaded, OpenRefused, layout_law, load, standing_law};
+use layout_2::{Loaded, layout_law, load, standing_law};
 use std::alloc::Global;
 use std::process::Abort;
 
@@ -47,23 +46,4 @@ fn loads_images_written_by_hand(rt: HostRuntime) {
     same(&rt, l.tickets[63], 0, "the other tickets");
     standing_law();
     layout_law();
-}
-
-const FRONTS: [FrontRow<'static>; 8] = [
-    (0, b"", OpenRefused::NotFormatted),
-    (9, b"TZNODE02\x00", OpenRefused::NotFormatted),
-    (10, b"TZNODF01\x00\x05", OpenRefused::NotFormatted),
-    (3_158_016, b"tZNODE02\x00\x05", OpenRefused::NotFormatted),
-    (2_371_584, b"TZNODE01\x00\x05", OpenRefused::BadVersion),
-    (3_158_016, b"TZNODE12\x00\x05", OpenRefused::BadVersion),
-    (10, b"TZNODE02\x00\x05", OpenRefused::Damaged),
-    (3_158_016, b"TZNODE02\x00\x05", OpenRefused::Damaged),
-];
-
-#[test]
-fn tells_the_front_first(rt: HostRuntime) {
-    for row in &FRONTS {
-        let mut disk = begun(&rt, rt.alloc(), row);
-        expect_front(&rt, row, load(rt.alloc(), &mut disk).err());
-    }
 }

@@ -1,4 +1,2 @@
-pub mod Absent
-pub mod BareTexts
 pub mod Orders
 pub mod SaidLemmas

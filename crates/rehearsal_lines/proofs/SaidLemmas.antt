@@ -1,12 +1,12 @@
 -- What a text says, a line more at a time.
-use Rattle.std.proofs.Common.{arith, ◌≡◌, ◌<◌, ◌+◌, ◌-◌, ◌∙◌, sym, ap, ap₂, ℕ, List, [], ◌∷◌, ◌++◌, map, length, take, get_or, Bor, append_assoc, append-nil}
+use Rattle.std.proofs.Common.{arith, ◌≡◌, ◌≢◌, ◌<◌, ◌+◌, ◌-◌, ◌∙◌, refl, sym, ap, ap₂, ℕ, List, [], ◌∷◌, ◌++◌, map, length, take, get_or, Bor, append_assoc, append-nil}
 use Rattle.std.specs.List.{flat_map}
 use Rattle.std.proofs.lemmas.Grind.{flat_map-append}
 use Rattle.std.proofs.lemmas.List.{flat_map_more, get_or-map, length-map, map-append, take_more}
 use Rattle.rehearsal_lines.specs.declared.line.RehearsalLine.{RehearsalLine}
 use Rattle.rehearsal_lines.specs.declared.stage.Stage.TheVariants.{Empty}
 use Rattle.rehearsal_lines.specs.Grammar.{IsRehearsal, MayStand, line_words, stage_of}
-use Rattle.rehearsal_lines.specs.Said.{IsFirstRefused, Say, said_by}
+use Rattle.rehearsal_lines.specs.Said.{IsFirstRefused, Say, said_by, unless_empty, words_of}
 use Rattle.rehearsal_lines.proofs.Orders.{none_goes_on}
 
 -- one text more
@@ -17,6 +17,15 @@ one_text_more xs i d lt =
 
 pub said_more : (texts : List (List ℕ)) (text : List ℕ) → flat_map said_by (texts ++ text ∷ []) ≡ flat_map said_by texts ++ said_by text
 said_more texts text = sym (flat_map_more said_by [] texts text)
+
+-- what a line says whose words these are
+pub said_none : (text : List ℕ) (words : List (Bor (List ℕ))) → map (λ x. x.now) words ≡ words_of text → length words ≡ 0 → said_by text ≡ []
+said_none text [] is none = ap (λ (ws : List (List ℕ)). unless_empty ws) (sym is)
+said_none text (w ∷ ws) is none = absurd (omega arith)
+
+pub said_words : (text : List ℕ) (words : List (Bor (List ℕ))) → map (λ x. x.now) words ≡ words_of text → length words ≢ 0 → said_by text ≡ map (λ x. x.now) words ∷ []
+said_words text [] is some = absurd (some refl)
+said_words text (w ∷ ws) is some = ap (λ (ws : List (List ℕ)). unless_empty ws) (sym is)
 
 -- a line without a word says nothing
 pub blank_more : (before after : List (List ℕ)) (text : List ℕ) (lines : List RehearsalLine) → after ≡ before ++ text ∷ [] → Say before lines → said_by text ≡ [] → Say after lines

@@ -1,5 +1,5 @@
 -- How lines of a rehearsal are written, and which line may stand where.
-use Rattle.std.specs.Prelude.{◌≡◌, ◌≢◌, ◌⊎◌, ℕ, ◌<◌, ◌≤◌, ◌^◌, List, [], ◌∷◌, ◌++◌, map, codes, decimal, Bool, true, false, cond, ◌==◌}
+use Rattle.std.specs.Prelude.{ℕ, ◌<◌, ◌≤◌, ◌^◌, List, [], ◌∷◌, ◌++◌, map, codes, decimal}
 use Rattle.disk_trait.specs.declared.plan.Plan.{Plan}
 use Rattle.disk_trait.specs.declared.plan.Plan.TheVariants as plans
 use Rattle.written_values.specs.OpText.{op_text, pair_text}
@@ -8,8 +8,6 @@ use Rattle.written_values.specs.Words.{IsWithin}
 use Rattle.written_values.specs.declared.words.LandmarkWords.{LandmarkWords}
 use Rattle.written_values.specs.WordsText.{IsAsked, words_text}
 use Rattle.rehearsal_lines.specs.declared.line.LifeLine.{LifeLine}
-use Rattle.rehearsal_lines.specs.declared.refused.Form.{Form}
-use Rattle.rehearsal_lines.specs.declared.refused.Form.TheVariants as forms
 use Rattle.rehearsal_lines.specs.declared.line.RehearsalLine.{RehearsalLine}
 use Rattle.rehearsal_lines.specs.declared.line.RehearsalLine.TheVariants.{Device, Life, Submit, Look, Take, Commit, Post, Rebuild, Launch, Hop}
 use Rattle.rehearsal_lines.specs.declared.stage.Stage.{Stage}
@@ -17,44 +15,23 @@ use Rattle.rehearsal_lines.specs.declared.stage.Stage.TheVariants.{Empty, Made, 
 
 -- ---- the words of a line
 
--- a name and its value, with `=` between
-abbrev pub field_text : List ℕ → List ℕ → List ℕ
-field_text name value = name ++ 61 ∷ value
-
--- whether the text has no such byte
-abbrev pub has_none : ℕ → List ℕ → Bool
-has_none c [] = true
-has_none c (b ∷ bs) = cond (b == c) false (has_none c bs)
-
 -- which call fails; nothing where none does
 abbrev pub plan_words : Plan → List (List ℕ)
 plan_words plans.None = []
-plan_words (plans.Fail call) = field_text (codes "fail") (decimal call) ∷ []
-plan_words (plans.Stop call bytes) = field_text (codes "stop") (pair_text call bytes) ∷ []
-
--- a field that says which landmark words there are
-abbrev pub words_field : LandmarkWords → List ℕ
-words_field words = field_text (codes "words") (words_text words)
-
--- a field that says what a crash leaves, alone
-abbrev pub crash_words : List ℕ → List (List ℕ)
-crash_words value = field_text (codes "crash") value ∷ []
+plan_words (plans.Fail call) = (codes "fail=" ++ decimal call) ∷ []
+plan_words (plans.Stop call bytes) = (codes "stop=" ++ pair_text call bytes) ∷ []
 
 -- which call fails, and what the crash leaves
 abbrev pub end_words : Plan → ℕ → List (List ℕ)
-end_words plan crash = plan_words plan ++ crash_words (decimal crash)
+end_words plan crash = plan_words plan ++ (codes "crash=" ++ decimal crash) ∷ []
 
 -- what stands behind `life`
 abbrev pub life_fields : LifeLine → List (List ℕ)
 life_fields life =
-    field_text (codes "sessions") (decimal life.sessions)
-    ∷ field_text (codes "places") (decimal life.places)
-    ∷ words_field life.words
+    (codes "sessions=" ++ decimal life.sessions)
+    ∷ (codes "places=" ++ decimal life.places)
+    ∷ (codes "words=" ++ words_text life.words)
     ∷ end_words life.plan life.crash
-
--- the words of a life
-abbrev pub life_words : LifeLine → List (List ℕ)
-life_words life = codes "life" ∷ life_fields life
 
 -- two numbers in decimal
 abbrev pub pair_words : ℕ → ℕ → List (List ℕ)
@@ -67,7 +44,7 @@ launch_words from to at = decimal from ∷ pair_words to at
 -- the words of a line
 abbrev pub line_words : RehearsalLine → List (List ℕ)
 line_words (Device nodes) = codes "device" ∷ decimal nodes ∷ []
-line_words (Life life) = life_words life
+line_words (Life life) = codes "life" ∷ life_fields life
 line_words (Submit session ticket change) = codes "submit" ∷ decimal session ∷ decimal ticket ∷ map op_text change
 line_words (Look session at) = codes "look" ∷ pair_words session at
 line_words Take = codes "take" ∷ []
@@ -76,23 +53,6 @@ line_words Post = codes "post" ∷ []
 line_words (Rebuild words) = codes "rebuild" ∷ words_text words ∷ []
 line_words (Launch from to at) = codes "launch" ∷ launch_words from to at
 line_words (Hop packet at) = codes "hop" ∷ pair_words packet at
-
--- whether one of the three steps of the committer is written so
-abbrev pub IsStep : List ℕ → Type 0
-IsStep name = (name ≡ codes "take") ⊎ ((name ≡ codes "commit") ⊎ (name ≡ codes "post"))
-
--- the word by which lives and events of a form begin, or that none of them begins so
-abbrev pub IsBegunBy : Form → List ℕ → Type 0
-IsBegunBy forms.Device name = ⊥
-IsBegunBy forms.Life name = name ≡ codes "life"
-IsBegunBy forms.Submit name = name ≡ codes "submit"
-IsBegunBy forms.Look name = name ≡ codes "look"
-IsBegunBy forms.Step name = IsStep name
-IsBegunBy forms.Rebuild name = name ≡ codes "rebuild"
-IsBegunBy forms.Launch name = name ≡ codes "launch"
-IsBegunBy forms.Hop name = name ≡ codes "hop"
-IsBegunBy forms.Line name =
-    (name ≢ codes "life") × (name ≢ codes "submit") × (name ≢ codes "look") × (name ≢ codes "rebuild") × (name ≢ codes "launch") × (name ≢ codes "hop") × ¬ IsStep name
 
 -- ---- which line may stand where
 

@@ -1,26 +1,22 @@
 -- What the lines of a text say.
-use Rattle.std.specs.Prelude.{◌≡◌, ◌==◌, ◌≤◌, ◌-◌, ℕ, List, [], ◌∷◌, ◌++◌, cond, length, map, take}
-use Rattle.std.specs.List.{flat_map}
+use Rattle.std.specs.Prelude.{◌≡◌, ◌==◌, ◌≤◌, ◌-◌, ℕ, List, [], ◌∷◌, ◌++◌, length, map, not, take}
+use Rattle.std.specs.List.{before_first, filter, flat_map}
 use Rattle.written_values.specs.Scripts.{words_of as parts_of}
 use Rattle.rehearsal_lines.specs.declared.line.RehearsalLine.{RehearsalLine}
-use Rattle.rehearsal_lines.specs.Grammar.{IsRehearsal, MayStand, line_words}
-use Rattle.rehearsal_lines.specs.declared.stage.Stage.{Stage}
-use Rattle.rehearsal_lines.specs.declared.reading.Read.{Read}
-use Rattle.rehearsal_lines.specs.declared.reading.Read.TheVariants.{Blank, Line, Refused}
+use Rattle.rehearsal_lines.specs.Grammar.{IsRehearsal, line_words}
 
 -- a line without its comment: what stands before the first `#`
 abbrev pub bare : List ℕ → List ℕ
-bare [] = []
-bare (b ∷ bs) = cond (b == 35) [] (b ∷ bare bs)
+bare text = before_first (λ b. b == 35) text
+
+-- the words of a line: what stands between blanks, where something does
+abbrev pub words_of : List ℕ → List (List ℕ)
+words_of text = filter (λ part. not (length part == 0)) (parts_of (bare text))
 
 -- the item, where it isn't empty
 abbrev pub unless_empty : {A : Type 0} → List A → List (List A)
 unless_empty [] = []
 unless_empty (x ∷ xs) = (x ∷ xs) ∷ []
-
--- the words of a line: what stands between blanks, where something does
-abbrev pub words_of : List ℕ → List (List ℕ)
-words_of text = flat_map unless_empty (parts_of (bare text))
 
 -- the words of a line that has one
 abbrev pub said_by : List ℕ → List (List (List ℕ))
@@ -41,9 +37,3 @@ pub record IsFirstRefused (texts : List (List ℕ)) (n : ℕ) : Type 0 where
   pub within : n ≤ length texts
   pub before : (lines : List RehearsalLine) × Say (take (n - 1) texts) lines × IsRehearsal lines
   pub refused : (more : List (List ℕ)) (lines : List RehearsalLine) → Say (take n texts ++ more) lines → IsRehearsal lines → ⊥
-
--- what one line of a text is read as, where the lines so far have come so far
-abbrev pub IsReadAs : Stage → List ℕ → Read → Type 0
-IsReadAs stage text Blank = said_by text ≡ []
-IsReadAs stage text (Line line) = (said_by text ≡ line_words line ∷ []) × MayStand stage line
-IsReadAs stage text (Refused form) = (words : List (List ℕ)) × (said_by text ≡ words ∷ []) × ((line : RehearsalLine) → MayStand stage line → words ≡ line_words line → ⊥)

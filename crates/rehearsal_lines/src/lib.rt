@@ -6,23 +6,14 @@
 //! fails and what the crash leaves; the lines behind it are its events, in their order. [`read_rehearsal`] reads the text into
 //! [`RehearsalLine`]s and runs nothing.
 //!
-//! | Line | Is |
-//! |---|---|
-//! | `device N` | a device for N nodes, 1 to 16,384: the first line, and no other |
-//! | `life sessions=S places=Q words=W crash=K` | a life of S sessions with a queue of Q places, both 1 to 64; before `crash` may stand `fail=C` or `stop=C:B` |
-//! | `submit S T OP..` | the session S asks for a change of 1 to 16 ops under the ticket T |
-//! | `take`, `commit`, `post` | a step of the committer |
-//! | `look S A` | the session S looks what became of its last change, seeing A postings |
-//! | `rebuild W` | a generation by these landmark words |
-//! | `launch F T A` | a packet from the node F to the node T |
-//! | `hop P A` | the packet P goes on |
-//!
-//! Words are cut at blanks. What stands behind a `#` is left out, and so is a line without a word.
+//! `docs/FORMATS.md`, "A rehearsal", has each line. Words are cut at blanks. What stands behind a `#` is left out, and so is a line without
+//! a word.
 //!
 //! # The contract
 //!
-//! What is read is written so, and stands in the order above (`found`). Where the text is refused, the number of a line is named, from
-//! 1: the lines before it begin a rehearsal, and no rehearsal begins with the lines up to it (`refused`). So a text that is a rehearsal is read.
+//! What is read is written so, and each line may stand where it stands (`found`). Where the text is refused, the number of a line is named,
+//! from 1: the lines before it begin a rehearsal, and no rehearsal begins with the lines up to it (`refused`). So a text that is a
+//! rehearsal is read.
 //!
 //! ```text
 //! read_rehearsal(alloc, "device 5\n\nlife sessions=1 places=1 words=none crash=0  # one life")?   // Ok: two lines
@@ -30,7 +21,6 @@
 //! ```
 #![tactic(auto)]
 
-mod fields;
 mod line;
 mod line_reading;
 mod reading;

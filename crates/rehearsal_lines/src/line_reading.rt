@@ -1,20 +1,20 @@
 // Reading one line.
-ghost use Rattle.std.specs.Prelude.{◌≡◌, ◌<◌, ◌^◌, ◌∷◌, ◌++◌, [], ℕ, IfSome, IsSome, codes, decimal, true};
-ghost use Rattle.written_values.specs.Reading.{IfRead, texts_of};
+ghost use Rattle.std.specs.Prelude.{◌≡◌, ◌<◌, ◌≤◌, ◌^◌, ◌∷◌, ◌++◌, [], ℕ, List, IfSome, IsSome, IsSomeAnd, codes, decimal, map};
+ghost use Rattle.disk_trait.specs.declared.plan.Plan.{Plan};
+ghost use Rattle.graph_edits.specs.declared.edits.Op.{Op};
+ghost use Rattle.written_values.specs.OpText.{op_text, pair_text};
+ghost use Rattle.written_values.specs.Reading.{IfRead, Reads, texts_of};
+ghost use Rattle.written_values.specs.Scripts.{IsChange};
 ghost use Rattle.written_values.specs.WordsText.{words_text};
-ghost use Rattle.rehearsal_lines.specs.Grammar.{AreOfDevice, FitsPlan, IsBegunBy, IsEvent, IsEventAnywhere, IsFew, IsLife, IsLifeOrEvent, MayStand, crash_words, end_words, field_text, has_none, life_fields, life_words, line_words, pair_words, plan_words, words_field};
-ghost use Rattle.rehearsal_lines.specs.Reading.{FindsFirst, FindsOnly, PassesFirst, PassesPlan, ReadsEach, ReadsFirst, ReadsLaunches, ReadsPairs, ReadsSome, ReadsSubmits};
+ghost use Rattle.rehearsal_lines.specs.Grammar.{AreOfDevice, FitsPlan, IsEvent, IsEventAnywhere, IsFew, IsLife, IsLifeOrEvent, MayStand, end_words, launch_words, life_fields, line_words, pair_words, plan_words};
+ghost use Rattle.rehearsal_lines.specs.Reading.{FindsOnly, ReadsEach, ReadsSome};
 
-use crate::fields::{
-    device_words, field_first, number_field, number_first, only_number, pair_in, two_numbers,
-};
 use crate::line::{LifeLine, RehearsalLine};
-use crate::refused::Form;
 use crate::stage::Stage;
 use disk_trait::Plan;
 use graph_edits::Change;
 use std::alloc::{AllocError, Global};
-use written_values::{LandmarkWords, change_in};
+use written_values::{LandmarkWords, change_in, landmark_words, node, number};
 
 /// The line of these words, where one may stand behind what the lines so far have.
 pub(crate) fn line_in(
@@ -42,10 +42,22 @@ fn device_in(alloc: Global, name: &str, rest: &[&str]) -> Result<Option<Rehearsa
     if name != "device" {
         return Ok(None);
     }
-    match only_number(alloc, rest, 16_384)? {
-        Some(nodes) if nodes >= 1 => Ok(Some(RehearsalLine::Device {
-            nodes: nodes as u16,
-        })),
+    match nodes_in(alloc, rest)? {
+        Some(nodes) => Ok(Some(RehearsalLine::Device { nodes })),
+        None => Ok(None),
+    }
+}
+
+// How many nodes a device has.
+fn nodes_in(alloc: Global, rest: &[&str]) -> Result<Option<u16>, AllocError>
+    ensures found { IfRead result (λ n. (texts_of rest.now ≡ decimal n ∷ []) × (1 ≤ n) × (n ≤ 16384)) }
+    ensures only { (n : ℕ) → 1 ≤ n → n ≤ 16384 → texts_of rest.now ≡ decimal n ∷ [] → Reads result n }
+{
+    let [nodes] = rest else {
+        return Ok(None);
+    };
+    match number(alloc, nodes, 16_384)? {
+        Some(n) if n >= 1 => Ok(Some(n as u16)),
         _ => Ok(None),
     }
 }
@@ -57,7 +69,7 @@ fn life_line(
     nodes: u16,
 ) -> Result<Option<RehearsalLine>, AllocError>
     ensures found { FindsOnly (MayStand (Stage.Made nodes)) line_words (name.now ∷ texts_of rest.now) result }
-    ensures only { ReadsEach (IsLife nodes) life_words (name.now ∷ texts_of rest.now) result }
+    ensures only { ReadsEach (MayStand (Stage.Made nodes)) line_words (name.now ∷ texts_of rest.now) result }
 {
     if name != "life" {
         return Ok(None);
@@ -77,38 +89,22 @@ fn living_in(
     ensures found { FindsOnly (IsLifeOrEvent nodes) line_words (name.now ∷ texts_of rest.now) result }
     ensures only { ReadsEach (IsLifeOrEvent nodes) line_words (name.now ∷ texts_of rest.now) result }
 {
-    match begun_by(name) {
-        Form::Life => life_line(alloc, name, rest, nodes),
-        Form::Submit => submit_in(alloc, rest),
-        Form::Look => look_in(alloc, rest),
-        Form::Step if rest.is_empty() => Ok(step_in(name)),
-        Form::Rebuild => rebuild_in(alloc, rest, nodes),
-        Form::Launch => launch_in(alloc, rest),
-        Form::Hop => hop_in(alloc, rest),
-        _ => Ok(None),
-    }
-}
-
-/// What a life or an event should be that begins with this word.
-pub(crate) fn begun_by(name: &str) -> Form
-    ensures { IsBegunBy result name.now }
-{
     if name == "life" {
-        Form::Life
+        life_line(alloc, name, rest, nodes)
     } else if name == "submit" {
-        Form::Submit
+        submit_in(alloc, rest)
     } else if name == "look" {
-        Form::Look
+        look_in(alloc, rest)
     } else if name == "rebuild" {
-        Form::Rebuild
+        rebuild_in(alloc, rest, nodes)
     } else if name == "launch" {
-        Form::Launch
+        launch_in(alloc, rest)
     } else if name == "hop" {
-        Form::Hop
-    } else if step_in(name).is_some() {
-        Form::Step
+        hop_in(alloc, rest)
+    } else if rest.is_empty() {
+        Ok(step_in(name))
     } else {
-        Form::Line
+        Ok(None)
     }
 }
 
@@ -132,12 +128,16 @@ fn step_in(name: &str) -> Option<RehearsalLine>
 
 fn submit_in(alloc: Global, rest: &[&str]) -> Result<Option<RehearsalLine>, AllocError>
     ensures found { FindsOnly IsEventAnywhere line_words (codes "submit" ∷ texts_of rest.now) result }
-    ensures only { ReadsSubmits (texts_of rest.now) result }
+    ensures only { (s t : ℕ) (change : List Op) → s < 2 ^ 8 → t < 2 ^ 64 → IsChange change
+        → texts_of rest.now ≡ decimal s ∷ decimal t ∷ map op_text change → ReadsSome result }
 {
-    let Some((session, behind)) = number_first(alloc, rest, 255)? else {
+    let [session, ticket, ops @ ..] = rest else {
         return Ok(None);
     };
-    let Some((ticket, ops)) = number_first(alloc, behind, u64::MAX)? else {
+    let Some(session) = number(alloc, session, 255)? else {
+        return Ok(None);
+    };
+    let Some(ticket) = number(alloc, ticket, u64::MAX)? else {
         return Ok(None);
     };
     match change_in(alloc, ops)? {
@@ -150,9 +150,31 @@ fn submit_in(alloc: Global, rest: &[&str]) -> Result<Option<RehearsalLine>, Allo
     }
 }
 
+// Two numbers that are the only words, each at most its `most`.
+fn two_numbers(
+    alloc: Global,
+    words: &[&str],
+    most: (u64, u64),
+) -> Result<Option<(u64, u64)>, AllocError>
+    ensures found { IfRead result (λ p. texts_of words.now ≡ pair_words p.0 p.1) }
+    ensures fits { IfRead result (λ p. (p.0 ≤ most.0) × (p.1 ≤ most.1)) }
+    ensures only { (a b : ℕ) → a ≤ most.0 → b ≤ most.1 → texts_of words.now ≡ pair_words a b → Reads result (a, b) }
+{
+    let [a, b] = words else {
+        return Ok(None);
+    };
+    let Some(a) = number(alloc, a, most.0)? else {
+        return Ok(None);
+    };
+    match number(alloc, b, most.1)? {
+        Some(b) => Ok(Some((a, b))),
+        None => Ok(None),
+    }
+}
+
 fn look_in(alloc: Global, rest: &[&str]) -> Result<Option<RehearsalLine>, AllocError>
     ensures found { FindsOnly IsEventAnywhere line_words (codes "look" ∷ texts_of rest.now) result }
-    ensures only { ReadsPairs (λ s. s < 2 ^ 8) (λ at. at < 2 ^ 64) pair_words (texts_of rest.now) result }
+    ensures only { (s at : ℕ) → s < 2 ^ 8 → at < 2 ^ 64 → texts_of rest.now ≡ pair_words s at → ReadsSome result }
 {
     match two_numbers(alloc, rest, (255, u64::MAX))? {
         Some((session, at)) => Ok(Some(RehearsalLine::Look {
@@ -163,43 +185,57 @@ fn look_in(alloc: Global, rest: &[&str]) -> Result<Option<RehearsalLine>, AllocE
     }
 }
 
-fn rebuild_in(alloc: Global, rest: &[&str], nodes: u16) -> Result<Option<RehearsalLine>, AllocError>
-    ensures found { FindsOnly (IsEvent nodes) line_words (codes "rebuild" ∷ texts_of rest.now) result }
-    ensures only { ReadsEach (AreOfDevice nodes) (λ words. words_text words ∷ []) (texts_of rest.now) result }
+fn hop_in(alloc: Global, rest: &[&str]) -> Result<Option<RehearsalLine>, AllocError>
+    ensures found { FindsOnly IsEventAnywhere line_words (codes "hop" ∷ texts_of rest.now) result }
+    ensures only { (p at : ℕ) → p < 2 ^ 64 → at < 2 ^ 64 → texts_of rest.now ≡ pair_words p at → ReadsSome result }
 {
-    let Some((first, [])) = rest.split_first() else {
-        return Ok(None);
-    };
-    match device_words(alloc, *first, nodes)? {
-        Some(words) => Ok(Some(RehearsalLine::Rebuild { words })),
+    match two_numbers(alloc, rest, (u64::MAX, u64::MAX))? {
+        Some((packet, at)) => Ok(Some(RehearsalLine::Hop { packet, at })),
         None => Ok(None),
     }
 }
 
 fn launch_in(alloc: Global, rest: &[&str]) -> Result<Option<RehearsalLine>, AllocError>
     ensures found { FindsOnly IsEventAnywhere line_words (codes "launch" ∷ texts_of rest.now) result }
-    ensures only { ReadsLaunches (texts_of rest.now) result }
+    ensures only { (from to at : ℕ) → from < 2 ^ 16 → to < 2 ^ 16 → at < 2 ^ 64
+        → texts_of rest.now ≡ launch_words from to at → ReadsSome result }
 {
-    let Some((from, behind)) = number_first(alloc, rest, 65_535)? else {
+    let [from, to, at] = rest else {
         return Ok(None);
     };
-    match two_numbers(alloc, behind, (65_535, u64::MAX))? {
-        Some((to, at)) => Ok(Some(RehearsalLine::Launch {
-            from: from as u16,
-            to: to as u16,
-            at,
-        })),
+    let Some(from) = node(alloc, from)? else {
+        return Ok(None);
+    };
+    let Some(to) = node(alloc, to)? else {
+        return Ok(None);
+    };
+    match number(alloc, at, u64::MAX)? {
+        Some(at) => Ok(Some(RehearsalLine::Launch { from, to, at })),
         None => Ok(None),
     }
 }
 
-fn hop_in(alloc: Global, rest: &[&str]) -> Result<Option<RehearsalLine>, AllocError>
-    ensures found { FindsOnly IsEventAnywhere line_words (codes "hop" ∷ texts_of rest.now) result }
-    ensures only { ReadsPairs (λ packet. packet < 2 ^ 64) (λ at. at < 2 ^ 64) pair_words (texts_of rest.now) result }
+fn rebuild_in(alloc: Global, rest: &[&str], nodes: u16) -> Result<Option<RehearsalLine>, AllocError>
+    ensures found { FindsOnly (IsEvent nodes) line_words (codes "rebuild" ∷ texts_of rest.now) result }
+    ensures only { ReadsEach (AreOfDevice nodes) (λ words. words_text words ∷ []) (texts_of rest.now) result }
 {
-    match two_numbers(alloc, rest, (u64::MAX, u64::MAX))? {
-        Some((packet, at)) => Ok(Some(RehearsalLine::Hop { packet, at })),
+    let [words] = rest else {
+        return Ok(None);
+    };
+    match device_words(alloc, words, nodes)? {
+        Some(words) => Ok(Some(RehearsalLine::Rebuild { words })),
         None => Ok(None),
+    }
+}
+
+// Landmark words of a device of so many nodes.
+fn device_words(alloc: Global, text: &str, nodes: u16) -> Result<Option<LandmarkWords>, AllocError>
+    ensures found { IfRead result (λ words. (text.now ≡ words_text words) × AreOfDevice nodes words) }
+    ensures only { (words : LandmarkWords) → AreOfDevice nodes words → text.now ≡ words_text words → ReadsSome result }
+{
+    match landmark_words(alloc, text)? {
+        Some(words) if words.is_within(nodes) => Ok(Some(words)),
+        _ => Ok(None),
     }
 }
 
@@ -209,16 +245,19 @@ fn life_in(alloc: Global, fields: &[&str], nodes: u16) -> Result<Option<LifeLine
     ensures found { FindsOnly (IsLife nodes) life_fields (texts_of fields.now) result }
     ensures only { ReadsEach (IsLife nodes) life_fields (texts_of fields.now) result }
 {
-    let Some((sessions, seated)) = few_first(alloc, fields, "sessions")? else {
+    let [sessions, places, words, end @ ..] = fields else {
         return Ok(None);
     };
-    let Some((places, worded)) = few_first(alloc, seated, "places")? else {
+    let Some(sessions) = few_behind(alloc, sessions, "sessions=")? else {
         return Ok(None);
     };
-    let Some((words, ended)) = words_first(alloc, worded, nodes)? else {
+    let Some(places) = few_behind(alloc, places, "places=")? else {
         return Ok(None);
     };
-    match end_in(alloc, ended)? {
+    let Some(words) = words_field(alloc, words, nodes)? else {
+        return Ok(None);
+    };
+    match end_in(alloc, end)? {
         Some((plan, crash)) => Ok(Some(LifeLine {
             sessions,
             places,
@@ -230,41 +269,43 @@ fn life_in(alloc: Global, fields: &[&str], nodes: u16) -> Result<Option<LifeLine
     }
 }
 
-// A number from 1 to 64.
-fn few_first<'a, 'b>(
-    alloc: Global,
-    fields: &'a [&'b str],
-    name: &str,
-) -> Result<Option<(u8, &'a [&'b str])>, AllocError>
-    requires { has_none 61 name.now ≡ true }
-    ensures found { FindsFirst (λ n. field_text name.now (decimal n)) fields.entry.now result }
-    ensures few { IfRead result (λ p. IsFew p.0) }
-    ensures only { ReadsFirst IsFew (λ n. field_text name.now (decimal n)) fields.entry.now result }
+// What stands in a field behind its name.
+fn behind<'a>(field: &'a str, name: &str) -> Option<&'a str>
+    ensures found { IfSome result (λ value. field.entry.now ≡ name.now ++ value.now) }
+    ensures only { (value : List ℕ) → field.entry.now ≡ name.now ++ value → IsSomeAnd result (λ read. read.now ≡ value) }
 {
-    let Some((n, rest)) = number_field(alloc, fields, name, 64)? else {
-        return Ok(None);
-    };
-    if n < 1 {
-        return Ok(None);
-    }
-    Ok(Some((n as u8, rest)))
+    field.strip_prefix(name)
 }
 
-// The landmark words, and the fields behind them.
-fn words_first<'a, 'b>(
-    alloc: Global,
-    fields: &'a [&'b str],
-    nodes: u16,
-) -> Result<Option<(LandmarkWords, &'a [&'b str])>, AllocError>
-    ensures found { FindsFirst words_field fields.entry.now result }
-    ensures of_device { IfRead result (λ p. AreOfDevice nodes p.0) }
-    ensures only { PassesFirst (AreOfDevice nodes) words_field fields.entry.now result }
+// A number behind a field's name.
+fn number_behind(alloc: Global, field: &str, name: &str) -> Result<Option<u64>, AllocError>
+    ensures found { IfRead result (λ n. field.now ≡ name.now ++ decimal n) }
+    ensures only { (n : ℕ) → n < 2 ^ 64 → field.now ≡ name.now ++ decimal n → Reads result n }
 {
-    let Some((value, rest)) = field_first(fields, "words") else {
-        return Ok(None);
-    };
-    match device_words(alloc, value, nodes)? {
-        Some(words) => Ok(Some((words, rest))),
+    match behind(field, name) {
+        Some(value) => number(alloc, value, u64::MAX),
+        None => Ok(None),
+    }
+}
+
+// A number from 1 to 64.
+fn few_behind(alloc: Global, field: &str, name: &str) -> Result<Option<u8>, AllocError>
+    ensures found { IfRead result (λ n. (field.now ≡ name.now ++ decimal n) × IsFew n) }
+    ensures only { (n : ℕ) → IsFew n → field.now ≡ name.now ++ decimal n → Reads result n }
+{
+    match number_behind(alloc, field, name)? {
+        Some(n) if n >= 1 && n <= 64 => Ok(Some(n as u8)),
+        _ => Ok(None),
+    }
+}
+
+fn words_field(alloc: Global, field: &str, nodes: u16) -> Result<Option<LandmarkWords>, AllocError>
+    ensures found { IfRead result (λ words. (field.now ≡ codes "words=" ++ words_text words) × AreOfDevice nodes words) }
+    ensures only { (words : LandmarkWords) → AreOfDevice nodes words → field.now ≡ codes "words=" ++ words_text words
+        → ReadsSome result }
+{
+    match behind(field, "words=") {
+        Some(text) => device_words(alloc, text, nodes),
         None => Ok(None),
     }
 }
@@ -273,52 +314,66 @@ fn words_first<'a, 'b>(
 fn end_in(alloc: Global, fields: &[&str]) -> Result<Option<(Plan, u64)>, AllocError>
     ensures found { IfRead result (λ p. texts_of fields.now ≡ end_words p.0 p.1) }
     ensures fits { IfRead result (λ p. FitsPlan p.0 × (p.1 < 2 ^ 64)) }
-    ensures only { ReadsPairs FitsPlan (λ crash. crash < 2 ^ 64) end_words (texts_of fields.now) result }
+    ensures only { (plan : Plan) (crash : ℕ) → FitsPlan plan → crash < 2 ^ 64
+        → texts_of fields.now ≡ end_words plan crash → ReadsSome result }
 {
-    let Some((plan, rest)) = plan_first(alloc, fields)? else {
+    match fields {
+        [crash] => match number_behind(alloc, crash, "crash=")? {
+            Some(crash) => Ok(Some((Plan::None, crash))),
+            None => Ok(None),
+        },
+        [plan, crash] => {
+            let Some(plan) = plan_in(alloc, plan)? else {
+                return Ok(None);
+            };
+            match number_behind(alloc, crash, "crash=")? {
+                Some(crash) => Ok(Some((plan, crash))),
+                None => Ok(None),
+            }
+        }
+        _ => Ok(None),
+    }
+}
+
+// Which call fails, of one that does.
+fn plan_in(alloc: Global, field: &str) -> Result<Option<Plan>, AllocError>
+    ensures found { IfRead result (λ plan. (field.now ∷ [] ≡ plan_words plan) × FitsPlan plan) }
+    ensures only { (plan : Plan) → FitsPlan plan → field.now ∷ [] ≡ plan_words plan → ReadsSome result }
+{
+    if let Some(call) = number_behind(alloc, field, "fail=")? {
+        return Ok(Some(Plan::Fail(call)));
+    }
+    let Some(value) = behind(field, "stop=") else {
         return Ok(None);
     };
-    match only_field(alloc, rest)? {
-        Some(crash) => Ok(Some((plan, crash))),
+    match pair_in(alloc, value)? {
+        Some((call, bytes)) => Ok(Some(Plan::Stop(call, bytes as usize))),
         None => Ok(None),
     }
 }
 
-// What the crash leaves, which is the only field.
-fn only_field(alloc: Global, fields: &[&str]) -> Result<Option<u64>, AllocError>
-    ensures found { IfRead result (λ n. texts_of fields.now ≡ crash_words (decimal n)) }
-    ensures only { (n : ℕ) → n < 2 ^ 64 → texts_of fields.now ≡ crash_words (decimal n) → ReadsSome result }
+// Two numbers with a colon between, `A:B`.
+fn pair_in(alloc: Global, text: &str) -> Result<Option<(u64, u64)>, AllocError>
+    ensures found { IfRead result (λ p. text.now ≡ pair_text p.0 p.1) }
+    ensures only { (a b : ℕ) → a < 2 ^ 64 → b < 2 ^ 64 → text.now ≡ pair_text a b → Reads result (a, b) }
 {
-    let Some((n, rest)) = number_field(alloc, fields, "crash", u64::MAX)? else {
+    let Some((front, behind)) = halves(text) else {
         return Ok(None);
     };
-    if rest.is_empty() {
-        Ok(Some(n))
-    } else {
-        Ok(None)
+    let Some(a) = number(alloc, front, u64::MAX)? else {
+        return Ok(None);
+    };
+    match number(alloc, behind, u64::MAX)? {
+        Some(b) => Ok(Some((a, b))),
+        None => Ok(None),
     }
 }
 
-// Which call fails, and the fields behind that; no call where the first field names none.
-fn plan_first<'a, 'b>(
-    alloc: Global,
-    fields: &'a [&'b str],
-) -> Result<Option<(Plan, &'a [&'b str])>, AllocError>
-    ensures found { IfRead result (λ p. texts_of fields.entry.now ≡ plan_words p.0 ++ texts_of p.1.now) }
-    ensures fits { IfRead result (λ p. FitsPlan p.0) }
-    ensures only { PassesPlan fields.entry.now result }
+// What stands in front of the first colon, and behind it.
+fn halves<'a>(text: &'a str) -> Option<(&'a str, &'a str)>
+    ensures found { IfSome result (λ p. text.entry.now ≡ p.0.now ++ 58 ∷ p.1.now) }
+    ensures only { (n : ℕ) (rest : List ℕ) → n < 2 ^ 64 → text.entry.now ≡ decimal n ++ 58 ∷ rest
+        → IsSomeAnd result (λ p. (p.0.now ≡ decimal n) × (p.1.now ≡ rest)) }
 {
-    if let Some((value, rest)) = field_first(fields, "fail") {
-        return match written_values::number(alloc, value, u64::MAX)? {
-            Some(call) => Ok(Some((Plan::Fail(call), rest))),
-            None => Ok(None),
-        };
-    }
-    if let Some((value, rest)) = field_first(fields, "stop") {
-        return match pair_in(alloc, value)? {
-            Some((call, bytes)) => Ok(Some((Plan::Stop(call, bytes as usize), rest))),
-            None => Ok(None),
-        };
-    }
-    Ok(Some((Plan::None, fields)))
+    text.split_once(':')
 }

@@ -1,12 +1,11 @@
 // Reading a rehearsal.
 ghost use Rattle.std.specs.Prelude.{◌≡◌, IfOk, IfErr};
-ghost use Rattle.std.specs.List.{flat_map};
 ghost use Rattle.written_values.specs.Reading.{texts_of};
-ghost use Rattle.written_values.specs.Scripts.{lines_of, words_of as parts_of};
-ghost use Rattle.rehearsal_lines.specs.Said.{IsFirstRefused, IsReadAs, SayRehearsal, bare, unless_empty, words_of};
+ghost use Rattle.written_values.specs.Scripts.{lines_of};
+ghost use Rattle.rehearsal_lines.specs.Said.{IsFirstRefused, SayRehearsal, bare, words_of};
 
 use crate::line::RehearsalLine;
-use crate::line_reading::{begun_by, line_in};
+use crate::line_reading::line_in;
 use crate::refused::{Form, LineRefused};
 use crate::stage::Stage;
 use std::alloc::{AllocError, Global};
@@ -35,42 +34,19 @@ fn lines_read(
     let mut lines = Vec::new(alloc);
     let mut stage = Stage::Empty;
     for index in 0..texts.len() {
-        match read_one(alloc, stage, texts[index])? {
-            Read::Blank => {}
-            Read::Line(line) => {
-                stage = stage.behind(&line);
-                lines.push(line)?;
-            }
-            Read::Refused(form) => {
-                let number = index + 1;
-                return Ok(Err(LineRefused { number, form }));
-            }
+        let words = words_in(alloc, texts[index])?;
+        if words.is_empty() {
+            continue;
         }
+        let Some(line) = line_in(alloc, stage, &words)? else {
+            let number = index + 1;
+            let form = form_of(stage, &words);
+            return Ok(Err(LineRefused { number, form }));
+        };
+        stage = stage.behind(&line);
+        lines.push(line)?;
     }
     Ok(Ok(lines))
-}
-
-/// What one line of a text is.
-#[derive(Drop)]
-pub(crate) enum Read {
-    /// It has no word.
-    Blank,
-    Line(RehearsalLine),
-    /// No line may stand here that is written so.
-    Refused(Form),
-}
-
-fn read_one(alloc: Global, stage: Stage, text: &str) -> Result<Read, AllocError>
-    ensures { IfOk result (λ read. IsReadAs stage text.now read) }
-{
-    let words = words_in(alloc, text)?;
-    if words.is_empty() {
-        return Ok(Read::Blank);
-    }
-    match line_in(alloc, stage, &words)? {
-        Some(line) => Ok(Read::Line(line)),
-        None => Ok(Read::Refused(form_of(stage, &words))),
-    }
 }
 
 // What a line of these words should have been.
@@ -79,9 +55,23 @@ fn form_of(stage: Stage, words: &[&str]) -> Form {
         Stage::Empty => Form::Device,
         Stage::Made(_) => Form::Life,
         Stage::Living(_) => match words.first() {
-            Some(name) => begun_by(*name),
+            Some(name) => form_named(*name),
             None => Form::Line,
         },
+    }
+}
+
+// What a life or an event should be that begins with this word.
+fn form_named(name: &str) -> Form {
+    match name {
+        "life" => Form::Life,
+        "submit" => Form::Submit,
+        "look" => Form::Look,
+        "take" | "commit" | "post" => Form::Step,
+        "rebuild" => Form::Rebuild,
+        "launch" => Form::Launch,
+        "hop" => Form::Hop,
+        _ => Form::Line,
     }
 }
 
@@ -91,29 +81,8 @@ fn form_of(stage: Stage, words: &[&str]) -> Form {
 fn words_in<'a>(alloc: Global, text: &'a str) -> Result<Vec<&'a str>, AllocError>
     ensures { IfOk result (λ words. texts_of words.items ≡ words_of text.entry.now) }
 {
-    let parts = parts_in(alloc, bare_of(text))?;
-    let words = kept(alloc, &parts)?;
-    Ok(words)
-}
-
-// Those that aren't empty.
-fn kept<'a>(alloc: Global, parts: &[&'a str]) -> Result<Vec<&'a str>, AllocError>
-    ensures { IfOk result (λ words. texts_of words.items ≡ flat_map (λ x. unless_empty x.now) parts.now) }
-{
-    let mut words = Vec::new(alloc);
-    for part in parts {
-        if !part.is_empty() {
-            words.push(*part)?;
-        }
-    }
-    Ok(words)
-}
-
-// What stands between the blanks of a text, in front of them and behind.
-fn parts_in<'a>(alloc: Global, text: &'a str) -> Result<Vec<&'a str>, AllocError>
-    ensures { IfOk result (λ parts. texts_of parts.items ≡ parts_of text.entry.now) }
-{
-    text.split(' ').collect(alloc)
+    let parts = bare_of(text).split(' ');
+    parts.filter(|part| !part.is_empty()).collect(alloc)
 }
 
 // A line without its comment.

@@ -20,15 +20,8 @@
 //!
 //! No text is answered where memory runs out, or where a device can't have so many nodes; the latter comes only then (`nodes`).
 //!
-//! | Line | Is |
-//! |---|---|
-//! | `opened count=C edges=E tickets=N S:T ..` | what an opening found ([`OpenedLine`]): the number of accepted changes and of edges, how many sessions have a last ticket, and which |
-//! | `rebuilt generation=G` | what the rebuild that a life begins with was answered, as any reply |
-//! | one line an event | its reply ([`ReplyLine`]) |
-//! | `crash taken=T settled=D postings=P` | how many requests were taken and how many of them settled, and how many postings there were, when the device crashed ([`CrashLine`]) |
-//! | `not opened device` | a life that couldn't open, and why ([`NotOpenedLine`]) |
-//!
-//! The bytes of each line are its type's `Display`, defined once in specs/Replies.antt or specs/Reports.antt.
+//! `docs/FORMATS.md`, "A rehearsal", has each line. Its bytes are its type's `Display`, defined once in specs/Replies.antt or
+//! specs/Reports.antt.
 #![tactic(auto)]
 
 mod asked;

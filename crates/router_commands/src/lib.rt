@@ -1,8 +1,9 @@
 //! The run of the program `tzrouter`, one node of a network that forwards by its own tables: its words, a reader and two writers.
 //!
-//! The words are files with tables of one node (`tables.rt`). Then each line of the reader is answered with one line, which is flushed
-//! (`lines.rt`): a shelf of the crate `router_lines` does, whose page has the lines. The table of the newest generation tells where the
-//! router is; a packet goes by the table of its own generation. It knows no graph, no store and no thread.
+//! The words are files with tables of one node (`tables.rt`). Then each line of the reader is answered with one line (`lines.rt`): a
+//! shelf of the crate `router_lines` does, whose page has the lines. The answers are flushed before it waits for another line. The table
+//! of the newest generation tells where the router is; a packet goes by the table of its own generation. It knows no graph, no store and
+//! no thread.
 //!
 //! The grammar is clap's (`words.rt`), with its own help. The status is 0 at the end of the input, 2 where the words aren't understood,
 //! and 1 where a table isn't read, a line can't be read or printed, or memory ran out. What went wrong is told on the second writer as

@@ -6,10 +6,11 @@ use crate::telling::{told_memory, told_of};
 use router_lines::Shelf;
 use router_runs::RunFault;
 use std::fs::File;
-use std::io::{BufReader, Read, Write};
+use std::io::{BufReader, BufWriter, Read, Write};
 use std::rt::Files;
 
-/// Answers each line, until the input ends. What can't be read or printed is told.
+/// Answers each line, until the input ends: the answers stand in a buffer as long as lines are at hand. What can't be read or printed is
+/// told.
 pub(crate) fn answer_lines<R, S, O, E>(
     rt: &R,
     shelf: &mut Shelf,
@@ -27,8 +28,12 @@ where
     let Ok(mut reader) = BufReader::new(rt.alloc(), input) else {
         return Err(told_memory(err));
     };
+    let Ok(mut printed) = BufWriter::new(rt.alloc(), out) else {
+        return Err(told_memory(err));
+    };
     let mut files = ToldFiles { rt, err };
-    let ended = router_runs::answer_lines(rt.alloc(), shelf, &mut files, &mut reader, out);
+    let ended = router_runs::answer_lines(rt.alloc(), shelf, &mut files, &mut reader, &mut printed);
+    drop(printed);
     match ended {
         Ok(()) => Ok(()),
         Err(RunFault::Input(error)) => Err(told_of(files.err, "standard input", error)),

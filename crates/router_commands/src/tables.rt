@@ -4,11 +4,12 @@ ghost use Rattle.std.specs.Prelude.{◌≤◌, IfErr};
 use crate::telling::{told, told_memory, told_of};
 use router_lines::{LoadRefused, Shelf};
 use router_runs::{TableSource, Unread};
-use router_table::{ReadRefused, RouterTable};
+use router_table::ReadRefused;
 use std::alloc::Global;
 use std::fs::File;
 use std::io::{self, Read, Write};
 use std::rt::Files;
+use table_view::TableFile;
 
 /// No table is longer: it has 65,535 neighbours, entries and members, and each of these 13 ports.
 const LONGEST_TABLE: usize = 3_014_710;
@@ -19,6 +20,7 @@ fn bytes_of<R: Files<File = File> + AllocGlobal>(rt: &R, file: &str) -> io::Resu
     File::open(rt, file)?
         .take(LONGEST_TABLE as u64 + 1)
         .read_to_end(&mut bytes)?;
+    bytes.shrink_to_fit();
     Ok(bytes)
 }
 
@@ -52,7 +54,7 @@ fn table_of<R: Files<File = File> + AllocGlobal, E: Write>(
     rt: &R,
     file: &str,
     err: &mut E,
-) -> Result<RouterTable, u8>
+) -> Result<TableFile, u8>
     ensures { IfErr result (λ status. status ≤ 2) }
 {
     let bytes = match bytes_of(rt, file) {
@@ -62,7 +64,7 @@ fn table_of<R: Files<File = File> + AllocGlobal, E: Write>(
     if bytes.len() > LONGEST_TABLE {
         return Err(told_of(err, file, ReadRefused::TooLong));
     }
-    match RouterTable::read(rt.alloc(), &bytes) {
+    match TableFile::read(bytes) {
         Ok(table) => Ok(table),
         Err(refused) => Err(told_of(err, file, refused)),
     }

@@ -1,15 +1,19 @@
 // What a router answers, and the line that is printed of it.
-ghost use Rattle.std.specs.Prelude.{◌≡◌, ◌++◌, IfOk, OnOk};
+ghost use Rattle.std.specs.Prelude.{◌≡◌, ◌++◌, IfOk, OnOk, codes, decimal};
 ghost use Rattle.std.specs.List.{flat_map};
 ghost use Rattle.std.specs.String.{string_bytes};
 ghost use Rattle.router_lines.specs.Answers.{answer_text, behind_comma, listed_text, load_text, move_text, packet_line, read_text, refused_text, unread_text};
 
 use crate::shelf::{LoadRefused, SHELF_SIZE};
 use arrayvec::ArrayVec;
+use itoa::Buffer;
 use node_table::{Address, Move, Packet, Refused};
-use packet_bytes::{Wire, WireRefused};
+use packet_bytes::{PACKET_SIZE, Wire, WireRefused};
 use router_table::ReadRefused;
 use std::alloc::{AllocError, Global};
+
+/// `port=65535 next=65535 packet=`, a packet's digits and a line feed: no line with a packet is longer.
+const LONGEST_PACKET_LINE: usize = 30 + 2 * PACKET_SIZE;
 
 /// What a router answers to a line.
 #[derive(Drop)]
@@ -93,12 +97,50 @@ fn load_name(refused: LoadRefused) -> &'static str
     }
 }
 
+/// Writes a number at the end.
+fn put_number(text: &mut String, number: u64) -> Result<(), AllocError>
+    ensures { OnOk result (string_bytes text.new ≡ string_bytes text.old ++ decimal number) }
+{
+    text.push_str(Buffer::new().format(number))
+}
+
+/// Writes `packet=` and digits at the end.
+fn put_packet_digits(text: &mut String, digits: &str) -> Result<(), AllocError>
+    ensures { OnOk result (string_bytes text.new ≡ string_bytes text.old ++ (codes "packet=" ++ digits.now)) }
+{
+    text.push_str("packet=")?;
+    text.push_str(digits)
+}
+
+/// Writes `packet=` and the packet's digits at the end.
+fn put_packet(text: &mut String, packet: &Packet, alloc: Global) -> Result<(), AllocError>
+    ensures { OnOk result (string_bytes text.new ≡ string_bytes text.old ++ packet_line packet.now) }
+{
+    let digits = hex::encode(alloc, packet.to_bytes().as_slice())?;
+    put_packet_digits(text, digits.as_str())
+}
+
 /// `packet=` and the packet's digits.
 pub fn packet_text(alloc: Global, packet: &Packet) -> Result<String, AllocError>
     ensures { IfOk result (λ text. string_bytes text ≡ packet_line packet.now) }
 {
-    let digits = hex::encode(alloc, packet.to_bytes().as_slice())?;
-    format!(in alloc; "packet={digits}")
+    let mut text = String::with_capacity(alloc, LONGEST_PACKET_LINE)?;
+    put_packet(&mut text, packet, alloc)?;
+    Ok(text)
+}
+
+/// Where a packet goes.
+fn forward_text(alloc: Global, port: u16, next: u16, packet: &Packet) -> Result<String, AllocError>
+    ensures { IfOk result (λ text. string_bytes text ≡ move_text (Move.Forward port next packet.now)) }
+{
+    let mut text = String::with_capacity(alloc, LONGEST_PACKET_LINE)?;
+    text.push_str("port=")?;
+    put_number(&mut text, port as u64)?;
+    text.push_str(" next=")?;
+    put_number(&mut text, next as u64)?;
+    text.push_str(" ")?;
+    put_packet(&mut text, packet, alloc)?;
+    Ok(text)
 }
 
 /// Where a packet goes, or that it is delivered.
@@ -107,10 +149,7 @@ pub fn moved_text(alloc: Global, moved: &Move) -> Result<String, AllocError>
 {
     match moved {
         Move::Delivered => String::from_str(alloc, "delivered"),
-        Move::Forward { port, next, packet } => {
-            let sent = packet_text(alloc, packet)?;
-            format!(in alloc; "port={port} next={next} {sent}")
-        }
+        Move::Forward { port, next, packet } => forward_text(alloc, *port, *next, packet),
     }
 }
 
@@ -123,20 +162,19 @@ pub fn told_text(alloc: Global, address: &Address) -> Result<String, AllocError>
 }
 
 /// Writes a number behind a comma at the end.
-fn put_number(text: &mut String, number: u64, alloc: Global) -> Result<(), AllocError>
+fn put_behind_comma(text: &mut String, number: u64) -> Result<(), AllocError>
     ensures { OnOk result (string_bytes text.new ≡ string_bytes text.old ++ behind_comma number) }
 {
-    let digits = number.to_string(alloc)?;
     text.push_str(",")?;
-    text.push_str(digits.as_str())
+    put_number(text, number)
 }
 
 /// Writes numbers behind a comma each at the end.
-fn put_numbers(text: &mut String, numbers: &[u64], alloc: Global) -> Result<(), AllocError>
+fn put_numbers(text: &mut String, numbers: &[u64]) -> Result<(), AllocError>
     ensures { OnOk result (string_bytes text.new ≡ string_bytes text.old ++ flat_map behind_comma numbers.now) }
 {
     for number in numbers {
-        put_number(text, *number, alloc)?;
+        put_behind_comma(text, *number)?;
     }
     Ok(())
 }
@@ -149,7 +187,7 @@ fn numbers_text(alloc: Global, numbers: &[u64]) -> Result<String, AllocError>
         return Ok(String::new(alloc));
     };
     let mut text = first.to_string(alloc)?;
-    put_numbers(&mut text, others, alloc)?;
+    put_numbers(&mut text, others)?;
     Ok(text)
 }
 

@@ -1,8 +1,8 @@
 //! What a router answers: a shelf of its newest tables, and an answer for each line.
 //!
-//! A [`Shelf`] keeps the tables of the newest four generations of one node. A line asks for something ([`asked_in`]), and the shelf
-//! answers it ([`Shelf::answer`]); the line `load FILE` is told apart ([`file_in`]), since whoever opens files loads it
-//! ([`Shelf::load`]). An [`Answer`] is printed as one line ([`Answer::text`]):
+//! A [`Shelf`] keeps the tables of the newest four generations of one node, as the bytes of their files. A line asks for something
+//! ([`asked_in`]), and the shelf answers it ([`Shelf::answer`]); the line `load FILE` is told apart ([`file_in`]), since whoever opens
+//! files loads it ([`Shelf::load`]). An [`Answer`] is printed as one line ([`Answer::text`]):
 //!
 //! | Line | Answer |
 //! |---|---|

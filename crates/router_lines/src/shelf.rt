@@ -9,9 +9,9 @@ use crate::answer::Answer;
 use crate::line::Asked;
 use arrayvec::ArrayVec;
 use node_table::{Address, Packet};
-use router_table::RouterTable;
 use std::alloc::{AllocError, AllocFailed, Global};
 use std::marker::Model;
+use table_view::TableFile;
 use thiserror::Error;
 
 /// How many generations a router keeps.
@@ -31,13 +31,13 @@ pub enum LoadRefused {
     Memory = 3,
 }
 
-impl From<AllocFailed<RouterTable>> for LoadRefused {
+impl From<AllocFailed<TableFile>> for LoadRefused {
     ghost use Rattle.std.specs.Prelude.{◌≡◌};
     ghost use Rattle.router_lines.specs.declared.shelf.LoadRefused.TheVariants.{Memory as NoMemory};
 
     ghost from_gives = { λ _ e. e ≡ NoMemory };
 
-    fn from(_failed: AllocFailed<RouterTable>) -> LoadRefused {
+    fn from(_failed: AllocFailed<TableFile>) -> LoadRefused {
         LoadRefused::Memory
     }
 }
@@ -46,7 +46,7 @@ impl From<AllocFailed<RouterTable>> for LoadRefused {
 #[derive(Drop)]
 pub struct Shelf {
     node: u16,
-    tables: Vec<RouterTable>,
+    tables: Vec<TableFile>,
 }
 
 impl Model for Shelf {
@@ -60,29 +60,25 @@ impl Model for Shelf {
 }
 
 /// How many tables, from the first on, are older than a generation.
-fn place_of(tables: &[RouterTable], generation: u64) -> usize
+fn place_of(tables: &[TableFile], generation: u64) -> usize
     ensures { IsPlaceOf tables.now generation result }
 {
     let mut place = 0;
-    while place < tables.len() && tables[place].head().generation < generation {
+    while place < tables.len() && tables[place].figures().generation < generation {
         place += 1;
     }
     place
 }
 
 /// Whether the table at a place is of a generation.
-fn is_at(tables: &[RouterTable], place: usize, generation: u64) -> bool
+fn is_at(tables: &[TableFile], place: usize, generation: u64) -> bool
     ensures { IsTrue result ↔ IsAt tables.now generation place }
 {
-    place < tables.len() && tables[place].head().generation == generation
+    place < tables.len() && tables[place].figures().generation == generation
 }
 
 /// Puts a table in the place of one of the same generation.
-fn put_for(
-    tables: &mut Vec<RouterTable>,
-    place: usize,
-    table: RouterTable,
-) -> Result<(), LoadRefused>
+fn put_for(tables: &mut Vec<TableFile>, place: usize, table: TableFile) -> Result<(), LoadRefused>
     requires { place < length tables.old.items }
     ensures loaded { OnOk result (tables.new.items ≡ insert (remove tables.old.items place) place table) }
     ensures done { IsOk result }
@@ -93,11 +89,7 @@ fn put_for(
 }
 
 /// Puts a table in between.
-fn put_at(
-    tables: &mut Vec<RouterTable>,
-    place: usize,
-    table: RouterTable,
-) -> Result<(), LoadRefused>
+fn put_at(tables: &mut Vec<TableFile>, place: usize, table: TableFile) -> Result<(), LoadRefused>
     requires { place ≤ length tables.old.items }
     ensures loaded { OnOk result (tables.new.items ≡ insert tables.old.items place table) }
     ensures refused { IfErr result (λ e. e ≡ LoadRefused.Memory) }
@@ -109,9 +101,9 @@ fn put_at(
 
 /// Puts a table in between, and takes the oldest away.
 fn put_for_oldest(
-    tables: &mut Vec<RouterTable>,
+    tables: &mut Vec<TableFile>,
     place: usize,
-    table: RouterTable,
+    table: TableFile,
 ) -> Result<(), LoadRefused>
     requires some { 0 < place }
     requires within { place ≤ length tables.old.items }
@@ -125,13 +117,13 @@ fn put_for_oldest(
 
 /// Puts a table among those of a shelf.
 #[tactic(auto, using(crate::proofs::Placing::put_same, crate::proofs::Placing::put_new, crate::proofs::Placing::put_full, crate::proofs::Placing::put_none))]
-fn put(tables: &mut Vec<RouterTable>, table: RouterTable) -> Result<(), LoadRefused>
+fn put(tables: &mut Vec<TableFile>, table: TableFile) -> Result<(), LoadRefused>
     requires { length tables.old.items ≤ SHELF_SIZE }
     ensures loaded { OnOk result (IsPut tables.old.items table tables.new.items) }
     ensures refused { IfErr result (IsNotPut tables.old.items table) }
     ensures unchanged { OnErr result (tables.new.items ≡ tables.old.items) }
 {
-    let generation = table.head().generation;
+    let generation = table.figures().generation;
     let place = place_of(tables.as_slice(), generation);
     if is_at(tables.as_slice(), place, generation) {
         return put_for(tables, place, table);
@@ -146,11 +138,11 @@ fn put(tables: &mut Vec<RouterTable>, table: RouterTable) -> Result<(), LoadRefu
 }
 
 /// The table of a generation.
-fn table_of(tables: &[RouterTable], generation: u64) -> Option<&RouterTable>
+fn table_of(tables: &[TableFile], generation: u64) -> Option<&TableFile>
     ensures { Finds (λ a. a.now) result (table_in tables.now generation) }
 {
     for table in tables {
-        if table.head().generation == generation {
+        if table.figures().generation == generation {
             return Some(table);
         }
     }
@@ -160,10 +152,10 @@ fn table_of(tables: &[RouterTable], generation: u64) -> Option<&RouterTable>
 impl Shelf {
     /// A shelf with one table. An `Err` means that memory was refused.
     #[tactic(auto, using(crate::proofs::Keeping::one_table))]
-    pub fn new(alloc: Global, table: RouterTable) -> Result<Shelf, AllocError>
+    pub fn new(alloc: Global, table: TableFile) -> Result<Shelf, AllocError>
         ensures { IfOk result (λ s. s ≡ record { node = table.head.node; tables = table ∷ [] }) }
     {
-        let node = table.head().node;
+        let node = table.figures().node;
         let mut tables = Vec::with_capacity(alloc, SHELF_SIZE)?;
         tables.push(table)?;
         Ok(Shelf { node, tables })
@@ -171,26 +163,26 @@ impl Shelf {
 
     /// Puts a table on the shelf: it replaces one of the same generation, and where the shelf is full the oldest goes. An `Err` leaves
     /// the shelf as it was.
-    pub fn load(&mut self, table: RouterTable) -> Result<(), LoadRefused>
+    pub fn load(&mut self, table: TableFile) -> Result<(), LoadRefused>
         ensures loaded { OnOk result (IsLoaded self.old table self.new) }
         ensures refused { IfErr result (IsNotLoaded self.old table) }
         ensures unchanged { OnErr result (self.new ≡ self.old) }
     {
-        if table.head().node != self.node {
+        if table.figures().node != self.node {
             return Err(LoadRefused::OtherNode);
         }
         put(&mut self.tables, table)
     }
 
-    /// Reads a table, and puts it on the shelf.
-    pub fn load_bytes(&mut self, alloc: Global, bytes: &[u8]) -> Answer
-        ensures { IsLoadedBy self.old bytes.now self.new result }
+    /// Tests the bytes of a file, and puts the table that they spell on the shelf.
+    pub fn load_bytes(&mut self, bytes: Vec<u8>) -> Answer
+        ensures { IsLoadedBy self.old bytes.items self.new result }
     {
-        let table = match RouterTable::read(alloc, bytes) {
+        let table = match TableFile::read(bytes) {
             Ok(table) => table,
             Err(refused) => return Answer::NotRead(refused),
         };
-        let generation = table.head().generation;
+        let generation = table.figures().generation;
         match self.load(table) {
             Ok(()) => Answer::Loaded(generation),
             Err(refused) => Answer::NotLoaded(refused),
@@ -249,7 +241,7 @@ impl Shelf {
 }
 
 /// The newest of tables.
-fn last_table(tables: &[RouterTable]) -> &RouterTable
+fn last_table(tables: &[TableFile]) -> &TableFile
     requires { 0 < length tables.now }
     ensures { result.now ≡ slice_index_or tables.now (length tables.now - 1) result.now }
 {
@@ -257,13 +249,13 @@ fn last_table(tables: &[RouterTable]) -> &RouterTable
 }
 
 /// The generations of tables.
-fn generations_in(tables: &[RouterTable]) -> ArrayVec<u64, SHELF_SIZE>
+fn generations_in(tables: &[TableFile]) -> ArrayVec<u64, SHELF_SIZE>
     requires { length tables.now ≤ SHELF_SIZE }
     ensures { result.items ≡ generations_of tables.now }
 {
     let mut generations = ArrayVec::new();
     for table in tables {
-        generations.push(table.head().generation);
+        generations.push(table.figures().generation);
     }
     generations
 }

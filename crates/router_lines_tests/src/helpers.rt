@@ -1,9 +1,9 @@
 // Tables, shelves and answers that the tests share.
 use router_lines::{Shelf, asked_in};
-use router_table::RouterTable;
 use sha2::{Digest, Sha256};
 use std::alloc::{AllocError, Global};
 use std::process::Abort;
+use table_view::TableFile;
 
 /// The value of an answer that has to have one.
 pub(crate) fn got<T, E: Drop>(rt: &impl Abort, answer: Result<T, E>) -> T {
@@ -50,8 +50,8 @@ pub(crate) fn table_bytes(
 }
 
 /// A shelf of the table that bytes spell.
-pub(crate) fn shelf_of(rt: &impl Abort, alloc: Global, bytes: &[u8]) -> Shelf {
-    let table = got(rt, RouterTable::read(alloc, bytes));
+pub(crate) fn shelf_of(rt: &impl Abort, alloc: Global, bytes: Vec<u8>) -> Shelf {
+    let table = got(rt, TableFile::read(bytes));
     got(rt, Shelf::new(alloc, table))
 }
 
@@ -75,9 +75,9 @@ pub(crate) fn expect_loaded(
     rt: &impl Abort,
     alloc: Global,
     shelf: &mut Shelf,
-    bytes: &[u8],
+    bytes: Vec<u8>,
     want: &str,
 ) {
-    let text = got(rt, shelf.load_bytes(alloc, bytes).text(alloc));
+    let text = got(rt, shelf.load_bytes(bytes).text(alloc));
     assert_eq!(rt; text.as_str(), want, "loaded");
 }

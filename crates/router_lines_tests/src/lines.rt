@@ -10,7 +10,7 @@ use std::process::Abort;
 #[test]
 fn has_no_file(rt: HostRuntime) {
     let alloc = rt.alloc();
-    let shelf = router(&rt, alloc, 4);
+    let shelf = router(&rt, alloc);
     for line in ["load ", "load tables"] {
         expect(&rt, alloc, &shelf, line, "not understood");
     }

@@ -3,9 +3,9 @@
 use crate::helpers::{answered, got, table_bytes};
 use crate::path::ROUTER_4;
 use router_lines::Shelf;
-use router_table::RouterTable;
 use std::alloc::Global;
 use std::process::Abort;
+use table_view::TableFile;
 
 /// Sees that this is answered to a line.
 fn expect_again(rt: &impl Abort, alloc: Global, shelf: &Shelf, line: &str, want: &str) {
@@ -13,29 +13,22 @@ fn expect_again(rt: &impl Abort, alloc: Global, shelf: &Shelf, line: &str, want:
     assert!(rt; text.as_str() == want, "an answer");
 }
 
-/// The table that bytes spell.
-fn read_again(rt: &impl Abort, alloc: Global, bytes: &[u8]) -> RouterTable {
-    match RouterTable::read(alloc, bytes) {
-        Ok(table) => table,
-        Err(_) => got(rt, RouterTable::read(alloc, bytes)),
-    }
+/// The table of the last router of the path, in generation 7.
+fn first_table(rt: &impl Abort, alloc: Global) -> TableFile {
+    got(rt, TableFile::read(table_bytes(rt, alloc, 7, &ROUTER_4)))
 }
 
-/// A shelf of the last router of the path, in generation 7.
+/// A shelf of that table.
 fn first_shelf(rt: &impl Abort, alloc: Global) -> Shelf {
-    let bytes = table_bytes(rt, alloc, 7, &ROUTER_4);
-    match Shelf::new(alloc, read_again(rt, alloc, bytes.as_slice())) {
+    match Shelf::new(alloc, first_table(rt, alloc)) {
         Ok(shelf) => shelf,
-        Err(_) => got(
-            rt,
-            Shelf::new(alloc, read_again(rt, alloc, bytes.as_slice())),
-        ),
+        Err(_) => got(rt, Shelf::new(alloc, first_table(rt, alloc))),
     }
 }
 
-/// What is answered to a file's bytes.
-fn loaded_once(rt: &impl Abort, alloc: Global, shelf: &mut Shelf, bytes: &[u8]) -> String {
-    let answer = shelf.load_bytes(alloc, bytes);
+/// What is answered to the bytes of the router's table in a generation.
+fn loaded_once(rt: &impl Abort, alloc: Global, shelf: &mut Shelf, generation: u64) -> String {
+    let answer = shelf.load_bytes(table_bytes(rt, alloc, generation, &ROUTER_4));
     match answer.text(alloc) {
         Ok(text) => text,
         Err(_) => got(rt, answer.text(alloc)),
@@ -51,11 +44,10 @@ fn load_again(
     before: &str,
     want: &str,
 ) {
-    let bytes = table_bytes(rt, alloc, generation, &ROUTER_4);
-    let mut text = loaded_once(rt, alloc, shelf, bytes.as_slice());
+    let mut text = loaded_once(rt, alloc, shelf, generation);
     if text.as_str() == "out of memory" {
         expect_again(rt, alloc, shelf, "tables", before);
-        text = loaded_once(rt, alloc, shelf, bytes.as_slice());
+        text = loaded_once(rt, alloc, shelf, generation);
     }
     assert!(rt; text.as_str() == want, "loaded");
 }

@@ -131,7 +131,7 @@ fn load(rt: &impl Abort, alloc: Global, shelf: &mut Shelf, generation: u64, load
     } else {
         "generation gone"
     };
-    expect_loaded(rt, alloc, shelf, bytes.as_slice(), want);
+    expect_loaded(rt, alloc, shelf, bytes, want);
 }
 
 /// Loads the generations in this order, and looks after each.
@@ -140,7 +140,7 @@ fn expect_order(rt: &impl Abort, alloc: Global, order: &[u64]) {
         panic!(rt; "no order");
     };
     let bytes = spoke(rt, alloc, *first, (*first % 256) as u8);
-    let mut shelf = shelf_of(rt, alloc, bytes.as_slice());
+    let mut shelf = shelf_of(rt, alloc, bytes);
     let mut loaded = got(rt, Vec::from_slice(alloc, &[*first]));
     expect_tables(rt, alloc, &shelf, loaded.as_slice());
     for generation in others {
@@ -161,10 +161,10 @@ fn keeps_the_newest_four_in_every_order(rt: HostRuntime) {
 
 /// A shelf of the first so many generations.
 fn shelf_of_first(rt: &impl Abort, alloc: Global, count: u64) -> Shelf {
-    let mut shelf = shelf_of(rt, alloc, spoke(rt, alloc, 1, 1).as_slice());
+    let mut shelf = shelf_of(rt, alloc, spoke(rt, alloc, 1, 1));
     for generation in 2..=count {
         let bytes = spoke(rt, alloc, generation, (generation % 256) as u8);
-        let text = got(rt, shelf.load_bytes(alloc, bytes.as_slice()).text(alloc));
+        let text = got(rt, shelf.load_bytes(bytes).text(alloc));
         assert!(rt; text.as_str() != "generation gone", "newer than all");
     }
     shelf
@@ -175,7 +175,7 @@ fn expect_replaced(rt: &impl Abort, alloc: Global, count: u64, generation: u64) 
     let mut shelf = shelf_of_first(rt, alloc, count);
     let bytes = spoke(rt, alloc, generation, 7);
     let done = got(rt, format!(in alloc; "generation={generation}"));
-    expect_loaded(rt, alloc, &mut shelf, bytes.as_slice(), done.as_str());
+    expect_loaded(rt, alloc, &mut shelf, bytes, done.as_str());
     for other in 1..=count {
         let neighbour = if other == generation {
             7

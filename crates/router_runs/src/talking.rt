@@ -5,12 +5,13 @@ ghost use Rattle.input_lines.specs.Reading.{IsNext};
 ghost use Rattle.router_runs.specs.Runs.{AnswersAll, AnswersSome, IsAnswered, IsAnsweredNext, Loads, printed_text};
 ghost use Rattle.router_runs.specs.Faults.{IsOutputFault, LeavesOutput};
 
+use crate::line_reader::LineReader;
 use crate::source::{TableSource, Unread};
 use input_lines::{NextLine, next_line};
 use router_lines::{Answer, Shelf, asked_in, file_in};
 use router_table::ReadRefused;
 use std::alloc::{AllocError, Global};
-use std::io::{self, BufRead, ErrorKind, Write};
+use std::io::{self, ErrorKind, Write};
 
 /// Why a run ends before its input does.
 #[derive(Drop)]
@@ -38,7 +39,7 @@ fn load<F: TableSource>(alloc: Global, shelf: &mut Shelf, files: &mut F, file: &
     ensures { Loads F.reads shelf.old file.now result shelf.new }
 {
     match files.read(alloc, file) {
-        Ok(bytes) => shelf.load_bytes(alloc, &bytes),
+        Ok(bytes) => shelf.load_bytes(bytes),
         Err(Unread::TooLong) => Answer::NotRead(ReadRefused::TooLong),
         Err(Unread::NoFile) => Answer::NoFile,
     }
@@ -77,8 +78,8 @@ fn answer_next<F: TableSource>(
     }
 }
 
-// Prints the line of an answer at once.
-fn print<O: Write>(alloc: Global, out: &mut O, answer: &Answer) -> Result<(), RunFault>
+// Prints the line of an answer, at once where no line more is at hand.
+fn print<O: Write>(alloc: Global, out: &mut O, answer: &Answer, more: bool) -> Result<(), RunFault>
     ensures printed { OnOk result (Appends (O.contents out.old) (O.contents out.new) (printed_text answer.now)) }
     ensures fault { IfErr result (λ fault. LeavesOutput fault out.old out.new) }
 {
@@ -87,6 +88,9 @@ fn print<O: Write>(alloc: Global, out: &mut O, answer: &Answer) -> Result<(), Ru
     if let Err(error) = out.write_all(text.as_bytes()) {
         return Err(RunFault::Output(error));
     }
+    if more {
+        return Ok(());
+    }
     match out.flush() {
         Ok(()) => Ok(()),
         Err(error) => Err(RunFault::Output(error)),
@@ -94,7 +98,7 @@ fn print<O: Write>(alloc: Global, out: &mut O, answer: &Answer) -> Result<(), Ru
 }
 
 /// Answers each line, until the input ends.
-pub fn answer_lines<R: BufRead, O: Write, F: TableSource>(
+pub fn answer_lines<R: LineReader, O: Write, F: TableSource>(
     alloc: Global,
     shelf: &mut Shelf,
     files: &mut F,
@@ -117,7 +121,7 @@ pub fn answer_lines<R: BufRead, O: Write, F: TableSource>(
             return Ok(());
         }
         let answer = answer_next(alloc, shelf, files, next, &line);
-        print(alloc, out, &answer)?;
+        print(alloc, out, &answer, reader.has_line())?;
     }
     Err(RunFault::Input(io::Error::from(ErrorKind::TimedOut)))
 }

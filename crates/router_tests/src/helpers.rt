@@ -1,7 +1,7 @@
 // Graphs, schemes and tables that the tests share.
 use node_table::Scheme;
 use router_table::{ReadRefused, RouterTable};
-pub(crate) use sample_networks::{Edge, PATH, RING};
+pub(crate) use sample_networks::{Edge, RING};
 use sample_networks::{graph_of, words_at};
 use scheme_builds::scheme_of;
 use std::alloc::Global;

@@ -24,6 +24,7 @@ use Rattle.event_runs.specs.Trips.{Trip, launch_by}
 use Rattle.event_runs.specs.Machines.{Machine, begun, held, waiting, board_at, let_in, with_posted, grouped, committed, lost}
 use Rattle.event_runs.specs.Answers.{Answer, answer, queue_by, unless_refused, submit_by, submit, further, look_by, look, take_by, take_one, post_by, post, CommitAnswers, IsBuilt, RebuildAnswers, sees, looked, launch_as, launch, hop_as, hop_by, hop, OrMemory, Answers}
 use Rattle.event_runs.specs.Runs.{Run}
+use Rattle.settled_lists.specs.declared.builds.Builds.TheVariants.{InTurn}
 use Rattle.settled_lists.specs.Lists.{AreListed}
 use Rattle.run_laws.specs.Listed.{IsListed, DueFits, all_told}
 use Rattle.run_laws.proofs.Sessions.{know_looked, know_asked, know_first, stay_in_turn}
@@ -129,7 +130,7 @@ post_on first m is = by m.due refl
       wide = is.wide;
       starts = is.starts;
       start = is.start;
-      lists = subst (λ (l : List Notice). AreListed first l m.asked m.done m.taken m.state m.down) (ap (λ (d : Option Notice). m.postings ++ option_to_list d) e ∙ sym (append-nil (m.postings ++ notice ∷ []))) is.lists;
+      lists = subst (λ (l : List Notice). AreListed InTurn first l m.asked m.done m.taken m.state m.down) (ap (λ (d : Option Notice). m.postings ++ option_to_list d) e ∙ sym (append-nil (m.postings ++ notice ∷ []))) is.lists;
       last = is.last;
       due = tt;
     }
@@ -148,8 +149,8 @@ free_told : (m : Machine) → m.due ≡ None → all_told m ≡ m.postings
 free_told m e = ap (λ (d : Option Notice). m.postings ++ option_to_list d) e ∙ append-nil m.postings
 
 -- the lists, where a group is held and the store is up
-posted_lists : (first : State) (m : Machine) → IsListed first m → held m ≢ [] → m.down ≡ false → AreListed first m.postings m.asked m.done m.taken m.state m.down
-posted_lists first m is some up = subst (λ (l : List Notice). AreListed first l m.asked m.done m.taken m.state m.down) (free_told m (due_free m.due (held m) m.down is.due some up)) is.lists
+posted_lists : (first : State) (m : Machine) → IsListed first m → held m ≢ [] → m.down ≡ false → AreListed InTurn first m.postings m.asked m.done m.taken m.state m.down
+posted_lists first m is some up = subst (λ (l : List Notice). AreListed InTurn first l m.asked m.done m.taken m.state m.down) (free_told m (due_free m.due (held m) m.down is.due some up)) is.lists
 
 committed_on : (first : State) (m : Machine) → IsListed first m → held m ≢ [] → m.down ≡ false → IsListed first (committed m)
 committed_on first m is some up = record {
@@ -195,7 +196,7 @@ post_free m = by m.due refl
 
 built_on : (first : State) (words : List ℕ) (m n : Machine) → IsListed first m → m.due ≡ None → m.down ≡ false → IsBuilt words m n → IsListed first n
 built_on first words m n is free up h =
-    let lists = subst (λ (l : List Notice). AreListed first l m.asked m.done m.taken m.state m.down) (free_told m free) is.lists in
+    let lists = subst (λ (l : List Notice). AreListed InTurn first l m.asked m.done m.taken m.state m.down) (free_told m free) is.lists in
     ⊎_elim (λ x. same_lists first m n x.1 is)
     (λ x.
     let scheme = x.1.0 in
@@ -204,7 +205,7 @@ built_on first words m n is free up h =
       wide = is.wide;
       starts = is.starts;
       start = is.start;
-      lists = subst (λ (l : List Notice). AreListed first l m.asked m.done m.taken m.state m.down) (sym (ap (λ (d : Option Notice). (m.postings ++ p ∷ []) ++ option_to_list d) free ∙ append-nil (m.postings ++ p ∷ [])))
+      lists = subst (λ (l : List Notice). AreListed InTurn first l m.asked m.done m.taken m.state m.down) (sym (ap (λ (d : Option Notice). (m.postings ++ p ∷ []) ++ option_to_list d) free ∙ append-nil (m.postings ++ p ∷ [])))
           (listed_built first m.postings m.asked m.done m.taken m.state m.down scheme lists up x.0 x.1.1.0.given x.1.1.0.serves);
       last = is.last;
       due = is.due;

@@ -11,6 +11,7 @@ use Rattle.generations.specs.declared.posting.Notice.{Notice}
 use Rattle.group_commit.specs.Settling.{settle}
 use Rattle.event_runs.specs.Trips.{Trip}
 use Rattle.event_runs.specs.Machines.{Machine}
+use Rattle.settled_lists.specs.declared.builds.Builds.TheVariants.{InTurn}
 use Rattle.settled_lists.specs.Durable.{IsDurable}
 use Rattle.run_laws.specs.Ways.{IsPosted}
 
@@ -25,7 +26,7 @@ pub record IsOnCourse (m : Network) (t : Tables) (w : Trip) : Type 0 where
 -- the generation was posted, and it is durable
 pub record IsKnown (first : State) (asked : List Request) (log : List Notice) (number : ℕ) (scheme : Parts) : Type 0 where
   pub posted : IsPosted log number scheme
-  pub durable : IsDurable first asked posted.before number scheme
+  pub durable : IsDurable InTurn first asked posted.before number scheme
 
 -- the graph that it was built of
 abbrev pub graph_of : {first : State} {asked : List Request} {log : List Notice} {number : ℕ} {scheme : Parts} → IsKnown first asked log number scheme → Network

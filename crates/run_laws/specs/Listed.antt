@@ -8,6 +8,7 @@ use Rattle.generations.specs.declared.posting.Notice.TheVariants.{Marked, Failed
 use Rattle.intake.specs.Turns.{of, last_asked}
 use Rattle.event_runs.specs.declared.session.Session.{Session}
 use Rattle.event_runs.specs.Machines.{Machine, held}
+use Rattle.settled_lists.specs.declared.builds.Builds.TheVariants.{InTurn}
 use Rattle.settled_lists.specs.Lists.{AreListed}
 
 -- what was posted, and behind it what is due
@@ -35,6 +36,6 @@ pub record IsListed (first : State) (m : Machine) : Type 0 where
   pub wide : length first.tickets ≡ sessions
   pub starts : m.starts ≡ first.tickets
   pub start : m.start ≡ first.count
-  pub lists : AreListed first (all_told m) m.asked m.done m.taken m.state m.down
+  pub lists : AreListed InTurn first (all_told m) m.asked m.done m.taken m.state m.down
   pub last : KnowTheirLast m.asked m.sessions
   pub due : DueFits m.due (held m) m.down

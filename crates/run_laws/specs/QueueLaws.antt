@@ -15,6 +15,7 @@ use Rattle.event_runs.specs.declared.reply.Reply.TheVariants.{NotSubmitted, NoAc
 use Rattle.event_runs.specs.Machines.{Machine, begun}
 use Rattle.event_runs.specs.Answers.{Answers, RebuildAnswers}
 use Rattle.event_runs.specs.Runs.{Run}
+use Rattle.settled_lists.specs.declared.builds.Builds.TheVariants.{InTurn}
 use Rattle.settled_lists.specs.Durable.{AreDurable}
 use Rattle.run_laws.specs.Listed.{IsListed}
 use Rattle.run_laws.specs.OneLife.{history_of, life_of}
@@ -47,7 +48,7 @@ PostingsAreLawful = (first : State) (m : Machine) → IsListed first m → IsLaw
 
 -- each generation among them is durable
 abbrev pub PostingsAreDurable : Type 0
-PostingsAreDurable = (first : State) (m : Machine) → IsListed first m → AreDurable first m.asked m.postings
+PostingsAreDurable = (first : State) (m : Machine) → IsListed first m → AreDurable InTurn first m.asked m.postings
 
 -- ---- the queue
 

@@ -86,6 +86,8 @@ impl<'a> Gate for HeldGate<'a> {
         self.0.hopped.store(generation, Ordering::SeqCst);
         let _came = self.0.comes(&self.0.syncs, self.0.last.sync);
     }
+
+    fn before_build(&self) {}
 }
 
 impl BeforeSync for Signs {

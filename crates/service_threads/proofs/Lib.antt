@@ -1,3 +1,4 @@
 pub mod Openings
 pub mod Settling
 pub mod Pace
+pub mod OnWay

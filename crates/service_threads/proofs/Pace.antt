@@ -1,5 +1,5 @@
 -- How what a committer posts goes with the pace of its rebuilds.
-use Rattle.std.proofs.Common.{◌≡◌, ◌≢◌, ◌↔◌, inl, inr, ⊎_elim, ◌+◌, ◌++◌, ◌∷◌, [], ℕ, Bool, true, false, List, Some, IsTrue, length, refl, sym, ap, ◌∙◌, subst, append-nil, arith}
+use Rattle.std.proofs.Common.{◌≡◌, ◌≢◌, ◌↔◌, ◌⊎◌, inl, inr, ⊎_elim, ◌+◌, ◌++◌, ◌∷◌, [], ℕ, Bool, false, List, IsTrue, Option, None, Some, length, refl, sym, ap, ◌∙◌, subst, append-nil}
 use Rattle.std.specs.Option.{option_map}
 use Rattle.std.proofs.lemmas.Bool.{cases_eq}
 use Rattle.requests.specs.declared.request.Request.{Request}
@@ -9,7 +9,7 @@ use Rattle.generations.specs.declared.posting.Mark.{Mark}
 use Rattle.generations.specs.declared.posting.Notice.{Notice}
 use Rattle.generations.specs.declared.posting.Notice.TheVariants.{Marked, Built}
 use Rattle.generations.specs.Notices.{counts_of, marks_in, newest_in}
-use Rattle.generations.specs.Beginnings.{Beginning, Opening}
+use Rattle.generations.specs.Beginnings.{Beginning}
 use Rattle.generations.specs.Lawful.{IsLawful}
 use Rattle.generations.proofs.Lawfulness.{count_as_told}
 use Rattle.generations.proofs.Numbers.{now_newest, same_newest}
@@ -22,6 +22,7 @@ use Rattle.committer.specs.Rebuilds.{IsServed}
 use Rattle.committer.specs.Rounds.{with_marks_of}
 use Rattle.committer.specs.Ties.{IsTied}
 use Rattle.packet_ways.specs.Standing.{Counts, IsNewest}
+use Rattle.service_workers.specs.Stands.{HasNewest}
 use Rattle.service_threads.specs.Pace.{IsDue, IsShown, IsUpToDate}
 
 -- what an outbox has posted
@@ -40,26 +41,26 @@ counts_now o newest held got state down tied none =
 -- ---- a round
 
 -- the newest of what is posted
-abbrev Shows : ℕ → Outgoing → Type 0
-Shows number o = (o.due ≡ []) × IsNewest (board_of o) number
+abbrev Shows : Option ℕ → Outgoing → Type 0
+Shows number o = (o.due ≡ []) × HasNewest (board_of o) number
 
-shows_paid : (number : ℕ) (o : Outgoing) → Shows number o → Shows number (paid o)
+shows_paid : (number : Option ℕ) (o : Outgoing) → Shows number o → Shows number (paid o)
 shows_paid number o is = (refl, ap (λ (l : List Notice). option_map (λ g. g.0) (newest_in l)) (ap (λ (l : List Notice). o.posted ++ l) is.0 ∙ append-nil o.posted) ∙ is.1)
 
-shows_marked : (number : ℕ) (o : Outgoing) (marks : List Mark) → Shows number o → Shows number (with_posted o (Marked marks))
+shows_marked : (number : Option ℕ) (o : Outgoing) (marks : List Mark) → Shows number o → Shows number (with_posted o (Marked marks))
 shows_marked number o marks is = (refl, ap (option_map (λ g. g.0)) (same_newest o.posted (Marked marks) refl) ∙ is.1)
 
-shows_round : (number : ℕ) (requests : List Request) (marks : List Mark) (o : Outgoing) → Shows number o → Shows number (with_marks_of requests marks o)
+shows_round : (number : Option ℕ) (requests : List Request) (marks : List Mark) (o : Outgoing) → Shows number o → Shows number (with_marks_of requests marks o)
 shows_round number [] marks o is = is
 shows_round number (r ∷ rs) marks o is = shows_marked number o marks is
 
-shown_so : {D R : Type 0} {V : _} → (number : ℕ) (c : Committer D R V) (o : Outgoing) → posts_of c ≡ o → Shows number o → IsShown number c
+shown_so : {D R : Type 0} {V : _} → (number : Option ℕ) (c : Committer D R V) (o : Outgoing) → posts_of c ≡ o → Shows number o → IsShown number c
 shown_so number c o same is =
     let so : Shows number (posts_of c) = subst (λ (p : Outgoing). Shows number p) (sym same) is in
     record { nothing_due = so.0; newest = so.1 }
 
 -- a round leaves the newest generation
-pub shown_round : {D R : Type 0} {V : _} → (number accepted : ℕ) (old new : Committer D R V) → IsShown number old → HasCommitted (asked_group old new) new accepted → IsShown number new
+pub shown_round : {D R : Type 0} {V : _} → (number : Option ℕ) (accepted : ℕ) (old new : Committer D R V) → IsShown number old → HasCommitted (asked_group old new) new accepted → IsShown number new
 shown_round number accepted old new is done = shown_so number new _ done.posts (shows_round number _ _ (paid (posts_of old)) (shows_paid number (posts_of old) (is.nothing_due, is.newest)))
 
 -- ---- a rebuild
@@ -71,7 +72,7 @@ served_newest state o is = ap (option_map (λ g. g.0)) is.1.0
 -- by one call
 pub shown_rebuilt : {D R : Type 0} {V : _} → (words : List ℕ) (answer : ℕ) (old new : Committer D R V) → store_of new ≡ store_of old → HasRebuilt words old new answer → IsUpToDate new
 shown_rebuilt words answer old new same done =
-    subst (λ s. IsShown (state_of s).count new) (sym same) (record {
+    subst (λ s. IsShown (Some (state_of s).count) new) (sym same) (record {
       nothing_due = ⊎_elim (λ none. ap (λ (o : Outgoing). o.due) none) (λ built. ap (λ (o : Outgoing). o.due) built.1.1) done.posts;
       newest = served_newest (state_of (store_of old)) (posts_of new) done.serves;
     })
@@ -79,22 +80,39 @@ shown_rebuilt words answer old new same done =
 -- where it was there already
 pub shown_still : {D R : Type 0} {V : _} → (old new : Committer D R V) → store_of new ≡ store_of old → (posts_of new).due ≡ [] → IsServed (state_of (store_of old)) (posts_of new).posted → IsUpToDate new
 shown_still old new same none serves =
-    subst (λ s. IsShown (state_of s).count new) (sym same) (record { nothing_due = none; newest = served_newest (state_of (store_of old)) (posts_of new) serves })
+    subst (λ s. IsShown (Some (state_of s).count) new) (sym same) (record { nothing_due = none; newest = served_newest (state_of (store_of old)) (posts_of new) serves })
 
 -- and where it was announced
 pub shown_announced : {D R : Type 0} {V : _} → (old new : Committer D R V) (number : ℕ) (scheme : Parts) → number ≡ (state_of (store_of new)).count → posts_of new ≡ with_posted (posts_of old) (Built number scheme) → IsUpToDate new
 shown_announced old new number scheme same posted =
-    subst (λ (n : ℕ). IsShown n new) same (shown_so number new (with_posted (posts_of old) (Built number scheme)) posted (refl, ap (option_map (λ g. g.0)) (now_newest (posts_of old).posted number scheme)))
+    subst (λ (n : ℕ). IsShown (Some n) new) same (shown_so (Some number) new (with_posted (posts_of old) (Built number scheme)) posted (refl, ap (option_map (λ g. g.0)) (now_newest (posts_of old).posted number scheme)))
+
+-- and behind it marks of no request
+pub shown_refreshed : {D R : Type 0} {V : _} → (old mid new : Committer D R V) (number : ℕ) (scheme : Parts) → posts_of mid ≡ with_posted (posts_of old) (Built number scheme) → posts_of new ≡ with_posted (posts_of mid) (Marked []) → IsShown (Some number) new
+shown_refreshed old mid new number scheme posted then =
+    shown_so (Some number) new (with_posted (posts_of mid) (Marked [])) then (shows_marked (Some number) (posts_of mid) []
+    (subst (λ (o : Outgoing). Shows (Some number) o) (sym posted) (refl, ap (option_map (λ g. g.0)) (now_newest (posts_of old).posted number scheme))))
 
 -- ---- what is due
 
+-- a number is the newest one, or it isn't
+same_or_other : (newest : Option ℕ) (count : ℕ) → (newest ≡ Some count) ⊎ (newest ≢ Some count)
+same_or_other (Some n) count = ⊎_elim (λ same. inl (ap (λ (k : ℕ). Some k) same)) (λ other. inr (λ e. other (some_same n count e))) (cases_eq n count)
+  where
+    some_same : (n k : ℕ) → ◌≡◌ {A = Option ℕ} (Some n) (Some k) → n ≡ k
+    some_same n k e = cc
+same_or_other None count = inr (λ e. none_some count e)
+  where
+    none_some : (k : ℕ) → ◌≡◌ {A = Option ℕ} None (Some k) → ⊥
+    none_some k e = cc
+
 -- where nothing was taken and nothing is due, the newest generation has this count
-pub none_due : (due : Bool) (newest count taken owed rounds : ℕ) → (IsTrue due ↔ IsDue newest count taken owed rounds) → due ≡ false → taken ≡ 0 → newest ≡ count
+pub none_due : (due : Bool) (newest : Option ℕ) (count taken owed rounds : ℕ) → (IsTrue due ↔ IsDue newest count taken owed rounds) → due ≡ false → taken ≡ 0 → newest ≡ Some count
 none_due due newest count taken owed rounds tells none idle =
-    ⊎_elim (λ same. same) (λ other. absurd (no_true due none (tells.1 (record { behind = other; now = inl idle })))) (cases_eq newest count)
+    ⊎_elim (λ same. same) (λ other. absurd (no_true due none (tells.1 (record { behind = other; now = inl idle })))) (same_or_other newest count)
   where
     no_true : (b : Bool) → b ≡ false → IsTrue b → ⊥
     no_true b is told = (let both = sym told ∙ is in absurd (cc))
 
-pub up_to_date : {D R : Type 0} {V : _} → (c : Committer D R V) (newest : ℕ) → IsShown newest c → newest ≡ (state_of (store_of c)).count → IsUpToDate c
-up_to_date c newest is same = subst (λ (n : ℕ). IsShown n c) same is
+pub up_to_date : {D R : Type 0} {V : _} → (c : Committer D R V) (newest : Option ℕ) → IsShown newest c → newest ≡ Some (state_of (store_of c)).count → IsUpToDate c
+up_to_date c newest is same = subst (λ (n : Option ℕ). IsShown n c) same is

@@ -1,5 +1,5 @@
 -- What is left on a device over turns: the states after beginnings of what was taken.
-use Rattle.std.proofs.Common.{◌≡◌, ◌⊎◌, ◌≤◌, ◌==◌, ◌∷◌, refl, ℕ, ◌+◌, List, [], ◌++◌, length, drop, IsTrue, false, arith, ap, sym, ◌∙◌, subst, ⊎_elim}
+use Rattle.std.proofs.Common.{◌≡◌, ◌⊎◌, inl, ◌≤◌, append-nil, ◌==◌, ◌∷◌, refl, ℕ, ◌+◌, List, [], ◌++◌, length, drop, IsTrue, false, arith, ap, sym, ◌∙◌, subst, ⊎_elim}
 use Rattle.std.proofs.lemmas.List.{take-append-le, length-append}
 use Rattle.std.proofs.lemmas.List.Elements.{filter-append}
 use Rattle.std.proofs.Math.Seq.{take-length}
@@ -13,15 +13,18 @@ use Rattle.checkpoint.specs.declared.store.Store.{Store}
 use Rattle.checkpoint.specs.StoreWords.{state_of, view_of, is_down, stands_now}
 use Rattle.intake.specs.Ends.{HasTaken, Taking}
 use Rattle.intake.specs.Turns.{AreOfEditors, of}
+use Rattle.generations.proofs.Keeping.{drop_whole}
 use Rattle.group_commit.specs.Settling.{Settled, settle}
 use Rattle.group_commit.proofs.SettlingLemmas.{settle-append}
 use Rattle.committer.specs.declared.committer.Committer.{Committer}
+use Rattle.settled_lists.specs.declared.builds.Builds.{Builds}
+use Rattle.settled_lists.specs.declared.builds.Builds.TheVariants.{InTurn}
 use Rattle.settled_lists.specs.Posted.{ArePosted}
 use Rattle.settled_lists.proofs.Posted.{posted_first}
 use Rattle.committer.specs.CommitterWords.{store_of, held_of, taker_of, queue_of, got_of, posts_of, taken, settled}
 use Rattle.committer.specs.Answers.{StaysPut}
-use Rattle.committer.specs.Listed.{IsListedFrom, StaysListed}
-use Rattle.service_threads.specs.Kept.{HasSettled, HasSettledAll, HasSettledSome, HasTurned, IsFresh, IsOnCourse, IsServedDisk, KeepsQueue, LeavesBeginnings, PostsAlong, StandsForBeginning}
+use Rattle.committer.specs.Listed.{IsListedFrom, StaysListed, StaysListedSo}
+use Rattle.service_threads.specs.Kept.{HasFailed, HasLostDevice, HasSettled, HasSettledAll, HasSettledSome, HasTurned, IsFresh, IsOnCourse, IsServedDisk, KeepsQueue, LeavesBeginnings, PostsAlong, StandsForBeginning}
 
 -- ---- beginnings of a list
 
@@ -53,18 +56,18 @@ some_settled store up = ([], none_settled store up)
 
 -- one call behind another
 pub listed_twice : {D R : Type 0} {V : _} → (old mid new : Committer D R V) → StaysListed old mid → StaysListed mid new → StaysListed old new
-listed_twice old mid new first second state is = second state (first state is)
+listed_twice old mid new first second builds state is = second builds state (first builds state is)
 
 -- nothing was done
 pub listed_same : {D R : Type 0} {V : _} → (c : Committer D R V) → StaysListed c c
-listed_same c state is = is
+listed_same c builds state is = is
 
 -- a store that is up stands for its state
 stands_after : {D : Type 0} {V : _} → (store : Store D V) (state : State) → is_down store ≡ false → state_of store ≡ state → IsTrue (view_of store).keeps_model → KeepsThrough (view_of store) state
 stands_after store state up is model = subst (λ (s : State). KeepsThrough (view_of store) s) is (stands_now store model up)
 
 -- a turn more
-pub turned_settles : {D R : Type 0} {V : _} → (first old new : Committer D R V) → IsOnCourse first old → HasTurned old new
+pub turned_settles : {builds : Builds} {D R : Type 0} {V : _} → (first old new : Committer D R V) → IsOnCourse builds first old → HasTurned old new
     → HasSettled (state_of (store_of first)) (got_of new) (view_of (store_of first)) (view_of (store_of new))
 turned_settles first old new on turn =
     let s = state_of (store_of first) in
@@ -88,8 +91,8 @@ turned_settles first old new on turn =
     }
 
 -- a turn more that settled all
-pub on_course_still : {D R : Type 0} {V : _} → (first old new : Committer D R V) → IsOnCourse first old → HasTurned old new → HasSettledAll old new → StaysListed old new → IsOnCourse first new
-on_course_still first old new on turn done lists =
+pub on_course_still : {builds : Builds} {D R : Type 0} {V : _} → (first old new : Committer D R V) → IsOnCourse builds first old → HasTurned old new → HasSettledAll old new → StaysListed old new → IsOnCourse builds first new
+on_course_still {builds} first old new on turn done lists =
     let asked : settled old new ≡ settle (state_of (store_of old)) (taken old new) = ap (λ (l : List Request). settle (state_of (store_of old)) (l ++ taken old new)) on.held in
     let all : (settle (state_of (store_of first)) (got_of new)).state ≡ (settled old new).state =
     ap (λ (l : List Request). (settle (state_of (store_of first)) l).state) turn.front
@@ -99,23 +102,27 @@ on_course_still first old new on turn done lists =
       held = done.held;
       state = done.state ∙ sym all;
       settled = turned_settles first old new on turn;
-      listed = listed_twice first old new on.listed lists;
+      listed = λ state is. lists builds state (on.listed state is);
       stands = stands_after (store_of new) (settle (state_of (store_of first)) (got_of new)).state done.up (done.state ∙ sym all);
     }
 
 -- what is on the board goes with what was taken
-board_posted : {D R : Type 0} {V : _} → (first : State) (c : Committer D R V) → IsListedFrom first c → ArePosted first (got_of c) (posts_of c).posted
+board_posted : {builds : Builds} {D R : Type 0} {V : _} → (first : State) (c : Committer D R V) → IsListedFrom builds first c → ArePosted builds first (got_of c) (posts_of c).posted
 board_posted first c is = posted_first first (posts_of c).posted (posts_of c).due (got_of c) is.done (length (got_of c)) (state_of (store_of c)) (is_down (store_of c)) is.lists
 
-pub on_course_posted : {D R : Type 0} {V : _} → (first now : Committer D R V) → IsOnCourse first now → PostsAlong first now
+pub on_course_posted : {builds : Builds} {D R : Type 0} {V : _} → (first now : Committer D R V) → IsOnCourse builds first now → PostsAlong builds first now
 on_course_posted first now on state is = board_posted state now (on.listed state is)
 
 -- .. behind a turn more, whatever ends it
-pub turned_posted : {D R : Type 0} {V : _} → (first old new : Committer D R V) → IsOnCourse first old → StaysListed old new → PostsAlong first new
-turned_posted first old new on lists state is = board_posted state new (lists state (on.listed state is))
+pub turned_posted : {builds : Builds} {D R : Type 0} {V : _} → (first old new : Committer D R V) → IsOnCourse builds first old → StaysListed old new → PostsAlong builds first new
+turned_posted {builds} first old new on lists state is = board_posted state new (lists builds state (on.listed state is))
 
-pub turned_listed : {D R : Type 0} {V : _} → (first old new : Committer D R V) → IsOnCourse first old → StaysListed old new → StaysListed first new
-turned_listed first old new on lists = listed_twice first old new on.listed lists
+pub turned_listed : {builds : Builds} {D R : Type 0} {V : _} → (first old new : Committer D R V) → IsOnCourse builds first old → StaysListed old new → StaysListedSo builds first new
+turned_listed {builds} first old new on lists state is = lists builds state (on.listed state is)
+
+-- what stays one list is on the board
+pub listed_posted : {builds : Builds} {D R : Type 0} {V : _} → (old new : Committer D R V) → StaysListedSo builds old new → PostsAlong builds old new
+listed_posted old new lists state is = board_posted state new (lists state is)
 
 -- ---- the queue
 
@@ -158,15 +165,23 @@ queue_turned old mid new same taken still = queue_twice old mid new (queue_taken
 -- ---- the beginning
 
 -- a committer that has taken nothing
-pub on_course_first : {D R : Type 0} {V : _} → (c : Committer D R V) → IsFresh c → IsOnCourse c c
+pub on_course_first : {builds : Builds} {D R : Type 0} {V : _} → (c : Committer D R V) → IsFresh c → IsOnCourse builds c c
 on_course_first c fresh = record {
   up = fresh.up;
   held = fresh.held;
   state = ap (λ (l : List Request). (settle (state_of (store_of c)) l).state) (sym fresh.got);
   settled = subst (λ (l : List Request). HasSettled (state_of (store_of c)) l (view_of (store_of c)) (view_of (store_of c))) (sym fresh.got) (none_settled (store_of c) fresh.up);
-  listed = listed_same c;
+  listed = λ state is. is;
   stands = stands_after (store_of c) (settle (state_of (store_of c)) (got_of c)).state fresh.up (ap (λ (l : List Request). (settle (state_of (store_of c)) l).state) (sym fresh.got));
 }
+
+-- .. and so with builds in turn
+pub in_turn_first : {D R : Type 0} {V : _} → (c : Committer D R V) → IsFresh c → IsOnCourse InTurn c c
+in_turn_first c fresh = on_course_first c fresh
+
+pub in_turn_settles : {D R : Type 0} {V : _} → (first old new : Committer D R V) → IsOnCourse InTurn first old → HasTurned old new
+    → HasSettled (state_of (store_of first)) (got_of new) (view_of (store_of first)) (view_of (store_of new))
+in_turn_settles first old new on turn = turned_settles first old new on turn
 
 -- ---- turns and rebuilds
 
@@ -180,6 +195,37 @@ turned_still {V = V} old mid new turn stays = record {
       subst (λ (l : List Request). LeavesOnly (view_of (store_of old)) (view_of (store_of new))
       (λ image. StandsFor (state_of (store_of old)) image ⊎ StandsFor (settle (state_of (store_of old)) (held_of old ++ drop (length (got_of old)) l)).state image)) (sym ((λ i. (stays.taker i).got))) left;
 }
+
+-- .. and a turn behind a posting what the turn left
+pub still_turned : {D R : Type 0} {V : _} → (old mid new : Committer D R V) → StaysPut old mid → HasTurned mid new → HasTurned old new
+still_turned {V = V} old mid new stays turn =
+    let got : got_of mid ≡ got_of old = λ i. (stays.taker i).got in
+    record {
+      front = subst (λ (l : List Request). got_of new ≡ l ++ drop (length l) (got_of new)) got turn.front;
+      same = subst (λ s. IsSameDevice (view_of s) (view_of (store_of new))) stays.store turn.same;
+      any_moment = subst (λ (l : List Request). IsTrue (view_of (store_of old)).keeps_model → is_down (store_of old) ≡ false → LeavesOnly (view_of (store_of old)) (view_of (store_of new))
+          (λ image. StandsFor (state_of (store_of old)) image ⊎ StandsFor (settle (state_of (store_of old)) (held_of old ++ drop (length l) (got_of new))).state image)) got
+          (subst (λ (l : List Request). IsTrue (view_of (store_of old)).keeps_model → is_down (store_of old) ≡ false → LeavesOnly (view_of (store_of old)) (view_of (store_of new))
+          (λ image. StandsFor (state_of (store_of old)) image ⊎ StandsFor (settle (state_of (store_of old)) (l ++ drop (length (got_of mid)) (got_of new))).state image)) stays.held
+          (subst (λ s. IsTrue (view_of s).keeps_model → is_down s ≡ false → LeavesOnly (view_of s) (view_of (store_of new))
+          (λ image. StandsFor (state_of s) image ⊎ StandsFor (settle (state_of s) (held_of mid ++ drop (length (got_of mid)) (got_of new))).state image)) stays.store turn.any_moment));
+    }
+
+-- a device that failed behind a posting
+pub still_lost : {D R : Type 0} {V : _} → (old mid new : Committer D R V) → StaysPut old mid → HasLostDevice mid new → HasLostDevice old new
+still_lost old mid new stays lost = subst (λ s. HasFailed (view_of s) (view_of (store_of new))) stays.store lost
+
+-- nothing was done but to post
+pub put_turned : {D R : Type 0} {V : _} → (old new : Committer D R V) → is_down (store_of old) ≡ false → StaysPut old new → HasTurned old new
+put_turned {V = V} old new up stays =
+    let got : got_of new ≡ got_of old = λ i. (stays.taker i).got in
+    record {
+      front = got ∙ (sym (append-nil (got_of old)) ∙ ap (λ (l : List Request). got_of old ++ l) (sym (ap (λ (l : List Request). drop (length (got_of old)) l) got ∙ drop_whole (got_of old))));
+      same = subst (λ s. IsSameDevice (view_of (store_of old)) (view_of s)) (sym stays.store) (ran_none (view_of (store_of old)));
+      any_moment = λ model _.
+          subst (λ s. LeavesOnly (view_of (store_of old)) (view_of s) (λ image. StandsFor (state_of (store_of old)) image ⊎ StandsFor (settled old new).state image)) (sym stays.store)
+          (started (view_of (store_of old)) (λ image. StandsFor (state_of (store_of old)) image ⊎ StandsFor (settled old new).state image) (λ image left. inl (stands_now (store_of old) model up image left)));
+    }
 
 pub settled_still : {D R : Type 0} {V : _} → (old mid new : Committer D R V) → HasSettledAll old mid → StaysPut mid new → HasSettledAll old new
 settled_still old mid new done stays = record {

@@ -14,11 +14,12 @@ use Rattle.written_values.specs.declared.words.LandmarkWords.{LandmarkWords}
 use Rattle.committer.specs.declared.committer.Committer.{Committer}
 use Rattle.service_workers.specs.declared.stop_cause.StopCause.{StopCause}
 use Rattle.service_workers.specs.declared.stop_cause.StopCause.TheVariants.{Device}
+use Rattle.settled_lists.specs.declared.builds.Builds.{Builds}
 use Rattle.settled_lists.specs.Posted.{ArePosted}
 use Rattle.intake.specs.Turns.{AreOfEditors}
 use Rattle.committer.specs.CommitterWords.{store_of, held_of, taker_of, queue_of, got_of, posts_of, taken, settled}
 use Rattle.committer.specs.Answers.{StaysPut}
-use Rattle.committer.specs.Listed.{IsListedFrom, StaysListed}
+use Rattle.committer.specs.Listed.{IsListedFrom, StaysListed, StaysListedSo}
 use Rattle.service_threads.specs.declared.committer_stop.CommitterStop.{CommitterStop}
 use Rattle.service_threads.specs.declared.fault.Fault.{Fault}
 use Rattle.service_threads.specs.declared.fault.Fault.TheVariants as told
@@ -60,8 +61,8 @@ pub record HasSettledAll {D R : Type 0} {V : _} (old new : Committer D R V) : Ty
 
 -- The marks on the board are those of settling the first of all that was taken, and each generation on it serves the state that its
 -- number names, from any state on from which what was taken before was one list.
-abbrev pub PostsAlong : {D R : Type 0} {V : _} → Committer D R V → Committer D R V → Type 0
-PostsAlong old new = (first : State) → IsListedFrom first old → ArePosted first (got_of new) (posts_of new).posted
+abbrev pub PostsAlong : {D R : Type 0} {V : _} → Builds → Committer D R V → Committer D R V → Type 0
+PostsAlong builds old new = (first : State) → IsListedFrom builds first old → ArePosted builds first (got_of new) (posts_of new).posted
 
 -- the device failed between two views
 abbrev pub HasFailed : DiskView → DiskView → Type 0
@@ -99,14 +100,14 @@ pub record IsFresh {D R : Type 0} {V : _} (c : Committer D R V) : Type 0 where
   pub held : held_of c ≡ []
   pub got : got_of c ≡ []
 
--- From its beginning on a committer settled all that it took.
-pub record IsOnCourse {D R : Type 0} {V : _} (first now : Committer D R V) : Type 0 where
+-- From its beginning on a committer settled all that it took, and its generations were built so.
+pub record IsOnCourse {D R : Type 0} {V : _} (builds : Builds) (first now : Committer D R V) : Type 0 where
   pub up : is_down (store_of now) ≡ false
   pub held : held_of now ≡ []
   pub state : state_of (store_of now) ≡ (settle (state_of (store_of first)) (got_of now)).state
   pub settled : HasSettled (state_of (store_of first)) (got_of now) (view_of (store_of first)) (view_of (store_of now))
   -- what is posted and due goes with all that it took, as it did at the beginning
-  pub listed : StaysListed first now
+  pub listed : StaysListedSo builds first now
   -- each image that a crash now may leave stands for the state after the whole list
   pub stands : IsTrue (view_of (store_of now)).keeps_model → KeepsThrough (view_of (store_of now)) (settle (state_of (store_of first)) (got_of now)).state
 

@@ -1,14 +1,17 @@
 // The committer's thread.
 ghost use Rattle.std.specs.Arc.{arc_value};
-ghost use Rattle.std.specs.Prelude.{◌≡◌, ◌≢◌, ◌⊎◌, ◌↔◌, ◌+◌, ◌-◌, ◌^◌, min, IfErr, IfOk, IsErrOf, IsTrue, OnOk, false};
+ghost use Rattle.std.specs.Prelude.{◌≡◌, ◌≢◌, ◌⊎◌, ◌↔◌, ◌+◌, ◌-◌, ◌^◌, min, IfErr, IfOk, IsErrOf, IsTrue, None, OnOk, Some, false};
 ghost use Rattle.node_table.specs.Service.{Serves};
 ghost use Rattle.node_table.specs.Tables.{tables};
 ghost use Rattle.checkpoint.specs.StoreWords.{is_down, state_of};
+ghost use Rattle.settled_lists.specs.declared.builds.Builds.TheVariants.{InTurn};
 ghost use Rattle.committer.specs.CommitterWords.{posts_of, store_of};
-ghost use Rattle.committer.specs.Listed.{StaysListed};
-ghost use Rattle.service_threads.specs.Pace.{IsDue, IsShown, IsUpToDate};
+ghost use Rattle.committer.specs.Listed.{StaysListed, StaysListedSo};
+ghost use Rattle.service_threads.specs.Pace.{IsBegun, IsDue, IsShown, IsUpToDate};
 ghost use Rattle.service_threads.specs.Kept.{HasLostDevice, HasSettledAll, HasSettledFrom, HasTurned, IsFresh, IsOnCourse, KeepsQueue, OnlyRebuilds, PostsAlong};
+ghost use Rattle.service_threads.specs.Tables.{IsGraphOf};
 
+use crate::beside::{Build, Shelf};
 use crate::committer_stop::CommitterStop;
 use committer::{Committer, Round};
 use disk_trait::Disk;
@@ -20,47 +23,63 @@ use scheme_builds::{SCRATCH_LEN, scheme_of_in_threads, workers_here};
 use service_workers::{
     Coordinator, GenerationGraph, Graphs, Stand, StopCause, ToldOf, WordSource, shared_graph,
 };
+use settled_lists::Builds;
 use std::alloc::{AllocError, Global};
 use std::sync::{Arc, Wait};
 use std::thread::Threads;
 
-/// What rebuilds take: the landmark words, the one heap for the numbering of trees of each scheme that is built in the committer's thread, and
-/// their pace.
+/// What rebuilds take: the landmark words, the one heap for the numbering of trees of each scheme that is built in the committer's thread,
+/// their pace, and what is built beside the rounds.
 #[derive(Drop)]
 pub struct Rebuilds {
-    source: WordSource,
+    /// Where builds go on.
+    pub builds: Builds,
+    pub(crate) source: WordSource,
     heap: LocalHeap,
     // After so many rounds a change that was accepted is in a generation.
     rounds: u32,
     // How many rounds there were since the first change that is in none, that one's among them.
     owed: u32,
-    // The number of the newest generation.
-    newest: u64,
+    // The number of the newest generation, where there is one.
+    pub(crate) newest: Option<u64>,
+    pub(crate) building: Option<Build>,
+    pub(crate) shelf: Shelf,
 }
 
 impl Rebuilds {
     /// Rebuilds by these words, over a heap of their own. A generation is built where something accepted isn't in one and a round
     /// took nothing, or `rounds` rounds after the first such change at the latest: with 1 after each round that accepted something.
-    pub fn new(alloc: Global, source: WordSource, rounds: u32) -> Result<Rebuilds, AllocError> {
+    pub fn new(
+        alloc: Global,
+        source: WordSource,
+        rounds: u32,
+        builds: Builds,
+    ) -> Result<Rebuilds, AllocError>
+        ensures { IfOk result (λ rebuilds. rebuilds.builds ≡ builds) }
+    {
         let heap = LocalHeap::new(alloc, SCRATCH_LEN)?;
         Ok(Rebuilds {
+            builds,
             source,
             heap,
             rounds,
             owed: 0,
-            newest: 0,
+            newest: None,
+            building: None,
+            shelf: Shelf::new(),
         })
     }
 
     // Whether a generation is due behind a round that took so many requests, where so many changes are accepted now.
-    fn is_due(&mut self, taken: usize, count: u64) -> bool
+    pub(crate) fn is_due(&mut self, taken: usize, count: u64) -> bool
         ensures due { IsTrue result
             ↔ IsDue self.old.newest count taken (self.old.owed + 1) self.old.rounds }
-        ensures owed { IsTrue result ⊎ (self.old.newest ≡ count)
+        ensures owed { IsTrue result ⊎ (self.old.newest ≡ Some count)
             ⊎ (self.new.owed ≡ min (self.old.owed + 1) (2 ^ 32 - 1)) }
         ensures same { (self.new.newest ≡ self.old.newest) × (self.new.rounds ≡ self.old.rounds) }
+        ensures building { self.new.building ≡ self.old.building }
     {
-        if self.newest == count {
+        if self.newest == Some(count) {
             return false;
         }
         self.owed = self.owed.saturating_add(1);
@@ -82,7 +101,8 @@ impl Rebuilds {
         requires up { is_down (store_of committer.old) ≡ false }
         ensures only { OnlyRebuilds J.opening committer.old committer.new result }
         ensures shown { OnOk result (IsUpToDate committer.new) }
-        ensures newest { OnOk result (self.new.newest ≡ (state_of (store_of committer.new)).count) }
+        ensures newest { OnOk result (self.new.newest ≡ Some (state_of (store_of committer.new)).count) }
+        ensures builds { self.new.builds ≡ self.old.builds }
     {
         let Rebuilds { source, heap, .. } = self;
         match source {
@@ -94,7 +114,7 @@ impl Rebuilds {
                 rebuild_by::<D, R, S>(rt, alloc, committer, &words, heap)?;
             }
         }
-        self.newest = committer.store().count();
+        self.newest = Some(committer.store().count());
         Ok(())
     }
 }
@@ -125,7 +145,7 @@ fn rebuild_by<D: Disk, R: Wait + Drop, S: Threads + Wait + Sync>(
 }
 
 // A scheme of the graph by landmark words, built by so many workers, to be shared.
-fn shared_scheme<S: Threads + Wait + Sync>(
+pub(crate) fn shared_scheme<S: Threads + Wait + Sync>(
     rt: &S,
     alloc: Global,
     graph: &Graph,
@@ -141,20 +161,21 @@ fn shared_scheme<S: Threads + Wait + Sync>(
 }
 
 // The graph of the generation that comes next.
-fn next_graph<D: Disk, R: Wait + Drop>(
+pub(crate) fn next_graph<D: Disk, R: Wait + Drop>(
     alloc: Global,
     committer: &Committer<D, R>,
 ) -> Result<Arc<GenerationGraph, Global>, CommitterStop>
+    ensures of_state { IfOk result (λ graph. IsGraphOf (state_of (store_of committer.now)) (arc_value graph)) }
     ensures not_device { IfErr result (λ stop. stop.cause ≢ StopCause.Device) }
 {
     let store = committer.store();
     Ok(shared_graph(alloc, store.count(), store.graph())?)
 }
 
-// What the committer tells, whose newest generation has this number.
-fn stand_of<J: BoardName, D: Disk, R: Wait + Drop>(
+// What the committer tells, whose newest generation has this number, or that has none yet.
+pub(crate) fn stand_of<J: BoardName, D: Disk, R: Wait + Drop>(
     committer: &Committer<D, R>,
-    generation: u64,
+    generation: Option<u64>,
 ) -> Stand<J>
     requires opening { (posts_of committer.now).opening ≡ J.opening }
     requires shown { IsShown generation committer.now }
@@ -164,6 +185,32 @@ fn stand_of<J: BoardName, D: Disk, R: Wait + Drop>(
         count: committer.store().count(),
         generation,
     }
+}
+
+// One round, and its marks told. Whatever ends it, the device holds the state before the round or the one after its whole group.
+pub(crate) fn told_round<J: BoardName, D: Disk, R: Wait + Drop, S: Wait>(
+    rt: &S,
+    alloc: Global,
+    coordinator: &Coordinator<J>,
+    committer: &mut Committer<D, R>,
+    newest: Option<u64>,
+) -> Result<Round, CommitterStop>
+    requires opening { (posts_of committer.old).opening ≡ J.opening }
+    requires up { is_down (store_of committer.old) ≡ false }
+    requires shown { IsShown newest committer.old }
+    ensures opening { OnOk result ((posts_of committer.new).opening ≡ J.opening) }
+    ensures shown { OnOk result (IsShown newest committer.new) }
+    ensures turned { HasTurned committer.old committer.new }
+    ensures queue { KeepsQueue committer.old committer.new }
+    ensures settled { OnOk result (HasSettledAll committer.old committer.new) }
+    ensures listed { StaysListed committer.old committer.new }
+    ensures device { IfErr result (λ stop. stop.cause ≡ StopCause.Device → HasLostDevice committer.old committer.new) }
+{
+    let round = committer.round(alloc, rt)?;
+    if round.taken > 0 {
+        coordinator.tell(rt, stand_of::<J, D, R>(committer, newest), round.taken);
+    }
+    Ok(round)
 }
 
 // One round, its marks told, and the generation that is due behind it, told too. Its graph is shown before it is posted, so that
@@ -189,14 +236,7 @@ fn turn<J: BoardName, D: Disk, R: Wait + Drop, S: Threads + Wait + Sync>(
     ensures listed { StaysListed committer.old committer.new }
     ensures device { IfErr result (λ stop. stop.cause ≡ StopCause.Device → HasLostDevice committer.old committer.new) }
 {
-    let round = committer.round(alloc, rt)?;
-    if round.taken > 0 {
-        coordinator.tell(
-            rt,
-            stand_of::<J, D, R>(committer, rebuilds.newest),
-            round.taken,
-        );
-    }
+    let round = told_round::<J, D, R, S>(rt, alloc, coordinator, committer, rebuilds.newest)?;
     if rebuilds.is_due(round.taken, committer.store().count()) {
         coordinator.show(rt, next_graph(alloc, committer)?);
         rebuilds.rebuild::<J, D, R, S>(rt, alloc, committer)?;
@@ -207,7 +247,7 @@ fn turn<J: BoardName, D: Disk, R: Wait + Drop, S: Threads + Wait + Sync>(
 
 /// Commits what editors submit, until all of them have left, or all stop: which of the two it was. An `Err` is why the committer itself
 /// stopped.
-#[tactic(auto, using(crate::proofs::Settling::on_course_first, crate::proofs::Settling::turned_settles, crate::proofs::Settling::queue_first))]
+#[tactic(auto, using(crate::proofs::Settling::in_turn_first, crate::proofs::Settling::in_turn_settles, crate::proofs::Settling::queue_first))]
 pub fn commit_all<J: BoardName, D: Disk, R: Wait + Drop, S: Threads + Wait + Sync>(
     rt: &S,
     alloc: Global,
@@ -223,18 +263,18 @@ pub fn commit_all<J: BoardName, D: Disk, R: Wait + Drop, S: Threads + Wait + Syn
 
     // What was taken stays one list, whatever ended it: what is posted and due has the marks of settling the first of it, and each
     // generation serves the state that its number names.
-    ensures listed { StaysListed committer.old committer.new }
-    ensures posted { PostsAlong committer.old committer.new }
+    ensures listed { StaysListedSo InTurn committer.old committer.new }
+    ensures posted { PostsAlong InTurn committer.old committer.new }
     // And so does the queue, and all that was taken is of sessions that have an editor.
     ensures queue { KeepsQueue committer.old committer.new }
 
     // Where nothing stopped the committer, that is the whole list, and the device stands for the state after it.
-    ensures all { OnOk result (IsOnCourse committer.old committer.new) }
+    ensures all { OnOk result (IsOnCourse InTurn committer.old committer.new) }
     ensures opening { OnOk result ((posts_of committer.new).opening ≡ J.opening) }
     // And where all editors have left, the newest generation is that of this state.
     ensures up_to_date { IfOk result (λ left. IsTrue left → IsUpToDate committer.new) }
 {
-    rebuilds.newest = committer.store().count();
+    rebuilds.newest = Some(committer.store().count());
     for _ in rt.forever() {
         // What there is to do is read before the round, so that nothing is missed that comes behind it.
         let work = coordinator.work(rt);
@@ -254,8 +294,8 @@ pub fn commit_all<J: BoardName, D: Disk, R: Wait + Drop, S: Threads + Wait + Syn
     Ok(false)
 }
 
-/// Builds the first generation, and gives the coordinator that begins with it.
-pub fn first_generation<J: BoardName, D: Disk, R: Wait + Drop, S: Threads + Wait + Sync>(
+// Builds the first generation, and gives the coordinator that begins with it.
+fn first_generation<J: BoardName, D: Disk, R: Wait + Drop, S: Threads + Wait + Sync>(
     rt: &S,
     alloc: Global,
     committer: &mut Committer<D, R>,
@@ -266,10 +306,36 @@ pub fn first_generation<J: BoardName, D: Disk, R: Wait + Drop, S: Threads + Wait
     requires up { is_down (store_of committer.old) ≡ false }
     ensures only { OnlyRebuilds J.opening committer.old committer.new result }
     ensures shown { OnOk result (IsUpToDate committer.new) }
+    ensures builds { rebuilds.new.builds ≡ rebuilds.old.builds }
 {
     let mut graphs = Graphs::new();
     graphs.push(next_graph(alloc, committer)?);
     rebuilds.rebuild::<J, D, R, S>(rt, alloc, committer)?;
     let stand = stand_of::<J, D, R>(committer, rebuilds.newest);
     Ok(Coordinator::new(stand, graphs, editing))
+}
+
+/// The coordinator that a service begins with. Where generations are built in turn with rounds, it begins with the first one; and where
+/// they are built beside them, without one.
+pub fn begun<J: BoardName, D: Disk, R: Wait + Drop, S: Threads + Wait + Sync>(
+    rt: &S,
+    alloc: Global,
+    committer: &mut Committer<D, R>,
+    rebuilds: &mut Rebuilds,
+    editing: usize,
+) -> Result<Coordinator<J>, CommitterStop>
+    requires opening { (posts_of committer.old).opening ≡ J.opening }
+    requires up { is_down (store_of committer.old) ≡ false }
+    requires bare { IsShown None committer.old }
+    ensures only { OnlyRebuilds J.opening committer.old committer.new result }
+    ensures shown { OnOk result (IsBegun rebuilds.new.builds committer.new) }
+    ensures builds { rebuilds.new.builds ≡ rebuilds.old.builds }
+{
+    match rebuilds.builds {
+        Builds::InTurn => first_generation::<J, D, R, S>(rt, alloc, committer, rebuilds, editing),
+        Builds::Beside => {
+            let stand = stand_of::<J, D, R>(committer, None);
+            Ok(Coordinator::new(stand, Graphs::new(), editing))
+        }
+    }
 }

@@ -3,15 +3,17 @@
 //! # What it is
 //!
 //! [`commit_all`] takes what editors submit, in rounds, until all of them have left or all stop. A generation of routing schemes is
-//! built at the start ([`first_generation`]), and behind rounds that accepted something, as [`Rebuilds`] is told.
+//! built at the start ([`begun`]), and behind rounds that accepted something, as [`Rebuilds`] is told. [`commit_beside`] does so
+//! too, but builds all of them beside the rounds, one at a time, of the graph as it is when the build begins.
 //!
 //! Editors wait for the committer, and the committer for editors, at one [`std::sync::Mutex`] with two conditions.
 //!
 //! The tables of a network of 512 nodes or more are built in as many threads as there are processors, each over a heap of its own that
-//! goes with it; those of a smaller one in the committer's thread, over one heap that serves all of them.
+//! goes with it; those of a smaller one in the committer's thread, over one heap that serves all of them. A build beside the rounds has a
+//! thread of its own, and leaves one processor to them where there are several.
 //!
-//! Memory doesn't grow with the number of rounds: it holds the graphs of the newest four generations, and those in which a packet
-//! is on its way.
+//! Memory doesn't grow with the number of rounds: it holds the graphs of the newest four generations, the one of which tables are built,
+//! and those in which a packet is on its way.
 //!
 //! # The contract
 //!
@@ -21,20 +23,22 @@
 //!
 //! ```text
 //! let (store, source) = open_device(alloc, disk, &words)?;
-//! let mut rebuilds = Rebuilds::new(alloc, source, 1)?;
-//! let coordinator = first_generation(rt, alloc, &mut committer, &mut rebuilds, editing)?;
+//! let mut rebuilds = Rebuilds::new(alloc, source, 1, Builds::InTurn)?;
+//! let coordinator = begun(rt, alloc, &mut committer, &mut rebuilds, editing)?;
 //! commit_all(rt, alloc, &coordinator, &mut committer, &mut rebuilds)?;
 //! ```
 #![tactic(auto)]
 
+mod beside;
 mod committer_stop;
 mod committing;
 mod config;
 mod fault;
 mod opening;
 
+pub use beside::{Site, commit_beside};
 pub use committer_stop::CommitterStop;
-pub use committing::{Rebuilds, commit_all, first_generation};
+pub use committing::{Rebuilds, begun, commit_all};
 pub use config::{STACK_LEN, ServiceConfig};
 pub use fault::Fault;
 pub use opening::open_device;

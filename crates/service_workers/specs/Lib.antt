@@ -4,3 +4,4 @@ pub mod EditedAsAsked
 pub mod AtRest
 pub mod Forwarded
 pub mod Source
+pub mod Stands

@@ -28,11 +28,8 @@ fn address_now<J: BoardName, R: Wait>(
     ensures answer { IfSome result (λ r. r.1 ≡ address_at r.0 node (board_after forwarder.new).shelf) }
 {
     for _ in rt.forever() {
-        let news = coordinator.news(rt);
-        if news.stopped {
-            return None;
-        }
-        forwarder.learn(news.stand.told.told());
+        let shown = coordinator.shown(rt)?;
+        forwarder.learn(shown.told.told());
         let Ok(Some(generation)) = forwarder.latest() else {
             thread::yield_now();
             continue;
@@ -60,11 +57,8 @@ fn launch_now<J: BoardName, R: Wait>(
     ensures some { IfSome result (λ _. IsSome (newest_in forwarder.new.log)) }
 {
     for _ in rt.forever() {
-        let news = coordinator.news(rt);
-        if news.stopped {
-            return None;
-        }
-        forwarder.learn(news.stand.told.told());
+        let shown = coordinator.shown(rt)?;
+        forwarder.learn(shown.told.told());
         match forwarder.launch(from, to) {
             Ok(packet) => return Some(Ok(packet)),
             Err(Refused::BoardShut) => thread::yield_now(),
@@ -89,11 +83,8 @@ fn hop_now<J: BoardName, R: Wait>(
 {
     let mut packet = packet;
     for _ in rt.forever() {
-        let news = coordinator.news(rt);
-        if news.stopped {
-            return None;
-        }
-        forwarder.learn(news.stand.told.told());
+        let shown = coordinator.shown(rt)?;
+        forwarder.learn(shown.told.told());
         match forwarder.hop(at, packet) {
             Ok(step) => return Some(Ok(step)),
             Err((Refused::BoardShut, back)) => {

@@ -1,6 +1,6 @@
 // Where the threads wait for one another.
 use crate::graphs::{GenerationGraph, Graphs};
-use crate::stand::Stand;
+use crate::stand::{Shown, Stand};
 use crate::stop_cause::StopCause;
 use packet_ways::BoardName;
 use std::alloc::Global;
@@ -15,10 +15,12 @@ struct SharedState<J: BoardName> {
     graphs: Graphs,
     // How often the committer told something.
     turn: u64,
-    // How often an editor submitted a change or left.
+    // How often an editor submitted a change or left, or a build ended.
     asked: u64,
     // How many editors are at work.
     editing: usize,
+    // Whether a build has ended that the committer hasn't heard of.
+    built: bool,
     // Why all stop: the first fault.
     cause: Option<StopCause>,
     // The greatest count and the newest generation that others saw on the board. The committer tells no less soon.
@@ -57,6 +59,8 @@ pub struct News<J: BoardName> {
 pub struct Work {
     pub asked: u64,
     pub editing: usize,
+    /// Whether a build has ended since the last look.
+    pub built: bool,
     pub stopped: bool,
 }
 
@@ -77,10 +81,26 @@ impl<J: BoardName> SharedState<J> {
         }
     }
 
-    fn work(&self) -> Work {
+    // What was told, where there is a generation. None where all stop.
+    fn shown(&self) -> Option<Shown<J>> {
+        if self.cause.is_some() {
+            return None;
+        }
+        self.stand.shown()
+    }
+
+    // Whether there is no generation, and not all stop.
+    fn is_bare(&self) -> bool {
+        self.stand.generation.is_none() && self.cause.is_none()
+    }
+
+    fn work(&mut self) -> Work {
+        let built = self.built;
+        self.built = false;
         Work {
             asked: self.asked,
             editing: self.editing,
+            built,
             stopped: self.cause.is_some(),
         }
     }
@@ -99,6 +119,11 @@ impl<J: BoardName> SharedState<J> {
 
     fn ask(&mut self) {
         self.asked = self.asked.wrapping_add(1);
+    }
+
+    fn end_build(&mut self) {
+        self.built = true;
+        self.ask();
     }
 
     fn submit(&mut self) {
@@ -141,6 +166,7 @@ impl<J: BoardName> Coordinator<J> {
                 turn: 0,
                 asked: 0,
                 editing,
+                built: false,
                 cause: None,
                 reached: 0,
                 seen: 0,
@@ -206,6 +232,12 @@ impl<J: BoardName> Coordinator<J> {
         self.work.notify_all();
     }
 
+    /// A build has ended.
+    pub fn end_build<R: Wait>(&self, rt: &R) {
+        self.shared.lock(rt).end_build();
+        self.work.notify_all();
+    }
+
     /// What was told last.
     pub fn news<R: Wait>(&self, rt: &R) -> News<J> {
         self.shared.lock(rt).news()
@@ -220,12 +252,20 @@ impl<J: BoardName> Coordinator<J> {
         );
     }
 
+    /// What was told last, once there is a generation. None where all stop.
+    pub fn shown<R: Wait>(&self, rt: &R) -> Option<Shown<J>> {
+        let shared = self
+            .news
+            .wait_while(rt, self.shared.lock(rt), |shared| shared.is_bare());
+        shared.shown()
+    }
+
     /// What there is to do.
     pub fn work<R: Wait>(&self, rt: &R) -> Work {
         self.shared.lock(rt).work()
     }
 
-    /// Sleeps until an editor submitted something or left since then, or all stop.
+    /// Sleeps until an editor submitted something or left since then, a build ended, or all stop.
     pub fn await_work<R: Wait>(&self, rt: &R, asked: u64) {
         let _shared = self.work.wait_while(
             rt,

@@ -164,11 +164,8 @@ pub(crate) fn forward<J: BoardName, G: Gate, R: Wait>(
 {
     for _ in rt.forever() {
         gate.before_launch();
-        let news = coordinator.news(rt);
-        if news.stopped {
-            return None;
-        }
-        forwarder.learn(news.stand.told.told());
+        let shown = coordinator.shown(rt)?;
+        forwarder.learn(shown.told.told());
         match launch(rt, alloc, coordinator, gate, forwarder, trip) {
             Launched::Answered(carried) => return Some(carried),
             Launched::Again => thread::yield_now(),

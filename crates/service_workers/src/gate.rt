@@ -1,12 +1,15 @@
-// What may hold up a launch.
+// What may hold up a launch, or a build.
 
-/// Is called ahead of a launch, and behind an answered hop.
+/// Is called ahead of a launch, behind an answered hop, and ahead of a build beside the rounds.
 pub trait Gate {
     /// A forwarder is about to look up the newest generation for a launch.
     fn before_launch(&self);
 
     /// A hop in this generation was answered.
     fn after_hop(&self, generation: u64);
+
+    /// A thread is about to build tables beside the rounds.
+    fn before_build(&self);
 }
 
 /// Nothing is held up.
@@ -17,4 +20,6 @@ impl Gate for OpenGate {
     fn before_launch(&self) {}
 
     fn after_hop(&self, _generation: u64) {}
+
+    fn before_build(&self) {}
 }

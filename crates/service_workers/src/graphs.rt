@@ -1,5 +1,6 @@
 // The graphs of the newest generations.
-ghost use Rattle.std.specs.Prelude.{◌<◌};
+ghost use Rattle.std.specs.Arc.{arc_value};
+ghost use Rattle.std.specs.Prelude.{◌≡◌, ◌<◌, IfOk};
 
 use graph_edits::Graph;
 use std::alloc::{AllocError, AllocFailed, Global};
@@ -59,7 +60,10 @@ pub fn shared_graph(
     alloc: Global,
     generation: u64,
     graph: &Graph,
-) -> Result<Arc<GenerationGraph, Global>, AllocError> {
+) -> Result<Arc<GenerationGraph, Global>, AllocError>
+    ensures number { IfOk result (λ shared. (arc_value shared).generation ≡ generation) }
+    ensures graph { IfOk result (λ shared. (arc_value shared).graph ≡ graph.now) }
+{
     let graph = graph.try_clone(alloc)?;
     match Arc::new(alloc, GenerationGraph { generation, graph }) {
         Ok(shared) => Ok(shared),

@@ -33,7 +33,7 @@ pub use forwarding::ForwarderOf;
 pub use gate::{Gate, OpenGate};
 pub use graphs::{GenerationGraph, Graphs, shared_graph};
 pub use session_editor::{EditEnd, SessionEditor};
-pub use stand::Stand;
+pub use stand::{Shown, Stand};
 pub use stop_cause::StopCause;
 pub use told::ToldOf;
 pub use word_source::WordSource;

@@ -1,5 +1,6 @@
 // How a board stood when it was told.
 ghost use Rattle.packet_ways.specs.Standing.{Counts, IsNewest};
+ghost use Rattle.service_workers.specs.Stands.{HasNewest};
 
 use crate::told::ToldOf;
 use packet_ways::BoardName;
@@ -10,9 +11,18 @@ pub struct Stand<J: BoardName> {
     pub told: ToldOf<J>,
     /// How many changes were accepted.
     pub count: u64,
+    /// The number of the newest generation, where there is one.
+    pub generation: Option<u64>,
+    ghost counted: { Counts told count },
+    ghost newest: { HasNewest told generation },
+}
+
+/// What was told of the board that `J` names, once it had a generation.
+#[derive(Drop)]
+pub struct Shown<J: BoardName> {
+    pub told: ToldOf<J>,
     /// The number of the newest generation.
     pub generation: u64,
-    ghost counted: { Counts told count },
     ghost newest: { IsNewest told generation },
 }
 
@@ -24,5 +34,14 @@ impl<J: BoardName> Stand<J> {
             count: self.count,
             generation: self.generation,
         }
+    }
+
+    /// What was told, where there is a generation.
+    pub fn shown(&self) -> Option<Shown<J>> {
+        let generation = self.generation?;
+        Some(Shown {
+            told: self.told.again(),
+            generation,
+        })
     }
 }

@@ -15,6 +15,7 @@ use Rattle.generations.specs.Notices.{told_to, marks_in}
 use Rattle.generations.proofs.Lawfulness.{lawful_first, marks_append}
 use Rattle.group_commit.specs.Settling.{settle, one_more}
 use Rattle.group_commit.proofs.SettlingLemmas.{settle_by, settle_step, one_mark_each}
+use Rattle.settled_lists.specs.declared.builds.Builds.{Builds}
 use Rattle.settled_lists.specs.Lists.{AreListed}
 use Rattle.settled_lists.specs.Posted.{ArePosted}
 
@@ -34,7 +35,7 @@ marks_many : (s : State) (rs : List Request) → length (settle s rs).marks ≡ 
 marks_many s rs = sym (length-map (settle s rs).marks told_to) ∙ (ap (λ (l : List (ℕ × ℕ)). length l) (one_mark_each s rs) ∙ length-map rs asked_by)
 
 -- what was posted, and not what is due, has the marks of the first requests
-pub posted_first : (first : State) (posted due : List Notice) (asked : List Request) (done taken : ℕ) (state : State) (down : Bool) → AreListed first (posted ++ due) asked done taken state down → ArePosted first asked posted
+pub posted_first : {builds : Builds} → (first : State) (posted due : List Notice) (asked : List Request) (done taken : ℕ) (state : State) (down : Bool) → AreListed builds first (posted ++ due) asked done taken state down → ArePosted builds first asked posted
 posted_first first posted due asked done taken state down is =
     let many : ℕ = length (marks_in posted) in
     let fits : done ≤ length asked = let a = is.started in let b = is.within in omega (arith, a, b) in

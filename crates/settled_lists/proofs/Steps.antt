@@ -1,6 +1,7 @@
 -- How the lists of a life go on.
-use Rattle.std.proofs.Common.{◌≡◌, ◌≢◌, ◌≤◌, ◌<◌, ◌+◌, ℕ, Bool, true, false, List, [], ◌∷◌, ◌++◌, length, take, drop, map, Some, refl, sym, ap, ◌∙◌, subst, append-nil, arith, length-append, le_refl}
+use Rattle.std.proofs.Common.{◌≡◌, ◌≢◌, ◌≤◌, ◌<◌, ◌+◌, ℕ, Bool, true, false, List, [], ◌∷◌, ◌++◌, length, take, drop, map, Option, Some, None, refl, sym, ap, ◌∙◌, subst, append-nil, arith, length-append, le_refl}
 use Rattle.std.specs.Option.{option_map}
+use mathlib.Core.List.{IsPrefix}
 use Rattle.std.specs.List.{range_with_len}
 use Rattle.std.proofs.lemmas.Bool.{false_from_ne_true}
 use Rattle.std.proofs.lemmas.List.{take-append-le, take-append-drop, take-take, take-map}
@@ -22,8 +23,10 @@ use Rattle.generations.proofs.Lawfulness.{lawful_none, lawful_marks, lawful_down
 use Rattle.group_commit.specs.Settling.{Settled, settle}
 use Rattle.group_commit.specs.Laws.{both}
 use Rattle.group_commit.proofs.SettlingLemmas.{settle-append, settled_count, one_mark_each, counts_go_on}
-use Rattle.settled_lists.specs.Lists.{AreListed}
-use Rattle.settled_lists.proofs.Cuts.{durable_none, durable_push, durable_same, durable_more}
+use Rattle.settled_lists.specs.declared.builds.Builds.{Builds}
+use Rattle.settled_lists.specs.declared.builds.Builds.TheVariants.{Beside}
+use Rattle.settled_lists.specs.Lists.{AreListed, IsAhead}
+use Rattle.settled_lists.proofs.Cuts.{just_marks, durable_beside, durable_none, durable_push, durable_same, durable_more}
 use Rattle.generations.proofs.Numbers.{same_newest, now_newest, all_below}
 
 -- ---- what is settled
@@ -53,7 +56,7 @@ marks_counted first requests =
     is ∙ ap (range_with_len (first.count + 1)) (sym many)
 
 -- while the store is up no failure was told
-none_failed : (first : State) (told : List Notice) (requests : List Request) (done taken : ℕ) (state : State) (down : Bool) → AreListed first told requests done taken state down → down ≡ false → says_down told ≡ false
+none_failed : {builds : Builds} → (first : State) (told : List Notice) (requests : List Request) (done taken : ℕ) (state : State) (down : Bool) → AreListed builds first told requests done taken state down → down ≡ false → says_down told ≡ false
 none_failed first told requests done taken state down is up = false_from_ne_true (says_down told) (λ e. (let d = is.ended e in cc))
 
 no_marks : (told : List Notice) (p : Notice) (ms : List Mark) → marks_in (told ++ p ∷ []) ≡ marks_in told ++ [] → marks_in told ≡ ms → marks_in (told ++ p ∷ []) ≡ ms
@@ -62,7 +65,7 @@ no_marks told p ms e is = e ∙ (append-nil (marks_in told) ∙ is)
 -- ---- the steps
 
 -- at the beginning
-pub listed_first : (first : State) (down : Bool) → AreListed first [] [] 0 0 first down
+pub listed_first : {builds : Builds} → (first : State) (down : Bool) → AreListed builds first [] [] 0 0 first down
 listed_first first down = record {
   started = le_refl 0;
   within = le_refl 0;
@@ -76,8 +79,8 @@ listed_first first down = record {
 }
 
 -- one request more left the queue
-pub listed_taken : (first : State) (told : List Notice) (requests : List Request) (done taken : ℕ) (state : State) (down : Bool) → AreListed first told requests done taken state down → taken < length requests
-    → AreListed first told requests done (taken + 1) state down
+pub listed_taken : {builds : Builds} → (first : State) (told : List Notice) (requests : List Request) (done taken : ℕ) (state : State) (down : Bool) → AreListed builds first told requests done taken state down → taken < length requests
+    → AreListed builds first told requests done (taken + 1) state down
 listed_taken first told requests done taken state down is more = record {
   started = let a = is.started in omega (arith, a);
   within = omega (arith, more);
@@ -91,8 +94,8 @@ listed_taken first told requests done taken state down is more = record {
 }
 
 -- one request more was let in
-pub listed_asked : (first : State) (told : List Notice) (requests : List Request) (done taken : ℕ) (state : State) (down : Bool) (r : Request) → AreListed first told requests done taken state down
-    → AreInTurn first.tickets (requests ++ r ∷ []) → AreListed first told (requests ++ r ∷ []) done taken state down
+pub listed_asked : {builds : Builds} → (first : State) (told : List Notice) (requests : List Request) (done taken : ℕ) (state : State) (down : Bool) (r : Request) → AreListed builds first told requests done taken state down
+    → AreInTurn first.tickets (requests ++ r ∷ []) → AreListed builds first told (requests ++ r ∷ []) done taken state down
 listed_asked first told requests done taken state down r is turn =
     let fits : done ≤ length requests = let a = is.started in let b = is.within in omega (arith, a, b) in
     let same : take done (requests ++ r ∷ []) ≡ take done requests = take-append-le done requests (r ∷ []) fits in
@@ -109,8 +112,8 @@ listed_asked first told requests done taken state down r is turn =
     }
 
 -- requests more were let in and left the queue, where all had left it
-pub listed_filled : (first : State) (told : List Notice) (requests more : List Request) (done : ℕ) (state : State) (down : Bool) → AreListed first told requests done (length requests) state down → AreInTurn first.tickets (requests ++ more)
-    → AreListed first told (requests ++ more) done (length (requests ++ more)) state down
+pub listed_filled : {builds : Builds} → (first : State) (told : List Notice) (requests more : List Request) (done : ℕ) (state : State) (down : Bool) → AreListed builds first told requests done (length requests) state down → AreInTurn first.tickets (requests ++ more)
+    → AreListed builds first told (requests ++ more) done (length (requests ++ more)) state down
 listed_filled first told requests more done state down is turn =
     let fits : done ≤ length requests = is.started in
     let same : take done (requests ++ more) ≡ take done requests = take-append-le done requests more fits in
@@ -127,8 +130,8 @@ listed_filled first told requests more done state down is turn =
     }
 
 -- what is held was settled, and its marks are told
-pub listed_marks : (first : State) (told : List Notice) (requests : List Request) (done taken : ℕ) (state : State) (down : Bool) → AreListed first told requests done taken state down → down ≡ false
-    → AreListed first (told ++ Marked (settle state (drop done (take taken requests))).marks ∷ []) requests taken taken (settle state (drop done (take taken requests))).state down
+pub listed_marks : {builds : Builds} → (first : State) (told : List Notice) (requests : List Request) (done taken : ℕ) (state : State) (down : Bool) → AreListed builds first told requests done taken state down → down ≡ false
+    → AreListed builds first (told ++ Marked (settle state (drop done (take taken requests))).marks ∷ []) requests taken taken (settle state (drop done (take taken requests))).state down
 listed_marks first told requests done taken state down is up =
     let held : List Request = drop done (take taken requests) in
     let t : Settled = settle state held in
@@ -150,8 +153,8 @@ listed_marks first told requests done taken state down is up =
     }
 
 -- that the device failed is told
-pub listed_down : (first : State) (told : List Notice) (requests : List Request) (done taken : ℕ) (state : State) (down : Bool) → AreListed first told requests done taken state down → down ≡ false
-    → AreListed first (told ++ Failed ∷ []) requests done taken state true
+pub listed_down : {builds : Builds} → (first : State) (told : List Notice) (requests : List Request) (done taken : ℕ) (state : State) (down : Bool) → AreListed builds first told requests done taken state down → down ≡ false
+    → AreListed builds first (told ++ Failed ∷ []) requests done taken state true
 listed_down first told requests done taken state down is up = record {
   started = is.started;
   within = is.within;
@@ -165,10 +168,10 @@ listed_down first told requests done taken state down is up = record {
 }
 
 -- a generation of the store's state is told, where the newest is another
-pub listed_built : (first : State) (told : List Notice) (requests : List Request) (done taken : ℕ) (state : State) (down : Bool) (scheme : Parts) → AreListed first told requests done taken state down → down ≡ false
+pub listed_built : {builds : Builds} → (first : State) (told : List Notice) (requests : List Request) (done taken : ℕ) (state : State) (down : Bool) (scheme : Parts) → AreListed builds first told requests done taken state down → down ≡ false
     → option_map (λ g. g.0) (newest_in told) ≢ Some state.count → scheme.generation ≡ state.count → Serves state.graph (tables scheme)
-    → AreListed first (told ++ Built state.count scheme ∷ []) requests done taken state down
-listed_built first told requests done taken state down scheme is up other named serves =
+    → AreListed builds first (told ++ Built state.count scheme ∷ []) requests done taken state down
+listed_built {builds} first told requests done taken state down scheme is up other named serves =
     let p : Notice = Built state.count scheme in
     let alive = none_failed first told requests done taken state down is up in
     record {
@@ -186,9 +189,75 @@ listed_built first told requests done taken state down scheme is up other named 
           record {
             at = done;
             within = let a = is.started in let b = is.within in omega (arith, a, b);
-            marks = is.marks;
+            marks = just_marks builds (settle first (take done requests)).marks (marks_in told) is.marks;
             number_is = sym n ∙ ap (λ (x : State). x.count) is.state_is;
             named = ap (λ (x : Parts). x.generation) (sym q) ∙ (named ∙ n);
             serves = subst (λ (x : State × Parts). Serves x.0.graph (tables x.1)) (λ i. (is.state_is i, q i)) serves;
           });
     }
+
+-- the marks of the first of the settled requests come first
+first_marks : (first : State) (requests : List Request) (at done : ℕ) → at ≤ done → IsPrefix (settle first (take at requests)).marks (settle first (take done requests)).marks
+first_marks first requests at done le = ((settle (settle first (take at requests)).state (drop at (take done requests))).marks, sym (ap (λ (s : Settled). s.marks) (settled_on first requests at done le)))
+
+-- and they lead to no higher count
+pub first_count : (first : State) (requests : List Request) (at done : ℕ) → at ≤ done → (settle first (take at requests)).state.count ≤ (settle first (take done requests)).state.count
+first_count first requests at done le =
+    let on : (settle first (take done requests)).state ≡ (settle (settle first (take at requests)).state (drop at (take done requests))).state = ap (λ (s : Settled). s.state) (settled_on first requests at done le) in
+    let more = settled_count (settle first (take at requests)).state (drop at (take done requests)) in
+    let same : (settle first (take done requests)).state.count ≡ (settle (settle first (take at requests)).state (drop at (take done requests))).state.count = ap (λ (s : State). s.count) on in
+    omega (arith, more, same)
+
+-- the newest has another number than one above it
+pub not_newest : (told : List Notice) (number : ℕ) → IsAhead number told → option_map (λ g. g.0) (newest_in told) ≢ Some number
+not_newest told number ahead same = by (newest_in told) refl
+  where
+    by : (o : Option (ℕ × Parts)) → newest_in told ≡ o → ⊥
+    by None e = absurd (let none : option_map (λ g. g.0) (newest_in told) ≡ None = ap (option_map (λ g. g.0)) e in let both = sym none ∙ same in cc)
+    by (Some g) e = absurd (let a = ahead g e in let some : option_map (λ g. g.0) (newest_in told) ≡ Some g.0 = ap (option_map (λ g. g.0)) e in let both : Some g.0 ≡ Some number = sym some ∙ same in let n : g.0 ≡ number = cc in omega (arith, a, n))
+
+-- a generation of an earlier state is told, whose number is above that of the newest
+pub listed_earlier : (first : State) (told : List Notice) (requests : List Request) (done taken : ℕ) (state : State) (down : Bool) (at number : ℕ) (scheme : Parts) → AreListed Beside first told requests done taken state down → down ≡ false
+    → at ≤ done → number ≡ (settle first (take at requests)).state.count → IsAhead number told → scheme.generation ≡ number → Serves (settle first (take at requests)).state.graph (tables scheme)
+    → AreListed Beside first (told ++ Built number scheme ∷ []) requests done taken state down
+listed_earlier first told requests done taken state down at number scheme is up le counts ahead named serves =
+    let p : Notice = Built number scheme in
+    let alive = none_failed first told requests done taken state down is up in
+    let few : number ≤ state.count = (let c = first_count first requests at done le in let s : state.count ≡ (settle first (take done requests)).state.count = ap (λ (x : State). x.count) is.state_is in omega (arith, c, s, counts)) in
+    record {
+      started = is.started;
+      within = is.within;
+      in_turn = is.in_turn;
+      state_is = is.state_is;
+      marks = no_marks told p (settle first (take done requests)).marks (marks_push told p) is.marks;
+      lawful = lawful_generation first.tickets first.count told number scheme is.lawful alive
+          (all_below told number is.lawful.numbers (λ g e. let a = ahead g e in omega (arith, a)) (not_newest told number ahead));
+      ended = λ e. absurd (let f = still_up told p alive refl in cc);
+      behind = λ g e. let same : (number, scheme) ≡ g = (let h = sym (now_newest told number scheme) ∙ e in cc) in let n : number ≡ g.0 = ap (λ (x : ℕ × Parts). x.0) same in omega (arith, n, few);
+      durable = durable_push first requests told p is.durable (λ n s e.
+          let same : number ≡ n = cc in
+          let q : scheme ≡ s = cc in
+          record {
+            at = at;
+            within = let a = is.started in let b = is.within in omega (arith, a, b, le);
+            marks = subst (λ (ms : List Mark). IsPrefix (settle first (take at requests)).marks ms) (sym is.marks) (first_marks first requests at done le);
+            number_is = sym same ∙ counts;
+            named = ap (λ (x : Parts). x.generation) (sym q) ∙ (named ∙ same);
+            serves = subst (λ (x : Parts). Serves (settle first (take at requests)).state.graph (tables x)) q serves;
+          });
+    }
+
+-- a list whose generations were built in turn
+pub listed_beside : (builds : Builds) (first : State) (told : List Notice) (requests : List Request) (done taken : ℕ) (state : State) (down : Bool) → AreListed builds first told requests done taken state down
+    → AreListed Beside first told requests done taken state down
+listed_beside builds first told requests done taken state down is = record {
+  started = is.started;
+  within = is.within;
+  in_turn = is.in_turn;
+  state_is = is.state_is;
+  marks = is.marks;
+  lawful = is.lawful;
+  ended = is.ended;
+  behind = is.behind;
+  durable = durable_beside builds first requests told is.durable;
+}

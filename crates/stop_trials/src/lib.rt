@@ -4,7 +4,8 @@
 //!
 //! The last life that a rehearsal's text asks for is run again and again, each time on a new device that stops at another of the calls
 //! which that life makes of it, and behind another number of bytes of a write. Behind it comes the life that only opens. [`try_stop`] is
-//! one such trial, [`try_every_stop`] all of them, and what it answers is a table of what they came to.
+//! one such trial, [`try_every_stop`] all of them, and what it answers is a table of what they came to. `docs/FORMATS.md`, "Every stop of its device",
+//! has its lines.
 //!
 //! # The contract
 //!
@@ -20,11 +21,6 @@
 //! calls, and none needs it: each trial is judged by what it left.
 //!
 //! A run in which memory ran out, in an opening or for a reply, is no trial and lists no calls: it is refused.
-//!
-//! | Line | Is |
-//! |---|---|
-//! | `stops=N of=M` | N stops were tried, of M that there are |
-//! | `found=F acknowledged=A opened=O stops=N` | after N of these stops the next opening found O changes, where the stopped life had found F when it opened, and its commits had answered Ok for A |
 #![tactic(auto)]
 
 mod arming;

@@ -12,8 +12,6 @@ mod helpers;
 #[cfg(test)]
 mod printed;
 #[cfg(test)]
-mod read_scripts;
-#[cfg(test)]
 mod read_words;
 #[cfg(test)]
 mod requested;

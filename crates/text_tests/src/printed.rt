@@ -1,10 +1,7 @@
-// Lines and faults as texts. Expected texts are those of docs/FORMATS.md.
+// Lines and faults as texts that no command of conformance/ prints. Expected texts are those of docs/FORMATS.md.
 use command_output::{
-    AbsentLine, AcceptedLine, BrokenLine, CheckedLine, Ended, Fault, FaultWriter, Formatted,
-    MigratedLine, RefusedLine, RouteLine, TablesLine, TicketLine, UnreachableLine, WatchedWriter,
-    print_line, tell,
+    BrokenLine, Ended, Fault, FaultWriter, TablesLine, WatchedWriter, print_line, tell,
 };
-use graph_edits::{Code, Op};
 use std::alloc::AllocError;
 use std::fmt::Display;
 use std::io;
@@ -18,38 +15,6 @@ fn expect_line<R: AllocGlobal + Abort, L: Display + Drop>(rt: &R, line: L, text:
 
 #[test]
 fn texts_of_lines(rt: HostRuntime) {
-    expect_line(&rt, Formatted { nodes: 5 }, "formatted nodes=5\n");
-    expect_line(&rt, AcceptedLine { count: 2 }, "accepted count=2\n");
-    let refused = RefusedLine {
-        op: 1,
-        code: Code::NoEdge,
-    };
-    expect_line(&rt, refused, "refused op=1 code=5\n");
-    let ticket = TicketLine {
-        session: 63,
-        ticket: 9,
-    };
-    expect_line(&rt, ticket, "session=63 ticket=9\n");
-    let (count, edges) = (7, 16_384);
-    expect_line(
-        &rt,
-        MigratedLine { count, edges },
-        "migrated count=7 edges=16384\n",
-    );
-    let route = RouteLine {
-        generation: 1,
-        nodes: &[0, 1, 2],
-        length: 2,
-    };
-    expect_line(&rt, route, "generation=1 route 0 1 2 length 2\n");
-    let unreachable = UnreachableLine { generation: 1 };
-    expect_line(&rt, unreachable, "generation=1 unreachable\n");
-    expect_line(&rt, AbsentLine, "no node\n");
-    let checked = CheckedLine {
-        generation: 1,
-        landmarks: 0,
-    };
-    expect_line(&rt, checked, "ok generation=1 landmarks=0\n");
     let tables = TablesLine {
         generation: 1,
         tables: 2,
@@ -66,29 +31,15 @@ fn texts_of_lines(rt: HostRuntime) {
     assert_eq!(&rt; Ended::Refused.status(), 1);
 }
 
-// Each fault, its text and its status.
-const FAULTS: [(Fault, &str, u8); 21] = [
-    (Fault::Usage, "usage", 2),
-    (Fault::Op, "op not understood", 2),
-    (Fault::Words, "words not understood", 2),
-    (Fault::Script, "script not understood", 2),
-    (Fault::ChangeTooLong, "change too long", 1),
-    (Fault::NodeCount, "node count out of range", 1),
+// Each fault that no step of conformance/ has, its text and its status.
+const FAULTS: [(Fault, &str, u8); 7] = [
     (Fault::DeviceLength, "device length is wrong", 1),
-    (Fault::DeviceFile, "device file cannot be used", 1),
     (Fault::DeviceInUse, "device in use", 1),
-    (Fault::NotFormatted, "not formatted", 1),
-    (Fault::LayoutNotKnown, "layout not known", 1),
-    (Fault::Damaged, "damaged", 1),
     (Fault::Device, "device failed", 1),
     (Fault::Memory, "out of memory", 1),
     (Fault::NoThread, "out of memory", 1),
     (Fault::Internal, "input or output failed", 1),
-    (Fault::Worn, "worn out", 1),
-    (Fault::AlreadyIn, "already in", 1),
-    (Fault::NoNode, "no node", 1),
     (Fault::Output, "input or output failed", 1),
-    (Fault::TableFile, "table file cannot be written", 1),
 ];
 
 #[test]

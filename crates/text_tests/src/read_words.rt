@@ -3,7 +3,7 @@ use crate::helpers::{got, same};
 use graph_edits::Op;
 use std::alloc::Global;
 use std::process::Abort;
-use written_values::{LandmarkWords, landmark_words, node, number, op};
+use written_values::{LandmarkWords, landmark_words, node, number, op, script};
 
 // Ops as far as their numbers go, and past that.
 const OPS: [(&str, Option<Op>); 5] = [
@@ -134,5 +134,16 @@ fn nodes_that_are_named(rt: HostRuntime) {
             (*nodes, *within),
             text,
         );
+    }
+}
+
+// The change of a script and how many editors there are, more than a command takes; and whether it is a script for them.
+const EDITORS: [(&str, u8, bool); 2] = [("255 cut:0:1", 255, false), ("256 cut:0:1", 255, false)];
+
+#[test]
+fn sessions_that_have_editors(rt: HostRuntime) {
+    for (text, editors, found) in &EDITORS {
+        let read = got(&rt, script(rt.alloc(), text, *editors));
+        same(&rt, read.is_some(), *found, text);
     }
 }

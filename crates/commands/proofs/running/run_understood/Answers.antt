@@ -41,7 +41,7 @@ returns-in-None-clause-runs g c =
     let ends = c.run_serve-ended.ensures in
     record {
       outcome = subst (λ (t : Task). IsOutcomeOf g.F.Device.Disk done put t given old new told_old told_new c.told.result) (sym whole)
-          (told_so (λ ended. PrintsServed g.F.Device.Disk done w.device.now given w.editors ended old new) (λ fault. EndsServe g.F.Device.Disk done w.device.now given w.editors w.words fault) told_old told_new
+          (told_so (λ ended. PrintsServed g.F.Device.Disk done w.device.now given w.editors ended old new) (λ fault. EndsServe g.F.Device.Disk done w.device.now given w.editors w.words old new fault) told_old told_new
           c.run_serve-ended.result c.told.result c.told.ensures.told ends.printed ends.fault);
       untouched = λ other. told_behind (c.run_serve-ended.new.out ≡ c.args.out.now) told_old told_new c.run_serve-ended.result c.told.result c.told.ensures.told ends.untouched;
       unread = λ other. absurd (other (subst IsService (sym whole) tt));

@@ -12,7 +12,7 @@ returns-clause-runs g c =
     let service = c.args.live.service in
     let by = c.serve_live-served.ensures in
     live_so g.F.Device.Disk (HasDone g.F.Devices.opened g.F.Devices.events c.args.devices.now c.close_back.new.devices) service.device.now (g.S.Read.remaining c.args.script.now) _ service.config.editors service.words
-    (g.O.Write.contents c.args.out.now) (g.O.Write.contents c.serve_live-served.new.out) (g.E.FaultWriter.contents c.args.err.now) (g.E.FaultWriter.contents c.serve_live-served.new.err)
+    _ c.args.out.now c.serve_live-served.new.out (g.E.FaultWriter.contents c.args.err.now) (g.E.FaultWriter.contents c.serve_live-served.new.err)
     c.in-Ok-open.disk c.serve_live-served.result.1 c.serve_live-served.result.0 c.outcome_of.result read c.outcome_of.ensures
     (served g.F.Devices.opened g.F.Devices.events c.args.devices.now _ c.close_back.new.devices service.device.now c.in-Ok-open.disk c.serve_live-served.result.1 c.in-Ok-open.ensures.opened c.in-Ok-open.ensures.listed c.close_back.ensures)
     by.printed by.told by.ended by.left by.one_list

@@ -1,4 +1,5 @@
 use Rattle.std.proofs.Common.{◌≡◌, ◌≢◌, inl, inr, refl}
+use Rattle.std.specs.Io.KnownBytes.{Appends}
 use Rattle.std.proofs.lemmas.Result.{IfErr-at_err, IfOk-at_ok}
 use Rattle.line_exchange.specs.Gathers.{IsServed}
 use Rattle.live_service.specs.ServeEnds.{IsServeEnd}
@@ -29,14 +30,19 @@ returns-in_err-answer g c =
     let by = c.serve_lines-answer.ensures in
     let disk = c.in_ok-disk.disk in
     let back = c.serve_lines-answer.result.1 in
+    let lines = c.in_ok-lines.lines.items in
+    let broken = IfErr-at_err _ c.in_err-answer.was by.broken in
     script_ends g.F.Device.Disk (HasDone g.F.Devices.opened g.F.Devices.events c.args.devices.now c.close_back.new.devices) service.device.now (g.S.Read.remaining c.args.script.now) service.config.editors service.words g.O.Write.contents c.args.out.now c.serve_lines-answer.new.out
     c.from_residual-in_err-answer.result c.in_err-answer.field-0.0 c.from_residual-in_err-answer.ensures.1
-    (inr (inr (record {
-      disk = disk;
-      back = back;
-      did = served g.F.Devices.opened g.F.Devices.events c.args.devices.now _ c.close_back.new.devices service.device.now disk back c.in_ok-disk.ensures.opened c.in_ok-disk.ensures.listed c.close_back.ensures;
-      holds = (IfErr-at_err (λ fault. IsServeEnd g.F.Device.Disk disk service.words back fault) c.in_err-answer.was by.ended, by.left);
-    })))
+    (inr (inr (
+      λ same. (lines, c.in_ok-lines.ensures.found, (broken same).1),
+      record {
+        disk = disk;
+        back = back;
+        did = served g.F.Devices.opened g.F.Devices.events c.args.devices.now _ c.close_back.new.devices service.device.now disk back c.in_ok-disk.ensures.opened c.in_ok-disk.ensures.listed c.close_back.ensures;
+        holds = (IfErr-at_err (λ fault. IsServeEnd g.F.Device.Disk disk service.words back fault) c.in_err-answer.was by.ended, by.left);
+      },
+    )))
     (IfErr-at_err (λ fault. fault ≢ Output → c.serve_lines-answer.new.out ≡ c.args.out.now) c.in_err-answer.was by.untouched)
 
 pub returns : goal.returns
@@ -56,7 +62,7 @@ returns g c =
           back = back;
           did = served g.F.Devices.opened g.F.Devices.events c.args.devices.now _ c.close_back.new.devices service.device.now disk back c.in_ok-disk.ensures.opened c.in_ok-disk.ensures.listed c.close_back.ensures;
           holds = (
-            IfOk-at_ok (λ _. IsServed lines (g.O.Write.contents c.args.out.now) (g.O.Write.contents c.serve_lines-answer.new.out)) c.in_ok-answer.was by.printed,
+            IfOk-at_ok (λ _. IsServed lines (Appends (g.O.Write.contents c.args.out.now) (g.O.Write.contents c.serve_lines-answer.new.out))) c.in_ok-answer.was by.printed,
             IfOk-at_ok (λ _. AnswersScript g.F.Device.Disk disk back lines service.config.editors g.O.Write.contents c.args.out.now c.serve_lines-answer.new.out) c.in_ok-answer.was by.one_list,
             by.left,
           );

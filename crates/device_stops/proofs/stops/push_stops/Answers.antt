@@ -1,24 +1,21 @@
-use Rattle.std.proofs.Common.{◌≡◌, ◌++◌, ◌∷◌, [], ◌∙◌, ap, sym, subst, ℕ, List, length, map, take, arith}
+use Rattle.std.proofs.Common.{rules, arith, ◌≡◌, ◌+◌, ◌++◌, ◌∷◌, [], ◌∙◌, ap, sym, ℕ, List, append_assoc, map, take}
 use Rattle.std.specs.List.{range_with_len}
+use Rattle.std.proofs.lemmas.Iterator.{YieldsList-from_map, YieldsList-from_range}
+use Rattle.std.proofs.lemmas.Iterator.Adapters.{items_from_extend}
+use Rattle.std.proofs.lemmas.List.FromFn.{map-range_with_len_more}
 use Rattle.device_stops.specs.declared.stops.Stop.{Stop}
-use Rattle.device_stops.specs.Stops.{stop, bytes_of, stops_at}
-use Rattle.device_stops.proofs.StopLemmas.{one_put_more}
+use Rattle.device_stops.specs.Stops.{stop, bytes_of}
 use Rattle.device_stops.proofs.stops.push_stops.Goals as goal
 
-pub loop-put-preserved : goal.loop-put-preserved
-loop-put-preserved c = record {
-  few = c.push_stop.ensures.few;
-  so_far = one_put_more c.args.most c.args.number c.loop-put.put c.args.stops.now.items c.loop-put.stops.items c.push_stop.new.stops.items c.loop-put.invariant.so_far c.in_ok-push_stop.ensures.more;
-}
-
-pub returns-clause-more : goal.returns-clause-more
-returns-clause-more c =
+pub returns : goal.returns
+returns c =
     let old : List Stop = c.args.stops.now.items in
-    let so_far : List Stop = c.loop-put.stops.items in
-    let new : List Stop = c.push_stop-2.new.stops.items in
-    let bytes : ℕ = bytes_of c.args.call in
-    let is : c.bytes-bytes.result ≡ bytes = c.bytes-bytes.ensures in
-    let here : c.loop-put.put ≡ bytes = omega arith in
-    let was : so_far ≡ take c.args.most (old ++ map (stop c.args.number) (range_with_len 0 bytes)) = subst (λ (n : ℕ). so_far ≡ take c.args.most (old ++ map (stop c.args.number) (range_with_len 0 n))) here c.loop-put.invariant.so_far in
-    let put : new ≡ take c.args.most (so_far ++ stop c.args.number bytes ∷ []) = subst (λ (n : ℕ). new ≡ take c.args.most (so_far ++ stop c.args.number n ∷ [])) is c.in_ok-push_stop-2.ensures.more in
-    one_put_more c.args.most c.args.number bytes old so_far new was put
+    let number : ℕ = c.args.number in
+    let bytes : ℕ = c.bytes-bytes.result in
+    let is : bytes ≡ bytes_of c.args.call = c.bytes-bytes.ensures in
+    let put : c.extend.new.self.items ≡ old ++ map (stop number) (range_with_len 0 bytes) =
+    (rw c.in_ok-extend.was at (items_from_extend c.extend.result c.extend.ensures.ran (YieldsList-from_map _ (stop number) (YieldsList-from_range 0 bytes bytes (cc) (omega arith)) c.map.ensures.closure (λ x r q k. search rules)))).0 in
+    c.truncate.ensures.items
+    ∙ ap (λ (l : List Stop). take c.args.most l)
+    (c.in_ok-push.ensures.items ∙ ap (λ (l : List Stop). l ++ stop number bytes ∷ []) put ∙ append_assoc old (map (stop number) (range_with_len 0 bytes)) (stop number bytes ∷ []) ∙ ap (λ (l : List Stop). old ++ l) (sym (map-range_with_len_more (stop number) 0 bytes bytes (omega arith))))
+    ∙ ap (λ (k : ℕ). take c.args.most (old ++ map (stop number) (range_with_len 0 (k + 1)))) is

@@ -16,12 +16,12 @@ invariant_of-result g c =
           (asks_at g.J.Stream.input c.args.editors c.args.place old c.in-Ok.next c.deref.result.now c.in-Ok-Some.asked c.requires.read is asks);
     }
 
-pub returns-in-Ok-Some : goal.returns-in-Ok-Some
-returns-in-Ok-Some g c =
+pub returns-in-Ok-Some-clause-read : goal.returns-in-Ok-Some-clause-read
+returns-in-Ok-Some-clause-read g c =
     let some : c.in-Ok.next ≢ End = subst (λ o. IfSome o (λ asked. c.in-Ok.next ≢ End)) c.in-Ok-Some.field-0-is c.in-Ok-Some.ensures.some in
     read_on g.J.Stream.input c.args.place (g.S.Read.remaining c.args.input.now) (g.S.Read.remaining c.next_line.new.reader) c.in-Ok.next c.next_line.new.line.items c.requires.read c.in-Ok.ensures.next
     c.in-Ok.ensures.rest some
 
-pub returns-in-Ok-None : goal.returns-in-Ok-None
-returns-in-Ok-None g c =
+pub returns-in-Ok-None-clause-read : goal.returns-in-Ok-None-clause-read
+returns-in-Ok-None-clause-read g c =
     read_whole g.J.Stream.input c.args.place (g.S.Read.remaining c.args.input.now) c.in-Ok.next c.next_line.new.line.items c.requires.read c.in-Ok.ensures.next (search rules)

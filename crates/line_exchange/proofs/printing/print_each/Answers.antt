@@ -1,14 +1,18 @@
-use Rattle.std.proofs.Common.{rules, ◌≡◌, ℕ, subst, ◌∙◌}
+use Rattle.std.proofs.Common.{rules, ◌≡◌, ℕ, sym, subst, ◌∙◌}
+use Rattle.std.specs.Io.KnownBytes.{Keeps}
+use Rattle.command_output.specs.Lines.{line}
+use Rattle.line_exchange.specs.Begun.{Begins}
+use Rattle.line_exchange.specs.declared.printed.PrintEnd.TheVariants.{Whole, Output, Memory, Internal}
 use Rattle.live_lines.specs.Answers.{answer_text}
 use Rattle.line_exchange.specs.OneList.{IsOffAt, IsSaidAt}
-use Rattle.line_exchange.proofs.SaidLines.{one_printed_by, still_printed_by}
+use Rattle.line_exchange.proofs.SaidLines.{ends_broken, ends_whole, one_printed_by, still_printed_by}
 use Rattle.line_exchange.proofs.printing.print_each.Goals as goal
 
 pub loop-preserved : goal.loop-preserved
 loop-preserved g c =
     let input = g.J.Stream.input in
     let editors = g.J.Stream.editors in
-    let text = g.O.Write.contents in
+    let text = g.O.AnswerWriter.contents in
     let old = text c.args.out.now in
     let mid = text c.next-in-loop.new.out in
     let tally = c.loop.tally in
@@ -20,10 +24,80 @@ loop-preserved g c =
         tt,
         (
           adds.on.0 ∙ c.loop.invariant.1.1.0,
-          one_printed_by answer_text tally c.in-Some-with.more answered.known input editors old mid (text c.print_one.new.out) answered.answer
-              (still_printed_by answer_text tally input editors old (text c.loop.out) mid c.loop.invariant.1.1.1 c.in-Ok-Some.ensures.keeps) adds
-              (subst (λ (n : ℕ). ∥ IsSaidAt answered.known input editors n answered.answer ∥₁) place answered.is_answer)
-              (λ gone. subst (λ (n : ℕ). ∥ IsOffAt answered.known input editors n ∥₁) place (answered.is_off gone)) c.in-Ok.ensures.ok,
+          (
+            adds.noted.book ∙ c.loop.invariant.1.1.1.0,
+            one_printed_by answer_text tally c.in-Some-with.more answered.known input editors old mid (text c.print_one.new.out) answered.answer
+                (still_printed_by answer_text tally input editors old (text c.loop.out) mid c.loop.invariant.1.1.1.1 c.in-Ok-Some.ensures.keeps) adds
+                (subst (λ (n : ℕ). ∥ IsSaidAt answered.known input editors n answered.answer ∥₁) place answered.is_answer)
+                (λ gone. subst (λ (n : ℕ). ∥ IsOffAt answered.known input editors n ∥₁) place (answered.is_off gone)) c.in-Ok.ensures.ok,
+          ),
         ),
       ),
     )
+
+pub loop-preserved-in-Ok : goal.loop-preserved-in-Ok
+loop-preserved-in-Ok g c =
+    let input = g.J.Stream.input in
+    let editors = g.J.Stream.editors in
+    let text = g.O.AnswerWriter.contents in
+    let old = text c.args.out.now in
+    let mid = text c.next-in-loop.new.out in
+    let tally = c.loop.tally in
+    let answered = c.in-Ok-Some.answered in
+    let adds = c.in-Some-with.ensures in
+    let place : answered.place ≡ tally.count = search rules in (
+      tt,
+      (
+        tt,
+        (
+          adds.on.0 ∙ c.loop.invariant.1.1.0,
+          (
+            adds.noted.book ∙ c.loop.invariant.1.1.1.0,
+            one_printed_by answer_text tally c.in-Some-with.more answered.known input editors old mid (text c.print_one.new.out) answered.answer
+                (still_printed_by answer_text tally input editors old (text c.loop.out) mid c.loop.invariant.1.1.1.1 c.in-Ok-Some.ensures.keeps) adds
+                (subst (λ (n : ℕ). ∥ IsSaidAt answered.known input editors n answered.answer ∥₁) place answered.is_answer)
+                (λ gone. subst (λ (n : ℕ). ∥ IsOffAt answered.known input editors n ∥₁) place (answered.is_off gone)) c.in-Ok.ensures.ok,
+          ),
+        ),
+      ),
+    )
+
+whole_unbroken : Whole ≡ Output → ⊥
+whole_unbroken is = cc
+
+internal_unbroken : Internal ≡ Output → ⊥
+internal_unbroken is = cc
+
+memory_unbroken : Memory ≡ Output → ⊥
+memory_unbroken is = cc
+
+pub returns-in-Ok-None-clause-printed : goal.returns-in-Ok-None-clause-printed
+returns-in-Ok-None-clause-printed g c =
+    ends_whole g.O.AnswerWriter c.loop.tally Whole g.J.Stream.input g.J.Stream.editors c.args.out.now c.loop.out c.next-in-loop.new.out c.loop.invariant.1.1.1.1 c.in-Ok-None.ensures.keeps (λ is. absurd (whole_unbroken is))
+
+pub returns-in_default-clause-printed : goal.returns-in_default-clause-printed
+returns-in_default-clause-printed g c =
+    ends_whole g.O.AnswerWriter c.loop.tally Internal g.J.Stream.input g.J.Stream.editors c.args.out.now c.loop.out c.next-in-loop.new.out c.loop.invariant.1.1.1.1 c.in-Ok-Some.ensures.keeps (λ is. absurd (internal_unbroken is))
+
+pub returns-in-Err-Memory-clause-printed : goal.returns-in-Err-Memory-clause-printed
+returns-in-Err-Memory-clause-printed g c =
+    let text = g.O.AnswerWriter.contents in
+    let same : c.print_one.new.out ≡ c.next-in-loop.new.out = search rules in
+    ends_whole g.O.AnswerWriter c.loop.tally Memory g.J.Stream.input g.J.Stream.editors c.args.out.now c.loop.out c.print_one.new.out c.loop.invariant.1.1.1.1
+    (subst (λ o. Keeps (text c.loop.out) (text o)) (sym same) c.in-Ok-Some.ensures.keeps) (λ is. absurd (memory_unbroken is))
+
+pub returns-in-Err-Output-clause-printed : goal.returns-in-Err-Output-clause-printed
+returns-in-Err-Output-clause-printed g c =
+    let input = g.J.Stream.input in
+    let editors = g.J.Stream.editors in
+    let text = g.O.AnswerWriter.contents in
+    let mid = c.next-in-loop.new.out in
+    let tally = c.loop.tally in
+    let answered = c.in-Ok-Some.answered in
+    let place : answered.place ≡ tally.count = search rules in
+    let begun : Begins (text mid) (text c.print_one.new.out) (line (answer_text answered.answer)) = search rules in
+    let failed : g.O.AnswerWriter.has_failed c.print_one.new.out = search rules in
+    ends_broken g.O.AnswerWriter tally c.in-Some-with.more answered.known input editors c.args.out.now mid c.print_one.new.out answered.answer
+    (still_printed_by answer_text tally input editors (text c.args.out.now) (text c.loop.out) (text mid) c.loop.invariant.1.1.1.1 c.in-Ok-Some.ensures.keeps) c.in-Some-with.ensures
+    (subst (λ (n : ℕ). ∥ IsSaidAt answered.known input editors n answered.answer ∥₁) place answered.is_answer)
+    (λ gone. subst (λ (n : ℕ). ∥ IsOffAt answered.known input editors n ∥₁) place (answered.is_off gone)) begun failed

@@ -1,5 +1,7 @@
+use Rattle.std.proofs.Common.{subst, ℕ}
 use mathlib.Core.Logic.{∥∥₁_elim, ∥∥₁_prop}
 use Rattle.line_exchange.proofs.Answering.{answers_known}
+use Rattle.line_workers.specs.Submits.{NotesAnswer}
 use Rattle.line_workers.proofs.editing.answered.Goals as goal
 
 pub invariant_of-answered : goal.invariant_of-answered
@@ -12,3 +14,6 @@ invariant_of-answered g c =
           (record { fits = c.in_ok-editor.ensures.fits; said = said; off = λ gone. absurd (never gone) }));
       is_off = λ gone. absurd (never gone);
     }
+
+pub returns-clause-noted : goal.returns-clause-noted
+returns-clause-noted g c = subst (λ (s : ℕ). NotesAnswer s c.args.ask.place c.in_ok-editor.answer c.args.noted.now c.in-Some.more) c.session-session.ensures c.in-Some.ensures

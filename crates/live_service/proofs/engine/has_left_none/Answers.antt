@@ -17,5 +17,5 @@ returns-clause-taken g c is =
     let log = c.args.board.now.log in
     let put : given.put ≡ of given.session (got ++ whole.0) = subst (λ (l : List Request). given.put ≡ of given.session (l ++ whole.0)) c.end-watcher.ensures.same.1.0 whole.1 in
     let known : IsPrefix c.known-known.result.log log = match_true c.covers.result _ _ c.covers.ensures is in
-    all_taken e c.args.editor.told c.requires.posted.0 got whole.0 log (subst (λ (x : Editing). x.put ≡ of x.session (got ++ whole.0)) c.into_editor.ensures.same put) c.args.editor.at_rest c.requires.posted.1
+    all_taken e c.args.editor.told c.requires.posted.1 got whole.0 log (subst (λ (x : Editing). x.put ≡ of x.session (got ++ whole.0)) c.into_editor.ensures.same put) c.args.editor.at_rest c.requires.posted.2
     (subst (λ (k : Beginning). IsPrefix k.log log) c.known-known.ensures.same known)

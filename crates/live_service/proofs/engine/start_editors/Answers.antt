@@ -4,6 +4,7 @@ use Rattle.std.specs.Vec.Iter.{into_iter_items}
 use Rattle.std.specs.Prelude.{IfSome}
 use Rattle.intake.specs.Editors.{Editing}
 use Rattle.service_workers.specs.declared.session_editor.SessionEditor.{SessionEditor}
+use Rattle.line_exchange.specs.declared.messages.Noted.{Noted}
 use Rattle.line_workers.specs.Submits.{ComesBack}
 use Rattle.live_service.proofs.engine.start_editors.Goals as goal
 
@@ -30,4 +31,10 @@ returns-in-Err g c = record { queue = λ q all. (c.loop-editor.invariant.1 q all
 
 pub spawn_with-requires-clause-keeps : goal.spawn_with-requires-clause-keeps
 spawn_with-requires-clause-keeps g c κs within r kept =
-    subst (λ (s : SessionEditor g.row.B.Denot g.B.BoardName). IfSome r (λ (e : SessionEditor g.row.B.Denot g.B.BoardName). ComesBack g.J.Stream.input g.J.Stream.editors s.editor e.editor)) (sym c.of.ensures) kept
+    subst (λ (s : SessionEditor g.row.B.Denot g.B.BoardName). IfSome r (λ (e : SessionEditor g.row.B.Denot g.B.BoardName × Noted). ComesBack g.J.Stream.book g.J.Stream.input g.J.Stream.editors s.editor e.0.editor e.1)) (sym c.of.ensures) kept
+
+pub returns-then-len-capacity : goal.returns-then-len-capacity
+returns-then-len-capacity g c = record { queue = λ q all. (c.loop-editor.invariant.1 q all).1 }
+
+pub returns : goal.returns
+returns g c = record { queue = λ q all. (c.loop-editor.invariant.1 q all).1 }

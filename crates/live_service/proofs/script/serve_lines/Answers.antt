@@ -1,13 +1,14 @@
-use Rattle.std.proofs.Common.{◌≡◌, ◌≢◌, ℕ, sym, subst, Some}
+use Rattle.std.proofs.Common.{◌≡◌, ◌≢◌, ◌∙◌, ℕ, sym, subst, Some}
 use Rattle.command_output.specs.declared.fault.Fault.{Fault}
 use Rattle.command_output.specs.declared.fault.Fault.TheVariants.{Output}
 use Rattle.live_service.specs.ServeEnds.{IsServeEnd}
 use Rattle.live_service.proofs.Telling.{told_end}
 use Rattle.line_exchange.specs.Ends.{fault_of}
 use Rattle.live_lines.specs.Answers.{script_text}
+use Rattle.line_exchange.specs.Gathers.{BreaksOff}
 use Rattle.line_exchange.specs.Inputs.{Script}
 use Rattle.live_service.specs.Services.{AnswersScript}
-use Rattle.live_service.proofs.Ended.{engine_ends, err_of, ok_of}
+use Rattle.live_service.proofs.Ended.{engine_ends, err_of, ok_of, opening_other}
 use Rattle.live_service.proofs.OneListed.{answered, opened_left, read_left}
 use Rattle.live_service.proofs.script.serve_lines.Goals as goal
 
@@ -32,6 +33,13 @@ pub returns-clause-untouched : goal.returns-clause-untouched
 returns-clause-untouched g c =
     err_of c.result_of.result (fault_of c.serve_script-served.result.0) (λ f. f ≢ Output → c.serve_script-served.new.out ≡ c.args.out.now) c.result_of.ensures.fault c.serve_script-served.ensures.untouched
 
+pub returns-in-Err-clause-broken : goal.returns-in-Err-clause-broken
+returns-in-Err-clause-broken g c is = absurd (opening_other c.in-Err.fault (sym c.fault_of.ensures ∙ is))
+
+pub returns-clause-broken : goal.returns-clause-broken
+returns-clause-broken g c =
+    err_of c.result_of.result (fault_of c.serve_script-served.result.0) (λ f. f ≡ Output → BreaksOff g.O.AnswerWriter c.args.script.items c.args.out.now c.serve_script-served.new.out) c.result_of.ensures.fault c.serve_script-served.ensures.broken
+
 pub returns-clause-left : goal.returns-clause-left
 returns-clause-left g c =
     let ended = c.serve_script-served.ensures.engine_end in
@@ -41,7 +49,7 @@ pub returns-clause-one_list : goal.returns-clause-one_list
 returns-clause-one_list g c =
     let store = c.in-Ok.opened.0 in
     let back = c.serve_script-served.result.1 in
-    let text = g.O.Write.contents in
+    let text = g.O.AnswerWriter.contents in
     let new = c.serve_script-served.new.out in
     ok_of c.result_of.result (c.serve_script-served.result.0) _ c.result_of.ensures.printed
     (λ is. subst (λ (n : ℕ). AnswersScript g.D.Disk c.args.disk back c.args.script.items n text c.args.out.now new) c.seated.ensures.editors

@@ -12,8 +12,7 @@ use Rattle.live_service.proofs.serve.serve_live.Goals as goal
 
 pub returns-in-Err-clause-printed : goal.returns-in-Err-clause-printed
 returns-in-Err-clause-printed g c =
-    let old = g.O.Write.contents c.args.out.now in
-    none_to (Bytes (g.S.Read.remaining c.args.input)) c.args.config.editors old old c.told.result _ refl c.told.ensures.fault
+    none_to g.O.AnswerWriter (Bytes (g.S.Read.remaining c.args.input)) c.args.config.editors c.args.out.now c.args.out.now c.told.result _ refl c.told.ensures.fault
 
 pub returns-in-Err-clause-ended : goal.returns-in-Err-clause-ended
 returns-in-Err-clause-ended g c =
@@ -43,6 +42,6 @@ returns-clause-one_list g c is =
     let store = c.in-Ok.opened.0 in
     let back = c.serve_stream.result.1 in
     let input = Bytes (g.S.Read.remaining c.args.input) in
-    let text = g.O.Write.contents in
+    let text = g.O.AnswerWriter.contents in
     subst (λ (n : ℕ). AnswersInput g.D.Disk c.args.disk back input n text c.args.out.now c.serve_stream.new.out) c.seated.ensures.editors
     (answered answer_text c.args.disk store input c.seated.result.editors (text c.args.out.now) (text c.serve_stream.new.out) back c.in-Ok.ensures.opened (c.serve_stream.ensures.one_list is))

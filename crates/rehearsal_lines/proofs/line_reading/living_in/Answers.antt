@@ -1,8 +1,7 @@
-use Rattle.std.proofs.Common.{◌≡◌, ◌∙◌, ap, ℕ, List, ◌∷◌, Option, Some, None, Result, Ok, Err, IfOk, IfSome, codes, map, subst}
+use Rattle.std.proofs.Common.{rules, ◌≡◌, ◌∙◌, ap, ℕ, List, ◌∷◌, Option, Some, None, Result, Ok, Err, IfOk, IfSome, codes, map}
 use Rattle.rehearsal_lines.specs.declared.line.RehearsalLine.{RehearsalLine}
 use Rattle.rehearsal_lines.specs.declared.line.RehearsalLine.TheVariants.{Life}
-use Rattle.rehearsal_lines.specs.declared.refused.Form.{Form}
-use Rattle.rehearsal_lines.specs.Grammar.{IsBegunBy, IsEvent, IsLifeOrEvent, line_words}
+use Rattle.rehearsal_lines.specs.Grammar.{IsEvent, IsLifeOrEvent, line_words}
 use Rattle.rehearsal_lines.proofs.line_reading.living_in.Goals as goal
 
 event_too : (nodes : ℕ) (line : RehearsalLine) → IsEvent nodes line → IsLifeOrEvent nodes line
@@ -16,7 +15,7 @@ event_found name word rest nodes (Err e) is found = tt
 event_found name word rest nodes (Ok None) is found = tt
 event_found name word rest nodes (Ok (Some line)) is found = (ap (λ (w : List ℕ). w ∷ rest) is ∙ found.0, event_too nodes line (found.1 nodes))
 
-pub returns-in-Submit-clause-found : goal.returns-in-Submit-clause-found
-returns-in-Submit-clause-found c =
-    let named : c.args.name.now ≡ codes "submit" = subst (λ (f : Form). IsBegunBy f c.args.name.now) c.in-Submit.is c.begun_by.ensures in
+pub returns-then-eq-2-clause-found : goal.returns-then-eq-2-clause-found
+returns-then-eq-2-clause-found c =
+    let named : c.args.name.now ≡ codes "submit" = search rules in
     event_found c.args.name.now (codes "submit") (map (λ x. x.now) c.args.rest.now) c.args.nodes c.submit_in.result named c.submit_in.ensures.found

@@ -1,13 +1,9 @@
-use Rattle.std.proofs.Common.{rules, ◌≡◌, ◌==◌, ◌∙◌, sym, ap, map, List, ℕ, Bor}
-use Rattle.std.specs.List.{flat_map, slice_split}
-use Rattle.std.proofs.lemmas.List.Folds.{flat_map-map}
-use Rattle.rehearsal_lines.specs.Said.{bare, unless_empty}
+use Rattle.std.proofs.Common.{rules, tests, arith, ◌==◌, ◌∙◌, length, not}
+use Rattle.std.proofs.lemmas.Iterator.Consumers.{map_from_collect, YieldsList-at, YieldsList-from_filter}
+use Rattle.std.proofs.lemmas.Iterator.Splits.{YieldsList-from_str_split}
 use Rattle.rehearsal_lines.proofs.reading.words_in.Goals as goal
 
 pub returns : goal.returns
 returns c =
-    let given = c.deref.result.now in
-    let read : map (λ (x : Bor (List ℕ)). x.now) c.in_ok-words.words.items ≡ flat_map (λ (x : Bor (List ℕ)). unless_empty x.now) given = search rules in
-    let parts : map (λ (x : Bor (List ℕ)). x.now) given ≡ slice_split (λ b. b == 32) (bare c.args.text.now) =
-    ap (λ (ps : List (Bor (List ℕ))). map (λ x. x.now) ps) c.deref.ensures.value ∙ c.in_ok-parts.ensures ∙ ap (λ t. slice_split (λ b. b == 32) t) c.bare_of.ensures in
-    read ∙ sym (flat_map-map unless_empty (λ (x : Bor (List ℕ)). x.now) given) ∙ ap (λ ps. flat_map unless_empty ps) parts
+    map_from_collect _ c.collect.ensures.ran
+    (YieldsList-from_filter _ (λ part. not (length part == 0)) (YieldsList-at c.filter.ensures.source (YieldsList-from_str_split 32 _ (omega arith) (c.split-parts.ensures.text ∙ c.bare_of.ensures) c.split-parts.ensures.has_more c.split-parts.ensures.pattern)) c.filter.ensures.closure (λ x r q k. search (rules, tests)))

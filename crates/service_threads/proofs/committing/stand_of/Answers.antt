@@ -3,7 +3,8 @@ use Rattle.checkpoint.specs.StoreWords.{state_of}
 use Rattle.committer.specs.CommitterWords.{got_of, held_of, newest_of, posts_of, store_of}
 use Rattle.checkpoint.specs.StoreWords.{is_down}
 use Rattle.generations.specs.Beginnings.{Beginning}
-use Rattle.packet_ways.specs.Standing.{Counts, IsNewest}
+use Rattle.packet_ways.specs.Standing.{Counts}
+use Rattle.service_workers.specs.Stands.{HasNewest}
 use Rattle.service_threads.proofs.Pace.{counts_now}
 use Rattle.service_threads.proofs.committing.stand_of.Goals as goal
 
@@ -14,5 +15,5 @@ invariant_of-result g c =
     let all = counts_now (posts_of now) (newest_of now) (held_of now) (got_of now) (state_of (store_of now)) (is_down (store_of now)) c.told.ensures.tied c.requires.shown.nothing_due in
     record {
       counted = subst (λ (b : Beginning). Counts b c.count.result) (sym same) (all ∙ sym (c.count.ensures.same ∙ ap (λ s. (state_of s).count) c.store.ensures));
-      newest = subst (λ (b : Beginning). IsNewest b c.args.generation) (sym same) c.requires.shown.newest;
+      newest = subst (λ (b : Beginning). HasNewest b c.args.generation) (sym same) c.requires.shown.newest;
     }

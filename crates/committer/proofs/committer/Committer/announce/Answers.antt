@@ -1,44 +1,11 @@
-use Rattle.std.proofs.Common.{true, false, refl, sym, ap, ◌∙◌}
 use Rattle.std.specs.Arc.{arc_value}
-use Rattle.generations.specs.declared.posting.Notice.TheVariants.{Built}
-use Rattle.committer.specs.Outboxes.{Outgoing, all_of}
-use Rattle.committer.proofs.Listings.{relisted, announced_listed}
-use Rattle.committer.proofs.Logs.{generation_tied, lawful_behind, tied_posted, tied_due}
+use Rattle.committer.proofs.Listings.{news_ahead, offered_listed}
 use Rattle.committer.proofs.committer.Committer.announce.Goals as goal
 
-pub offer-requires-clause-lawful : goal.offer-requires-clause-lawful
-offer-requires-clause-lawful g c =
-    let tied = generation_tied c.args.self.now.outbox (arc_value c.args.scheme) c.args.number _ _ _ _ _ c.args.self.now.tied c.requires.up c.requires.number c.requires.news c.requires.serves in
-    lawful_behind c.args.self.now.outbox (Built c.args.number (arc_value c.args.scheme)) c.requires.nothing_due tied.lawful
+pub announce_earlier-requires-clause-ahead : goal.announce_earlier-requires-clause-ahead
+announce_earlier-requires-clause-ahead g c = news_ahead _ _ _ _ _ _ _ c.args.number c.args.self.now.tied c.requires.number c.requires.news
 
-pub invariant_of-self : goal.invariant_of-self
-invariant_of-self g c =
-    let tied = generation_tied c.args.self.now.outbox (arc_value c.args.scheme) c.args.number _ _ _ _ _ c.args.self.now.tied c.requires.up c.requires.number c.requires.news c.requires.serves in
-    record {
-      at_outbox = c.args.self.now.at_outbox;
-      same_starts = c.args.self.now.same_starts ∙ sym (ap (λ (o : Outgoing). o.opening.starts) c.in-Posted.ensures);
-      tied = tied_posted _ _ _ _ _ c.args.self.now.outbox c.offer.new.self (Built c.args.number (arc_value c.args.scheme)) c.requires.nothing_due c.in-Posted.ensures tied;
-      whole = c.args.self.now.whole;
-    }
-
-pub invariant_of-self-in-Due : goal.invariant_of-self-in-Due
-invariant_of-self-in-Due g c =
-    let tied = generation_tied c.args.self.now.outbox (arc_value c.args.scheme) c.args.number _ _ _ _ _ c.args.self.now.tied c.requires.up c.requires.number c.requires.news c.requires.serves in
-    record {
-      at_outbox = c.args.self.now.at_outbox;
-      same_starts = c.args.self.now.same_starts ∙ sym (ap (λ (o : Outgoing). o.opening.starts) c.in-Due.ensures);
-      tied = tied_due _ _ _ _ _ c.args.self.now.outbox c.offer.new.self (Built c.args.number (arc_value c.args.scheme)) c.requires.nothing_due c.in-Due.ensures tied;
-      whole = c.args.self.now.whole;
-    }
-
-pub returns-in-Posted-clause-listed : goal.returns-in-Posted-clause-listed
-returns-in-Posted-clause-listed g c named first is =
-    announced_listed first c.args.self.now.outbox c.offer.new.self true c.args.number (arc_value c.args.scheme) _ _ _ _ is c.requires.up c.requires.nothing_due c.requires.number c.requires.news named c.requires.serves c.in-Posted.ensures
-
-pub returns-in-Due-clause-listed : goal.returns-in-Due-clause-listed
-returns-in-Due-clause-listed g c named first is =
-    announced_listed first c.args.self.now.outbox c.offer.new.self false c.args.number (arc_value c.args.scheme) _ _ _ _ is c.requires.up c.requires.nothing_due c.requires.number c.requires.news named c.requires.serves c.in-Due.ensures
-
-pub returns-in-Dropped-clause-listed : goal.returns-in-Dropped-clause-listed
-returns-in-Dropped-clause-listed g c named first is =
-    relisted first c.args.self.now.outbox c.offer.new.self _ _ _ _ _ _ _ _ (ap (λ (o : Outgoing). o.opening) c.in-Dropped.ensures) (ap all_of c.in-Dropped.ensures) refl refl refl refl is
+pub returns-clause-listed : goal.returns-clause-listed
+returns-clause-listed g c named builds first is =
+    offered_listed first c.args.self.now c.announce_earlier.new.self c.args.number (arc_value c.args.scheme) c.announce_earlier.result c.announce_earlier.ensures.stays c.announce_earlier.ensures.posted c.announce_earlier.ensures.only_board
+    c.announce_earlier.ensures.board c.requires.up c.requires.nothing_due c.requires.number c.requires.news named c.requires.serves is

@@ -123,7 +123,7 @@ pub returns-in-Some-paid-clause-goes_on : goal.returns-in-Some-paid-clause-goes_
 returns-in-Some-paid-clause-goes_on g c = record {
   nodes = search rules;
   ran = search rules;
-  listed = λ first is.
+  listed = λ builds first is.
       let old = c.args.self.now in
       let said = down_said _ c.in-Some-paid.down c.in-Some-paid.ensures.given (c.in-Err-Device.ensures.refused.down_due (ap Err c.in-Err-Device.field-0-is)) in
       failed_listed first old.outbox c.tell-posted.new.self (notice_of c.in-Some-paid.down) c.tell-posted.result (desk_held old.desk) _ old.taker.got _ (state_of (desk_store old.desk)) _ _ _ is c.requires.up c.requires.nothing_due said c.tell-posted.ensures
@@ -136,7 +136,7 @@ pub returns-in-Err-Memory-clause-goes_on : goal.returns-in-Err-Memory-clause-goe
 returns-in-Err-Memory-clause-goes_on g c = record {
   nodes = search rules;
   ran = search rules;
-  listed = λ first is.
+  listed = λ builds first is.
       let old = c.args.self.now in
       relisted first old.outbox old.outbox (desk_held old.desk) _ old.taker.got old.taker.got (state_of (desk_store old.desk)) _ (is_down (desk_store old.desk)) _ refl refl
       c.in-Err-Memory.ensures.refused.still_held refl c.in-Err-Memory.ensures.refused.state (c.in-Err-Memory.ensures.refused.stays_up c.requires.up (λ e. cc) ∙ sym c.requires.up) is;
@@ -146,7 +146,7 @@ pub returns-in-Err-Worn-clause-goes_on : goal.returns-in-Err-Worn-clause-goes_on
 returns-in-Err-Worn-clause-goes_on g c = record {
   nodes = search rules;
   ran = search rules;
-  listed = λ first is.
+  listed = λ builds first is.
       let old = c.args.self.now in
       relisted first old.outbox old.outbox (desk_held old.desk) _ old.taker.got old.taker.got (state_of (desk_store old.desk)) _ (is_down (desk_store old.desk)) _ refl refl
       c.in-Err-Worn.ensures.refused.still_held refl c.in-Err-Worn.ensures.refused.state (c.in-Err-Worn.ensures.refused.stays_up c.requires.up (λ e. cc) ∙ sym c.requires.up) is;

@@ -23,10 +23,10 @@ returns-then-eq-clause-ok g c =
     }
 
 pub returns-then-not-pay-clause-listed : goal.returns-then-not-pay-clause-listed
-returns-then-not-pay-clause-listed g c first is = paid_listed first c.args.self.now.outbox c.pay.new.self c.pay.result _ _ _ _ c.pay.ensures is
+returns-then-not-pay-clause-listed g c builds first is = paid_listed first c.args.self.now.outbox c.pay.new.self c.pay.result _ _ _ _ c.pay.ensures is
 
 pub returns-then-eq-clause-listed : goal.returns-then-eq-clause-listed
-returns-then-eq-clause-listed g c first is = paid_listed first c.args.self.now.outbox c.pay.new.self c.pay.result _ _ _ _ c.pay.ensures is
+returns-then-eq-clause-listed g c builds first is = paid_listed first c.args.self.now.outbox c.pay.new.self c.pay.result _ _ _ _ c.pay.ensures is
 
 pub returns-clause-listed : goal.returns-clause-listed
-returns-clause-listed g c first is = paid_listed first c.args.self.now.outbox c.pay.new.self c.pay.result _ _ _ _ c.pay.ensures is
+returns-clause-listed g c builds first is = paid_listed first c.args.self.now.outbox c.pay.new.self c.pay.result _ _ _ _ c.pay.ensures is

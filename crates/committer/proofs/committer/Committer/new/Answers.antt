@@ -18,6 +18,6 @@ invariant_of-result g c = record {
 }
 
 pub returns-clause-listed : goal.returns-clause-listed
-returns-clause-listed g c =
+returns-clause-listed g c builds =
     begun_listed (state_of (desk_store c.args.desk)) c.new-outbox.result c.args.writer.opening (desk_held c.args.desk) c.args.taker.got (is_down (desk_store c.args.desk))
     (c.new-outbox.ensures ∙ ap (λ (l : List Notice). record { opening = c.args.writer.opening; posted = l; due = [] }) c.requires.posted) c.requires.board_starts c.requires.board_count c.requires.held c.requires.taken

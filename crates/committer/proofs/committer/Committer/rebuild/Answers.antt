@@ -37,4 +37,4 @@ pub returns-clause-stays : goal.returns-clause-stays
 returns-clause-stays g c = put_twice c.args.self.now c.generation_due.new.self c.announce.new.self c.generation_due.ensures.stays c.announce.ensures.stays
 
 pub returns-clause-listed : goal.returns-clause-listed
-returns-clause-listed g c first is = c.announce.ensures.listed c.in-Ok.ensures.given first (c.generation_due.ensures.listed first is)
+returns-clause-listed g c builds first is = c.announce.ensures.listed c.in-Ok.ensures.given builds first (c.generation_due.ensures.listed builds first is)

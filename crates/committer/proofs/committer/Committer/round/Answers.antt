@@ -21,7 +21,7 @@ pub returns-then-is_down-clause-goes_on : goal.returns-then-is_down-clause-goes_
 returns-then-is_down-clause-goes_on g c = record {
   nodes = refl;
   ran = ran_none _;
-  listed = λ first is. paid_listed first c.args.self.now.outbox c.pay-paid.new.self c.pay-paid.result _ _ _ _ c.pay-paid.ensures is;
+  listed = λ builds first is. paid_listed first c.args.self.now.outbox c.pay-paid.new.self c.pay-paid.result _ _ _ _ c.pay-paid.ensures is;
 }
 
 pub returns-then-is_down-clause-at_rest : goal.returns-then-is_down-clause-at_rest
@@ -42,7 +42,7 @@ pub returns-then-not-pay-clause-goes_on : goal.returns-then-not-pay-clause-goes_
 returns-then-not-pay-clause-goes_on g c = record {
   nodes = refl;
   ran = ran_none _;
-  listed = λ first is. paid_listed first c.args.self.now.outbox c.pay.new.self c.pay.result _ _ _ _ c.pay.ensures is;
+  listed = λ builds first is. paid_listed first c.args.self.now.outbox c.pay.new.self c.pay.result _ _ _ _ c.pay.ensures is;
 }
 
 pub returns-then-not-pay-clause-at_rest : goal.returns-then-not-pay-clause-at_rest
@@ -77,7 +77,7 @@ pub returns-then-held-eq0-clause-goes_on : goal.returns-then-held-eq0-clause-goe
 returns-then-held-eq0-clause-goes_on g c = record {
   nodes = ap nodes_of c.take_up-taken.ensures.store;
   ran = subst (λ s. IsSameDevice (view_of (desk_store c.args.self.now.desk)) (view_of s)) (sym c.take_up-taken.ensures.store) (ran_none _);
-  listed = λ first is. c.take_up-taken.ensures.listed first (paid_listed first c.args.self.now.outbox c.pay.new.self c.pay.result _ _ _ _ c.pay.ensures is);
+  listed = λ builds first is. c.take_up-taken.ensures.listed builds first (paid_listed first c.args.self.now.outbox c.pay.new.self c.pay.result _ _ _ _ c.pay.ensures is);
 }
 
 pub returns-then-held-eq0-clause-any_moment : goal.returns-then-held-eq0-clause-any_moment
@@ -129,7 +129,7 @@ pub returns-in_err-accepted-clause-goes_on : goal.returns-in_err-accepted-clause
 returns-in_err-accepted-clause-goes_on g c = record {
   nodes = c.commit.ensures.goes_on.nodes ∙ ap nodes_of c.take_up-taken.ensures.store;
   ran = subst (λ s. IsSameDevice (view_of s) (view_of (desk_store c.commit.new.self.desk))) c.take_up-taken.ensures.store c.commit.ensures.goes_on.ran;
-  listed = λ first is. c.commit.ensures.goes_on.listed first (c.take_up-taken.ensures.listed first (paid_listed first c.args.self.now.outbox c.pay.new.self c.pay.result _ _ _ _ c.pay.ensures is));
+  listed = λ builds first is. c.commit.ensures.goes_on.listed builds first (c.take_up-taken.ensures.listed builds first (paid_listed first c.args.self.now.outbox c.pay.new.self c.pay.result _ _ _ _ c.pay.ensures is));
 }
 
 pub returns-in_err-accepted-clause-at_rest : goal.returns-in_err-accepted-clause-at_rest
@@ -166,7 +166,7 @@ pub returns-clause-goes_on : goal.returns-clause-goes_on
 returns-clause-goes_on g c = record {
   nodes = c.commit.ensures.goes_on.nodes ∙ ap nodes_of c.take_up-taken.ensures.store;
   ran = subst (λ s. IsSameDevice (view_of s) (view_of (desk_store c.commit.new.self.desk))) c.take_up-taken.ensures.store c.commit.ensures.goes_on.ran;
-  listed = λ first is. c.commit.ensures.goes_on.listed first (c.take_up-taken.ensures.listed first (paid_listed first c.args.self.now.outbox c.pay.new.self c.pay.result _ _ _ _ c.pay.ensures is));
+  listed = λ builds first is. c.commit.ensures.goes_on.listed builds first (c.take_up-taken.ensures.listed builds first (paid_listed first c.args.self.now.outbox c.pay.new.self c.pay.result _ _ _ _ c.pay.ensures is));
 }
 
 pub returns-clause-at_rest : goal.returns-clause-at_rest

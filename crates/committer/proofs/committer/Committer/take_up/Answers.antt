@@ -21,7 +21,7 @@ pub returns-then-held-gt0-clause-number : goal.returns-then-held-gt0-clause-numb
 returns-then-held-gt0-clause-number g c = sym (ap length (drop_whole c.args.self.now.taker.got))
 
 pub returns-then-held-gt0-clause-listed : goal.returns-then-held-gt0-clause-listed
-returns-then-held-gt0-clause-listed g c first is = is
+returns-then-held-gt0-clause-listed g c builds first is = is
 
 pub fill-requires-clause-no_later : goal.fill-requires-clause-no_later
 fill-requires-clause-no_later g c = tied_no_later _ _ _ _ _ _ _ c.args.self.now.taker.starts c.args.self.now.same_starts c.args.self.now.tied
@@ -63,7 +63,7 @@ returns-clause-fewer g c few =
     inr (c.fill.ensures.fewer (omega (arith, is, few)))
 
 pub returns-clause-listed : goal.returns-clause-listed
-returns-clause-listed g c first is =
+returns-clause-listed g c builds first is =
     let old = c.args.self.now in
     let none = none_of (desk_held old.desk) c.held.result c.held.ensures.same (omega (arith, c.if-held-gt0.false)) in
     filled_now first old.outbox (desk_held old.desk) (desk_held c.fill.new.desk) old.taker.got c.fill.new.taker.got _ _ _ _ c.fill.new.taker.starts is none

@@ -1,0 +1,75 @@
+//! The command `journal`.
+ghost use Rattle.std.specs.Prelude.{◌≡◌, ◌≢◌, ◌≤◌, IfErr, OnOk};
+ghost use Rattle.lab_figures.specs.Info.{IsInfoRefused};
+ghost use Rattle.lab_figures.specs.Recent.{PrintsChanges};
+
+use crate::refused::FiguresRefused;
+use clap::{ArgMatches, Command};
+use device_files::DeviceFile;
+use disk_trait::Disk;
+use lab_parts::{PrintRefused, command, device, print, told, told_memory, told_of, value};
+use recent_changes::changes_of;
+use std::alloc::{AllocError, Global};
+use std::fs::File;
+use std::io::Write;
+use std::rt::Files;
+use written_values::number;
+
+/// Its grammar.
+pub fn grammar<'a>(alloc: Global) -> Result<Command<'a>, AllocError> {
+    command(
+        alloc,
+        "journal",
+        "Prints the changes since the checkpoint of a device, a line each",
+        &[
+            device(),
+            value("last", "N", "Prints no more than the last N changes"),
+        ],
+    )
+}
+
+/// Prints the changes behind the checkpoint of the device that these matches name, and answers the exit status.
+pub fn run<R, O, E>(rt: &R, found: &ArgMatches<'_>, out: &mut O, err: &mut E) -> u8
+where
+    R: Files<File = File> + AllocGlobal,
+    O: Write,
+    E: Write,
+    ensures { result ≤ 2 }
+{
+    let Some(device) = found.get_str("device") else {
+        return 2;
+    };
+    let last = match found.get_str("last") {
+        Some(word) => match number(rt.alloc(), word, u64::MAX) {
+            Ok(Some(last)) => Some(last as usize),
+            Ok(None) => return told(err, 2, "--last takes a number"),
+            Err(_) => return told_memory(err),
+        },
+        None => None,
+    };
+    let mut file = match DeviceFile::open_to_read(rt, device) {
+        Ok(file) => file,
+        Err(refused) => return told_of(err, device, refused),
+    };
+    match journal_on(rt.alloc(), &mut file, last, out) {
+        Ok(()) => 0,
+        Err(refused) => refused.told(err, device),
+    }
+}
+
+/// Prints a line for each change behind the checkpoint of a device, or for no more than so many last ones. The device is only read.
+pub fn journal_on<D: Disk, O: Write>(
+    alloc: Global,
+    disk: &mut D,
+    last: Option<usize>,
+    out: &mut O,
+) -> Result<(), FiguresRefused>
+    ensures printed { OnOk result (PrintsChanges last (D.view disk.old) (D.view disk.new) O.contents out.old out.new) }
+    ensures refused { IfErr result (λ refused. IsInfoRefused (D.view disk.old) (D.view disk.new) refused) }
+    ensures untouched { IfErr result (λ refused. refused ≢ FiguresRefused.Print PrintRefused.Output → out.new ≡ out.old) }
+{
+    let changes = changes_of(alloc, disk)?;
+    let text = changes.text(alloc, last)?;
+    print(out, text.as_bytes())?;
+    Ok(())
+}

@@ -1,0 +1,9 @@
+pub mod Places
+pub mod Entries
+pub mod Halving
+pub mod Packets
+pub mod Moves
+pub mod Walks
+pub mod Launching
+pub mod Lists
+pub mod Forms

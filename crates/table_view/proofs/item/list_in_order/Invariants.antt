@@ -1,0 +1,9 @@
+use Rattle.std.proofs.Common.{◌≤◌}
+use Rattle.table_view.proofs.Lists.{IsReading}
+use Rattle.table_view.proofs.item.list_in_order.Given as goal
+
+abbrev pub invariant-loop : goal.invariant-loop
+invariant-loop g l = record {
+  reading : IsReading g.T.Item.found g.T.Item.key (g.T.Item.IsGood l.ports) l.limit l.count l.counter l.least l.initial.rest l.rest;
+  fits : l.least ≤ 65536;
+}

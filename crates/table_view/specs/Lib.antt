@@ -1,0 +1,5 @@
+pub mod Parts
+pub mod Listing
+pub mod Answers
+pub mod Ways
+pub mod Files

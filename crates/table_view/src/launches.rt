@@ -1,0 +1,78 @@
+// The packet that a router sends to an address, out of the bytes of its table.
+ghost use Rattle.std.specs.Prelude.{◌≡◌, ◌-◌, ℕ, List, Some, option_map};
+ghost use Rattle.node_table.specs.declared.parts.Listed.{Listed};
+ghost use Rattle.router_table.specs.Handing.{launched};
+ghost use Rattle.router_table.specs.Items.{item_at};
+ghost use Rattle.table_view.specs.Answers.{OfTable};
+ghost use Rattle.table_view.specs.Parts.{IsDirectory};
+
+use crate::fields::u16_at;
+use crate::heads::numbers_of;
+use crate::item::Item;
+use crate::parts::{GENERATION_AT, parts_of};
+use crate::search::place_of;
+use heavy_labels::Label;
+use node_table::{Address, Listed, Packet, Refused};
+
+/// The label of a node in a directory, which is walked from its first member. None where it meets that the bytes are no directory.
+fn label_in(directory: &[u8], node: u16) -> Option<Option<Label>>
+    ensures { (ms : List Listed) (rest : List ℕ) → IsDirectory directory.now ms rest
+        → result ≡ Some (option_map (λ m. m.label) (item_at (λ m. m.node) node ms)) }
+{
+    let (count, members) = u16_at(directory)?;
+    let mut rest = members;
+    for _ in 0..count {
+        let Some((member, behind)) = Listed::take(rest) else {
+            return None;
+        };
+        if member.node == node {
+            return Some(Some(member.label));
+        }
+        rest = behind;
+    }
+    Some(None)
+}
+
+/// A new packet for a destination, to go in the tree of `root` by the destination's label there.
+fn packet_in(generation: u64, nodes: u16, destination: u16, root: u16, label: &Label) -> Packet
+    ensures { result ≡ record {
+      generation = generation;
+      destination = destination;
+      root = root;
+      label = label.now;
+      hops_left = nodes - 1;
+    } }
+{
+    Packet {
+        generation,
+        destination,
+        root,
+        label: label.copy(),
+        hops_left: nodes.saturating_sub(1),
+    }
+}
+
+/// The packet that the router sends to an address, by the bytes of its table. None where it meets that they spell no table.
+pub fn launch_in(table: &[u8], to: &Address) -> Option<Result<Packet, Refused>>
+    ensures { OfTable table.now (λ a. result ≡ Some (launched a to.now)) }
+{
+    let (head, _, _, entry_count, entries, directory) = parts_of(table)?;
+    let (generation, nodes, node, _) = numbers_of(&head[GENERATION_AT..])?;
+    if node >= nodes {
+        return Some(Err(Refused::NoNode));
+    }
+    if to.node >= nodes {
+        return Some(Err(Refused::NoNode));
+    }
+    let listed = label_in(directory, to.node)?;
+    if let Some(label) = listed {
+        return Some(Ok(packet_in(generation, nodes, to.node, node, &label)));
+    }
+    let Some(home) = &to.home else {
+        return Some(Err(Refused::Unreachable));
+    };
+    let Some(_) = place_of(entries, entry_count, home.landmark) else {
+        return Some(Err(Refused::Unreachable));
+    };
+    Some(Ok(packet_in(generation, nodes, to.node, home.landmark, &home.label)))
+}

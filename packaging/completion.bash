@@ -1,0 +1,78 @@
+# Completion for bash: the commands, options, files and folders of tznode, tzlab and tzrouter.
+
+# The options of a command, and what its words are: file, folder, op, or number; the last kind is that of all further words too.
+_tz_grammar() {
+    case $1 in
+    tznode:format | tznode:resume) options='' words='file number' ;;
+    tznode:edit) options='--session --ticket' words='file op' ;;
+    tznode:show) options='' words='file' ;;
+    tznode:route) options='--words' words='file number' ;;
+    tznode:check) options='--words' words='file' ;;
+    tznode:tables) options='--words --node' words='file folder' ;;
+    tznode:serve) options='--words --editors --forwarders --queue --live --rounds' words='file' ;;
+    tznode:migrate) options='' words='file file' ;;
+    tzlab:import) options='--names --header --no-header --nodes' words='file file' ;;
+    tzlab:export) options='--as --words' words='file' ;;
+    tzlab:info) options='--json' words='file' ;;
+    tzlab:stats) options='--words --pairs --seed --csv --json' words='file' ;;
+    tzlab:landmarks) options='--seed --start --most-entries --most --figures' words='file' ;;
+    tzlab:time) options='--words --runs' words='file' ;;
+    tzlab:journal) options='--last' words='file' ;;
+    tzlab:rehearse) options='--every-stop --most' words='file' ;;
+    *) return 1 ;;
+    esac
+}
+
+_tz() {
+    local current=${COMP_WORDS[COMP_CWORD]} program=${1##*/} at=0 k word last='' options='' words='' kind='' list=''
+    local -a kinds
+    COMPREPLY=()
+    if [ "$program" = tzrouter ]; then
+        options=--help kind=file
+    elif [ "$COMP_CWORD" -eq 1 ]; then
+        case $program in
+        tznode) list='format edit show resume route check tables serve migrate' ;;
+        tzlab) list='import export info stats landmarks time journal rehearse help --help' ;;
+        esac
+    else
+        _tz_grammar "$program:${COMP_WORDS[1]}" || return 0
+        [ "$program" = tznode ] || options+=' --help'
+        # How many words stand before this one, without options and their values. Bash takes at:2 for three words.
+        for ((k = 2; k < COMP_CWORD; k++)); do
+            word=${COMP_WORDS[k]}
+            if [ "$word" = : ] || [ "${COMP_WORDS[k - 1]}" = : ]; then continue; fi
+            case $word in
+            --live | --names | --header | --no-header | --json | --csv | --figures | --every-stop | --help) last='' ;;
+            --*) last=$word ;;
+            *)
+                [ -n "$last" ] || at=$((at + 1))
+                last=''
+                ;;
+            esac
+        done
+        # Behind a colon the word before it goes on.
+        if [ "$current" = : ] || [ "${COMP_WORDS[COMP_CWORD - 1]}" = : ]; then return 0; fi
+        read -ra kinds <<<"$words"
+        kind=${kinds[at]-}
+        [ -n "$kind" ] || case ${kinds[-1]} in op | number) kind=${kinds[-1]} ;; esac
+        case $last in
+        --words) kind=choice list='none at: draw:' ;;
+        --as) kind=choice list='edges csv dot json' ;;
+        --start) kind=choice list='best none draw degree' ;;
+        --*) return 0 ;;
+        esac
+    fi
+    [[ $current != -* ]] || list=$options
+    case $kind:$current in
+    *:-*) ;;
+    op:*) list='add: set: cut:' ;;
+    file:*) compopt -o filenames && mapfile -t COMPREPLY < <(compgen -f -- "$current") ;;
+    folder:*) compopt -o filenames && mapfile -t COMPREPLY < <(compgen -d -- "$current") ;;
+    esac
+    [ -n "$list" ] || return 0
+    mapfile -t COMPREPLY < <(compgen -W "$list" -- "$current")
+    # A word that goes on gets no blank behind it.
+    [[ ${#COMPREPLY[@]} -ne 1 || ${COMPREPLY[0]} != *: ]] || compopt -o nospace
+}
+
+complete -F _tz tznode tzlab tzrouter
