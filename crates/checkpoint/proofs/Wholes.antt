@@ -2,7 +2,7 @@
 use Rattle.std.proofs.Common.{◌≡◌, ◌≢◌, inl, inr, ⊎_elim, ℕ, zero, suc, ◌+◌, ◌-◌, ◌<◌, ◌≤◌, List, [], length, get_or, take, drop, replicate, Some, refl, sym, ◌∙◌, ap, subst, arith, add-zero, lit<, lit≤, get_or-drop}
 use Rattle.std.specs.FinMap.{get, len-entries}
 use Rattle.std.specs.List.{AllByRecursion}
-use Rattle.std.specs.Prelude.{Result, Ok, Err, OnOk}
+use Rattle.std.specs.Prelude.{Result, Ok, Err, OnOk, IsTrue, false}
 use Rattle.std.proofs.lemmas.Bool.{cases_eq}
 use Rattle.std.proofs.lemmas.List.{take-take, take_at, drop_at, drop-take, get_or-replicate}
 use Rattle.disk_trait.specs.Disk.{DiskView, MayLeave, IsSettled, LeavesOnly, weaker, joined, Torn, IsTornFrom, HasTextBehind, IsPublishing, IsPublished, bytes_at}
@@ -10,13 +10,17 @@ use Rattle.disk_trait.specs.Places.{below, byte_above, byte_below, byte_of, wide
 use Rattle.graph_edits.specs.Edges.{Network, IsSound, most_edges, weight_in}
 use Rattle.graph_edits.proofs.EdgeRows.{pair_in_order}
 use Rattle.layout_2.specs.Layout.{worn_limit, checkpoint_room, device_len, header, journal_start, sessions, slot_room, slot_start, slots_start}
-use Rattle.layout_2.specs.State.{State, checkpoint_text, IsEdge, IsLawful, AreTickets}
+use Rattle.layout_2.specs.State.{State, state_with, checkpoint_text, IsEdge, IsLawful, AreTickets}
 use Rattle.layout_2.specs.Standing.{StandsFor, StandsForNone}
 use Rattle.layout_2.proofs.Texts.{text_fits}
 use Rattle.layout_2.proofs.Folds.{after-nil}
+use Rattle.layout_2.specs.Records.{entries_of}
+use Rattle.checkpoint.specs.declared.store.Store.{Store}
+use Rattle.checkpoint.specs.StoreWords.{is_down, state_of, view_of}
 use Rattle.checkpoint.specs.Rolling.{area_text, padding}
+use Rattle.checkpoint.proofs.Turns.{sound_after}
 use Rattle.checkpoint.specs.Written.{HoldsFresh}
-use Rattle.checkpoint.specs.Whole.{without_tickets, IsFreshWith, IsForeign, IsAllForeign, IsShut, IsWritten, IsWriting, StandsForNoneOr}
+use Rattle.checkpoint.specs.Whole.{IsFreshWith, IsForeign, IsAllForeign, IsShut, IsWritten, IsWriting, StandsForNoneOr}
 
 -- ---- what an image stands for
 
@@ -48,16 +52,23 @@ lawful_of g sound = record {
         let there : weight_in g a b ≡ Some w = ap (get g.edges) (pair_in_order a b lt) ∙ is in
         (lt, (sound.within a b w there).1, (sound.weighted a b w there).0, (sound.weighted a b w there).1)
 
-no_tickets : AreTickets (replicate sessions 0)
+pub no_tickets : AreTickets (replicate sessions 0)
 no_tickets = record { wide = refl; fit = zeros sessions }
   where
     zeros : (n : ℕ) → AllByRecursion (λ ticket. ticket ≤ worn_limit) (replicate n 0)
     zeros zero = tt
     zeros (suc n) = (omega arith, zeros n)
 
-module _ (count : ℕ) (graph : Network) (sound : IsSound graph) (fits : count ≤ worn_limit) (text : List ℕ) (is : IsLawful graph → text ≡ area_text 1 (without_tickets count graph)) where
-  abbrev state : State
-  state = without_tickets count graph
+-- the last tickets of a store that is up are those of a state, if its device keeps the model
+pub are_tickets : {D : Type 0} {V : _} → (s : Store D V) → IsTrue (view_of s).keeps_model → is_down s ≡ false → MayLeave (view_of s) (view_of s).content → AreTickets s.tickets
+are_tickets s model up present =
+    let kept = s.kept model up in
+    let base = state_with s.base_count.value s.base.value s.base_tickets.value in
+    sound_after base (state_of s) (entries_of s.journal.groups) kept.folds kept.in_turn (kept.each (view_of s).content present).stands.tickets
+
+module _ (state : State) (sound : IsSound state.graph) (are : AreTickets state.tickets) (fits : state.count ≤ worn_limit) (text : List ℕ) (is : IsLawful state.graph → text ≡ area_text 1 state) where
+  abbrev graph : Network
+  graph = state.graph
 
   abbrev size : ℕ
   size = length (checkpoint_text 1 state)
@@ -66,7 +77,7 @@ module _ (count : ℕ) (graph : Network) (sound : IsSound graph) (fits : count �
   lawful = lawful_of graph sound
 
   room : size < checkpoint_room
-  room = text_fits 1 state no_tickets.wide lawful
+  room = text_fits 1 state are.wide lawful
 
   front : take size text ≡ checkpoint_text 1 state
   front = ap (take size) (is lawful) ∙ take_at (checkpoint_text 1 state) (padding (checkpoint_text 1 state)) size refl
@@ -93,7 +104,7 @@ module _ (count : ℕ) (graph : Network) (sound : IsSound graph) (fits : count �
       gate = w.gate;
       text = sym (take-take size checkpoint_room (drop (slot_start 0 + 1) image) (omega (arith, room))) ∙ ap (take size) w.behind ∙ front;
       lawful = lawful;
-      tickets = no_tickets;
+      tickets = are;
       epoch_fits = lit≤ tt;
       older = λ is_open. absurd (w.other is_open);
       records = record {

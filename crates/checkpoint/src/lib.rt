@@ -10,6 +10,7 @@
 //! - [`format`] makes a device stand for no changes, no edges and no tickets.
 //! - [`write_state`] makes a device stand for a count and a network without tickets. Where it had no front of this layout before, whenever
 //!   a crash comes, what it leaves stands for nothing or for the whole state.
+//! - [`Store::write_to`] makes another device stand for the state of a store, its tickets too, in the same way.
 //! - [`Store::open`] gives the state that the content stands for, and writes nothing. NotFormatted, BadVersion or Damaged it says only
 //!   where the content stands for none, and of these the one that its front tells (`LacksMagic`, `HasOtherVersion` and `HasThisVersion`
 //!   of `layout_2`'s specs/Fronts.antt, one of which holds).

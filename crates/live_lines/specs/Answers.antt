@@ -11,7 +11,7 @@ use Rattle.packet_bytes.specs.Spelling.{address_text}
 use Rattle.packet_ways.specs.declared.carried.Carried.{Carried}
 use Rattle.packet_ways.specs.declared.carried.Carried.TheVariants.{Along, Unreachable}
 use Rattle.packet_ways.specs.declared.carried.Carried.TheVariants as ways
-use Rattle.router_lines.specs.Answers.{move_text, packet_line, refused_text, unread_text}
+use Rattle.packet_bytes.specs.Texts.{address_line, move_text, packet_line, refused_text, unread_text}
 use Rattle.live_lines.specs.declared.asked.Asked.{Asked}
 use Rattle.live_lines.specs.declared.asked.Asked.TheVariants as asks
 use Rattle.live_lines.specs.declared.answer.Answer.{Answer}
@@ -89,7 +89,7 @@ answer_text (OldTicket session ticket) = of_edit session ticket (codes "old tick
 answer_text (Resumed session ticket) = ticket_text session ticket
 answer_text (Way way) = way_text way
 answer_text NoNode = absent_text
-answer_text (Told a) = codes "generation=" ++ (decimal a.generation ++ (codes " address=" ++ encode_lower (address_text a)))
+answer_text (Told a) = address_line a
 answer_text (Sent k) = packet_line k
 answer_text (Moved m) = move_text m
 answer_text (NotCarried e) = refused_text e

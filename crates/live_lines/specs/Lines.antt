@@ -9,7 +9,7 @@ use Rattle.packet_bytes.specs.Refusals.{address_refusal, packet_refusal}
 use Rattle.packet_bytes.specs.Spelling.{SpellsAddress, SpellsPacket}
 use Rattle.packet_bytes.specs.declared.wire.WireRefused.{WireRefused}
 use Rattle.packet_bytes.specs.declared.wire.WireRefused.TheVariants.{BadLength}
-use Rattle.router_lines.specs.Lines.{AreDigitsOf}
+use Rattle.packet_bytes.specs.Digits.{AreDigitsOf}
 use Rattle.written_values.specs.OpText.{op_text}
 use Rattle.written_values.specs.Scripts.{IsChange, words_of}
 use Rattle.live_lines.specs.declared.words.Word.{Word}

@@ -11,9 +11,8 @@ use command_output::{
 use generations::{Mark, Verdict};
 use graph_edits::Code;
 use node_table::{Address, Move, Packet, Refused};
-use packet_bytes::WireRefused;
+use packet_bytes::{WireRefused, moved_text, packet_text, refused_name, told_text, unread_name};
 use packet_ways::Carried;
-use router_lines::{moved_text, packet_text, refused_name, told_text, unread_name};
 use std::alloc::{AllocError, Global};
 
 /// What is answered to a line.

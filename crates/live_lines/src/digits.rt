@@ -5,8 +5,7 @@ ghost use Rattle.live_lines.specs.Lines.{AreHex, AsksJust, HopAsks, LaunchAsks};
 
 use crate::asked::Asked;
 use node_table::{Address, Packet};
-use packet_bytes::{ADDRESS_SIZE, PACKET_SIZE, Wire, WireRefused};
-use router_lines::{NoBytes, bytes_in};
+use packet_bytes::{ADDRESS_SIZE, NoBytes, PACKET_SIZE, Wire, WireRefused, bytes_in};
 
 /// Whether a byte is a hex digit, in either case.
 fn is_digit(byte: u8) -> bool

@@ -2,3 +2,5 @@ pub mod Layout
 pub mod Refusals
 pub mod Spelling
 pub mod Laws
+pub mod Digits
+pub mod Texts

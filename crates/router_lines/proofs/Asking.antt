@@ -7,7 +7,8 @@ use Rattle.packet_bytes.specs.Spelling.{SpellsAddress, SpellsPacket}
 use Rattle.packet_bytes.specs.declared.wire.WireRefused.{WireRefused}
 use Rattle.router_lines.specs.declared.line.Asked.{Asked}
 use Rattle.router_lines.specs.declared.line.Asked.TheVariants.{Address, Launch, Hop, Tables, Unread, NotUnderstood}
-use Rattle.router_lines.specs.Lines.{AreDigitsOf, Asks, HasNoBytes, IsAskedIn, IsHop, IsLaunch, IsUnread, address_word, hop_word, launch_word, tables_word}
+use Rattle.packet_bytes.specs.Digits.{AreDigitsOf, HasNoBytes}
+use Rattle.router_lines.specs.Lines.{Asks, IsAskedIn, IsHop, IsLaunch, IsUnread, address_word, hop_word, launch_word, tables_word}
 
 -- lists that begin otherwise are others
 other_front : (a b : List ℕ) → eqb (get_or a 0 0) (get_or b 0 0) ≡ false → a ≡ b → ⊥

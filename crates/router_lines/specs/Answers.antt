@@ -1,16 +1,12 @@
 -- What a router answers to a line, and the text of an answer.
 use Rattle.std.specs.Prelude.{◌≡◌, ◌⊎◌, ◌-◌, ℕ, Result, Ok, Err, Option, Some, None, List, [], ◌∷◌, ◌++◌, codes, decimal, get_or, length}
 use Rattle.std.specs.List.{flat_map}
-use Rattle.hex.specs.Hex.{encode_lower}
 use Rattle.node_table.specs.declared.packet.Address.{Address}
 use Rattle.node_table.specs.declared.packet.Packet.{Packet}
 use Rattle.node_table.specs.declared.packet.Move.{Move}
-use Rattle.node_table.specs.declared.packet.Move.TheVariants.{Delivered, Forward}
 use Rattle.node_table.specs.declared.packet.Refused.{Refused}
-use Rattle.node_table.specs.declared.packet.Refused.TheVariants.{NoNode, Unreachable, Stray, Spent}
-use Rattle.packet_bytes.specs.Spelling.{address_text, packet_text}
+use Rattle.packet_bytes.specs.Texts.{address_line, move_text, packet_line, refused_text, unread_text}
 use Rattle.packet_bytes.specs.declared.wire.WireRefused.{WireRefused}
-use Rattle.packet_bytes.specs.declared.wire.WireRefused.TheVariants.{BadLength, BadFlag, BadCount, BadPadding}
 use Rattle.router_table.specs.Handing.{hopped, launched}
 use Rattle.router_table.specs.Refusals.{IsRefusedFor}
 use Rattle.router_table.specs.Spelling.{SpellsTable}
@@ -24,20 +20,6 @@ use Rattle.router_lines.specs.declared.line.Asked.{Asked}
 use Rattle.router_lines.specs.declared.line.Asked.TheVariants.{Address as WhereIs, Launch, Hop, Tables as WhichTables, Unread as Unspelled, NotUnderstood as Unknown}
 use Rattle.router_lines.specs.declared.shelf.LoadRefused.{LoadRefused}
 use Rattle.router_lines.specs.declared.shelf.LoadRefused.TheVariants.{OtherNode, GenerationGone, Memory as LoadMemory}
-
--- why a packet isn't sent or carried
-abbrev pub refused_text : Refused → List ℕ
-refused_text NoNode = codes "no node"
-refused_text Unreachable = codes "unreachable"
-refused_text Stray = codes "stray"
-refused_text Spent = codes "spent"
-
--- why bytes are no packet or address
-abbrev pub unread_text : WireRefused → List ℕ
-unread_text BadLength = codes "bad length"
-unread_text BadFlag = codes "bad flag"
-unread_text BadCount = codes "bad count"
-unread_text BadPadding = codes "bad padding"
 
 -- ---- what is answered
 
@@ -84,14 +66,6 @@ IsLoadedBy old bytes new answer =
 
 -- ---- texts
 
--- a label of text before digits
-abbrev pub packet_line : Packet → List ℕ
-packet_line k = codes "packet=" ++ encode_lower (packet_text k)
-
-abbrev pub move_text : Move → List ℕ
-move_text Delivered = codes "delivered"
-move_text (Forward q y k) = codes "port=" ++ (decimal q ++ (codes " next=" ++ (decimal y ++ (codes " " ++ packet_line k))))
-
 -- a number behind a comma
 abbrev pub behind_comma : ℕ → List ℕ
 behind_comma n = codes "," ++ decimal n
@@ -119,7 +93,7 @@ load_text LoadMemory = codes "out of memory"
 
 -- the line of an answer
 abbrev pub answer_text : Answer → List ℕ
-answer_text (Told a) = codes "generation=" ++ (decimal a.generation ++ (codes " address=" ++ encode_lower (address_text a)))
+answer_text (Told a) = address_line a
 answer_text (Sent k) = packet_line k
 answer_text (Moved m) = move_text m
 answer_text (NotCarried e) = refused_text e

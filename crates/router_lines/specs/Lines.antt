@@ -1,13 +1,12 @@
 -- What lines ask for.
 use Rattle.std.specs.Prelude.{◌≡◌, ◌≢◌, ◌⊎◌, ◌*◌, ℕ, Result, Ok, Err, Option, Some, List, ◌++◌, codes, length}
 use Rattle.hex.specs.Hex.{decode_sized}
+use Rattle.packet_bytes.specs.Digits.{AreDigitsOf, HasNoBytes}
 use Rattle.packet_bytes.specs.Layout.{address_size, packet_size}
 use Rattle.packet_bytes.specs.Refusals.{address_refusal, packet_refusal}
 use Rattle.packet_bytes.specs.Spelling.{SpellsAddress, SpellsPacket}
 use Rattle.packet_bytes.specs.declared.wire.WireRefused.{WireRefused}
 use Rattle.packet_bytes.specs.declared.wire.WireRefused.TheVariants.{BadLength}
-use Rattle.router_lines.specs.declared.line.NoBytes.{NoBytes}
-use Rattle.router_lines.specs.declared.line.NoBytes.TheVariants.{OtherLength, NoDigits}
 use Rattle.router_lines.specs.declared.line.Asked.{Asked}
 use Rattle.router_lines.specs.declared.line.Asked.TheVariants.{Address, Launch, Hop, Tables, Unread, NotUnderstood}
 
@@ -26,22 +25,6 @@ hop_word = codes "hop "
 
 abbrev pub load_word : List ℕ
 load_word = codes "load "
-
--- digits are the hex of bytes that spell a value
-pub record AreDigitsOf {X : Type 0} (size : ℕ) (spells : List ℕ → X → Type 0) (digits : List ℕ) (x : X) : Type 0 where
-  pub bytes : List ℕ
-  pub decoded : decode_sized digits size ≡ Ok bytes
-  pub spelled : spells bytes x
-
--- digits are as many as those of so many bytes, and the hex of none
-abbrev pub HasNoBytes : ℕ → List ℕ → Type 0
-HasNoBytes size digits = (length digits ≡ 2 * size) × ((bytes : List ℕ) → decode_sized digits size ≢ Ok bytes)
-
--- so many bytes of digits, exactly
-abbrev pub IsDecoded : ℕ → List ℕ → Result (List ℕ) NoBytes → Type 0
-IsDecoded size digits (Ok bytes) = (length digits ≡ 2 * size) × (decode_sized digits size ≡ Ok bytes)
-IsDecoded size digits (Err OtherLength) = length digits ≢ 2 * size
-IsDecoded size digits (Err NoDigits) = HasNoBytes size digits
 
 -- why digits are those of no value: they are more or fewer, or their bytes are refused
 abbrev pub IsUnread : ℕ → (List ℕ → Option WireRefused) → List ℕ → WireRefused → Type 0

@@ -22,6 +22,6 @@ mod answer;
 mod line;
 mod shelf;
 
-pub use answer::{Answer, moved_text, packet_text, refused_name, told_text, unread_name};
-pub use line::{Asked, NoBytes, asked_in, bytes_in, file_in};
+pub use answer::Answer;
+pub use line::{Asked, asked_in, file_in};
 pub use shelf::{LoadRefused, SHELF_SIZE, Shelf};

@@ -1,10 +1,9 @@
 // What a line asks for.
 ghost use Rattle.std.specs.Prelude.{◌≡◌, ◌≢◌, ◌++◌, MatchOption, ℕ, List};
-ghost use Rattle.router_lines.specs.Lines.{IsAskedIn, IsDecoded, IsLaunch, IsHop, load_word};
+ghost use Rattle.router_lines.specs.Lines.{IsAskedIn, IsLaunch, IsHop, load_word};
 
-use hex::FromHex;
 use node_table::{Address, Packet};
-use packet_bytes::{ADDRESS_SIZE, PACKET_SIZE, Wire, WireRefused};
+use packet_bytes::{ADDRESS_SIZE, NoBytes, PACKET_SIZE, Wire, WireRefused, bytes_in};
 
 /// What a line asks for.
 #[derive(Drop)]
@@ -42,26 +41,6 @@ pub fn file_in(line: &[u8]) -> Option<&[u8]>
         (λ file. line.now ≡ load_word ++ file.now) }
 {
     behind(line, b"load ")
-}
-
-/// What digits are not, where they aren't those of so many bytes: too many or too few of them, or no digits at all.
-#[derive(Clone, Copy, Drop)]
-pub enum NoBytes {
-    OtherLength,
-    NoDigits,
-}
-
-/// The bytes of so many hex digits.
-pub fn bytes_in<const N: usize>(digits: &[u8]) -> Result<[u8; N], NoBytes>
-    ensures { IsDecoded N digits.now result }
-{
-    if digits.len() % 2 != 0 || digits.len() / 2 != N {
-        return Err(NoBytes::OtherLength);
-    }
-    match <[u8; N] as FromHex>::from_hex(digits) {
-        Ok(bytes) => Ok(bytes),
-        Err(_) => Err(NoBytes::NoDigits),
-    }
 }
 
 /// What is asked for by the digits of an address.
