@@ -1,9 +1,9 @@
 -- What a router does with a packet, by the fields of both.
-use Rattle.std.proofs.Common.{◌≡◌, ℕ, ◌*◌, ◌<◌, ◌≤◌, ◌==◌, nat_lt, Bool, true, false, List, drop, Option, Some, None, refl, sym, ap, subst, ◌∙◌, arith}
+use Rattle.std.proofs.Common.{◌≡◌, ℕ, ◌+◌, ◌-◌, ◌*◌, ◌<◌, ◌≤◌, ◌==◌, nat_lt, Bool, true, false, List, [], ◌∷◌, ◌++◌, length, get_or, take, drop, Option, Some, None, refl, sym, ap, subst, ◌∙◌, arith}
 use Rattle.std.specs.Prelude.{Ok, Err, cond, slice_get}
 use Rattle.std.specs.List.{flat_map}
 use Rattle.std.proofs.lemmas.Bool.{le-ltb, lt-ltb}
-use Rattle.std.proofs.lemmas.List.{take_rest}
+use Rattle.std.proofs.lemmas.List.{append-nil, take_at}
 use Rattle.std.proofs.lemmas.Option.{none-some, same_Some}
 use Rattle.heavy_labels.specs.Label.{Label}
 use Rattle.heavy_labels.specs.Numbering.{Step, arrived, port, no_parent, no_light, step}
@@ -27,7 +27,11 @@ use Rattle.table_view.specs.Ways.{after_step, onward}
 use Rattle.table_view.specs.declared.hops.Hop.TheVariants.{Delivered as Arrived, Forward as Onward}
 use Rattle.table_view.proofs.Entries.{IsEntryAt, do_rise, entry_at_place, no_entry, port_out}
 use Rattle.table_view.proofs.Packets.{destination_is, first_is, hops_are, light_is, root_is}
-use Rattle.table_view.proofs.Places.{ArePartsOf, from_on, its_parts, node_in, nodes_in}
+use Rattle.table_view.proofs.Places.{ArePartsOf, its_parts, node_in, nodes_in}
+
+-- the bytes of the entry at a place, as a slice has them
+abbrev pub entry_bytes : ℕ → List ℕ → List ℕ
+entry_bytes at entries = take (at + 13 - at) (drop at entries)
 
 -- what is done after a step is what the tables say
 onward_is : (k : Packet) (q : ℕ) (o : Option ℕ) → forward_over k q o ≡ move_of k (onward k.hops_left q o)
@@ -65,6 +69,14 @@ module _ (bytes packet : List ℕ) (p : PartsOf) (a : Table) (k : Packet) (found
   pub never_no_node : u16_of p.0 16 ≤ u16_of p.0 18 → ⊥
   never_no_node le = omega (arith, le, nodes_are, node_is, ok.head.node)
 
+  -- the first port leads to one of them
+  pub first_inside : (n : ℕ) → port_of p.2 p.1 0 ≡ Some n → n < u16_of p.0 16
+  first_inside n is = omega (arith, nodes_are, go a.ports (ok.lists.ports.below 0 0) (sym (port_out bytes p a found spelled 0) ∙ is))
+    where
+      go : (ports : List ℕ) → (0 < length ports → get_or ports 0 0 < a.head.nodes) → slice_get ports 0 ≡ Some n → n < a.head.nodes
+      go [] below e = absurd (none-some n e)
+      go (x ∷ xs) below e = subst (λ z. z < a.head.nodes) (same_Some x n e) (below (omega arith))
+
   inside : nat_lt a.head.node a.head.nodes ≡ true
   inside = lt-ltb a.head.node a.head.nodes ok.head.node
 
@@ -92,19 +104,24 @@ module _ (bytes packet : List ℕ) (p : PartsOf) (a : Table) (k : Packet) (found
     at = entry_at_place a ok place k.root (subst (λ n. place < n) parts.entry_count lt) (ap (λ (t : List ℕ). root_of t place) (sym parts.entries) ∙ is ∙ root_is packet k carried)
 
     -- it is read
-    entry_there : entry_at (from_on (13 * place) p.4) ≡ Some (at.entry, at.behind)
-    entry_there = ap entry_at (take_rest p.4 (13 * place)) ∙ ap (λ (t : List ℕ). entry_at (drop (13 * place) t)) parts.entries ∙ ap entry_at at.text ∙ entry_item.again at.entry at.behind at.fits
+    entry_there : entry_at (entry_bytes (13 * place) p.4) ≡ Some (at.entry, [])
+    entry_there =
+        let size : 13 * place + 13 - 13 * place ≡ 13 = omega arith in
+        let text : entry_bytes (13 * place) p.4 ≡ entry_text at.entry ++ [] =
+        ap (λ n. take n (drop (13 * place) p.4)) size ∙ ap (λ (t : List ℕ). take 13 (drop (13 * place) t)) parts.entries ∙ ap (take 13) at.text
+        ∙ take_at (entry_text at.entry) at.behind 13 refl ∙ sym (append-nil (entry_text at.entry)) in
+        ap entry_at text ∙ entry_item.again at.entry [] at.fits
 
-    pub no_bytes : entry_at (from_on (13 * place) p.4) ≡ None → ⊥
+    pub no_bytes : entry_at (entry_bytes (13 * place) p.4) ≡ None → ⊥
     no_bytes none = none-some _ (sym none ∙ entry_there)
 
     -- and gives the step
-    pub hop_is : (e : TreeEntry) (rest : List ℕ) (light : Option ℕ) (s : Step) → u16_of packet 14 < u16_of p.0 16 → entry_at (from_on (13 * place) p.4) ≡ Some (e, rest)
-        → light ≡ light_of packet e.tree_record.light_depth → ((l : Label) → l.first ≡ u16_of packet 12 → slice_get l.lights e.tree_record.light_depth ≡ light → s ≡ step (record_of e.tree_record) l)
+    pub hop_is : (e : TreeEntry) (rest : List ℕ) (s : Step) → u16_of packet 14 < u16_of p.0 16 → entry_at (entry_bytes (13 * place) p.4) ≡ Some (e, rest)
+        → ((l : Label) → l.first ≡ u16_of packet 12 → slice_get l.lights e.tree_record.light_depth ≡ light_of packet e.tree_record.light_depth → s ≡ step (record_of e.tree_record) l)
         → hopped a k ≡ move_of k (after_step (u16_of p.0 18 == u16_of packet 8) (port_of p.2 p.1) (u16_of packet 14) s)
-    hop_is e rest light s less read light_is_there stepped =
+    hop_is e rest s less read stepped =
         let same : e ≡ at.entry = ap (λ (x : TreeEntry × List ℕ). x.0) (same_Some {A = TreeEntry × List ℕ} _ _ (sym read ∙ entry_there)) in
-        let step_is : s ≡ step (record_of e.tree_record) k.label = stepped k.label (sym (first_is packet k carried)) (light_is packet k carried e.tree_record.light_depth ∙ sym light_is_there) in
+        let step_is : s ≡ step (record_of e.tree_record) k.label = stepped k.label (sym (first_is packet k carried)) (light_is packet k carried e.tree_record.light_depth) in
         let move : hopped a k ≡ move_by (shown a) a.head.node k (step (record_of at.entry.tree_record) k.label) = rw (inside, few less, at.there) refl in
         move
         ∙ ap (λ (f : TreeEntry). move_by (shown a) a.head.node k (step (record_of f.tree_record) k.label)) (sym same)

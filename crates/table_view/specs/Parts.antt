@@ -1,5 +1,5 @@
 -- The bytes of a table in their parts, whatever their values.
-use Rattle.std.specs.Prelude.{◌≡◌, ℕ, ◌+◌, ◌*◌, ◌^◌, ◌<◌, nat_lt, if◌then◌else◌, List, [], ◌∷◌, ◌++◌, take, drop, length, get_or, slice_set, Option, Some, None}
+use Rattle.std.specs.Prelude.{◌≡◌, ℕ, ◌+◌, ◌*◌, ◌^◌, ◌<◌, ◌≤◌, nat_lt, if◌then◌else◌, List, [], ◌∷◌, ◌++◌, take, drop, length, get_or, slice_set, Option, Some, None}
 use Rattle.std.specs.Int.{w16, from_be_bytes, to_be_bytes}
 use Rattle.std.specs.List.{AllByRecursion}
 use Rattle.node_table.specs.declared.parts.Listed.{Listed}
@@ -42,6 +42,13 @@ root_of entries place = u16_of entries (entry_size * place)
 -- the roots of so many entries strictly ascend
 abbrev pub DoRise : List ℕ → ℕ → Type 0
 DoRise entries count = (i j : ℕ) → i < j → j < count → root_of entries i < root_of entries j
+
+-- the root is among so many places from the base on, if it is anywhere
+pub record IsHalved (entries : List ℕ) (count root base size : ℕ) : Type 0 where
+  pub some : 0 < size
+  pub within : base + size ≤ count
+  pub below : DoRise entries count → (i : ℕ) → i < base → root_of entries i < root
+  pub above : DoRise entries count → (i : ℕ) → base + size ≤ i → i < count → root < root_of entries i
 
 -- the port at a place of so many
 abbrev pub port_of : List ℕ → ℕ → ℕ → Option ℕ

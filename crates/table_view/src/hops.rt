@@ -1,5 +1,5 @@
 // What a router does with a packet, out of the bytes of its table.
-ghost use Rattle.std.specs.Prelude.{◌≡◌, ◌*◌, slice_get, Some, MatchOption, length};
+ghost use Rattle.std.specs.Prelude.{◌≡◌, ◌↔◌, ◌*◌, ◌<◌, ℕ, slice_get, None, Some, IsTrue, MatchOption, length};
 ghost use Rattle.heavy_labels.specs.Label.{Label};
 ghost use Rattle.heavy_labels.specs.Numbering.{by_port as port_or, step as step_by};
 ghost use Rattle.heavy_labels.specs.Stepped.{record_of as fields_of, stepped};
@@ -8,7 +8,7 @@ ghost use Rattle.packet_bytes.specs.Layout.{packet_size};
 ghost use Rattle.packet_bytes.specs.Refusals.{packet_refusal};
 ghost use Rattle.router_table.specs.Handing.{hopped};
 ghost use Rattle.table_view.specs.Answers.{OfBoth, OfTable, move_of};
-ghost use Rattle.table_view.specs.Parts.{port_of};
+ghost use Rattle.table_view.specs.Parts.{light_of, port_of};
 ghost use Rattle.table_view.specs.Ways.{after_step};
 
 use crate::fields::u16_in;
@@ -31,6 +31,7 @@ pub enum Hop {
 }
 
 /// The step by a port, or the other answer where there is none.
+#[inline(always)]
 fn by_port(port: Option<u16>, other: TreeStep) -> TreeStep
     ensures { stepped result ≡ port_or (stepped other) port }
 {
@@ -40,9 +41,13 @@ fn by_port(port: Option<u16>, other: TreeStep) -> TreeStep
     }
 }
 
-/// The step by a record of what has this number in its label, and this light port at the record's light depth.
-fn step_of(record: &Record, first: u16, light: Option<u16>) -> TreeStep
-    ensures { (l : Label) → l.first ≡ first → slice_get l.lights «record».now.light_depth ≡ light
+/// The step by a record of what has this number in its label, and the light ports of a packet.
+#[inline(always)]
+fn step_of(record: &Record, first: u16, packet: &[u8]) -> TreeStep
+    requires size { length packet.now ≡ packet_size }
+    requires fits { packet_refusal packet.now ≡ None }
+    ensures { (l : Label) → l.first ≡ first
+        → slice_get l.lights «record».now.light_depth ≡ light_of packet.now «record».now.light_depth
         → stepped result ≡ step_by (fields_of «record».now) l }
 {
     if first == record.first {
@@ -52,11 +57,12 @@ fn step_of(record: &Record, first: u16, light: Option<u16>) -> TreeStep
     } else if first <= record.heavy_last {
         by_port(record.heavy_port, TreeStep::NoLight)
     } else {
-        by_port(light, TreeStep::NoLight)
+        by_port(light_at(packet, record.light_depth), TreeStep::NoLight)
     }
 }
 
 /// What is done after a step with a packet that has so many hops left, where the router is the destination or isn't.
+#[inline(always)]
 fn hop_after(
     step: TreeStep,
     here: bool,
@@ -84,6 +90,17 @@ fn hop_after(
     }
 }
 
+/// Whether the first port, where there is one, leads to one of so many nodes.
+fn is_inside(ports: &[u8], count: u16, nodes: u16) -> bool
+    requires { length ports.now ≡ PORT_SIZE * count }
+    ensures { IsTrue result ↔ ((n : ℕ) → port_of ports.now count 0 ≡ Some n → n < nodes) }
+{
+    match port_in(ports, count, 0) {
+        Some(first) => first < nodes,
+        None => true,
+    }
+}
+
 /// What the router does with the packet that bytes spell. None where it meets that the table's bytes spell no table.
 pub(crate) fn hop_of(table: &[u8], packet: &[u8]) -> Option<Result<Hop, Refused>>
     requires size { length packet.now ≡ packet_size }
@@ -100,12 +117,16 @@ pub(crate) fn hop_of(table: &[u8], packet: &[u8]) -> Option<Result<Hop, Refused>
     if hops_left >= nodes {
         return Some(Err(Refused::Stray));
     }
-    let Some(place) = place_of(entries, entry_count, u16_in(packet, ROOT_AT)) else {
+    // The test makes the processor fetch the bytes of the ports, beside which the entries begin, before it knows how many ports there are.
+    if !is_inside(ports, port_count, nodes) {
+        return None;
+    }
+    let Some(place) = place_of(entries, entry_count, u16_in(packet, ROOT_AT), nodes) else {
         return Some(Err(Refused::Stray));
     };
-    let (entry, _) = TreeEntry::take(&entries[ENTRY_SIZE * place..])?;
-    let light = light_at(packet, entry.tree_record.light_depth);
-    let step = step_of(&entry.tree_record, u16_in(packet, FIRST_AT), light);
+    let at = ENTRY_SIZE * place;
+    let (entry, _) = TreeEntry::take(&entries[at..at + ENTRY_SIZE])?;
+    let step = step_of(&entry.tree_record, u16_in(packet, FIRST_AT), packet);
     let here = node == u16_in(packet, DESTINATION_AT);
     Some(hop_after(step, here, ports, port_count, hops_left))
 }

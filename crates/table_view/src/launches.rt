@@ -71,7 +71,7 @@ pub fn launch_in(table: &[u8], to: &Address) -> Option<Result<Packet, Refused>>
     let Some(home) = &to.home else {
         return Some(Err(Refused::Unreachable));
     };
-    let Some(_) = place_of(entries, entry_count, home.landmark) else {
+    let Some(_) = place_of(entries, entry_count, home.landmark, nodes) else {
         return Some(Err(Refused::Unreachable));
     };
     Some(Ok(packet_in(generation, nodes, to.node, home.landmark, &home.label)))

@@ -1,5 +1,5 @@
 // Packets in bytes, read field by field, and handed on.
-ghost use Rattle.std.specs.Prelude.{◌≡◌, ◌-◌, ◌<◌, length};
+ghost use Rattle.std.specs.Prelude.{◌≡◌, ◌-◌, ◌*◌, ◌<◌, ◌≤◌, length};
 ghost use Rattle.packet_bytes.specs.Layout.{packet_size};
 ghost use Rattle.packet_bytes.specs.Refusals.{are_zeros, packet_refusal};
 ghost use Rattle.table_view.specs.Parts.{light_of, u16_of, with_hops};
@@ -19,11 +19,15 @@ pub(crate) const HOPS_AT: usize = 14;
 
 const PORTS_AT: usize = 16;
 
-/// Whether all bytes are 0.
+/// As many zeros as there are bytes for ports.
+const ZEROS: [u8; 2 * MOST_LIGHTS] = [0; 2 * MOST_LIGHTS];
+
+/// Whether all bytes are 0. They are compared many at a time.
 fn all_zero(bytes: &[u8]) -> bool
+    requires { length bytes.now ≤ 2 * MOST_LIGHTS }
     ensures { result ≡ are_zeros bytes.now }
 {
-    bytes.iter().all(|byte| *byte == 0)
+    bytes == &ZEROS[..bytes.len()]
 }
 
 /// Why bytes are no packet, if they are none.

@@ -1,4 +1,4 @@
-use Rattle.table_view.proofs.Halving.{IsHalved}
+use Rattle.table_view.specs.Parts.{IsHalved}
 use Rattle.table_view.proofs.search.place_of.Given as goal
 
 abbrev pub invariant-loop-size : goal.invariant-loop-size
