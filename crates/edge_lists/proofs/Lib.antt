@@ -6,3 +6,5 @@ pub mod EdgeLemmas
 pub mod NameLemmas
 pub mod TakeLemmas
 pub mod WrittenLemmas
+pub mod OnceLemmas
+pub mod ApartLemmas

@@ -19,7 +19,8 @@ use Rattle.edge_lists.specs.declared.refused.NameForm.{NameForm}
 use Rattle.edge_lists.specs.declared.refused.NameForm.TheVariants.{NoName, Twice, TooMany}
 use Rattle.edge_lists.specs.declared.refused.NameRefused.{NameRefused}
 use Rattle.edge_lists.specs.NameLists.{AreNames, IsFirstNoName, IsNoName, IsNumberOf}
-use Rattle.edge_lists.specs.declared.header.Heading.TheVariants.{ByWords}
+use Rattle.edge_lists.specs.declared.forms.Heading.TheVariants.{ByWords}
+use Rattle.edge_lists.specs.declared.forms.Writing.TheVariants.{Edges}
 use Rattle.edge_lists.specs.Labels.{AreLabels, IsLabel, begins_comment, begins_mark, is_blank_at, is_name, separates}
 use Rattle.edge_lists.specs.Records.{comma_fields, has_comma}
 use Rattle.edge_lists.specs.Rows.{IsFirstRefused, IsRowOf, IsWeight, Said, Say, begins_as_name, fields_of, heads_ends, is_head, is_heading, lead, parts_at, says_nothing, unless_empty, words_of}
@@ -121,26 +122,26 @@ one_row line fields s t a b =
     let rest : a.behind ≡ b.behind = cc in
     same_said s t (a.number ∙ sym b.number) first second (one_weight s.weight t.weight b.behind a.fits b.fits (subst (IsWeight s.weight) rest a.weighted) b.weighted)
 
-one_say : (before : ℕ) (texts : List (List ℕ)) (s t : List Said) → Say before texts s → Say before texts t → s ≡ t
+one_say : (before : ℕ) (texts : List (List ℕ)) (s t : List Said) → Say (Edges ByWords) before texts s → Say (Edges ByWords) before texts t → s ≡ t
 one_say before [] s t a b = a ∙ sym b
 one_say before (text ∷ texts) s t (inl a) (inl b) = one_say (before + 1) texts s t a.1 b.1
 one_say before (text ∷ texts) s t (inl a) (inr b) = let bad : true ≡ false = sym a.0 ∙ b.2 in absurd (cc)
 one_say before (text ∷ texts) s t (inr a) (inl b) = let bad : true ≡ false = sym b.0 ∙ a.2 in absurd (cc)
 one_say before (text ∷ texts) s t (inr a) (inr b) =
-    let row : a.0 ≡ b.0 = one_row (before + 1) (fields_of text) a.0 b.0 a.4 b.4 in
+    let row : a.0 ≡ b.0 = one_row (before + 1) (fields_of (Edges ByWords) text) a.0 b.0 a.4 b.4 in
     let rest : a.1 ≡ b.1 = one_say (before + 1) texts a.1 b.1 a.5 b.5 in
     a.3 ∙ ap (λ (r : Said). r ∷ a.1) row ∙ ap (λ (l : List Said). b.0 ∷ l) rest ∙ sym b.3
 
-said_not_refused : (before : ℕ) (texts : List (List ℕ)) (said : List Said) (n : ℕ) → Say before texts said → IsFirstRefused before texts n → ⊥
+said_not_refused : (before : ℕ) (texts : List (List ℕ)) (said : List Said) (n : ℕ) → Say (Edges ByWords) before texts said → IsFirstRefused (Edges ByWords) before texts n → ⊥
 said_not_refused before texts said n say refused =
-    refused.refused (drop (n - before) texts) said (subst (λ (l : List (List ℕ)). Say before l said) (sym (take-append-drop (n - before) texts)) say)
+    refused.refused (drop (n - before) texts) said (subst (λ (l : List (List ℕ)). Say (Edges ByWords) before l said) (sym (take-append-drop (n - before) texts)) say)
 
 -- what a text says is read, and nothing else
-pub read_alone : (text : List ℕ) (said : List Said) → SaysEdges ByWords text said → AreRead text said
+pub read_alone : (text : List ℕ) (said : List Said) → SaysEdges (Edges ByWords) text said → AreRead text said
 read_alone text said says = record {
   says = says;
-  only = λ other is. one_say (lead ByWords (lines_of text)) (drop (lead ByWords (lines_of text)) (lines_of text)) other said is says;
-  none = λ number refused. said_not_refused (lead ByWords (lines_of text)) (drop (lead ByWords (lines_of text)) (lines_of text)) said number says refused;
+  only = λ other is. one_say (lead (Edges ByWords) (lines_of text)) (drop (lead (Edges ByWords) (lines_of text)) (lines_of text)) other said is says;
+  none = λ number refused. said_not_refused (lead (Edges ByWords) (lines_of text)) (drop (lead (Edges ByWords) (lines_of text)) (lines_of text)) said number says refused;
 }
 
 -- ---- labels
@@ -316,13 +317,13 @@ line_comma a b w is_a is_b is_w =
 line_feed : (a b w : List ℕ) → IsLabel a → IsLabel b → IsLabel w → IsOneLine (a ++ 32 ∷ (b ++ 32 ∷ w))
 line_feed a b w is_a is_b is_w = line_all (λ (x : ℕ). (x == 10) ≡ false) a b w refl (plain_by a is_a.plain).feed (plain_by b is_b.plain).feed (plain_by w is_w.plain).feed
 
-line_fields : (a b w : List ℕ) → IsLabel a → IsLabel b → IsLabel w → fields_of (a ++ 32 ∷ (b ++ 32 ∷ w)) ≡ a ∷ b ∷ w ∷ []
+line_fields : (a b w : List ℕ) → IsLabel a → IsLabel b → IsLabel w → fields_of (Edges ByWords) (a ++ 32 ∷ (b ++ 32 ∷ w)) ≡ a ∷ b ∷ w ∷ []
 line_fields a b w is_a is_b is_w =
     let line = a ++ 32 ∷ (b ++ 32 ∷ w) in
     ap (λ (c : Bool). cond c (comma_fields line) (words_of line)) (line_comma a b w is_a is_b is_w) ∙ line_words a b w is_a is_b is_w
 
-line_some : (a b w : List ℕ) → IsLabel a → IsLabel b → IsLabel w → says_nothing (words_of (a ++ 32 ∷ (b ++ 32 ∷ w))) ≡ false
-line_some a b w is_a is_b is_w = ap (λ (l : List (List ℕ)). says_nothing l) (line_words a b w is_a is_b is_w) ∙ is_a.silent
+line_some : (a b w : List ℕ) → IsLabel a → IsLabel b → IsLabel w → says_nothing (Edges ByWords) (words_of (a ++ 32 ∷ (b ++ 32 ∷ w))) ≡ false
+line_some a b w is_a is_b is_w = ap (λ (l : List (List ℕ)). says_nothing (Edges ByWords) l) (line_words a b w is_a is_b is_w) ∙ is_a.silent
 
 -- ---- edges
 
@@ -331,7 +332,7 @@ abbrev pub no_edge : Edge
 no_edge = record { line = 0; a = 0; b = 0; weight = 0 }
 
 edge_said : (names : List (List ℕ)) (before : ℕ) (edge : Edge) → All IsLabel names → FitTypes edge
-    → IsRowOf (before + 1) (fields_of (edge_line names edge)) (record { line = before + 1; a = label_of names edge.a; b = label_of names edge.b; weight = edge.weight })
+    → IsRowOf (before + 1) (fields_of (Edges ByWords) (edge_line names edge)) (record { line = before + 1; a = label_of names edge.a; b = label_of names edge.b; weight = edge.weight })
 edge_said names before edge all fit =
     let a = label_is names edge.a all (omega (arith, fit.first)) in
     let b = label_is names edge.b all (omega (arith, fit.second)) in
@@ -346,7 +347,7 @@ edge_said names before edge all fit =
       weighted = inr refl;
     }
 
-edges_said : (names : List (List ℕ)) (before : ℕ) (edges : List Edge) → All IsLabel names → All FitTypes edges → Say before (map (edge_line names) edges) (said_of names before edges)
+edges_said : (names : List (List ℕ)) (before : ℕ) (edges : List Edge) → All IsLabel names → All FitTypes edges → Say (Edges ByWords) before (map (edge_line names) edges) (said_of names before edges)
 edges_said names before [] all fit = refl
 edges_said names before (edge ∷ edges) all fit =
     let here = All-head FitTypes edge edges fit in
@@ -362,7 +363,7 @@ edges_said names before (edge ∷ edges) all fit =
       edges_said names (before + 1) edges all (All-tail FitTypes edge edges fit),
     )
 
-no_lead : (names : List (List ℕ)) (edges : List Edge) → All IsLabel names → All FitTypes edges → lead ByWords (map (edge_line names) edges) ≡ 0
+no_lead : (names : List (List ℕ)) (edges : List Edge) → All IsLabel names → All FitTypes edges → lead (Edges ByWords) (map (edge_line names) edges) ≡ 0
 no_lead names [] all fit = refl
 no_lead names (edge ∷ edges) all fit =
     let here = All-head FitTypes edge edges fit in
@@ -373,11 +374,11 @@ no_lead names (edge ∷ edges) all fit =
     let first = label_of names edge.a in
     let second = label_of names edge.b in
     let some = line_some first second (decimal edge.weight) a b w in
-    let fields : is_heading (has_comma line) (fields_of line) ≡ heads_ends first second && begins_as_name (decimal edge.weight) =
-    ap (λ (c : Bool). is_heading c (fields_of line)) (line_comma first second (decimal edge.weight) a b w)
+    let fields : is_heading (has_comma line) (fields_of (Edges ByWords) line) ≡ heads_ends first second && begins_as_name (decimal edge.weight) =
+    ap (λ (c : Bool). is_heading c (fields_of (Edges ByWords) line)) (line_comma first second (decimal edge.weight) a b w)
     ∙ ap (λ (l : List (List ℕ)). is_heading false l) (line_fields first second (decimal edge.weight) a b w) in
-    let header : is_head ByWords line ≡ false = fields ∙ ap (λ (c : Bool). heads_ends first second && c) (decimal_begins edge.weight (omega (arith, here.weight))) ∙ never (heads_ends first second) in
-    ap (λ (c : Bool). cond c (lead ByWords (map (edge_line names) edges) + 1) (cond (is_head ByWords line) 1 0)) some ∙ ap (λ (c : Bool). cond c 1 0) header where
+    let header : is_head (Edges ByWords) line ≡ false = fields ∙ ap (λ (c : Bool). heads_ends first second && c) (decimal_begins edge.weight (omega (arith, here.weight))) ∙ never (heads_ends first second) in
+    ap (λ (c : Bool). cond c (lead (Edges ByWords) (map (edge_line names) edges) + 1) (cond (is_head (Edges ByWords) line) 1 0)) some ∙ ap (λ (c : Bool). cond c 1 0) header where
       never : (t : Bool) → (t && false) ≡ false
       never true = refl
       never false = refl
@@ -394,9 +395,9 @@ pub edges_read : (names : List (List ℕ)) (edges : List Edge) (text : List ℕ)
 edges_read names edges text is all fit =
     let whole : text ≡ flat_map (λ (x : List ℕ). x ++ 10 ∷ []) (map (edge_line names) edges) = is ∙ sym (flat_map-map (λ (x : List ℕ). x ++ 10 ∷ []) (edge_line names) edges) in
     let lines : lines_of text ≡ map (edge_line names) edges = ap lines_of whole ∙ lines_of_feeds (map (edge_line names) edges) (one_lines names edges all fit) in
-    let none : lead ByWords (lines_of text) ≡ 0 = ap (lead ByWords) lines ∙ no_lead names edges all fit in
-    let says : Say 0 (drop 0 (lines_of text)) (said_of names 0 edges) = subst (λ (l : List (List ℕ)). Say 0 l (said_of names 0 edges)) (sym lines) (edges_said names 0 edges all fit) in
-    read_alone text (said_of names 0 edges) (subst (λ (n : ℕ). Say n (drop n (lines_of text)) (said_of names 0 edges)) (sym none) says)
+    let none : lead (Edges ByWords) (lines_of text) ≡ 0 = ap (lead (Edges ByWords)) lines ∙ no_lead names edges all fit in
+    let says : Say (Edges ByWords) 0 (drop 0 (lines_of text)) (said_of names 0 edges) = subst (λ (l : List (List ℕ)). Say (Edges ByWords) 0 l (said_of names 0 edges)) (sym lines) (edges_said names 0 edges all fit) in
+    read_alone text (said_of names 0 edges) (subst (λ (n : ℕ). Say (Edges ByWords) n (drop n (lines_of text)) (said_of names 0 edges)) (sym none) says)
 
 -- one edge more fits
 pub fit_more : (edges : List Edge) (i : ℕ) → i < length edges → All FitTypes (take i edges) → FitTypes (get_or edges i no_edge) → All FitTypes (take (i + 1) edges)

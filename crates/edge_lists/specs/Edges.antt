@@ -1,5 +1,5 @@
 -- Edges between numbered nodes, and the rows that they come from.
-use Rattle.std.specs.Prelude.{◌≡◌, ◌≢◌, ◌≤◌, ◌&&◌, ℕ, List, [], All, Bool, true, Some, decimal, nat_le, take}
+use Rattle.std.specs.Prelude.{◌≡◌, ◌≢◌, ◌≤◌, ◌+◌, ◌&&◌, ℕ, List, [], All, Bool, true, Some, decimal, nat_le, take}
 use Rattle.std.specs.List.{AllZip, slice_get}
 use Rattle.edge_lists.specs.declared.edge.Edge.{Edge}
 use Rattle.edge_lists.specs.Rows.{Said}
@@ -15,29 +15,29 @@ pub record IsEdgeOf (StandsFor : List ℕ → ℕ → Type 0) (said : Said) (edg
 abbrev pub AreEdgesOf : (List ℕ → ℕ → Type 0) → List Said → List Edge → Type 0
 AreEdgesOf StandsFor said edges = AllZip (IsEdgeOf StandsFor) said edges
 
--- the word is the plain decimal form of a number, which is at most `last`
-abbrev pub IsNumber : ℕ → List ℕ → ℕ → Type 0
-IsNumber last word number = (word ≡ decimal number) × (number ≤ last)
+-- the word is the plain decimal form of a number, which is at most `last`, where the first number is written as `first`
+abbrev pub IsNumber : ℕ → ℕ → List ℕ → ℕ → Type 0
+IsNumber first last word number = (word ≡ decimal (number + first)) × (number ≤ last)
 
 -- the edge of a row whose ends are such numbers
-abbrev pub IsNumbered : ℕ → Said → Edge → Type 0
-IsNumbered last said edge = IsEdgeOf (IsNumber last) said edge
+abbrev pub IsNumbered : ℕ → ℕ → Said → Edge → Type 0
+IsNumbered first last said edge = IsEdgeOf (IsNumber first last) said edge
 
 -- an end of the row is no such number
-abbrev pub IsNotNumbered : ℕ → Said → Type 0
-IsNotNumbered last said = (edge : Edge) → IsNumbered last said edge → ⊥
+abbrev pub IsNotNumbered : ℕ → ℕ → Said → Type 0
+IsNotNumbered first last said = (edge : Edge) → IsNumbered first last said edge → ⊥
 
 -- the edges of rows whose ends are all such numbers
-abbrev pub AreNumbered : ℕ → List Said → List Edge → Type 0
-AreNumbered last said edges = AreEdgesOf (IsNumber last) said edges
+abbrev pub AreNumbered : ℕ → ℕ → List Said → List Edge → Type 0
+AreNumbered first last said edges = AreEdgesOf (IsNumber first last) said edges
 
 -- the place is that of the first row with an end that is no such number
-pub record IsFirstOther (last : ℕ) (said : List Said) (place : ℕ) : Type 0 where
+pub record IsFirstOther (first last : ℕ) (said : List Said) (place : ℕ) : Type 0 where
   pub edges : List Edge
-  pub before : AreNumbered last (take place said) edges
+  pub before : AreNumbered first last (take place said) edges
   pub row : Said
   pub at : slice_get said place ≡ Some row
-  pub other : IsNotNumbered last row
+  pub other : IsNotNumbered first last row
 
 -- a digit
 abbrev pub is_digit : ℕ → Bool

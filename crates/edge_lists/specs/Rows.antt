@@ -1,13 +1,15 @@
--- What the lines of an edge list say.
-use Rattle.std.specs.Prelude.{◌≡◌, ◌⊎◌, ◌==◌, ◌<◌, ◌≤◌, ◌+◌, ◌-◌, ◌^◌, ◌&&◌, ◌||◌, ℕ, List, [], ◌∷◌, ◌++◌, Bool, true, false, not, codes, cond, decimal, length, nat_le, take}
+-- What the lines of a list of edges say, in each form.
+use Rattle.std.specs.Prelude.{◌≡◌, ◌⊎◌, ◌==◌, ◌<◌, ◌≤◌, ◌+◌, ◌-◌, ◌^◌, ◌&&◌, ◌||◌, ℕ, List, [], ◌∷◌, ◌++◌, Bool, true, false, not, Option, Some, None, codes, cond, decimal, length, nat_le, take}
 use Rattle.std.specs.Char.{to_ascii_lowercase}
-use Rattle.std.specs.List.{flat_map, slice_split}
+use Rattle.std.specs.List.{flat_map, slice_get, slice_split}
+use Rattle.std.specs.Option.{option_and_then}
 use Rattle.std.specs.String.{string_bytes}
 use Rattle.edge_lists.specs.declared.row.Row.{Row}
 use Rattle.edge_lists.specs.declared.header.Front.{Front}
 use Rattle.edge_lists.specs.declared.header.Front.TheVariants.{Nothing as FrontNothing, Header, Other}
-use Rattle.edge_lists.specs.declared.header.Heading.{Heading}
-use Rattle.edge_lists.specs.declared.header.Heading.TheVariants.{ByWords, There, Absent}
+use Rattle.edge_lists.specs.declared.forms.Writing.{Writing}
+use Rattle.edge_lists.specs.declared.forms.Writing.TheVariants.{Edges, Dimacs, Relations}
+use Rattle.edge_lists.specs.declared.forms.Heading.TheVariants.{ByWords, There, Absent}
 use Rattle.edge_lists.specs.declared.reading.Read.{Read}
 use Rattle.edge_lists.specs.declared.reading.Read.TheVariants.{Nothing, Row as ReadRow, Refused}
 use Rattle.edge_lists.specs.Labels.{begins_comment, is_name}
@@ -28,16 +30,61 @@ unless_empty (x ∷ xs) = (x ∷ xs) ∷ []
 abbrev pub words_of : List ℕ → List (List ℕ)
 words_of text = flat_map unless_empty (flat_map (parts_at 13) (flat_map (parts_at 9) (parts_at 32 text)))
 
--- the fields of a line: those of its record, where a comma stands in it, and its words where none does
-abbrev pub fields_of : List ℕ → List (List ℕ)
-fields_of text = cond (has_comma text) (comma_fields text) (words_of text)
+-- a word of this letter alone
+abbrev pub is_letter : ℕ → List ℕ → Bool
+is_letter c (b ∷ []) = b == c
+is_letter c word = false
+
+-- the fields of a line of DIMACS: the three words behind `a`; none where it isn't such a line
+abbrev pub arc_fields : List (List ℕ) → List (List ℕ)
+arc_fields (mark ∷ a ∷ b ∷ weight ∷ []) = cond (is_letter 97 mark) (a ∷ b ∷ weight ∷ []) []
+arc_fields words = []
+
+-- what relations say of two networks: -1, 0, 1 or 2
+abbrev pub is_relation : List ℕ → Bool
+is_relation (b ∷ []) = (b == 48) || (b == 49) || (b == 50)
+is_relation (b ∷ c ∷ []) = (b == 45) && (c == 49)
+is_relation word = false
+
+-- the two networks, where behind them stands what is said of them, and at most one field more
+abbrev pub related : List (List ℕ) → List (List ℕ)
+related (a ∷ b ∷ relation ∷ []) = cond (is_relation relation) (a ∷ b ∷ []) []
+related (a ∷ b ∷ relation ∷ source ∷ []) = cond (is_relation relation) (a ∷ b ∷ []) []
+related parts = []
+
+-- the parts of a line of relations, which is one word; none where it isn't
+abbrev pub relation_parts : List (List ℕ) → List (List ℕ)
+relation_parts (word ∷ []) = parts_at 124 word
+relation_parts words = []
+
+-- the fields of a line without commas, by its words: all of them in an edge list, an arc's in DIMACS, two networks in relations
+abbrev pub word_fields : Writing → List (List ℕ) → List (List ℕ)
+word_fields (Edges heading) words = words
+word_fields Dimacs words = arc_fields words
+word_fields Relations words = related (relation_parts words)
+
+-- the fields of a line with commas: those of its record in an edge list; the other forms have no such line
+abbrev pub comma_fields_in : Writing → List ℕ → List (List ℕ)
+comma_fields_in (Edges heading) text = comma_fields text
+comma_fields_in Dimacs text = []
+comma_fields_in Relations text = []
+
+-- the fields of a line
+abbrev pub fields_of : Writing → List ℕ → List (List ℕ)
+fields_of writing text = cond (has_comma text) (comma_fields_in writing text) (word_fields writing (words_of text))
 
 -- ---- lines that say nothing
 
--- a line of these words says nothing: there is none, or the first begins with `#`
-abbrev pub says_nothing : List (List ℕ) → Bool
-says_nothing [] = true
-says_nothing (word ∷ words) = begins_comment word
+-- the word begins a line that says nothing: in DIMACS it is `c`, elsewhere it begins with `#`
+abbrev pub begins_silence : Writing → List ℕ → Bool
+begins_silence (Edges heading) word = begins_comment word
+begins_silence Dimacs word = is_letter 99 word
+begins_silence Relations word = begins_comment word
+
+-- a line of these words says nothing: there is none, or the first begins such a line
+abbrev pub says_nothing : Writing → List (List ℕ) → Bool
+says_nothing writing [] = true
+says_nothing writing (word ∷ words) = begins_silence writing word
 
 -- a number may begin so: with a digit, a sign or a point
 abbrev pub is_numeric : ℕ → Bool
@@ -74,22 +121,40 @@ names_ends fields = false
 abbrev pub is_heading : Bool → List (List ℕ) → Bool
 is_heading commas fields = (commas && names_third fields) || names_ends fields
 
+-- the words of a problem line of DIMACS: `p sp N M`
+abbrev pub is_problem : List (List ℕ) → Bool
+is_problem (mark ∷ kind ∷ nodes ∷ arcs ∷ []) = is_letter 112 mark && reads_as kind (codes "sp")
+is_problem words = false
+
+-- in them the word for how many nodes there are
+abbrev pub nodes_word : List (List ℕ) → Option (List ℕ)
+nodes_word (mark ∷ kind ∷ nodes ∷ arcs ∷ []) = cond (is_problem (mark ∷ kind ∷ nodes ∷ arcs ∷ [])) (Some nodes) None
+nodes_word words = None
+
 -- a header, where it is the first line that isn't silent
-abbrev pub is_head : Heading → List ℕ → Bool
-is_head ByWords text = is_heading (has_comma text) (fields_of text)
-is_head There text = true
-is_head Absent text = false
+abbrev pub is_head : Writing → List ℕ → Bool
+is_head (Edges ByWords) text = is_heading (has_comma text) (fields_of (Edges ByWords) text)
+is_head (Edges There) text = true
+is_head (Edges Absent) text = false
+is_head Dimacs text = not (has_comma text) && is_problem (words_of text)
+is_head Relations text = false
 
 -- how many lines stand in front of the first that may say an edge: lines that say nothing, and behind them a header
-abbrev pub lead : Heading → List (List ℕ) → ℕ
-lead heading [] = 0
-lead heading (text ∷ texts) = cond (says_nothing (words_of text)) (lead heading texts + 1) (cond (is_head heading text) 1 0)
+abbrev pub lead : Writing → List (List ℕ) → ℕ
+lead writing [] = 0
+lead writing (text ∷ texts) = cond (says_nothing writing (words_of text)) (lead writing texts + 1) (cond (is_head writing text) 1 0)
+
+-- how many nodes a text of these lines says that there are, in a word: the problem line that is its header says it
+abbrev pub nodes_said : Writing → List (List ℕ) → Option (List ℕ)
+nodes_said (Edges heading) texts = None
+nodes_said Dimacs texts = option_and_then (λ text. nodes_word (words_of text)) (slice_get texts (lead Dimacs texts - 1))
+nodes_said Relations texts = None
 
 -- what a line is, where those in front of it say nothing
-abbrev pub IsFront : Heading → List ℕ → Front → Type 0
-IsFront heading text FrontNothing = says_nothing (words_of text) ≡ true
-IsFront heading text Header = (says_nothing (words_of text) ≡ false) × (is_head heading text ≡ true)
-IsFront heading text Other = (says_nothing (words_of text) ≡ false) × (is_head heading text ≡ false)
+abbrev pub IsFront : Writing → List ℕ → Front → Type 0
+IsFront writing text FrontNothing = says_nothing writing (words_of text) ≡ true
+IsFront writing text Header = (says_nothing writing (words_of text) ≡ false) × (is_head writing text ≡ true)
+IsFront writing text Other = (says_nothing writing (words_of text) ≡ false) × (is_head writing text ≡ false)
 
 -- ---- lines that say an edge
 
@@ -123,19 +188,19 @@ abbrev pub IsNoRow : List (List ℕ) → Type 0
 IsNoRow fields = (line : ℕ) (said : Said) → IsRowOf line fields said → ⊥
 
 -- these lines, of which the first has the number behind `before`, say that
-abbrev pub Say : ℕ → List (List ℕ) → List Said → Type 0
-Say before [] said = said ≡ []
-Say before (text ∷ texts) said =
-    ((says_nothing (words_of text) ≡ true) × Say (before + 1) texts said)
-    ⊎ ((first : Said) × (rest : List Said) × (says_nothing (words_of text) ≡ false) × (said ≡ first ∷ rest) × IsRowOf (before + 1) (fields_of text) first × Say (before + 1) texts rest)
+abbrev pub Say : Writing → ℕ → List (List ℕ) → List Said → Type 0
+Say writing before [] said = said ≡ []
+Say writing before (text ∷ texts) said =
+    ((says_nothing writing (words_of text) ≡ true) × Say writing (before + 1) texts said)
+    ⊎ ((first : Said) × (rest : List Said) × (says_nothing writing (words_of text) ≡ false) × (said ≡ first ∷ rest) × IsRowOf (before + 1) (fields_of writing text) first × Say writing (before + 1) texts rest)
 
 -- Line n is the first that says no edge: the lines before it say edges, and no edges are said by the lines up to it,
 -- whatever the lines behind it are.
-pub record IsFirstRefused (before : ℕ) (texts : List (List ℕ)) (n : ℕ) : Type 0 where
+pub record IsFirstRefused (writing : Writing) (before : ℕ) (texts : List (List ℕ)) (n : ℕ) : Type 0 where
   pub behind : before < n
   pub within : n ≤ before + length texts
-  pub said : (said : List Said) × Say before (take (n - (before + 1)) texts) said
-  pub refused : (more : List (List ℕ)) (said : List Said) → Say before (take (n - before) texts ++ more) said → ⊥
+  pub said : (said : List Said) × Say writing before (take (n - (before + 1)) texts) said
+  pub refused : (more : List (List ℕ)) (said : List Said) → Say writing before (take (n - before) texts ++ more) said → ⊥
 
 -- what a line of these fields is read as, where it says something
 abbrev pub IsEdgeRead : ℕ → List (List ℕ) → Read → Type 0
@@ -144,7 +209,7 @@ IsEdgeRead line fields (ReadRow row) = IsRowOf line fields (row_of row)
 IsEdgeRead line fields (Refused form) = IsNoRow fields
 
 -- what one line of a text is read as
-abbrev pub IsReadAs : ℕ → List ℕ → Read → Type 0
-IsReadAs line text Nothing = says_nothing (words_of text) ≡ true
-IsReadAs line text (ReadRow row) = (says_nothing (words_of text) ≡ false) × IsRowOf line (fields_of text) (row_of row)
-IsReadAs line text (Refused form) = (says_nothing (words_of text) ≡ false) × IsNoRow (fields_of text)
+abbrev pub IsReadAs : Writing → ℕ → List ℕ → Read → Type 0
+IsReadAs writing line text Nothing = says_nothing writing (words_of text) ≡ true
+IsReadAs writing line text (ReadRow row) = (says_nothing writing (words_of text) ≡ false) × IsRowOf line (fields_of writing text) (row_of row)
+IsReadAs writing line text (Refused form) = (says_nothing writing (words_of text) ≡ false) × IsNoRow (fields_of writing text)

@@ -1,5 +1,5 @@
 -- Lists as they are written, and what is read of them.
-use Rattle.std.specs.Prelude.{◌≡◌, ◌==◌, ◌<◌, ◌+◌, ◌^◌, ℕ, List, [], ◌∷◌, ◌++◌, false, All, decimal, drop, unwrap_or}
+use Rattle.std.specs.Prelude.{◌≡◌, ◌==◌, ◌<◌, ◌+◌, ◌*◌, ◌^◌, ℕ, List, [], ◌∷◌, ◌++◌, false, All, codes, decimal, drop, length, unwrap_or}
 use Rattle.std.specs.List.{flat_map, slice_get}
 use denote.Ref.{Bor}
 use Rattle.written_values.specs.Reading.{texts_of}
@@ -7,8 +7,9 @@ use Rattle.written_values.specs.Scripts.{lines_of}
 use Rattle.edge_lists.specs.declared.edge.Edge.{Edge}
 use Rattle.edge_lists.specs.declared.refused.NameRefused.{NameRefused}
 use Rattle.edge_lists.specs.NameLists.{AreNames, IsFirstNoName}
-use Rattle.edge_lists.specs.declared.header.Heading.{Heading}
-use Rattle.edge_lists.specs.declared.header.Heading.TheVariants.{ByWords}
+use Rattle.edge_lists.specs.declared.forms.Heading.TheVariants.{ByWords}
+use Rattle.edge_lists.specs.declared.forms.Writing.{Writing}
+use Rattle.edge_lists.specs.declared.forms.Writing.TheVariants.{Edges}
 use Rattle.edge_lists.specs.Rows.{IsFirstRefused, Said, Say, lead}
 
 -- ---- names
@@ -55,21 +56,33 @@ text_of_edge names edge = edge_text (texts_of names) edge
 abbrev pub edges_text : List (List ℕ) → List Edge → List ℕ
 edges_text names edges = flat_map (λ edge. edge_text names edge) edges
 
+-- the line of an arc as DIMACS has it, where nodes count from 1
+abbrev pub arc_text : ℕ → ℕ → ℕ → List ℕ
+arc_text from to weight = codes "a " ++ (decimal (from + 1) ++ (32 ∷ (decimal (to + 1) ++ (32 ∷ (decimal weight ++ 10 ∷ [])))))
+
+-- an edge, as an arc each way
+abbrev pub arcs_text : Edge → List ℕ
+arcs_text edge = arc_text edge.a edge.b edge.weight ++ arc_text edge.b edge.a edge.weight
+
+-- a network as DIMACS has it: how many nodes and arcs there are, and the arcs of each edge
+abbrev pub dimacs_text : ℕ → List Edge → List ℕ
+dimacs_text nodes edges = (codes "p sp " ++ (decimal nodes ++ (32 ∷ (decimal (2 * length edges) ++ 10 ∷ [])))) ++ flat_map arcs_text edges
+
 -- what the lines of edges say, of which the first has the number behind `before`
 abbrev pub said_of : List (List ℕ) → ℕ → List Edge → List Said
 said_of names before [] = []
 said_of names before (edge ∷ edges) = record { line = before + 1; a = label_of names edge.a; b = label_of names edge.b; weight = edge.weight } ∷ said_of names (before + 1) edges
 
--- the text is an edge list, and says that
-abbrev pub SaysEdges : Heading → List ℕ → List Said → Type 0
-SaysEdges heading text said = Say (lead heading (lines_of text)) (drop (lead heading (lines_of text)) (lines_of text)) said
+-- the text is a list of edges in this form, and says that
+abbrev pub SaysEdges : Writing → List ℕ → List Said → Type 0
+SaysEdges writing text said = Say writing (lead writing (lines_of text)) (drop (lead writing (lines_of text)) (lines_of text)) said
 
 -- no edges are said by the text up to the line of that number, whose lines before say edges
-abbrev pub IsRefusedAt : Heading → List ℕ → ℕ → Type 0
-IsRefusedAt heading text number = IsFirstRefused (lead heading (lines_of text)) (drop (lead heading (lines_of text)) (lines_of text)) number
+abbrev pub IsRefusedAt : Writing → List ℕ → ℕ → Type 0
+IsRefusedAt writing text number = IsFirstRefused writing (lead writing (lines_of text)) (drop (lead writing (lines_of text)) (lines_of text)) number
 
 -- the text says that and nothing else, and no line of it is refused, where a header is known by its words
 pub record AreRead (text : List ℕ) (said : List Said) : Type 0 where
-  pub says : SaysEdges ByWords text said
-  pub only : (other : List Said) → SaysEdges ByWords text other → other ≡ said
-  pub none : (number : ℕ) → IsRefusedAt ByWords text number → ⊥
+  pub says : SaysEdges (Edges ByWords) text said
+  pub only : (other : List Said) → SaysEdges (Edges ByWords) text other → other ≡ said
+  pub none : (number : ℕ) → IsRefusedAt (Edges ByWords) text number → ⊥

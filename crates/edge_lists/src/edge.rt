@@ -1,7 +1,7 @@
 // Edges between nodes that have numbers.
-ghost use Rattle.std.specs.Prelude.{◌↔◌, All, IsTrue, map};
+ghost use Rattle.std.specs.Prelude.{◌↔◌, ℕ, All, IsTrue, map};
 ghost use Rattle.written_values.specs.Reading.{IfRead};
-ghost use Rattle.edge_lists.specs.Edges.{AreDigits, AreNumbered, CallsNumbers, IsFirstOther, IsNotNumbered, IsNumbered};
+ghost use Rattle.edge_lists.specs.Edges.{AreDigits, AreNumbered, CallsNumbers, IsFirstOther, IsNotNumbered, IsNumber, IsNumbered};
 ghost use Rattle.edge_lists.specs.Reading.{IfAccepted, IfNoneRead, IfRefused};
 ghost use Rattle.edge_lists.specs.Rows.{row_of};
 
@@ -19,37 +19,50 @@ pub struct Edge {
     pub weight: u32,
 }
 
-// The edge of a row whose ends are plain numbers up to `last`.
-fn edge_in(alloc: Global, row: &Row, last: u16) -> Result<Option<Edge>, AllocError>
-    ensures found { IfRead result (λ edge. IsNumbered last (row_of row.now) edge) }
-    ensures none { IfNoneRead result (IsNotNumbered last (row_of row.now)) }
+/// The number up to `last` that a word is, where the first number is written as `first`.
+pub fn node_in(alloc: Global, word: &str, first: u16, last: u16) -> Result<Option<u16>, AllocError>
+    ensures found { IfRead result (λ number. IsNumber first last word.now number) }
+    ensures none { IfNoneRead result ((number : ℕ) → IsNumber first last word.now number → ⊥) }
 {
-    let Some(a) = number(alloc, row.a.as_str(), last as u64)? else {
+    match number(alloc, word, first as u64 + last as u64)? {
+        Some(number) if number >= first as u64 => Ok(Some((number - first as u64) as u16)),
+        _ => Ok(None),
+    }
+}
+
+// The edge of a row whose ends are such numbers.
+fn edge_in(alloc: Global, row: &Row, first: u16, last: u16) -> Result<Option<Edge>, AllocError>
+    ensures found { IfRead result (λ edge. IsNumbered first last (row_of row.now) edge) }
+    ensures none { IfNoneRead result (IsNotNumbered first last (row_of row.now)) }
+{
+    let Some(a) = node_in(alloc, row.a.as_str(), first, last)? else {
         return Ok(None);
     };
-    let Some(b) = number(alloc, row.b.as_str(), last as u64)? else {
+    let Some(b) = node_in(alloc, row.b.as_str(), first, last)? else {
         return Ok(None);
     };
     Ok(Some(Edge {
         line: row.line,
-        a: a as u16,
-        b: b as u16,
+        a,
+        b,
         weight: row.weight,
     }))
 }
 
-/// The edges of rows whose ends are all plain numbers up to `last`. Or the place of the first row with another end.
+/// The edges of rows whose ends are all plain numbers up to `last`, where the first number is written as `first`. Or the
+/// place of the first row with another end.
 pub fn by_numbers(
     alloc: Global,
     rows: &[Row],
+    first: u16,
     last: u16,
 ) -> Result<Result<Vec<Edge>, usize>, AllocError>
-    ensures found { IfAccepted result (λ edges. AreNumbered last (map row_of rows.now) edges.items) }
-    ensures refused { IfRefused result (λ place. IsFirstOther last (map row_of rows.now) place) }
+    ensures found { IfAccepted result (λ edges. AreNumbered first last (map row_of rows.now) edges.items) }
+    ensures refused { IfRefused result (λ place. IsFirstOther first last (map row_of rows.now) place) }
 {
     let mut edges = Vec::new(alloc);
     for place in 0..rows.len() {
-        match edge_in(alloc, &rows[place], last)? {
+        match edge_in(alloc, &rows[place], first, last)? {
             Some(edge) => edges.push(edge)?,
             None => return Ok(Err(place)),
         }

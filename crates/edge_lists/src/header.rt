@@ -1,33 +1,15 @@
-// Lines that say nothing.
-ghost use Rattle.std.specs.Prelude.{◌≡◌, ◌≤◌, IfOk, codes, length};
+// Lines in front of edges.
+ghost use Rattle.std.specs.Prelude.{◌≡◌, ◌≤◌, IfOk, IfSome, codes, length};
+ghost use Rattle.std.specs.Option.{option_map};
 ghost use Rattle.written_values.specs.Reading.{texts_of};
-ghost use Rattle.edge_lists.specs.Rows.{IsFront, begins_as_name, heads_ends, is_head, is_heading, is_numeric, lead, names_ends, names_third, reads_as, says_nothing, words_of};
+ghost use Rattle.written_values.specs.Scripts.{lines_of};
+ghost use Rattle.edge_lists.specs.Rows.{IsFront, begins_as_name, heads_ends, is_head, is_heading, is_numeric, lead, names_ends, names_third, nodes_said, words_of};
 
-use crate::name::begins_comment;
+use crate::forms::{Heading, Writing, is_nothing, is_problem, nodes_word, reads_as};
 use crate::records::{has_comma, record_in, texts_in};
 use crate::words::words_in;
 use std::alloc::{AllocError, Global};
-
-/// Which line is a header: none but the first that says something.
-#[derive(Clone, Copy, Debug, PartialEq, Eq, Drop)]
-pub enum Heading {
-    /// That line, where its words are those of one.
-    ByWords,
-    /// That line, whatever it is.
-    There,
-    /// No line.
-    Absent,
-}
-
-/// Whether a line of these words says nothing: there is none, or the first begins with `#`.
-pub(crate) fn is_nothing(words: &[&str]) -> bool
-    ensures { result ≡ says_nothing (texts_of words.now) }
-{
-    match words.first() {
-        Some(word) => begins_comment(*word),
-        None => true,
-    }
-}
+use written_values::lines_in;
 
 // Whether a number may begin so.
 fn may_begin(byte: u8) -> bool
@@ -53,22 +35,6 @@ fn is_third_named(fields: &[&str]) -> bool
     match fields {
         [_, _, third] => is_name(*third),
         _ => false,
-    }
-}
-
-// Whether a text reads as a word of small letters.
-fn reads_as(text: &[u8], word: &[u8]) -> bool
-    ensures { result ≡ reads_as text.now word.now }
-{
-    match text {
-        [] => match word {
-            [] => true,
-            [_, ..] => false,
-        },
-        [first, text @ ..] => match word {
-            [] => false,
-            [wanted, word @ ..] => { first.to_ascii_lowercase() == *wanted && reads_as(text, word) }
-        },
     }
 }
 
@@ -100,14 +66,16 @@ fn is_heading(commas: bool, fields: &[&str]) -> bool
 }
 
 // Whether a line of these words is a header, where it is the first that says something.
-fn is_head(alloc: Global, heading: Heading, text: &str, words: &[&str]) -> Result<bool, AllocError>
+fn is_head(alloc: Global, writing: Writing, text: &str, words: &[&str]) -> Result<bool, AllocError>
     requires { texts_of words.now ≡ words_of text.now }
-    ensures { IfOk result (λ is. is ≡ is_head heading text.now) }
+    ensures { IfOk result (λ is. is ≡ is_head writing text.now) }
 {
-    match heading {
-        Heading::There => return Ok(true),
-        Heading::Absent => return Ok(false),
-        Heading::ByWords => {}
+    match writing {
+        Writing::Edges(Heading::There) => return Ok(true),
+        Writing::Edges(Heading::Absent) => return Ok(false),
+        Writing::Dimacs => return Ok(!has_comma(text) && is_problem(words)),
+        Writing::Relations => return Ok(false),
+        Writing::Edges(Heading::ByWords) => {}
     }
     if !has_comma(text) {
         return Ok(is_heading(false, words));
@@ -125,14 +93,14 @@ pub(crate) enum Front {
     Other,
 }
 
-fn front_of(alloc: Global, heading: Heading, text: &str) -> Result<Front, AllocError>
-    ensures { IfOk result (λ front. IsFront heading text.now front) }
+fn front_of(alloc: Global, writing: Writing, text: &str) -> Result<Front, AllocError>
+    ensures { IfOk result (λ front. IsFront writing text.now front) }
 {
     let words = words_in(alloc, text)?;
-    if is_nothing(&words) {
+    if is_nothing(writing, &words) {
         return Ok(Front::Nothing);
     }
-    if is_head(alloc, heading, text, &words)? {
+    if is_head(alloc, writing, text, &words)? {
         return Ok(Front::Header);
     }
     Ok(Front::Other)
@@ -141,18 +109,43 @@ fn front_of(alloc: Global, heading: Heading, text: &str) -> Result<Front, AllocE
 /// How many lines stand in front of the first that may say an edge: lines that say nothing, and behind them a header.
 pub(crate) fn lines_before(
     alloc: Global,
-    heading: Heading,
+    writing: Writing,
     texts: &[&str],
 ) -> Result<usize, AllocError>
-    ensures lead { IfOk result (λ n. n ≡ lead heading (texts_of texts.now)) }
+    ensures lead { IfOk result (λ n. n ≡ lead writing (texts_of texts.now)) }
     ensures within { IfOk result (λ n. n ≤ length texts.now) }
 {
     for index in 0..texts.len() {
-        match front_of(alloc, heading, texts[index])? {
+        match front_of(alloc, writing, texts[index])? {
             Front::Nothing => {}
             Front::Header => return Ok(index + 1),
             Front::Other => return Ok(index),
         }
     }
     Ok(texts.len())
+}
+
+/// How many nodes a text says that there are, in a word; and the number of the line that says it, from 1.
+pub fn read_nodes<'a>(
+    alloc: Global,
+    text: &'a str,
+    writing: Writing,
+) -> Result<Option<(usize, &'a str)>, AllocError>
+    ensures said { IfOk result (λ said. option_map (λ p. p.1.now) said ≡ nodes_said writing (lines_of text.entry.now)) }
+    ensures line { IfOk result (λ said. IfSome said (λ p. p.0 ≡ lead writing (lines_of text.entry.now))) }
+{
+    match writing {
+        Writing::Dimacs => {}
+        _ => return Ok(None),
+    }
+    let texts = lines_in(alloc, text)?;
+    let before = lines_before(alloc, writing, &texts)?;
+    let Some(text) = texts.get(before.saturating_sub(1)).copied() else {
+        return Ok(None);
+    };
+    let words = words_in(alloc, text)?;
+    match nodes_word(&words) {
+        Some(word) => Ok(Some((before, word))),
+        None => Ok(None),
+    }
 }

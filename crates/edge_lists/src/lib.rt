@@ -1,9 +1,9 @@
-//! Edge lists: a network as a text, read exactly, and written.
+//! Lists of edges: a network as a text, read exactly, and written.
 //!
 //! # What it is
 //!
 //! An edge list has a line for each edge: its two ends and its weight, with blanks between, as `A B W`, or with commas,
-//! as a record `A,B,W` of CSV. Where W is left out it is 1. [`read_edge_list`] reads a text into [`Row`]s, whose ends are
+//! as a record `A,B,W` of CSV. Where W is left out it is 1. [`read_rows`] reads a text into [`Row`]s, whose ends are
 //! names; what they stand for is decided then, of the list as a whole: [`by_numbers`] takes each as the number of a node,
 //! and [`Names::take_rows`] gives names numbers in the order in which they come.
 //!
@@ -15,7 +15,12 @@
 //! | the first other line, where it has three fields with commas between, and the third begins as no number does | a header, and nothing |
 //! | the same line, where its ends are `source` and `target`, or `from` and `to`, in either case, and a third field begins as no number does | a header too |
 //!
-//! [`Heading`] says otherwise: that this line is a header whatever it is, or that no line is. A carriage return is a
+//! Two more forms have lines of words alone ([`Writing`]). In DIMACS a line `a U V W` is an arc, and a line whose first word
+//! is `c` nothing; the first other line is a header if it is `p sp N M`. Of relations as CAIDA has them a line `A|B|R` is an
+//! edge of the weight 1, where R is -1, 0, 1 or 2; another field may stand behind it, and comments begin with `#`. A text
+//! that says edges says them in one form alone ([`form_of`]). What two arcs say of one edge, [`each_once`] takes as one.
+//!
+//! [`Heading`] says otherwise of an edge list: that this line is a header whatever it is, or that no line is. A carriage return is a
 //! blank. A weight is a plain decimal number below 2^32; which weights a network takes is not judged here. A name isn't
 //! empty, has no blank at its ends and no line break in it, and begins with no `#` and a blank.
 //!
@@ -32,25 +37,31 @@
 //! | Call | What it says |
 //! |---|---|
 //! | [`call_numbers`] | whether each end has digits alone |
-//! | [`by_numbers`] | the edges have the rows' lines, weights and ends, where each end is the plain decimal form of a number up to `last` (`AreNumbered`); or the first row with another end (`IsFirstOther`) |
+//! | [`by_numbers`] | the edges have the rows' lines, weights and ends, where each end is the plain decimal form of a number up to `last`, written from `first` on (`AreNumbered`); or the first row with another end (`IsFirstOther`) |
 //! | [`Names`] | is a list of names in which none stands twice; a name's number is its place, and a new name gets the next one |
 //! | [`Names::take_rows`] | the edges have the rows' lines and weights, and the numbers of their names, which came in the rows' order (`AreTaken`); or the first line with a name that is one too many (`IsOneTooMany`) |
 //! | [`Names::read`] | the names are the lines; or the first line that is no name, and why (`IsFirstNoName`) |
 //! | [`Names::written`] | a line for each name; [`Names::read`] reads it as the same names (`AreListed`) |
 //! | [`read_called`] | how the text beside a device calls nodes: by numbers, if it is [`NUMBERS`], and else by the names that it lists (`IsCalled`) |
-//! | [`edge_list`] | a line for each edge; [`read_edge_list`] reads it as the same edges (`AreRead`); `None` only where a name can't stand in such a line |
+//! | [`read_nodes`] | how many nodes a header of DIMACS says that there are (`nodes_said`) |
+//! | [`each_once`] | each two nodes once, with one weight or the least (`AreOnce`); or the first edge with another weight (`IsFirstClash`) |
+//! | [`dimacs_text`] | the line `p sp N M`, and for each edge an arc each way |
+//! | [`edge_list`] | a line for each edge; [`read_rows`] reads it as the same edges (`AreRead`); `None` only where a name can't stand in such a line |
 //!
 //! ```text
-//! read_edge_list(alloc, "# roads\nBern Thun 31\nThun,Spiez\n", Heading::ByWords)?   // Ok: Bern Thun 31 of line 2, Thun Spiez 1 of 3
-//! read_edge_list(alloc, "0 1 5\n0 2 x\n", Heading::ByWords)?                         // Err: line 2, a weight is wanted
+//! read_rows(alloc, "# roads\nBern Thun 31\nThun,Spiez\n", Writing::Edges(Heading::ByWords))?   // Ok: Bern Thun 31 of line 2, Thun Spiez 1 of 3
+//! read_rows(alloc, "0 1 5\n0 2 x\n", Writing::Edges(Heading::ByWords))?                         // Err: line 2, a weight is wanted
 //! ```
 #![tactic(auto)]
 
+mod apart;
 mod called;
 mod edge;
+mod forms;
 mod header;
 mod name;
 mod names;
+mod once;
 mod reading;
 mod records;
 mod refused;
@@ -58,11 +69,14 @@ mod row;
 mod words;
 mod writing;
 
+pub use apart::form_of;
 pub use called::{Called, NUMBERS, read_called};
-pub use edge::{Edge, by_numbers, call_numbers};
-pub use header::Heading;
+pub use edge::{Edge, by_numbers, call_numbers, node_in};
+pub use forms::{Heading, Writing};
+pub use header::read_nodes;
 pub use names::Names;
-pub use reading::read_edge_list;
+pub use once::{Clash, each_once};
+pub use reading::read_rows;
 pub use refused::{Form, LineRefused, NameForm, NameRefused};
 pub use row::Row;
-pub use writing::{edge_list, push_label};
+pub use writing::{dimacs_text, edge_list, push_label};

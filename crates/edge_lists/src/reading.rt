@@ -1,11 +1,13 @@
-// Reading an edge list.
+// Reading edges.
 ghost use Rattle.std.specs.Prelude.{◌≡◌, ◌∷◌, [], ◌+◌, ◌<◌, ◌^◌, ℕ, IfNone, IfOk, IfSome, length, map};
 ghost use Rattle.written_values.specs.Reading.{IfRead, texts_of};
 ghost use Rattle.edge_lists.specs.Reading.{IfAccepted, IfNoneRead, IfRefused};
-ghost use Rattle.edge_lists.specs.Rows.{IsEdgeRead, IsFirstRefused, IsNoRow, IsReadAs, IsRowOf, IsWeight, Say, row_of};
+ghost use Rattle.edge_lists.specs.Records.{comma_fields};
+ghost use Rattle.edge_lists.specs.Rows.{IsEdgeRead, IsFirstRefused, IsNoRow, IsReadAs, IsRowOf, IsWeight, Say, arc_fields, comma_fields_in, related, relation_parts, row_of, word_fields};
 ghost use Rattle.edge_lists.specs.Written.{IsRefusedAt, SaysEdges};
 
-use crate::header::{Heading, is_nothing, lines_before};
+use crate::forms::{Writing, arc_fields, is_nothing, related, relation_parts};
+use crate::header::lines_before;
 use crate::name::is_name;
 use crate::records::{has_comma, record_in, texts_in};
 use crate::refused::{Form, LineRefused};
@@ -14,18 +16,18 @@ use crate::words::words_in;
 use std::alloc::{AllocError, Global};
 use written_values::{lines_in, number};
 
-/// The rows of an edge list, or the first line of the text that says no edge.
-pub fn read_edge_list(
+/// The rows of a text in this form, or its first line that says no edge.
+pub fn read_rows(
     alloc: Global,
     text: &str,
-    heading: Heading,
+    writing: Writing,
 ) -> Result<Result<Vec<Row>, LineRefused>, AllocError>
-    ensures found { IfAccepted result (λ rows. SaysEdges heading text.now (map row_of rows.items)) }
-    ensures refused { IfRefused result (λ refused. IsRefusedAt heading text.now refused.number) }
+    ensures found { IfAccepted result (λ rows. SaysEdges writing text.now (map row_of rows.items)) }
+    ensures refused { IfRefused result (λ refused. IsRefusedAt writing text.now refused.number) }
 {
     let texts = lines_in(alloc, text)?;
-    let before = lines_before(alloc, heading, &texts)?;
-    match rows_in(alloc, before, &texts[before..])? {
+    let before = lines_before(alloc, writing, &texts)?;
+    match rows_in(alloc, writing, before, &texts[before..])? {
         Ok(rows) => Ok(Ok(rows)),
         Err(refused) => Ok(Err(refused)),
     }
@@ -34,17 +36,18 @@ pub fn read_edge_list(
 // The rows that these lines say, of which the first has the number behind `before`.
 fn rows_in(
     alloc: Global,
+    writing: Writing,
     before: usize,
     texts: &[&str],
 ) -> Result<Result<Vec<Row>, LineRefused>, AllocError>
     requires { before + length texts.now < 2 ^ 64 }
-    ensures found { IfAccepted result (λ rows. Say before (texts_of texts.now) (map row_of rows.items)) }
-    ensures refused { IfRefused result (λ refused. IsFirstRefused before (texts_of texts.now) refused.number) }
+    ensures found { IfAccepted result (λ rows. Say writing before (texts_of texts.now) (map row_of rows.items)) }
+    ensures refused { IfRefused result (λ refused. IsFirstRefused writing before (texts_of texts.now) refused.number) }
 {
     let mut rows = Vec::new(alloc);
     for index in 0..texts.len() {
         let number = before + index + 1;
-        match read_one(alloc, number, texts[index])? {
+        match read_one(alloc, writing, number, texts[index])? {
             Read::Nothing => {}
             Read::Row(row) => rows.push(row)?,
             Read::Refused(form) => return Ok(Err(LineRefused { number, form })),
@@ -62,69 +65,119 @@ pub(crate) enum Read {
     Refused(Form),
 }
 
-fn read_one(alloc: Global, line: usize, text: &str) -> Result<Read, AllocError>
-    ensures { IfOk result (λ read. IsReadAs line text.now read) }
+fn read_one(alloc: Global, writing: Writing, line: usize, text: &str) -> Result<Read, AllocError>
+    ensures { IfOk result (λ read. IsReadAs writing line text.now read) }
 {
     let words = words_in(alloc, text)?;
-    if is_nothing(&words) {
+    if is_nothing(writing, &words) {
         return Ok(Read::Nothing);
     }
-    if !has_comma(text) {
-        return read_fields(alloc, line, &words);
+    if has_comma(text) {
+        return read_record(alloc, writing, line, text);
     }
+    read_words(alloc, writing, line, &words)
+}
+
+// What a line with commas is, where it says something.
+fn read_record(alloc: Global, writing: Writing, line: usize, text: &str) -> Result<Read, AllocError>
+    ensures { IfOk result (λ read. IsEdgeRead line (comma_fields_in writing text.now) read) }
+{
+    match writing {
+        Writing::Edges(_) => read_csv(alloc, line, text),
+        Writing::Dimacs => Ok(Read::Refused(Form::Arc)),
+        Writing::Relations => Ok(Read::Refused(Form::Relation)),
+    }
+}
+
+// The same of an edge list.
+fn read_csv(alloc: Global, line: usize, text: &str) -> Result<Read, AllocError>
+    ensures { IfOk result (λ read. IsEdgeRead line (comma_fields text.now) read) }
+{
     let record = record_in(alloc, text)?;
     if record.is_empty() {
         return Ok(Read::Refused(Form::Record));
     }
     let fields = texts_in(alloc, &record)?;
-    read_fields(alloc, line, &fields)
+    read_fields(alloc, line, &fields, Form::Fields)
 }
 
-// What a line of these fields is, where it says something.
-fn read_fields(alloc: Global, line: usize, fields: &[&str]) -> Result<Read, AllocError>
+// What a line of these words is, where it says something.
+fn read_words(
+    alloc: Global,
+    writing: Writing,
+    line: usize,
+    words: &[&str],
+) -> Result<Read, AllocError>
+    ensures { IfOk result (λ read. IsEdgeRead line (word_fields writing (texts_of words.now)) read) }
+{
+    match writing {
+        Writing::Edges(_) => read_fields(alloc, line, words, Form::Fields),
+        Writing::Dimacs => read_arc(alloc, line, words),
+        Writing::Relations => read_relation(alloc, line, words),
+    }
+}
+
+// The same of DIMACS.
+fn read_arc(alloc: Global, line: usize, words: &[&str]) -> Result<Read, AllocError>
+    ensures { IfOk result (λ read. IsEdgeRead line (arc_fields (texts_of words.now)) read) }
+{
+    read_fields(alloc, line, arc_fields(words), Form::Arc)
+}
+
+// The same of relations.
+fn read_relation(alloc: Global, line: usize, words: &[&str]) -> Result<Read, AllocError>
+    ensures { IfOk result (λ read. IsEdgeRead line (related (relation_parts (texts_of words.now))) read) }
+{
+    let parts = relation_parts(alloc, words)?;
+    read_fields(alloc, line, related(&parts), Form::Relation)
+}
+
+// What a line of these fields is, where it says something; a line has to be of this form.
+fn read_fields(alloc: Global, line: usize, fields: &[&str], form: Form) -> Result<Read, AllocError>
     ensures { IfOk result (λ read. IsEdgeRead line (texts_of fields.now) read) }
 {
-    match row_in(alloc, line, fields)? {
+    match row_in(alloc, line, fields, form)? {
         Ok(row) => Ok(Read::Row(row)),
         Err(form) => Ok(Read::Refused(form)),
     }
 }
 
-// What a line should have been, where so many fields behind its two ends say no weight.
-fn form_of(fields: usize) -> Form {
-    if fields > 1 {
-        Form::Fields
-    } else {
-        Form::Weight
-    }
+// What a line of a form should have been, where so many fields behind its two ends say no weight.
+fn form_of(fields: usize, form: Form) -> Form {
+    if fields > 1 { form } else { Form::Weight }
 }
 
-// What a line should have been, where one of its ends is no name.
-fn form_of_ends(a: &str, b: &str) -> Form {
+// What a line of a form should have been, where one of its ends is no name.
+fn form_of_ends(a: &str, b: &str, form: Form) -> Form {
     if a.is_empty() || b.is_empty() {
-        Form::Fields
+        form
     } else {
         Form::Name
     }
 }
 
 // The row of a line with these fields.
-fn row_in(alloc: Global, line: usize, fields: &[&str]) -> Result<Result<Row, Form>, AllocError>
+fn row_in(
+    alloc: Global,
+    line: usize,
+    fields: &[&str],
+    form: Form,
+) -> Result<Result<Row, Form>, AllocError>
     ensures row { IfAccepted result (λ row. IsRowOf line (texts_of fields.now) (row_of row)) }
     ensures none { IfRefused result (λ _. IsNoRow (texts_of fields.now)) }
 {
     let Some((a, behind)) = first_of(fields) else {
-        return Ok(Err(Form::Fields));
+        return Ok(Err(form));
     };
     let Some((b, rest)) = first_of(behind) else {
-        return Ok(Err(Form::Fields));
+        return Ok(Err(form));
     };
     let weight = match weight_in(alloc, rest)? {
         Some(weight) => weight,
-        None => return Ok(Err(form_of(rest.len()))),
+        None => return Ok(Err(form_of(rest.len(), form))),
     };
     if !is_name(a) || !is_name(b) {
-        return Ok(Err(form_of_ends(a, b)));
+        return Ok(Err(form_of_ends(a, b, form)));
     }
     let a = String::from_str(alloc, a)?;
     let b = String::from_str(alloc, b)?;

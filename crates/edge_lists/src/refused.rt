@@ -6,6 +6,10 @@ use thiserror::Error;
 pub enum Form {
     #[error("a line is `A B W` or `A,B,W`, where W may be left out")]
     Fields,
+    #[error("a line is `c TEXT`, `p sp N M` or `a U V W`")]
+    Arc,
+    #[error("a line is `A|B|R`, where R is -1, 0, 1 or 2")]
+    Relation,
     #[error("a line with commas is one record of CSV: no blank stands before a quoted field, which ends in the line")]
     Record,
     #[error("a name has no line break in it, and begins with no `#` and a blank")]

@@ -6,8 +6,12 @@ ghost use Rattle.edge_lists.specs.Rows.{parts_at, unless_empty, words_of};
 
 use std::alloc::{AllocError, Global};
 
-// What stands between such characters, in front of them and behind.
-fn parts_in<'a>(alloc: Global, text: &'a str, at: char) -> Result<Vec<&'a str>, AllocError>
+/// What stands between such characters, in front of them and behind.
+pub(crate) fn parts_in<'a>(
+    alloc: Global,
+    text: &'a str,
+    at: char,
+) -> Result<Vec<&'a str>, AllocError>
     requires { at < 128 }
     ensures { IfOk result (λ parts. texts_of parts.items ≡ parts_at at text.entry.now) }
 {

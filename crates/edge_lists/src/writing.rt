@@ -4,7 +4,7 @@ ghost use Rattle.std.specs.String.{string_bytes};
 ghost use Rattle.written_values.specs.Reading.{IfRead, texts_of};
 ghost use Rattle.edge_lists.specs.Labels.{AreLabels};
 ghost use Rattle.edge_lists.specs.Reading.{IfNoneRead};
-ghost use Rattle.edge_lists.specs.Written.{AreRead, FitTypes, edges_text, label_of, said_of, text_of_edge};
+ghost use Rattle.edge_lists.specs.Written.{AreRead, FitTypes, arc_text, arcs_text, dimacs_text, edges_text, label_of, said_of, text_of_edge};
 
 use crate::edge::Edge;
 use crate::name::are_labels;
@@ -34,7 +34,7 @@ fn push_line(text: &mut String, names: &[&str], edge: &Edge) -> Result<(), Alloc
 /// The text of an edge list: a line `A B W` for each edge. Nodes are called by these names, and by their numbers where
 /// they have none. `None` where a name can't stand in such a line.
 ///
-/// [`crate::read_edge_list`] reads the text as just these edges.
+/// [`crate::read_rows`] reads the text as just these edges.
 pub fn edge_list(
     alloc: Global,
     edges: &[Edge],
@@ -62,4 +62,32 @@ fn text_of(alloc: Global, edges: &[Edge], names: &[&str]) -> Result<String, Allo
         push_line(&mut text, names, edge)?;
     }
     Ok(text)
+}
+
+/// The edges between so many nodes as DIMACS has them: a line `p sp N M`, and for each edge an arc each way.
+pub fn dimacs_text(alloc: Global, nodes: u16, edges: &[Edge]) -> Result<String, AllocError>
+    ensures { IfOk result (λ text. string_bytes text ≡ dimacs_text nodes edges.now) }
+{
+    let mut text = String::new(alloc);
+    let arcs = 2 * edges.len() as u128;
+    writeln!(text, "p sp {nodes} {arcs}")?;
+    for edge in edges {
+        push_arcs(&mut text, *edge)?;
+    }
+    Ok(text)
+}
+
+// The arcs of an edge.
+fn push_arcs(text: &mut String, edge: Edge) -> Result<(), AllocError>
+    ensures { OnOk result (string_bytes text.new ≡ string_bytes text.old ++ arcs_text edge) }
+{
+    push_arc(text, edge.a, edge.b, edge.weight)?;
+    push_arc(text, edge.b, edge.a, edge.weight)
+}
+
+fn push_arc(text: &mut String, from: u16, to: u16, weight: u32) -> Result<(), AllocError>
+    ensures { OnOk result (string_bytes text.new ≡ string_bytes text.old ++ arc_text from to weight) }
+{
+    let (from, to) = (from as u32 + 1, to as u32 + 1);
+    writeln!(text, "a {from} {to} {weight}")
 }

@@ -5,7 +5,7 @@ use Rattle.std.specs.FinMap.{entries}
 use Rattle.command_output.specs.Printing.{Known, PrintsText}
 use Rattle.edge_lists.specs.declared.edge.Edge.{Edge}
 use Rattle.edge_lists.specs.Labels.{AreLabels}
-use Rattle.edge_lists.specs.Written.{AreRead, edges_text, said_of}
+use Rattle.edge_lists.specs.Written.{AreRead, dimacs_text, edges_text, said_of}
 use Rattle.figure_lines.specs.Json.{json_line}
 use Rattle.figure_lines.specs.Networks.{AreMarks, dot_text, edge_at, edge_rows, names_of, network_data}
 use Rattle.figure_lines.specs.declared.marks.Mark.{Mark}
@@ -13,7 +13,7 @@ use Rattle.graph_edits.specs.Edges.{Network}
 use Rattle.lab_networks.specs.declared.networks.ExportRefused.{ExportRefused}
 use Rattle.lab_networks.specs.declared.networks.ExportRefused.TheVariants.{Words, Print}
 use Rattle.lab_networks.specs.declared.networks.Form.{Form}
-use Rattle.lab_networks.specs.declared.networks.Form.TheVariants.{Edges, Csv, Json, Dot}
+use Rattle.lab_networks.specs.declared.networks.Form.TheVariants.{Edges, Csv, Dimacs, Json, Dot}
 use Rattle.landmarks.specs.Chosen.{IsBound, chosen}
 use Rattle.written_values.specs.Reading.{texts_of}
 use Rattle.written_values.specs.Words.{AreWords, IsWithin}
@@ -40,6 +40,7 @@ pub record AreMarksBy (graph : Network) (asked : LandmarkWords) (marks : List (O
 -- the text of edges in each form; in a picture nodes are marked where words say by which landmarks
 abbrev pub IsText : Network → NameList → Form → List Edge → List ℕ → Type 0
 IsText graph names Edges edges text = IsListOrCsv names edges text
+IsText graph names Dimacs edges text = text ≡ dimacs_text graph.nodes edges
 IsText graph names Csv edges text = text ≡ edge_rows (names_of names) edges
 IsText graph names Json edges text = text ≡ json_line (network_data graph.nodes edges (names_of names))
 IsText graph names (Dot None) edges text = text ≡ dot_text (names_of names) [] edges

@@ -26,7 +26,7 @@ pub fn grammar<'a>(alloc: Global) -> Result<Command<'a>, AllocError> {
             value(
                 "as",
                 "FORM",
-                "edges (an edge list, as without it), csv, dot or json",
+                "edges (an edge list, as without it), csv, dimacs, dot or json",
             ),
             value(
                 "words",
@@ -72,10 +72,12 @@ fn form_in(
         Form::Edges
     } else if form == "csv" {
         Form::Csv
+    } else if form == "dimacs" {
+        Form::Dimacs
     } else if form == "json" {
         Form::Json
     } else {
-        return Ok(Err("--as takes edges, csv, dot or json"));
+        return Ok(Err("--as takes edges, csv, dimacs, dot or json"));
     };
     if found.get_str("words").is_some() {
         return Ok(Err("--words goes with --as dot"));

@@ -5,17 +5,17 @@ ghost use Rattle.checkpoint.specs.StoreWords.{is_down};
 use crate::beside::{Beside, Kept, NamesFile, called_in, kept_alone, kept_of, settle};
 use crate::files::text_of;
 use crate::taken::{Wanted, take_edges};
+use crate::texts::{Listed, network_in, writing_named};
 use checkpoint::{DEVICE_LEN, Store};
 use clap::{ArgMatches, Command};
 use command_output::Fault;
 use device_files::DeviceFile;
 use edge_lists::{
-    Called, Edge, Heading, NUMBERS, Names, Row, by_numbers, call_numbers, read_edge_list,
+    Called, Edge, Heading, NUMBERS, Names, Row, Writing, by_numbers, call_numbers, each_once,
+    node_in,
 };
 use graph_edits::MOST_NODES;
-use lab_parts::{
-    command, fault_of, flag, store_in, told, told_at, told_memory, told_of, value, word,
-};
+use lab_parts::{command, fault_of, flag, store_in, told, told_memory, told_of, value, word};
 use network_import::NamesAt;
 use std::alloc::{AllocError, Global};
 use std::fs::{self, File};
@@ -28,7 +28,7 @@ pub fn grammar<'a>(alloc: Global) -> Result<Command<'a>, AllocError> {
     command(
         alloc,
         "import",
-        "Brings an edge list to a device, which is made where it isn't there",
+        "Brings a network to a device, which is made where it isn't there",
         &[
             word(
                 "device",
@@ -38,7 +38,16 @@ pub fn grammar<'a>(alloc: Global) -> Result<Command<'a>, AllocError> {
             word(
                 "file",
                 "FILE",
-                "An edge list: a line A B W or A,B,W for each edge",
+                "A network: an edge list with a line A B W or A,B,W for each edge, or what --as says",
+            ),
+            value(
+                "as",
+                "FORM",
+                "The form of FILE: edges, dimacs or as-rel; else its lines tell",
+            ),
+            flag(
+                "least",
+                "Takes lines with the same edge as one, of the least weight",
             ),
             flag("names", "Takes all ends of edges for names, numbers too"),
             flag("header", "Takes the first line for a header"),
@@ -52,7 +61,7 @@ pub fn grammar<'a>(alloc: Global) -> Result<Command<'a>, AllocError> {
     )
 }
 
-/// Brings an edge list to a device, and answers the exit status.
+/// Brings a network to a device, and answers the exit status.
 pub fn run<R, O, E>(rt: &R, found: &ArgMatches<'_>, out: &mut O, err: &mut E) -> u8
 where
     R: Files<File = File> + AllocGlobal,
@@ -71,11 +80,9 @@ where
         },
         None => None,
     };
-    let heading = match (found.get_flag("header"), found.get_flag("no-header")) {
-        (true, true) => return told(err, 2, "either --header or --no-header"),
-        (true, false) => Heading::There,
-        (false, true) => Heading::Absent,
-        (false, false) => Heading::ByWords,
+    let writing = match writing_in(found) {
+        Ok(writing) => writing,
+        Err(text) => return told(err, 2, text),
     };
     let Ok(beside) = Beside::of(rt.alloc(), device) else {
         return told_memory(err);
@@ -85,13 +92,29 @@ where
         device,
         file,
         nodes,
-        heading,
+        writing,
         by_names: found.get_flag("names"),
+        by_least: found.get_flag("least"),
         beside,
     };
     match import.bring(out, err) {
         Ok(status) => status,
         Err(status) => status,
+    }
+}
+
+// The form that is asked for, or what isn't understood of it. A header is one of edge lists.
+fn writing_in(found: &ArgMatches<'_>) -> Result<Option<Writing>, &'static str> {
+    let heading = match (found.get_flag("header"), found.get_flag("no-header")) {
+        (true, true) => return Err("either --header or --no-header"),
+        (true, false) => Heading::There,
+        (false, true) => Heading::Absent,
+        (false, false) => Heading::ByWords,
+    };
+    match found.get_str("as") {
+        Some(name) => writing_named(name, heading),
+        None if heading == Heading::ByWords => Ok(None),
+        None => Ok(Some(Writing::Edges(heading))),
     }
 }
 
@@ -102,8 +125,9 @@ struct Import<'a, R> {
     device: &'a str,
     file: &'a str,
     nodes: Option<u16>,
-    heading: Heading,
+    writing: Option<Writing>,
     by_names: bool,
+    by_least: bool,
     beside: Beside,
 }
 
@@ -123,32 +147,20 @@ impl<R: Files<File = File> + AllocGlobal> Import<'_, R> {
         let Some(text) = text_of(self.rt, self.file, err)? else {
             return Err(told_of(err, self.file, "the file is not there"));
         };
-        let rows = self.rows_of(text.as_str(), err)?;
+        let listed = network_in(self.rt.alloc(), self.file, text.as_str(), self.writing, err)?;
         match self.opened(err)? {
-            Some(store) => self.bring_to(store, &rows, out, err),
-            None => self.bring_anew(&rows, out, err),
-        }
-    }
-
-    // The rows of a text, which may begin with a byte order mark. What isn't understood is told.
-    fn rows_of<E: Write>(&self, text: &str, err: &mut E) -> Result<Vec<Row>, u8>
-        ensures { IfErr result (λ status. status ≤ 2) }
-    {
-        let text = text.strip_prefix('\u{feff}').unwrap_or(text);
-        match read_edge_list(self.rt.alloc(), text, self.heading) {
-            Ok(Ok(rows)) => Ok(rows),
-            Ok(Err(refused)) => Err(told_at(err, 2, self.file, refused.number, refused.form)),
-            Err(_) => Err(told_memory(err)),
+            Some(store) => self.bring_to(store, &listed, out, err),
+            None => self.bring_anew(&listed, out, err),
         }
     }
 
     // ---- a device that is there, and one that is made
 
-    // Rows for a device that is there.
+    // A network for a device that is there.
     fn bring_to<O: Write, E: Write + IsTerminal>(
         &self,
         mut store: Store<DeviceFile>,
-        rows: &[Row],
+        listed: &Listed,
         out: &mut O,
         err: &mut E,
     ) -> Result<u8, u8>
@@ -158,15 +170,15 @@ impl<R: Files<File = File> + AllocGlobal> Import<'_, R> {
     {
         let kept = kept_of(self.rt, &self.beside, store.graph(), err)?;
         let has_edges = store.graph().edges() > 0;
-        let list = self.list_of(rows, &kept, store.nodes(), has_edges, err)?;
+        let list = self.list_of(listed, &kept, store.nodes(), has_edges, err)?;
         settle(self.rt, &self.beside, kept.is_laid, err)?;
         take(&*self, &list, false, &mut store, out, err)
     }
 
-    // Rows for a device that is made. Where it doesn't come to all edges, it is taken away again.
+    // A network for a device that is made. Where it doesn't come to all edges, it is taken away again.
     fn bring_anew<O: Write, E: Write + IsTerminal>(
         &self,
-        rows: &[Row],
+        listed: &Listed,
         out: &mut O,
         err: &mut E,
     ) -> Result<u8, u8>
@@ -175,7 +187,7 @@ impl<R: Files<File = File> + AllocGlobal> Import<'_, R> {
     {
         let kept = kept_alone(self.rt, &self.beside, err)?;
         let most = self.nodes.unwrap_or(MOST_NODES);
-        let list = self.list_of(rows, &kept, most, false, err)?;
+        let list = self.list_of(listed, &kept, most, false, err)?;
         settle(self.rt, &self.beside, kept.is_laid, err)?;
         let mut store = self.made(self.nodes.unwrap_or(list.nodes), err)?;
         match take(&*self, &list, true, &mut store, out, err) {
@@ -201,11 +213,11 @@ impl<R: Files<File = File> + AllocGlobal> Import<'_, R> {
 
     // ---- numbers or names
 
-    // The edges of rows, by what is kept beside a device of so many nodes, which has edges or none. A list is by numbers or by names as a
+    // The edges of a list, by what is kept beside a device of so many nodes, which has edges or none. A list is by numbers or by names as a
     // whole.
     fn list_of<E: Write>(
         &self,
-        rows: &[Row],
+        listed: &Listed,
         kept: &Kept,
         most: u16,
         has_edges: bool,
@@ -213,29 +225,43 @@ impl<R: Files<File = File> + AllocGlobal> Import<'_, R> {
     ) -> Result<List, u8>
         ensures { IfErr result (λ status. status ≤ 2) }
     {
+        if let Some(nodes) = listed.nodes {
+            if nodes > most {
+                let (device, file) = (self.device, self.file);
+                let _told = writeln!(
+                    err,
+                    "tzlab: {device}: it has {most} nodes, and {file} {nodes}"
+                );
+                return Err(1);
+            }
+        }
         match &kept.text {
             Some(text) => {
                 let file = kept.file(&self.beside);
                 match called_in(self.rt.alloc(), file, text.as_str(), most, err)? {
-                    Called::Names(names) => self.named(rows, names, most, err),
+                    Called::Names(_) if listed.is_dimacs() => {
+                        let text = "its nodes are called by names, and those of DIMACS by numbers";
+                        Err(told_of(err, self.device, text))
+                    }
+                    Called::Names(names) => self.named(listed, names, most, err),
                     Called::Numbers => {
                         let why = "the device calls its nodes by numbers";
-                        self.by_device(rows, most, why, err)
+                        self.by_device(listed, most, why, err)
                     }
                 }
             }
             None if has_edges => {
                 let why = "the device has edges and no names beside it";
-                self.by_device(rows, most, why, err)
+                self.by_device(listed, most, why, err)
             }
-            None => self.list_anew(rows, most, err),
+            None => self.list_anew(listed, most, err),
         }
     }
 
-    // The edges of rows for a device whose nodes are called by numbers.
+    // The edges of a list for a device whose nodes are called by numbers.
     fn by_device<E: Write>(
         &self,
-        rows: &[Row],
+        listed: &Listed,
         most: u16,
         why: &str,
         err: &mut E,
@@ -246,18 +272,22 @@ impl<R: Files<File = File> + AllocGlobal> Import<'_, R> {
             let text = "its nodes are called by numbers, and --names does not change that";
             return Err(told_of(err, self.device, text));
         }
-        self.numbered(rows, most, why, err)
+        if listed.is_by_names() {
+            let text = "its nodes are called by numbers, and those of relations by names";
+            return Err(told_of(err, self.device, text));
+        }
+        self.numbered(listed, most, why, err)
     }
 
-    // The edges of rows where it isn't said yet how nodes are called.
-    fn list_anew<E: Write>(&self, rows: &[Row], most: u16, err: &mut E) -> Result<List, u8>
+    // The edges of a list where it isn't said yet how nodes are called.
+    fn list_anew<E: Write>(&self, listed: &Listed, most: u16, err: &mut E) -> Result<List, u8>
         ensures { IfErr result (λ status. status ≤ 2) }
     {
         let alloc = self.rt.alloc();
-        if self.by_names || !call_numbers(rows) {
-            return self.named(rows, Names::new(alloc), most, err);
+        if self.calls_names(listed) {
+            return self.named(listed, Names::new(alloc), most, err);
         }
-        let mut list = self.numbered(rows, most, "with --names all ends are names", err)?;
+        let mut list = self.numbered(listed, most, "with --names all ends are names", err)?;
         match String::from_str(alloc, NUMBERS) {
             Ok(text) => list.text = Some(text),
             Err(_) => return Err(told_memory(err)),
@@ -265,20 +295,30 @@ impl<R: Files<File = File> + AllocGlobal> Import<'_, R> {
         Ok(list)
     }
 
+    // Whether nodes are called by names, where that isn't said yet.
+    fn calls_names(&self, listed: &Listed) -> bool {
+        if listed.is_dimacs() {
+            return false;
+        }
+        self.by_names || listed.is_by_names() || !call_numbers(&listed.rows)
+    }
+
     // The edges of rows whose ends are numbers of so many nodes. The first end that is none is told.
     fn numbered<E: Write>(
         &self,
-        rows: &[Row],
+        listed: &Listed,
         most: u16,
         why: &str,
         err: &mut E,
     ) -> Result<List, u8>
         ensures { IfErr result (λ status. status ≤ 2) }
     {
-        let last = most.saturating_sub(1);
-        match by_numbers(self.rt.alloc(), rows, last) {
+        let (rows, first) = (&listed.rows, listed.first());
+        let last = listed.nodes.unwrap_or(most).saturating_sub(1);
+        match by_numbers(self.rt.alloc(), rows, first, last) {
             Ok(Ok(edges)) => {
-                let nodes = nodes_of(&edges);
+                let nodes = nodes_of(&edges).max(listed.nodes.unwrap_or(0));
+                let edges = self.once(listed, edges, err)?;
                 Ok(List {
                     edges,
                     text: None,
@@ -286,34 +326,67 @@ impl<R: Files<File = File> + AllocGlobal> Import<'_, R> {
                 })
             }
             Ok(Err(place)) => match rows.get(place) {
-                Some(row) => Err(self.told_end(row, last, why, err)),
+                Some(row) => Err(self.told_end(row, first, last, why, err)),
                 None => Err(1),
             },
             Err(_) => Err(told_memory(err)),
         }
     }
 
+    // One edge for each two nodes, where lines with the same edge are taken as one: an edge list says each edge once.
+    fn once<E: Write>(
+        &self,
+        listed: &Listed,
+        edges: Vec<Edge>,
+        err: &mut E,
+    ) -> Result<Vec<Edge>, u8>
+        ensures { IfErr result (λ status. status ≤ 2) }
+    {
+        if listed.is_edge_list() && !self.by_least {
+            return Ok(edges);
+        }
+        match each_once(self.rt.alloc(), &edges, self.by_least) {
+            Ok(Ok(taken)) => Ok(taken),
+            Ok(Err(clash)) => {
+                let (file, first, second) = (self.file, clash.first, clash.second);
+                let _told = writeln!(
+                    err,
+                    "tzlab: {file}:{second}: line {first} has another weight for this edge; --least takes the smaller weight"
+                );
+                Err(2)
+            }
+            Err(_) => Err(told_memory(err)),
+        }
+    }
+
     // Tells that an end of a row is no number up to the last one.
-    fn told_end<E: Write>(&self, row: &Row, last: u16, why: &str, err: &mut E) -> u8
+    fn told_end<E: Write>(&self, row: &Row, first: u16, last: u16, why: &str, err: &mut E) -> u8
         ensures { result ≡ 1 }
     {
-        let end = match number(self.rt.alloc(), row.a.as_str(), last as u64) {
+        let end = match node_in(self.rt.alloc(), row.a.as_str(), first, last) {
             Ok(Some(_)) => row.b.as_str(),
             Ok(None) => row.a.as_str(),
             Err(_) => return told_memory(err),
         };
-        let (file, line) = (self.file, row.line);
-        let _told = writeln!(
-            err,
-            "tzlab: {file}:{line}: `{end}` is no number of a node, 0 to {last}: {why}"
-        );
+        let (file, line, last) = (self.file, row.line, last as u32 + first as u32);
+        let _told = if first == 1 {
+            writeln!(
+                err,
+                "tzlab: {file}:{line}: `{end}` is no number of a node, 1 to {last}"
+            )
+        } else {
+            writeln!(
+                err,
+                "tzlab: {file}:{line}: `{end}` is no number of a node, 0 to {last}: {why}"
+            )
+        };
         1
     }
 
     // The edges of rows whose ends are names, with those that there are already. A name that is one too many is told.
     fn named<'a, E: Write>(
         &self,
-        rows: &'a [Row],
+        listed: &'a Listed,
         mut names: Names<'a>,
         most: u16,
         err: &mut E,
@@ -321,8 +394,8 @@ impl<R: Files<File = File> + AllocGlobal> Import<'_, R> {
         ensures { IfErr result (λ status. status ≤ 2) }
     {
         let alloc = self.rt.alloc();
-        let edges = match names.take_rows(alloc, rows, most) {
-            Ok(Ok(edges)) => edges,
+        let edges = match names.take_rows(alloc, &listed.rows, most) {
+            Ok(Ok(edges)) => self.once(listed, edges, err)?,
             Ok(Err(refused)) => {
                 let (file, number, form) = (self.file, refused.number, refused.form);
                 let _told = writeln!(err, "tzlab: {file}:{number}: {form}, which are {most}");

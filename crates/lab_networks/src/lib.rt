@@ -1,8 +1,8 @@
-//! The lab's commands on networks: edge lists that come to a device, with what its nodes are called, and networks that are printed.
+//! The lab's commands on networks: lists of edges that come to a device, with what its nodes are called, and networks that are printed.
 //!
 //! | Command | Does |
 //! |---|---|
-//! | `import DEVICE FILE [--nodes N] ..` ([`import`]) | brings an edge list to a device, and its names beside it |
+//! | `import DEVICE FILE [--as FORM] [--nodes N] ..` ([`import`]) | brings a network to a device, and its names beside it |
 //! | `export DEVICE [--as FORM] [--words W]` ([`export`]) | prints the network of a device |
 //!
 //! How the nodes of a device are called is kept beside it, in `DEVICE.names` (`beside.rt`).
@@ -21,6 +21,7 @@ mod files;
 pub mod import;
 mod networks;
 mod taken;
+mod texts;
 
 pub use networks::{ExportRefused, Form, export_graph};
 pub use taken::{Taken, Wanted, take_edges};

@@ -5,7 +5,7 @@ ghost use Rattle.written_values.specs.Words.{IsWithin};
 ghost use Rattle.edge_lists.specs.Reading.{IfNoneRead};
 ghost use Rattle.lab_networks.specs.Networks.{AreMarksBy, IsExportRefused, IsListOrCsv, IsTextOf, LacksNode, PrintsNetwork};
 
-use edge_lists::{Edge, edge_list};
+use edge_lists::{Edge, dimacs_text, edge_list};
 use figure_lines::{Mark, edges_of, marks_of, network_csv, network_dot, network_json};
 use graph_edits::Graph;
 use lab_parts::{PrintRefused, print};
@@ -19,6 +19,8 @@ use written_values::LandmarkWords;
 pub enum Form {
     Edges,
     Csv,
+    /// As DIMACS has arcs, each way. Nodes stand by number.
+    Dimacs,
     Json,
     /// With its nodes marked, where landmark words are named.
     Dot(Option<LandmarkWords>),
@@ -85,6 +87,7 @@ fn text_in(
     match form {
         Form::Edges => Ok(Some(list_or_csv(alloc, &edges, names)?)),
         Form::Csv => Ok(Some(network_csv(alloc, &edges, names)?)),
+        Form::Dimacs => Ok(Some(dimacs_text(alloc, graph.nodes(), &edges)?.into_bytes())),
         Form::Json => Ok(Some(network_json(alloc, graph.nodes(), &edges, names)?.into_bytes())),
         Form::Dot(None) => Ok(Some(network_dot(alloc, &edges, names, &[])?)),
         Form::Dot(Some(words)) => {

@@ -1,6 +1,10 @@
-// Drawn networks: written as a list, read, imported, written again, and compared with the test's own list.
-use crate::helpers::{Came, got, new_store};
-use edge_lists::{Edge, Heading, by_numbers, edge_list, read_edge_list};
+// Drawn networks: written in each form, read, imported, and compared with the test's own list.
+use crate::helpers::{BY_WORDS, Came, got, new_store};
+use checkpoint::Store;
+use disk_trait::MemDisk;
+use edge_lists::{
+    Edge, Writing, by_numbers, dimacs_text, each_once, edge_list, form_of, read_rows,
+};
 use network_import::import;
 use rand_core::SeedableRng;
 use rand_core::utils::NextWord;
@@ -47,41 +51,104 @@ fn turned(rt: &impl Abort, alloc: Global, edges: &[Edge]) -> Vec<Edge> {
     others
 }
 
-#[test]
-fn drawn_networks_come_in_and_go_out(rt: HostRuntime) {
-    let alloc = rt.alloc();
-    for seed in 0..12 {
-        let edges = drawn(&rt, alloc, seed);
-        let Some(text) = got(&rt, edge_list(alloc, &turned(&rt, alloc, &edges), &[])) else {
-            panic!(rt; "seed {seed}");
-        };
-        let read = got(&rt, read_edge_list(alloc, text.as_str(), Heading::ByWords));
-        let Ok(rows) = read else {
-            panic!(rt; "seed {seed}");
-        };
-        let Ok(read) = got(&rt, by_numbers(alloc, &rows, 59)) else {
-            panic!(rt; "seed {seed}");
-        };
-        let mut store = new_store(&rt, alloc, 60);
-        let mut came = Came { edges: 0 };
-        got(&rt, import(alloc, &mut store, &read, &mut came));
-        let mut out = Vec::new(alloc);
-        for a in 0..store.nodes() {
-            for (b, weight) in store.graph().neighbours(a) {
-                if a < *b {
-                    let (b, weight) = (*b, *weight);
-                    got(
-                        &rt,
-                        out.push(Edge {
-                            line: 0,
-                            a,
-                            b,
-                            weight,
-                        }),
-                    );
-                }
+// The networks of these edges as relations.
+fn relations(rt: &impl Abort, alloc: Global, edges: &[Edge]) -> String {
+    let mut text = String::new(alloc);
+    got(rt, text.push_str("# networks\n"));
+    for edge in edges {
+        got(rt, writeln!(text, "{}|{}|-1", edge.a, edge.b));
+    }
+    text
+}
+
+// The edges of a store, ascending.
+fn edges_of(rt: &impl Abort, alloc: Global, store: &Store<MemDisk>) -> Vec<Edge> {
+    let mut out = Vec::new(alloc);
+    for a in 0..store.nodes() {
+        for (b, weight) in store.graph().neighbours(a) {
+            if a < *b {
+                let (line, b, weight) = (0, *b, *weight);
+                got(rt, out.push(Edge { line, a, b, weight }));
             }
         }
-        assert_eq!(rt; out.as_slice(), edges.as_slice(), "seed {seed}");
+    }
+    out
+}
+
+// The edges of a text of 60 nodes, by way of a store. The text's form is told by its lines.
+fn taken(rt: &impl Abort, alloc: Global, text: &str, writing: Writing) -> Vec<Edge> {
+    assert_eq!(rt; got(rt, form_of(alloc, text)), writing);
+    let first = if writing == Writing::Dimacs { 1 } else { 0 };
+    let Ok(rows) = got(rt, read_rows(alloc, text, writing)) else {
+        panic!(rt; "no rows");
+    };
+    let Ok(read) = got(rt, by_numbers(alloc, &rows, first, 59)) else {
+        panic!(rt; "no numbers");
+    };
+    let Ok(once) = got(rt, each_once(alloc, &read, false)) else {
+        panic!(rt; "two weights");
+    };
+    let mut store = new_store(rt, alloc, 60);
+    let mut came = Came { edges: 0 };
+    got(rt, import(alloc, &mut store, &once, &mut came));
+    edges_of(rt, alloc, &store)
+}
+
+#[test]
+fn drawn_networks_come_in_and_go_out(rt: HostRuntime) {
+    let (rt, alloc) = (&rt, rt.alloc());
+    for seed in 0..12 {
+        let mut edges = drawn(rt, alloc, seed);
+        let others = turned(rt, alloc, &edges);
+        let list = got(rt, edge_list(alloc, &others, &[])).expect(rt, "a list");
+        let read = taken(rt, alloc, list.as_str(), BY_WORDS);
+        assert_eq!(rt; read.as_slice(), edges.as_slice(), "seed {seed}");
+        let arcs = got(rt, dimacs_text(alloc, 60, &others));
+        let read = taken(rt, alloc, arcs.as_str(), Writing::Dimacs);
+        assert_eq!(rt; read.as_slice(), edges.as_slice(), "seed {seed}");
+        let text = relations(rt, alloc, &others);
+        for edge in edges.iter_mut() {
+            edge.weight = 1;
+        }
+        let read = taken(rt, alloc, text.as_str(), Writing::Relations);
+        assert_eq!(rt; read.as_slice(), edges.as_slice(), "seed {seed}");
+    }
+}
+
+// Arcs, and the edges that they are taken as with and without --least; or the lines of the first two with two weights.
+const ARCS: [(&str, Result<&str, (usize, usize)>, &str); 5] = [
+    ("a 1 2 5\na 2 1 5\n", Ok("0 1 5\n"), "0 1 5\n"),
+    ("a 1 2 5\na 2 3 6\n", Ok("0 1 5\n1 2 6\n"), "0 1 5\n1 2 6\n"),
+    ("a 1 2 5\na 1 2 5\na 2 1 5\n", Ok("0 1 5\n"), "0 1 5\n"),
+    (
+        "a 1 2 5\nc x\na 3 1 1\na 2 1 4\n",
+        Err((1, 4)),
+        "1 0 4\n2 0 1\n",
+    ),
+    ("a 2 1 4\na 1 2 5\na 2 1 3\n", Err((1, 2)), "1 0 3\n"),
+];
+
+#[test]
+fn arcs_of_one_edge(rt: HostRuntime) {
+    let (rt, alloc) = (&rt, rt.alloc());
+    for (text, want, least) in &ARCS {
+        let Ok(rows) = got(rt, read_rows(alloc, *text, Writing::Dimacs)) else {
+            panic!(rt; "{text}");
+        };
+        let Ok(arcs) = got(rt, by_numbers(alloc, &rows, 1, 2)) else {
+            panic!(rt; "{text}");
+        };
+        match got(rt, each_once(alloc, &arcs, false)) {
+            Ok(edges) => {
+                let told = got(rt, edge_list(alloc, &edges, &[])).expect(rt, "a list");
+                assert_eq!(rt; Ok(told.as_str()), *want, "{text}");
+            }
+            Err(clash) => assert_eq!(rt; Err((clash.first, clash.second)), *want, "{text}"),
+        }
+        let Ok(edges) = got(rt, each_once(alloc, &arcs, true)) else {
+            panic!(rt; "{text}");
+        };
+        let told = got(rt, edge_list(alloc, &edges, &[])).expect(rt, "a list");
+        assert_eq!(rt; told.as_str(), *least, "{text}");
     }
 }

@@ -4,10 +4,13 @@ ghost use Rattle.checkpoint.specs.StoreWords.{is_down};
 
 use checkpoint::Store;
 use disk_trait::MemDisk;
-use edge_lists::Edge;
+use edge_lists::{Edge, Heading, Writing};
 use network_import::Progress;
 use std::alloc::Global;
 use std::process::Abort;
+
+/// Edge lists with a header that is known by its words.
+pub(crate) const BY_WORDS: Writing = Writing::Edges(Heading::ByWords);
 
 /// The value of an answer that has to have one.
 pub(crate) fn got<T, E: Drop>(rt: &impl Abort, answer: Result<T, E>) -> T {

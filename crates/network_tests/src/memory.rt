@@ -4,12 +4,10 @@
 ghost use Rattle.std.specs.Prelude.{◌≡◌, false};
 ghost use Rattle.checkpoint.specs.StoreWords.{is_down};
 
-use crate::helpers::{Came, has_up_to, new_store};
+use crate::helpers::{BY_WORDS, Came, has_up_to, new_store};
 use checkpoint::Store;
 use disk_trait::MemDisk;
-use edge_lists::{
-    Edge, Form, Heading, LineRefused, Names, Row, by_numbers, edge_list, read_edge_list,
-};
+use edge_lists::{Edge, Form, LineRefused, Names, Row, by_numbers, edge_list, read_rows};
 use network_import::{ImportRefused, import};
 use std::alloc::Global;
 use std::process::Abort;
@@ -62,17 +60,17 @@ fn an_import_after_a_want_of_memory(rt: HostRuntime) {
 fn a_text_after_a_want_of_memory(rt: HostRuntime) {
     let alloc = rt.alloc();
     let text = "a,b,km\n# roads\n0 1 5\n\"0\",x";
-    let rows = match read_edge_list(alloc, text, Heading::ByWords) {
+    let rows = match read_rows(alloc, text, BY_WORDS) {
         Ok(rows) => Ok(rows),
-        Err(_) => read_edge_list(alloc, text, Heading::ByWords),
+        Err(_) => read_rows(alloc, text, BY_WORDS),
     };
     match rows {
         Ok(Ok(rows)) => assert_eq!(rt; rows.len(), 2),
         _ => panic!(rt; "not read"),
     }
-    let refused = match read_edge_list(alloc, "0 1 5\n0", Heading::ByWords) {
+    let refused = match read_rows(alloc, "0 1 5\n0", BY_WORDS) {
         Ok(refused) => Ok(refused),
-        Err(_) => read_edge_list(alloc, "0 1 5\n0", Heading::ByWords),
+        Err(_) => read_rows(alloc, "0 1 5\n0", BY_WORDS),
     };
     match refused {
         Ok(Err(refused)) => {
@@ -87,9 +85,9 @@ const LIST: &str = "1 2 5\n\n4 0 6";
 
 // The rows of the list.
 fn rows_of(rt: &impl Abort, alloc: Global) -> Vec<Row> {
-    let rows = match read_edge_list(alloc, LIST, Heading::ByWords) {
+    let rows = match read_rows(alloc, LIST, BY_WORDS) {
         Ok(rows) => Ok(rows),
-        Err(_) => read_edge_list(alloc, LIST, Heading::ByWords),
+        Err(_) => read_rows(alloc, LIST, BY_WORDS),
     };
     match rows {
         Ok(Ok(rows)) => rows,
@@ -158,9 +156,9 @@ fn names_after_a_want_of_memory(rt: HostRuntime) {
 fn numbers_after_a_want_of_memory(rt: HostRuntime) {
     let alloc = rt.alloc();
     let rows = rows_of(&rt, alloc);
-    let found = match by_numbers(alloc, &rows, 4) {
+    let found = match by_numbers(alloc, &rows, 0, 4) {
         Ok(found) => Ok(found),
-        Err(_) => by_numbers(alloc, &rows, 4),
+        Err(_) => by_numbers(alloc, &rows, 0, 4),
     };
     let Ok(Ok(edges)) = found else {
         panic!(rt; "no numbers");

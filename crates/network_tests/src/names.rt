@@ -1,15 +1,12 @@
 // Names and numbers, by hand.
-use crate::helpers::got;
-use edge_lists::{Edge, Heading, Names, by_numbers, call_numbers, edge_list, read_edge_list};
+use crate::helpers::{BY_WORDS, got};
+use edge_lists::{Edge, Names, by_numbers, call_numbers, edge_list, read_rows};
 
 #[test]
 fn names_up_to_one_that_is_too_many(rt: HostRuntime) {
     let alloc = rt.alloc();
     let rt = &rt;
-    let Ok(rows) = got(
-        rt,
-        read_edge_list(alloc, "a b\n\nb c\nc a", Heading::ByWords),
-    ) else {
+    let Ok(rows) = got(rt, read_rows(alloc, "a b\n\nb c\nc a", BY_WORDS)) else {
         panic!(rt; "no list");
     };
     let mut names = Names::new(alloc);
@@ -57,11 +54,11 @@ const NUMBERED: [(&str, Result<&str, usize>, bool); 8] = [
 fn ends_that_are_plain_numbers(rt: HostRuntime) {
     let alloc = rt.alloc();
     for (text, want, numbers) in &NUMBERED {
-        let Ok(rows) = got(&rt, read_edge_list(alloc, *text, Heading::ByWords)) else {
+        let Ok(rows) = got(&rt, read_rows(alloc, *text, BY_WORDS)) else {
             panic!(rt; "{text}");
         };
         assert_eq!(rt; call_numbers(&rows), *numbers, "{text}");
-        match got(&rt, by_numbers(alloc, &rows, 9)) {
+        match got(&rt, by_numbers(alloc, &rows, 0, 9)) {
             Ok(edges) => {
                 let told = got(&rt, edge_list(alloc, &edges, &[])).expect(&rt, "a list");
                 assert_eq!(rt; Ok(told.as_str()), *want, "{text}");

@@ -17,7 +17,7 @@ returns-in-None-clause-refused c =
     let here : get_or (map row_of rows) i (row_of row) ≡ row_of row = get_or-map row_of rows i row (row_of row) lt ∙ ap row_of (sym c.index-rows-place.is) in
     record {
       edges = c.loop-place.edges.items;
-      before = subst (λ (l : List Said). AreNumbered c.args.last l c.loop-place.edges.items) (sym (take-map row_of i rows)) c.loop-place.invariant;
+      before = subst (λ (l : List Said). AreNumbered c.args.first c.args.last l c.loop-place.edges.items) (sym (take-map row_of i rows)) c.loop-place.invariant;
       row = row_of row;
       at = slice_get-get_or (map row_of rows) i (row_of row) long ∙ ap (λ (s : Said). Some s) here;
       other = on_none c.in-None.is c.in_ok-edge.ensures.none;
@@ -25,6 +25,6 @@ returns-in-None-clause-refused c =
 
 pub loop-place-preserved : goal.loop-place-preserved
 loop-place-preserved c =
-    let one : IsNumbered c.args.last (row_of c.index-rows-place.result) c.in-Some.edge = at_some _ c.in-Some.is c.in_ok-edge.ensures.found in
-    let here = subst (λ (r : Row). IsNumbered c.args.last (row_of r) c.in-Some.edge) c.index-rows-place.is one in
-    rw c.in_ok-push-in-Some.ensures.items (zip_more (IsEdgeOf (IsNumber c.args.last)) row_of c.args.rows.now c.loop-place.edges.items c.loop-place.place c.index-rows-place.result c.in-Some.edge (omega arith) c.loop-place.invariant here)
+    let one : IsNumbered c.args.first c.args.last (row_of c.index-rows-place.result) c.in-Some.edge = at_some _ c.in-Some.is c.in_ok-edge.ensures.found in
+    let here = subst (λ (r : Row). IsNumbered c.args.first c.args.last (row_of r) c.in-Some.edge) c.index-rows-place.is one in
+    rw c.in_ok-push-in-Some.ensures.items (zip_more (IsEdgeOf (IsNumber c.args.first c.args.last)) row_of c.args.rows.now c.loop-place.edges.items c.loop-place.place c.index-rows-place.result c.in-Some.edge (omega arith) c.loop-place.invariant here)

@@ -3,4 +3,4 @@ use Rattle.edge_lists.proofs.HeaderLemmas.{lead_left}
 use Rattle.edge_lists.proofs.header.lines_before.Given as goal
 
 abbrev pub invariant-loop-index : goal.invariant-loop-index
-invariant-loop-index l = lead_left l.heading l.texts ≡ l.index + lead_left l.heading (drop l.index l.texts)
+invariant-loop-index l = lead_left l.writing l.texts ≡ l.index + lead_left l.writing (drop l.index l.texts)
