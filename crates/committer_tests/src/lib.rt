@@ -12,8 +12,6 @@ mod faults;
 #[cfg(test)]
 mod memory;
 #[cfg(test)]
-mod rounds;
-#[cfg(test)]
 mod seats;
 #[cfg(test)]
 mod threads;

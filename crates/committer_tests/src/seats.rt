@@ -7,9 +7,9 @@ ghost use Rattle.node_table.specs.Service.{Serves};
 ghost use Rattle.node_table.specs.Tables.{tables};
 ghost use Rattle.std.specs.Arc.{arc_value};
 
-use checkpoint::{DEVICE_LEN, Store, format};
+use checkpoint::Store;
 use committer::{Committer, RebuildRefused, Round, RoundRefused};
-use disk_trait::{Disk, MemDisk, Plan};
+use disk_trait::{MemDisk, Plan};
 use forwarders::Forwarder;
 use generations::{Board, BoardReader, board};
 use graph_edits::{Change, Graph, Op};
@@ -35,9 +35,6 @@ pub(crate) const PATH: [Op; 4] = [
     Op::Add(3, 4, 1),
 ];
 
-// Where the first journal begins.
-const JOURNAL: usize = 532_480;
-
 /// The value of an answer that has to have one.
 pub(crate) fn got<T, E: Drop>(rt: &impl Abort, answer: Result<T, E>) -> T {
     match answer {
@@ -51,17 +48,13 @@ pub(crate) fn same<T: Copy + PartialEq + Debug>(rt: &impl Abort, found: T, want:
     assert_eq!(rt; found, want, "{name}");
 }
 
-/// A desk over a disk; opened once more where memory was refused.
+/// A desk over a disk.
 pub(crate) fn opened(rt: &impl Abort, alloc: Global, disk: MemDisk) -> Desk<MemDisk>
     ensures held { held_of result ≡ [] }
     ensures due { due_of result ≡ None }
     ensures up { is_down (store_of result) ≡ false }
 {
-    let store = match Store::open(alloc, disk) {
-        Ok(store) => store,
-        Err((_, disk)) => Store::open(alloc, disk).ok().expect(rt, "opened"),
-    };
-    Desk::new(store)
+    Desk::new(stand_ins::opened(alloc, disk).ok().expect(rt, "opened"))
 }
 
 /// A desk over a fresh device for five nodes.
@@ -70,12 +63,7 @@ pub(crate) fn fresh(rt: &impl Abort, alloc: Global) -> Desk<MemDisk>
     ensures due { due_of result ≡ None }
     ensures up { is_down (store_of result) ≡ false }
 {
-    let mut disk = match MemDisk::new(alloc, DEVICE_LEN) {
-        Ok(disk) => disk,
-        Err(_) => MemDisk::new(alloc, DEVICE_LEN).expect(rt, "a disk"),
-    };
-    format(&mut disk, 5).expect(rt, "formatted");
-    opened(rt, alloc, disk)
+    opened(rt, alloc, got(rt, stand_ins::formatted(alloc, 5)))
 }
 
 /// A committer, two editors, two forwarders and a reader, all of one board.
@@ -374,14 +362,5 @@ impl<R: Wait + Abort + Drop> Seats<R> {
     /// The disk alone. A test whose seats would be dropped ends by this: the drop is proved here and nowhere else.
     pub(crate) fn into_disk(self) -> MemDisk {
         self.committer.into_store().into_disk()
-    }
-
-    /// The first bytes of the journal.
-    pub(crate) fn journal(self, rt: &R) -> [u8; 64] {
-        let mut disk = self.into_disk();
-        let mut bytes = [0; 64];
-        assert!(rt; JOURNAL + 64 <= disk.len());
-        got(rt, disk.read(JOURNAL, &mut bytes));
-        bytes
     }
 }

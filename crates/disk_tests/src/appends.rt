@@ -88,22 +88,24 @@ const LAST: [([(usize, usize); 3], Result<(), AppendRefused>, usize); 2] = [
 
 #[test]
 fn room_on_both_sides_of_the_last_byte(rt: HostRuntime) {
-    let full = group_of(&rt, rt.alloc(), &[(64, 16)]);
+    let alloc = rt.alloc();
+    let rt = &rt;
+    let full = group_of(rt, alloc, &[(64, 16)]);
     for (last, want, entries) in &LAST {
-        let mut disk = blank(&rt, rt.alloc(), 1_048_576);
+        let mut disk = blank(rt, alloc, 1_048_576);
         let mut journal = Journal::fresh(WHOLE);
         for _ in 0..112 {
-            let answer = append_to(&rt, rt.alloc(), &mut journal, &mut disk, &full);
-            got(&rt, answer);
+            let answer = append_to(rt, alloc, &mut journal, &mut disk, &full);
+            got(rt, answer);
         }
-        let group = group_of(&rt, rt.alloc(), last);
+        let group = group_of(rt, alloc, last);
         // 112 records of 9,287 bytes stand there, and a gate.
-        same(&rt, journal.room_left(), 8_431, "the room left");
-        same(&rt, has_room(&rt, &journal, &group), want.is_ok(), "room");
-        let answer = append_to(&rt, rt.alloc(), &mut journal, &mut disk, &group);
-        same(&rt, answer, *want, "the last group");
-        let (_, found) = got(&rt, scan_of::<Change>(&rt, rt.alloc(), &mut disk, WHOLE));
-        same(&rt, found.len(), *entries, "the changes");
+        same(rt, journal.room_left(), 8_431, "the room left");
+        same(rt, has_room(rt, &journal, &group), want.is_ok(), "room");
+        let answer = append_to(rt, alloc, &mut journal, &mut disk, &group);
+        same(rt, answer, *want, "the last group");
+        let (_, found) = got(rt, scan_of::<Change>(rt, alloc, &mut disk, WHOLE));
+        same(rt, found.len(), *entries, "the changes");
     }
 }
 
@@ -111,29 +113,28 @@ fn room_on_both_sides_of_the_last_byte(rt: HostRuntime) {
 // nothing, and made again it gives the answer.
 #[test]
 fn a_refused_allocation_changes_nothing(rt: HostRuntime) {
+    let alloc = rt.alloc();
+    let rt = &rt;
     let area = Area { start: 2, room: 60 };
-    let mut disk = blank(&rt, rt.alloc(), 64);
+    let mut disk = blank(rt, alloc, 64);
     let mut journal = Journal::fresh(area);
     let group = [
-        got(&rt, Change::new(&[Op::Set(0, 1, 2)])),
-        got(&rt, Change::new(&[Op::Cut(0, 1), Op::Add(2, 3, 4)])),
+        got(rt, Change::new(&[Op::Set(0, 1, 2)])),
+        got(rt, Change::new(&[Op::Cut(0, 1), Op::Add(2, 3, 4)])),
     ];
-    let answer = append_to(&rt, rt.alloc(), &mut journal, &mut disk, &group);
+    let answer = append_to(rt, alloc, &mut journal, &mut disk, &group);
     if answer.is_err() {
-        same(&rt, answer, Err(AppendRefused::Memory), "without memory");
+        same(rt, answer, Err(AppendRefused::Memory), "without memory");
         same(
-            &rt,
-            bytes::<MemDisk, 64>(&rt, &mut disk, 0),
+            rt,
+            bytes::<MemDisk, 64>(rt, &mut disk, 0),
             [0; 64],
             "as before",
         );
-        got(
-            &rt,
-            append_to(&rt, rt.alloc(), &mut journal, &mut disk, &group),
-        );
+        got(rt, append_to(rt, alloc, &mut journal, &mut disk, &group));
     }
-    let entries = scanned_again(&rt, rt.alloc(), &mut disk, area);
-    same(&rt, entries.as_slice(), group.as_slice(), "the changes");
+    let entries = scanned_again(rt, alloc, &mut disk, area);
+    same(rt, entries.as_slice(), group.as_slice(), "the changes");
 }
 
 /// The changes of an area, scanned again where memory was short.
@@ -148,14 +149,16 @@ fn scanned_again(rt: &impl Abort, alloc: Global, disk: &mut MemDisk, area: Area)
 
 #[test]
 fn a_scan_whose_read_fails(rt: HostRuntime) {
+    let alloc = rt.alloc();
+    let rt = &rt;
     let area = Area { start: 2, room: 60 };
-    let mut disk = blank(&rt, rt.alloc(), 64);
+    let mut disk = blank(rt, alloc, 64);
     disk.fail_at(1);
-    let refused = scan_of::<Change>(&rt, rt.alloc(), &mut disk, area).err();
-    same(&rt, refused, Some(ScanRefused::Device), "a failed read");
-    let (journal, entries) = got(&rt, scan_of::<Change>(&rt, rt.alloc(), &mut disk, area));
+    let refused = scan_of::<Change>(rt, alloc, &mut disk, area).err();
+    same(rt, refused, Some(ScanRefused::Device), "a failed read");
+    let (journal, entries) = got(rt, scan_of::<Change>(rt, alloc, &mut disk, area));
     same(
-        &rt,
+        rt,
         (entries.len(), journal.area()),
         (0, area),
         "scanned again",

@@ -79,25 +79,29 @@ const BY_WORD: [(u64, usize, usize); 5] = [
 
 #[test]
 fn every_call_of_an_append_fails(rt: HostRuntime) {
+    let alloc = rt.alloc();
+    let rt = &rt;
     for (word, gate_failed, sync_failed) in &BY_WORD {
-        expect_left(&rt, rt.alloc(), (Plan::Fail(1), *word), FAULT, 1);
-        expect_left(&rt, rt.alloc(), (Plan::Fail(2), *word), FAULT, 1);
-        expect_left(&rt, rt.alloc(), (Plan::Fail(3), *word), FAULT, *gate_failed);
-        expect_left(&rt, rt.alloc(), (Plan::Fail(4), *word), FAULT, *sync_failed);
-        expect_left(&rt, rt.alloc(), (Plan::Fail(5), *word), Ok(()), 3);
+        expect_left(rt, alloc, (Plan::Fail(1), *word), FAULT, 1);
+        expect_left(rt, alloc, (Plan::Fail(2), *word), FAULT, 1);
+        expect_left(rt, alloc, (Plan::Fail(3), *word), FAULT, *gate_failed);
+        expect_left(rt, alloc, (Plan::Fail(4), *word), FAULT, *sync_failed);
+        expect_left(rt, alloc, (Plan::Fail(5), *word), Ok(()), 3);
     }
 }
 
 #[test]
 fn every_write_of_an_append_stops_at_every_byte(rt: HostRuntime) {
+    let alloc = rt.alloc();
+    let rt = &rt;
     for (word, no_byte, gate) in &BY_WORD {
         // Length, payload and next gate are 4 + 31 + 1 bytes.
         for bytes in 0..=36usize {
-            expect_left(&rt, rt.alloc(), (Plan::Stop(1, bytes), *word), FAULT, 1);
+            expect_left(rt, alloc, (Plan::Stop(1, bytes), *word), FAULT, 1);
         }
-        expect_left(&rt, rt.alloc(), (Plan::Stop(2, 0), *word), FAULT, 1);
-        expect_left(&rt, rt.alloc(), (Plan::Stop(3, 0), *word), FAULT, *no_byte);
-        expect_left(&rt, rt.alloc(), (Plan::Stop(3, 1), *word), FAULT, *gate);
-        expect_left(&rt, rt.alloc(), (Plan::Stop(4, 0), *word), FAULT, *gate);
+        expect_left(rt, alloc, (Plan::Stop(2, 0), *word), FAULT, 1);
+        expect_left(rt, alloc, (Plan::Stop(3, 0), *word), FAULT, *no_byte);
+        expect_left(rt, alloc, (Plan::Stop(3, 1), *word), FAULT, *gate);
+        expect_left(rt, alloc, (Plan::Stop(4, 0), *word), FAULT, *gate);
     }
 }

@@ -123,25 +123,27 @@ fn is_read(rt: &impl Abort, alloc: Global, disk: &mut MemDisk, spoilt: &[u8]) ->
 
 #[test]
 fn each_byte_of_two_records_changed_to_each_other(rt: HostRuntime) {
-    let mut disk = blank(&rt, rt.alloc(), 70);
+    let alloc = rt.alloc();
+    let rt = &rt;
+    let mut disk = blank(rt, alloc, 70);
     let mut journal = Journal::fresh(AREA);
     let three = [Op::Set(1, 0, 9), Op::Cut(0, 1), Op::Add(3, 2, 5)];
     let all = [
-        got(&rt, Change::new(&[Op::Add(0, 1, 1)])),
-        got(&rt, Change::new(&[Op::Add(0, 1, 7)])),
-        got(&rt, Change::new(&three)),
+        got(rt, Change::new(&[Op::Add(0, 1, 1)])),
+        got(rt, Change::new(&[Op::Add(0, 1, 7)])),
+        got(rt, Change::new(&three)),
     ];
     let changes = all.as_slice();
-    let first = append_to(&rt, rt.alloc(), &mut journal, &mut disk, &changes[..1]);
-    let second = append_to(&rt, rt.alloc(), &mut journal, &mut disk, &changes[1..]);
-    same(&rt, (first, second), (Ok(()), Ok(())), "two records");
-    let whole = bytes::<MemDisk, 66>(&rt, &mut disk, 3);
+    let first = append_to(rt, alloc, &mut journal, &mut disk, &changes[..1]);
+    let second = append_to(rt, alloc, &mut journal, &mut disk, &changes[1..]);
+    same(rt, (first, second), (Ok(()), Ok(())), "two records");
+    let whole = bytes::<MemDisk, 66>(rt, &mut disk, 3);
     let (mut damaged, mut read) = (0u32, 0u32);
     for place in 0..66usize {
         for byte in 0..=255u8 {
             let mut spoilt = whole;
             spoilt[place] = byte;
-            if is_read(&rt, rt.alloc(), &mut disk, &spoilt) {
+            if is_read(rt, alloc, &mut disk, &spoilt) {
                 read = read.wrapping_add(1);
             } else {
                 damaged = damaged.wrapping_add(1);
@@ -149,5 +151,5 @@ fn each_byte_of_two_records_changed_to_each_other(rt: HostRuntime) {
         }
     }
     let many = damaged > 1_000 && read > 1_000;
-    same(&rt, (damaged, read, many), (damaged, read, true), "both");
+    same(rt, (damaged, read, many), (damaged, read, true), "both");
 }

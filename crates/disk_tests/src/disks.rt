@@ -76,35 +76,39 @@ const PLANS: [(Plan, [bool; 5], [u8; 8]); 17] = [
 
 #[test]
 fn fails_where_its_plan_says(rt: HostRuntime) {
+    let alloc = rt.alloc();
+    let rt = &rt;
     for (plan, fails, want) in &PLANS {
-        let mut disk = blank(&rt, rt.alloc(), 8);
+        let mut disk = blank(rt, alloc, 8);
         disk.arm(*plan);
-        let found = five_calls(&rt, &mut disk);
+        let found = five_calls(rt, &mut disk);
         disk.arm(Plan::None);
-        let there = bytes::<MemDisk, 8>(&rt, &mut disk, 0);
-        same(&rt, (*plan, found, there), (*plan, *fails, *want), "a plan");
+        let there = bytes::<MemDisk, 8>(rt, &mut disk, 0);
+        same(rt, (*plan, found, there), (*plan, *fails, *want), "a plan");
     }
 }
 
 #[test]
 fn counts_calls_from_the_plan_on(rt: HostRuntime) {
-    let mut disk = blank(&rt, rt.alloc(), 8);
-    same(&rt, five_calls(&rt, &mut disk), [NO; 5], "no plan");
+    let alloc = rt.alloc();
+    let rt = &rt;
+    let mut disk = blank(rt, alloc, 8);
+    same(rt, five_calls(rt, &mut disk), [NO; 5], "no plan");
     disk.fail_at(2);
     same(
-        &rt,
-        five_calls(&rt, &mut disk),
+        rt,
+        five_calls(rt, &mut disk),
         [NO, YES, NO, NO, NO],
         "the second",
     );
     disk.stop_at(5, 0);
     same(
-        &rt,
-        five_calls(&rt, &mut disk),
+        rt,
+        five_calls(rt, &mut disk),
         [NO, NO, NO, NO, YES],
         "the last",
     );
-    same(&rt, five_calls(&rt, &mut disk), [YES; 5], "stopped");
+    same(rt, five_calls(rt, &mut disk), [YES; 5], "stopped");
 }
 
 /// Bytes 2 to 7 and 10 to 14 are unsettled, after others were synced at 1 to 5.
@@ -173,18 +177,15 @@ const IMAGES: [(u64, [u8; 16]); 10] = [
 
 #[test]
 fn leaves_the_image_of_the_word(rt: HostRuntime) {
+    let alloc = rt.alloc();
+    let rt = &rt;
     for (word, want) in &IMAGES {
-        let mut disk = torn_disk(&rt, rt.alloc()).crash(*word);
-        let found = bytes::<MemDisk, 16>(&rt, &mut disk, 0);
+        let mut disk = torn_disk(rt, alloc).crash(*word);
+        let found = bytes::<MemDisk, 16>(rt, &mut disk, 0);
         // Nothing is unsettled after a crash.
         let mut again = disk.crash(511);
-        let twice = bytes::<MemDisk, 16>(&rt, &mut again, 0);
-        same(
-            &rt,
-            (*word, found, twice),
-            (*word, *want, *want),
-            "an image",
-        );
+        let twice = bytes::<MemDisk, 16>(rt, &mut again, 0);
+        same(rt, (*word, found, twice), (*word, *want, *want), "an image");
     }
 }
 
@@ -222,21 +223,23 @@ const WORDS: [u64; 4] = [0, 1, 256, 257];
 
 #[test]
 fn opens_a_gate_only_before_whole_text(rt: HostRuntime) {
+    let alloc = rt.alloc();
+    let rt = &rt;
     for (plan, gates) in &GATES {
         for (word, want) in WORDS.iter().zip(gates.iter()) {
-            let mut disk = blank(&rt, rt.alloc(), 8);
+            let mut disk = blank(rt, alloc, 8);
             disk.arm(*plan);
-            let answer = published(&rt, &mut disk, 4, &[7, 8, 9]).is_ok();
+            let answer = published(rt, &mut disk, 4, &[7, 8, 9]).is_ok();
             same(
-                &rt,
+                rt,
                 (*plan, answer),
                 (*plan, *plan == Plan::None),
                 "published",
             );
-            let [gate, first, second, third] = gate_after(&rt, disk, *word);
-            same(&rt, (*plan, *word, gate), (*plan, *word, *want), "the gate");
+            let [gate, first, second, third] = gate_after(rt, disk, *word);
+            same(rt, (*plan, *word, gate), (*plan, *word, *want), "the gate");
             let whole = gate == 0 || [first, second, third] == [7, 8, 9];
-            same(&rt, (*plan, *word, whole), (*plan, *word, true), "the text");
+            same(rt, (*plan, *word, whole), (*plan, *word, true), "the text");
         }
     }
 }
@@ -253,12 +256,14 @@ fn keep<D: Disk>(disk: &mut D, number: u64) -> Result<(), DeviceFault>
 
 #[test]
 fn keeps_a_number(rt: HostRuntime) {
-    let mut disk = blank(&rt, rt.alloc(), 9);
+    let alloc = rt.alloc();
+    let rt = &rt;
+    let mut disk = blank(rt, alloc, 9);
     let len = disk.len();
-    assert!(&rt; len == 9);
-    got(&rt, keep(&mut disk, 0x0102_0304_0506_0708));
-    let found = bytes::<MemDisk, 9>(&rt, &mut disk, 0);
-    same(&rt, found, [1, 1, 2, 3, 4, 5, 6, 7, 8], "the number");
+    assert!(rt; len == 9);
+    got(rt, keep(&mut disk, 0x0102_0304_0506_0708));
+    let found = bytes::<MemDisk, 9>(rt, &mut disk, 0);
+    same(rt, found, [1, 1, 2, 3, 4, 5, 6, 7, 8], "the number");
 }
 
 /// Publishes two bytes behind a gate.
@@ -276,46 +281,49 @@ fn publish_two(rt: &impl Abort, disk: &mut MemDisk, gate: usize) {
 
 #[test]
 fn publishes_and_closes_on_a_large_disk(rt: HostRuntime) {
-    let mut disk = blank(&rt, rt.alloc(), 64);
-    publish_two(&rt, &mut disk, 20);
+    let alloc = rt.alloc();
+    let rt = &rt;
+    let mut disk = blank(rt, alloc, 64);
+    publish_two(rt, &mut disk, 20);
     let len = disk.len();
-    assert!(&rt; len == 64);
-    got(&rt, close(&mut disk, 20));
+    assert!(rt; len == 64);
+    got(rt, close(&mut disk, 20));
     same(
-        &rt,
-        bytes::<MemDisk, 3>(&rt, &mut disk, 20),
+        rt,
+        bytes::<MemDisk, 3>(rt, &mut disk, 20),
         [0, 7, 8],
         "closed",
     );
-    let mut large = blank(&rt, rt.alloc(), 2_371_584);
-    publish_two(&rt, &mut large, 2_000_000);
+    let mut large = blank(rt, alloc, 2_371_584);
+    publish_two(rt, &mut large, 2_000_000);
 }
 
 #[test]
 fn keeps_a_file_over_a_reopening(rt: HostRuntime) {
+    let rt = &rt;
     let path = "file_disk_reopened.bin";
-    got(&rt, fs::write(&rt, path, [0, 1, 2, 3, 4, 5, 6, 7]));
-    let mut disk = got(&rt, FileDisk::open(&rt, path));
-    same(&rt, disk.len(), 8, "the length");
-    put(&rt, &mut disk, 2, &[92, 93, 94]);
-    got(&rt, disk.sync());
+    got(rt, fs::write(rt, path, [0, 1, 2, 3, 4, 5, 6, 7]));
+    let mut disk = got(rt, FileDisk::open(rt, path));
+    same(rt, disk.len(), 8, "the length");
+    put(rt, &mut disk, 2, &[92, 93, 94]);
+    got(rt, disk.sync());
     drop(disk);
-    let mut again = got(&rt, FileDisk::open(&rt, path));
+    let mut again = got(rt, FileDisk::open(rt, path));
     same(
-        &rt,
+        rt,
         again.len(),
         8,
         "the length of a disk that is opened again",
     );
-    let found = bytes::<FileDisk, 6>(&rt, &mut again, 1);
-    same(&rt, found, [1, 92, 93, 94, 5, 6], "the bytes");
-    let whole = got(&rt, fs::read(&rt, path));
+    let found = bytes::<FileDisk, 6>(rt, &mut again, 1);
+    same(rt, found, [1, 92, 93, 94, 5, 6], "the bytes");
+    let whole = got(rt, fs::read(rt, path));
     let want = [0, 1, 92, 93, 94, 5, 6, 7];
-    same(&rt, whole.as_slice(), want.as_slice(), "the file");
-    got(&rt, fs::remove_file(&rt, path));
+    same(rt, whole.as_slice(), want.as_slice(), "the file");
+    got(rt, fs::remove_file(rt, path));
     same(
-        &rt,
-        FileDisk::open(&rt, path).is_err(),
+        rt,
+        FileDisk::open(rt, path).is_err(),
         true,
         "it makes no file",
     );
@@ -336,42 +344,44 @@ fn read_of(
 
 #[test]
 fn answers_a_fault_where_a_file_is_not_writable(rt: HostRuntime) {
+    let rt = &rt;
     let path = "file_disk_unwritable.bin";
-    got(&rt, fs::write(&rt, path, [0, 1, 2, 3, 4, 5, 6, 7]));
+    got(rt, fs::write(rt, path, [0, 1, 2, 3, 4, 5, 6, 7]));
     // A handle for reading alone.
-    let file = got(&rt, File::open(&rt, path));
-    let mut disk = got(&rt, FileDisk::new(file));
+    let file = got(rt, File::open(rt, path));
+    let mut disk = got(rt, FileDisk::new(file));
     let len = disk.len();
-    assert!(&rt; len == 8);
-    same(&rt, disk.write_at(0, &[9]), Err(DeviceFault), "a write");
-    let found = bytes::<FileDisk, 4>(&rt, &mut disk, 4);
-    same(&rt, found, [4, 5, 6, 7], "the bytes");
-    got(&rt, fs::remove_file(&rt, path));
+    assert!(rt; len == 8);
+    same(rt, disk.write_at(0, &[9]), Err(DeviceFault), "a write");
+    let found = bytes::<FileDisk, 4>(rt, &mut disk, 4);
+    same(rt, found, [4, 5, 6, 7], "the bytes");
+    got(rt, fs::remove_file(rt, path));
 }
 
 #[test]
 fn answers_a_fault_where_a_file_is_cut_short(rt: HostRuntime) {
+    let rt = &rt;
     let path = "file_disk_cut.bin";
-    got(&rt, fs::write(&rt, path, [0, 1, 2, 3, 4, 5, 6, 7]));
-    let mut disk = got(&rt, FileDisk::open(&rt, path));
-    same(&rt, disk.len(), 8, "the length");
+    got(rt, fs::write(rt, path, [0, 1, 2, 3, 4, 5, 6, 7]));
+    let mut disk = got(rt, FileDisk::open(rt, path));
+    same(rt, disk.len(), 8, "the length");
     // The file is cut short behind an open disk.
-    let file = got(&rt, OpenOptions::new().write(true).open(&rt, path));
-    got(&rt, file.set_len(6));
-    same(&rt, disk.len(), 8, "the length stays");
+    let file = got(rt, OpenOptions::new().write(true).open(rt, path));
+    got(rt, file.set_len(6));
+    same(rt, disk.len(), 8, "the length stays");
     same(
-        &rt,
-        read_of(&rt, &mut disk, 4, 4),
+        rt,
+        read_of(rt, &mut disk, 4, 4),
         Err(DeviceFault),
         "over the end",
     );
     same(
-        &rt,
-        read_of(&rt, &mut disk, 6, 2),
+        rt,
+        read_of(rt, &mut disk, 6, 2),
         Err(DeviceFault),
         "past the end",
     );
-    let found = bytes::<FileDisk, 4>(&rt, &mut disk, 2);
-    same(&rt, found, [2, 3, 4, 5], "the bytes");
-    got(&rt, fs::remove_file(&rt, path));
+    let found = bytes::<FileDisk, 4>(rt, &mut disk, 2);
+    same(rt, found, [2, 3, 4, 5], "the bytes");
+    got(rt, fs::remove_file(rt, path));
 }

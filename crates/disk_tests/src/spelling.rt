@@ -46,10 +46,12 @@ const TWO_CHANGES: [u8; 46] = [
 
 #[test]
 fn bytes_of_changes(rt: HostRuntime) {
-    let one = [change(&rt, &[Op::Add(0, 1, 1)])];
-    spells(&rt, rt.alloc(), &one, &ONE_CHANGE);
-    let two = [change(&rt, &ADD), change(&rt, &THREE)];
-    spells(&rt, rt.alloc(), &two, &TWO_CHANGES);
+    let alloc = rt.alloc();
+    let rt = &rt;
+    let one = [change(rt, &[Op::Add(0, 1, 1)])];
+    spells(rt, alloc, &one, &ONE_CHANGE);
+    let two = [change(rt, &ADD), change(rt, &THREE)];
+    spells(rt, alloc, &two, &TWO_CHANGES);
 }
 
 const ONE_REQUEST: [u8; 27] = [
@@ -64,10 +66,12 @@ const TWO_REQUESTS: [u8; 64] = [
 
 #[test]
 fn bytes_of_requests(rt: HostRuntime) {
-    let one = [request(&rt, 0, 1, &[Op::Add(0, 1, 1)])];
-    spells(&rt, rt.alloc(), &one, &ONE_REQUEST);
-    let two = [request(&rt, 1, 1, &ADD), request(&rt, 63, 258, &THREE)];
-    spells(&rt, rt.alloc(), &two, &TWO_REQUESTS);
+    let alloc = rt.alloc();
+    let rt = &rt;
+    let one = [request(rt, 0, 1, &[Op::Add(0, 1, 1)])];
+    spells(rt, alloc, &one, &ONE_REQUEST);
+    let two = [request(rt, 1, 1, &ADD), request(rt, 63, 258, &THREE)];
+    spells(rt, alloc, &two, &TWO_REQUESTS);
     spelling_laws::<Change>();
     spelling_laws::<Request>();
     record_law();

@@ -51,7 +51,9 @@ fn one_session<R: Wait + Abort>(rt: &R, alloc: Global, session: u8) -> Result<()
 
 #[test]
 fn one_editor_for_a_session(rt: HostRuntime) -> Result<(), Fail> {
-    one_session(&rt, rt.alloc(), 0)?;
-    one_session(&rt, rt.alloc(), 63)?;
+    let alloc = rt.alloc();
+    let rt = &rt;
+    one_session(rt, alloc, 0)?;
+    one_session(rt, alloc, 63)?;
     Ok(())
 }

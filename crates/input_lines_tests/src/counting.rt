@@ -21,15 +21,17 @@ fn counted<R: BufRead>(reader: &mut R, line: &mut Vec<u8>) -> io::Result<u64>
 
 #[test]
 fn counts_lines(rt: HostRuntime) {
-    let mut line = Vec::new(rt.alloc());
+    let alloc = rt.alloc();
+    let rt = &rt;
+    let mut line = Vec::new(alloc);
     for (bytes, want) in [
         (b"".as_slice(), 0u64),
         (b"\n".as_slice(), 1),
         (b"tables".as_slice(), 1),
         (b"tables\n\nhop\n".as_slice(), 3),
     ] {
-        let mut reader = buffered(&rt, rt.alloc(), 3, whole_pieces(bytes, 2));
+        let mut reader = buffered(rt, alloc, 3, whole_pieces(bytes, 2));
         let count = counted(&mut reader, &mut line);
-        assert!(&rt; count.is_ok_and(|count| count == want), "as many");
+        assert!(rt; count.is_ok_and(|count| count == want), "as many");
     }
 }

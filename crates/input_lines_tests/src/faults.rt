@@ -61,9 +61,10 @@ fn reads_again_where_it_was_interrupted(rt: HostRuntime) {
 #[test]
 fn tells_an_error_within_a_longer_line(rt: HostRuntime) {
     let alloc = rt.alloc();
+    let rt = &rt;
     let mut bytes = Vec::new(alloc);
-    got(&rt, bytes.resize(65_540, b'x'));
-    got(&rt, bytes.extend_from_slice(b"\nhop"));
+    got(rt, bytes.resize(65_540, b'x'));
+    got(rt, bytes.extend_from_slice(b"\nhop"));
     for (calls, want) in [
         (0u64, b"!".as_slice()),
         (65_536, b"!".as_slice()),
@@ -73,9 +74,9 @@ fn tells_an_error_within_a_longer_line(rt: HostRuntime) {
         (65_545, b">[hop]!".as_slice()),
         (65_546, b">[hop].".as_slice()),
     ] {
-        let text = told_behind(&rt, alloc, &bytes, calls, ErrorKind::Other);
-        assert!(&rt; text.as_slice() == want, "a beginning");
-        let text = told_behind(&rt, alloc, &bytes, calls, ErrorKind::Interrupted);
-        assert!(&rt; text.as_slice() == b">[hop].".as_slice(), "the whole");
+        let text = told_behind(rt, alloc, &bytes, calls, ErrorKind::Other);
+        assert!(rt; text.as_slice() == want, "a beginning");
+        let text = told_behind(rt, alloc, &bytes, calls, ErrorKind::Interrupted);
+        assert!(rt; text.as_slice() == b">[hop].".as_slice(), "the whole");
     }
 }

@@ -70,13 +70,14 @@ fn drawn(rt: &impl Abort, alloc: Global, rng: &mut Xoshiro256PlusPlus) -> Vec<u8
 #[test]
 fn reads_what_a_plain_split_gives(rt: HostRuntime) {
     let alloc = rt.alloc();
+    let rt = &rt;
     let mut rng = Xoshiro256PlusPlus::seed_from_u64(61);
     for _ in 0..300u16 {
-        let bytes = drawn(&rt, alloc, &mut rng);
-        let want = got(&rt, split(alloc, &bytes));
+        let bytes = drawn(rt, alloc, &mut rng);
+        let want = got(rt, split(alloc, &bytes));
         let capacity = 1 + (rng.next_u64() % 12) as usize;
         let size = 1 + (rng.next_u64() % 9) as usize;
-        expect(&rt, alloc, &bytes, &want, &[(capacity, size)]);
+        expect(rt, alloc, &bytes, &want, &[(capacity, size)]);
     }
 }
 
@@ -109,15 +110,16 @@ const LONG_SIZES: [(usize, usize); 6] = [
 #[test]
 fn reads_lines_as_long_as_one_may_be(rt: HostRuntime) {
     let alloc = rt.alloc();
+    let rt = &rt;
     for count in [65_535, 65_536] {
         for (behind, told_behind) in [
             (b"\nhop\n".as_slice(), b"][hop].".as_slice()),
             (b"\n".as_slice(), b"].".as_slice()),
             (b"".as_slice(), b"].".as_slice()),
         ] {
-            let bytes = long(&rt, alloc, count, behind);
-            let want = long_told(&rt, alloc, count, told_behind);
-            expect(&rt, alloc, &bytes, &want, &LONG_SIZES);
+            let bytes = long(rt, alloc, count, behind);
+            let want = long_told(rt, alloc, count, told_behind);
+            expect(rt, alloc, &bytes, &want, &LONG_SIZES);
         }
     }
 }
@@ -142,19 +144,21 @@ fn leaves_longer_lines(rt: HostRuntime) {
 #[test]
 fn counts_a_carriage_return(rt: HostRuntime) {
     let alloc = rt.alloc();
-    let bytes = long(&rt, alloc, 65_535, b"\r\nhop");
-    let want = long_told(&rt, alloc, 65_535, b"\r][hop].");
-    expect(&rt, alloc, &bytes, &want, &LONG_SIZES);
-    let bytes = long(&rt, alloc, 65_536, b"\r\nhop");
-    expect(&rt, alloc, &bytes, b">[hop].", &LONG_SIZES);
+    let rt = &rt;
+    let bytes = long(rt, alloc, 65_535, b"\r\nhop");
+    let want = long_told(rt, alloc, 65_535, b"\r][hop].");
+    expect(rt, alloc, &bytes, &want, &LONG_SIZES);
+    let bytes = long(rt, alloc, 65_536, b"\r\nhop");
+    expect(rt, alloc, &bytes, b">[hop].", &LONG_SIZES);
 }
 
 /// A longer line behind another, and a line behind both.
 #[test]
 fn leaves_each_of_two_longer_lines(rt: HostRuntime) {
     let alloc = rt.alloc();
-    let mut bytes = long(&rt, alloc, 70_000, b"\n");
-    let again = long(&rt, alloc, 65_537, b"\nhop\n");
-    got(&rt, bytes.extend_from_slice(&again));
-    expect(&rt, alloc, &bytes, b">>[hop].", &LONG_SIZES);
+    let rt = &rt;
+    let mut bytes = long(rt, alloc, 70_000, b"\n");
+    let again = long(rt, alloc, 65_537, b"\nhop\n");
+    got(rt, bytes.extend_from_slice(&again));
+    expect(rt, alloc, &bytes, b">>[hop].", &LONG_SIZES);
 }

@@ -46,24 +46,26 @@ fn long(rt: &impl Abort, alloc: Global, count: usize, behind: &[u8]) -> Vec<u8> 
 #[test]
 fn reads_after_a_want_of_memory(rt: HostRuntime) {
     let alloc = rt.alloc();
-    expect_again(&rt, alloc, b"tables\nhop", b"tables", b"hop");
-    expect_again(&rt, alloc, b"tables", b"tables", b"");
-    let bytes = long(&rt, alloc, 65_536, b"\nhop");
-    let want = long(&rt, alloc, 65_536, b"");
-    expect_again(&rt, alloc, &bytes, &want, b"hop");
+    let rt = &rt;
+    expect_again(rt, alloc, b"tables\nhop", b"tables", b"hop");
+    expect_again(rt, alloc, b"tables", b"tables", b"");
+    let bytes = long(rt, alloc, 65_536, b"\nhop");
+    let want = long(rt, alloc, 65_536, b"");
+    expect_again(rt, alloc, &bytes, &want, b"hop");
 }
 
 /// A longer line takes no memory at all, and neither does an empty one.
 #[test]
 fn leaves_a_longer_line_without_memory(rt: HostRuntime) {
     let alloc = rt.alloc();
-    let bytes = long(&rt, alloc, 65_537, b"\nhop");
+    let rt = &rt;
+    let bytes = long(rt, alloc, 65_537, b"\nhop");
     let mut line = Vec::new(alloc);
     let mut left = bytes.as_slice();
-    let next = got(&rt, read_once(&rt, &mut left, &mut line));
-    assert!(&rt; next == NextLine::LongerLine, "a longer line");
-    assert!(&rt; left == b"hop".as_slice(), "what is behind it");
+    let next = got(rt, read_once(rt, &mut left, &mut line));
+    assert!(rt; next == NextLine::LongerLine, "a longer line");
+    assert!(rt; left == b"hop".as_slice(), "what is behind it");
     let mut left = b"\nhop".as_slice();
-    let next = got(&rt, read_once(&rt, &mut left, &mut line));
-    assert!(&rt; next == NextLine::Line && line.is_empty(), "an empty line");
+    let next = got(rt, read_once(rt, &mut left, &mut line));
+    assert!(rt; next == NextLine::Line && line.is_empty(), "an empty line");
 }
