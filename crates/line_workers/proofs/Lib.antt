@@ -1,3 +1,4 @@
+pub mod NewestAnswers
 pub mod OldTickets
 pub mod SaidPackets
 pub mod Standing

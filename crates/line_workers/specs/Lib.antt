@@ -1,3 +1,4 @@
 pub mod Submits
 pub mod Refusals
 pub mod Tables
+pub mod Newest

@@ -1,7 +1,9 @@
 // A forwarder's thread.
 ghost use Rattle.std.specs.Prelude.{◌≡◌, ℕ, None, IfSome, IsTrue};
+ghost use Rattle.generations.specs.Beginnings.{GoesOn};
 ghost use Rattle.live_lines.specs.Answers.{Fits, Join, Leads};
 ghost use Rattle.line_exchange.specs.OneList.{AnswersBy};
+ghost use Rattle.line_workers.specs.Newest.{GoesByNewest};
 ghost use Rattle.line_workers.specs.Refusals.{IsRefusal};
 
 use crate::workplace::Workplace;
@@ -65,7 +67,9 @@ fn route<J: Stream, B: BoardName, G: Gate, R: Wait>(
     from: u16,
     to: u16,
 ) -> Option<Answer>
-    ensures { IfSome result (λ answer. AnswersBy forwarder.new.forwarder (Asked.Route from to) answer) }
+    ensures kept { GoesOn forwarder.old.forwarder forwarder.new.forwarder }
+    ensures answer { IfSome result (λ answer. AnswersBy forwarder.new.forwarder (Asked.Route from to) answer) }
+    ensures newest { IfSome result (GoesByNewest forwarder.old.forwarder forwarder.new.forwarder (Asked.Route from to)) }
 {
     let trip = Trip { from, to };
     let way = forwarder.route(here.rt, here.alloc, here.coordinator, gate, trip)?;
@@ -81,10 +85,12 @@ fn address<J: Stream, B: BoardName, R: Wait>(
     forwarder: &mut ForwarderOf<B>,
     node: u16,
 ) -> Option<Answer>
-    ensures { IfSome result (λ answer. AnswersBy forwarder.new.forwarder (Asked.Address node) answer) }
+    ensures kept { GoesOn forwarder.old.forwarder forwarder.new.forwarder }
+    ensures answer { IfSome result (λ answer. AnswersBy forwarder.new.forwarder (Asked.Address node) answer) }
+    ensures newest { IfSome result (GoesByNewest forwarder.old.forwarder forwarder.new.forwarder (Asked.Address node)) }
 {
     match forwarder.address(here.rt, here.coordinator, node)? {
-        (generation, Ok(address)) if address.node == node => {
+        (generation, Ok(address)) if address.node == node && address.generation == generation => {
             here.coordinator.see(here.rt, generation);
             Some(Answer::Told(address))
         }
@@ -116,7 +122,8 @@ fn launch<J: Stream, B: BoardName, R: Wait>(
     from: u16,
     to: &Address,
 ) -> Option<Answer>
-    ensures { IfSome result (λ answer. AnswersBy forwarder.new.forwarder (Asked.Launch from to.now) answer) }
+    ensures kept { GoesOn forwarder.old.forwarder forwarder.new.forwarder }
+    ensures answer { IfSome result (λ answer. AnswersBy forwarder.new.forwarder (Asked.Launch from to.now) answer) }
 {
     match forwarder.launch(here.rt, here.coordinator, from, to)? {
         Ok(packet) => Some(Answer::Sent(packet)),
@@ -132,7 +139,8 @@ fn hop<J: Stream, B: BoardName, G: Gate, R: Wait>(
     at: u16,
     packet: &Packet,
 ) -> Option<Answer>
-    ensures { IfSome result (λ answer. AnswersBy forwarder.new.forwarder (Asked.Hop at packet.now) answer) }
+    ensures kept { GoesOn forwarder.old.forwarder forwarder.new.forwarder }
+    ensures answer { IfSome result (λ answer. AnswersBy forwarder.new.forwarder (Asked.Hop at packet.now) answer) }
 {
     match forwarder.hop(here.rt, here.coordinator, at, packet.copy())? {
         Ok(step) => {
@@ -150,7 +158,9 @@ fn answer_of<J: Stream, B: BoardName, G: Gate, R: Wait>(
     forwarder: &mut ForwarderOf<B>,
     asked: &Asked,
 ) -> Option<Answer>
-    ensures { IfSome result (λ answer. AnswersBy forwarder.new.forwarder asked.now answer) }
+    ensures kept { GoesOn forwarder.old.forwarder forwarder.new.forwarder }
+    ensures answer { IfSome result (λ answer. AnswersBy forwarder.new.forwarder asked.now answer) }
+    ensures newest { IfSome result (GoesByNewest forwarder.old.forwarder forwarder.new.forwarder asked.now) }
 {
     match asked {
         Asked::Route { from, to } => route(here, gate, forwarder, *from, *to),
@@ -169,7 +179,9 @@ fn answer_at<J: Stream, B: BoardName, G: Gate, R: Wait>(
     place: u64,
     asked: &Asked,
 ) -> Option<Answer>
-    ensures { IfSome result (λ answer. AnswersBy forwarder.new.forwarder asked.now answer) }
+    ensures kept { GoesOn forwarder.old.forwarder forwarder.new.forwarder }
+    ensures answer { IfSome result (λ answer. AnswersBy forwarder.new.forwarder asked.now answer) }
+    ensures newest { IfSome result (GoesByNewest forwarder.old.forwarder forwarder.new.forwarder asked.now) }
 {
     match answer_of(here, gate, forwarder, asked)? {
         Answer::Gone => {
@@ -188,7 +200,11 @@ fn answered<J: Stream, B: BoardName, G: Gate, R: Wait>(
     gate: &G,
     forwarder: &mut ForwarderOf<B>,
     ask: Ask<J>,
-) -> Option<Answered<J, B>> {
+) -> Option<Answered<J, B>>
+    // Where it tells a way or an address, that is by the newest generation: a look of this call saw no newer one, and all that the
+    // forwarder had seen.
+    ensures newest { IfSome result (λ a. GoesByNewest forwarder.old.forwarder a.known ask.asked a.answer) }
+{
     let Ask { place, asked, of } = ask;
     let answer = answer_at(here, gate, forwarder, place, &asked)?;
     Some(Answered {

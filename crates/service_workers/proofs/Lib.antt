@@ -3,3 +3,4 @@ pub mod OneChange
 pub mod AsAsked
 pub mod Resting
 pub mod PacketsOnWay
+pub mod NewestLooks

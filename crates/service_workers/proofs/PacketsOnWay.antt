@@ -20,7 +20,7 @@ use Rattle.generations.specs.Boards.{scheme_of}
 use Rattle.generations.specs.Beginnings.{Beginning, GoesOn, board_after}
 use Rattle.generations.proofs.Sharing.{goes_trans}
 use Rattle.forwarders.specs.declared.refused.Refused.{Refused}
-use Rattle.forwarders.specs.declared.refused.Refused.TheVariants.{BoardShut, GenerationGone, NoNode, Unreachable, Stray, Spent}
+use Rattle.forwarders.specs.declared.refused.Refused.TheVariants.{BoardShut, NoNode, Unreachable}
 use Rattle.forwarders.specs.Answers.{address_at, by, by_name, handed_back, hop_at, launch_at}
 use Rattle.forwarders.specs.Arrivals.{IsLawfulList, IsPublished}
 use Rattle.forwarders.proofs.Published.{found_published, published_there}
@@ -46,18 +46,12 @@ ok_by answer None a is = absurd (cc)
 ok_by answer (Some q) a is = (q, refl, ok_by_name (answer (tables q)) a is)
 
 no_node_by_name : {A : Type 0} (r : Result A scheme.Refused) → by_name r ≡ Err NoNode → r ≡ Err by_scheme.NoNode
-no_node_by_name (Ok a) is = absurd (cc)
 no_node_by_name (Err by_scheme.NoNode) is = refl
-no_node_by_name (Err by_scheme.Unreachable) is = absurd (cc)
-no_node_by_name (Err by_scheme.Stray) is = absurd (cc)
-no_node_by_name (Err by_scheme.Spent) is = absurd (cc)
+no_node_by_name _ is = absurd (cc)
 
 unreachable_by_name : {A : Type 0} (r : Result A scheme.Refused) → by_name r ≡ Err Unreachable → r ≡ Err by_scheme.Unreachable
-unreachable_by_name (Ok a) is = absurd (cc)
-unreachable_by_name (Err by_scheme.NoNode) is = absurd (cc)
 unreachable_by_name (Err by_scheme.Unreachable) is = refl
-unreachable_by_name (Err by_scheme.Stray) is = absurd (cc)
-unreachable_by_name (Err by_scheme.Spent) is = absurd (cc)
+unreachable_by_name _ is = absurd (cc)
 
 pub no_node_by : {A : Type 0} (answer : Tables → Result A scheme.Refused) (found : Option Parts) → by answer found ≡ Err NoNode → (q : Parts) × (found ≡ Some q) × (answer (tables q) ≡ Err by_scheme.NoNode)
 no_node_by answer None is = absurd (cc)
@@ -164,25 +158,18 @@ sent_by known later generation u v a given sent packet on looked is launched ok 
 -- an address that isn't given
 pub address_refused : (known : Beginning) (trip : Trip) (generation : ℕ) (given : Result Address Refused) (refused : Refused) → Looked given (address_at generation trip.to (board_after known).shelf)
     → given ≡ Err refused → IsLaunched known trip (launched_at generation refused)
-address_refused known trip generation given BoardShut looked is = tt
-address_refused known trip generation given GenerationGone looked is = tt
-address_refused known trip generation given Stray looked is = tt
-address_refused known trip generation given Spent looked is = tt
 address_refused known trip generation given NoNode looked is = λ all lawful are_named on.
     let found = no_node_by (λ t. address_given t trip.to) (scheme_of generation (board_after known).shelf) (refused_by given _ NoNode looked is (λ e. cc)) in
     (generation, found.0, published_there all known generation found.0 on found.1, λ first second. address_none (tables found.0) trip.to found.2 second)
 address_refused known trip generation given Unreachable looked is = λ all lawful are_named on.
     let found = unreachable_by (λ t. address_given t trip.to) (scheme_of generation (board_after known).shelf) (refused_by given _ Unreachable looked is (λ e. cc)) in
     absurd (never_unreachable (tables found.0) trip.to found.2)
+address_refused known trip generation given _ looked is = tt
 
 -- a packet that isn't sent
 pub launch_refused : (known later : Beginning) (trip : Trip) (generation : ℕ) (a : Address) (given : Result Address Refused) (sent : Result Packet Refused) (refused : Refused)
     → GoesOn known later → Looked given (address_at generation trip.to (board_after known).shelf) → given ≡ Ok a → Looked sent (launch_at trip.from a (board_after later).shelf) → sent ≡ Err refused
     → IsLaunched later trip (launched_at generation refused)
-launch_refused known later trip generation a given sent BoardShut on looked is launched lost = tt
-launch_refused known later trip generation a given sent GenerationGone on looked is launched lost = tt
-launch_refused known later trip generation a given sent Stray on looked is launched lost = tt
-launch_refused known later trip generation a given sent Spent on looked is launched lost = tt
 launch_refused known later trip generation a given sent NoNode on looked is launched lost = λ all lawful are_named from_here.
     let by_one = addressed known generation trip.to a given looked is all lawful are_named (goes_trans known later all on from_here) in
     let found = no_node_by (λ t. decide t trip.from a) (scheme_of a.generation (board_after later).shelf) (refused_by sent _ NoNode launched lost (λ e. cc)) in
@@ -198,6 +185,7 @@ launch_refused known later trip generation a given sent Unreachable on looked is
     let same : found.0 ≡ p = same_scheme all later generation trip.to a found.0 lawful from_here by_one found.1 in
     let decided : decide (tables p) trip.from a ≡ Err by_scheme.Unreachable = subst (λ (q : Parts). decide (tables q) trip.from a ≡ Err by_scheme.Unreachable) same found.2 in
     (p, by_one.1, subst (λ (b : Address). decide (tables p) trip.from b ≡ Err by_scheme.Unreachable) by_one.3.own decided)
+launch_refused known later trip generation a given sent _ on looked is launched lost = tt
 
 -- ---- hops
 

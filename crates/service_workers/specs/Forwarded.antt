@@ -4,13 +4,15 @@ use Rattle.node_table.specs.declared.parts.Parts.{Parts}
 use Rattle.node_table.specs.declared.packet.Packet.{Packet}
 use Rattle.node_table.specs.Tables.{tables}
 use Rattle.node_table.specs.Service.{address, decide}
-use Rattle.generations.specs.Beginnings.{Beginning}
+use Rattle.generations.specs.Beginnings.{Beginning, GoesOn}
 use Rattle.forwarders.specs.declared.refused.Refused as forwarder
 use Rattle.forwarders.specs.declared.refused.Refused.TheVariants as refused
 use Rattle.forwarders.specs.Arrivals.{IsPublished}
-use Rattle.packet_ways.specs.declared.carried.Carried.TheVariants.{Unreachable, NoNode}
+use Rattle.packet_ways.specs.declared.carried.Carried.{Carried}
+use Rattle.packet_ways.specs.declared.carried.Carried.TheVariants.{Along, Unreachable, NoNode}
 use Rattle.packet_ways.specs.declared.carried.Trip.{Trip}
 use Rattle.packet_ways.specs.Carried.{HoldsOf, IsCarried, IsUnderWay}
+use Rattle.packet_ways.specs.Standing.{IsNewest}
 use Rattle.service_workers.specs.declared.stop_cause.StopCause.TheVariants.{Internal}
 use Rattle.service_workers.specs.declared.forwarding.Launched.{Launched}
 use Rattle.service_workers.specs.declared.forwarding.Launched.TheVariants.{Answered, Again, Halted}
@@ -23,6 +25,31 @@ IsSent known u v packet = HoldsOf known (λ all. (p : Parts) × IsPublished all 
 abbrev pub IsOnWay : Beginning → ℕ → ℕ → ℕ → List ℕ → ℕ → Packet → Type 0
 IsOnWay known u v generation nodes at packet =
     HoldsOf known (λ all. (p : Parts) × IsPublished all generation p × (packet.generation ≡ generation) × IsUnderWay (tables p) u v nodes at packet)
+
+-- A look between these two saw this generation as the newest of the list.
+pub record WasNewest (old new : Beginning) (generation : ℕ) : Type 0 where
+  pub seen : Beginning
+  -- it knew all that was known before
+  pub since : GoesOn old seen
+  pub newest : IsNewest seen generation
+  pub on : GoesOn seen new
+
+-- the generation that is told of a packet was the newest, by a look between these two
+abbrev pub IsByNewest : Beginning → Beginning → Carried → Type 0
+IsByNewest old new (Along generation nodes length) = WasNewest old new generation
+IsByNewest old new (Unreachable generation) = WasNewest old new generation
+IsByNewest old new NoNode = Unit {0}
+
+-- so it is of a launch that has an answer
+abbrev pub IsLaunchedByNewest : Beginning → Beginning → Launched → Type 0
+IsLaunchedByNewest old new (Answered carried) = IsByNewest old new carried
+IsLaunchedByNewest old new other = Unit {0}
+
+-- a packet that arrived went along in this generation
+abbrev pub IsAlongIn : ℕ → Launched → Type 0
+IsAlongIn generation (Answered (Along told nodes length)) = told ≡ generation
+IsAlongIn generation (Answered other) = ⊥
+IsAlongIn generation other = Unit {0}
 
 -- what becomes of a launch: nothing is said of one that is to be made again, or where all are to stop
 abbrev pub IsLaunched : Beginning → Trip → Launched → Type 0

@@ -4,6 +4,7 @@ ghost use Rattle.generations.specs.Beginnings.{GoesOn, board_after};
 ghost use Rattle.generations.specs.Notices.{newest_in};
 ghost use Rattle.forwarders.specs.Answers.{address_at, hop_at, launch_at};
 ghost use Rattle.packet_ways.specs.Carried.{IsCarried};
+ghost use Rattle.service_workers.specs.Forwarded.{IsByNewest, WasNewest};
 
 use crate::coordinator::Coordinator;
 use crate::forwarding::{ForwarderOf, forward};
@@ -25,7 +26,9 @@ fn address_now<J: BoardName, R: Wait>(
 ) -> Option<(u64, Result<Address, Refused>)>
     requires { forwarder.old.opening ≡ J.opening }
     ensures opening { forwarder.new.opening ≡ J.opening }
+    ensures kept { GoesOn forwarder.old forwarder.new }
     ensures answer { IfSome result (λ r. r.1 ≡ address_at r.0 node (board_after forwarder.new).shelf) }
+    ensures newest { IfSome result (λ r. WasNewest forwarder.old forwarder.new r.0) }
 {
     for _ in rt.forever() {
         let shown = coordinator.shown(rt)?;
@@ -53,6 +56,7 @@ fn launch_now<J: BoardName, R: Wait>(
 ) -> Option<Result<Packet, Refused>>
     requires { forwarder.old.opening ≡ J.opening }
     ensures opening { forwarder.new.opening ≡ J.opening }
+    ensures kept { GoesOn forwarder.old forwarder.new }
     ensures answer { IfSome result (λ r. r ≡ launch_at from to.now (board_after forwarder.new).shelf) }
     ensures some { IfSome result (λ _. IsSome (newest_in forwarder.new.log)) }
 {
@@ -78,6 +82,7 @@ fn hop_now<J: BoardName, R: Wait>(
 ) -> Option<Result<Move, Refused>>
     requires { forwarder.old.opening ≡ J.opening }
     ensures opening { forwarder.new.opening ≡ J.opening }
+    ensures kept { GoesOn forwarder.old forwarder.new }
     ensures answer { IfSome result (λ r. r ≡ hop_at at packet (board_after forwarder.new).shelf) }
     ensures some { IfSome result (λ _. IsSome (newest_in forwarder.new.log)) }
 {
@@ -115,7 +120,10 @@ impl<J: BoardName> ForwarderOf<J> {
         gate: &G,
         trip: Trip,
     ) -> Option<Carried>
-        ensures { IfSome result (λ carried. IsCarried self.new.forwarder trip carried) }
+        ensures kept { GoesOn self.old.forwarder self.new.forwarder }
+        ensures carried { IfSome result (λ carried. IsCarried self.new.forwarder trip carried) }
+        // No older one: it was the newest of the list by a look of this call.
+        ensures newest { IfSome result (λ carried. IsByNewest self.old.forwarder self.new.forwarder carried) }
     {
         forward(rt, alloc, coordinator, gate, &mut self.forwarder, trip)
     }
@@ -128,7 +136,10 @@ impl<J: BoardName> ForwarderOf<J> {
         coordinator: &Coordinator<J>,
         node: u16,
     ) -> Option<(u64, Result<Address, Refused>)>
-        ensures { IfSome result (λ r. r.1 ≡ address_at r.0 node (board_after self.new.forwarder).shelf) }
+        ensures kept { GoesOn self.old.forwarder self.new.forwarder }
+        ensures answer { IfSome result (λ r. r.1 ≡ address_at r.0 node (board_after self.new.forwarder).shelf) }
+        // No older one: it was the newest of the list by a look of this call.
+        ensures newest { IfSome result (λ r. WasNewest self.old.forwarder self.new.forwarder r.0) }
     {
         address_now(rt, coordinator, &mut self.forwarder, node)
     }
@@ -141,6 +152,7 @@ impl<J: BoardName> ForwarderOf<J> {
         from: u16,
         to: &Address,
     ) -> Option<Result<Packet, Refused>>
+        ensures kept { GoesOn self.old.forwarder self.new.forwarder }
         ensures answer { IfSome result (λ r. r ≡ launch_at from to.now (board_after self.new.forwarder).shelf) }
         // The board has a generation by then.
         ensures some { IfSome result (λ _. IsSome (newest_in self.new.forwarder.log)) }
@@ -156,6 +168,7 @@ impl<J: BoardName> ForwarderOf<J> {
         at: u16,
         packet: Packet,
     ) -> Option<Result<Move, Refused>>
+        ensures kept { GoesOn self.old.forwarder self.new.forwarder }
         ensures answer { IfSome result (λ r. r ≡ hop_at at packet (board_after self.new.forwarder).shelf) }
         ensures some { IfSome result (λ _. IsSome (newest_in self.new.forwarder.log)) }
     {

@@ -2,7 +2,7 @@
 ghost use Rattle.std.specs.Prelude.{◌≡◌, IfSome};
 ghost use Rattle.generations.specs.Beginnings.{GoesOn};
 ghost use Rattle.packet_ways.specs.Carried.{IsCarried};
-ghost use Rattle.service_workers.specs.Forwarded.{IsLaunched, IsSent, launched_at};
+ghost use Rattle.service_workers.specs.Forwarded.{IsAlongIn, IsByNewest, IsLaunched, IsLaunchedByNewest, IsSent, launched_at};
 
 use crate::coordinator::Coordinator;
 use crate::gate::Gate;
@@ -59,6 +59,7 @@ fn carry<J: BoardName, G: Gate, R: Wait>(
     requires { IsSent forwarder.old trip.from trip.to packet }
     ensures kept { GoesOn forwarder.old forwarder.new }
     ensures launched { IsLaunched forwarder.new trip result }
+    ensures along { IsAlongIn packet.generation result }
 {
     let generation = packet.generation;
     // One that isn't shown any more has left the shelf, or is about to.
@@ -122,6 +123,7 @@ fn launch<J: BoardName, G: Gate, R: Wait>(
 ) -> Launched
     ensures kept { GoesOn forwarder.old forwarder.new }
     ensures launched { IsLaunched forwarder.new trip result }
+    ensures newest { IsLaunchedByNewest forwarder.old forwarder.new result }
 {
     let Ok(Some(generation)) = forwarder.latest() else {
         return Launched::Again;
@@ -131,7 +133,13 @@ fn launch<J: BoardName, G: Gate, R: Wait>(
         Err(refused) => return refused_at(generation, refused),
     };
     match forwarder.launch(trip.from, &address) {
-        Ok(packet) => carry(rt, alloc, coordinator, gate, forwarder, trip, packet),
+        Ok(packet) => {
+            // Each scheme of this service is of the generation under whose number it stands.
+            if packet.generation != generation {
+                return Launched::Halted(StopCause::Internal);
+            }
+            carry(rt, alloc, coordinator, gate, forwarder, trip, packet)
+        }
         Err(refused) => refused_at(generation, refused),
     }
 }
@@ -161,6 +169,7 @@ pub(crate) fn forward<J: BoardName, G: Gate, R: Wait>(
     ensures opening { forwarder.new.opening ≡ J.opening }
     ensures kept { GoesOn forwarder.old forwarder.new }
     ensures carried { IfSome result (λ carried. IsCarried forwarder.new trip carried) }
+    ensures newest { IfSome result (λ carried. IsByNewest forwarder.old forwarder.new carried) }
 {
     for _ in rt.forever() {
         gate.before_launch();

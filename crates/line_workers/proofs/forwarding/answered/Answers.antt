@@ -1,4 +1,7 @@
+use Rattle.std.proofs.Common.{sym, subst}
+use Rattle.generations.specs.Beginnings.{Beginning}
 use Rattle.line_exchange.proofs.Answering.{answers_known, off_known}
+use Rattle.line_workers.specs.Newest.{GoesByNewest}
 use Rattle.line_workers.proofs.forwarding.answered.Goals as goal
 
 pub invariant_of-result : goal.invariant_of-result
@@ -11,6 +14,11 @@ invariant_of-result g c =
     let answer = c.in_ok-answer.answer in
     record {
       named = c.known.ensures.named;
-      is_answer = answers_known known seen input editors ask.place ask.asked answer c.known.ensures.same ask.is_line c.in_ok-answer.ensures;
-      is_off = off_known known seen input editors ask.place ask.asked answer c.known.ensures.same ask.is_line c.in_ok-answer.ensures;
+      is_answer = answers_known known seen input editors ask.place ask.asked answer c.known.ensures.same ask.is_line c.in_ok-answer.ensures.answer;
+      is_off = off_known known seen input editors ask.place ask.asked answer c.known.ensures.same ask.is_line c.in_ok-answer.ensures.answer;
     }
+
+pub returns : goal.returns
+returns g c = record {
+  newest = subst (λ (b : Beginning). GoesByNewest c.args.forwarder.now.forwarder b c.args.ask.asked c.in_ok-answer.answer) (sym c.known.ensures.same) c.in_ok-answer.ensures.newest;
+}
