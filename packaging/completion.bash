@@ -10,8 +10,8 @@ _tz_grammar() {
     tznode:check) options='--words' words='file' ;;
     tznode:tables) options='--words --node' words='file folder' ;;
     tznode:serve) options='--words --editors --forwarders --queue --live --rounds' words='file' ;;
-    tznode:migrate) options='' words='file file' ;;
-    tzlab:import) options='--names --header --no-header --nodes' words='file file' ;;
+    tznode:migrate | tznode:copy) options='' words='file file' ;;
+    tzlab:import) options='--as --least --names --header --no-header --nodes' words='file file' ;;
     tzlab:export) options='--as --words' words='file' ;;
     tzlab:info) options='--json' words='file' ;;
     tzlab:stats) options='--words --pairs --seed --csv --json' words='file' ;;
@@ -31,7 +31,7 @@ _tz() {
         options=--help kind=file
     elif [ "$COMP_CWORD" -eq 1 ]; then
         case $program in
-        tznode) list='format edit show resume route check tables serve migrate' ;;
+        tznode) list='format edit show resume route check tables serve copy migrate' ;;
         tzlab) list='import export info stats landmarks time journal rehearse help --help' ;;
         esac
     else
@@ -42,7 +42,7 @@ _tz() {
             word=${COMP_WORDS[k]}
             if [ "$word" = : ] || [ "${COMP_WORDS[k - 1]}" = : ]; then continue; fi
             case $word in
-            --live | --names | --header | --no-header | --json | --csv | --figures | --every-stop | --help) last='' ;;
+            --live | --names | --header | --no-header | --least | --json | --csv | --figures | --every-stop | --help) last='' ;;
             --*) last=$word ;;
             *)
                 [ -n "$last" ] || at=$((at + 1))
@@ -57,7 +57,7 @@ _tz() {
         [ -n "$kind" ] || case ${kinds[-1]} in op | number) kind=${kinds[-1]} ;; esac
         case $last in
         --words) kind=choice list='none at: draw:' ;;
-        --as) kind=choice list='edges csv dot json' ;;
+        --as) kind=choice list='edges csv dimacs as-rel dot json' ;;
         --start) kind=choice list='best none draw degree' ;;
         --*) return 0 ;;
         esac

@@ -10,7 +10,7 @@ use Rattle.written_values.specs.WordsText.{words_text}
 use Rattle.command_line.specs.declared.refused.WordsRefused.{WordsRefused}
 use Rattle.command_line.specs.declared.refused.WordsRefused.TheVariants as why
 use Rattle.command_line.specs.declared.task.Task.{Task}
-use Rattle.command_line.specs.declared.task.Task.TheVariants.{Format, Show, Edit, Resume, Route, Check, Migrate, Serve, Tables}
+use Rattle.command_line.specs.declared.task.Task.TheVariants.{Format, Show, Edit, Resume, Route, Check, Migrate, Copy, Serve, Tables}
 use Rattle.command_line.specs.Asked.{AreOpsGiven, Asks, EachOf, IsCause, IsSameTask, IsShaped, IsTask, LackSome, Lacks, ValueOf, ValuesOf, name_of, values_of}
 use Rattle.command_line.specs.Fields.{Field, Landmarks, Ops, fields_named}
 use Rattle.command_line.specs.Readings.{IsFieldCause, IsOpRefusal, IsRead, IsSameValue, IsUnderstood}
@@ -36,6 +36,7 @@ one_task rows (Resume device session) (Resume other asked) so sole is = (sole.0 
 one_task rows (Route device pairs words) (Route other others asked) so sole is = (sole.0 other.now is.0, sole.1.0 others.items is.1.0, sole.1.1.0 asked is.1.1.0)
 one_task rows (Check device words) (Check other asked) so sole is = (sole.0 other.now is.0, sole.1.0 asked is.1.0)
 one_task rows (Migrate old new) (Migrate other made) so sole is = (sole.0 other.now is.0, sole.1.0 made.now is.1.0)
+one_task rows (Copy old new) (Copy other made) so sole is = (sole.0 other.now is.0, sole.1.0 made.now is.1.0)
 one_task rows (Serve device editors forwarders places live words) (Serve other e f q l asked) so sole is =
     (sole.0 other.now is.0, sole.1.1.0 e is.1.1.0, sole.1.1.1.0 f is.1.1.1.0, sole.1.1.1.1.0 q is.1.1.1.1.0, sole.1.1.1.1.1.0 l is.1.1.1.1.1.0, sole.1.0 asked is.1.0)
 one_task rows (Tables device folder nodes words) (Tables other place named asked) so sole is =

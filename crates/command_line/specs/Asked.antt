@@ -13,7 +13,7 @@ use Rattle.written_values.specs.WordsText.{IsAsked, IsSame, words_text}
 use Rattle.command_line.specs.declared.refused.WordsRefused.{WordsRefused}
 use Rattle.command_line.specs.declared.refused.WordsRefused.TheVariants as why
 use Rattle.command_line.specs.declared.task.Task.{Task}
-use Rattle.command_line.specs.declared.task.Task.TheVariants.{Format, Show, Edit, Resume, Route, Check, Migrate, Serve, Tables}
+use Rattle.command_line.specs.declared.task.Task.TheVariants.{Format, Show, Edit, Resume, Route, Check, Migrate, Copy, Serve, Tables}
 use Rattle.command_line.specs.Fields.{Field, Word, Number, Usual, Optional, Live, Nodes, Pairs, Landmarks, Ops, fields_named}
 use Rattle.command_line.specs.Grammar.{program}
 
@@ -112,6 +112,7 @@ name_of (Resume device session) = codes "resume"
 name_of (Route device pairs words) = codes "route"
 name_of (Check device words) = codes "check"
 name_of (Migrate old new) = codes "migrate"
+name_of (Copy old new) = codes "copy"
 name_of (Serve device editors forwarders places live words) = codes "serve"
 name_of (Tables device folder nodes words) = codes "tables"
 
@@ -124,6 +125,7 @@ values_of (Resume device session) = (device.now, (session, tt))
 values_of (Route device pairs words) = (device.now, (pairs.items, (words, tt)))
 values_of (Check device words) = (device.now, (words, tt))
 values_of (Migrate old new) = (old.now, (new.now, tt))
+values_of (Copy old new) = (old.now, (new.now, tt))
 values_of (Serve device editors forwarders places live words) = (device.now, (words, (editors, (forwarders, (places, (live, tt))))))
 values_of (Tables device folder nodes words) = (device.now, (folder.now, (words, (nodes.items, tt))))
 
@@ -148,6 +150,7 @@ IsSameTask (Resume device session) (Resume other asked) = (device.now ≡ other.
 IsSameTask (Route device pairs words) (Route other others asked) = (device.now ≡ other.now) × (pairs.items ≡ others.items) × IsSame words asked
 IsSameTask (Check device words) (Check other asked) = (device.now ≡ other.now) × IsSame words asked
 IsSameTask (Migrate old new) (Migrate other made) = (old.now ≡ other.now) × (new.now ≡ made.now)
+IsSameTask (Copy old new) (Copy other made) = (old.now ≡ other.now) × (new.now ≡ made.now)
 IsSameTask (Serve device editors forwarders places live words) (Serve other e f q l asked) = (device.now ≡ other.now) × (editors ≡ e) × (forwarders ≡ f) × (places ≡ q) × (live ≡ l) × IsSame words asked
 IsSameTask (Tables device folder nodes words) (Tables other place named asked) = (device.now ≡ other.now) × (folder.now ≡ place.now) × (nodes.items ≡ named.items) × IsSame words asked
 IsSameTask task other = ⊥

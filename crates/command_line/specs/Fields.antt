@@ -35,6 +35,7 @@ table =
     ∷ (codes "check", Word (codes "device") ∷ Landmarks ∷ [])
     ∷ (codes "tables", Word (codes "device") ∷ Word (codes "folder") ∷ Landmarks ∷ Nodes (codes "node") ∷ [])
     ∷ (codes "migrate", Word (codes "device") ∷ Word (codes "new") ∷ [])
+    ∷ (codes "copy", Word (codes "device") ∷ Word (codes "new") ∷ [])
     ∷ (codes "serve", Word (codes "device") ∷ Landmarks ∷ Usual (codes "editors") 1 64 2 ∷ Usual (codes "forwarders") 1 64 2 ∷ Usual (codes "queue") 1 64 64 ∷ Live ∷ [])
     ∷ []
 

@@ -109,6 +109,7 @@ pub(crate) fn grammar<'a>(alloc: Global) -> Result<Command<'a>, AllocError>
     ];
     let tabled = with(alloc, checks, "tables", &tables)?;
     let migrates = with(alloc, tabled, "migrate", &[device, Argument::Text("new")])?;
+    let copies = with(alloc, migrates, "copy", &[device, Argument::Text("new")])?;
     let serve = [
         device,
         words,
@@ -118,5 +119,5 @@ pub(crate) fn grammar<'a>(alloc: Global) -> Result<Command<'a>, AllocError>
         Argument::Flag("live"),
         Argument::Option("rounds"),
     ];
-    with(alloc, migrates, "serve", &serve)
+    with(alloc, copies, "serve", &serve)
 }

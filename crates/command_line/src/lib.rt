@@ -9,6 +9,7 @@
 //! | `route DEVICE FROM TO [FROM TO].. --words W` | [`Task::Route`], of one pair of nodes or more |
 //! | `check DEVICE --words W` | [`Task::Check`] |
 //! | `migrate OLD NEW` | [`Task::Migrate`] |
+//! | `copy OLD NEW` | [`Task::Copy`] |
 //! | `serve DEVICE --words W --editors E --forwarders F --queue Q` | [`Task::Serve`], of 1 to 64 each; without them 2, 2 and 64 |
 //! | the same with `--live --rounds R` | a live service, R from 1 to 65,535; without R it is 16, and R stands with `--live` alone |
 //! | `tables DEVICE FOLDER --words W [--node N]..` | [`Task::Tables`], of the nodes that are named, in order, or of none |

@@ -59,6 +59,11 @@ pub enum Task<'a> {
         old: &'a str,
         new: &'a str,
     },
+    /// Write what a device holds to a new one, its tickets too.
+    Copy {
+        old: &'a str,
+        new: &'a str,
+    },
     /// Run a script in threads, or answer lines as they come.
     Serve {
         device: &'a str,
@@ -140,6 +145,11 @@ fn task_of<'a>(name: &str, arguments: &Arguments<'a, '_>) -> Result<Task<'a>, Wo
         Ok(Task::Check { device, words })
     } else if name == "migrate" {
         Ok(Task::Migrate {
+            old: device,
+            new: arguments.text("new")?,
+        })
+    } else if name == "copy" {
+        Ok(Task::Copy {
             old: device,
             new: arguments.text("new")?,
         })

@@ -13,7 +13,7 @@ use Rattle.commands.specs.declared.outcome.Outcome.TheVariants.{Answered, Told, 
 use Rattle.commands.specs.Endings.{IsFaultFor}
 use Rattle.commands.specs.Outcomes.{IsOutcome, status_in}
 use Rattle.commands.specs.Printed.{AnswersWords}
-use Rattle.commands.specs.Runs.{RunsWords, Says}
+use Rattle.commands.specs.Runs.{RunsWords, SaysAll}
 use Rattle.table_files.specs.Files.{Put}
 use Rattle.commands.proofs.Faults.{never_output}
 
@@ -23,23 +23,7 @@ is_not_understood told.Usage is = tt
 is_not_understood told.Op is = tt
 is_not_understood told.Words is = tt
 is_not_understood told.Script is = tt
-is_not_understood told.ChangeTooLong is = absurd (cc)
-is_not_understood told.NodeCount is = absurd (cc)
-is_not_understood told.DeviceLength is = absurd (cc)
-is_not_understood told.DeviceFile is = absurd (cc)
-is_not_understood told.DeviceInUse is = absurd (cc)
-is_not_understood told.NotFormatted is = absurd (cc)
-is_not_understood told.LayoutNotKnown is = absurd (cc)
-is_not_understood told.Damaged is = absurd (cc)
-is_not_understood told.Device is = absurd (cc)
-is_not_understood told.Memory is = absurd (cc)
-is_not_understood told.NoThread is = absurd (cc)
-is_not_understood told.Internal is = absurd (cc)
-is_not_understood told.Worn is = absurd (cc)
-is_not_understood told.AlreadyIn is = absurd (cc)
-is_not_understood told.NoNode is = absurd (cc)
-is_not_understood told.Output is = absurd (cc)
-is_not_understood told.TableFile is = absurd (cc)
+is_not_understood _ is = absurd (cc)
 
 -- a run of status 2 ends so by one of them
 pub not_understood : {D : Type 0} (model : Ghosts D) (done : Doing D) (put : List Put → Type 0) (words : List Text) (given old new told_old told_new : Option (List ℕ)) (outcome : Outcome) → IsOutcome model done put words given old new told_old told_new outcome → status_in outcome ≡ 2
@@ -52,26 +36,7 @@ not_understood model done put words given old new told_old told_new (Untold faul
 -- no fault has status 0
 not_done : (fault : Fault) → status_of fault ≡ 0 → ⊥
 not_done told.Usage is = absurd (cc)
-not_done told.Op is = absurd (cc)
-not_done told.Words is = absurd (cc)
-not_done told.Script is = absurd (cc)
-not_done told.ChangeTooLong is = absurd (cc)
-not_done told.NodeCount is = absurd (cc)
-not_done told.DeviceLength is = absurd (cc)
-not_done told.DeviceFile is = absurd (cc)
-not_done told.DeviceInUse is = absurd (cc)
-not_done told.NotFormatted is = absurd (cc)
-not_done told.LayoutNotKnown is = absurd (cc)
-not_done told.Damaged is = absurd (cc)
-not_done told.Device is = absurd (cc)
-not_done told.Memory is = absurd (cc)
-not_done told.NoThread is = absurd (cc)
-not_done told.Internal is = absurd (cc)
-not_done told.Worn is = absurd (cc)
-not_done told.AlreadyIn is = absurd (cc)
-not_done told.NoNode is = absurd (cc)
-not_done told.Output is = absurd (cc)
-not_done told.TableFile is = absurd (cc)
+not_done _ is = absurd (cc)
 
 -- a run of status 0 has printed the answer
 pub answered : {D : Type 0} (model : Ghosts D) (done : Doing D) (put : List Put → Type 0) (words : List Text) (given old new told_old told_new : Option (List ℕ)) (outcome : Outcome) → IsOutcome model done put words given old new told_old told_new outcome → status_in outcome ≡ 0
@@ -91,7 +56,7 @@ refused model done put words given old new told_old told_new (Untold fault) is o
 
 -- what the status of a run says
 pub says : {D R W E : Type 0} (model : Ghosts D) (done : Doing D) (put : List Put → Type 0) (words : List Text) (remaining : R → Option (List ℕ)) (contents : W → Option (List ℕ)) (shown : E → Option (List ℕ)) (old new : Streams R W E) (outcome : Outcome) (code : ℕ)
-    → RunsWords model done put words remaining contents shown old new outcome → code ≡ status_in outcome → code ≤ 2 → Says model done put words remaining contents old.script new.script old.out new.out code
+    → RunsWords model done put words remaining contents shown old new outcome → code ≡ status_in outcome → code ≤ 2 → SaysAll model done put words remaining contents old.script new.script old.out new.out code
 says model done put words remaining contents shown old new outcome code runs is few = record {
   status = few;
   answered = λ zero. answered model done put words (remaining old.script) (contents old.out) (contents new.out) (shown old.err) (shown new.err) outcome runs.outcome (sym is ∙ zero);

@@ -1,5 +1,5 @@
 -- What was answered of a device, printed.
-use Rattle.std.proofs.Common.{◌≡◌, ◌≢◌, ◌∙◌, ◌<◌, ◌⊎◌, ap, inl, inr, refl, subst, sym, ⊎_elim, ℕ, List, [], ◌∷◌, ◌++◌, Option, Some, None, Result, Ok, Err, IfErr, IfOk, IsErrAnd, IsErrOf, IsTrue, OnOk}
+use Rattle.std.proofs.Common.{◌≡◌, ◌≢◌, ◌∙◌, ◌<◌, ◌⊎◌, ap, inl, inr, refl, subst, sym, ⊎_elim, ℕ, List, [], ◌∷◌, ◌++◌, Option, Some, None, Result, Ok, Err, IfErr, IfOk, IsErrAnd, IsErrOf, IsTrue, OnOk, length}
 use Rattle.std.proofs.lemmas.List.{append-nil, append_assoc}
 use Rattle.std.proofs.lemmas.List.Elements.{All-cons, All-nil}
 use Rattle.std.proofs.lemmas.Result.{IfErr-at_err}
@@ -10,6 +10,7 @@ use Rattle.disk_trait.specs.declared.disk.Disk.{Ghosts}
 use Rattle.disk_trait.specs.Disk.{DiskView, OnlyRead}
 use Rattle.graph_edits.specs.declared.edits.Op.{Op}
 use Rattle.requests.specs.Tickets.{last_of}
+use Rattle.layout_2.specs.Layout.{device_len}
 use Rattle.layout_2.specs.State.{State}
 use Rattle.layout_2.specs.Standing.{KeepsThrough}
 use Rattle.generations.specs.declared.posting.Verdict.{Verdict}
@@ -24,19 +25,24 @@ use Rattle.command_output.specs.declared.fault.Fault.TheVariants as told
 use Rattle.command_output.specs.Lines.{line, listing_text, ticket_text}
 use Rattle.device_commands.specs.Answer.{IsNew, state_after, verdict_of}
 use Rattle.device_commands.specs.Edits.{IsPastLimits}
+use Rattle.device_commands.specs.Moves.{IsMoveFault}
 use Rattle.device_commands.specs.Openings.{IsEditFault, IsReading, IsUnwrittenFault, OfContent, TellsOf}
 use Rattle.command_line.specs.declared.task.Task.{Task}
-use Rattle.command_line.specs.declared.task.Task.TheVariants.{Format, Show, Edit, Resume, Route as Routes, Check, Migrate, Serve, Tables}
+use Rattle.command_line.specs.declared.task.Task.TheVariants.{Migrate, Copy, Serve}
 use Rattle.table_files.specs.Files.{Put}
 use Rattle.commands.specs.declared.devices.Access.{Access}
 use Rattle.commands.specs.declared.devices.Access.TheVariants.{New, ToChange, ToRead}
+use Rattle.commands.specs.declared.copying.Copied.{Copied}
+use Rattle.commands.specs.declared.on_device.Transfer.{Transfer}
+use Rattle.commands.specs.declared.on_device.Transfer.TheVariants as how
+use Rattle.commands.specs.Copies.{HasCopied, IsTotalOf, copied_text}
 use Rattle.commands.specs.Devices.{Doing, IsAnswerOf, IsFileFault, OfFirst, closing}
 use Rattle.commands.specs.Events.{Closed, Event, HasDone, IsOf, NotHad, Opened, Opening}
-use Rattle.commands.specs.Endings.{IsAskingEnd, IsCheckDeviceFault, IsEditEnd, IsReadingEnd, IsRouteDeviceFault, IsRouteEnd, access_of, device_of}
+use Rattle.commands.specs.Endings.{IsAskingEnd, IsCheckDeviceFault, IsEditEnd, IsReadingEnd, IsRouteDeviceFault, IsRouteEnd, IsTransferEnd, access_of, device_of}
 use Rattle.commands.specs.Queries.{AnswersOf, AreRoutesIn, IsCheckIn, LacksNodeOf}
-use Rattle.commands.specs.Printed.{PrintsCheck, PrintsListing, PrintsRoutes, PrintsTicket, PrintsVerdict, ended_by, verdict_text}
-use Rattle.commands.specs.Runs.{EndsAt, EndsMoveAt, EndsMoveOn, EndsTask, EndsTaskOn}
-use Rattle.commands.specs.ServedScripts.{IsMove, IsService}
+use Rattle.commands.specs.Printed.{PrintsCheck, PrintsCopied, PrintsListing, PrintsRoutes, PrintsTicket, PrintsVerdict, ended_by, verdict_text}
+use Rattle.commands.specs.Runs.{EndsAt, EndsTask, EndsTaskOn, EndsTransferAt, EndsTransferOn}
+use Rattle.commands.specs.ServedScripts.{IsOfTwo, IsService}
 use Rattle.commands.specs.SchemeAnswers.{AreRoutesOf, checks_text, ended_after, ended_at, routes_text}
 
 -- ---- what was printed
@@ -82,6 +88,15 @@ verdict_printed (Ok ended) (Ok verdict) session named change disk left old new o
 )
 verdict_printed (Ok ended) (Err fault) session named change disk left old new one fresh this keeps_after printed = absurd printed
 verdict_printed (Err fault) answer session named change disk left old new one fresh this keeps_after printed = tt
+
+-- of a copy
+pub copied_printed : (r : Result Ended Fault) (answer : Result Copied Fault) (from to left : DiskView) (old new : Known)
+    → IfOk answer (λ copied. (state : State) × IsTotalOf state copied)
+    → (IsTrue from.keeps_model → IsTrue to.keeps_model → IfOk answer (λ copied. HasCopied copied from.content left))
+    → IfOk r (λ ended. IsOkAnd answer (λ copied. (ended ≡ Done) × Appends old new (line (copied_text copied.count copied.edges)))) → IfOk r (λ ended. PrintsCopied from to left ended old new)
+copied_printed (Ok ended) (Ok copied) from to left old new one holds printed = (printed.0, copied, one, printed.1, holds)
+copied_printed (Ok ended) (Err fault) from to left old new one holds printed = absurd printed
+copied_printed (Err fault) answer from to left old new one holds printed = tt
 
 -- of an answer about a graph
 found_printed : {T U : Type 0} (view : T → U) (asked : LandmarkWords) (IsAnswer : LandmarkWords → State → U → Type 0) (Named : LandmarkWords → Fault → Type 0) (ended_of : U → Ended) (text_of : ℕ → U → List ℕ) (r : Result Ended Fault) (answer : Result (ℕ × T) Fault) (disk left : DiskView) (old new : Known)
@@ -168,6 +183,19 @@ edit_end (Err fault) session named_ticket change disk left named tells already w
   kept = kept;
 }
 
+-- a copy
+pub copy_end : {X : Type 0} (answer : Result X Fault) (from from_left to to_left : DiskView) → IfErr answer (λ fault. IsMoveFault fault) → (IsTrue from.keeps_model → IfErr answer (λ fault. TellsOf fault from.content))
+    → (IsErrOf answer told.DeviceLength → length to.content ≢ device_len)
+    → (IsErrOf answer told.Device → (from.failures < from_left.failures) ⊎ (to.failures < to_left.failures))
+    → IfErr answer (λ fault. IsTransferEnd how.Copy from from_left to to_left fault)
+copy_end (Ok x) from from_left to to_left named tells wrong device = tt
+copy_end (Err fault) from from_left to to_left named tells wrong device = record {
+  named = named;
+  tells = tells;
+  wrong_length = λ is. wrong (ap (λ (f : Fault). Err f) is);
+  device = λ is. device (ap (λ (f : Fault). Err f) is);
+}
+
 -- ---- the device by a path
 
 -- what is done at a place of devices after what was done there
@@ -248,17 +276,12 @@ ends_early model done put task path access contents old (Err e) fault here so is
 }
 
 -- so ends a task on one device
-pub one_device : {D W : Type 0} (model : Ghosts D) (done : Doing D) (put : List Put → Type 0) (task : Task) (given : Known) (contents : W → Known) (old new : W) (r : Result Ended Fault) → ¬ IsService task → ¬ IsMove task
+pub one_device : {D W : Type 0} (model : Ghosts D) (done : Doing D) (put : List Put → Type 0) (task : Task) (given : Known) (contents : W → Known) (old new : W) (r : Result Ended Fault) → ¬ IsService task → ¬ IsOfTwo task
     → EndsAt model done put task contents old new r → EndsTask model done put task given contents old new r
-one_device model done put (Format device nodes) given contents old new r batch alone is = is
-one_device model done put (Show device) given contents old new r batch alone is = is
-one_device model done put (Edit device session ticket change) given contents old new r batch alone is = is
-one_device model done put (Resume device session) given contents old new r batch alone is = is
-one_device model done put (Routes device pairs words) given contents old new r batch alone is = is
-one_device model done put (Check device words) given contents old new r batch alone is = is
 one_device model done put (Migrate device made) given contents old new r batch alone is = absurd (alone tt)
+one_device model done put (Copy device made) given contents old new r batch alone is = absurd (alone tt)
 one_device model done put (Serve device editors forwarders places live words) given contents old new r batch alone is = absurd (batch tt)
-one_device model done put (Tables device folder nodes words) given contents old new r batch alone is = is
+one_device model done put _ given contents old new r batch alone is = is
 
 -- a task that is asked for ends as the one that it is
 pub on_task : {W : Type 0} (put : List Put → Type 0) (task shape : Task) (disk left : DiskView) (contents : W → Known) (old new : W) (r : Result Ended Fault) → task ≡ shape
@@ -296,26 +319,26 @@ both opened events e₀ e₁ e₂ e₃ e₄ from_path to_path from to from_left 
       (All-cons (IsOf opened) (Closed from_left) (Closed to_left ∷ []) tt (All-cons (IsOf opened) (Closed to_left) [] tt (All-nil (IsOf opened)))));
 }
 
--- `migrate` ends so by two paths
-pub moved_at : {D W : Type 0} (model : Ghosts D) (done : Doing D) (from_path to_path : List ℕ) (contents : W → Known) (old new : W) (from to from_left to_left : D) (r : Result Ended Fault)
-    → done (Opened from_path ToRead from ∷ Opened to_path New to ∷ Closed from_left ∷ Closed to_left ∷ []) → EndsMoveOn (model.view from) (model.view from_left) (model.view to) (model.view to_left) contents old new r
-    → EndsMoveAt model done from_path to_path contents old new r
-moved_at model done from_path to_path contents old new from to from_left to_left (Ok ended) did is = record {
+-- a task of two devices ends so by two paths
+pub transferred_at : {D W : Type 0} (model : Ghosts D) (done : Doing D) (transfer : Transfer) (from_path to_path : List ℕ) (contents : W → Known) (old new : W) (from to from_left to_left : D) (r : Result Ended Fault)
+    → done (Opened from_path ToRead from ∷ Opened to_path New to ∷ Closed from_left ∷ Closed to_left ∷ []) → EndsTransferOn transfer (model.view from) (model.view from_left) (model.view to) (model.view to_left) contents old new r
+    → EndsTransferAt model done transfer from_path to_path contents old new r
+transferred_at model done transfer from_path to_path contents old new from to from_left to_left (Ok ended) did is = record {
   printed = record { from = from; to = to; from_left = from_left; to_left = to_left; did = did; ran = is.ran; holds = (is.leaves, is.ends.printed) };
   fault = tt;
   untouched = tt;
 }
-moved_at model done from_path to_path contents old new from to from_left to_left (Err fault) did is = record {
+transferred_at model done transfer from_path to_path contents old new from to from_left to_left (Err fault) did is = record {
   printed = tt;
   fault = inr (record { from = from; to = to; from_left = from_left; to_left = to_left; did = did; ran = is.ran; holds = (is.leaves, is.ends.fault) });
   untouched = is.ends.untouched;
 }
 
 -- and one of whose devices can't be had tells that
-pub not_moved : {D W : Type 0} (model : Ghosts D) (done : Doing D) (from_path to_path : List ℕ) (contents : W → Known) (old : W) (r : Result Ended Fault) (fault : Fault)
-    → IsErrAnd r (λ e. e ≡ fault) → done (NotHad from_path ToRead ∷ []) ⊎ OfFirst done from_path to_path → IsFileFault fault → EndsMoveAt model done from_path to_path contents old old r
-not_moved model done from_path to_path contents old (Ok ended) fault is did why = absurd is
-not_moved model done from_path to_path contents old (Err e) fault is did why = record {
+pub not_transferred : {D W : Type 0} (model : Ghosts D) (done : Doing D) (transfer : Transfer) (from_path to_path : List ℕ) (contents : W → Known) (old : W) (r : Result Ended Fault) (fault : Fault)
+    → IsErrAnd r (λ e. e ≡ fault) → done (NotHad from_path ToRead ∷ []) ⊎ OfFirst done from_path to_path → IsFileFault fault → EndsTransferAt model done transfer from_path to_path contents old old r
+not_transferred model done transfer from_path to_path contents old (Ok ended) fault is did why = absurd is
+not_transferred model done transfer from_path to_path contents old (Err e) fault is did why = record {
   printed = tt;
   fault = inl (did, subst (λ (f : Fault). IsFileFault f) (sym is) why);
   untouched = λ other. refl;

@@ -16,14 +16,16 @@ use Rattle.command_output.specs.declared.ended.Ended.TheVariants.{Done, Refused}
 use Rattle.layout_2.specs.State.{State}
 use Rattle.command_output.specs.declared.fault.Fault.{Fault}
 use Rattle.command_line.specs.declared.task.Task.{Task}
-use Rattle.command_line.specs.declared.task.Task.TheVariants.{Format, Show, Edit, Resume, Route, Check, Migrate, Serve, Tables}
+use Rattle.command_line.specs.declared.task.Task.TheVariants.{Format, Show, Edit, Resume, Route, Check, Migrate, Copy, Serve, Tables}
 use Rattle.commands.specs.declared.devices.Access.{Access}
+use Rattle.commands.specs.declared.on_device.Transfer.{Transfer}
+use Rattle.commands.specs.declared.on_device.Transfer.TheVariants as how
 use Rattle.commands.specs.Devices.{Doing, EndsBy, IsAnswerOf, OfOpened, OfServed, OfTwo}
 use Rattle.commands.specs.Events.{Event}
-use Rattle.commands.specs.Endings.{EndsOpened, IsCheckDeviceFault, IsCheckEnd, IsFaultFor, IsTablesEnd, Leaves, MayEnd, access_of, device_of}
-use Rattle.commands.specs.Printed.{AnswersWords, PrintedFor, PrintsOpened, PrintsTables}
+use Rattle.commands.specs.Endings.{EndsOpened, EndsTransfer, IsCheckDeviceFault, IsCheckEnd, IsFaultBy, IsFaultFor, IsTablesEnd, Leaves, MayEnd, MayEndAlone, MayEndServing, MayEndTables, access_of, device_of}
+use Rattle.commands.specs.Printed.{AnswersWords, PrintedAlone, PrintedFor, PrintedServing, PrintedTables, PrintsOpened, PrintsTables}
 use Rattle.commands.specs.Queries.{AnswersOf, IsSchemeIn}
-use Rattle.commands.specs.Runs.{EndsPutFound, Says}
+use Rattle.commands.specs.Runs.{EndsPutFound, Says, SaysAll, SaysAlone, SaysServing, SaysTables}
 use Rattle.commands.proofs.Faults.{each_fault}
 use Rattle.commands.proofs.OnDevices.{asking_end}
 use Rattle.table_files.specs.Files.{Put}
@@ -83,33 +85,19 @@ answer_too : (disk : DiskView) (P Q : State → Type 0) → ((state : State) →
 answer_too disk P Q weaker is = record { of_one = (is.of_one.0, weaker is.of_one.0 is.of_one.1); of_this = λ keeps state stands. weaker state (is.of_this keeps state stands) }
 
 opened_too : (put also : List Put → Type 0) (task : Task) (disk left : DiskView) (ended : Ended) (old new : Known) → ((puts : List Put) → put puts → also puts) → PrintsOpened put task disk left ended old new → PrintsOpened also task disk left ended old new
-opened_too put also (Format device nodes) disk left ended old new weaker is = is
-opened_too put also (Show device) disk left ended old new weaker is = is
-opened_too put also (Edit device session ticket change) disk left ended old new weaker is = is
-opened_too put also (Resume device session) disk left ended old new weaker is = is
-opened_too put also (Route device pairs words) disk left ended old new weaker is = is
-opened_too put also (Check device words) disk left ended old new weaker is = is
-opened_too put also (Migrate device made) disk left ended old new weaker is = is
-opened_too put also (Serve device editors forwarders places live words) disk left ended old new weaker is = is
 opened_too put also (Tables device folder nodes words) disk left ended old new weaker is =
     answer_too disk _ _ (λ state found. (found.0, found.1, answers_too found.0 state.count folder.now nodes.items put also ended old new weaker found.2)) is
+opened_too put also _ disk left ended old new weaker is = is
 
 putting_too : (p : Parts) (folder named : List ℕ) (put also : List Put → Type 0) (fault : Fault) → ((puts : List Put) → put puts → also puts) → EndsPutting p folder named put fault → EndsPutting p folder named also fault
 putting_too p folder named put also fault weaker (inl some) = inl (record { named = some.named; count = some.count; files = weaker _ some.files; internal = some.internal; output = some.output })
 putting_too p folder named put also fault weaker (inr lacks) = inr (lacks.0, weaker [] lacks.1, lacks.2)
 
 fails_too : (put also : List Put → Type 0) (task : Task) (disk left : DiskView) (fault : Fault) → ((puts : List Put) → put puts → also puts) → EndsOpened put task disk left fault → EndsOpened also task disk left fault
-fails_too put also (Format device nodes) disk left fault weaker is = is
-fails_too put also (Show device) disk left fault weaker is = is
-fails_too put also (Edit device session ticket change) disk left fault weaker is = is
-fails_too put also (Resume device session) disk left fault weaker is = is
-fails_too put also (Route device pairs words) disk left fault weaker is = is
-fails_too put also (Check device words) disk left fault weaker is = is
-fails_too put also (Migrate device made) disk left fault weaker is = is
-fails_too put also (Serve device editors forwarders places live words) disk left fault weaker is = is
 fails_too put also (Tables device folder nodes words) disk left fault weaker (inl early) = inl (weaker [] early.0, early.1)
 fails_too put also (Tables device folder nodes words) disk left fault weaker (inr is) =
     inr (answer_too disk _ _ (λ state found. (found.0, found.1, putting_too found.0 folder.now nodes.items put also fault weaker found.2)) is)
+fails_too put also _ disk left fault weaker is = is
 
 -- what is said of one device
 one_too : {D : Type 0} (model : Ghosts D) (done did : Doing D) (path : List ℕ) (access : Access) (P Q : DiskView → DiskView → Type 0) → ((events : List (Event D)) → done events → did events) → ((disk left : DiskView) → P disk left → Q disk left)
@@ -133,6 +121,7 @@ alone_too model done did put also task ended old new so weaker is =
 printed_too : {D : Type 0} (model : Ghosts D) (done did : Doing D) (put also : List Put → Type 0) (task : Task) (given : Known) (ended : Ended) (old new : Known) → ((events : List (Event D)) → done events → did events) → ((puts : List Put) → put puts → also puts)
     → PrintedFor model done put task given ended old new → PrintedFor model did also task given ended old new
 printed_too model done did put also (Migrate device made) given ended old new so weaker is = two_too model done did device.now made.now _ so is
+printed_too model done did put also (Copy device made) given ended old new so weaker is = two_too model done did device.now made.now _ so is
 printed_too model done did put also (Serve device editors forwarders places None words) given ended old new so weaker is = (is.0, is.1, is.2, served_too done did device.now _ so is.3)
 printed_too model done did put also (Serve device editors forwarders places (Some rounds) words) given ended old new so weaker is = (is.0, is.1, served_too done did device.now _ so is.2)
 printed_too model done did put also (Format device nodes) given ended old new so weaker is = alone_too model done did put also (Format device nodes) ended old new so weaker is
@@ -150,11 +139,15 @@ ends_too model done did put also task fault so weaker (inl early) = inl (so _ ea
 ends_too model done did put also task fault so weaker (inr is) =
     inr (one_too model done did (device_of task) (access_of task) _ _ so (λ disk left both. (both.0, fails_too put also task disk left fault weaker both.1)) is)
 
+transfer_too : {D : Type 0} (model : Ghosts D) (done did : Doing D) (transfer : Transfer) (old new : List ℕ) (fault : Fault) → ((events : List (Event D)) → done events → did events) → EndsTransfer model done transfer old new fault → EndsTransfer model did transfer old new fault
+transfer_too model done did transfer old new fault so (inl (inl first, why)) = inl (inl (so _ first), why)
+transfer_too model done did transfer old new fault so (inl (inr first, why)) = inl (inr (first.0, so _ first.1), why)
+transfer_too model done did transfer old new fault so (inr is) = inr (two_too model done did old new _ so is)
+
 may_too : {D : Type 0} (model : Ghosts D) (done did : Doing D) (put also : List Put → Type 0) (task : Task) (given old new : Known) (fault : Fault) → ((events : List (Event D)) → done events → did events) → ((puts : List Put) → put puts → also puts)
     → MayEnd model done put task given old new fault → MayEnd model did also task given old new fault
-may_too model done did put also (Migrate device made) given old new fault so weaker (inl (inl first, why)) = inl (inl (so _ first), why)
-may_too model done did put also (Migrate device made) given old new fault so weaker (inl (inr first, why)) = inl (inr (first.0, so _ first.1), why)
-may_too model done did put also (Migrate device made) given old new fault so weaker (inr is) = inr (two_too model done did device.now made.now _ so is)
+may_too model done did put also (Migrate device made) given old new fault so weaker is = transfer_too model done did how.Migration device.now made.now fault so is
+may_too model done did put also (Copy device made) given old new fault so weaker is = transfer_too model done did how.Copy device.now made.now fault so is
 may_too model done did put also (Serve device editors forwarders places None words) given old new fault so weaker (inl none) = inl (so [] none.0, none.1)
 may_too model done did put also (Serve device editors forwarders places None words) given old new fault so weaker (inr (inl early)) = inr (inl (so _ early.0, early.1))
 may_too model done did put also (Serve device editors forwarders places None words) given old new fault so weaker (inr (inr is)) = inr (inr (is.0, served_too done did device.now _ so is.1))
@@ -180,7 +173,7 @@ fault_too model done did put also words given old new fault so weaker (inr is) =
 
 -- what a status says of places of which all is known it says of those of which less is
 pub says_too : {D R W : Type 0} (model : Ghosts D) (done did : Doing D) (put also : List Put → Type 0) (words : List Text) (remaining : R → Known) (contents : W → Known) (script left : R) (out printed : W) (code : ℕ)
-    → ((events : List (Event D)) → done events → did events) → ((puts : List Put) → put puts → also puts) → Says model done put words remaining contents script left out printed code → Says model did also words remaining contents script left out printed code
+    → ((events : List (Event D)) → done events → did events) → ((puts : List Put) → put puts → also puts) → SaysAll model done put words remaining contents script left out printed code → SaysAll model did also words remaining contents script left out printed code
 says_too model done did put also words remaining contents script left out printed code so weaker says =
     let given = remaining script in
     let before = contents out in
@@ -195,3 +188,65 @@ says_too model done did put also words remaining contents script left out printe
           (why.0, (why.1.0, why.1.1, fault_too model done did put also words given before after why.1.0 so weaker why.1.2));
       unread = says.unread;
     }
+
+-- ---- of one kind of tasks what is said of all
+
+-- what holds of each task's answers and faults, a status says
+says_so : {D R W : Type 0} (done : Doing D) (words : List Text) (Answers Others : Task → Known → Ended → Known → Known → Type 0) (MayFail May : Task → Known → Known → Known → Fault → Type 0) (remaining : R → Known) (contents : W → Known) (script left : R) (out printed : W) (code : ℕ)
+    → ((task : Task) (given : Known) (ended : Ended) (old new : Known) → Answers task given ended old new → Others task given ended old new) → ((task : Task) (given old new : Known) (fault : Fault) → MayFail task given old new fault → May task given old new fault)
+    → Says done words Answers MayFail remaining contents script left out printed code → Says done words Others May remaining contents script left out printed code
+says_so done words Answers Others MayFail May remaining contents script left out printed code answers fails says =
+    let given = remaining script in
+    let before = contents out in
+    let after = contents printed in
+    let by : (fault : Fault) → IsFaultBy done words (λ task why. MayFail task given before after why) fault → IsFaultBy done words (λ task why. May task given before after why) fault = λ fault is.
+    ⊎_elim (λ refused. inl refused) (λ may. inr (may.0, may.1, fails may.0 given before after fault may.2)) is in
+    record {
+      status = says.status;
+      answered = λ zero. (let is = says.answered zero in (is.0, is.1, answers is.0 given Done before after is.2));
+      refused = λ one. ⊎_elim (λ is. inl (is.0, is.1, answers is.0 given Refused before after is.2)) (λ why. inr (why.0, why.1, by why.0 why.2, why.3)) (says.refused one);
+      not_understood = λ two. (let why = says.not_understood two in (why.0, (why.1.0, why.1.1, by why.1.0 why.1.2)));
+      unread = says.unread;
+    }
+
+printed_alone : {D : Type 0} (model : Ghosts D) (done : Doing D) (put : List Put → Type 0) (task : Task) (given : Known) (ended : Ended) (old new : Known) → PrintedFor model done put task given ended old new → PrintedAlone model done task ended old new
+printed_alone model done put (Serve device editors forwarders places live words) given ended old new is = tt
+printed_alone model done put (Tables device folder nodes words) given ended old new is = tt
+printed_alone model done put _ given ended old new is = is
+
+ends_alone : {D : Type 0} (model : Ghosts D) (done : Doing D) (put : List Put → Type 0) (task : Task) (given old new : Known) (fault : Fault) → MayEnd model done put task given old new fault → MayEndAlone model done task fault
+ends_alone model done put (Migrate device made) given old new fault is = is
+ends_alone model done put (Copy device made) given old new fault is = is
+ends_alone model done put (Serve device editors forwarders places live words) given old new fault is = tt
+ends_alone model done put (Tables device folder nodes words) given old new fault is = tt
+ends_alone model done put _ given old new fault is = ⊎_elim (λ early. inl (early.0, tt, early.2)) (λ later. inr later) is
+
+printed_tables : {D : Type 0} (model : Ghosts D) (done : Doing D) (put : List Put → Type 0) (task : Task) (given : Known) (ended : Ended) (old new : Known) → PrintedFor model done put task given ended old new → PrintedTables model done put task ended old new
+printed_tables model done put (Tables device folder nodes words) given ended old new is = is
+printed_tables model done put _ given ended old new is = tt
+
+ends_tables : {D : Type 0} (model : Ghosts D) (done : Doing D) (put : List Put → Type 0) (task : Task) (given old new : Known) (fault : Fault) → MayEnd model done put task given old new fault → MayEndTables model done put task fault
+ends_tables model done put (Tables device folder nodes words) given old new fault is = is
+ends_tables model done put _ given old new fault is = tt
+
+printed_serving : {D : Type 0} (model : Ghosts D) (done : Doing D) (put : List Put → Type 0) (task : Task) (given : Known) (ended : Ended) (old new : Known) → PrintedFor model done put task given ended old new → PrintedServing model done task given ended old new
+printed_serving model done put (Serve device editors forwarders places live words) given ended old new is = is
+printed_serving model done put _ given ended old new is = tt
+
+ends_serving : {D : Type 0} (model : Ghosts D) (done : Doing D) (put : List Put → Type 0) (task : Task) (given old new : Known) (fault : Fault) → MayEnd model done put task given old new fault → MayEndServing model done task given old new fault
+ends_serving model done put (Serve device editors forwarders places live words) given old new fault is = is
+ends_serving model done put _ given old new fault is = tt
+
+-- a status of any task, in three
+pub says_parts : {D R W : Type 0} (model : Ghosts D) (done : Doing D) (put : List Put → Type 0) (words : List Text) (remaining : R → Known) (contents : W → Known) (script left : R) (out printed : W) (code : ℕ) → SaysAll model done put words remaining contents script left out printed code
+    → SaysAlone model done words remaining contents script left out printed code
+    × (SaysTables model done put words remaining contents script left out printed code × SaysServing model done words remaining contents script left out printed code)
+says_parts model done put words remaining contents script left out printed code all =
+    let full = PrintedFor model done put in
+    let may = MayEnd model done put in (
+      says_so done words full (λ task given. PrintedAlone model done task) may (λ task given old new. MayEndAlone model done task) remaining contents script left out printed code (printed_alone model done put) (ends_alone model done put) all,
+      (
+        says_so done words full (λ task given. PrintedTables model done put task) may (λ task given old new. MayEndTables model done put task) remaining contents script left out printed code (printed_tables model done put) (ends_tables model done put) all,
+        says_so done words full (PrintedServing model done) may (MayEndServing model done) remaining contents script left out printed code (printed_serving model done put) (ends_serving model done put) all,
+      ),
+    )

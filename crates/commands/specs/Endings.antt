@@ -19,6 +19,7 @@ use Rattle.device_commands.specs.Answer.{IsNew, state_after}
 use Rattle.device_commands.specs.Edits.{IsPastLimits}
 use Rattle.device_commands.specs.Openings.{IsEditFault, IsFormatFault, IsOpenFault, IsUnwrittenFault, OfContent, TellsOf}
 use Rattle.device_commands.specs.Moves.{IsMoveFault, TellsOfOld}
+use Rattle.commands.specs.Copies.{CopiesWholly}
 use Rattle.service_threads.specs.Kept.{IsLeftBy}
 use Rattle.live_service.specs.ServeEnds.{IsServeEnd}
 use Rattle.line_exchange.specs.Begun.{Begins, PrintsUnless}
@@ -29,9 +30,11 @@ use Rattle.command_line.specs.Asked.{IsAskedFor, IsRefusedFor}
 use Rattle.command_line.specs.declared.refused.WordsRefused.{WordsRefused}
 use Rattle.command_line.specs.declared.refused.WordsRefused.TheVariants as why
 use Rattle.command_line.specs.declared.task.Task.{Task}
-use Rattle.command_line.specs.declared.task.Task.TheVariants.{Format, Show, Edit, Resume, Route, Check, Migrate, Serve, Tables}
+use Rattle.command_line.specs.declared.task.Task.TheVariants.{Format, Show, Edit, Resume, Route, Check, Migrate, Copy, Serve, Tables}
 use Rattle.commands.specs.declared.devices.Access.{Access}
 use Rattle.commands.specs.declared.devices.Access.TheVariants.{ToRead, ToChange, Anew}
+use Rattle.commands.specs.declared.on_device.Transfer.{Transfer}
+use Rattle.commands.specs.declared.on_device.Transfer.TheVariants as how
 use Rattle.commands.specs.Devices.{Doing, EndsBy, Ending, IsAnswerOf, IsFileFault, OfFirst, OfServed, OfTwo}
 use Rattle.commands.specs.Events.{NotHad}
 use Rattle.commands.specs.Queries.{LacksNode}
@@ -56,7 +59,7 @@ NamesNodes (Drawn seed) = ⊥
 
 -- ---- a task on one device
 
--- the path of a task's device; of `migrate` the old one
+-- the path of a task's device; of `migrate` and `copy` the old one
 abbrev pub device_of : Task → List ℕ
 device_of (Format device nodes) = device.now
 device_of (Show device) = device.now
@@ -65,6 +68,7 @@ device_of (Resume device session) = device.now
 device_of (Route device pairs words) = device.now
 device_of (Check device words) = device.now
 device_of (Migrate device made) = device.now
+device_of (Copy device made) = device.now
 device_of (Serve device editors forwarders places live words) = device.now
 device_of (Tables device folder nodes words) = device.now
 
@@ -91,9 +95,14 @@ Leaves (Format device nodes) disk left = Unit {0}
 Leaves (Edit device session ticket change) disk left = ChangesWholly session ticket change disk left
 Leaves task disk left = IsOnlyRead disk left
 
--- and `migrate` to its two
-abbrev pub LeavesMoved : DiskView → DiskView → DiskView → DiskView → Type 0
-LeavesMoved from from_left to to_left = IsOnlyRead from from_left × MovesWholly from to to_left
+-- at any moment a crash leaves on a new device nothing or the whole, where it had no front of this layout before
+abbrev pub MakesWholly : Transfer → DiskView → DiskView → DiskView → Type 0
+MakesWholly how.Migration from to to_left = MovesWholly from to to_left
+MakesWholly how.Copy from to to_left = CopiesWholly from to to_left
+
+-- and so a task of two devices leaves them
+abbrev pub LeavesTwo : Transfer → DiskView → DiskView → DiskView → DiskView → Type 0
+LeavesTwo transfer from from_left to to_left = IsOnlyRead from from_left × MakesWholly transfer from to to_left
 
 -- ---- why a command on a device ends, which it has opened
 
@@ -149,10 +158,15 @@ pub record IsRouteEnd (pairs : List (ℕ × ℕ)) (asked : LandmarkWords) (disk 
   pub asking : IsAskingEnd IsRouteDeviceFault asked disk left fault
   pub no_node : OfContent disk (λ state. fault ≡ told.NoNode → LacksNode asked pairs state.graph.nodes)
 
--- A device isn't brought over.
-pub record IsMoveEnd (from from_left to to_left : DiskView) (fault : Fault) : Type 0 where
+-- what a fault tells of the old device's content
+abbrev pub TellsOfFirst : Transfer → Fault → List ℕ → Type 0
+TellsOfFirst how.Migration fault content = TellsOfOld fault content
+TellsOfFirst how.Copy fault content = TellsOf fault content
+
+-- A device isn't brought over, or copied.
+pub record IsTransferEnd (transfer : Transfer) (from from_left to to_left : DiskView) (fault : Fault) : Type 0 where
   pub named : IsMoveFault fault
-  pub tells : IsTrue from.keeps_model → TellsOfOld fault from.content
+  pub tells : IsTrue from.keeps_model → TellsOfFirst transfer fault from.content
   pub wrong_length : fault ≡ told.DeviceLength → length to.content ≢ device_len
   pub device : fault ≡ told.Device → (from.failures < from_left.failures) ⊎ (to.failures < to_left.failures)
 
@@ -186,22 +200,26 @@ IsTablesEnd asked folder named put disk left fault =
     (put [] × IsCheckEnd asked disk left fault)
     ⊎ IsAnswerOf disk (λ state. (p : Parts) × IsSchemeBy state.graph state.count asked p × EndsPutting p folder named put fault)
 
--- which fault ends a task on one device, which is open
-abbrev pub EndsOpened : (List Put → Type 0) → Task → DiskView → DiskView → Fault → Type 0
-EndsOpened put (Format device nodes) disk left fault = OrOutput (IsFormatEnd nodes) disk left fault
-EndsOpened put (Show device) disk left fault = OrOutput (IsReadingEnd IsOpenFault) disk left fault
-EndsOpened put (Edit device session ticket change) disk left fault = OrOutput (IsEditEnd session ticket change) disk left fault
-EndsOpened put (Resume device session) disk left fault = OrOutput (IsReadingEnd IsOpenFault) disk left fault
-EndsOpened put (Route device pairs words) disk left fault = OrOutput (IsRouteEnd pairs.items words) disk left fault
-EndsOpened put (Check device words) disk left fault = OrOutput (IsCheckEnd words) disk left fault
-EndsOpened put (Tables device folder nodes words) disk left fault = IsTablesEnd words folder.now nodes.items put disk left fault
-EndsOpened put task disk left fault = ⊥
+-- which fault ends a task on one device that puts no files; the device is open
+abbrev pub EndsAlone : Task → DiskView → DiskView → Fault → Type 0
+EndsAlone (Format device nodes) disk left fault = OrOutput (IsFormatEnd nodes) disk left fault
+EndsAlone (Show device) disk left fault = OrOutput (IsReadingEnd IsOpenFault) disk left fault
+EndsAlone (Edit device session ticket change) disk left fault = OrOutput (IsEditEnd session ticket change) disk left fault
+EndsAlone (Resume device session) disk left fault = OrOutput (IsReadingEnd IsOpenFault) disk left fault
+EndsAlone (Route device pairs words) disk left fault = OrOutput (IsRouteEnd pairs.items words) disk left fault
+EndsAlone (Check device words) disk left fault = OrOutput (IsCheckEnd words) disk left fault
+EndsAlone task disk left fault = ⊥
 
--- No device is brought over: one of the two can't be had, the output failed, or this ends it.
-abbrev pub EndsMove : {D : Type 0} → Ghosts D → Doing D → List ℕ → List ℕ → Fault → Type 0
-EndsMove model done old new fault =
+-- and any task on one device
+abbrev pub EndsOpened : (List Put → Type 0) → Task → DiskView → DiskView → Fault → Type 0
+EndsOpened put (Tables device folder nodes words) disk left fault = IsTablesEnd words folder.now nodes.items put disk left fault
+EndsOpened put task disk left fault = EndsAlone task disk left fault
+
+-- No device is brought over, or copied: one of the two can't be had, the output failed, or this ends it.
+abbrev pub EndsTransfer : {D : Type 0} → Ghosts D → Doing D → Transfer → List ℕ → List ℕ → Fault → Type 0
+EndsTransfer model done transfer old new fault =
     ((done (NotHad old ToRead ∷ []) ⊎ OfFirst done old new) × IsFileFault fault)
-    ⊎ OfTwo model done old new (λ from from_left to to_left. LeavesMoved from from_left to to_left × ((fault ≡ told.Output) ⊎ IsMoveEnd from from_left to to_left fault))
+    ⊎ OfTwo model done old new (λ from from_left to to_left. LeavesTwo transfer from from_left to to_left × ((fault ≡ told.Output) ⊎ IsTransferEnd transfer from from_left to to_left fault))
 
 -- ---- the parts of these
 
@@ -218,16 +236,41 @@ IsRouteFault words fault = IsWordsFault words fault
 
 -- ---- why a run ends
 
+-- the faults that may end a task that is no service and puts no files
+abbrev pub MayEndAlone : {D : Type 0} → Ghosts D → Doing D → Task → Fault → Type 0
+MayEndAlone model done (Migrate device made) fault = EndsTransfer model done how.Migration device.now made.now fault
+MayEndAlone model done (Copy device made) fault = EndsTransfer model done how.Copy device.now made.now fault
+MayEndAlone model done (Serve device editors forwarders places live words) fault = Unit {0}
+MayEndAlone model done (Tables device folder nodes words) fault = Unit {0}
+MayEndAlone model done task fault =
+    EndsBy model done (λ puts. Unit {0}) (device_of task) (access_of task) (λ disk left why. Leaves task disk left × EndsAlone task disk left why) fault
+
+-- .. `tables`, and what was put by then
+abbrev pub MayEndTables : {D : Type 0} → Ghosts D → Doing D → (List Put → Type 0) → Task → Fault → Type 0
+MayEndTables model done put (Tables device folder nodes words) fault =
+    EndsBy model done put device.now ToRead (λ disk left why. IsOnlyRead disk left × IsTablesEnd words folder.now nodes.items put disk left why) fault
+MayEndTables model done put task fault = Unit {0}
+
+-- .. and `serve`, and what a live service has printed by then
+abbrev pub MayEndServing : {D : Type 0} → Ghosts D → Doing D → Task → Known → Known → Known → Fault → Type 0
+MayEndServing model done (Serve device editors forwarders places None words) given old new fault = EndsServe model done device.now given editors words old new fault
+MayEndServing model done (Serve device editors forwarders places (Some rounds) words) given old new fault = EndsLive model done device.now given editors words old new fault
+MayEndServing model done task given old new fault = Unit {0}
+
 -- the faults that may end a task that is under way, and what a live service has printed by then
 abbrev pub MayEnd : {D : Type 0} → Ghosts D → Doing D → (List Put → Type 0) → Task → Known → Known → Known → Fault → Type 0
-MayEnd model done put (Migrate device made) given old new fault = EndsMove model done device.now made.now fault
-MayEnd model done put (Serve device editors forwarders places None words) given old new fault = EndsServe model done device.now given editors words old new fault
-MayEnd model done put (Serve device editors forwarders places (Some rounds) words) given old new fault = EndsLive model done device.now given editors words old new fault
+MayEnd model done put (Migrate device made) given old new fault = EndsTransfer model done how.Migration device.now made.now fault
+MayEnd model done put (Copy device made) given old new fault = EndsTransfer model done how.Copy device.now made.now fault
+MayEnd model done put (Serve device editors forwarders places live words) given old new fault = MayEndServing model done (Serve device editors forwarders places live words) given old new fault
 MayEnd model done put task given old new fault = EndsBy model done put (device_of task) (access_of task) (λ disk left why. Leaves task disk left × EndsOpened put task disk left why) fault
 
 -- The words are no task, no device was opened, and the fault is the one for what is wrong with them, or memory ran out
--- while they were read; or they ask for a task, and the fault is one that may end it.
-abbrev pub IsFaultFor : {D : Type 0} → Ghosts D → Doing D → (List Put → Type 0) → List Text → Known → Known → Known → Fault → Type 0
-IsFaultFor model done put words given old new fault =
+-- while they were read; or they ask for a task, and `MayFail` says that the fault may end it.
+abbrev pub IsFaultBy : {D : Type 0} → Doing D → List Text → (Task → Fault → Type 0) → Fault → Type 0
+IsFaultBy done words MayFail fault =
     (done [] × ((refused : WordsRefused) × (fault ≡ words_fault refused) × IsRefusedFor words refused × ((task : Task) → IsAskedFor words task → fault ≡ told.Memory)))
-    ⊎ ((task : Task) × IsAskedFor words task × MayEnd model done put task given old new fault)
+    ⊎ ((task : Task) × IsAskedFor words task × MayFail task fault)
+
+-- and of any task
+abbrev pub IsFaultFor : {D : Type 0} → Ghosts D → Doing D → (List Put → Type 0) → List Text → Known → Known → Known → Fault → Type 0
+IsFaultFor model done put words given old new fault = IsFaultBy done words (λ task why. MayEnd model done put task given old new why) fault

@@ -1,5 +1,6 @@
 pub mod Events
 pub mod Devices
+pub mod Copies
 pub mod SchemeAnswers
 pub mod ServedScripts
 pub mod Printed

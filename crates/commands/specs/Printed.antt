@@ -7,7 +7,7 @@ use Rattle.disk_trait.specs.declared.disk.Disk.{Ghosts}
 use Rattle.disk_trait.specs.Disk.{DiskView}
 use Rattle.graph_edits.specs.Edges.{Network}
 use Rattle.graph_edits.specs.declared.edits.Op.{Op}
-use Rattle.layout_2.specs.State.{first_state}
+use Rattle.layout_2.specs.State.{State, first_state}
 use Rattle.layout_2.specs.Standing.{KeepsThrough}
 use Rattle.requests.specs.Tickets.{last_of}
 use Rattle.generations.specs.declared.posting.Verdict.{Verdict}
@@ -23,9 +23,11 @@ use Rattle.command_output.specs.declared.ended.Ended.TheVariants.{Done, Refused 
 use Rattle.command_output.specs.Lines.{accepted_text, formatted_text, line, listing_text, migrated_text, refused_text, ticket_text}
 use Rattle.command_line.specs.Asked.{IsAskedFor}
 use Rattle.command_line.specs.declared.task.Task.{Task}
-use Rattle.command_line.specs.declared.task.Task.TheVariants.{Format, Show, Edit, Resume, Route, Check, Migrate, Serve, Tables}
+use Rattle.command_line.specs.declared.task.Task.TheVariants.{Format, Show, Edit, Resume, Route, Check, Migrate, Copy, Serve, Tables}
 use Rattle.device_commands.specs.Answer.{IsNew, state_after, verdict_of}
+use Rattle.commands.specs.Copies.{HasCopied, IsTotalOf, copied_text}
 use Rattle.device_commands.specs.Openings.{OfContent}
+use Rattle.commands.specs.declared.copying.Copied.{Copied}
 use Rattle.written_values.specs.declared.line.ScriptLine.{ScriptLine}
 use Rattle.written_values.specs.declared.words.LandmarkWords.{LandmarkWords}
 use Rattle.service_threads.specs.Kept.{IsLeftBy}
@@ -33,8 +35,11 @@ use Rattle.line_exchange.specs.Gathers.{IsServed}
 use Rattle.line_exchange.specs.Inputs.{Bytes}
 use Rattle.line_exchange.specs.Prints.{AreAllLines, HasPrinted}
 use Rattle.live_service.specs.Services.{AnswersInput, AnswersScript}
+use Rattle.commands.specs.declared.on_device.Transfer.{Transfer}
+use Rattle.commands.specs.declared.on_device.Transfer.TheVariants as how
 use Rattle.commands.specs.Devices.{Doing, IsAnswerOf, OfOpened, OfServed, OfTwo}
-use Rattle.commands.specs.Endings.{Leaves, LeavesMoved, access_of, device_of}
+use Rattle.commands.specs.declared.devices.Access.TheVariants.{ToRead}
+use Rattle.commands.specs.Endings.{IsOnlyRead, Leaves, LeavesTwo, access_of, device_of}
 use Rattle.commands.specs.ServedScripts.{IsScriptOf}
 use Rattle.table_files.specs.Files.{Put}
 use Rattle.table_files.specs.Tables.{AnswersTables}
@@ -88,6 +93,21 @@ abbrev pub PrintsMoved : DiskView → DiskView → DiskView → Ended → Known 
 PrintsMoved from to left ended old new = (ended ≡ Done) × (moved : Moved) × ((graph : Network) × (moved.edges ≡ len graph.edges)) × Appends old new (line (migrated_text moved.count moved.edges))
     × (IsTrue from.keeps_model → IsTrue to.keeps_model → HasMoved moved from.content left)
 
+-- `copy`: how much the old device holds, and a new one that holds the same, its tickets too
+abbrev pub PrintsCopied : DiskView → DiskView → DiskView → Ended → Known → Known → Type 0
+PrintsCopied from to left ended old new = (ended ≡ Done) × (copied : Copied) × ((state : State) × IsTotalOf state copied) × Appends old new (line (copied_text copied.count copied.edges))
+    × (IsTrue from.keeps_model → IsTrue to.keeps_model → HasCopied copied from.content left)
+
+-- what a task of two devices has printed, which are open, and what it leaves of the new one
+abbrev pub PrintsTransfer : Transfer → DiskView → DiskView → DiskView → Ended → Known → Known → Type 0
+PrintsTransfer how.Migration from to left ended old new = PrintsMoved from to left ended old new
+PrintsTransfer how.Copy from to left ended old new = PrintsCopied from to left ended old new
+
+-- and so of two that were opened, and closed
+abbrev pub PrintsTwo : {D : Type 0} → Ghosts D → Doing D → Transfer → List ℕ → List ℕ → Ended → Known → Known → Type 0
+PrintsTwo model done transfer from_path to_path ended old new =
+    OfTwo model done from_path to_path (λ from from_left to to_left. LeavesTwo transfer from from_left to to_left × PrintsTransfer transfer from to to_left ended old new)
+
 -- `serve`: the lines of answers to the script that a reader gives, of one list of requests, which the device has
 abbrev pub PrintsServed : {D : Type 0} → Ghosts D → Doing D → List ℕ → Known → ℕ → Ended → Known → Known → Type 0
 PrintsServed model done path given editors ended old new =
@@ -105,26 +125,53 @@ abbrev pub PrintsTables : LandmarkWords → List ℕ → List ℕ → (List Put 
 PrintsTables words folder named put disk left ended old new =
     IsAnswerOf disk (λ state. (p : Parts) × IsSchemeBy state.graph state.count words p × AnswersTables p state.count folder named put ended old new)
 
--- what a task on one device has printed, which is open, and what it leaves of it
+-- what a task on one device has printed that puts no files, and what it leaves of that device, which is open
+abbrev pub PrintsAlone : Task → DiskView → DiskView → Ended → Known → Known → Type 0
+PrintsAlone (Format device nodes) disk left ended old new = PrintsFormatted nodes disk left ended old new
+PrintsAlone (Show device) disk left ended old new = PrintsListing disk left ended old new
+PrintsAlone (Edit device session ticket change) disk left ended old new = PrintsVerdict session ticket change disk left ended old new
+PrintsAlone (Resume device session) disk left ended old new = PrintsTicket session disk left ended old new
+PrintsAlone (Route device pairs words) disk left ended old new = PrintsRoutes pairs.items words disk left ended old new
+PrintsAlone (Check device words) disk left ended old new = PrintsCheck words disk left ended old new
+PrintsAlone task disk left ended old new = ⊥
+
+-- and any task on one device
 abbrev pub PrintsOpened : (List Put → Type 0) → Task → DiskView → DiskView → Ended → Known → Known → Type 0
-PrintsOpened put (Format device nodes) disk left ended old new = PrintsFormatted nodes disk left ended old new
-PrintsOpened put (Show device) disk left ended old new = PrintsListing disk left ended old new
-PrintsOpened put (Edit device session ticket change) disk left ended old new = PrintsVerdict session ticket change disk left ended old new
-PrintsOpened put (Resume device session) disk left ended old new = PrintsTicket session disk left ended old new
-PrintsOpened put (Route device pairs words) disk left ended old new = PrintsRoutes pairs.items words disk left ended old new
-PrintsOpened put (Check device words) disk left ended old new = PrintsCheck words disk left ended old new
 PrintsOpened put (Tables device folder nodes words) disk left ended old new = PrintsTables words folder.now nodes.items put disk left ended old new
-PrintsOpened put task disk left ended old new = ⊥
+PrintsOpened put task disk left ended old new = PrintsAlone task disk left ended old new
+
+-- A task that is no service and puts no files has printed its answer and nothing else, of the device that was opened and closed.
+abbrev pub PrintedAlone : {D : Type 0} → Ghosts D → Doing D → Task → Ended → Known → Known → Type 0
+PrintedAlone model done (Migrate device made) ended old new = PrintsTwo model done how.Migration device.now made.now ended old new
+PrintedAlone model done (Copy device made) ended old new = PrintsTwo model done how.Copy device.now made.now ended old new
+PrintedAlone model done (Serve device editors forwarders places live words) ended old new = Unit {0}
+PrintedAlone model done (Tables device folder nodes words) ended old new = Unit {0}
+PrintedAlone model done task ended old new = OfOpened model done (device_of task) (access_of task) (λ disk left. Leaves task disk left × PrintsAlone task disk left ended old new)
+
+-- so has `tables`, by the files that were put
+abbrev pub PrintedTables : {D : Type 0} → Ghosts D → Doing D → (List Put → Type 0) → Task → Ended → Known → Known → Type 0
+PrintedTables model done put (Tables device folder nodes words) ended old new =
+    OfOpened model done device.now ToRead (λ disk left. IsOnlyRead disk left × PrintsTables words folder.now nodes.items put disk left ended old new)
+PrintedTables model done put task ended old new = Unit {0}
+
+-- and `serve`, by what a reader gives
+abbrev pub PrintedServing : {D : Type 0} → Ghosts D → Doing D → Task → Known → Ended → Known → Known → Type 0
+PrintedServing model done (Serve device editors forwarders places None words) given ended old new = PrintsServed model done device.now given editors ended old new
+PrintedServing model done (Serve device editors forwarders places (Some rounds) words) given ended old new = PrintsLive model done device.now given editors ended old new
+PrintedServing model done task given ended old new = Unit {0}
 
 -- A command that ends so has printed the answer to its task, and nothing else: of the device that it opened, and closed. The script of a
 -- service is what a reader gives, and the files of `tables` are those that were put.
 abbrev pub PrintedFor : {D : Type 0} → Ghosts D → Doing D → (List Put → Type 0) → Task → Known → Ended → Known → Known → Type 0
-PrintedFor model done put (Migrate device made) given ended old new =
-    OfTwo model done device.now made.now (λ from from_left to to_left. LeavesMoved from from_left to to_left × PrintsMoved from to to_left ended old new)
-PrintedFor model done put (Serve device editors forwarders places None words) given ended old new = PrintsServed model done device.now given editors ended old new
-PrintedFor model done put (Serve device editors forwarders places (Some rounds) words) given ended old new = PrintsLive model done device.now given editors ended old new
+PrintedFor model done put (Migrate device made) given ended old new = PrintsTwo model done how.Migration device.now made.now ended old new
+PrintedFor model done put (Copy device made) given ended old new = PrintsTwo model done how.Copy device.now made.now ended old new
+PrintedFor model done put (Serve device editors forwarders places live words) given ended old new = PrintedServing model done (Serve device editors forwarders places live words) given ended old new
 PrintedFor model done put task given ended old new = OfOpened model done (device_of task) (access_of task) (λ disk left. Leaves task disk left × PrintsOpened put task disk left ended old new)
+
+-- this holds of a task that the words ask for
+abbrev pub OfTask : List Text → (Task → Type 0) → Type 0
+OfTask words P = (task : Task) × IsAskedFor words task × P task
 
 -- the answer to a task that the words ask for was printed, and nothing else
 abbrev pub AnswersWords : {D : Type 0} → Ghosts D → Doing D → (List Put → Type 0) → List Text → Known → Ended → Known → Known → Type 0
-AnswersWords model done put words given ended old new = (task : Task) × IsAskedFor words task × PrintedFor model done put task given ended old new
+AnswersWords model done put words given ended old new = OfTask words (λ task. PrintedFor model done put task given ended old new)

@@ -15,13 +15,14 @@ use Rattle.node_table.specs.declared.parts.Parts.{Parts}
 use Rattle.table_files.specs.Files.{Put}
 use Rattle.table_files.specs.Tables.{AnswersTables, EndsPutting}
 use Rattle.written_values.specs.declared.words.LandmarkWords.{LandmarkWords}
+use Rattle.commands.specs.declared.on_device.Transfer.{Transfer}
 use Rattle.commands.specs.declared.outcome.Outcome.{Outcome}
 use Rattle.commands.specs.declared.outcome.Outcome.TheVariants.{Told, Untold}
 use Rattle.commands.specs.declared.streams.Streams.{Streams}
-use Rattle.commands.specs.Devices.{Doing, Ending, EndsBy, OfOpened, OfTwo, Printing}
-use Rattle.commands.specs.Endings.{EndsMove, EndsOpened, EndsServe, IsFaultFor, IsMoveEnd, Leaves, LeavesMoved, MayEnd, access_of, device_of}
+use Rattle.commands.specs.Devices.{Doing, Ending, EndsBy, OfOpened, Printing}
+use Rattle.commands.specs.Endings.{EndsOpened, EndsServe, EndsTransfer, IsFaultBy, IsTransferEnd, Leaves, LeavesTwo, MayEnd, MayEndAlone, MayEndServing, MayEndTables, access_of, device_of}
 use Rattle.commands.specs.Outcomes.{IsLiveOutcome, IsOutcome, IsOutcomeOf}
-use Rattle.commands.specs.Printed.{AnswersWords, PrintedFor, PrintsMoved, PrintsOpened, PrintsServed}
+use Rattle.commands.specs.Printed.{OfTask, PrintedAlone, PrintedFor, PrintedServing, PrintedTables, PrintsOpened, PrintsServed, PrintsTransfer, PrintsTwo}
 use Rattle.commands.specs.ServedScripts.{AskLive, AskService, AskTables, IsLiveService, IsService}
 
 -- ---- a command
@@ -52,18 +53,18 @@ EndsAt model done put task contents old new result =
     (λ fault. EndsBy model done put (device_of task) (access_of task) (λ disk left why. Leaves task disk left × EndsOpened put task disk left why) fault)
     contents old new result
 
--- `migrate`, on two devices that are open
-pub record EndsMoveOn {W : Type 0} (from from_left to to_left : DiskView) (contents : W → Known) (old new : W) (result : Result Ended Fault) : Type 0 where
+-- `migrate` and `copy`, on two devices that are open
+pub record EndsTransferOn {W : Type 0} (transfer : Transfer) (from from_left to to_left : DiskView) (contents : W → Known) (old new : W) (result : Result Ended Fault) : Type 0 where
   pub ran : IsSameDevice from from_left × IsSameDevice to to_left
-  pub leaves : LeavesMoved from from_left to to_left
-  pub ends : Ends (λ ended before after. PrintsMoved from to to_left ended before after)
-      (λ fault. (fault ≡ told.Output) ⊎ IsMoveEnd from from_left to to_left fault) contents old new result
+  pub leaves : LeavesTwo transfer from from_left to to_left
+  pub ends : Ends (λ ended before after. PrintsTransfer transfer from to to_left ended before after)
+      (λ fault. (fault ≡ told.Output) ⊎ IsTransferEnd transfer from from_left to to_left fault) contents old new result
 
 -- and on the devices by two paths
-abbrev pub EndsMoveAt : {D W : Type 0} → Ghosts D → Doing D → List ℕ → List ℕ → (W → Known) → W → W → Result Ended Fault → Type 0
-EndsMoveAt model done from_path to_path contents old new result =
-    Ends (λ ended before after. OfTwo model done from_path to_path (λ from from_left to to_left. LeavesMoved from from_left to to_left × PrintsMoved from to to_left ended before after))
-    (λ fault. EndsMove model done from_path to_path fault) contents old new result
+abbrev pub EndsTransferAt : {D W : Type 0} → Ghosts D → Doing D → Transfer → List ℕ → List ℕ → (W → Known) → W → W → Result Ended Fault → Type 0
+EndsTransferAt model done transfer from_path to_path contents old new result =
+    Ends (λ ended before after. PrintsTwo model done transfer from_path to_path ended before after)
+    (λ fault. EndsTransfer model done transfer from_path to_path fault) contents old new result
 
 -- and behind the search for a scheme: it was found, or it wasn't and nothing is put
 abbrev pub EndsPutFound : {W : Type 0} → Result (ℕ × Parts) Fault → List ℕ → List ℕ → (List Put → Type 0)
@@ -134,20 +135,36 @@ RunsLive model done path editors words remaining contents shown old new result =
 abbrev pub PutsOnlyAsked : {T : Type 0} → List Text → (T → List Put) → T → T → Type 0
 PutsOnlyAsked words puts old new = ¬ AskTables words → ¬ AskLive words → puts new ≡ puts old
 
--- What the exit status of a run says.
-pub record Says {D R W : Type 0} (model : Ghosts D) (done : Doing D) (put : List Put → Type 0)
-    (words : List Text) (remaining : R → Known) (contents : W → Known) (script script_new : R) (out out_new : W) (code : ℕ) : Type 0 where
+-- What the exit status of a run says: `Answers` of what is printed by a task that ends so, and `MayFail` of the faults that may end it.
+pub record Says {D R W : Type 0} (done : Doing D) (words : List Text) (Answers : Task → Known → Ended → Known → Known → Type 0) (MayFail : Task → Known → Known → Known → Fault → Type 0)
+    (remaining : R → Known) (contents : W → Known) (script script_new : R) (out out_new : W) (code : ℕ) : Type 0 where
   -- there are three of them
   pub status : code ≤ 2
   -- 0: the answer was printed
-  pub answered : code ≡ 0 → AnswersWords model done put words (remaining script) Done (contents out) (contents out_new)
+  pub answered : code ≡ 0 → OfTask words (λ task. Answers task (remaining script) Done (contents out) (contents out_new))
   -- 1: the answer is no, or one of the faults of the words' task ended the run; only where the output failed may a part be printed.
   -- A live service has printed answers by then.
-  pub refused : code ≡ 1 → AnswersWords model done put words (remaining script) Refused (contents out) (contents out_new)
-      ⊎ ((fault : Fault) × (status_of fault ≡ 1) × IsFaultFor model done put words (remaining script) (contents out) (contents out_new) fault
+  pub refused : code ≡ 1 → OfTask words (λ task. Answers task (remaining script) Refused (contents out) (contents out_new))
+      ⊎ ((fault : Fault) × (status_of fault ≡ 1) × IsFaultBy done words (λ task why. MayFail task (remaining script) (contents out) (contents out_new) why) fault
       × (¬ AskLive words → fault ≢ told.Output → out_new ≡ out))
   -- 2: words and scripts that aren't understood print nothing, and the fault says so
   pub not_understood : code ≡ 2 → (¬ AskLive words → out_new ≡ out)
-      × ((fault : Fault) × IsNotUnderstood fault × IsFaultFor model done put words (remaining script) (contents out) (contents out_new) fault)
+      × ((fault : Fault) × IsNotUnderstood fault × IsFaultBy done words (λ task why. MayFail task (remaining script) (contents out) (contents out_new) why) fault)
   -- what the reader gives is left alone, but for a service
   pub unread : ¬ AskService words → script_new ≡ script
+
+-- so it is of any task
+abbrev pub SaysAll : {D R W : Type 0} → Ghosts D → Doing D → (List Put → Type 0) → List Text → (R → Known) → (W → Known) → R → R → W → W → ℕ → Type 0
+SaysAll model done put words = Says done words (PrintedFor model done put) (MayEnd model done put)
+
+-- The same in three: words ask for one command, and of the commands of the others each of these says nothing. First of those that put no files;
+abbrev pub SaysAlone : {D R W : Type 0} → Ghosts D → Doing D → List Text → (R → Known) → (W → Known) → R → R → W → W → ℕ → Type 0
+SaysAlone model done words = Says done words (λ task given. PrintedAlone model done task) (λ task given old new. MayEndAlone model done task)
+
+-- .. then of `tables`
+abbrev pub SaysTables : {D R W : Type 0} → Ghosts D → Doing D → (List Put → Type 0) → List Text → (R → Known) → (W → Known) → R → R → W → W → ℕ → Type 0
+SaysTables model done put words = Says done words (λ task given. PrintedTables model done put task) (λ task given old new. MayEndTables model done put task)
+
+-- .. and last of `serve`
+abbrev pub SaysServing : {D R W : Type 0} → Ghosts D → Doing D → List Text → (R → Known) → (W → Known) → R → R → W → W → ℕ → Type 0
+SaysServing model done words = Says done words (PrintedServing model done) (MayEndServing model done)

@@ -10,7 +10,7 @@ use Rattle.written_values.specs.declared.line.ScriptLine.{ScriptLine}
 use Rattle.command_line.specs.Asked.{IsAskedFor}
 use Rattle.service_threads.specs.Config.{IsNumber}
 use Rattle.command_line.specs.declared.task.Task.{Task}
-use Rattle.command_line.specs.declared.task.Task.TheVariants.{Edit, Migrate, Resume, Serve, Tables}
+use Rattle.command_line.specs.declared.task.Task.TheVariants.{Copy, Edit, Migrate, Resume, Serve, Tables}
 
 -- the lines of what a reader gives, where that is known: each may stand in a script for so many editors
 abbrev pub IsScriptOf : Known → ℕ → List ScriptLine → Type 0
@@ -57,9 +57,10 @@ MayRun (Serve device editors forwarders places live words) = IsNumber editors ×
 MayRun task = Unit {0}
 
 -- the task is of two devices
-abbrev pub IsMove : Task → Type 0
-IsMove (Migrate device made) = Unit {0}
-IsMove task = ⊥
+abbrev pub IsOfTwo : Task → Type 0
+IsOfTwo (Migrate device made) = Unit {0}
+IsOfTwo (Copy device made) = Unit {0}
+IsOfTwo task = ⊥
 
 -- the task is of tables
 abbrev pub IsOfTables : Task → Type 0

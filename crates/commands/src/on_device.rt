@@ -1,14 +1,16 @@
-//! What `format`, `show`, `edit`, `resume` and `migrate` do on a device that is open, and print.
+//! What `format`, `show`, `edit`, `resume`, `migrate` and `copy` do on devices that are open, and print.
 ghost use Rattle.std.specs.Prelude.{◌≡◌, ◌<◌, IfErr, OnOk};
 ghost use Rattle.std.specs.String.{string_bytes};
 ghost use Rattle.requests.specs.Tickets.{sessions};
 ghost use Rattle.command_output.specs.Lines.{line, migrated_text, ticket_text};
 ghost use Rattle.command_output.specs.Printing.{PrintsText};
+ghost use Rattle.commands.specs.Copies.{copied_text};
 ghost use Rattle.device_commands.specs.Openings.{IsOpenFault};
 ghost use Rattle.commands.specs.Endings.{ChangesWholly, IsEditEnd, IsFormatEnd, IsOnlyRead, IsReadingEnd, OrOutput};
 ghost use Rattle.commands.specs.Printed.{PrintsFormatted, PrintsListing, PrintsTicket, PrintsVerdict, ended_by, verdict_text};
-ghost use Rattle.commands.specs.Runs.{EndsAfter, EndsMoveOn, EndsOn};
+ghost use Rattle.commands.specs.Runs.{EndsAfter, EndsOn, EndsTransferOn};
 
+use crate::copying::{Copied, copy_device};
 use command_output::{
     AcceptedLine, Ended, Fault, Formatted, MigratedLine, RefusedLine, TicketLine, print_line,
     print_text,
@@ -117,14 +119,44 @@ fn print_ticket<O: Write>(
     Ok(Ended::Done)
 }
 
-/// Brings what a device of layout 1 holds to a new one, and prints how much that was.
-pub(crate) fn migrate_on<D: Disk, N: Disk, O: Write>(
+/// What a new device is made of.
+#[derive(Clone, Copy, Drop)]
+pub(crate) enum Transfer {
+    /// Of what a device of layout 1 holds.
+    Migration,
+    /// Of what a device of this layout holds, its tickets too.
+    Copy,
+}
+
+/// Makes a new device of an old one, which was only read, and prints how much it holds.
+pub(crate) fn transfer_on<D: Disk, N: Disk, O: Write>(
+    alloc: Global,
+    transfer: Transfer,
+    old: D,
+    new: &mut N,
+    out: &mut O,
+) -> (Result<Ended, Fault>, D)
+    ensures { EndsTransferOn transfer (D.view old) (D.view result.1) (N.view new.old) (N.view new.new)
+        O.contents out.old out.new result.0 }
+{
+    match transfer {
+        Transfer::Migration => {
+            let mut old = old;
+            let ended = migrate_on(alloc, &mut old, new, out);
+            (ended, old)
+        }
+        Transfer::Copy => copy_on(alloc, old, new, out),
+    }
+}
+
+fn migrate_on<D: Disk, N: Disk, O: Write>(
     alloc: Global,
     old: &mut D,
     new: &mut N,
     out: &mut O,
 ) -> Result<Ended, Fault>
-    ensures { EndsMoveOn (D.view old.old) (D.view old.new) (N.view new.old) (N.view new.new) O.contents out.old out.new result }
+    ensures { EndsTransferOn Transfer.Migration (D.view old.old) (D.view old.new) (N.view new.old) (N.view new.new)
+        O.contents out.old out.new result }
 {
     let moved = device_commands::migrate(alloc, old, new)?;
     print_moved(out, moved)?;
@@ -144,4 +176,25 @@ fn print_moved<O: Write>(out: &mut O, moved: Moved) -> Result<(), Fault>
             edges: moved.edges,
         },
     )
+}
+
+fn copy_on<D: Disk, N: Disk, O: Write>(
+    alloc: Global,
+    old: D,
+    new: &mut N,
+    out: &mut O,
+) -> (Result<Ended, Fault>, D)
+    ensures { EndsTransferOn Transfer.Copy (D.view old) (D.view result.1) (N.view new.old) (N.view new.new)
+        O.contents out.old out.new result.0 }
+{
+    let (answer, old) = copy_device(alloc, old, new);
+    (print_copied(out, answer), old)
+}
+
+fn print_copied<O: Write>(out: &mut O, answer: Result<Copied, Fault>) -> Result<Ended, Fault>
+    ensures { EndsAfter answer (λ _. Ended.Done) (λ copied. line (copied_text copied.count copied.edges))
+        O.contents out.old out.new result }
+{
+    print_line(out, answer?)?;
+    Ok(Ended::Done)
 }

@@ -6,12 +6,12 @@ ghost use Rattle.commands.specs.Devices.{AreFiles};
 ghost use Rattle.commands.specs.Endings.{access_of, device_of, words_fault};
 ghost use Rattle.commands.specs.Events.{HasDone};
 ghost use Rattle.commands.specs.Outcomes.{AnyPut};
-ghost use Rattle.commands.specs.Runs.{EndsAt, EndsMoveAt, EndsTask, EndsTaskOn, PutsOnlyAsked, RunsTask, RunsWords, Says, streams_of};
-ghost use Rattle.commands.specs.ServedScripts.{IsLiveService, IsMove, IsOfTables, IsService, MayRun};
+ghost use Rattle.commands.specs.Runs.{EndsAt, EndsTask, EndsTaskOn, EndsTransferAt, PutsOnlyAsked, RunsTask, RunsWords, SaysAll, SaysAlone, SaysServing, SaysTables, streams_of};
+ghost use Rattle.commands.specs.ServedScripts.{IsLiveService, IsOfTables, IsOfTwo, IsService, MayRun};
 ghost use Rattle.table_files.specs.Files.{PutBy};
 
 use crate::devices::{Access, Devices, FileDevices};
-use crate::on_device::{edit_on, format_on, migrate_on, resume_on, show_on};
+use crate::on_device::{Transfer, edit_on, format_on, resume_on, show_on, transfer_on};
 use crate::outcome::{Outcome, told};
 use crate::scheme_tasks::{check_on, route_on};
 use crate::service::{LiveService, Service, run_live, run_serve};
@@ -46,7 +46,13 @@ where
     S: Read + Send,
     O: Write,
     E: Write,
-    ensures { Says ⟦<DeviceFile as Disk>⟧ AreFiles AnyPut (texts words.now)
+    ensures says { SaysAlone ⟦<DeviceFile as Disk>⟧ AreFiles (texts words.now)
+        S.remaining O.contents script.old script.new out.old out.new result }
+
+    ensures tables { SaysTables ⟦<DeviceFile as Disk>⟧ AreFiles AnyPut (texts words.now)
+        S.remaining O.contents script.old script.new out.old out.new result }
+
+    ensures serves { SaysServing ⟦<DeviceFile as Disk>⟧ AreFiles (texts words.now)
         S.remaining O.contents script.old script.new out.old out.new result }
 {
     run_words_at(rt, &mut rt.place(), words, script, out, err)
@@ -67,7 +73,7 @@ where
     S: Read + Send,
     O: Write,
     E: Write,
-    ensures says { Says ⟦<DeviceFile as Disk>⟧ AreFiles (PutBy T.puts tables.old tables.new) (texts words.now)
+    ensures says { SaysAll ⟦<DeviceFile as Disk>⟧ AreFiles (PutBy T.puts tables.old tables.new) (texts words.now)
         S.remaining O.contents script.old script.new out.old out.new result }
 
     ensures unput { PutsOnlyAsked (texts words.now) T.puts tables.old tables.new }
@@ -227,8 +233,12 @@ where
 
     ensures unput { ¬ IsOfTables task.entry → T.puts tables.new ≡ T.puts tables.old }
 {
+    let alloc = rt.alloc();
     match task {
-        Task::Migrate { old, new } => run_migrate(rt.alloc(), devices, old, new, out),
+        Task::Migrate { old, new } => {
+            run_transfer(alloc, devices, Transfer::Migration, old, new, out)
+        }
+        Task::Copy { old, new } => run_transfer(alloc, devices, Transfer::Copy, old, new, out),
         task => run_opened(rt, devices, tables, task, out),
     }
 }
@@ -248,7 +258,7 @@ where
     T: TableFiles,
     O: Write,
     requires batch { ¬ IsService task }
-    requires alone { ¬ IsMove task }
+    requires alone { ¬ IsOfTwo task }
     requires numbers { MayRun task }
     ensures ends { EndsAt F.Device.Disk (HasDone F.opened F.events devices.old devices.new)
         (PutBy T.puts tables.old tables.new) task.entry O.contents out.old out.new result }
@@ -274,7 +284,7 @@ fn path_of<'a>(task: &Task<'a>) -> &'a str
         | Task::Check { device, .. }
         | Task::Serve { device, .. }
         | Task::Tables { device, .. } => device,
-        Task::Migrate { old, .. } => old,
+        Task::Migrate { old, .. } | Task::Copy { old, .. } => old,
     }
 }
 
@@ -303,7 +313,7 @@ where
     T: TableFiles,
     O: Write,
     requires batch { ¬ IsService task }
-    requires alone { ¬ IsMove task }
+    requires alone { ¬ IsOfTwo task }
     requires numbers { MayRun task }
     ensures ends { EndsTaskOn (PutBy T.puts tables.old tables.new) task.entry (D.view disk) (D.view result.1)
         O.contents out.old out.new result.0 }
@@ -336,26 +346,27 @@ where
             nodes,
             words,
         } => tables_on(rt, disk, tables, &words, folder, &nodes, out),
-        Task::Migrate { .. } | Task::Serve { .. } => unreachable!(),
+        Task::Migrate { .. } | Task::Copy { .. } | Task::Serve { .. } => unreachable!(),
     }
 }
 
-// Brings what the old device holds to a new one. The old one is opened first, and for reading alone.
-fn run_migrate<F: Devices, O: Write>(
+// Makes a new device of an old one. The old one is opened first, and for reading alone.
+fn run_transfer<F: Devices, O: Write>(
     alloc: Global,
     devices: &mut F,
+    transfer: Transfer,
     old: &str,
     new: &str,
     out: &mut O,
 ) -> Result<Ended, Fault>
-    ensures { EndsMoveAt F.Device.Disk (HasDone F.opened F.events devices.old devices.new) old.now new.now
+    ensures { EndsTransferAt F.Device.Disk (HasDone F.opened F.events devices.old devices.new) transfer old.now new.now
         O.contents out.old out.new result }
 {
-    let mut from = devices.open(old, Access::ToRead)?;
+    let from = devices.open(old, Access::ToRead)?;
     match devices.open(new, Access::New) {
         Ok(to) => {
             let mut to = to;
-            let ended = migrate_on(alloc, &mut from, &mut to, out);
+            let (ended, from) = transfer_on(alloc, transfer, from, &mut to, out);
             devices.close(from);
             devices.close(to);
             ended

@@ -54,24 +54,27 @@ const PRINTED: [(&str, usize); 4] = [
 // What couldn't be printed was done all the same.
 #[test]
 fn output_that_fails(rt: HostRuntime) {
-    let folder = got(&rt, make_folder(&rt, "output_that_fails"));
-    let path = device_in(&rt, folder.as_str());
+    let rt = &rt;
+    let folder = got(rt, make_folder(rt, "output_that_fails"));
+    let path = device_in(rt, folder.as_str());
     let d = path.as_str();
-    expect_output_faults(&rt, d, "format @ 5", 18);
-    expect_run(&rt, d, "edit @ add:0:1:1", 0, "accepted count=1");
+    expect_output_faults(rt, d, "format @ 5", 18);
+    expect_run(rt, d, "edit @ add:0:1:1", 0, "accepted count=1");
     for (line, printed) in &PRINTED {
-        expect_output_faults(&rt, d, line, *printed);
+        expect_output_faults(rt, d, line, *printed);
     }
-    expect_run(&rt, d, "show @", 0, "count=4 edges=1|0 1 2");
-    remove_folder(&rt, folder.as_str());
+    expect_run(rt, d, "show @", 0, "count=4 edges=1|0 1 2");
+    remove_folder(rt, folder.as_str());
 }
 
 // A fault that nobody hears has its status all the same.
 #[test]
 fn fault_that_is_not_heard(rt: HostRuntime) {
-    let mut deaf = NarrowWriter::new(rt.alloc(), 0, 0);
-    let words = words_of(&rt, "d", "show");
-    let mut out = Vec::new(rt.alloc());
-    let status = run_words(&rt, &words, &mut io::empty(), &mut out, &mut deaf);
-    same(&rt, (status, text_of(&rt, &out)), (2, ""), "status");
+    let alloc = rt.alloc();
+    let rt = &rt;
+    let mut deaf = NarrowWriter::new(alloc, 0, 0);
+    let words = words_of(rt, "d", "show");
+    let mut out = Vec::new(alloc);
+    let status = run_words(rt, &words, &mut io::empty(), &mut out, &mut deaf);
+    same(rt, (status, text_of(rt, &out)), (2, ""), "status");
 }

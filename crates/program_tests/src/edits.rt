@@ -38,16 +38,18 @@ fn is_in(rt: &impl Abort, alloc: Global, disk: MemDisk) -> (bool, MemDisk) {
 // Want of memory or of a thread changes nothing: an edit that is in is answered as one.
 #[test]
 fn edits_once_memory_is_there(rt: HostRuntime) {
-    let disk = got(&rt, formatted(rt.alloc(), 5));
-    let (first, disk) = edited(&rt, rt.alloc(), disk);
-    let (done, disk) = is_in(&rt, rt.alloc(), disk);
+    let alloc = rt.alloc();
+    let rt = &rt;
+    let disk = got(rt, formatted(alloc, 5));
+    let (first, disk) = edited(rt, alloc, disk);
+    let (done, disk) = is_in(rt, alloc, disk);
     match first {
-        Err(Fault::Memory | Fault::NoThread) => same(&rt, done, false, "an edit that is refused"),
-        _ => same(&rt, (first, done), (ACCEPTED, true), "an edit"),
+        Err(Fault::Memory | Fault::NoThread) => same(rt, done, false, "an edit that is refused"),
+        _ => same(rt, (first, done), (ACCEPTED, true), "an edit"),
     }
     // Where memory is refused to this one, it is sent once more.
-    let (second, disk) = match edited(&rt, rt.alloc(), disk) {
-        (Err(Fault::Memory), disk) => edited(&rt, rt.alloc(), disk),
+    let (second, disk) = match edited(rt, alloc, disk) {
+        (Err(Fault::Memory), disk) => edited(rt, alloc, disk),
         answer => answer,
     };
     let want = if done {
@@ -55,21 +57,23 @@ fn edits_once_memory_is_there(rt: HostRuntime) {
     } else {
         ACCEPTED
     };
-    same(&rt, second, want, "the edit again");
-    same(&rt, is_in(&rt, rt.alloc(), disk).0, true, "the change");
+    same(rt, second, want, "the edit again");
+    same(rt, is_in(rt, alloc, disk).0, true, "the change");
 }
 
 // The same where no thread may be had at all: then each edit ends alike, and the device is as it was.
 #[test]
 fn edits_where_threads_are_had(rt: HostRuntime) {
-    let mut disk = got(&rt, formatted(rt.alloc(), 5));
+    let alloc = rt.alloc();
+    let rt = &rt;
+    let mut disk = got(rt, formatted(alloc, 5));
     for _ in 0..2 {
-        let (answer, left) = edited(&rt, rt.alloc(), disk);
-        let (done, left) = is_in(&rt, rt.alloc(), left);
+        let (answer, left) = edited(rt, alloc, disk);
+        let (done, left) = is_in(rt, alloc, left);
         if answer == Err(Fault::NoThread) {
-            same(&rt, done, false, "an edit without a thread");
+            same(rt, done, false, "an edit without a thread");
         } else {
-            same(&rt, done, true, "an edit");
+            same(rt, done, true, "an edit");
         }
         disk = left;
     }

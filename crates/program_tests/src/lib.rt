@@ -2,7 +2,7 @@
 //!
 //! There is nothing here but tests: so the crates below are proved once in the gate, and not again with their tests. What words, lines and
 //! bytes a command takes and prints are steps of `conformance/`. Here stands what no command shows: outputs and inputs that fail, devices
-//! that another program holds, devices and files in memory, edits that lack memory or a thread, the longest path, and readers of tables
+//! that another program holds, devices in memory, edits that lack memory or a thread, the longest path, and readers of tables
 //! that are written meanwhile. Expected texts and bytes are written out from the tables of docs/FORMATS.md, and lines are worked out by hand.
 #![tactic(auto)]
 
@@ -24,5 +24,3 @@ mod routes;
 mod services;
 #[cfg(test)]
 mod table_readers;
-#[cfg(test)]
-mod tables;

@@ -19,6 +19,7 @@ const IN_USE: &str = "show @ -> 1 tznode: device in use
 resume @ 0 -> 1 tznode: device in use
 route @ 0 1 --words none -> 1 tznode: device in use
 check @ --words none -> 1 tznode: device in use
+copy @ @ -> 1 tznode: device in use
 edit @ add:1:2:1 -> 1 tznode: device in use
 serve @ --words none -> 1 tznode: device in use
 format @ 7 -> 1 tznode: device in use";
@@ -28,6 +29,7 @@ const READ_BY_ANOTHER: &str = "show @ -> 0 count=1 edges=1|0 1 1
 resume @ 0 -> 0 session=0 ticket=1
 route @ 0 1 --words none -> 0 generation=1 route 0 1 length 1
 check @ --words none -> 0 ok generation=1 landmarks=0
+copy @ @ -> 1 tznode: device file cannot be used
 edit @ add:1:2:1 -> 1 tznode: device in use
 serve @ --words none -> 1 tznode: device in use
 format @ 7 -> 1 tznode: device in use";
@@ -44,48 +46,52 @@ fn held<T, R: Abort>(rt: &R, file: Result<T, FileRefused>) -> T {
 
 #[test]
 fn device_that_is_held_alone(rt: HostRuntime) {
-    let folder = got(&rt, make_folder(&rt, "device_that_is_held_alone"));
-    let path = device_in(&rt, folder.as_str());
+    let rt = &rt;
+    let folder = got(rt, make_folder(rt, "device_that_is_held_alone"));
+    let path = device_in(rt, folder.as_str());
     let d = path.as_str();
-    expect_script(&rt, d, MADE);
-    let before = bytes_of(&rt, d);
-    let file = held(&rt, DeviceFile::open(&rt, d));
-    expect_script(&rt, d, IN_USE);
-    expect_bytes(&rt, d, &before);
+    expect_script(rt, d, MADE);
+    let before = bytes_of(rt, d);
+    let file = held(rt, DeviceFile::open(rt, d));
+    expect_script(rt, d, IN_USE);
+    expect_bytes(rt, d, &before);
     drop(file);
-    expect_script(&rt, d, FREE_AGAIN);
-    remove_folder(&rt, folder.as_str());
+    expect_script(rt, d, FREE_AGAIN);
+    remove_folder(rt, folder.as_str());
 }
 
 #[test]
 fn device_that_is_held_by_a_reader(rt: HostRuntime) {
-    let folder = got(&rt, make_folder(&rt, "device_that_is_held_by_a_reader"));
-    let path = device_in(&rt, folder.as_str());
+    let rt = &rt;
+    let folder = got(rt, make_folder(rt, "device_that_is_held_by_a_reader"));
+    let path = device_in(rt, folder.as_str());
     let d = path.as_str();
-    expect_script(&rt, d, MADE);
-    let before = bytes_of(&rt, d);
-    let file = held(&rt, DeviceFile::open_to_read(&rt, d));
-    expect_script(&rt, d, READ_BY_ANOTHER);
-    expect_bytes(&rt, d, &before);
+    expect_script(rt, d, MADE);
+    let before = bytes_of(rt, d);
+    let file = held(rt, DeviceFile::open_to_read(rt, d));
+    expect_script(rt, d, READ_BY_ANOTHER);
+    expect_bytes(rt, d, &before);
     drop(file);
-    expect_script(&rt, d, FREE_AGAIN);
-    remove_folder(&rt, folder.as_str());
+    expect_script(rt, d, FREE_AGAIN);
+    remove_folder(rt, folder.as_str());
 }
 
 // A migration asks for both files.
 #[test]
 fn migration_of_a_device_that_is_held(rt: HostRuntime) {
-    let folder = got(&rt, make_folder(&rt, "migration_of_a_device_that_is_held"));
-    let path = device_in(&rt, folder.as_str());
+    let alloc = rt.alloc();
+    let rt = &rt;
+    let folder = got(rt, make_folder(rt, "migration_of_a_device_that_is_held"));
+    let path = device_in(rt, folder.as_str());
     let d = path.as_str();
-    expect_script(&rt, d, MADE);
-    let file = held(&rt, DeviceFile::open(&rt, d));
-    let new = path_in(&rt, folder.as_str(), "new");
-    let line = got(&rt, format!(in rt.alloc(); "migrate @ {}", new.as_str()));
-    expect_run(&rt, d, line.as_str(), 1, "tznode: device in use");
-    assert!(&rt; !got(&rt, fs::exists(&rt, new.as_str())));
+    expect_script(rt, d, MADE);
+    let file = held(rt, DeviceFile::open(rt, d));
+    let new = path_in(rt, folder.as_str(), "new");
+    let line = got(rt, format!(in alloc; "migrate @ {}", new.as_str()));
+    expect_run(rt, d, line.as_str(), 1, "tznode: device in use");
+    assert!(rt; !got(rt, fs::exists(rt, new.as_str())));
     drop(file);
-    remove_folder(&rt, folder.as_str());
+    remove_folder(rt, folder.as_str());
 }
 
 fn set_mode<R: Files<File = File> + Abort>(rt: &R, path: &str, mode: u32) {
@@ -98,13 +104,14 @@ fn set_mode<R: Files<File = File> + Abort>(rt: &R, path: &str, mode: u32) {
 // A device that may not be written can be read. (Whoever may do anything, as root, writes it all the same.)
 #[test]
 fn device_that_may_not_be_written(rt: HostRuntime) {
-    let folder = got(&rt, make_folder(&rt, "device_that_may_not_be_written"));
-    let path = device_in(&rt, folder.as_str());
+    let rt = &rt;
+    let folder = got(rt, make_folder(rt, "device_that_may_not_be_written"));
+    let path = device_in(rt, folder.as_str());
     let d = path.as_str();
-    expect_script(&rt, d, MADE);
-    set_mode(&rt, d, 0o444);
-    expect_run(&rt, d, "show @", 0, "count=1 edges=1|0 1 1");
-    expect_run(&rt, d, "resume @ 0", 0, "session=0 ticket=1");
-    set_mode(&rt, d, 0o644);
-    remove_folder(&rt, folder.as_str());
+    expect_script(rt, d, MADE);
+    set_mode(rt, d, 0o444);
+    expect_run(rt, d, "show @", 0, "count=1 edges=1|0 1 1");
+    expect_run(rt, d, "resume @ 0", 0, "session=0 ticket=1");
+    set_mode(rt, d, 0o644);
+    remove_folder(rt, folder.as_str());
 }

@@ -70,31 +70,9 @@ type Row = (&'static str, &'static str, u8, &'static str, &'static str);
 
 const NO_STORE: &str = "tznode: not formatted\n";
 
-const ROWS: [Row; 17] = [
+const ROWS: [Row; 8] = [
     ("show three", "", 0, "count=0 edges=0\n", ""),
-    ("resume three 63", "", 0, "session=63 ticket=0\n", ""),
     ("edit three add:0:1:7", "", 0, "accepted count=1\n", ""),
-    (
-        "edit three add:0:1:7 cut:0:2",
-        "",
-        1,
-        "refused op=1 code=5\n",
-        "",
-    ),
-    (
-        "route three 0 1 --words none",
-        "",
-        1,
-        "generation=0 unreachable\n",
-        "",
-    ),
-    (
-        "check three --words at:2",
-        "",
-        0,
-        "ok generation=0 landmarks=1\n",
-        "",
-    ),
     (
         "serve three --words none --editors 1",
         "0 add:0:1:7\nroute 0 3\n",
@@ -109,42 +87,33 @@ const ROWS: [Row; 17] = [
         "",
         "tznode: table file cannot be written\n",
     ),
-    (
-        "tables three out --words none --node 3",
-        "",
-        1,
-        "no node\n",
-        "",
-    ),
     ("format zeros 3", "", 0, "formatted nodes=3\n", ""),
-    ("show zeros", "", 1, "", NO_STORE),
-    ("resume zeros 0", "", 1, "", NO_STORE),
-    ("edit zeros add:0:1:7", "", 1, "", NO_STORE),
-    ("route zeros 0 1 --words none", "", 1, "", NO_STORE),
-    ("serve zeros --words none", "route 0 1\n", 1, "", NO_STORE),
-    ("tables zeros out --words none", "", 1, "", NO_STORE),
     ("migrate zeros three", "", 1, "", NO_STORE),
+    ("copy three zeros", "", 0, "copied count=0 edges=0\n", ""),
+    ("copy zeros three", "", 1, "", NO_STORE),
 ];
 
 // Each command answers for the device of its path.
 #[test]
 fn commands_answer_for_the_device_of_their_path(rt: HostRuntime) {
+    let alloc = rt.alloc();
+    let rt = &rt;
     let mut devices = MemoryDevices {
-        alloc: rt.alloc(),
+        alloc: alloc,
         done: DeviceLog::new(),
     };
     for (line, script, status, printed, told) in &ROWS {
-        let words = words_of(&rt, "", line);
+        let words = words_of(rt, "", line);
         let mut script = script.as_bytes();
-        let (mut out, mut err) = (Vec::new(rt.alloc()), Vec::new(rt.alloc()));
+        let (mut out, mut err) = (Vec::new(alloc), Vec::new(alloc));
         let mut streams = Streams {
             script: &mut script,
             out: &mut out,
             err: WatchedWriter::new(&mut err),
         };
-        let outcome = run_on(&rt, &mut devices, &mut NoFiles, &words, &mut streams);
+        let outcome = run_on(rt, &mut devices, &mut NoFiles, &words, &mut streams);
         drop(streams);
-        let found = (outcome.status(), text_of(&rt, &out), text_of(&rt, &err));
-        same(&rt, found, (*status, *printed, *told), line);
+        let found = (outcome.status(), text_of(rt, &out), text_of(rt, &err));
+        same(rt, found, (*status, *printed, *told), line);
     }
 }

@@ -52,14 +52,15 @@ fn whole_route<R: AllocGlobal + Abort>(rt: &R) -> String {
 // The longest path of 4,096 nodes.
 #[test]
 fn path_of_4096_nodes(rt: HostRuntime) {
-    let folder = got(&rt, make_folder(&rt, "path_of_4096_nodes"));
-    let path = device_in(&rt, folder.as_str());
+    let rt = &rt;
+    let folder = got(rt, make_folder(rt, "path_of_4096_nodes"));
+    let path = device_in(rt, folder.as_str());
     let d = path.as_str();
-    expect_run(&rt, d, "format @ 4096", 0, "formatted nodes=4096");
-    edit_path(&rt, d);
-    let check = with_landmarks(&rt, "check @");
-    expect_run(&rt, d, check.as_str(), 0, "ok generation=256 landmarks=64");
-    let route = with_landmarks(&rt, "route @ 0 4095");
-    expect_run(&rt, d, route.as_str(), 0, whole_route(&rt).as_str());
-    remove_folder(&rt, folder.as_str());
+    expect_run(rt, d, "format @ 4096", 0, "formatted nodes=4096");
+    edit_path(rt, d);
+    let check = with_landmarks(rt, "check @");
+    expect_run(rt, d, check.as_str(), 0, "ok generation=256 landmarks=64");
+    let route = with_landmarks(rt, "route @ 0 4095");
+    expect_run(rt, d, route.as_str(), 0, whole_route(rt).as_str());
+    remove_folder(rt, folder.as_str());
 }

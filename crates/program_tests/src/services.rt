@@ -70,15 +70,13 @@ fn expect_broken<
 
 #[test]
 fn services_whose_script_cannot_be_read(rt: HostRuntime) {
-    let folder = got(
-        &rt,
-        make_folder(&rt, "services_whose_script_cannot_be_read"),
-    );
-    let path = device_in(&rt, folder.as_str());
+    let rt = &rt;
+    let folder = got(rt, make_folder(rt, "services_whose_script_cannot_be_read"));
+    let path = device_in(rt, folder.as_str());
     let d = path.as_str();
-    expect_rows(&rt, d, &ONE_EDGE);
-    let before = bytes_of(&rt, d);
-    expect_broken(&rt, d, &BROKEN_INPUTS);
-    expect_bytes(&rt, d, &before);
-    remove_folder(&rt, folder.as_str());
+    expect_rows(rt, d, &ONE_EDGE);
+    let before = bytes_of(rt, d);
+    expect_broken(rt, d, &BROKEN_INPUTS);
+    expect_bytes(rt, d, &before);
+    remove_folder(rt, folder.as_str());
 }

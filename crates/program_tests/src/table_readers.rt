@@ -3,9 +3,11 @@ use crate::helpers::{
     bytes_of, device_in, expect_run, got, make_folder, path_in, remove_folder, same, text_of,
     words_of,
 };
-use crate::tables::path_scheme;
 use commands::run_words_at;
+use node_table::Scheme;
 use router_table::RouterTable;
+use sample_networks::{PATH, graph_of, words_at};
+use scheme_builds::scheme_of;
 use std::alloc::{Allocator, Global};
 use std::fs;
 use std::fs::{File, Metadata, OpenOptions};
@@ -118,6 +120,13 @@ fn is_whole(rt: &HostRuntime, path: &str) -> bool {
     }
 }
 
+// The scheme of the path under generation 1, with these landmarks.
+fn path_scheme(rt: &impl Abort, alloc: Global, landmarks: &[u16]) -> Scheme {
+    let graph = got(rt, graph_of(alloc, 5, &PATH));
+    let words = got(rt, words_at(alloc, 5, landmarks));
+    got(rt, scheme_of(alloc, &graph, &words, 1, &alloc))
+}
+
 // The bytes of a node's table in the network of the path, with these landmarks.
 fn table_bytes<R: AllocGlobal + Abort>(rt: &R, landmarks: &[u16], node: u16) -> Vec<u8> {
     let scheme = path_scheme(rt, rt.alloc(), landmarks);
@@ -215,40 +224,38 @@ const REFUSED: &str = "tznode: table file cannot be written\n";
 // A file has its name only once it is whole, and each write that is refused leaves the files behind it as they were.
 #[test]
 fn each_write_refused_in_turn(rt: HostRuntime) {
-    let folder = got(&rt, make_folder(&rt, "each_write_refused_in_turn"));
+    let rt = &rt;
+    let folder = got(rt, make_folder(rt, "each_write_refused_in_turn"));
     let folder = folder.as_str();
-    fill_folder(&rt, folder);
+    fill_folder(rt, folder);
     for calls in 0..10usize {
-        expect_put(&rt, &rt, folder, "at:2", 10, OLD);
-        expect_tables(&rt, folder, 0);
-        expect_put(&rt, &rt, folder, "none", calls, (1, REFUSED, calls / 2));
-        expect_tables(&rt, folder, calls as u16 / 2);
+        expect_put(rt, rt, folder, "at:2", 10, OLD);
+        expect_tables(rt, folder, 0);
+        expect_put(rt, rt, folder, "none", calls, (1, REFUSED, calls / 2));
+        expect_tables(rt, folder, calls as u16 / 2);
     }
-    expect_put(&rt, &rt, folder, "none", 10, NEW);
-    expect_tables(&rt, folder, 5);
-    remove_folder(&rt, folder);
+    expect_put(rt, rt, folder, "none", 10, NEW);
+    expect_tables(rt, folder, 5);
+    remove_folder(rt, folder);
 }
 
 // A reader that is half through a file when it is replaced reads the old one to its end.
 #[test]
 fn table_replaced_while_it_is_read(rt: HostRuntime) {
-    let folder = got(&rt, make_folder(&rt, "table_replaced_while_it_is_read"));
+    let alloc = rt.alloc();
+    let rt = &rt;
+    let folder = got(rt, make_folder(rt, "table_replaced_while_it_is_read"));
     let folder = folder.as_str();
-    fill_folder(&rt, folder);
-    expect_put(&rt, &rt, folder, "at:2", 10, OLD);
-    let path = path_in(&rt, folder, "out/3.table");
-    let mut reader = got(&rt, File::open(&rt, path.as_str()));
+    fill_folder(rt, folder);
+    expect_put(rt, rt, folder, "at:2", 10, OLD);
+    let path = path_in(rt, folder, "out/3.table");
+    let mut reader = got(rt, File::open(rt, path.as_str()));
     let mut front = [0u8; 70];
-    got(&rt, reader.read_exact(&mut front));
-    expect_put(&rt, &rt, folder, "none", 10, NEW);
-    let mut read = got(&rt, Vec::from_slice(rt.alloc(), &front));
-    got(&rt, reader.read_to_end(&mut read));
-    same(
-        &rt,
-        read == table_bytes(&rt, &[2], 3),
-        true,
-        "what was read",
-    );
-    expect_tables(&rt, folder, 5);
-    remove_folder(&rt, folder);
+    got(rt, reader.read_exact(&mut front));
+    expect_put(rt, rt, folder, "none", 10, NEW);
+    let mut read = got(rt, Vec::from_slice(alloc, &front));
+    got(rt, reader.read_to_end(&mut read));
+    same(rt, read == table_bytes(rt, &[2], 3), true, "what was read");
+    expect_tables(rt, folder, 5);
+    remove_folder(rt, folder);
 }

@@ -15,4 +15,4 @@ returns c =
     } in
     let edits = c.in_ok-edits.ensures _ (c.in_ok-shows.ensures _ (c.in_ok-formats.ensures _ bare)) in
     let checks = c.in_ok-checks.ensures _ (c.in_ok-routes.ensures _ (c.in_ok-resumes.ensures _ edits)) in
-    c.with-9.ensures _ (c.in_ok-migrates.ensures _ (c.in_ok-tabled.ensures _ checks))
+    c.with-10.ensures _ (c.in_ok-copies.ensures _ (c.in_ok-migrates.ensures _ (c.in_ok-tabled.ensures _ checks)))

@@ -3,7 +3,7 @@ use Rattle.written_values.specs.declared.words.LandmarkWords.TheVariants.{Greate
 use Rattle.command_line.specs.Fields.{Landmarks, Ops}
 use Rattle.command_line.specs.Asked.{AreOpsGiven, AreWordsGiven, Lacks}
 use Rattle.command_line.specs.Readings.{rows_in}
-use Rattle.command_line.specs.declared.task.Task.TheVariants.{Check, Edit, Format, Migrate, Resume, Route, Serve, Show, Tables}
+use Rattle.command_line.specs.declared.task.Task.TheVariants.{Check, Copy, Edit, Format, Migrate, Resume, Route, Serve, Show, Tables}
 use Rattle.command_line.proofs.Commands.{answered, field_refused}
 use Rattle.command_line.proofs.task.task_of.Goals as goal
 
@@ -42,15 +42,20 @@ returns-in_ok-text c =
     answered c.args.name.now (rows_in c.args.arguments.now) (Migrate c.in_ok-device.device c.in_ok-text.field-0) (search rules) tt
     (c.in_ok-device.ensures.found, (c.in_ok-text.ensures.found, tt)) (c.in_ok-device.ensures.same, (c.in_ok-text.ensures.same, tt))
 
+pub returns-in_ok-text-2 : goal.returns-in_ok-text-2
+returns-in_ok-text-2 c =
+    answered c.args.name.now (rows_in c.args.arguments.now) (Copy c.in_ok-device.device c.in_ok-text-2.field-0) (search rules) tt
+    (c.in_ok-device.ensures.found, (c.in_ok-text-2.ensures.found, tt)) (c.in_ok-device.ensures.same, (c.in_ok-text-2.ensures.same, tt))
+
 pub returns-in_ok-words-3 : goal.returns-in_ok-words-3
 returns-in_ok-words-3 c =
-    answered c.args.name.now (rows_in c.args.arguments.now) (Serve c.in_ok-device.device c.in_ok-usual-2.field-0 c.in_ok-usual-3.field-0 c.in_ok-usual-4.field-0 c.in_ok-live.field-0 c.in_ok-words-3.field-0) (search (rules, c.if-eq-8.ensures, c.if-eq-8.true)) tt
+    answered c.args.name.now (rows_in c.args.arguments.now) (Serve c.in_ok-device.device c.in_ok-usual-2.field-0 c.in_ok-usual-3.field-0 c.in_ok-usual-4.field-0 c.in_ok-live.field-0 c.in_ok-words-3.field-0) (search (rules, c.if-eq-9.ensures, c.if-eq-9.true)) tt
     (c.in_ok-device.ensures.found, (c.in_ok-words-3.ensures.found, (c.in_ok-usual-2.ensures.found, (c.in_ok-usual-3.ensures.found, (c.in_ok-usual-4.ensures.found, (c.in_ok-live.ensures.found, tt)))))) (c.in_ok-device.ensures.same, (c.in_ok-words-3.ensures.same, (c.in_ok-usual-2.ensures.same, (c.in_ok-usual-3.ensures.same, (c.in_ok-usual-4.ensures.same, (c.in_ok-live.ensures.same, tt))))))
 
 pub returns-in_ok-words-4 : goal.returns-in_ok-words-4
 returns-in_ok-words-4 c =
-    answered c.args.name.now (rows_in c.args.arguments.now) (Tables c.in_ok-device.device c.in_ok-text-2.field-0 c.in_ok-nodes-2.field-0 c.in_ok-words-4.field-0) (search (rules, c.if-eq-9.ensures, c.if-eq-9.true)) tt
-    (c.in_ok-device.ensures.found, (c.in_ok-text-2.ensures.found, (c.in_ok-words-4.ensures.found, (c.in_ok-nodes-2.ensures.found, tt)))) (c.in_ok-device.ensures.same, (c.in_ok-text-2.ensures.same, (c.in_ok-words-4.ensures.same, (c.in_ok-nodes-2.ensures.same, tt))))
+    answered c.args.name.now (rows_in c.args.arguments.now) (Tables c.in_ok-device.device c.in_ok-text-3.field-0 c.in_ok-nodes-2.field-0 c.in_ok-words-4.field-0) (search (rules, c.if-eq-10.ensures, c.if-eq-10.true)) tt
+    (c.in_ok-device.ensures.found, (c.in_ok-text-3.ensures.found, (c.in_ok-words-4.ensures.found, (c.in_ok-nodes-2.ensures.found, tt)))) (c.in_ok-device.ensures.same, (c.in_ok-text-3.ensures.same, (c.in_ok-words-4.ensures.same, (c.in_ok-nodes-2.ensures.same, tt))))
 
 pub returns-in_err-change : goal.returns-in_err-change
 returns-in_err-change c =
@@ -73,11 +78,11 @@ returns-in_err-words-2 c =
 pub returns-in_err-words-3 : goal.returns-in_err-words-3
 returns-in_err-words-3 c =
     let rows = rows_in c.args.arguments.now in
-    field_refused c.args.name.now rows (AreWordsGiven rows) (Lacks rows Landmarks) c.from_residual-in_err-words-3.result c.in_err-words-3.field-0.0 (Serve c.in_ok-device.device c.in_ok-usual-2.field-0 c.in_ok-usual-3.field-0 c.in_ok-usual-4.field-0 c.in_ok-live.field-0 Greatest) (search (rules, c.if-eq-8.ensures, c.if-eq-8.true)) c.from_residual-in_err-words-3.ensures.1 c.in_err-words-3.ensures.cause
+    field_refused c.args.name.now rows (AreWordsGiven rows) (Lacks rows Landmarks) c.from_residual-in_err-words-3.result c.in_err-words-3.field-0.0 (Serve c.in_ok-device.device c.in_ok-usual-2.field-0 c.in_ok-usual-3.field-0 c.in_ok-usual-4.field-0 c.in_ok-live.field-0 Greatest) (search (rules, c.if-eq-9.ensures, c.if-eq-9.true)) c.from_residual-in_err-words-3.ensures.1 c.in_err-words-3.ensures.cause
     (λ values each. each.1.0) (λ given. (c.in_ok-device.ensures.found, (given, (c.in_ok-usual-2.ensures.found, (c.in_ok-usual-3.ensures.found, (c.in_ok-usual-4.ensures.found, (c.in_ok-live.ensures.found, tt))))))) (λ lacks. inr (inl lacks))
 
 pub returns-in_err-words-4 : goal.returns-in_err-words-4
 returns-in_err-words-4 c =
     let rows = rows_in c.args.arguments.now in
-    field_refused c.args.name.now rows (AreWordsGiven rows) (Lacks rows Landmarks) c.from_residual-in_err-words-4.result c.in_err-words-4.field-0.0 (Tables c.in_ok-device.device c.in_ok-text-2.field-0 c.in_ok-nodes-2.field-0 Greatest) (search (rules, c.if-eq-9.ensures, c.if-eq-9.true)) c.from_residual-in_err-words-4.ensures.1 c.in_err-words-4.ensures.cause
-    (λ values each. each.1.1.0) (λ given. (c.in_ok-device.ensures.found, (c.in_ok-text-2.ensures.found, (given, (c.in_ok-nodes-2.ensures.found, tt))))) (λ lacks. inr (inr (inl lacks)))
+    field_refused c.args.name.now rows (AreWordsGiven rows) (Lacks rows Landmarks) c.from_residual-in_err-words-4.result c.in_err-words-4.field-0.0 (Tables c.in_ok-device.device c.in_ok-text-3.field-0 c.in_ok-nodes-2.field-0 Greatest) (search (rules, c.if-eq-10.ensures, c.if-eq-10.true)) c.from_residual-in_err-words-4.ensures.1 c.in_err-words-4.ensures.cause
+    (λ values each. each.1.1.0) (λ given. (c.in_ok-device.ensures.found, (c.in_ok-text-3.ensures.found, (given, (c.in_ok-nodes-2.ensures.found, tt))))) (λ lacks. inr (inr (inl lacks)))

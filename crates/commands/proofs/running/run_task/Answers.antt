@@ -7,6 +7,12 @@ use Rattle.commands.proofs.running.run_task.Goals as goal
 
 pub returns-in-Migrate-clause-ends : goal.returns-in-Migrate-clause-ends
 returns-in-Migrate-clause-ends g c given =
-    let done = HasDone g.F.Devices.opened g.F.Devices.events c.args.devices.now c.run_migrate.new.devices in
+    let done = HasDone g.F.Devices.opened g.F.Devices.events c.args.devices.now c.run_transfer.new.devices in
     let put = PutBy g.T.TableFiles.puts c.args.tables.now c.args.tables.now in
-    subst (λ (t : Task). EndsTask g.F.Device.Disk done put t given g.O.Write.contents c.args.out.now c.run_migrate.new.out c.run_migrate.result) (sym c.in-Migrate.is) c.run_migrate.ensures
+    subst (λ (t : Task). EndsTask g.F.Device.Disk done put t given g.O.Write.contents c.args.out.now c.run_transfer.new.out c.run_transfer.result) (sym c.in-Migrate.is) c.run_transfer.ensures
+
+pub returns-in-Copy-clause-ends : goal.returns-in-Copy-clause-ends
+returns-in-Copy-clause-ends g c given =
+    let done = HasDone g.F.Devices.opened g.F.Devices.events c.args.devices.now c.run_transfer-in-Copy.new.devices in
+    let put = PutBy g.T.TableFiles.puts c.args.tables.now c.args.tables.now in
+    subst (λ (t : Task). EndsTask g.F.Device.Disk done put t given g.O.Write.contents c.args.out.now c.run_transfer-in-Copy.new.out c.run_transfer-in-Copy.result) (sym c.in-Copy.is) c.run_transfer-in-Copy.ensures
