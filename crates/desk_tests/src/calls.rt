@@ -66,13 +66,15 @@ fn found(rt: &impl Abort, alloc: Global, full: &[u8], gate: u8, plan: Plan, word
 
 #[test]
 fn each_call_of_a_rolling_commit_fails_and_stops(rt: HostRuntime) {
-    let before = full(&rt, rt.alloc());
+    let alloc = rt.alloc();
+    let rt = &rt;
+    let before = full(rt, alloc);
     for (gate, plan, there) in &CALLS {
         for (word, there) in CRASH_WORDS.iter().zip(there.iter()) {
             let state = if *there { BEHIND } else { BEFORE };
-            let after = found(&rt, rt.alloc(), &before, *gate, *plan, *word);
+            let after = found(rt, alloc, &before, *gate, *plan, *word);
             same(
-                &rt,
+                rt,
                 (*gate, *plan, *word, after),
                 (*gate, *plan, *word, state),
                 "a crash",

@@ -70,32 +70,31 @@ fn committed(
 
 #[test]
 fn rolls_where_the_journal_has_no_room(rt: HostRuntime) {
+    let alloc = rt.alloc();
+    let rt = &rt;
     // 320 ops in 21 changes end the journal at its last byte but one. 319 ops in 22 changes need one byte more: what is there stays.
-    let before = full(&rt, rt.alloc());
-    let fits = committed(&rt, rt.alloc(), &before, &FITS);
-    same(&rt, fits, (0, false, (6805, Some(1)), [6804, 1, 0]), "fits");
-    let rolls = committed(&rt, rt.alloc(), &before, &LACKS);
-    same(
-        &rt,
-        rolls,
-        (1, true, (6806, Some(1)), [6805, 1, 0]),
-        "rolls",
-    );
+    let before = full(rt, alloc);
+    let fits = committed(rt, alloc, &before, &FITS);
+    same(rt, fits, (0, false, (6805, Some(1)), [6804, 1, 0]), "fits");
+    let rolls = committed(rt, alloc, &before, &LACKS);
+    same(rt, rolls, (1, true, (6806, Some(1)), [6805, 1, 0]), "rolls");
 }
 
 // Run by `./refuse-memory`, which refuses each of the last allocations in turn. Behind the second commit there is none.
 #[test]
 fn rolls_later_what_had_no_memory(rt: HostRuntime) {
-    let before = full(&rt, rt.alloc());
-    let mut desk = opened(&rt, rt.alloc(), copied(&rt, rt.alloc(), &before));
-    give_sized(&rt, &mut desk, &LACKS);
-    let answer = commit_at_last(&rt, rt.alloc(), &mut desk);
-    same(&rt, answer, Ok(22), "rolled");
-    same(&rt, left(&desk), (6806, Some(1)), "rolled");
-    same(&rt, last_tickets(&desk), [6805, 1, 0], "rolled");
+    let alloc = rt.alloc();
+    let rt = &rt;
+    let before = full(rt, alloc);
+    let mut desk = opened(rt, alloc, copied(rt, alloc, &before));
+    give_sized(rt, &mut desk, &LACKS);
+    let answer = commit_at_last(rt, alloc, &mut desk);
+    same(rt, answer, Ok(22), "rolled");
+    same(rt, left(&desk), (6806, Some(1)), "rolled");
+    same(rt, last_tickets(&desk), [6805, 1, 0], "rolled");
     let mut disk = desk.into_store().into_disk();
-    let gate = byte_at(&rt, &mut disk, SECOND_SLOT);
-    same(&rt, gate, 1, "the second slot");
+    let gate = byte_at(rt, &mut disk, SECOND_SLOT);
+    same(rt, gate, 1, "the second slot");
 }
 
 // A full device with another byte at a place.
@@ -133,14 +132,16 @@ fn worn(rt: &impl Abort, alloc: Global, disk: MemDisk, count: u64) -> MemDisk {
 
 #[test]
 fn wears_out_at_the_last_epoch_and_the_last_count(rt: HostRuntime) {
-    let before = full(&rt, rt.alloc());
+    let alloc = rt.alloc();
+    let rt = &rt;
+    let before = full(rt, alloc);
     for (at, number, count) in &WORN {
-        let mut disk = full_but(&rt, rt.alloc(), &before, *at, &number.to_be_bytes());
-        let old = whole(&rt, rt.alloc(), &mut disk);
-        let mut disk = worn(&rt, rt.alloc(), disk, *count);
-        let now = whole(&rt, rt.alloc(), &mut disk);
+        let mut disk = full_but(rt, alloc, &before, *at, &number.to_be_bytes());
+        let old = whole(rt, alloc, &mut disk);
+        let mut disk = worn(rt, alloc, disk, *count);
+        let now = whole(rt, alloc, &mut disk);
         same(
-            &rt,
+            rt,
             now.as_slice() == old.as_slice(),
             true,
             "nothing is written",

@@ -72,10 +72,11 @@ fn replies(alloc: Global) -> Result<Vec<Reply>, AllocError> {
 #[test]
 fn wears_out_at_the_last_count(rt: HostRuntime) -> Result<(), Fail> {
     let alloc = rt.alloc();
-    let (events, replies) = (events(&rt, alloc)?, replies(alloc)?);
-    let mut world = counted(&rt, alloc, 5, WORN_LIMIT - 1, 1, 1, Plan::None);
+    let rt = &rt;
+    let (events, replies) = (events(rt, alloc)?, replies(alloc)?);
+    let mut world = counted(rt, alloc, 5, WORN_LIMIT - 1, 1, 1, Plan::None);
     for (place, (event, want)) in events.chunks(1).zip(replies.iter()).enumerate() {
-        let reply = answer(&rt, alloc, &mut world, event);
+        let reply = answer(rt, alloc, &mut world, event);
         assert!(rt; reply == *want, "event {place}");
     }
     let (stored, desk) = world.into_parts();

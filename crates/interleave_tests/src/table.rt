@@ -62,13 +62,14 @@ fn replies() -> [Reply; 16] {
 #[test]
 fn answers_one_by_one(rt: HostRuntime) -> Result<(), Fail> {
     let alloc = rt.alloc();
-    let events = match events(&rt, alloc) {
+    let rt = &rt;
+    let events = match events(rt, alloc) {
         Ok(events) => events,
-        Err(_) => events(&rt, alloc)?,
+        Err(_) => events(rt, alloc)?,
     };
-    let mut world = fresh(&rt, alloc, 5, 1, 1, Plan::None);
+    let mut world = fresh(rt, alloc, 5, 1, 1, Plan::None);
     for (place, (event, want)) in events.chunks(1).zip(replies()).enumerate() {
-        let reply = answer(&rt, alloc, &mut world, event);
+        let reply = answer(rt, alloc, &mut world, event);
         assert!(rt; reply == want, "event {place}");
     }
     let (stored, desk) = world.into_parts();

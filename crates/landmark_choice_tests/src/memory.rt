@@ -7,13 +7,14 @@ use sample_networks::PATH;
 #[test]
 fn chooses_after_a_want_of_memory(rt: HostRuntime) {
     let alloc = rt.alloc();
-    let graph = graph_of(&rt, alloc, 5, &PATH);
+    let rt = &rt;
+    let graph = graph_of(rt, alloc, 5, &PATH);
     let limits = Limits {
         most_entries: 8,
         most: 8,
     };
     let words = [u64::MAX, 0, u64::MAX, u64::MAX, u64::MAX];
-    let balls = balls_of(&rt, alloc, &graph, limits, 2);
-    let choice = best(&rt, alloc, &balls, &words, limits);
-    assert!(&rt; choice.nodes.as_slice() == [2u16].as_slice());
+    let balls = balls_of(rt, alloc, &graph, limits, 2);
+    let choice = best(rt, alloc, &balls, &words, limits);
+    assert!(rt; choice.nodes.as_slice() == [2u16].as_slice());
 }

@@ -15,10 +15,12 @@ const FOLDERS: [&str; 6] = [
 
 #[test]
 fn tables_into_a_folder(rt: HostRuntime) {
+    let alloc = rt.alloc();
+    let rt = &rt;
     for name in &FOLDERS {
-        let line = got(&rt, format!(in rt.alloc(); "tables {name}"));
-        let folder = got(&rt, String::from_str(rt.alloc(), name));
-        expect_asked(&rt, rt.alloc(), line.as_str(), 1, &Asked::Tables { folder });
+        let line = got(rt, format!(in alloc; "tables {name}"));
+        let folder = got(rt, String::from_str(alloc, name));
+        expect_asked(rt, alloc, line.as_str(), 1, &Asked::Tables { folder });
     }
 }
 

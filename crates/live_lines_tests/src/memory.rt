@@ -33,9 +33,11 @@ fn reads_a_hop_again(rt: HostRuntime) {
 
 #[test]
 fn writes_answers_again(rt: HostRuntime) {
+    let alloc = rt.alloc();
+    let rt = &rt;
     expect_text(
-        &rt,
-        rt.alloc(),
+        rt,
+        alloc,
         &Answer::Told(address()),
         "generation=7 address=000000000000000700040100020004010001000000000000000000000000000000000000000000000000",
     );
@@ -45,14 +47,14 @@ fn writes_answers_again(rt: HostRuntime) {
         packet: packet(),
     });
     expect_text(
-        &rt,
-        rt.alloc(),
+        rt,
+        alloc,
         &on,
         "port=1 next=2 packet=00000000000000070004000200040003010001000000000000000000000000000000000000000000000000",
     );
     expect_text(
-        &rt,
-        rt.alloc(),
+        rt,
+        alloc,
         &Answer::AlreadyIn {
             session: 63,
             ticket: 9,
@@ -63,9 +65,11 @@ fn writes_answers_again(rt: HostRuntime) {
 
 #[test]
 fn reads_a_folder_again(rt: HostRuntime) {
-    let folder = match String::from_str(rt.alloc(), "out") {
+    let alloc = rt.alloc();
+    let rt = &rt;
+    let folder = match String::from_str(alloc, "out") {
         Ok(folder) => folder,
-        Err(_) => got(&rt, String::from_str(rt.alloc(), "out")),
+        Err(_) => got(rt, String::from_str(alloc, "out")),
     };
-    expect_asked(&rt, rt.alloc(), "tables out", 1, &Asked::Tables { folder });
+    expect_asked(rt, alloc, "tables out", 1, &Asked::Tables { folder });
 }

@@ -65,6 +65,8 @@ fn given<S: Read>(input: &mut S, size: usize) -> Option<(u64, u64)> {
 
 #[test]
 fn gives_the_bytes_of_its_source(rt: HostRuntime) {
+    let alloc = rt.alloc();
+    let rt = &rt;
     for (most, size, refused) in [
         (8_192u64, 9_000usize, 0u64),
         (1, 3, 0),
@@ -78,16 +80,16 @@ fn gives_the_bytes_of_its_source(rt: HostRuntime) {
             calls: 0,
             refused,
         };
-        let Ok((mut input, _)) = InterruptibleInput::new(rt, rt.alloc()) else {
-            panic!(&rt; "no input");
+        let Ok((mut input, _)) = InterruptibleInput::new(*rt, alloc) else {
+            panic!(rt; "no input");
         };
-        assert!(&rt; input.read(&mut [0u8; 1]).is_err(), "it has no source");
-        assert!(&rt; input.start(source).is_ok(), "a thread");
-        assert!(&rt;
+        assert!(rt; input.read(&mut [0u8; 1]).is_err(), "it has no source");
+        assert!(rt; input.start(source).is_ok(), "a thread");
+        assert!(rt;
             given(&mut input, size) == Some(wanted),
             "all bytes, in order"
         );
-        assert!(&rt; given(&mut input, size) == Some((0, 0)), "and then none");
+        assert!(rt; given(&mut input, size) == Some((0, 0)), "and then none");
     }
 }
 

@@ -33,16 +33,18 @@ fn tells_the_sync(rt: &impl Abort, alloc: Global, old: &mut MemDisk, new: &mut M
 
 #[test]
 fn tells_lengths_and_layouts_in_order(rt: HostRuntime) {
+    let alloc = rt.alloc();
+    let rt = &rt;
     for (len, front, new_len, want) in &LENGTHS {
-        let mut old = settled(&rt, rt.alloc(), *len, &[(0, *front)]);
-        let mut new = blank(&rt, rt.alloc(), *new_len);
-        let refused = bring_over(rt.alloc(), &mut old, &mut new).err();
+        let mut old = settled(rt, alloc, *len, &[(0, *front)]);
+        let mut new = blank(rt, alloc, *new_len);
+        let refused = bring_over(alloc, &mut old, &mut new).err();
         same(
-            &rt,
+            rt,
             (*len, *new_len, refused),
             (*len, *new_len, Some(*want)),
             "lengths",
         );
-        tells_the_sync(&rt, rt.alloc(), &mut old, &mut new);
+        tells_the_sync(rt, alloc, &mut old, &mut new);
     }
 }

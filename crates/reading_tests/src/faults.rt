@@ -9,24 +9,26 @@ use std::process::Abort;
 
 #[test]
 fn tells_each_fault_of_the_old_device(rt: HostRuntime) {
-    let mut old = path(&rt, rt.alloc());
-    let mut new = blank(&rt, rt.alloc(), NEW_LEN);
+    let alloc = rt.alloc();
+    let rt = &rt;
+    let mut old = path(rt, alloc);
+    let mut new = blank(rt, alloc, NEW_LEN);
     let mut faults = 0;
     for call in 1..100 {
         old.fail_at(call);
-        let answer = bring_over(rt.alloc(), &mut old, &mut new);
+        let answer = bring_over(alloc, &mut old, &mut new);
         if answer.is_ok() {
             break;
         }
-        same(&rt, answer, Err(MigrateRefused::OldDevice), "a fault");
+        same(rt, answer, Err(MigrateRefused::OldDevice), "a fault");
         faults = call;
     }
     // a sync, the header, the heads of two slots and the record, at least
     let several = (5..99).contains(&faults);
-    same(&rt, (faults, several), (faults, true), "the faults");
+    same(rt, (faults, several), (faults, true), "the faults");
     old.arm(Plan::None);
-    let mut before = path(&rt, rt.alloc());
-    same_bytes(&rt, &mut old, &mut before, "the old device");
+    let mut before = path(rt, alloc);
+    same_bytes(rt, &mut old, &mut before, "the old device");
 }
 
 // Whether the whole path is left on a new device of which a call failed, after a crash by a word. What is left may else be no store.
@@ -51,11 +53,13 @@ fn is_left_whole(rt: &impl Abort, alloc: Global, old: &mut MemDisk, plan: Plan, 
 
 #[test]
 fn leaves_nothing_or_the_whole_of_each_fault(rt: HostRuntime) {
-    let mut old = path(&rt, rt.alloc());
+    let alloc = rt.alloc();
+    let rt = &rt;
+    let mut old = path(rt, alloc);
     // the gate of the slot comes last: what is unsettled becomes 1
     for call in 1..=10 {
-        let left = is_left_whole(&rt, rt.alloc(), &mut old, Plan::Fail(call), 257);
-        same(&rt, (call, left), (call, call >= 9), "what is left");
+        let left = is_left_whole(rt, alloc, &mut old, Plan::Fail(call), 257);
+        same(rt, (call, left), (call, call >= 9), "what is left");
     }
 }
 
@@ -74,13 +78,15 @@ const STOPS: [(u64, usize, [bool; 5]); 6] = [
 
 #[test]
 fn leaves_nothing_or_the_whole_of_each_stop(rt: HostRuntime) {
-    let mut old = path(&rt, rt.alloc());
+    let alloc = rt.alloc();
+    let rt = &rt;
+    let mut old = path(rt, alloc);
     for (call, bytes, whole) in &STOPS {
         let plan = Plan::Stop(*call, *bytes);
         for (word, want) in CRASH_WORDS.iter().zip(whole.iter()) {
-            let left = is_left_whole(&rt, rt.alloc(), &mut old, plan, *word);
+            let left = is_left_whole(rt, alloc, &mut old, plan, *word);
             same(
-                &rt,
+                rt,
                 (plan, *word, left),
                 (plan, *word, *want),
                 "what is left",
@@ -91,27 +97,31 @@ fn leaves_nothing_or_the_whole_of_each_stop(rt: HostRuntime) {
 
 #[test]
 fn needs_ten_calls_of_the_new_device(rt: HostRuntime) {
-    let mut old = path(&rt, rt.alloc());
+    let alloc = rt.alloc();
+    let rt = &rt;
+    let mut old = path(rt, alloc);
     for word in &CRASH_WORDS {
-        let mut new = blank(&rt, rt.alloc(), NEW_LEN);
+        let mut new = blank(rt, alloc, NEW_LEN);
         new.fail_at(11);
-        let answer = bring_over(rt.alloc(), &mut old, &mut new);
-        same(&rt, answer, MOVED, "the path");
-        holds(&rt, rt.alloc(), new.crash(*word), 1, &PATH_EDGES);
+        let answer = bring_over(alloc, &mut old, &mut new);
+        same(rt, answer, MOVED, "the path");
+        holds(rt, alloc, new.crash(*word), 1, &PATH_EDGES);
     }
 }
 
 // Run by `./refuse-memory`, which refuses each allocation in turn.
 #[test]
 fn a_migration_without_memory_is_made_again(rt: HostRuntime) {
-    let mut old = path(&rt, rt.alloc());
-    let mut new = blank(&rt, rt.alloc(), NEW_LEN);
-    let mut answer = bring_over(rt.alloc(), &mut old, &mut new);
+    let alloc = rt.alloc();
+    let rt = &rt;
+    let mut old = path(rt, alloc);
+    let mut new = blank(rt, alloc, NEW_LEN);
+    let mut answer = bring_over(alloc, &mut old, &mut new);
     if answer.is_err() {
-        same(&rt, answer, Err(MigrateRefused::Memory), "without memory");
-        let mut before = blank(&rt, rt.alloc(), NEW_LEN);
-        same_bytes(&rt, &mut new, &mut before, "the new device");
-        answer = bring_over(rt.alloc(), &mut old, &mut new);
+        same(rt, answer, Err(MigrateRefused::Memory), "without memory");
+        let mut before = blank(rt, alloc, NEW_LEN);
+        same_bytes(rt, &mut new, &mut before, "the new device");
+        answer = bring_over(alloc, &mut old, &mut new);
     }
-    same(&rt, answer, MOVED, "the path");
+    same(rt, answer, MOVED, "the path");
 }

@@ -28,10 +28,12 @@ fn loaded(rt: &impl Abort, alloc: Global, second: &[u8]) -> Loaded {
 
 #[test]
 fn loads_images_written_by_hand(rt: HostRuntime) {
-    let l = loaded(&rt, rt.alloc(), &OLDER);
-    same(&rt, standing(&l), OF_FIRST, "the first slot");
-    let l = loaded(&rt, rt.alloc(), &NEWER);
-    same(&rt, standing(&l), OF_NEWER, "the newer slot");
+    let alloc = rt.alloc();
+    let rt = &rt;
+    let l = loaded(rt, alloc, &OLDER);
+    same(rt, standing(&l), OF_FIRST, "the first slot");
+    let l = loaded(rt, alloc, &NEWER);
+    same(rt, standing(&l), OF_NEWER, "the newer slot");
     standing_law();
     layout_law();
 }

@@ -37,13 +37,15 @@ fn loaded(rt: &impl Abort, alloc: Global, second: &[u8]) -> Loaded {
 
 #[test]
 fn loads_images_written_by_hand(rt: HostRuntime) {
-    let l = loaded(&rt, rt.alloc(), &OLDER);
-    same(&rt, standing(&l), OF_FIRST, "the first slot");
+    let alloc = rt.alloc();
+    let rt = &rt;
+    let l = loaded(rt, alloc, &OLDER);
+    same(rt, standing(&l), OF_FIRST, "the first slot");
     let tickets = [l.tickets[0], l.tickets[1], l.tickets[63]];
-    same(&rt, tickets, [3, 0, 259], "the tickets");
-    let l = loaded(&rt, rt.alloc(), &NEWER);
-    same(&rt, standing(&l), OF_NEWER, "the newer slot");
-    same(&rt, l.tickets[63], 0, "the other tickets");
+    same(rt, tickets, [3, 0, 259], "the tickets");
+    let l = loaded(rt, alloc, &NEWER);
+    same(rt, standing(&l), OF_NEWER, "the newer slot");
+    same(rt, l.tickets[63], 0, "the other tickets");
     standing_law();
     layout_law();
 }

@@ -11,6 +11,7 @@ use intake::SubmitRefused;
 use rehearsal_lines::{Form, LifeLine, LineRefused, RehearsalLine, read_rehearsal};
 use rehearsals::{NotOpenedLine, Rehearsal, RehearseRefused, ReplyLine, lives_of, rehearse};
 use std::alloc::Global;
+use std::fmt::Debug;
 use std::process::Abort;
 use written_values::LandmarkWords;
 
@@ -25,6 +26,11 @@ fn got<T, E: Drop>(rt: &impl Abort, answer: Result<T, E>) -> T {
         Ok(value) => value,
         Err(_) => panic!(rt; "no value"),
     }
+}
+
+// Sees that two values are the same.
+fn same<T: Copy + PartialEq + Debug>(rt: &impl Abort, found: T, want: T, name: &str) {
+    assert_eq!(rt; found, want, "{name}");
 }
 
 // The lines of a text that is a rehearsal.
@@ -49,5 +55,5 @@ fn asked(rt: &impl Abort, alloc: Global, text: &str) -> Rehearsal {
 // Sees what is printed of a rehearsal.
 fn tells(rt: &impl Abort, alloc: Global, text: &str, want: &str) {
     let printed = got(rt, rehearse(alloc, &asked(rt, alloc, text)));
-    assert_eq!(rt; printed.as_str(), want, "{text}");
+    same(rt, printed.as_str(), want, text);
 }

@@ -1,51 +1,11 @@
 // What ends a run without its lines, and outputs that refuse.
-use crate::helpers::{Asked, expect_run, fresh, got, holds, reopened, run_plain, same, text_of};
+use crate::helpers::{Asked, fresh, got, holds, reopened, run_plain, same, text_of};
 use disk_trait::{CrashDisk, MemDisk};
 use stand_ins::NarrowWriter;
 use std::alloc::Global;
 use std::process::Abort;
 use std::sync::Wait;
 use std::thread::Threads;
-
-// Bytes that are put on a fresh device of five nodes and their place, the landmark words, the status and what is told.
-type Row = (usize, &'static [u8], &'static str, u8, &'static str);
-
-const WORN: [u8; 8] = [0x7f, 0xff, 0xff, 0xff, 0xff, 0xff, 0xff, 0xff];
-
-// The last rows have the count and the ticket of session 0 at their limit.
-const FAULTS: [Row; 6] = [
-    (0, b"T", "at:5", 2, "tznode: words not understood\n"),
-    (0, b"t", "at:5", 1, "tznode: not formatted\n"),
-    (7, b"9", "at:0", 1, "tznode: layout not known\n"),
-    (4096, b"\0", "at:0", 1, "tznode: damaged\n"),
-    (4105, &WORN, "at:0", 1, "tznode: worn out\n"),
-    (4119, &WORN, "none", 1, "tznode: worn out\n"),
-];
-
-fn put(rt: &impl Abort, disk: &mut MemDisk, at: usize, bytes: &[u8]) {
-    got(rt, stand_ins::put(disk, at, bytes));
-}
-
-fn asked(words: &str) -> Asked<'_> {
-    Asked {
-        words,
-        numbers: (1, 1, 1),
-        script: "route 0 0\n0 add:0:1:1\n",
-    }
-}
-
-#[test]
-fn faults_of_the_device(rt: HostRuntime) {
-    let alloc = rt.alloc();
-    for (at, bytes, words, status, told) in &FAULTS {
-        let mut disk = fresh(&rt, alloc, 5);
-        put(&rt, &mut disk, *at, bytes);
-        let _disk = expect_run(&rt, alloc, disk, &asked(words), (*status, "", told));
-    }
-    let want = (1, "", "tznode: not formatted\n");
-    let short = got(&rt, stand_ins::blank(alloc, 10));
-    let _disk = expect_run(&rt, alloc, short, &asked("at:0"), want);
-}
 
 const PATH: Asked<'static> = Asked {
     words: "none",
@@ -108,26 +68,35 @@ const OUTPUTS: [(usize, u64); 3] = [(0, u64::MAX), (33, u64::MAX), (34, 0)];
 #[test]
 fn outputs_that_refuse(rt: HostRuntime) {
     let alloc = rt.alloc();
+    let rt = &rt;
     for (left, flushes) in &OUTPUTS {
         let mut out = NarrowWriter::new(alloc, *left, *flushes);
         let mut err = Vec::new(alloc);
-        let disk = fresh(&rt, alloc, 5);
-        let (status, disk) = run_plain(&rt, alloc, disk, &TWO_EDITS, &mut out, &mut err);
+        let disk = fresh(rt, alloc, 5);
+        let (status, disk) = run_plain(rt, alloc, disk, &TWO_EDITS, &mut out, &mut err);
         let want = (1, "tznode: input or output failed\n");
-        same(&rt, (status, text_of(&rt, &err)), want, "told");
-        let store = reopened(&rt, alloc, got(&rt, disk.ok_or("no thread")));
-        holds(&rt, &store, (2, 1, 2));
-        same(&rt, store.graph().weight(0, 1), Some(2), "the edge");
+        same(rt, (status, text_of(rt, &err)), want, "told");
+        let store = reopened(rt, alloc, got(rt, disk.ok_or("no thread")));
+        holds(rt, &store, (2, 1, 2));
+        same(rt, store.graph().weight(0, 1), Some(2), "the edge");
     }
 }
+
+// Node 5 of five isn't there.
+const ABSENT: Asked<'static> = Asked {
+    words: "at:5",
+    numbers: (1, 1, 1),
+    script: "route 0 0\n0 add:0:1:1\n",
+};
 
 // A fault that nobody hears has its status all the same.
 #[test]
 fn a_fault_that_is_not_heard(rt: HostRuntime) {
     let alloc = rt.alloc();
+    let rt = &rt;
     let mut deaf = NarrowWriter::new(alloc, 0, 0);
     let mut out = Vec::new(alloc);
-    let disk = fresh(&rt, alloc, 5);
-    let (status, _disk) = run_plain(&rt, alloc, disk, &asked("at:5"), &mut out, &mut deaf);
-    same(&rt, (status, text_of(&rt, &out)), (2, ""), "status");
+    let disk = fresh(rt, alloc, 5);
+    let (status, _disk) = run_plain(rt, alloc, disk, &ABSENT, &mut out, &mut deaf);
+    same(rt, (status, text_of(rt, &out)), (2, ""), "status");
 }

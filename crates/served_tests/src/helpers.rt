@@ -121,22 +121,6 @@ pub(crate) fn run_plain<R: Threads + Wait + Abort + Sync, O: Write, E: Write>(
     run(rt, alloc, disk, asked, &OpenGate, out, err)
 }
 
-/// Runs a script on a disk in memory, sees the status and all that is printed and told, and gives the disk back.
-pub(crate) fn expect_run<R: Threads + Wait + Abort + Sync>(
-    rt: &R,
-    alloc: Global,
-    disk: MemDisk,
-    asked: &Asked<'_>,
-    want: (u8, &str, &str),
-) -> MemDisk {
-    let mut out = Vec::new(alloc);
-    let mut err = Vec::new(alloc);
-    let (status, disk) = run_plain(rt, alloc, disk, asked, &mut out, &mut err);
-    let found = (status, text_of(rt, &out), text_of(rt, &err));
-    same(rt, found, want, asked.script);
-    got(rt, disk.ok_or("no thread"))
-}
-
 /// Sees the count of a store, its edges, and the last ticket of its first session.
 pub(crate) fn holds<D: Disk>(rt: &impl Abort, store: &Store<D>, want: (u64, usize, u64)) {
     let found = (store.count(), store.graph().edges(), store.resume(0));

@@ -337,8 +337,10 @@ fn judged<R: Files<File = File> + Threads + Wait + Abort + Sync>(rt: &R, alloc: 
 
 #[test]
 fn two_hundred_lines(rt: HostRuntime) {
+    let alloc = rt.alloc();
+    let rt = &rt;
     for seed in 1..4u64 {
-        judged(&rt, rt.alloc(), seed);
+        judged(rt, alloc, seed);
     }
-    got(&rt, fs::remove_file(&rt, PATH));
+    got(rt, fs::remove_file(rt, PATH));
 }

@@ -58,7 +58,9 @@ fn is_served<R: Threads + Wait + Abort + Sync>(rt: &R, alloc: Global) -> bool {
 
 #[test]
 fn served_once_memory_is_there(rt: HostRuntime) {
-    if !is_served(&rt, rt.alloc()) {
-        same(&rt, is_served(&rt, rt.alloc()), true, "run again");
+    let alloc = rt.alloc();
+    let rt = &rt;
+    if !is_served(rt, alloc) {
+        same(rt, is_served(rt, alloc), true, "run again");
     }
 }

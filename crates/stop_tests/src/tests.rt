@@ -6,6 +6,7 @@ use disk_trait::{CrashDisk, Disk, MemDisk, Plan};
 use rehearsal_lines::{RehearsalLine, read_rehearsal};
 use rehearsals::{Rehearsal, RehearseRefused, lives_of};
 use std::alloc::{AllocError, Global};
+use std::fmt::Debug;
 use std::process::Abort;
 use stop_trials::{StopFound, calls_of_last, trials_text, try_every_stop, try_stop, try_stops};
 
@@ -19,6 +20,11 @@ fn got<T, E: Drop>(rt: &impl Abort, answer: Result<T, E>) -> T {
         Ok(value) => value,
         Err(_) => panic!(rt; "no value"),
     }
+}
+
+// Sees that two values are the same.
+fn same<T: Copy + PartialEq + Debug>(rt: &impl Abort, found: T, want: T, name: &str) {
+    assert_eq!(rt; found, want, "{name}");
 }
 
 // The lines of a text that is a rehearsal.

@@ -41,6 +41,8 @@ const SERVICES: [(&str, (u8, u8, u8), Option<u16>); 6] = [
 
 #[test]
 fn services(rt: HostRuntime) {
+    let alloc = rt.alloc();
+    let rt = &rt;
     for (line, (editors, forwarders, places), live) in &SERVICES {
         let task = Task::Serve {
             device: "d",
@@ -50,8 +52,8 @@ fn services(rt: HostRuntime) {
             live: *live,
             words: LandmarkWords::Greatest,
         };
-        let words = got(&rt, words_of(rt.alloc(), line));
-        let found = understood(rt.alloc(), &words) == Ok(task);
-        same(&rt, found, true, line);
+        let words = got(rt, words_of(alloc, line));
+        let found = understood(alloc, &words) == Ok(task);
+        same(rt, found, true, line);
     }
 }

@@ -1,4 +1,5 @@
 // Lines and faults as texts that no command of conformance/ prints. Expected texts are those of docs/FORMATS.md.
+use crate::helpers::same;
 use command_output::{
     BrokenLine, Ended, Fault, FaultWriter, TablesLine, WatchedWriter, print_line, tell,
 };
@@ -9,12 +10,13 @@ use std::process::Abort;
 
 fn expect_line<R: AllocGlobal + Abort, L: Display + Drop>(rt: &R, line: L, text: &str) {
     let mut out = Vec::new(rt.alloc());
-    assert_eq!(rt; print_line(&mut out, line), Ok(()), "{text}");
-    assert_eq!(rt; out.as_slice(), text.as_bytes());
+    same(rt, print_line(&mut out, line), Ok(()), text);
+    same(rt, out.as_slice(), text.as_bytes(), text);
 }
 
 #[test]
 fn texts_of_lines(rt: HostRuntime) {
+    let rt = &rt;
     let tables = TablesLine {
         generation: 1,
         tables: 2,
@@ -22,13 +24,13 @@ fn texts_of_lines(rt: HostRuntime) {
         greatest: 140,
     };
     expect_line(
-        &rt,
+        rt,
         tables,
         "generation=1 tables=2 bytes=18446744073709551616 greatest=140\n",
     );
-    expect_line(&rt, BrokenLine { check: "K4" }, "fault K4\n");
-    assert_eq!(&rt; Ended::Done.status(), 0);
-    assert_eq!(&rt; Ended::Refused.status(), 1);
+    expect_line(rt, BrokenLine { check: "K4" }, "fault K4\n");
+    same(rt, Ended::Done.status(), 0, "done");
+    same(rt, Ended::Refused.status(), 1, "refused");
 }
 
 // Each fault that no step of conformance/ has, its text and its status.
@@ -44,22 +46,24 @@ const FAULTS: [(Fault, &str, u8); 7] = [
 
 #[test]
 fn texts_of_faults(rt: HostRuntime) -> io::Result<()> {
+    let alloc = rt.alloc();
+    let rt = &rt;
     for (fault, text, status) in &FAULTS {
         let (fault, text, status) = (*fault, *text, *status);
-        let shown = format!(in rt.alloc(); "{fault}")?;
-        assert_eq!(&rt; shown.as_str(), text);
-        assert_eq!(&rt; fault.status(), status, "{text}");
-        let line = format!(in rt.alloc(); "tznode: {}\n", shown.as_str())?;
-        let mut err = Vec::new(rt.alloc());
+        let shown = format!(in alloc; "{fault}")?;
+        same(rt, shown.as_str(), text, "its text");
+        same(rt, fault.status(), status, text);
+        let line = format!(in alloc; "tznode: {}\n", shown.as_str())?;
+        let mut err = Vec::new(alloc);
         tell(&mut err, fault)?;
-        assert_eq!(&rt; err.as_slice(), line.as_str().as_bytes());
-        let mut watched = Vec::new(rt.alloc());
+        same(rt, err.as_slice(), line.as_str().as_bytes(), text);
+        let mut watched = Vec::new(alloc);
         WatchedWriter::new(&mut watched).tell(fault)?;
-        assert_eq!(&rt; watched.as_slice(), line.as_str().as_bytes());
+        same(rt, watched.as_slice(), line.as_str().as_bytes(), text);
         let mut short = [0; 8];
-        assert!(&rt; WatchedWriter::new(&mut short[..]).tell(fault).is_err());
-        assert_eq!(&rt; short.as_slice(), "tznode: ".as_bytes());
+        assert!(rt; WatchedWriter::new(&mut short[..]).tell(fault).is_err());
+        same(rt, short.as_slice(), "tznode: ".as_bytes(), text);
     }
-    assert_eq!(&rt; Fault::from(AllocError), Fault::Memory);
+    same(rt, Fault::from(AllocError), Fault::Memory, "no memory");
     Ok(())
 }

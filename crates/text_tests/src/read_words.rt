@@ -29,14 +29,16 @@ const NODES: [(&str, Option<u16>); 3] = [("0", Some(0)), ("65535", Some(65_535))
 
 #[test]
 fn greatest_numbers(rt: HostRuntime) {
+    let alloc = rt.alloc();
+    let rt = &rt;
     for (text, want) in &OPS {
-        same(&rt, got(&rt, op(rt.alloc(), text)), *want, text);
+        same(rt, got(rt, op(alloc, text)), *want, text);
     }
     for (text, most, want) in &NUMBERS {
-        same(&rt, got(&rt, number(rt.alloc(), text, *most)), *want, text);
+        same(rt, got(rt, number(alloc, text, *most)), *want, text);
     }
     for (text, want) in &NODES {
-        same(&rt, got(&rt, node(rt.alloc(), text)), *want, text);
+        same(rt, got(rt, node(alloc, text)), *want, text);
     }
 }
 
@@ -103,13 +105,15 @@ fn words_of_five(rt: &impl Abort, alloc: Global, text: &str) -> Vec<u64> {
 
 #[test]
 fn words_of_nodes(rt: HostRuntime) {
+    let alloc = rt.alloc();
+    let rt = &rt;
     for (text, want) in &WORDS {
-        let words = words_of_five(&rt, rt.alloc(), text);
-        same(&rt, words.as_slice(), want.as_slice(), text);
+        let words = words_of_five(rt, alloc, text);
+        same(rt, words.as_slice(), want.as_slice(), text);
     }
-    let zeros = got(&rt, vec![in rt.alloc(); 65_535, 0]);
-    let named = read(&rt, rt.alloc(), "at:65535,0");
-    same(&rt, &named, &LandmarkWords::ZeroAt(zeros), "at:65535,0");
+    let zeros = got(rt, vec![in alloc; 65_535, 0]);
+    let named = read(rt, alloc, "at:65535,0");
+    same(rt, &named, &LandmarkWords::ZeroAt(zeros), "at:65535,0");
 }
 
 // Landmark words, a number of nodes, and whether each node that is named is there.

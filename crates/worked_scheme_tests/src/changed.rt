@@ -185,11 +185,13 @@ const CHANGES: [(Changed, Result<(), Fault>); 12] = [
 
 #[test]
 fn each_change_breaks_its_rule(rt: HostRuntime) {
-    let graph = graph_of(&rt, rt.alloc(), 5, &PATH);
+    let alloc = rt.alloc();
+    let rt = &rt;
+    let graph = graph_of(rt, alloc, 5, &PATH);
     for (changed, want) in &CHANGES {
-        let scheme = path_with(&rt, rt.alloc(), *changed);
+        let scheme = path_with(rt, alloc, *changed);
         let found = (*changed, check(&graph, &scheme));
-        same(&rt, found, (*changed, *want), "a change");
+        same(rt, found, (*changed, *want), "a change");
     }
 }
 
@@ -206,10 +208,12 @@ const OTHERS: [(u16, &[Edge], Fault); 3] = [
 
 #[test]
 fn the_path_is_no_scheme_for_other_graphs(rt: HostRuntime) {
-    let scheme = path_with(&rt, rt.alloc(), Changed::Nothing);
+    let alloc = rt.alloc();
+    let rt = &rt;
+    let scheme = path_with(rt, alloc, Changed::Nothing);
     for (nodes, edges, want) in &OTHERS {
-        let graph = graph_of(&rt, rt.alloc(), *nodes, edges);
-        same(&rt, check(&graph, &scheme), Err(*want), "another graph");
+        let graph = graph_of(rt, alloc, *nodes, edges);
+        same(rt, check(&graph, &scheme), Err(*want), "another graph");
     }
 }
 
@@ -270,11 +274,13 @@ const SINGLES: [(bool, bool, Result<(), Fault>); 4] = [
 
 #[test]
 fn a_single_node_lists_itself_or_is_a_landmark(rt: HostRuntime) {
-    let graph = graph_of(&rt, rt.alloc(), 1, &[]);
+    let alloc = rt.alloc();
+    let rt = &rt;
+    let graph = graph_of(rt, alloc, 1, &[]);
     for (landmark, listed_too, want) in &SINGLES {
-        let scheme = single(&rt, rt.alloc(), *landmark, *listed_too);
+        let scheme = single(rt, alloc, *landmark, *listed_too);
         let found = (*landmark, *listed_too, check(&graph, &scheme));
-        same(&rt, found, (*landmark, *listed_too, *want), "a single node");
+        same(rt, found, (*landmark, *listed_too, *want), "a single node");
     }
 }
 
@@ -292,9 +298,11 @@ const FAULTS: [(Fault, u8, &str); 8] = [
 
 #[test]
 fn faults_are_shown_by_their_numbers(rt: HostRuntime) {
+    let alloc = rt.alloc();
+    let rt = &rt;
     for (fault, number, want) in &FAULTS {
-        let text = got(&rt, fault.to_string(rt.alloc()));
-        same(&rt, text.as_str(), *want, "the text of a fault");
-        same(&rt, *fault as u8, *number, "the number of a fault");
+        let text = got(rt, fault.to_string(alloc));
+        same(rt, text.as_str(), *want, "the text of a fault");
+        same(rt, *fault as u8, *number, "the number of a fault");
     }
 }

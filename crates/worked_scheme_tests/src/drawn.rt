@@ -113,15 +113,17 @@ fn drawn_graphs_are_routed(rt: HostRuntime) {
 /// The words of `draw:1`, in two draws.
 #[test]
 fn draws_go_on(rt: HostRuntime) {
+    let alloc = rt.alloc();
+    let rt = &rt;
     let mut draws = Draws::seeded(1);
-    let first = got(&rt, draws.next(rt.alloc(), 2));
-    let second = got(&rt, draws.next(rt.alloc(), 3));
+    let first = got(rt, draws.next(alloc, 2));
+    let second = got(rt, draws.next(alloc, 3));
     let want = [14971601782005023387u64, 13781649495232077965];
-    same(&rt, first.as_slice(), want.as_slice(), "the first draw");
+    same(rt, first.as_slice(), want.as_slice(), "the first draw");
     let want = [
         1847458086238483744u64,
         13765271635752736470,
         3406718355780431780,
     ];
-    same(&rt, second.as_slice(), want.as_slice(), "the second draw");
+    same(rt, second.as_slice(), want.as_slice(), "the second draw");
 }

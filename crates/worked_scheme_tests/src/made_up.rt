@@ -69,13 +69,15 @@ const BETWEEN_TWO: [(u16, u16, &[u16], &[u16], u64); 3] = [
 
 #[test]
 fn carries_between_two_nodes(rt: HostRuntime) {
-    let scheme = Scheme::assemble(two(&rt, rt.alloc(), 7));
+    let alloc = rt.alloc();
+    let rt = &rt;
+    let scheme = Scheme::assemble(two(rt, alloc, 7));
     for (from, to, nodes, ports, length) in &BETWEEN_TWO {
-        let address = got(&rt, scheme.address(*to));
-        let trail = got(&rt, scheme.carry(rt.alloc(), *from, &address));
-        same(&rt, trail.nodes.as_slice(), *nodes, "the nodes of a trail");
-        same(&rt, trail.ports.as_slice(), *ports, "the ports of a trail");
-        same(&rt, trail.length, *length, "the length of a trail");
+        let address = got(rt, scheme.address(*to));
+        let trail = got(rt, scheme.carry(alloc, *from, &address));
+        same(rt, trail.nodes.as_slice(), *nodes, "the nodes of a trail");
+        same(rt, trail.ports.as_slice(), *ports, "the ports of a trail");
+        same(rt, trail.length, *length, "the length of a trail");
     }
 }
 
@@ -96,15 +98,17 @@ const REFUSALS: [(&str, u16, (u16, u16, u16, u16), Refused); 6] = [
 
 #[test]
 fn refuses_in_order(rt: HostRuntime) {
-    let scheme = Scheme::assemble(two(&rt, rt.alloc(), 7));
+    let alloc = rt.alloc();
+    let rt = &rt;
+    let scheme = Scheme::assemble(two(rt, alloc, 7));
     for (what, at, sent, refused) in &REFUSALS {
         let (destination, root, first, hops_left) = *sent;
         let sent = packet(destination, root, first, hops_left);
         let found = scheme.node_step(*at, &sent).err();
-        same(&rt, found, Some(*refused), what);
+        same(rt, found, Some(*refused), what);
     }
     let delivered = scheme.node_step(0, &packet(0, 0, 0, 0));
-    assert!(&rt; matches!(&delivered, Ok(Move::Delivered)));
+    assert!(rt; matches!(&delivered, Ok(Move::Delivered)));
 }
 
 /// The address of a node behind a landmark.
@@ -159,15 +163,16 @@ fn expect_refused(
 #[test]
 fn decides_by_the_directory_first(rt: HostRuntime) {
     let alloc = rt.alloc();
-    let scheme = Scheme::assemble(two(&rt, alloc, 7));
+    let rt = &rt;
+    let scheme = Scheme::assemble(two(rt, alloc, 7));
     same(
-        &rt,
+        rt,
         decided(&scheme, 1, &through(1, 0)),
         Some((1, 0, 1, 9)),
         "by the directory",
     );
     same(
-        &rt,
+        rt,
         decided(&scheme, 0, &through(1, 0)),
         Some((0, 1, 1, 9)),
         "by the home",
@@ -177,42 +182,46 @@ fn decides_by_the_directory_first(rt: HostRuntime) {
         node: 1,
         home: None,
     };
-    expect_refused(&rt, alloc, &scheme, 2, &through(0, 0), Refused::NoNode);
-    expect_refused(&rt, alloc, &scheme, 0, &through(2, 0), Refused::NoNode);
-    expect_refused(&rt, alloc, &scheme, 0, &through(1, 1), Refused::Unreachable);
-    expect_refused(&rt, alloc, &scheme, 0, &homeless, Refused::Unreachable);
-    assert!(&rt; scheme.address(2).is_err());
+    expect_refused(rt, alloc, &scheme, 2, &through(0, 0), Refused::NoNode);
+    expect_refused(rt, alloc, &scheme, 0, &through(2, 0), Refused::NoNode);
+    expect_refused(rt, alloc, &scheme, 0, &through(1, 1), Refused::Unreachable);
+    expect_refused(rt, alloc, &scheme, 0, &homeless, Refused::Unreachable);
+    assert!(rt; scheme.address(2).is_err());
 }
 
 #[test]
 fn first_place_counts(rt: HostRuntime) {
+    let alloc = rt.alloc();
+    let rt = &rt;
     let entries = got(
-        &rt,
-        vec![in rt.alloc();
-            entry(&rt, (1, 5, None), (0, 0, 0, 0), (None, None)),
-            entry(&rt, (0, 7, Some(0)), (1, 1, 1, 0), (Some(0), None)),
-            entry(&rt, (0, 3, Some(0)), (2, 2, 2, 0), (Some(0), None)),
-            entry(&rt, (1, 6, None), (0, 0, 0, 0), (None, None)),
+        rt,
+        vec![in alloc;
+            entry(rt, (1, 5, None), (0, 0, 0, 0), (None, None)),
+            entry(rt, (0, 7, Some(0)), (1, 1, 1, 0), (Some(0), None)),
+            entry(rt, (0, 3, Some(0)), (2, 2, 2, 0), (Some(0), None)),
+            entry(rt, (1, 6, None), (0, 0, 0, 0), (None, None)),
         ],
     );
-    let lists = got(&rt, vec![in rt.alloc(); Vec::new(rt.alloc()), entries]);
-    let parts = two_with(&rt, rt.alloc(), lists);
+    let lists = got(rt, vec![in alloc; Vec::new(alloc), entries]);
+    let parts = two_with(rt, alloc, lists);
     let scheme = Scheme::assemble(parts);
-    same(&rt, scheme.find(1, 0), (Some(1), 2), "root 0");
-    same(&rt, scheme.find(1, 1), (Some(0), 1), "root 1");
-    same(&rt, scheme.find(1, 7), (None, 4), "root 7");
-    same(&rt, scheme.entries(1), 4, "entries");
+    same(rt, scheme.find(1, 0), (Some(1), 2), "root 0");
+    same(rt, scheme.find(1, 1), (Some(0), 1), "root 1");
+    same(rt, scheme.find(1, 7), (None, 4), "root 7");
+    same(rt, scheme.entries(1), 4, "entries");
 }
 
 #[test]
 fn finds_by_halving(rt: HostRuntime) {
-    let mut many = Vec::new(rt.alloc());
+    let alloc = rt.alloc();
+    let rt = &rt;
+    let mut many = Vec::new(alloc);
     for root in 0..100u16 {
-        let alone = entry(&rt, (3 * root + 1, 0, None), (0, 0, 0, 0), (None, None));
-        got(&rt, many.push(alone));
+        let alone = entry(rt, (3 * root + 1, 0, None), (0, 0, 0, 0), (None, None));
+        got(rt, many.push(alone));
     }
-    let lists = got(&rt, vec![in rt.alloc(); many]);
-    let parts = two_with(&rt, rt.alloc(), lists);
+    let lists = got(rt, vec![in alloc; many]);
+    let parts = two_with(rt, alloc, lists);
     let scheme = Scheme::assemble(parts);
     for root in 0..310u16 {
         let (place, probes) = scheme.find(0, root);
@@ -222,20 +231,22 @@ fn finds_by_halving(rt: HostRuntime) {
             None
         };
         let few = probes >= 1 && probes <= 7;
-        same(&rt, (root, place, few), (root, want, true), "a root");
+        same(rt, (root, place, few), (root, want, true), "a root");
     }
 }
 
 #[test]
 fn a_length_stays_at_the_greatest(rt: HostRuntime) {
-    let scheme = Scheme::assemble(two(&rt, rt.alloc(), u64::MAX));
-    let address = got(&rt, scheme.address(1));
-    let trail = got(&rt, scheme.carry(rt.alloc(), 0, &address));
-    same(&rt, trail.length, u64::MAX, "the length");
-    let other = Scheme::assemble(two(&rt, rt.alloc(), 7));
-    let refused = other.carry(rt.alloc(), 5, &address);
+    let alloc = rt.alloc();
+    let rt = &rt;
+    let scheme = Scheme::assemble(two(rt, alloc, u64::MAX));
+    let address = got(rt, scheme.address(1));
+    let trail = got(rt, scheme.carry(alloc, 0, &address));
+    same(rt, trail.length, u64::MAX, "the length");
+    let other = Scheme::assemble(two(rt, alloc, 7));
+    let refused = other.carry(alloc, 5, &address);
     same(
-        &rt,
+        rt,
         refused.err(),
         Some(CarryRefused::NoNode),
         "from no node",

@@ -27,8 +27,10 @@ fn builds_after_a_want_of_memory(rt: HostRuntime) {
 
 #[test]
 fn carries_after_a_want_of_memory(rt: HostRuntime) {
-    let scheme = scheme_with(&rt, rt.alloc(), 5, &PATH, &[2]);
-    let trail = got(&rt, carried(&rt, rt.alloc(), &scheme, 0, 4));
+    let alloc = rt.alloc();
+    let rt = &rt;
+    let scheme = scheme_with(rt, alloc, 5, &PATH, &[2]);
+    let trail = got(rt, carried(rt, alloc, &scheme, 0, 4));
     let way = (
         5,
         PATH.as_slice(),
@@ -37,7 +39,7 @@ fn carries_after_a_want_of_memory(rt: HostRuntime) {
         [0u16, 1, 1, 1].as_slice(),
         4,
     );
-    expect_trail(&rt, &trail, &way);
+    expect_trail(rt, &trail, &way);
 }
 
 const DRAWN: u16 = 12;
@@ -88,34 +90,32 @@ fn builds_a_drawn_graph_after_a_want_of_memory(rt: HostRuntime) {
 /// Where a draw is refused memory, nothing was drawn: made again it gives the same words.
 #[test]
 fn draws_after_a_want_of_memory(rt: HostRuntime) {
+    let alloc = rt.alloc();
+    let rt = &rt;
     let mut draws = Draws::seeded(1);
-    let words = match draws.next(rt.alloc(), 2) {
+    let words = match draws.next(alloc, 2) {
         Ok(words) => words,
-        Err(_) => got(&rt, draws.next(rt.alloc(), 2)),
+        Err(_) => got(rt, draws.next(alloc, 2)),
     };
     let want = [14971601782005023387u64, 13781649495232077965];
-    same(
-        &rt,
-        words.as_slice(),
-        want.as_slice(),
-        "the words of a draw",
-    );
+    same(rt, words.as_slice(), want.as_slice(), "the words of a draw");
 }
 
 /// A scratch that is too small is refused, and all that was taken of it is given back.
 #[test]
 fn builds_over_a_scratch_that_is_enough(rt: HostRuntime) {
     let alloc = rt.alloc();
-    let graph = graph_of(&rt, alloc, 5, &PATH);
+    let rt = &rt;
+    let graph = graph_of(rt, alloc, 5, &PATH);
     for (size, enough) in &[
         (64usize, false),
         (448, false),
         (4096, true),
         (1_048_576, true),
     ] {
-        let heap = heap_of(&rt, alloc, *size);
-        let scheme = built(&rt, alloc, &graph, &[2], &heap);
+        let heap = heap_of(rt, alloc, *size);
+        let scheme = built(rt, alloc, &graph, &[2], &heap);
         let found = (*size, scheme.is_ok(), heap.used());
-        same(&rt, found, (*size, *enough, 0), "a heap");
+        same(rt, found, (*size, *enough, 0), "a heap");
     }
 }

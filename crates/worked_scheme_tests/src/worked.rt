@@ -1,10 +1,10 @@
-// Built schemes of the worked graphs.
+// Built schemes of the worked graphs. Their clusters and addresses are in conformance/tables.txt, table_bytes.txt and live_packets.txt.
 use crate::helpers::{
     PAIRS, PATH, STACK_LEN, TRIANGLE, Way, built, by_lists, carried, ends_of, expect_trail, got,
     graph_of, same, scheme_with,
 };
 use graph_edits::{Change, Graph, MOST_NODES, Op};
-use node_table::{CarryRefused, Listed, Move, Refused, Scheme};
+use node_table::{Move, Refused, Scheme};
 use scheme_builds::{first_words, length_over};
 use std::alloc::{AllocError, Global};
 use std::process::Abort;
@@ -21,138 +21,14 @@ const WAYS: [Way<'static>; 5] = [
 
 #[test]
 fn routes_on_the_worked_graphs(rt: HostRuntime) {
+    let alloc = rt.alloc();
+    let rt = &rt;
     for way in &WAYS {
         let (nodes, edges, at, through, _, _) = *way;
-        let scheme = scheme_with(&rt, rt.alloc(), nodes, edges, at);
+        let scheme = scheme_with(rt, alloc, nodes, edges, at);
         let (from, to) = ends_of(through);
-        expect_trail(
-            &rt,
-            &got(&rt, carried(&rt, rt.alloc(), &scheme, from, to)),
-            way,
-        );
+        expect_trail(rt, &got(rt, carried(rt, alloc, &scheme, from, to)), way);
     }
-}
-
-/// The cluster of each node of the path, and in how many trees it is.
-type Clusters<'a> = [(u16, &'a [u16], usize); 5];
-
-/// With the landmark in the middle.
-const MIDDLE: Clusters<'static> = [
-    (0, &[0], 3),
-    (1, &[0, 1], 2),
-    (2, &[], 1),
-    (3, &[3, 4], 2),
-    (4, &[4], 3),
-];
-
-/// Without a landmark.
-const NOWHERE: Clusters<'static> = [
-    (0, &[0, 1, 2, 3, 4], 5),
-    (1, &[0, 1, 2, 3, 4], 5),
-    (2, &[0, 1, 2, 3, 4], 5),
-    (3, &[0, 1, 2, 3, 4], 5),
-    (4, &[0, 1, 2, 3, 4], 5),
-];
-
-fn expect_listed(rt: &impl Abort, listed: &[Listed], cluster: &[u16]) {
-    same(rt, listed.len(), cluster.len(), "the size of a cluster");
-    for (one, node) in listed.iter().zip(cluster.iter()) {
-        same(rt, one.node, *node, "a node of a cluster");
-    }
-}
-
-/// Sees that the path with landmarks at these nodes has these clusters, and that each address has a home if there is a landmark.
-fn expect_clusters(rt: &impl Abort, alloc: Global, at: &[u16], clusters: &Clusters<'_>) {
-    let scheme = scheme_with(rt, alloc, 5, &PATH, at);
-    for (v, cluster, trees) in clusters {
-        let Ok(address) = scheme.address(*v) else {
-            panic!(rt; "no address");
-        };
-        same(
-            rt,
-            (address.generation, address.node),
-            (7, *v),
-            "an address",
-        );
-        same(rt, address.home.is_some(), at.len() > 0, "a home");
-        assert!(rt; *v < scheme.parts().nodes);
-        same(rt, scheme.entries(*v), *trees, "the trees of a node");
-        expect_listed(rt, scheme.directory_of(*v), cluster);
-    }
-}
-
-/// Each node's cluster, as its directory lists it, where it is no landmark. Without a landmark no address has a home.
-#[test]
-fn clusters_of_the_path(rt: HostRuntime) {
-    expect_clusters(&rt, rt.alloc(), &[2], &MIDDLE);
-    expect_clusters(&rt, rt.alloc(), &[], &NOWHERE);
-}
-
-/// The address of the last node of the path.
-fn expect_last_address(rt: &impl Abort, scheme: &Scheme) {
-    let last = got(rt, scheme.address(4));
-    let Some(home) = &last.home else {
-        panic!(rt; "no home");
-    };
-    same(
-        rt,
-        (home.landmark, home.label.first()),
-        (2, 4),
-        "the last home",
-    );
-    same(rt, home.label.lights(), [1u16].as_slice(), "the last label");
-    assert!(rt; scheme.address(5) == Err(Refused::NoNode));
-}
-
-/// What becomes of a packet of the path's first node to itself.
-fn expect_own_packet(rt: &impl Abort, scheme: &Scheme) {
-    let own = got(rt, scheme.address(0));
-    assert!(rt; scheme.decide(5, &own) == Err(Refused::NoNode));
-    let packet = got(rt, scheme.decide(0, &own));
-    let named = (packet.generation, packet.destination, packet.root);
-    same(rt, named, (7, 0, 0), "the own packet");
-    same(
-        rt,
-        (packet.label.first(), packet.hops_left),
-        (0, 4),
-        "the own packet",
-    );
-    assert!(rt; scheme.node_step(0, &packet) == Ok(Move::Delivered));
-    assert!(rt; scheme.node_step(5, &packet) == Err(Refused::NoNode));
-}
-
-/// Why a packet isn't carried, if it isn't.
-fn not_carried(
-    rt: &impl Abort,
-    alloc: Global,
-    scheme: &Scheme,
-    from: u16,
-    to: u16,
-) -> Option<CarryRefused> {
-    carried(rt, alloc, scheme, from, to).err()
-}
-
-#[test]
-fn addresses_and_refusals(rt: HostRuntime) {
-    let alloc = rt.alloc();
-    let scheme = scheme_with(&rt, alloc, 5, &PATH, &[2]);
-    expect_last_address(&rt, &scheme);
-    expect_own_packet(&rt, &scheme);
-    let apart = scheme_with(&rt, alloc, 4, &PAIRS, &[0]);
-    let refused = Some(CarryRefused::Unreachable);
-    same(
-        &rt,
-        not_carried(&rt, alloc, &apart, 2, 0),
-        refused,
-        "from 2 to 0",
-    );
-    same(
-        &rt,
-        not_carried(&rt, alloc, &apart, 0, 3),
-        refused,
-        "from 0 to 3",
-    );
-    assert!(&rt; got(&rt, apart.address(3)).home == None);
 }
 
 /// Copies of the packet from the path's first node to its last, and of the move by which it leaves.
@@ -176,12 +52,14 @@ fn copies_of_packets(rt: &impl Abort, scheme: &Scheme) {
 /// Copies are equal to what they are copied from, and differ from all else.
 #[test]
 fn copies(rt: HostRuntime) {
-    let scheme = scheme_with(&rt, rt.alloc(), 5, &PATH, &[2]);
-    let (near, far) = (got(&rt, scheme.address(0)), got(&rt, scheme.address(4)));
-    assert!(&rt; far.copy() == far);
-    assert!(&rt; near.copy() != far);
-    assert!(&rt; far.home.as_ref().map(|home| home.copy()) == far.home);
-    copies_of_packets(&rt, &scheme);
+    let alloc = rt.alloc();
+    let rt = &rt;
+    let scheme = scheme_with(rt, alloc, 5, &PATH, &[2]);
+    let (near, far) = (got(rt, scheme.address(0)), got(rt, scheme.address(4)));
+    assert!(rt; far.copy() == far);
+    assert!(rt; near.copy() != far);
+    assert!(rt; far.home.as_ref().map(|home| home.copy()) == far.home);
+    copies_of_packets(rt, &scheme);
 }
 
 /// How many words are taken of 4, 5 and 6, and the words.
@@ -203,13 +81,15 @@ const LENGTHS: [(&[u16], u64); 5] = [
 
 #[test]
 fn first_words_and_lengths(rt: HostRuntime) {
+    let alloc = rt.alloc();
+    let rt = &rt;
     for (count, want) in &FIRST_WORDS {
-        let words = got(&rt, first_words(rt.alloc(), &[4, 5, 6], *count));
-        same(&rt, words.as_slice(), *want, "first words");
+        let words = got(rt, first_words(alloc, &[4, 5, 6], *count));
+        same(rt, words.as_slice(), *want, "first words");
     }
-    let graph = graph_of(&rt, rt.alloc(), 3, &TRIANGLE);
+    let graph = graph_of(rt, alloc, 3, &TRIANGLE);
     for (way, length) in &LENGTHS {
-        same(&rt, length_over(&graph, way), *length, "a length");
+        same(rt, length_over(&graph, way), *length, "a length");
     }
 }
 
@@ -294,8 +174,9 @@ fn goes_end_to_end(rt: &impl Abort, alloc: Global) {
 #[test]
 fn long_paths_from_end_to_end(rt: HostRuntime) {
     let alloc = rt.alloc();
-    let handle = got(&rt, rt.clone());
+    let rt = &rt;
+    let handle = got(rt, rt.clone());
     let thread = thread::Builder::new().stack_size(STACK_LEN);
-    let started = thread.spawn(&rt, move || goes_end_to_end(&handle, alloc));
-    got(&rt, started).join(&rt);
+    let started = thread.spawn(rt, move || goes_end_to_end(&handle, alloc));
+    got(rt, started).join(rt);
 }

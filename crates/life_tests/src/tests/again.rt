@@ -20,30 +20,36 @@ fn opens_to(rt: &impl Abort, alloc: Global, disk: MemDisk, want: Shown) {
 
 #[test]
 fn goes_on_where_a_call_ended(rt: HostRuntime) {
-    let asked = lives_of(&rt, rt.alloc(), &[life(&ADDS, Plan::None, 0)]);
-    let (report, disk) = lives_on(rt.alloc(), formatted(&rt, rt.alloc(), 5), &asked);
-    same(&rt, got(&rt, report).lives.len(), 1, "the first call");
-    opens_to(&rt, rt.alloc(), disk, WITH);
+    let alloc = rt.alloc();
+    let rt = &rt;
+    let asked = lives_of(rt, alloc, &[life(&ADDS, Plan::None, 0)]);
+    let (report, disk) = lives_on(alloc, formatted(rt, alloc, 5), &asked);
+    same(rt, got(rt, report).lives.len(), 1, "the first call");
+    opens_to(rt, alloc, disk, WITH);
 }
 
 #[test]
 fn refused_disk_comes_back(rt: HostRuntime) {
-    let mut disk = formatted(&rt, rt.alloc(), 5);
+    let alloc = rt.alloc();
+    let rt = &rt;
+    let mut disk = formatted(rt, alloc, 5);
     disk.fail_at(1);
-    let asked = lives_of(&rt, rt.alloc(), &[OPENING]);
-    let (report, disk) = lives_on(rt.alloc(), disk, &asked);
-    let refused = got(&rt, report).refused;
-    same(&rt, refused, Some(OpenRefused::Device), "refused");
-    opens_to(&rt, rt.alloc(), disk, NOTHING);
+    let asked = lives_of(rt, alloc, &[OPENING]);
+    let (report, disk) = lives_on(alloc, disk, &asked);
+    let refused = got(rt, report).refused;
+    same(rt, refused, Some(OpenRefused::Device), "refused");
+    opens_to(rt, alloc, disk, NOTHING);
 }
 
 #[test]
 fn crash_leaves_the_image_of_the_word(rt: HostRuntime) {
+    let alloc = rt.alloc();
+    let rt = &rt;
     // the third call of the commit puts the gate, and no sync settles it
     for (word, want) in [(256, NOTHING), (257, WITH)].iter() {
-        let asked = lives_of(&rt, rt.alloc(), &[life(&ADDS, Plan::Fail(3), *word)]);
-        let (report, disk) = lives_in_memory(rt.alloc(), formatted(&rt, rt.alloc(), 5), &asked);
-        same(&rt, got(&rt, report).refused, None, "refused");
-        opens_to(&rt, rt.alloc(), disk, *want);
+        let asked = lives_of(rt, alloc, &[life(&ADDS, Plan::Fail(3), *word)]);
+        let (report, disk) = lives_in_memory(alloc, formatted(rt, alloc, 5), &asked);
+        same(rt, got(rt, report).refused, None, "refused");
+        opens_to(rt, alloc, disk, *want);
     }
 }

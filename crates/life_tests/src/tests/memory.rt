@@ -62,7 +62,9 @@ fn goes_well(rt: &impl Abort, alloc: Global) -> bool {
 
 #[test]
 fn two_lives_once_memory_is_there(rt: HostRuntime) {
-    if !goes_well(&rt, rt.alloc()) {
-        same(&rt, goes_well(&rt, rt.alloc()), true, "made again");
+    let alloc = rt.alloc();
+    let rt = &rt;
+    if !goes_well(rt, alloc) {
+        same(rt, goes_well(rt, alloc), true, "made again");
     }
 }

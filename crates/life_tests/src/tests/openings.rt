@@ -11,18 +11,22 @@ fn refused(rt: &impl Abort, alloc: Global, disk: MemDisk, want: OpenRefused) {
 
 #[test]
 fn refuses_what_is_no_store(rt: HostRuntime) {
+    let alloc = rt.alloc();
+    let rt = &rt;
     for len in [9, DEVICE_LEN] {
-        let disk = got(&rt, stand_ins::blank(rt.alloc(), len));
-        refused(&rt, rt.alloc(), disk, OpenRefused::NotFormatted);
+        let disk = got(rt, stand_ins::blank(alloc, len));
+        refused(rt, alloc, disk, OpenRefused::NotFormatted);
     }
 }
 
 #[test]
 fn each_call_of_an_opening_fails(rt: HostRuntime) {
+    let alloc = rt.alloc();
+    let rt = &rt;
     // a sync, the header, two heads, the tickets, the edges, and the records
     for call in 1..8u64 {
-        let mut disk = formatted(&rt, rt.alloc(), 5);
+        let mut disk = formatted(rt, alloc, 5);
         disk.fail_at(call);
-        refused(&rt, rt.alloc(), disk, OpenRefused::Device);
+        refused(rt, alloc, disk, OpenRefused::Device);
     }
 }

@@ -171,14 +171,16 @@ const COMMITS: [(u64, [bool; 5]); 4] = [
 
 #[test]
 fn each_call_of_the_commit_behind_it_fails(rt: HostRuntime) {
+    let alloc = rt.alloc();
+    let rt = &rt;
     for (call, left) in &COMMITS {
         for (word, is_in) in CRASH_WORDS.iter().zip(left.iter()) {
-            rolls(&rt, rt.alloc(), Plan::Fail(*call), *word, FAILED, *is_in);
+            rolls(rt, alloc, Plan::Fail(*call), *word, FAILED, *is_in);
         }
     }
     // no call is left out, and none is made besides
     let committed = Reply::Committed { accepted: 22 };
-    rolls(&rt, rt.alloc(), Plan::Fail(11), 256, committed, true);
+    rolls(rt, alloc, Plan::Fail(11), 256, committed, true);
 }
 
 // The writes of a second roll, and behind how many bytes they stop: the gate that is closed, the area, and the gate that is opened.
@@ -276,10 +278,12 @@ const FILLS: [(u64, usize, Shown); 2] = [
 
 #[test]
 fn a_life_fills_its_journal_and_rolls(rt: HostRuntime) {
+    let alloc = rt.alloc();
+    let rt = &rt;
     for (call, committed, want) in &FILLS {
-        let asked = filling(&rt, rt.alloc(), Plan::Fail(*call));
-        let report = lived(&rt, rt.alloc(), formatted(&rt, rt.alloc(), 5), &asked);
-        same(&rt, groups(told(&report, 1)), *committed, "groups");
-        opens(&rt, &report, 2, *want, "the next life");
+        let asked = filling(rt, alloc, Plan::Fail(*call));
+        let report = lived(rt, alloc, formatted(rt, alloc, 5), &asked);
+        same(rt, groups(told(&report, 1)), *committed, "groups");
+        opens(rt, &report, 2, *want, "the next life");
     }
 }

@@ -63,15 +63,6 @@ pub(super) const TWO: [Asked; 2] = [
     },
 ];
 
-#[test]
-fn two_lives(rt: HostRuntime) {
-    let report = ran(&rt, rt.alloc(), &TWO);
-    opens(&rt, &report, 0, NOTHING, "the first");
-    same(&rt, told(&report, 0), &FIRST_REPLIES, "the first");
-    opens(&rt, &report, 1, (1, 4, Some(1), 1), "the second");
-    same(&rt, told(&report, 1), &SECOND_REPLIES, "the second");
-}
-
 const ADDS: [Step; 3] = [Step::Submit(0, 1, &EDGE), Step::Take, Step::Commit];
 
 const SETS: [Step; 3] = [
@@ -131,8 +122,10 @@ fn asks_again(rt: &impl Abort, alloc: Global, word: u64, third: Shown, replies: 
 
 #[test]
 fn asks_again_after_a_crash(rt: HostRuntime) {
-    asks_again(&rt, rt.alloc(), 256, (1, 1, Some(1), 1), &TAKEN);
-    asks_again(&rt, rt.alloc(), 257, (2, 1, Some(4), 2), &IN);
+    let alloc = rt.alloc();
+    let rt = &rt;
+    asks_again(rt, alloc, 256, (1, 1, Some(1), 1), &TAKEN);
+    asks_again(rt, alloc, 257, (2, 1, Some(4), 2), &IN);
 }
 
 #[test]

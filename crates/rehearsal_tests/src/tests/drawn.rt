@@ -231,13 +231,15 @@ fn begun(alloc: Global, seed: u64) -> Slow {
 
 #[test]
 fn drawn_lives_are_as_a_plain_life(rt: HostRuntime) {
+    let alloc = rt.alloc();
+    let rt = &rt;
     for seed in 0..24u64 {
-        let mut slow = begun(rt.alloc(), seed);
-        got(&rt, writeln!(slow.text, "device 4"));
+        let mut slow = begun(alloc, seed);
+        got(rt, writeln!(slow.text, "device 4"));
         for _ in 0..3 {
-            slow.life(&rt, rt.alloc());
+            slow.life(rt, alloc);
         }
-        slow.opens(&rt);
-        tells(&rt, rt.alloc(), slow.text.as_str(), slow.want.as_str());
+        slow.opens(rt);
+        tells(rt, alloc, slow.text.as_str(), slow.want.as_str());
     }
 }

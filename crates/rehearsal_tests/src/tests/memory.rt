@@ -64,11 +64,13 @@ fn names_memory(told: &str) -> bool {
 
 #[test]
 fn a_rehearsal_once_memory_is_there(rt: HostRuntime) {
-    if let Some(told) = told_of(&rt, rt.alloc(), TEXT) {
+    let alloc = rt.alloc();
+    let rt = &rt;
+    if let Some(told) = told_of(rt, alloc, TEXT) {
         assert!(rt; told.as_str() == WANT || names_memory(told.as_str()));
     }
-    match told_of(&rt, rt.alloc(), TEXT) {
-        Some(told) => { assert_eq!(rt; told.as_str(), WANT) }
-        None => panic!(&rt; "no memory"),
+    match told_of(rt, alloc, TEXT) {
+        Some(told) => same(rt, told.as_str(), WANT, "once memory is there"),
+        None => panic!(rt; "no memory"),
     }
 }

@@ -18,10 +18,12 @@ life sessions=1 places=1 words=none crash=1";
 
 #[test]
 fn reads_each_kind_of_line(rt: HostRuntime) {
-    let lines = read(&rt, rt.alloc(), EACH_KIND);
-    let mut nodes = Vec::new(rt.alloc());
-    got(&rt, nodes.push(0u16));
-    got(&rt, nodes.push(4u16));
+    let alloc = rt.alloc();
+    let rt = &rt;
+    let lines = read(rt, alloc, EACH_KIND);
+    let mut nodes = Vec::new(alloc);
+    got(rt, nodes.push(0u16));
+    got(rt, nodes.push(4u16));
     let ops = [Op::Add(0, 1, 1), Op::Set(0, 1, 2), Op::Cut(0, 1)];
     let want = [
         RehearsalLine::Device { nodes: 5 },
@@ -35,7 +37,7 @@ fn reads_each_kind_of_line(rt: HostRuntime) {
         RehearsalLine::Submit {
             session: 1,
             ticket: u64::MAX,
-            change: got(&rt, Change::new(&ops)),
+            change: got(rt, Change::new(&ops)),
         },
         RehearsalLine::Take,
         RehearsalLine::Commit,
@@ -65,7 +67,7 @@ fn reads_each_kind_of_line(rt: HostRuntime) {
             crash: 1,
         }),
     ];
-    assert_eq!(rt; lines.as_slice(), want.as_slice());
+    same(rt, lines.as_slice(), want.as_slice(), "the lines");
 }
 
 const LIFE: &str = "device 5\nlife sessions=1 places=1 words=none crash=0\n";
@@ -81,24 +83,28 @@ fn long_text(rt: &impl Abort, alloc: Global) -> String {
 
 #[test]
 fn reads_a_long_rehearsal(rt: HostRuntime) {
-    let lines = read(&rt, rt.alloc(), long_text(&rt, rt.alloc()).as_str());
-    assert_eq!(rt; lines.len(), 100_002);
+    let alloc = rt.alloc();
+    let rt = &rt;
+    let lines = read(rt, alloc, long_text(rt, alloc).as_str());
+    same(rt, lines.len(), 100_002, "the lines");
     let last = RehearsalLine::Submit {
         session: 0,
         ticket: 100_000,
-        change: got(&rt, Change::new(&[Op::Set(0, 1, 100_000)])),
+        change: got(rt, Change::new(&[Op::Set(0, 1, 100_000)])),
     };
-    assert_eq!(rt; &lines[100_001], &last);
+    same(rt, &lines[100_001], &last, "the last line");
 }
 
 // The last line alone isn't understood, so all lines before it are.
 #[test]
 fn names_the_last_line_of_a_long_rehearsal(rt: HostRuntime) {
-    let mut text = long_text(&rt, rt.alloc());
-    got(&rt, text.push_str("sumbit 0 1 cut:0:1"));
-    let Ok(Err(refused)) = read_rehearsal(rt.alloc(), text.as_str()) else {
-        panic!(&rt; "not refused");
+    let alloc = rt.alloc();
+    let rt = &rt;
+    let mut text = long_text(rt, alloc);
+    got(rt, text.push_str("sumbit 0 1 cut:0:1"));
+    let Ok(Err(refused)) = read_rehearsal(alloc, text.as_str()) else {
+        panic!(rt; "not refused");
     };
     let (number, form) = (100_003, Form::Line);
-    assert_eq!(rt; refused, LineRefused { number, form });
+    same(rt, refused, LineRefused { number, form }, "the line");
 }

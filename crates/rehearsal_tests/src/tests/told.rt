@@ -1,74 +1,44 @@
 // The lines that no rehearsal of conformance/ is answered.
 use super::*;
 
-fn says(rt: &impl Abort, alloc: Global, reply: Reply, want: &str) {
-    let text = got(rt, format!(in alloc; "{}", ReplyLine { reply }));
-    assert_eq!(rt; text.as_str(), want);
-}
+const REPLIES: [(Reply, &str); 7] = [
+    (
+        Reply::NotSubmitted(SubmitRefused::BoardShut),
+        "refused board shut",
+    ),
+    (
+        Reply::NotCommitted(DeskRefused::Memory),
+        "not committed memory",
+    ),
+    (Reply::NotCommitted(DeskRefused::Worn), "not committed worn"),
+    (Reply::NotRouted(RouteRefused::BoardShut), "board shut"),
+    (Reply::NotRouted(RouteRefused::Stray), "stray packet"),
+    (Reply::NotRouted(RouteRefused::Spent), "no hop left"),
+    (Reply::Memory, "out of memory"),
+];
 
 #[test]
 fn says_each_other_reply(rt: HostRuntime) {
-    let alloc = rt.alloc();
-    says(
-        &rt,
-        alloc,
-        Reply::NotSubmitted(SubmitRefused::BoardShut),
-        "refused board shut",
-    );
-    says(
-        &rt,
-        alloc,
-        Reply::NotCommitted(DeskRefused::Memory),
-        "not committed memory",
-    );
-    says(
-        &rt,
-        alloc,
-        Reply::NotCommitted(DeskRefused::Worn),
-        "not committed worn",
-    );
-    says(
-        &rt,
-        alloc,
-        Reply::NotRouted(RouteRefused::BoardShut),
-        "board shut",
-    );
-    says(
-        &rt,
-        alloc,
-        Reply::NotRouted(RouteRefused::Stray),
-        "stray packet",
-    );
-    says(
-        &rt,
-        alloc,
-        Reply::NotRouted(RouteRefused::Spent),
-        "no hop left",
-    );
-    says(&rt, alloc, Reply::Memory, "out of memory");
+    for (reply, want) in &REPLIES {
+        let reply = *reply;
+        let text = got(&rt, format!(in rt.alloc(); "{}", ReplyLine { reply }));
+        same(&rt, text.as_str(), *want, "a reply");
+    }
 }
 
-fn says_not_opened(rt: &impl Abort, alloc: Global, refused: OpenRefused, want: &str) {
-    let text = got(rt, format!(in alloc; "{}", NotOpenedLine { refused }));
-    assert_eq!(rt; text.as_str(), want);
-}
+const NOT_OPENED: [(OpenRefused, &str); 5] = [
+    (OpenRefused::NotFormatted, "not opened not formatted"),
+    (OpenRefused::BadVersion, "not opened layout not known"),
+    (OpenRefused::Damaged, "not opened damaged"),
+    (OpenRefused::Device, "not opened device"),
+    (OpenRefused::Memory, "not opened memory"),
+];
 
 #[test]
 fn says_why_a_life_could_not_open(rt: HostRuntime) {
-    let alloc = rt.alloc();
-    says_not_opened(
-        &rt,
-        alloc,
-        OpenRefused::NotFormatted,
-        "not opened not formatted",
-    );
-    says_not_opened(
-        &rt,
-        alloc,
-        OpenRefused::BadVersion,
-        "not opened layout not known",
-    );
-    says_not_opened(&rt, alloc, OpenRefused::Damaged, "not opened damaged");
-    says_not_opened(&rt, alloc, OpenRefused::Device, "not opened device");
-    says_not_opened(&rt, alloc, OpenRefused::Memory, "not opened memory");
+    for (refused, want) in &NOT_OPENED {
+        let refused = *refused;
+        let text = got(&rt, format!(in rt.alloc(); "{}", NotOpenedLine { refused }));
+        same(&rt, text.as_str(), *want, "why");
+    }
 }

@@ -8,30 +8,30 @@ fn lists_the_stops_of_calls(rt: HostRuntime) {
     let want = [(1, 0), (2, 0), (2, 1), (2, 2), (3, 0)].map(|(call, put)| Stop { call, put });
     for most in 0..6usize {
         let stops = got(&rt, stops_of(rt.alloc(), &calls, most));
-        assert_eq!(rt; stops.as_slice(), &want[..most.min(5)], "{most}");
+        same(&rt, stops.as_slice(), &want[..most.min(5)], "the stops");
     }
 }
 
 // The write of three bytes has four stops. The sync, which fails, has one, and so has the read.
 #[test]
 fn notes_the_calls_since_it_was_armed(rt: HostRuntime) {
-    let disk = got(&rt, MemDisk::new(rt.alloc(), 16));
-    let mut disk = Watched::new(rt.alloc(), disk);
-    got(&rt, disk.sync());
+    let alloc = rt.alloc();
+    let rt = &rt;
+    let disk = got(rt, MemDisk::new(alloc, 16));
+    let mut disk = Watched::new(alloc, disk);
+    got(rt, disk.sync());
     disk.arm(Plan::Fail(2));
     assert!(rt; disk.len() == 16);
-    got(&rt, disk.write_at(3, &[1, 2, 3]));
+    got(rt, disk.write_at(3, &[1, 2, 3]));
     assert!(rt; disk.sync().is_err());
     let mut bytes = [0; 4];
     assert!(rt; disk.len() == 16);
-    got(&rt, disk.read(2, &mut bytes));
-    assert_eq!(rt; bytes, [0, 1, 2, 3]);
-    let calls = got(&rt, disk.into_calls());
-    assert_eq!(rt;
-        calls.as_slice(),
-        [Call::Write(3), Call::Sync, Call::Read].as_slice()
-    );
-    assert_eq!(rt; count_stops(&calls), 6);
+    got(rt, disk.read(2, &mut bytes));
+    same(rt, bytes, [0, 1, 2, 3], "the bytes");
+    let calls = got(rt, disk.into_calls());
+    let want = [Call::Write(3), Call::Sync, Call::Read];
+    same(rt, calls.as_slice(), want.as_slice(), "the calls");
+    same(rt, count_stops(&calls), 6, "their stops");
 }
 
 // The widest write. A function of its own hides its length from the prover, which would else list its stops one by one.
@@ -42,14 +42,21 @@ fn widest() -> Call {
 // A crash leaves what was noted. A count that is too great for its type is the greatest number.
 #[test]
 fn notes_the_calls_over_a_crash(rt: HostRuntime) {
-    let disk = got(&rt, MemDisk::new(rt.alloc(), 16));
-    let mut disk = Watched::new(rt.alloc(), disk);
-    got(&rt, disk.sync());
+    let alloc = rt.alloc();
+    let rt = &rt;
+    let disk = got(rt, MemDisk::new(alloc, 16));
+    let mut disk = Watched::new(alloc, disk);
+    got(rt, disk.sync());
     let disk = disk.crash(0);
-    let calls = got(&rt, disk.into_calls());
-    assert_eq!(rt; calls.as_slice(), [Call::Sync].as_slice());
-    assert_eq!(rt; count_stops(&[]), 0);
-    assert_eq!(rt; count_stops(&[widest(), Call::Sync]), u64::MAX);
+    let calls = got(rt, disk.into_calls());
+    same(rt, calls.as_slice(), [Call::Sync].as_slice(), "the calls");
+    same(rt, count_stops(&[]), 0, "no calls");
+    same(
+        rt,
+        count_stops(&[widest(), Call::Sync]),
+        u64::MAX,
+        "the most",
+    );
 }
 
 const fn kind(found: u64, acknowledged: u64, opened: u64) -> Kind {
@@ -63,6 +70,8 @@ const fn kind(found: u64, acknowledged: u64, opened: u64) -> Kind {
 // Seven trials of four kinds, of which each two differ in one number.
 #[test]
 fn counts_kinds_in_order(rt: HostRuntime) {
+    let alloc = rt.alloc();
+    let rt = &rt;
     let kinds = [
         kind(1, 2, 3),
         kind(1, 2, 4),
@@ -79,7 +88,7 @@ fn counts_kinds_in_order(rt: HostRuntime) {
         (kind(1, 2, 4), 1),
     ]
     .map(|(kind, trials)| KindCount { kind, trials });
-    let table = got(&rt, table_of(rt.alloc(), &kinds));
-    assert_eq!(rt; table.as_slice(), want.as_slice());
-    assert!(rt; got(&rt, table_of(rt.alloc(), &[])).is_empty());
+    let table = got(rt, table_of(alloc, &kinds));
+    same(rt, table.as_slice(), want.as_slice(), "the table");
+    assert!(rt; got(rt, table_of(alloc, &[])).is_empty());
 }

@@ -14,17 +14,23 @@ fn noted(rt: &impl Abort, alloc: Global) -> Result<Vec<Call>, AllocError> {
 #[test]
 fn stops_and_tables_once_memory_is_there(rt: HostRuntime) {
     let alloc = rt.alloc();
-    let calls = match noted(&rt, alloc) {
+    let rt = &rt;
+    let calls = match noted(rt, alloc) {
         Ok(calls) => calls,
-        Err(_) => got(&rt, noted(&rt, alloc)),
+        Err(_) => got(rt, noted(rt, alloc)),
     };
-    assert_eq!(&rt; calls.as_slice(), [Call::Sync; 3].as_slice());
+    same(
+        rt,
+        calls.as_slice(),
+        [Call::Sync; 3].as_slice(),
+        "the calls",
+    );
     let stops = match stops_of(alloc, &calls, 2) {
         Ok(stops) => stops,
-        Err(_) => got(&rt, stops_of(alloc, &calls, 2)),
+        Err(_) => got(rt, stops_of(alloc, &calls, 2)),
     };
     let want = [1, 2].map(|call| Stop { call, put: 0 });
-    assert_eq!(&rt; stops.as_slice(), want.as_slice());
+    same(rt, stops.as_slice(), want.as_slice(), "the stops");
     let kind = Kind {
         found: 0,
         acknowledged: 1,
@@ -32,10 +38,10 @@ fn stops_and_tables_once_memory_is_there(rt: HostRuntime) {
     };
     let table = match table_of(alloc, &[kind, kind]) {
         Ok(table) => table,
-        Err(_) => got(&rt, table_of(alloc, &[kind, kind])),
+        Err(_) => got(rt, table_of(alloc, &[kind, kind])),
     };
     let want = [KindCount { kind, trials: 2 }];
-    assert_eq!(&rt; table.as_slice(), want.as_slice());
+    same(rt, table.as_slice(), want.as_slice(), "the table");
 }
 
 const WANT: &str = "stops=2 of=31
@@ -54,12 +60,13 @@ fn told_of(rt: &impl Abort, alloc: Global) -> Option<String> {
 
 #[test]
 fn trials_once_memory_is_there(rt: HostRuntime) {
-    if let Some(told) = told_of(&rt, rt.alloc()) {
-        assert_eq!(&rt; told.as_str(), WANT);
-        return;
+    let alloc = rt.alloc();
+    let rt = &rt;
+    if let Some(told) = told_of(rt, alloc) {
+        return same(rt, told.as_str(), WANT, "at once");
     }
-    match told_of(&rt, rt.alloc()) {
-        Some(told) => assert_eq!(&rt; told.as_str(), WANT),
-        None => panic!(&rt; "no memory"),
+    match told_of(rt, alloc) {
+        Some(told) => same(rt, told.as_str(), WANT, "once memory is there"),
+        None => panic!(rt; "no memory"),
     }
 }

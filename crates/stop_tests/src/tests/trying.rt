@@ -10,11 +10,13 @@ use super::*;
 // A commit of one change: the record, a sync, the gate, and a sync.
 #[test]
 fn lists_the_calls_of_the_last_life(rt: HostRuntime) {
-    let mut rehearsal = asked(&rt, rt.alloc(), ONE_CHANGE);
-    assert!(&rt; rehearsal.lives.len() >= 2);
-    let calls = got(&rt, calls_of_last(rt.alloc(), &mut rehearsal));
+    let alloc = rt.alloc();
+    let rt = &rt;
+    let mut rehearsal = asked(rt, alloc, ONE_CHANGE);
+    assert!(rt; rehearsal.lives.len() >= 2);
+    let calls = got(rt, calls_of_last(alloc, &mut rehearsal));
     let want = [Call::Write(26), Call::Sync, Call::Write(1), Call::Sync];
-    assert_eq!(&rt; calls.as_slice(), want.as_slice());
+    same(rt, calls.as_slice(), want.as_slice(), "the calls");
 }
 
 fn trial(call: u64, put: usize, acknowledged: u64, opened: u64) -> StopFound {
@@ -35,21 +37,26 @@ fn trials() -> [StopFound; 3] {
 
 #[test]
 fn tries_one_stop_after_another(rt: HostRuntime) {
-    let mut rehearsal = asked(&rt, rt.alloc(), ONE_CHANGE);
-    assert!(&rt; rehearsal.lives.len() >= 2);
+    let alloc = rt.alloc();
+    let rt = &rt;
+    let mut rehearsal = asked(rt, alloc, ONE_CHANGE);
+    assert!(rt; rehearsal.lives.len() >= 2);
     let wanted = trials();
     let stops = wanted.map(|trial| trial.stop);
-    let tried = try_stops(rt.alloc(), &mut rehearsal, &stops, |_: usize| {});
-    assert_eq!(&rt; got(&rt, tried).as_slice(), wanted.as_slice());
+    let tried = try_stops(alloc, &mut rehearsal, &stops, |_: usize| {});
+    let tried = got(rt, tried);
+    same(rt, tried.as_slice(), wanted.as_slice(), "the trials");
 }
 
 #[test]
 fn tries_one_stop(rt: HostRuntime) {
+    let alloc = rt.alloc();
+    let rt = &rt;
     for want in &trials() {
-        let mut rehearsal = asked(&rt, rt.alloc(), ONE_CHANGE);
-        assert!(&rt; rehearsal.lives.len() >= 2);
-        let found = got(&rt, try_stop(rt.alloc(), &mut rehearsal, want.stop));
-        assert_eq!(&rt; found, *want);
+        let mut rehearsal = asked(rt, alloc, ONE_CHANGE);
+        assert!(rt; rehearsal.lives.len() >= 2);
+        let found = got(rt, try_stop(alloc, &mut rehearsal, want.stop));
+        same(rt, found, *want, "a trial");
     }
 }
 
@@ -61,5 +68,5 @@ found=0 acknowledged=0 opened=0 stops=1
 found=0 acknowledged=0 opened=1 stops=1
 found=0 acknowledged=1 opened=1 stops=1
 ";
-    assert_eq!(&rt; text.as_str(), want);
+    same(&rt, text.as_str(), want, "the table");
 }
