@@ -28,7 +28,7 @@ set xrange [900:18000]
 # The rows of a kind under landmarks of a kind.
 rows(kind, by) = sprintf("< grep '^%s,.*,%s,' landmarks.csv", kind, by)
 plot "tables.csv" using 1:2 title "full table, 2 bytes a node" lw 2 lc rgb "#888888", \
-     rows("drawn", "draw") using 2:8 notitle lw 1 dt 2 lc rgb "#1f77b4", rows("drawn", "chosen") using 2:8 title "drawn network" lw 2 lc rgb "#1f77b4", \
+     rows("drawn", "draw") using 2:8 notitle lw 1 dt 2 pt 12 lc rgb "#1f77b4", rows("drawn", "chosen") using 2:8 title "drawn network" lw 2 pt 12 ps 1.6 lc rgb "#1f77b4", \
      rows("powerlaw", "draw") using 2:8 notitle lw 1 dt 2 lc rgb "#d62728", rows("powerlaw", "chosen") using 2:8 title "power law" lw 2 lc rgb "#d62728", \
      rows("internet", "draw") using 2:8 notitle lw 1 dt 2 lc rgb "#9467bd", rows("internet", "chosen") using 2:8 title "internet" lw 2 lc rgb "#9467bd", \
      rows("grid", "draw") using 2:8 notitle lw 1 dt 2 lc rgb "#2ca02c", rows("grid", "chosen") using 2:8 title "grid" lw 2 lc rgb "#2ca02c"
