@@ -25,6 +25,14 @@ is_not_understood told.Words is = tt
 is_not_understood told.Script is = tt
 is_not_understood _ is = absurd (cc)
 
+-- and no fault of status 1 is one of them
+is_understood : (fault : Fault) → status_of fault ≡ 1 → IsNotUnderstood fault → ⊥
+is_understood told.Usage is lacks = absurd (cc)
+is_understood told.Op is lacks = absurd (cc)
+is_understood told.Words is lacks = absurd (cc)
+is_understood told.Script is lacks = absurd (cc)
+is_understood _ is lacks = lacks
+
 -- a run of status 2 ends so by one of them
 pub not_understood : {D : Type 0} (model : Ghosts D) (done : Doing D) (put : List Put → Type 0) (words : List Text) (given old new told_old told_new : Option (List ℕ)) (outcome : Outcome) → IsOutcome model done put words given old new told_old told_new outcome → status_in outcome ≡ 2
     → (fault : Fault) × IsNotUnderstood fault × IsFaultFor model done put words given old new fault × ((outcome ≡ Told fault) ⊎ (outcome ≡ Untold fault))
@@ -48,11 +56,11 @@ answered model done put words given old new told_old told_new (Untold fault) is 
 
 -- one of status 1 has printed that the answer is no, or a fault ended it
 pub refused : {D : Type 0} (model : Ghosts D) (done : Doing D) (put : List Put → Type 0) (words : List Text) (given old new told_old told_new : Option (List ℕ)) (outcome : Outcome) → IsOutcome model done put words given old new told_old told_new outcome → status_in outcome ≡ 1
-    → AnswersWords model done put words given Refused old new ⊎ ((fault : Fault) × (status_of fault ≡ 1) × IsFaultFor model done put words given old new fault × ((outcome ≡ Told fault) ⊎ (outcome ≡ Untold fault)))
+    → AnswersWords model done put words given Refused old new ⊎ ((fault : Fault) × ¬ IsNotUnderstood fault × IsFaultFor model done put words given old new fault × ((outcome ≡ Told fault) ⊎ (outcome ≡ Untold fault)))
 refused model done put words given old new told_old told_new (Answered Done) is one = absurd (cc)
 refused model done put words given old new told_old told_new (Answered Refused) is one = inl is.0
-refused model done put words given old new told_old told_new (Told fault) is one = inr (fault, one, is.0, inl refl)
-refused model done put words given old new told_old told_new (Untold fault) is one = inr (fault, one, is, inr refl)
+refused model done put words given old new told_old told_new (Told fault) is one = inr (fault, is_understood fault one, is.0, inl refl)
+refused model done put words given old new told_old told_new (Untold fault) is one = inr (fault, is_understood fault one, is, inr refl)
 
 -- what the status of a run says
 pub says : {D R W E : Type 0} (model : Ghosts D) (done : Doing D) (put : List Put → Type 0) (words : List Text) (remaining : R → Option (List ℕ)) (contents : W → Option (List ℕ)) (shown : E → Option (List ℕ)) (old new : Streams R W E) (outcome : Outcome) (code : ℕ)

@@ -25,7 +25,8 @@ use Rattle.commands.specs.Events.{Event}
 use Rattle.commands.specs.Endings.{EndsOpened, EndsTransfer, IsCheckDeviceFault, IsCheckEnd, IsFaultBy, IsFaultFor, IsTablesEnd, Leaves, MayEnd, MayEndAlone, MayEndServing, MayEndTables, access_of, device_of}
 use Rattle.commands.specs.Printed.{AnswersWords, PrintedAlone, PrintedFor, PrintedServing, PrintedTables, PrintsOpened, PrintsTables}
 use Rattle.commands.specs.Queries.{AnswersOf, IsSchemeIn}
-use Rattle.commands.specs.Runs.{EndsPutFound, Says, SaysAll, SaysAlone, SaysServing, SaysTables}
+use Rattle.commands.specs.Runs.{EndsPutFound, IsServingFault, Says, SaysAll, SaysAlone, SaysServing, SaysTables}
+use Rattle.commands.specs.ServedScripts.{AskService}
 use Rattle.commands.proofs.Faults.{each_fault}
 use Rattle.commands.proofs.OnDevices.{asking_end}
 use Rattle.table_files.specs.Files.{Put}
@@ -237,16 +238,34 @@ ends_serving : {D : Type 0} (model : Ghosts D) (done : Doing D) (put : List Put 
 ends_serving model done put (Serve device editors forwarders places live words) given old new fault is = is
 ends_serving model done put _ given old new fault is = tt
 
+-- where words ask for a service, a fault that ends what they ask for is one of it
+fails_serving : {D : Type 0} (model : Ghosts D) (done : Doing D) (put : List Put → Type 0) (words : List Text) (given old new : Known) (fault : Fault) → AskService words → IsFaultFor model done put words given old new fault → IsServingFault model done words given old new fault
+fails_serving model done put words given old new fault asks (inl refused) = inl (refused.0, refused.1.3 asks.0 asks.1)
+fails_serving model done put words given old new fault asks (inr may) = inr (may.0, may.1, ends_serving model done put may.0 given old new fault may.2)
+
+says_serving : {D R W : Type 0} (model : Ghosts D) (done : Doing D) (put : List Put → Type 0) (words : List Text) (remaining : R → Known) (contents : W → Known) (script left : R) (out printed : W) (code : ℕ) → SaysAll model done put words remaining contents script left out printed code
+    → SaysServing model done words remaining contents script out printed code
+says_serving model done put words remaining contents script left out printed code says =
+    let given = remaining script in
+    let before = contents out in
+    let after = contents printed in
+    record {
+      answered = λ zero. (let is = says.answered zero in (is.0, is.1, printed_serving model done put is.0 given Done before after is.2));
+      refused = λ one asks. ⊎_elim (λ is. inl (is.0, is.1, printed_serving model done put is.0 given Refused before after is.2))
+          (λ why. inr (why.0, why.1, fails_serving model done put words given before after why.0 asks why.2, why.3)) (says.refused one);
+      not_understood = λ two asks. (let why = says.not_understood two in (why.1.0, why.1.1, fails_serving model done put words given before after why.1.0 asks why.1.2));
+    }
+
 -- a status of any task, in three
 pub says_parts : {D R W : Type 0} (model : Ghosts D) (done : Doing D) (put : List Put → Type 0) (words : List Text) (remaining : R → Known) (contents : W → Known) (script left : R) (out printed : W) (code : ℕ) → SaysAll model done put words remaining contents script left out printed code
     → SaysAlone model done words remaining contents script left out printed code
-    × (SaysTables model done put words remaining contents script left out printed code × SaysServing model done words remaining contents script left out printed code)
+    × (SaysTables model done put words remaining contents script left out printed code × SaysServing model done words remaining contents script out printed code)
 says_parts model done put words remaining contents script left out printed code all =
     let full = PrintedFor model done put in
     let may = MayEnd model done put in (
       says_so done words full (λ task given. PrintedAlone model done task) may (λ task given old new. MayEndAlone model done task) remaining contents script left out printed code (printed_alone model done put) (ends_alone model done put) all,
       (
         says_so done words full (λ task given. PrintedTables model done put task) may (λ task given old new. MayEndTables model done put task) remaining contents script left out printed code (printed_tables model done put) (ends_tables model done put) all,
-        says_so done words full (PrintedServing model done) may (MayEndServing model done) remaining contents script left out printed code (printed_serving model done put) (ends_serving model done put) all,
+        says_serving model done put words remaining contents script left out printed code all,
       ),
     )

@@ -5,7 +5,7 @@ use Rattle.clap.specs.Walk.{Text}
 use Rattle.disk_trait.specs.declared.disk.Disk.{Ghosts}
 use Rattle.disk_trait.specs.Disk.{DiskView, IsSameDevice}
 use Rattle.command_line.specs.declared.task.Task.{Task}
-use Rattle.command_output.specs.Faults.{IsNotUnderstood, status_of}
+use Rattle.command_output.specs.Faults.{IsNotUnderstood}
 use Rattle.command_output.specs.Printing.{Ends, Known}
 use Rattle.command_output.specs.declared.ended.Ended.{Ended}
 use Rattle.command_output.specs.declared.ended.Ended.TheVariants.{Done, Refused}
@@ -145,7 +145,7 @@ pub record Says {D R W : Type 0} (done : Doing D) (words : List Text) (Answers :
   -- 1: the answer is no, or one of the faults of the words' task ended the run; only where the output failed may a part be printed.
   -- A live service has printed answers by then.
   pub refused : code ≡ 1 → OfTask words (λ task. Answers task (remaining script) Refused (contents out) (contents out_new))
-      ⊎ ((fault : Fault) × (status_of fault ≡ 1) × IsFaultBy done words (λ task why. MayFail task (remaining script) (contents out) (contents out_new) why) fault
+      ⊎ ((fault : Fault) × ¬ IsNotUnderstood fault × IsFaultBy done words (λ task why. MayFail task (remaining script) (contents out) (contents out_new) why) fault
       × (¬ AskLive words → fault ≢ told.Output → out_new ≡ out))
   -- 2: words and scripts that aren't understood print nothing, and the fault says so
   pub not_understood : code ≡ 2 → (¬ AskLive words → out_new ≡ out)
@@ -165,6 +165,13 @@ SaysAlone model done words = Says done words (λ task given. PrintedAlone model 
 abbrev pub SaysTables : {D R W : Type 0} → Ghosts D → Doing D → (List Put → Type 0) → List Text → (R → Known) → (W → Known) → R → R → W → W → ℕ → Type 0
 SaysTables model done put words = Says done words (λ task given. PrintedTables model done put task) (λ task given old new. MayEndTables model done put task)
 
--- .. and last of `serve`
-abbrev pub SaysServing : {D R W : Type 0} → Ghosts D → Doing D → List Text → (R → Known) → (W → Known) → R → R → W → W → ℕ → Type 0
-SaysServing model done words = Says done words (PrintedServing model done) (MayEndServing model done)
+-- A fault ended what these words ask for: memory ran out while they were read, and no device was opened, or the service ended by it.
+abbrev pub IsServingFault : {D : Type 0} → Ghosts D → Doing D → List Text → Known → Known → Known → Fault → Type 0
+IsServingFault model done words given old new fault = (done [] × (fault ≡ told.Memory)) ⊎ OfTask words (λ task. MayEndServing model done task given old new fault)
+
+-- .. and last of `serve`, where the words ask for it. Of words that are no task, and of what the reader gives, the first one speaks.
+pub record SaysServing {D R W : Type 0} (model : Ghosts D) (done : Doing D) (words : List Text) (remaining : R → Known) (contents : W → Known) (script : R) (out out_new : W) (code : ℕ) : Type 0 where
+  pub answered : code ≡ 0 → OfTask words (λ task. PrintedServing model done task (remaining script) Done (contents out) (contents out_new))
+  pub refused : code ≡ 1 → AskService words → OfTask words (λ task. PrintedServing model done task (remaining script) Refused (contents out) (contents out_new))
+      ⊎ ((fault : Fault) × ¬ IsNotUnderstood fault × IsServingFault model done words (remaining script) (contents out) (contents out_new) fault × (¬ AskLive words → fault ≢ told.Output → out_new ≡ out))
+  pub not_understood : code ≡ 2 → AskService words → (fault : Fault) × IsNotUnderstood fault × IsServingFault model done words (remaining script) (contents out) (contents out_new) fault

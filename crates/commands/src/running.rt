@@ -53,7 +53,7 @@ where
         S.remaining O.contents script.old script.new out.old out.new result }
 
     ensures serves { SaysServing ⟦<DeviceFile as Disk>⟧ AreFiles (texts words.now)
-        S.remaining O.contents script.old script.new out.old out.new result }
+        S.remaining O.contents script.old out.old out.new result }
 {
     run_words_at(rt, &mut rt.place(), words, script, out, err)
 }

@@ -26,6 +26,7 @@ use Rattle.line_exchange.specs.declared.printed.PrintEnd.TheVariants.{Output}
 use Rattle.line_exchange.specs.Gathers.{HasText}
 use Rattle.line_exchange.proofs.Answering.{fit}
 use Rattle.line_exchange.specs.Tallies.{Adds, AreAwaited, AreDropped, AreInTurn, AreReached, IsDropped, IsInTurn, IsReached, TellsCount, accepted_by, accepted_in, no_tickets, told_by, told_in}
+use Rattle.line_exchange.specs.Waits.{AreAwaitedTo, AreNoOlder, GoesBy, IsNoOlder}
 use Rattle.line_exchange.specs.declared.tally.Tally.{Tally}
 use Rattle.line_exchange.specs.PutLines.{no_puts}
 use Rattle.line_exchange.proofs.NotedLines.{more_noted, none_noted}
@@ -67,6 +68,22 @@ more_awaited old new answers answer are reached is before k count generation ear
   where
     no_later : slice_get answers k ≡ Some (Waited generation) → before ≡ length answers → ⊥
     no_later there last = (let within = get_within answers k (Waited generation) there in omega (arith, within, less, last))
+
+-- none was waited for that is later
+more_waited : (old new : ℕ) (answers : List Answer) (answer : Answer) → AreAwaitedTo old answers → IsNoOlder old answer new → AreAwaitedTo new (answers ++ answer ∷ [])
+more_waited old new answers answer are is k waited at =
+    ⊎_elim (λ there. (let least = are k waited there in let kept = is.kept in omega (arith, least, kept))) (λ last. is.waits waited last.1) (get_snoc answers answer k (Waited waited) at)
+
+-- and none goes by an older one
+more_no_older : (old new : ℕ) (answers : List Answer) (answer : Answer) → AreNoOlder answers → AreAwaitedTo old answers → IsNoOlder old answer new → AreNoOlder (answers ++ answer ∷ [])
+more_no_older old new answers answer are to is before k waited number other less waits at by =
+    ⊎_elim (λ there. ⊎_elim (λ first. are before k waited number other less first there by) (λ last. absurd (no_later there last.0)) (get_snoc answers answer before (Waited waited) waits))
+    (λ last. ⊎_elim (λ first. (let least = to before waited first in let most = is.by number (subst (λ (a : Answer). GoesBy a number) (sym last.1) by) in omega (arith, least, most)))
+    (λ same. absurd (let one = same.0 in let two = last.0 in omega (arith, one, two, less)))
+    (get_snoc answers answer before (Waited waited) waits)) (get_snoc answers answer k other at)
+  where
+    no_later : slice_get answers k ≡ Some other → before ≡ length answers → ⊥
+    no_later there last = (let within = get_within answers k other there in omega (arith, within, less, last))
 
 -- the tickets of verdicts rise
 more_in_turn : (old new : List ℕ) (answers : List Answer) (answer : Answer) → AreInTurn old answers → IsInTurn old answer new → AreInTurn new (answers ++ answer ∷ [])
@@ -141,6 +158,8 @@ none_printed_by text tally input editors old none untold unput starts = record {
   gone = λ k at. absurd (cc);
   awaited = λ before k count generation earlier less at tells waits. absurd (cc);
   reached = λ k count answer at tells. absurd (cc);
+  no_older = λ before k waited number answer less waits at by. absurd (cc);
+  awaited_to = λ k waited at. absurd (cc);
   in_turn = record { rises = tt; last = untold };
   noted = none_noted tally.puts tally.lines.lines unput;
   dropped = λ k answer at. absurd (cc);
@@ -152,7 +171,7 @@ none_printed_by text tally input editors old none untold unput starts = record {
 pub printed_as : (text : Answer → List ℕ) (tally : Tally) (input : Input) (editors : ℕ) (P Q : List ℕ → Type 0) → HasPrintedBy text tally input editors P → ((lines : List ℕ) → P lines → Q lines)
     → HasPrintedBy text tally input editors Q
 printed_as text tally input editors P Q has so =
-    record { answers = has.answers; many = has.many; said = has.said; gone = has.gone; awaited = has.awaited; reached = has.reached; in_turn = has.in_turn; noted = has.noted; dropped = has.dropped; accepted = has.accepted; printed = so (lines_of text has.answers) has.printed }
+    record { answers = has.answers; many = has.many; said = has.said; gone = has.gone; awaited = has.awaited; reached = has.reached; no_older = has.no_older; awaited_to = has.awaited_to; in_turn = has.in_turn; noted = has.noted; dropped = has.dropped; accepted = has.accepted; printed = so (lines_of text has.answers) has.printed }
 
 -- a flush prints nothing
 pub still_printed_by : (text : Answer → List ℕ) (tally : Tally) (input : Input) (editors : ℕ) (old mid new : Option (List ℕ)) → HasPrintedBy text tally input editors (Appends old mid) → Keeps mid new
@@ -174,6 +193,8 @@ one_more_by text tally more seen input editors P Q answer has adds is off so =
       gone = more_gone tally.known seen more.known input editors has.answers answer has.gone has.said adds.on adds.covers adds.gone (λ gone. subst (λ (n : ℕ). ∥ IsOffAt seen input editors n ∥₁) (sym has.many) (off gone));
       awaited = more_awaited tally.reached more.reached has.answers answer has.awaited has.reached adds.reached;
       reached = more_reached tally.reached more.reached has.answers answer has.reached adds.reached;
+      no_older = more_no_older tally.awaited more.awaited has.answers answer has.no_older has.awaited_to adds.no_older;
+      awaited_to = more_waited tally.awaited more.awaited has.answers answer has.awaited_to adds.no_older;
       in_turn = more_in_turn tally.tickets more.tickets has.answers answer has.in_turn adds.in_turn;
       noted = more_noted tally.puts more.puts tally.lines more.lines tally.count has.answers answer has.noted has.many adds.noted;
       dropped = subst (λ (o : Opening). AreDropped o.starts (has.answers ++ answer ∷ [])) (sym adds.on.0)

@@ -3,6 +3,7 @@ pub mod Scripts
 pub mod Streams
 pub mod OneList
 pub mod PutLines
+pub mod Waits
 pub mod Tallies
 pub mod Begun
 pub mod Prints

@@ -13,6 +13,7 @@ use Rattle.line_exchange.specs.Streams.{AreEachAt, IsAnswerAt}
 use Rattle.line_exchange.specs.OneList.{AreGone, AreSaid}
 use Rattle.line_exchange.specs.PutLines.{AreNotedFirst}
 use Rattle.line_exchange.specs.Tallies.{AreAwaited, AreDropped, AreInTurn, AreReached, accepted_in}
+use Rattle.line_exchange.specs.Waits.{AreAwaitedTo, AreNoOlder}
 use Rattle.line_exchange.specs.declared.tally.Tally.{Tally}
 use Rattle.line_exchange.specs.declared.printed.Printed.{Printed}
 use Rattle.line_exchange.specs.declared.printed.PrintEnd.TheVariants.{Output}
@@ -45,6 +46,9 @@ pub record HasPrintedBy (text : Answer → List ℕ) (tally : Tally) (input : In
   -- a generation that was waited for has what was told before
   pub awaited : AreAwaited answers
   pub reached : AreReached tally.reached answers
+  -- ways and addresses go by no older one than was waited for before
+  pub no_older : AreNoOlder answers
+  pub awaited_to : AreAwaitedTo tally.awaited answers
   pub in_turn : AreInTurn tally.tickets answers
   -- the lines of verdicts were noted by editors
   pub noted : AreNotedFirst tally.puts tally.lines.lines answers

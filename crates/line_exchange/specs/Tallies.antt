@@ -7,8 +7,9 @@ use Rattle.generations.specs.declared.posting.Verdict.{Verdict}
 use Rattle.generations.specs.declared.posting.Verdict.TheVariants.{Accepted, Refused}
 use Rattle.generations.specs.Beginnings.{Beginning, GoesOn}
 use Rattle.live_lines.specs.declared.answer.Answer.{Answer}
-use Rattle.live_lines.specs.declared.answer.Answer.TheVariants.{AlreadyIn, Gone, OldTicket, RefusedBefore, Settled, Waited}
+use Rattle.live_lines.specs.declared.answer.Answer.TheVariants.{AlreadyIn, Gone, OldTicket, RefusedBefore, Resumed, Settled, Waited}
 use Rattle.line_exchange.specs.PutLines.{NotesMore}
+use Rattle.line_exchange.specs.Waits.{IsNoOlder}
 use Rattle.line_exchange.specs.declared.tally.Tally.{Tally}
 
 -- it tells that a change is accepted as the one of this number
@@ -69,11 +70,12 @@ abbrev pub accepted_in : List Answer → List (ℕ × ℕ)
 accepted_in answers = flat_map accepted_by answers
 
 -- An edit that put nothing is told so by the last tickets of its session before: `already in` of one that is at most the last one accepted,
--- `refused before` of the last one, which was refused, and `old ticket` of one in between.
+-- `refused before` of the last one, which was refused, and `old ticket` of one in between. `resume` tells the last one accepted.
 abbrev pub IsDropped : List ℕ → List ℕ → Answer → Type 0
 IsDropped accepted told (AlreadyIn session ticket) = ticket ≤ last_of accepted session
 IsDropped accepted told (RefusedBefore session ticket op code) = (last_of accepted session < ticket) × (ticket ≡ last_of told session)
 IsDropped accepted told (OldTicket session ticket) = (last_of accepted session < ticket) × (ticket < last_of told session)
+IsDropped accepted told (Resumed session ticket) = ticket ≡ last_of accepted session
 IsDropped accepted told other = Unit {0}
 
 -- each one is, by what was told before it, where the sessions' tickets start so
@@ -85,6 +87,7 @@ AreDropped starts answers = (k : ℕ) (answer : Answer) → slice_get answers k 
 pub record Adds (old : Tally) (seen : Beginning) (answer : Answer) (new : Tally) : Type 0 where
   pub count : new.count ≡ old.count + 1
   pub reached : IsReached old.reached answer new.reached
+  pub no_older : IsNoOlder old.awaited answer new.awaited
   pub in_turn : IsInTurn old.tickets answer new.tickets
   pub noted : NotesMore old.count answer old.puts new.puts old.lines new.lines
   pub dropped : IsDropped old.accepted old.tickets answer

@@ -12,8 +12,9 @@
 //!
 //! Whoever prints keeps a [`Tally`] of what was printed, and ends the service where an answer doesn't go with those before it: a generation
 //! that was waited for lacks a change that was told as accepted, a verdict's ticket isn't behind its session's last one, or its line isn't
-//! the next one that the session's editor noted (`put_lines`), an edit that put nothing isn't told so by these tickets, or who tells that a
-//! generation is gone knew less than the answers before (`Adds` of specs/Tallies).
+//! the next one that the session's editor noted (`put_lines`), an edit that put nothing isn't told so by these tickets or `resume` the last
+//! accepted one, a route or an address goes by an older generation than one that was waited for before, or who tells that a generation is
+//! gone knew less than the answers before (`Adds` of specs/Tallies).
 //!
 //! Answers are printed on an [`AnswerWriter`]. Where a write of it fails, a beginning of their lines stands there, and of a [`WatchedOutput`] it
 //! is known that a write failed (`PrintsSo` of specs/Prints, `PrintsAtEnd` of specs/Gathers).

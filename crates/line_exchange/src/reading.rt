@@ -72,6 +72,9 @@ fn deal<J: Stream, B: BoardName, R: Wait>(
 ) -> Result<(), ReadFault>
     ensures { IfErr result (λ why. why ≢ ReadFault.Input) }
 {
+    if let Asked::Wait = ask.asked {
+        exchange.fence(ask.place);
+    }
     let put = match owned_by(&ask.asked) {
         Owner::Session(session) => match exchange.sessions.get(session as usize) {
             Some(mailbox) => mailbox.put(rt, ask),

@@ -4,11 +4,12 @@ ghost use Rattle.generations.specs.Beginnings.{GoesOn};
 ghost use Rattle.line_exchange.specs.PutLines.{NotesMore, no_puts};
 ghost use Rattle.requests.specs.Tickets.{tickets_after};
 ghost use Rattle.line_exchange.specs.Tallies.{Adds, IsDropped, IsInTurn, IsReached, accepted_by, no_tickets};
+ghost use Rattle.line_exchange.specs.Waits.{IsNoOlder};
 
 use crate::messages::{Answered, Stream};
 use generations::{History, Verdict};
 use live_lines::Answer;
-use packet_ways::BoardName;
+use packet_ways::{BoardName, Carried};
 use put_lines::PutLines;
 use requests::SESSIONS;
 
@@ -19,6 +20,8 @@ pub struct Tally {
     pub count: u64,
     /// The greatest number of a change that was told as accepted.
     pub reached: u64,
+    /// The newest generation that was waited for.
+    pub awaited: u64,
     /// The last ticket that was told as a verdict, of each session.
     pub tickets: [u64; SESSIONS],
     /// The last ticket that was told as accepted, of each session, or where its tickets start.
@@ -56,6 +59,19 @@ fn reached_with(reached: u64, answer: &Answer) -> Option<u64>
         },
         Answer::Waited { generation } if *generation < reached => None,
         _ => Some(reached),
+    }
+}
+
+// The newest generation that was waited for, with an answer more. None where that goes by an older one.
+fn awaited_with(awaited: u64, answer: &Answer) -> Option<u64>
+    ensures { IfSome result (IsNoOlder awaited answer.now) }
+{
+    match answer {
+        Answer::Waited { generation } => Some(awaited.max(*generation)),
+        Answer::Way(Carried::Along { generation, .. }) if *generation < awaited => None,
+        Answer::Way(Carried::Unreachable { generation }) if *generation < awaited => None,
+        Answer::Told(address) if address.generation < awaited => None,
+        _ => Some(awaited),
     }
 }
 
@@ -99,7 +115,7 @@ fn accepted_with(accepted: &[u64; SESSIONS], answer: &Answer) -> Option<[u64; SE
     }
 }
 
-// Whether an edit that put nothing is told so by the last tickets of its session.
+// Whether an edit that put nothing is told so by the last tickets of its session, and `resume` the last one accepted.
 fn is_dropped(accepted: &[u64; SESSIONS], tickets: &[u64; SESSIONS], answer: &Answer) -> bool
     ensures { IsTrue result → IsDropped accepted.now tickets.now answer.now }
 {
@@ -119,6 +135,10 @@ fn is_dropped(accepted: &[u64; SESSIONS], tickets: &[u64; SESSIONS], answer: &An
         Answer::OldTicket { session, ticket } => {
             let session = *session as usize;
             session < SESSIONS && accepted[session] < *ticket && *ticket < tickets[session]
+        }
+        Answer::Resumed { session, ticket } => {
+            let session = *session as usize;
+            session < SESSIONS && *ticket == accepted[session]
         }
         _ => true,
     }
@@ -185,6 +205,7 @@ impl Tally {
         Tally {
             count: 0,
             reached: 0,
+            awaited: 0,
             tickets: [0; SESSIONS],
             accepted: *starts,
             puts: [0; SESSIONS],
@@ -202,6 +223,7 @@ impl Tally {
     {
         let count = self.count.checked_add(1)?;
         let reached = reached_with(self.reached, &answered.answer)?;
+        let awaited = awaited_with(self.awaited, &answered.answer)?;
         if !knows_all(&self.known, &answered.known, &answered.answer) {
             return None;
         }
@@ -212,6 +234,7 @@ impl Tally {
         Some(Tally {
             count,
             reached,
+            awaited,
             tickets: tickets_with(&self.tickets, &answered.answer)?,
             accepted: accepted_with(&self.accepted, &answered.answer)?,
             puts,

@@ -171,7 +171,22 @@ fn answer_of<J: Stream, B: BoardName, G: Gate, R: Wait>(
     }
 }
 
-// The answer to the line at a place. That a generation is gone is told by a look behind all answers to earlier lines. Without one all stop.
+// Whether a line goes by the newest tables.
+fn goes_by_newest(asked: &Asked) -> bool {
+    match asked {
+        Asked::Route { .. } | Asked::Address { .. } => true,
+        _ => false,
+    }
+}
+
+// Waits until what was waited for on lines before a place is printed. False where all stop.
+fn await_waited<J: Stream, B: BoardName, R: Wait>(here: &Workplace<J, B, R>, place: u64) -> bool {
+    let fence = here.exchange.fence_before(place);
+    here.exchange.is_turn(here.rt, fence) || here.await_turn(fence)
+}
+
+// The answer to the line at a place. What goes by the newest tables is answered behind each earlier line that waits for tables; that a
+// generation is gone is told by a look behind all answers to earlier lines. Without one all stop.
 fn answer_at<J: Stream, B: BoardName, G: Gate, R: Wait>(
     here: &Workplace<J, B, R>,
     gate: &G,
@@ -183,6 +198,9 @@ fn answer_at<J: Stream, B: BoardName, G: Gate, R: Wait>(
     ensures answer { IfSome result (λ answer. AnswersBy forwarder.new.forwarder asked.now answer) }
     ensures newest { IfSome result (GoesByNewest forwarder.old.forwarder forwarder.new.forwarder asked.now) }
 {
+    if goes_by_newest(asked) && !await_waited(here, place) {
+        return None;
+    }
     match answer_of(here, gate, forwarder, asked)? {
         Answer::Gone => {
             if !here.await_turn(place) {

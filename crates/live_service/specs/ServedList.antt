@@ -30,6 +30,7 @@ use Rattle.line_exchange.specs.OneList.{AreAnswersIn, AreGone}
 use Rattle.line_exchange.specs.PutLines.{puts_in}
 use Rattle.line_exchange.specs.Tallies.{AreAwaited, AreDropped, no_tickets, told_in}
 use Rattle.requests.specs.Tickets.{Rises}
+use Rattle.line_exchange.specs.Waits.{AreNoOlder}
 use Rattle.line_exchange.specs.declared.tally.Tally.{Tally}
 use Rattle.line_exchange.specs.Prints.{AreAllLines, HasPrintedBy, lines_of}
 
@@ -110,12 +111,14 @@ pub record AreOfOneList {D : Type 0} (model : Ghosts D) (disk back : D) (input :
   pub said : AreAnswersIn board input editors answers
   -- the tickets that are told as verdicts rise in each session
   pub in_turn : Rises no_tickets (told_in answers)
-  -- an edit that put nothing is told so by its ticket and the last ones that its session was told before
+  -- an edit that put nothing is told so by its ticket and the last ones that its session was told before; `resume` tells the last accepted
   pub dropped : AreDropped first.tickets answers
   -- where one tells that a generation is gone, it is so after a beginning of the board's list that says all answers before it
   pub gone : AreGone (λ seen before. AreAnswersIn seen input editors before) board input editors answers
   -- a generation that was waited for has all changes that an earlier answer tells as accepted
   pub awaited : AreAwaited answers
+  -- .. and a route or an address on a later line goes by no older one
+  pub no_older : AreNoOlder answers
   -- a crash at any moment left the state after a beginning of the requests
   pub any_moment : IsTrue (model.view disk).keeps_model → KeepsThrough (model.view disk) first → LeavesOnly (model.view disk) (model.view back) (StandsForBeginning first taken)
   -- and one now leaves the state after all of them

@@ -32,15 +32,16 @@
 //! generation serves the graph of the state that its number names, and the marks of the requests that led there were posted before it.
 //! A route is the way that a packet goes there, and so are addresses, launches and hops by the scheme of their generation (`IsSaidIn`
 //! of `line_exchange`). `state` tells how the board stood, and the generation that `wait` answers has each change that was told as
-//! accepted before. The device holds the state after all of the requests.
-//! Nothing of this kind is said of `resume` and `tables`, nor of a way's length. The same holds of a script.
+//! accepted before; routes and addresses behind it go by no older one (`AreNoOlder`). `resume` tells the last ticket that was told as
+//! accepted. The device holds the state after all of the requests.
+//! Nothing of this kind is said of `tables`, nor of a way's length. The same holds of a script.
 //!
 //! ```text
 //! let mut err = WatchedWriter::new(rt.stderr());
 //! let (served, disk) = serve_live(&rt, alloc, disk, words, config, 16, input, &OpenGate, tables, &mut out, &mut err);
 //! // edit 0 - add:0:1:1    0 1 accepted count=1
 //! // wait                  generation=1
-//! // route 0 1             generation=1 route 0 1 length 1     (sent once the answer to `wait` was read)
+//! // route 0 1             generation=1 route 0 1 length 1
 //! ```
 #![tactic(auto)]
 
