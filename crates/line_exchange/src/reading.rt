@@ -32,7 +32,8 @@ fn owned_by(asked: &Asked) -> Owner {
         Asked::Launch { .. } | Asked::Hop { .. } => Owner::Forwarder,
         Asked::State | Asked::Wait => Owner::Waiter,
         Asked::Tables { .. } => Owner::Tables,
-        Asked::Unread(_) | Asked::NotUnderstood => Owner::Reader,
+        Asked::Unread(_) | Asked::NoSession => Owner::Reader,
+        Asked::NotOps | Asked::NotUnderstood => Owner::Reader,
     }
 }
 
@@ -42,6 +43,8 @@ fn answer_of(asked: Asked) -> Option<Answer>
 {
     match asked {
         Asked::Unread(refused) => Some(Answer::Unread(refused)),
+        Asked::NoSession => Some(Answer::NoSession),
+        Asked::NotOps => Some(Answer::NotOps),
         Asked::NotUnderstood => Some(Answer::NotUnderstood),
         _ => None,
     }

@@ -1,6 +1,6 @@
 -- What a live service answers to a line, and the text of an answer.
 use Rattle.std.specs.Prelude.{◌≡◌, ℕ, Option, Some, None, List, [], ◌∷◌, ◌++◌, codes, decimal}
-use Rattle.command_output.specs.declared.fault.Fault.TheVariants.{TableFile}
+use Rattle.command_output.specs.declared.fault.Fault.TheVariants.{Op, TableFile}
 use Rattle.command_output.specs.Faults.{fault_text}
 use Rattle.command_output.specs.Lines.{accepted_text, refused_text as refused_change, ticket_text}
 use Rattle.command_output.specs.RouteLines.{absent_text, route_text, tables_text, unreachable_text}
@@ -15,7 +15,7 @@ use Rattle.packet_bytes.specs.Texts.{address_line, move_text, packet_line, refus
 use Rattle.live_lines.specs.declared.asked.Asked.{Asked}
 use Rattle.live_lines.specs.declared.asked.Asked.TheVariants as asks
 use Rattle.live_lines.specs.declared.answer.Answer.{Answer}
-use Rattle.live_lines.specs.declared.answer.Answer.TheVariants.{Settled, AlreadyIn, RefusedBefore, OldTicket, Resumed, Way, NoNode, Told, Sent, Moved, NotCarried, Gone, Unread, State, Waited, Tables, TablesFailed, NotUnderstood}
+use Rattle.live_lines.specs.declared.answer.Answer.TheVariants.{Settled, AlreadyIn, RefusedBefore, OldTicket, Resumed, Way, NoNode, Told, Sent, Moved, NotCarried, Gone, Unread, State, Waited, Tables, TablesFailed, NoSession, NotOps, NotUnderstood}
 
 -- ---- which answers are of a line
 
@@ -56,6 +56,8 @@ Fits (asks.Tables folder) (Tables generation tables bytes greatest) = Unit {0}
 Fits (asks.Tables folder) Gone = Unit {0}
 Fits (asks.Tables folder) TablesFailed = Unit {0}
 Fits (asks.Unread why) (Unread told) = told ≡ why
+Fits asks.NoSession NoSession = Unit {0}
+Fits asks.NotOps NotOps = Unit {0}
 Fits asks.NotUnderstood NotUnderstood = Unit {0}
 Fits asked answer = ⊥
 
@@ -99,6 +101,8 @@ answer_text (State count generation queue) = state_text count generation queue
 answer_text (Waited generation) = codes "generation=" ++ decimal generation
 answer_text (Tables generation tables bytes greatest) = tables_text generation tables bytes greatest
 answer_text TablesFailed = fault_text TableFile
+answer_text NoSession = codes "no session"
+answer_text NotOps = fault_text Op
 answer_text NotUnderstood = codes "not understood"
 
 -- the line of an answer to a script: it tells no session and no ticket

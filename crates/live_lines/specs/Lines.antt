@@ -1,5 +1,6 @@
 -- What lines of a live service ask for.
 use Rattle.std.specs.Prelude.{◌≡◌, ◌≢◌, ◌⊎◌, ◌*◌, ◌<◌, ◌≤◌, ◌^◌, ℕ, Ok, Option, Some, None, List, [], ◌∷◌, All, IsTrue, codes, decimal, length, map}
+use Rattle.std.specs.Str.{IsUtf8}
 use Rattle.std.specs.String.{string_bytes}
 use Rattle.hex.specs.Hex.{decode_sized, is_hex_digit}
 use Rattle.graph_edits.specs.declared.edits.Op.{Op}
@@ -10,12 +11,14 @@ use Rattle.packet_bytes.specs.Spelling.{SpellsAddress, SpellsPacket}
 use Rattle.packet_bytes.specs.declared.wire.WireRefused.{WireRefused}
 use Rattle.packet_bytes.specs.declared.wire.WireRefused.TheVariants.{BadLength}
 use Rattle.packet_bytes.specs.Digits.{AreDigitsOf}
-use Rattle.written_values.specs.OpText.{op_text}
+use Rattle.written_values.specs.OpText.{Fits, op_text}
 use Rattle.written_values.specs.Scripts.{IsChange, words_of}
 use Rattle.live_lines.specs.declared.words.Word.{Word}
 use Rattle.live_lines.specs.declared.words.Word.TheVariants as word
+use Rattle.live_lines.specs.declared.asked.Named.{Named}
+use Rattle.live_lines.specs.declared.asked.Named.TheVariants.{Edited, Unedited}
 use Rattle.live_lines.specs.declared.asked.Asked.{Asked}
-use Rattle.live_lines.specs.declared.asked.Asked.TheVariants.{Edit, Resume, Route, Address, Launch, Hop, State, Wait, Tables, Unread, NotUnderstood}
+use Rattle.live_lines.specs.declared.asked.Asked.TheVariants.{Edit, Resume, Route, Address, Launch, Hop, State, Wait, Tables, Unread, NoSession, NotOps, NotUnderstood}
 
 -- the first words of lines
 abbrev pub word_text : Word → List ℕ
@@ -100,6 +103,41 @@ pub record ResumeAsks (editors : ℕ) (words : List (List ℕ)) (asked : Asked) 
   pub editor : session < editors
   pub same : asked ≡ Resume session
 
+-- the session has no editor: it is a number of 64 bits that isn't below the number of editors, and what stands behind it may be anything
+pub record NoSessionAsks (editors : ℕ) (words : List (List ℕ)) (asked : Asked) : Type 0 where
+  pub session : ℕ
+  pub others : List (List ℕ)
+  pub written : words ≡ decimal session ∷ others
+  pub none : editors ≤ session
+  pub small : session < 2 ^ 64
+  pub same : asked ≡ NoSession
+
+-- the word names a session, which has an editor or none
+abbrev pub IsNamed : List ℕ → ℕ → Named → Type 0
+IsNamed word editors (Edited session) = (word ≡ decimal session) × (session < editors)
+IsNamed word editors Unedited = (session : ℕ) × (word ≡ decimal session) × (editors ≤ session) × (session < 2 ^ 64)
+
+-- the word is an op
+abbrev pub IsOp : List ℕ → Type 0
+IsOp word = (op : Op) × Fits op × (word ≡ op_text op)
+
+-- the words are a ticket and others, which are not all ops
+pub record LacksOps (words : List (List ℕ)) : Type 0 where
+  pub ticket : Option ℕ
+  pub others : List (List ℕ)
+  pub written : words ≡ ticket_word ticket ∷ others
+  pub named : IsTicket ticket
+  pub none : All IsOp others → ⊥
+
+-- such words stand behind a session that has an editor
+pub record NotOpsAsks (editors : ℕ) (words : List (List ℕ)) (asked : Asked) : Type 0 where
+  pub session : ℕ
+  pub others : List (List ℕ)
+  pub written : words ≡ decimal session ∷ others
+  pub editor : session < editors
+  pub lacks : LacksOps others
+  pub same : asked ≡ NotOps
+
 pub record RouteAsks (words : List (List ℕ)) (asked : Asked) : Type 0 where
   pub from : ℕ
   pub to : ℕ
@@ -123,8 +161,8 @@ TablesAsks words (Tables folder) = (words ≡ string_bytes folder ∷ []) × IsF
 TablesAsks words asked = ⊥
 
 abbrev pub AsksBehind : ℕ → Word → List (List ℕ) → Asked → Type 0
-AsksBehind editors word.Edit words asked = EditAsks editors words asked
-AsksBehind editors word.Resume words asked = ResumeAsks editors words asked
+AsksBehind editors word.Edit words asked = EditAsks editors words asked ⊎ (NoSessionAsks editors words asked ⊎ NotOpsAsks editors words asked)
+AsksBehind editors word.Resume words asked = ResumeAsks editors words asked ⊎ NoSessionAsks editors words asked
 AsksBehind editors word.Route words asked = RouteAsks words asked
 AsksBehind editors word.Address words asked = AddressAsks words asked
 AsksBehind editors word.Launch words asked = NodeAsks LaunchAsks words asked
@@ -140,9 +178,9 @@ pub record WordsAsk (editors : ℕ) (words : List (List ℕ)) (asked : Asked) : 
   pub written : words ≡ word_text first ∷ others
   pub asks : AsksBehind editors first others asked
 
--- so does a line, cut at each blank
+-- so does a line that is text, cut at each blank
 abbrev pub Asks : ℕ → List ℕ → Asked → Type 0
-Asks editors line asked = WordsAsk editors (words_of line) asked
+Asks editors line asked = IsUtf8 line × WordsAsk editors (words_of line) asked
 
 -- This is asked for; or it isn't understood, and then nothing that is known is asked for.
 abbrev pub AsksJust : (Asked → Type 0) → Asked → Type 0

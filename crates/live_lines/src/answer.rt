@@ -77,6 +77,10 @@ pub enum Answer {
     },
     /// The file of a table can't be written.
     TablesFailed,
+    /// The session that the line names has no editor.
+    NoSession,
+    /// A word in the place of an op isn't one.
+    NotOps,
     /// The line asks for nothing that is known.
     NotUnderstood,
 }
@@ -224,6 +228,8 @@ impl Answer {
                 greatest,
             } => tables_line(alloc, *generation, *tables, *bytes, *greatest),
             Answer::TablesFailed => String::from_str(alloc, Fault::TableFile.text()),
+            Answer::NoSession => String::from_str(alloc, "no session"),
+            Answer::NotOps => String::from_str(alloc, Fault::Op.text()),
             Answer::NotUnderstood => String::from_str(alloc, "not understood"),
         }
     }

@@ -1,10 +1,12 @@
 // What a line asks for.
-ghost use Rattle.std.specs.Prelude.{◌≡◌, ◌≢◌, ◌∷◌, ◌<◌, ◌^◌, [], ℕ, List, Option, IfOk, decimal};
+ghost use Rattle.std.specs.Prelude.{◌≡◌, ◌≢◌, ◌↔◌, ◌∷◌, ◌<◌, ◌^◌, [], ℕ, List, All, None, Option, IfOk, IsTrue, decimal, map};
 ghost use Rattle.graph_edits.specs.declared.edits.Op.{Op};
+ghost use Rattle.written_values.specs.OpText.{op_text};
+ghost use Rattle.written_values.specs.Scripts.{IsChange};
 ghost use Rattle.written_values.specs.Reading.{IfRead, Reads, ReadsPair, texts_of};
 ghost use Rattle.live_lines.specs.declared.asked.Asked.{Asked};
 ghost use Rattle.live_lines.specs.declared.words.Word.{Word};
-ghost use Rattle.live_lines.specs.Lines.{AddressAsks, AsksBehind, AsksJust, HopAsks, IsAskedIn, IsTicket, LaunchAsks, MayEdit, NodeAsks, RouteAsks, TablesAsks, WordsAsk, edit_words, ticket_word};
+ghost use Rattle.live_lines.specs.Lines.{AddressAsks, AsksBehind, AsksJust, HopAsks, IsAskedIn, IsNamed, IsOp, IsTicket, LacksOps, LaunchAsks, NodeAsks, RouteAsks, TablesAsks, WordsAsk, ticket_word};
 
 use crate::digits::{hop_of, launch_of};
 use crate::words::{Word, is_folder, word_in, words_in};
@@ -13,7 +15,7 @@ use node_table::{Address, Packet};
 use packet_bytes::WireRefused;
 use requests::WORN_LIMIT;
 use std::alloc::{AllocError, Global};
-use written_values::{change_in, node, number};
+use written_values::{change_in, node, number, op};
 
 /// What a line asks for.
 #[derive(Debug, PartialEq, Eq, Drop)]
@@ -60,18 +62,32 @@ pub enum Asked {
     },
     /// What is to be launched or to hop has no spelling.
     Unread(WireRefused),
+    /// Something of a session that has no editor.
+    NoSession,
+    /// An edit, in which a word in the place of an op isn't one.
+    NotOps,
     /// Nothing that is known.
     NotUnderstood,
 }
 
-/// A session that has an editor.
-fn session_in(alloc: Global, text: &str, editors: u8) -> Result<Option<u8>, AllocError>
-    ensures found { IfRead result (λ session. (text.now ≡ decimal session) × (session < editors)) }
-    ensures only { (session : ℕ) → session < editors → text.now ≡ decimal session → Reads result session }
+/// A session, as it is named in a line.
+#[derive(Clone, Copy, Drop)]
+enum Named {
+    /// It has an editor.
+    Edited(u8),
+    /// It has none.
+    Unedited,
+}
+
+/// A session, and whether it has an editor.
+fn session_in(alloc: Global, text: &str, editors: u8) -> Result<Option<Named>, AllocError>
+    ensures found { IfRead result (IsNamed text.now editors) }
+    ensures only { IfOk result (λ o. o ≡ None → (session : ℕ) → session < 2 ^ 64 → text.now ≢ decimal session) }
 {
-    match number(alloc, text, u8::MAX as u64)? {
-        Some(session) if session < editors as u64 => Ok(Some(session as u8)),
-        _ => Ok(None),
+    match number(alloc, text, u64::MAX)? {
+        Some(session) if session < editors as u64 => Ok(Some(Named::Edited(session as u8))),
+        Some(_) => Ok(Some(Named::Unedited)),
+        None => Ok(None),
     }
 }
 
@@ -89,57 +105,131 @@ fn ticket_in(alloc: Global, text: &str) -> Result<Option<Option<u64>>, AllocErro
     }
 }
 
-/// A session, a ticket and a change.
-fn edit_in(
-    alloc: Global,
-    words: &[&str],
-    editors: u8,
-) -> Result<Option<(u8, Option<u64>, Change)>, AllocError>
-    ensures found { IfRead result (λ edit. (texts_of words.now ≡ edit_words edit.0 edit.1 edit.2)
-        × MayEdit editors edit.0 edit.1 edit.2) }
-    ensures only { (session : ℕ) (ticket : Option ℕ) (ops : List Op) → MayEdit editors session ticket ops
-        → texts_of words.now ≡ edit_words session ticket ops → Reads result (session, ticket, ops) }
+/// Whether each word is an op.
+fn are_ops(alloc: Global, words: &[&str]) -> Result<bool, AllocError>
+    ensures { IfOk result (λ are. IsTrue are ↔ All IsOp (texts_of words.now)) }
 {
-    let [session, ticket, ops @ ..] = words else {
-        return Ok(None);
-    };
-    let Some(session) = session_in(alloc, session, editors)? else {
+    for word in words {
+        let Some(_op) = op(alloc, *word)? else {
+            return Ok(false);
+        };
+    }
+    Ok(true)
+}
+
+/// A ticket and a change.
+fn change_behind(alloc: Global, words: &[&str]) -> Result<Option<(Option<u64>, Change)>, AllocError>
+    ensures found { IfRead result (λ edit. (texts_of words.now ≡ ticket_word edit.0 ∷ map op_text edit.1)
+        × IsTicket edit.0 × IsChange edit.1) }
+    ensures only { (ticket : Option ℕ) (ops : List Op) → IsTicket ticket → IsChange ops
+        → texts_of words.now ≡ ticket_word ticket ∷ map op_text ops → Reads result (ticket, ops) }
+{
+    let [ticket, ops @ ..] = words else {
         return Ok(None);
     };
     let Some(ticket) = ticket_in(alloc, ticket)? else {
         return Ok(None);
     };
     match change_in(alloc, ops)? {
-        Some(change) => Ok(Some((session, ticket, change))),
+        Some(change) => Ok(Some((ticket, change))),
         None => Ok(None),
     }
 }
 
-/// What is asked for behind `edit`.
-#[tactic(auto, using(crate::proofs::Asking::edit_asked, crate::proofs::Asking::no_edit))]
-fn edit_of(alloc: Global, words: &[&str], editors: u8) -> Result<Asked, AllocError>
+/// Whether a word isn't an op, of words behind this ticket.
+#[tactic(auto, using(crate::proofs::Asking::ops_lack_none, crate::proofs::Asking::others_lack))]
+fn lacks_behind(
+    alloc: Global,
+    ticket: Option<u64>,
+    ops: &[&str],
+    words: &[&str],
+) -> Result<bool, AllocError>
+    requires parts { texts_of words.now ≡ ticket_word ticket ∷ texts_of ops.now }
+    requires named { IsTicket ticket }
+    ensures { IfOk result (λ lacks. IsTrue lacks ↔ LacksOps (texts_of words.now)) }
+{
+    if are_ops(alloc, ops)? {
+        return Ok(false);
+    }
+    Ok(true)
+}
+
+/// Whether a word behind a ticket isn't an op.
+#[tactic(auto, using(crate::proofs::Asking::nothing_lacks, crate::proofs::Asking::no_ticket_lacks))]
+fn lacks_ops(alloc: Global, words: &[&str]) -> Result<bool, AllocError>
+    ensures { IfOk result (λ lacks. IsTrue lacks ↔ LacksOps (texts_of words.now)) }
+{
+    let Some((text, ops)) = words.split_first() else {
+        return Ok(false);
+    };
+    match ticket_in(alloc, text)? {
+        Some(ticket) => lacks_behind(alloc, ticket, ops, words),
+        None => Ok(false),
+    }
+}
+
+/// What is asked for behind `edit`, of a session that has an editor.
+#[tactic(auto, using(crate::proofs::Asking::edit_asked, crate::proofs::Asking::edit_of_others, crate::proofs::Asking::no_change))]
+fn edit_by(
+    alloc: Global,
+    session: u8,
+    rest: &[&str],
+    words: &[&str],
+    editors: u8,
+) -> Result<Asked, AllocError>
+    requires parts { texts_of words.now ≡ decimal session ∷ texts_of rest.now }
+    requires editor { session < editors }
     ensures { IfOk result (AsksJust (AsksBehind editors Word.Edit (texts_of words.now))) }
 {
-    match edit_in(alloc, words, editors)? {
-        Some((session, ticket, change)) => Ok(Asked::Edit {
+    if let Some((ticket, change)) = change_behind(alloc, rest)? {
+        return Ok(Asked::Edit {
             session,
             ticket,
             change,
-        }),
+        });
+    }
+    if lacks_ops(alloc, rest)? {
+        return Ok(Asked::NotOps);
+    }
+    Ok(Asked::NotUnderstood)
+}
+
+/// What is asked for behind `edit`.
+#[tactic(auto, using(crate::proofs::Asking::nothing_edited, crate::proofs::Asking::edit_of_none, crate::proofs::Asking::no_edit))]
+fn edit_of(alloc: Global, words: &[&str], editors: u8) -> Result<Asked, AllocError>
+    ensures { IfOk result (AsksJust (AsksBehind editors Word.Edit (texts_of words.now))) }
+{
+    let Some((text, rest)) = words.split_first() else {
+        return Ok(Asked::NotUnderstood);
+    };
+    match session_in(alloc, text, editors)? {
+        Some(Named::Edited(session)) => edit_by(alloc, session, rest, words, editors),
+        Some(Named::Unedited) => Ok(Asked::NoSession),
         None => Ok(Asked::NotUnderstood),
     }
 }
 
+/// What is asked for behind `resume`, of a session that has an editor.
+#[tactic(auto, using(crate::proofs::Asking::resume_alone))]
+fn resume_by(session: u8, rest: &[&str], words: &[&str], editors: u8) -> Asked
+    requires parts { texts_of words.now ≡ decimal session ∷ texts_of rest.now }
+    requires editor { session < editors }
+    ensures { AsksJust (AsksBehind editors Word.Resume (texts_of words.now)) result }
+{
+    alone(rest, Asked::Resume { session })
+}
+
 /// What is asked for behind `resume`.
-#[tactic(auto, using(crate::proofs::Asking::resume_asked, crate::proofs::Asking::no_resume))]
+#[tactic(auto, using(crate::proofs::Asking::nothing_resumed, crate::proofs::Asking::resume_of_none, crate::proofs::Asking::no_resume))]
 fn resume_of(alloc: Global, words: &[&str], editors: u8) -> Result<Asked, AllocError>
     ensures { IfOk result (AsksJust (AsksBehind editors Word.Resume (texts_of words.now))) }
 {
-    let [session] = words else {
+    let Some((text, rest)) = words.split_first() else {
         return Ok(Asked::NotUnderstood);
     };
-    match session_in(alloc, session, editors)? {
-        Some(session) => Ok(Asked::Resume { session }),
+    match session_in(alloc, text, editors)? {
+        Some(Named::Edited(session)) => Ok(resume_by(session, rest, words, editors)),
+        Some(Named::Unedited) => Ok(Asked::NoSession),
         None => Ok(Asked::NotUnderstood),
     }
 }
@@ -287,7 +377,7 @@ fn asked_by(alloc: Global, words: &[&str], editors: u8) -> Result<Asked, AllocEr
 
 /// What a line asks for, in a service with editors for the sessions from 0 on, so many. The line is what stands before its line
 /// feed. An `Err` means that memory was refused.
-#[tactic(auto, using(crate::proofs::Ascii::no_text))]
+#[tactic(auto, using(crate::proofs::Asking::no_text))]
 pub fn asked_in(alloc: Global, line: &[u8], editors: u8) -> Result<Asked, AllocError>
     ensures { IfOk result (IsAskedIn editors line.now) }
 {

@@ -14,6 +14,8 @@
 //! | `state` | `count=C generation=G queue=Q` |
 //! | `wait` | `generation=G` |
 //! | `tables FOLDER` | `generation=G tables=K bytes=B greatest=M`, `generation gone`, or `table file cannot be written` |
+//! | `edit S ..` and `resume S ..`, where S has no editor | `no session` |
+//! | `edit S T ..`, where a word behind T is no OP | `op not understood` |
 //! | anything else | `not understood` |
 //!
 //! Exactly one blank stands between two words. Numbers and OPs are written as in a script (`written_values`). A session `S` is below

@@ -24,12 +24,15 @@ fn tables_into_a_folder(rt: HostRuntime) {
     }
 }
 
-// A line, and how many editors there are.
-const NOT_UNDERSTOOD: [(&str, u8); 3] = [("state\n", 2), ("tables out\n", 2), ("resume 0", 0)];
+const NOT_UNDERSTOOD: [&str; 2] = ["state\n", "tables out\n"];
 
 #[test]
 fn lines_that_are_not_understood(rt: HostRuntime) {
-    for (line, editors) in &NOT_UNDERSTOOD {
-        expect_asked(&rt, rt.alloc(), line, *editors, &Asked::NotUnderstood);
+    let alloc = rt.alloc();
+    let rt = &rt;
+    for line in &NOT_UNDERSTOOD {
+        expect_asked(rt, alloc, line, 2, &Asked::NotUnderstood);
     }
+    expect_asked(rt, alloc, "edit 0 - cut:0:1\n", 2, &Asked::NotOps);
+    expect_asked(rt, alloc, "resume 0", 0, &Asked::NoSession);
 }

@@ -114,7 +114,7 @@ impl Drawn {
             0 => ("route 67 0\n", "no node\n"),
             1 => ("hop 0 0000\n", "bad length\n"),
             2 => ("address 67\n", "no node\n"),
-            _ => ("edit 64 - add:0:1:1\n", "not understood\n"),
+            _ => ("edit 64 - add:0:1:1\n", "no session\n"),
         };
         got(rt, self.input.push_str(line));
         got(rt, self.answers.push_str(answer));

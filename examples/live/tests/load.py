@@ -309,7 +309,7 @@ class Reader(Talker):
 
     def judge_resume(self, line, answer):
         session = int(line.split()[1])
-        good = rb"session=%d ticket=\d+" % session if session < 64 else rb"not understood"
+        good = rb"session=%d ticket=\d+" % session if session < 64 else rb"no session"
         assert re.fullmatch(good, answer), (line, answer)
 
     def judge_state(self, line, answer):

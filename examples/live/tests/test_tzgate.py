@@ -80,7 +80,7 @@ class Words(GateTest):
             ("edit  1 3 add:72:73:5", "not your session"),
             ("edit 1 4611686018427387905 add:72:73:5", "ticket too large"),
             ("edit 1 " + "9" * 60_000 + " add:72:73:5", "ticket too large"),
-            ("edit 1 4 x", "not understood"),
+            ("edit 1 4 x", "op not understood"),
             ("edit 1", "not understood"),
             ("hello", "not a name"),
             ("hello a b", "not a name"),
