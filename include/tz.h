@@ -10,8 +10,8 @@
  *   - Nobody writes a buffer while a call reads it. Apart from that any threads may call at once, also over one table.
  *
  * Bytes may be anything. tz_table_check tests a whole table: its form, its digest and its order. The other calls take any bytes for a
- * table, and read nothing outside. Over a table that was checked they answer as its router does, over other bytes something or
- * TZ_NOT_IN_ORDER. So check each table once, when it comes.
+ * table, and read nothing outside. Over a table that was checked they answer as its router does, over other bytes anything. So check each
+ * table once, when it comes.
  *
  * An address, a packet and a table each name a generation, an address and a packet in their first eight bytes. No call compares them:
  * launch and hop by the table of the same generation. Then a packet that was launched to a node's own address arrives over at most three

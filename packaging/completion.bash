@@ -57,7 +57,10 @@ _tz() {
         [ -n "$kind" ] || case ${kinds[-1]} in op | number) kind=${kinds[-1]} ;; esac
         case $last in
         --words) kind=choice list='none at: draw:' ;;
-        --as) kind=choice list='edges csv dimacs as-rel dot json' ;;
+        --as)
+            kind=choice list='edges csv dimacs dot json'
+            [ "${COMP_WORDS[1]}" != import ] || list='edges dimacs as-rel'
+            ;;
         --start) kind=choice list='best none draw degree' ;;
         --*) return 0 ;;
         esac

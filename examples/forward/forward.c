@@ -41,7 +41,8 @@ static void load(const char *folder, uint32_t node, struct table *table, struct 
     char path[4096];
     struct stat status;
     int32_t answer;
-    int file = snprintf(path, sizeof path, "%s/%" PRIu32 ".table", folder, node) < (int)sizeof path ? open(path, O_RDONLY) : -1;
+    if (snprintf(path, sizeof path, "%s/%" PRIu32 ".table", folder, node) >= (int)sizeof path) end(folder, "the path is too long");
+    int file = open(path, O_RDONLY);
     if (file < 0 || fstat(file, &status)) end(path, strerror(errno));
     table->length = (size_t)status.st_size;
     table->bytes = table->length ? mmap(NULL, table->length, PROT_READ, MAP_PRIVATE, file, 0) : (const uint8_t *)"";

@@ -1,8 +1,8 @@
 #!/usr/bin/env bash
-# run.sh [FOLDER]: carries packets from C, Python and Rust, by the library of include/tz.h. It brings a network to a device in FOLDER (a new
-# folder where none is named), writes the nodes' tables, and asks tznode for the way between each two nodes. Each caller for which this
-# machine has a compiler takes the same ways over the tables alone, and tells how many differ. The folder stays. The status is 1 where a way
-# differs.
+# run.sh [FOLDER]: carries packets from C, Python and Rust, by the library of include/tz.h. It brings a network to the device FOLDER/network
+# (a new folder where none is named), unless that is there from an earlier run, writes the nodes' tables, and asks tznode for the way between
+# each two nodes. Each caller for which this machine has a compiler takes the same ways over the tables alone, and tells how many differ. The
+# folder stays. The status is 1 where a way differs.
 set -eu
 here=$(cd "$(dirname "$(readlink -f "${BASH_SOURCE[0]}")")" && pwd)
 top=$(cd "$here/../.." && pwd)
@@ -12,7 +12,7 @@ device=$folder/network
 words=draw:7 status=0
 
 # Two nodes more than the network's 30 have no edge, so some ways aren't there.
-"$top/tzlab" import "$device" "$here/../routers/network.txt" --nodes 32
+[ -e "$device" ] || "$top/tzlab" import "$device" "$here/../routers/network.txt" --nodes 32
 "$top/tznode" tables "$device" "$folder/tables" --words "$words"
 for from in {0..31}; do for to in {0..31}; do echo "$from $to"; done; done >"$folder/pairs"
 # shellcheck disable=SC2046

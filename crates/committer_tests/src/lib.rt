@@ -12,6 +12,8 @@ mod faults;
 #[cfg(test)]
 mod memory;
 #[cfg(test)]
+mod paces;
+#[cfg(test)]
 mod seats;
 #[cfg(test)]
 mod threads;

@@ -25,8 +25,8 @@ fn burst(rt: &impl Abort, alloc: Global, turns: u64) -> String {
     text
 }
 
-// Edits that come while the tables of a larger network are built are answered meanwhile, and `wait` tells the generation that has all of
-// them.
+// Edits that come while the tables of a larger network are built are all accepted, and `wait` tells the generation that has all of them.
+// That they wait for no build is seen where builds are held: below, and in `committer_tests`.
 #[test]
 fn edits_beside_builds(rt: HostRuntime) {
     let alloc = rt.alloc();
