@@ -11,7 +11,7 @@ _tz_grammar() {
     tznode:tables) options='--words --node' words='file folder' ;;
     tznode:serve) options='--words --editors --forwarders --queue --live --rounds' words='file' ;;
     tznode:migrate | tznode:copy) options='' words='file file' ;;
-    tzlab:import) options='--as --least --names --header --no-header --nodes' words='file file' ;;
+    tzlab:import) options='--as --update --least --names --header --no-header --nodes' words='file file' ;;
     tzlab:export) options='--as --words' words='file' ;;
     tzlab:info) options='--json' words='file' ;;
     tzlab:stats) options='--words --pairs --seed --csv --json' words='file' ;;
@@ -42,7 +42,7 @@ _tz() {
             word=${COMP_WORDS[k]}
             if [ "$word" = : ] || [ "${COMP_WORDS[k - 1]}" = : ]; then continue; fi
             case $word in
-            --live | --names | --header | --no-header | --least | --json | --csv | --figures | --every-stop | --help) last='' ;;
+            --live | --names | --header | --no-header | --least | --update | --json | --csv | --figures | --every-stop | --help) last='' ;;
             --*) last=$word ;;
             *)
                 [ -n "$last" ] || at=$((at + 1))

@@ -6,11 +6,12 @@ use Rattle.std.proofs.lemmas.List.{at_drop_all, at_drop_more}
 use Rattle.written_values.specs.Scripts.{lines_of}
 use Rattle.edge_lists.specs.declared.forms.Heading.TheVariants.{ByWords, There, Absent}
 use Rattle.edge_lists.specs.declared.forms.Writing.{Writing}
-use Rattle.edge_lists.specs.declared.forms.Writing.TheVariants.{Edges, Dimacs, Relations}
-use Rattle.edge_lists.specs.Apart.{IsAlone, IsPlain, are_some, form_at, form_by, form_in}
+use Rattle.edge_lists.specs.declared.forms.Writing.TheVariants.{Edges, Dimacs, NodeLink, Relations}
+use Rattle.edge_lists.specs.Apart.{IsAlone, IsFormOf, IsPlain, are_some, form_at, form_by, form_in}
 use Rattle.edge_lists.specs.Labels.{begins_comment}
 use Rattle.edge_lists.specs.Records.{comma_fields, has_comma}
 use Rattle.edge_lists.specs.Rows.{IsRowOf, IsWeight, Said, Say, arc_fields, comma_fields_in, fields_of, is_head, is_heading, is_letter, is_problem, lead, parts_at, reads_as, related, says_nothing, word_fields, words_of}
+use Rattle.edge_lists.specs.Written.{LinesSay, SaysEdges}
 use Rattle.edge_lists.proofs.HeaderLemmas.{nowhere}
 use Rattle.edge_lists.proofs.WordLemmas.{texts_at}
 
@@ -19,6 +20,7 @@ abbrev shown : Writing → Option Writing
 shown (Edges heading) = None
 shown Dimacs = Some Dimacs
 shown Relations = Some Relations
+shown NodeLink = None
 
 -- ---- words
 
@@ -54,6 +56,8 @@ silence_shows : (writing : Writing) (words : List (List ℕ)) → says_nothing w
 silence_shows (Edges heading) [] is = refl
 silence_shows (Edges heading) (a ∷ more) is = comment_shows (a ∷ more) is
 silence_shows Relations words is = comment_shows words is
+silence_shows NodeLink [] is = refl
+silence_shows NodeLink (a ∷ more) is = absurd (cc)
 silence_shows Dimacs [] is = refl
 silence_shows Dimacs (a ∷ []) is = alone_c a is
 silence_shows Dimacs (a ∷ b ∷ []) is = refl
@@ -88,6 +92,7 @@ row_shows : (writing : Writing) (words : List (List ℕ)) (line : ℕ) (said : S
 row_shows (Edges heading) words line said some row = weighted_shows words row.behind said.a said.b said.weight row.written row.weighted
 row_shows Dimacs words line said some row = arc_shows words row.behind said.a said.b row.written
 row_shows Relations words line said some row = relation_shows words row.behind said.a said.b some row.written
+row_shows NodeLink words line said some row = let bad : [] ≡ said.a ∷ said.b ∷ row.behind = row.written in absurd (cc)
 
 heading_shows : (words : List (List ℕ)) → is_heading false words ≡ true → form_by words ≡ None
 heading_shows [] is = absurd (cc)
@@ -123,6 +128,7 @@ row_line writing text line said some row = by writing (has_comma text) some row 
   by w false some row = row_shows w (words_of text) line said some row
   by (Edges heading) true some row = refl
   by Dimacs true some row = let bad : [] ≡ said.a ∷ said.b ∷ row.behind = row.written in absurd (cc)
+  by NodeLink true some row = let bad : [] ≡ said.a ∷ said.b ∷ row.behind = row.written in absurd (cc)
   by Relations true some row = let bad : [] ≡ said.a ∷ said.b ∷ row.behind = row.written in absurd (cc)
 
 head_line : (writing : Writing) (text : List ℕ) → IsPlain writing → is_head writing text ≡ true → form_at text ≡ shown writing
@@ -137,6 +143,7 @@ head_line Dimacs text plain is = by (has_comma text) is where
   by true is = absurd (cc)
   by false is = problem_shows (words_of text) is
 head_line Relations text plain is = absurd (cc)
+head_line NodeLink text plain is = absurd plain
 
 -- ---- texts
 
@@ -151,17 +158,20 @@ abbrev Shows : Writing → List Said → Option Writing → Type 0
 Shows (Edges heading) said form = form ≡ None
 Shows Dimacs said form = said ≢ [] → form ≡ Some Dimacs
 Shows Relations said form = said ≢ [] → form ≡ Some Relations
+Shows NodeLink said form = Unit {0}
 
 -- a line of the form, and more lines
 shown_first : (writing : Writing) (text : List ℕ) (texts : List (List ℕ)) (said rest : List Said) → form_at text ≡ shown writing → Shows writing rest (form_in texts) → Shows writing said (form_in (text ∷ texts))
 shown_first (Edges heading) text texts said rest is more = line_passed text texts is ∙ more
 shown_first Dimacs text texts said rest is more = λ _. line_shows text texts Dimacs is
 shown_first Relations text texts said rest is more = λ _. line_shows text texts Relations is
+shown_first NodeLink text texts said rest is more = tt
 
 lines_show : (writing : Writing) (before : ℕ) (texts : List (List ℕ)) (said : List Said) → Say writing before texts said → Shows writing said (form_in texts)
 lines_show (Edges heading) before [] said say = refl
 lines_show Dimacs before [] said say = λ some. absurd (some say)
 lines_show Relations before [] said say = λ some. absurd (some say)
+lines_show NodeLink before [] said say = tt
 lines_show writing before (text ∷ texts) said (inl p) = subst (Shows writing said) (sym (line_passed text texts (silent_line writing text p.0))) (lines_show writing (before + 1) texts said p.1)
 lines_show writing before (text ∷ texts) said (inr p) =
     shown_first writing text texts said p.1 (row_line writing text (before + 1) p.0 p.2 p.4) (lines_show writing (before + 1) texts p.1 p.5)
@@ -179,11 +189,22 @@ text_shows writing before (text ∷ texts) said plain say = by (says_nothing wri
 
 -- the form that a text shows is the one in which it says edges
 pub form_alone : (text : List ℕ) (form : Option Writing) → form_in (lines_of text) ≡ form → IsAlone text (unwrap_or form (Edges ByWords))
-form_alone text form is = λ writing said plain says some. by writing plain (subst (Shows writing said) is (text_shows writing (lead writing (lines_of text)) (lines_of text) said plain says)) some where
-  by : {said : List Said} (writing : Writing) → IsPlain writing → Shows writing said form → said ≢ [] → writing ≡ unwrap_or form (Edges ByWords)
-  by (Edges heading) plain shows some = ap Edges plain ∙ ap (λ (o : Option Writing). unwrap_or o (Edges ByWords)) (sym shows)
-  by Dimacs plain shows some = ap (λ (o : Option Writing). unwrap_or o (Edges ByWords)) (sym (shows some))
-  by Relations plain shows some = ap (λ (o : Option Writing). unwrap_or o (Edges ByWords)) (sym (shows some))
+form_alone text form is = by where
+  shows : (writing : Writing) (said : List Said) → IsPlain writing → LinesSay writing text said → Shows writing said form
+  shows writing said plain says = subst (Shows writing said) is (text_shows writing (lead writing (lines_of text)) (lines_of text) said plain says)
+
+  by : (writing : Writing) (said : List Said) → IsPlain writing → SaysEdges writing text said → said ≢ [] → writing ≡ unwrap_or form (Edges ByWords)
+  by (Edges heading) said plain says some = ap Edges plain ∙ ap (λ (o : Option Writing). unwrap_or o (Edges ByWords)) (sym (shows (Edges heading) said plain says))
+  by Dimacs said plain says some = ap (λ (o : Option Writing). unwrap_or o (Edges ByWords)) (sym (shows Dimacs said plain says some))
+  by Relations said plain says some = ap (λ (o : Option Writing). unwrap_or o (Edges ByWords)) (sym (shows Relations said plain says some))
+  by NodeLink said plain says some = absurd plain
+
+-- the form of a text that begins as JSON, and of one in lines
+pub form_json : (text : List ℕ) (b : Bool) → b ≡ true → IsFormOf b text NodeLink
+form_json text b is = subst (λ (t : Bool). IsFormOf t text NodeLink) (sym is) refl
+
+pub form_is : (text : List ℕ) (form : Writing) (b : Bool) → b ≡ false → IsAlone text form → IsFormOf b text form
+form_is text form b is alone = subst (λ (t : Bool). IsFormOf t text form) (sym is) alone
 
 -- ---- the loop
 

@@ -8,3 +8,5 @@ pub mod TakeLemmas
 pub mod WrittenLemmas
 pub mod OnceLemmas
 pub mod ApartLemmas
+pub mod LinkLemmas
+pub mod LinkedLemmas

@@ -8,12 +8,19 @@ use Rattle.edge_lists.specs.declared.row.Row.{Row}
 use Rattle.edge_lists.specs.declared.header.Front.{Front}
 use Rattle.edge_lists.specs.declared.header.Front.TheVariants.{Nothing as FrontNothing, Header, Other}
 use Rattle.edge_lists.specs.declared.forms.Writing.{Writing}
-use Rattle.edge_lists.specs.declared.forms.Writing.TheVariants.{Edges, Dimacs, Relations}
+use Rattle.edge_lists.specs.declared.forms.Writing.TheVariants.{Edges, Dimacs, NodeLink, Relations}
 use Rattle.edge_lists.specs.declared.forms.Heading.TheVariants.{ByWords, There, Absent}
 use Rattle.edge_lists.specs.declared.reading.Read.{Read}
 use Rattle.edge_lists.specs.declared.reading.Read.TheVariants.{Nothing, Row as ReadRow, Refused}
 use Rattle.edge_lists.specs.Labels.{begins_comment, is_name}
 use Rattle.edge_lists.specs.Records.{comma_fields, has_comma}
+
+-- edges are written as a value of JSON, and not in lines
+abbrev pub is_node_link : Writing → Bool
+is_node_link (Edges heading) = false
+is_node_link Dimacs = false
+is_node_link Relations = false
+is_node_link NodeLink = true
 
 -- ---- the fields of a line
 
@@ -62,12 +69,14 @@ abbrev pub word_fields : Writing → List (List ℕ) → List (List ℕ)
 word_fields (Edges heading) words = words
 word_fields Dimacs words = arc_fields words
 word_fields Relations words = related (relation_parts words)
+word_fields NodeLink words = []
 
 -- the fields of a line with commas: those of its record in an edge list; the other forms have no such line
 abbrev pub comma_fields_in : Writing → List ℕ → List (List ℕ)
 comma_fields_in (Edges heading) text = comma_fields text
 comma_fields_in Dimacs text = []
 comma_fields_in Relations text = []
+comma_fields_in NodeLink text = []
 
 -- the fields of a line
 abbrev pub fields_of : Writing → List ℕ → List (List ℕ)
@@ -80,6 +89,7 @@ abbrev pub begins_silence : Writing → List ℕ → Bool
 begins_silence (Edges heading) word = begins_comment word
 begins_silence Dimacs word = is_letter 99 word
 begins_silence Relations word = begins_comment word
+begins_silence NodeLink word = false
 
 -- a line of these words says nothing: there is none, or the first begins such a line
 abbrev pub says_nothing : Writing → List (List ℕ) → Bool
@@ -138,6 +148,7 @@ is_head (Edges There) text = true
 is_head (Edges Absent) text = false
 is_head Dimacs text = not (has_comma text) && is_problem (words_of text)
 is_head Relations text = false
+is_head NodeLink text = false
 
 -- how many lines stand in front of the first that may say an edge: lines that say nothing, and behind them a header
 abbrev pub lead : Writing → List (List ℕ) → ℕ
@@ -149,6 +160,7 @@ abbrev pub nodes_said : Writing → List (List ℕ) → Option (List ℕ)
 nodes_said (Edges heading) texts = None
 nodes_said Dimacs texts = option_and_then (λ text. nodes_word (words_of text)) (slice_get texts (lead Dimacs texts - 1))
 nodes_said Relations texts = None
+nodes_said NodeLink texts = None
 
 -- what a line is, where those in front of it say nothing
 abbrev pub IsFront : Writing → List ℕ → Front → Type 0

@@ -1,5 +1,5 @@
 -- Lists as they are written, and what is read of them.
-use Rattle.std.specs.Prelude.{◌≡◌, ◌==◌, ◌<◌, ◌+◌, ◌*◌, ◌^◌, ℕ, List, [], ◌∷◌, ◌++◌, false, All, codes, decimal, drop, length, unwrap_or}
+use Rattle.std.specs.Prelude.{◌≡◌, ◌==◌, ◌<◌, ◌+◌, ◌*◌, ◌^◌, ℕ, List, [], ◌∷◌, ◌++◌, Bool, true, false, All, codes, decimal, drop, length, unwrap_or}
 use Rattle.std.specs.List.{flat_map, slice_get}
 use denote.Ref.{Bor}
 use Rattle.written_values.specs.Reading.{texts_of}
@@ -10,7 +10,8 @@ use Rattle.edge_lists.specs.NameLists.{AreNames, IsFirstNoName}
 use Rattle.edge_lists.specs.declared.forms.Heading.TheVariants.{ByWords}
 use Rattle.edge_lists.specs.declared.forms.Writing.{Writing}
 use Rattle.edge_lists.specs.declared.forms.Writing.TheVariants.{Edges}
-use Rattle.edge_lists.specs.Rows.{IsFirstRefused, Said, Say, lead}
+use Rattle.edge_lists.specs.Links.{IsRefusedJson, SaysJson}
+use Rattle.edge_lists.specs.Rows.{IsFirstRefused, Said, Say, is_node_link, lead}
 
 -- ---- names
 
@@ -73,13 +74,30 @@ abbrev pub said_of : List (List ℕ) → ℕ → List Edge → List Said
 said_of names before [] = []
 said_of names before (edge ∷ edges) = record { line = before + 1; a = label_of names edge.a; b = label_of names edge.b; weight = edge.weight } ∷ said_of names (before + 1) edges
 
--- the text is a list of edges in this form, and says that
-abbrev pub SaysEdges : Writing → List ℕ → List Said → Type 0
-SaysEdges writing text said = Say writing (lead writing (lines_of text)) (drop (lead writing (lines_of text)) (lines_of text)) said
+-- the text is a list of edges in this form, in lines, and says that
+abbrev pub LinesSay : Writing → List ℕ → List Said → Type 0
+LinesSay writing text said = Say writing (lead writing (lines_of text)) (drop (lead writing (lines_of text)) (lines_of text)) said
 
 -- no edges are said by the text up to the line of that number, whose lines before say edges
+abbrev pub IsLineRefused : Writing → List ℕ → ℕ → Type 0
+IsLineRefused writing text number = IsFirstRefused writing (lead writing (lines_of text)) (drop (lead writing (lines_of text)) (lines_of text)) number
+
+-- the text says that, as JSON or in lines
+abbrev pub SaysBy : Bool → Writing → List ℕ → List Said → Type 0
+SaysBy true writing text said = SaysJson text said
+SaysBy false writing text said = LinesSay writing text said
+
+-- the text is a network in this form, and says that
+abbrev pub SaysEdges : Writing → List ℕ → List Said → Type 0
+SaysEdges writing text said = SaysBy (is_node_link writing) writing text said
+
+-- it isn't, and that is the number of the first line, node or link that tells
+abbrev pub IsRefusedBy : Bool → Writing → List ℕ → ℕ → Type 0
+IsRefusedBy true writing text number = IsRefusedJson text number
+IsRefusedBy false writing text number = IsLineRefused writing text number
+
 abbrev pub IsRefusedAt : Writing → List ℕ → ℕ → Type 0
-IsRefusedAt writing text number = IsFirstRefused writing (lead writing (lines_of text)) (drop (lead writing (lines_of text)) (lines_of text)) number
+IsRefusedAt writing text number = IsRefusedBy (is_node_link writing) writing text number
 
 -- the text says that and nothing else, and no line of it is refused, where a header is known by its words
 pub record AreRead (text : List ℕ) (said : List Said) : Type 0 where

@@ -1,6 +1,6 @@
 // How the forms of lists of edges are told apart.
 ghost use Rattle.std.specs.Prelude.{◌≡◌, ◌∷◌, [], IfOk};
-ghost use Rattle.edge_lists.specs.Apart.{IsAlone, form_at, form_by, form_in};
+ghost use Rattle.edge_lists.specs.Apart.{IsAlone, IsFormOf, begins_object, form_at, form_by, form_in};
 ghost use Rattle.written_values.specs.Reading.{texts_of};
 
 use crate::forms::{Heading, Writing, is_letter, is_problem, related, relation_parts};
@@ -67,9 +67,31 @@ fn form_in(alloc: Global, texts: &[&str]) -> Result<Option<Writing>, AllocError>
     Ok(None)
 }
 
-/// The form of a text: that of the first line that no edge list has, and an edge list where all lines may be one's. A text
-/// that says edges says them in this form alone.
+// Whether a text begins as JSON with nodes and links does.
+fn begins_object(text: &str) -> bool
+    ensures { result ≡ begins_object text.now }
+{
+    match text.as_bytes() {
+        [first, ..] => *first == b'{',
+        [] => false,
+    }
+}
+
+/// The form of a text: JSON where it begins with `{`. Else that of the first line that no edge list has, and an edge list where
+/// all lines may be one's: a text in lines that says edges says them in this form alone.
+#[tactic(auto, using(crate::proofs::ApartLemmas::form_is, crate::proofs::ApartLemmas::form_json))]
 pub fn form_of(alloc: Global, text: &str) -> Result<Writing, AllocError>
+    ensures { IfOk result (λ form. IsFormOf (begins_object text.now) text.now form) }
+{
+    if begins_object(text) {
+        return Ok(Writing::NodeLink);
+    }
+    let form = form_of_lines(alloc, text)?;
+    Ok(form)
+}
+
+// The form of a text in lines.
+fn form_of_lines(alloc: Global, text: &str) -> Result<Writing, AllocError>
     ensures { IfOk result (IsAlone text.now) }
 {
     let texts = lines_in(alloc, text)?;

@@ -2,7 +2,7 @@
 ghost use Rattle.std.specs.Prelude.{◌≡◌, IfOk, codes};
 ghost use Rattle.std.specs.Option.{option_map};
 ghost use Rattle.written_values.specs.Reading.{texts_of};
-ghost use Rattle.edge_lists.specs.Rows.{arc_fields, begins_silence, is_letter, is_problem, is_relation, nodes_word, reads_as, related, relation_parts, says_nothing};
+ghost use Rattle.edge_lists.specs.Rows.{arc_fields, begins_silence, is_letter, is_node_link, is_problem, is_relation, nodes_word, reads_as, related, relation_parts, says_nothing};
 
 use crate::name::begins_comment;
 use crate::words::parts_in;
@@ -28,6 +28,20 @@ pub enum Writing {
     Dimacs,
     /// As CAIDA has the relations of networks: `A|B|R`.
     Relations,
+    /// As networkx has a network: one value of JSON, with nodes and links.
+    NodeLink,
+}
+
+/// Whether edges are written as a value of JSON, and not in lines.
+pub(crate) fn is_node_link(writing: Writing) -> bool
+    ensures { result ≡ is_node_link writing }
+{
+    match writing {
+        Writing::NodeLink => true,
+        Writing::Edges(_) => false,
+        Writing::Dimacs => false,
+        Writing::Relations => false,
+    }
 }
 
 /// Whether a word is this letter.
@@ -64,6 +78,7 @@ fn begins_silence(writing: Writing, word: &str) -> bool
         Writing::Edges(_) => begins_comment(word),
         Writing::Dimacs => is_letter(b'c', word),
         Writing::Relations => begins_comment(word),
+        Writing::NodeLink => false,
     }
 }
 

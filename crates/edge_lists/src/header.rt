@@ -75,6 +75,7 @@ fn is_head(alloc: Global, writing: Writing, text: &str, words: &[&str]) -> Resul
         Writing::Edges(Heading::Absent) => return Ok(false),
         Writing::Dimacs => return Ok(!has_comma(text) && is_problem(words)),
         Writing::Relations => return Ok(false),
+        Writing::NodeLink => return Ok(false),
         Writing::Edges(Heading::ByWords) => {}
     }
     if !has_comma(text) {

@@ -17,8 +17,10 @@
 //!
 //! Two more forms have lines of words alone ([`Writing`]). In DIMACS a line `a U V W` is an arc, and a line whose first word
 //! is `c` nothing; the first other line is a header if it is `p sp N M`. Of relations as CAIDA has them a line `A|B|R` is an
-//! edge of the weight 1, where R is -1, 0, 1 or 2; another field may stand behind it, and comments begin with `#`. A text
-//! that says edges says them in one form alone ([`form_of`]). What two arcs say of one edge, [`each_once`] takes as one.
+//! edge of the weight 1, where R is -1, 0, 1 or 2; another field may stand behind it, and comments begin with `#`. Lines
+//! that say edges say them in one form alone ([`form_of`]). What two arcs say of one edge, [`each_once`] takes as one.
+//! A text that begins with `{` is node-link JSON, as networkx has it: [`read_links`] reads what its nodes are called, and its
+//! links as rows.
 //!
 //! [`Heading`] says otherwise of an edge list: that this line is a header whatever it is, or that no line is. A carriage return is a
 //! blank. A weight is a plain decimal number below 2^32; which weights a network takes is not judged here. A name isn't
@@ -29,7 +31,8 @@
 //! What a text says is a definition (`specs/Rows`, and of lines with commas `specs/Records`, over the crate `csv`): the
 //! rows of its lines, each with the line's number from 1. Where a text is read, its rows are those (`found`). Where it is
 //! refused, the first line that says no edge is named: the lines before it say edges, and whatever lines stand behind
-//! it, no edges are said by the lines up to it (`refused`). So a text that is an edge list is read.
+//! it, no edges are said by the lines up to it (`refused`). So a text that is an edge list is read. Of JSON it is the first
+//! node or link that says none, over the value that the crate `serde_json` reads (`specs/Links`).
 //!
 //! What the words stand for is a definition too (`specs/Edges`, `specs/NameLists`), and so is what is written
 //! (`specs/Written`):
@@ -45,6 +48,8 @@
 //! | [`read_called`] | how the text beside a device calls nodes: by numbers, if it is [`NUMBERS`], and else by the names that it lists (`IsCalled`) |
 //! | [`read_nodes`] | how many nodes a header of DIMACS says that there are (`nodes_said`) |
 //! | [`each_once`] | each two nodes once, with one weight or the least (`AreOnce`); or the first edge with another weight (`IsFirstClash`) |
+//! | [`read_links`] | what each node is called and the rows of the links (`SaysLinks`); or the first node or link that says none, or that there is no such value (`IsNoNodeLink`) |
+//! | [`node_link_text`] | the network as node-link JSON, with all nodes in their order (`network_data` of `specs/Linked`) |
 //! | [`dimacs_text`] | the line `p sp N M`, and for each edge an arc each way |
 //! | [`edge_list`] | a line for each edge; [`read_rows`] reads it as the same edges (`AreRead`); `None` only where a name can't stand in such a line |
 //!
@@ -59,6 +64,8 @@ mod called;
 mod edge;
 mod forms;
 mod header;
+mod linked;
+mod links;
 mod name;
 mod names;
 mod once;
@@ -74,6 +81,8 @@ pub use called::{Called, NUMBERS, read_called};
 pub use edge::{Edge, by_numbers, call_numbers, node_in};
 pub use forms::{Heading, Writing};
 pub use header::read_nodes;
+pub use linked::node_link_text;
+pub use links::{Links, read_links};
 pub use names::Names;
 pub use once::{Clash, each_once};
 pub use reading::read_rows;

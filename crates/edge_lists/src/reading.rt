@@ -4,10 +4,11 @@ ghost use Rattle.written_values.specs.Reading.{IfRead, texts_of};
 ghost use Rattle.edge_lists.specs.Reading.{IfAccepted, IfNoneRead, IfRefused};
 ghost use Rattle.edge_lists.specs.Records.{comma_fields};
 ghost use Rattle.edge_lists.specs.Rows.{IsEdgeRead, IsFirstRefused, IsNoRow, IsReadAs, IsRowOf, IsWeight, Say, arc_fields, comma_fields_in, related, relation_parts, row_of, word_fields};
-ghost use Rattle.edge_lists.specs.Written.{IsRefusedAt, SaysEdges};
+ghost use Rattle.edge_lists.specs.Written.{IsLineRefused, IsRefusedAt, LinesSay, SaysEdges};
 
-use crate::forms::{Writing, arc_fields, is_nothing, related, relation_parts};
+use crate::forms::{Writing, arc_fields, is_node_link, is_nothing, related, relation_parts};
 use crate::header::lines_before;
+use crate::links::read_links;
 use crate::name::is_name;
 use crate::records::{has_comma, record_in, texts_in};
 use crate::refused::{Form, LineRefused};
@@ -16,7 +17,8 @@ use crate::words::words_in;
 use std::alloc::{AllocError, Global};
 use written_values::{lines_in, number};
 
-/// The rows of a text in this form, or its first line that says no edge.
+/// The rows of a text in this form, or its first line that says no edge; in JSON its first node or link.
+#[tactic(auto, using(crate::proofs::LinkLemmas::json_says, crate::proofs::LinkLemmas::lines_say, crate::proofs::LinkLemmas::json_refused, crate::proofs::LinkLemmas::lines_refused))]
 pub fn read_rows(
     alloc: Global,
     text: &str,
@@ -24,6 +26,27 @@ pub fn read_rows(
 ) -> Result<Result<Vec<Row>, LineRefused>, AllocError>
     ensures found { IfAccepted result (λ rows. SaysEdges writing text.now (map row_of rows.items)) }
     ensures refused { IfRefused result (λ refused. IsRefusedAt writing text.now refused.number) }
+{
+    if is_node_link(writing) {
+        return match read_links(alloc, text)? {
+            Ok(links) => Ok(Ok(links.rows)),
+            Err(refused) => Ok(Err(refused)),
+        };
+    }
+    match read_lines(alloc, text, writing)? {
+        Ok(rows) => Ok(Ok(rows)),
+        Err(refused) => Ok(Err(refused)),
+    }
+}
+
+// The same of lines.
+fn read_lines(
+    alloc: Global,
+    text: &str,
+    writing: Writing,
+) -> Result<Result<Vec<Row>, LineRefused>, AllocError>
+    ensures found { IfAccepted result (λ rows. LinesSay writing text.now (map row_of rows.items)) }
+    ensures refused { IfRefused result (λ refused. IsLineRefused writing text.now refused.number) }
 {
     let texts = lines_in(alloc, text)?;
     let before = lines_before(alloc, writing, &texts)?;
@@ -86,6 +109,7 @@ fn read_record(alloc: Global, writing: Writing, line: usize, text: &str) -> Resu
         Writing::Edges(_) => read_csv(alloc, line, text),
         Writing::Dimacs => Ok(Read::Refused(Form::Arc)),
         Writing::Relations => Ok(Read::Refused(Form::Relation)),
+        Writing::NodeLink => Ok(Read::Refused(Form::Json)),
     }
 }
 
@@ -114,6 +138,7 @@ fn read_words(
         Writing::Edges(_) => read_fields(alloc, line, words, Form::Fields),
         Writing::Dimacs => read_arc(alloc, line, words),
         Writing::Relations => read_relation(alloc, line, words),
+        Writing::NodeLink => Ok(Read::Refused(Form::Json)),
     }
 }
 

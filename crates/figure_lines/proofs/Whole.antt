@@ -1,13 +1,11 @@
 -- No value that is sent has a float.
-use Rattle.std.proofs.Common.{◌≡◌, ◌||◌, false, refl, ap, ◌∙◌, List, [], ◌∷◌, ℕ}
-use Rattle.edge_lists.specs.declared.edge.Edge.{Edge}
-use Rattle.serde_json.specs.Data.{Data, string}
+use Rattle.std.proofs.Common.{◌≡◌, ◌||◌, false, refl, ap, ◌∙◌, List, [], ◌∷◌}
+use Rattle.serde_json.specs.Data.{Data}
 use Rattle.serde_json.specs.Written.{has_float, items_have_float}
 use Rattle.device_info.specs.declared.info.DeviceInfo.{DeviceInfo}
 use Rattle.figure_lines.specs.Figures.{Said, figure_data, figures_data}
 use Rattle.figure_lines.specs.Info.{info_data, ticket_data}
 use Rattle.figure_lines.specs.Json.{items_by}
-use Rattle.figure_lines.specs.Networks.{edge_data, network_data}
 
 -- where none of them has one, their array has none
 pub no_float_by : {A : Type 0} (f : A → Data) → ((x : A) → has_float (f x) ≡ false) → (xs : List A) → items_have_float (items_by f xs) ≡ false
@@ -19,8 +17,3 @@ no_float_in_info info = ap (λ b. b || false) (no_float_by ticket_data (λ one. 
 
 pub no_float_in_figures : (all : List Said) → has_float (figures_data all) ≡ false
 no_float_in_figures all = no_float_by figure_data (λ f. refl) all
-
-pub no_float_in_network : (nodes : ℕ) (edges : List Edge) (names : List (List ℕ)) → has_float (network_data nodes edges names) ≡ false
-no_float_in_network nodes edges names =
-    ap (λ b. b || (items_have_float (items_by string names) || false)) (no_float_by edge_data (λ edge. refl) edges)
-    ∙ ap (λ b. b || false) (no_float_by string (λ name. refl) names)

@@ -7,9 +7,7 @@ use Rattle.distances.specs.Nearest.{IsNearestOf, near_at}
 use Rattle.distances.specs.declared.nearest.Near.{Near}
 use Rattle.edge_lists.specs.declared.edge.Edge.{Edge}
 use Rattle.graph_edits.specs.Edges.{Network}
-use Rattle.serde_json.specs.Data.{Data, array, item, member, no_items, no_members, object, string}
 use Rattle.figure_lines.specs.Figures.{row}
-use Rattle.figure_lines.specs.Json.{items_by, whole_number}
 use Rattle.figure_lines.specs.declared.marks.Mark.{Mark}
 
 -- the two nodes of an edge, and its weight
@@ -37,20 +35,6 @@ edge_row names edge = row (label_of names edge.a) (label_of names edge.b) (decim
 -- the rows of edges, under one of names
 abbrev pub edge_rows : List (List ℕ) → List Edge → List ℕ
 edge_rows names edges = row (codes "a") (codes "b") (codes "weight") ++ flat_map (edge_row names) edges
-
--- ---- JSON
-
--- an edge as the numbers of its nodes, and its weight
-abbrev pub edge_data : Edge → Data
-edge_data edge = array (item (whole_number edge.a) (item (whole_number edge.b) (item (whole_number edge.weight) no_items)))
-
--- the edges, the names in the order of their nodes, and how many nodes there are
-abbrev pub network_data : ℕ → List Edge → List (List ℕ) → Data
-network_data nodes edges names = object
-    (member (codes "edges") (array (items_by edge_data edges))
-    (member (codes "names") (array (items_by string names))
-    (member (codes "nodes") (whole_number nodes)
-    no_members)))
 
 -- ---- the language of graphviz
 

@@ -7,7 +7,7 @@
 //! [`figures_text`], [`figures_csv`] and [`figures_json`] print the same list. [`info_json`] prints what a device holds
 //! as an object of JSON.
 //!
-//! [`edges_of`] lists the edges of a graph; [`network_csv`], [`network_json`] and [`network_dot`] print them, the last
+//! [`edges_of`] lists the edges of a graph; [`network_csv`] and [`network_dot`] print them, the last
 //! in the language of graphviz, where [`marks_of`] marks each node by the landmark that is nearest to it.
 //!
 //! The contract that the layer above uses: each text is exactly the one that `specs/` defines (`Figures`, `Info`,
@@ -35,7 +35,7 @@ pub use dot::network_dot;
 pub use figure::Figure;
 pub use info::info_json;
 pub use marks::{Mark, marks_of};
-pub use networks::{edges_of, network_csv, network_json};
+pub use networks::{edges_of, network_csv};
 pub use printed::{figures_csv, figures_json, figures_text};
 pub use schemes::scheme_figures_of;
 pub use tables::table_figures_of;

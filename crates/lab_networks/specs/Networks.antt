@@ -5,9 +5,9 @@ use Rattle.std.specs.FinMap.{entries}
 use Rattle.command_output.specs.Printing.{Known, PrintsText}
 use Rattle.edge_lists.specs.declared.edge.Edge.{Edge}
 use Rattle.edge_lists.specs.Labels.{AreLabels}
+use Rattle.edge_lists.specs.Linked.{network_text}
 use Rattle.edge_lists.specs.Written.{AreRead, dimacs_text, edges_text, said_of}
-use Rattle.figure_lines.specs.Json.{json_line}
-use Rattle.figure_lines.specs.Networks.{AreMarks, dot_text, edge_at, edge_rows, names_of, network_data}
+use Rattle.figure_lines.specs.Networks.{AreMarks, dot_text, edge_at, edge_rows, names_of}
 use Rattle.figure_lines.specs.declared.marks.Mark.{Mark}
 use Rattle.graph_edits.specs.Edges.{Network}
 use Rattle.lab_networks.specs.declared.networks.ExportRefused.{ExportRefused}
@@ -42,7 +42,7 @@ abbrev pub IsText : Network → NameList → Form → List Edge → List ℕ →
 IsText graph names Edges edges text = IsListOrCsv names edges text
 IsText graph names Dimacs edges text = text ≡ dimacs_text graph.nodes edges
 IsText graph names Csv edges text = text ≡ edge_rows (names_of names) edges
-IsText graph names Json edges text = text ≡ json_line (network_data graph.nodes edges (names_of names))
+IsText graph names Json edges text = text ≡ network_text graph.nodes edges (texts_of names)
 IsText graph names (Dot None) edges text = text ≡ dot_text (names_of names) [] edges
 IsText graph names (Dot (Some words)) edges text =
     (marks : List (Option Mark)) × AreMarksBy graph words marks × (text ≡ dot_text (names_of names) marks edges)

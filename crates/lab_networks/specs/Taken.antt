@@ -2,7 +2,7 @@
 use Rattle.std.specs.Prelude.{◌≡◌, ◌||◌, ℕ, Bool, true, false, List, [], ◌∷◌, ◌++◌, OnOk, Result, Ok, Err, codes, decimal}
 use Rattle.std.specs.FinMap.{len}
 use Rattle.command_output.specs.Printing.{Known, PrintsText}
-use Rattle.edge_lists.specs.declared.edge.Edge.{Edge}
+use Rattle.network_import.specs.declared.incoming.Incoming.{Incoming}
 use Rattle.lab_networks.specs.declared.taken.Taken.{Taken}
 use Rattle.layout_2.specs.State.{State}
 use Rattle.network_import.specs.Order.{KeepsOrder}
@@ -19,7 +19,7 @@ shown_of true (Err refused) new = []
 shown_of wanted answer new = totals_of new
 
 -- What an import came to: its answer keeps the order of edges and names, and what was printed goes with it.
-pub record IsTaken (old : State) (edges : List Edge) (whole : Bool) (new : State) (at : NamesAt)
+pub record IsTaken (old : State) (edges : List Incoming) (whole : Bool) (new : State) (at : NamesAt)
     {W : Type 0} (contents : W → Known) (before after : W) (taken : Taken) : Type 0 where
   pub order : KeepsOrder old edges new at taken.edges
   pub printed : OnOk taken.totals (PrintsText contents before after (shown_of whole taken.edges new))

@@ -5,18 +5,18 @@ ghost use Rattle.checkpoint.specs.StoreWords.{is_down};
 use crate::beside::{Beside, Kept, NamesFile, called_in, kept_alone, kept_of, settle};
 use crate::files::text_of;
 use crate::taken::{Wanted, take_edges};
-use crate::texts::{Listed, network_in, writing_named};
+use crate::texts::{Listed, Place, network_in, told_in, writing_named};
 use checkpoint::{DEVICE_LEN, Store};
 use clap::{ArgMatches, Command};
 use command_output::Fault;
 use device_files::DeviceFile;
 use edge_lists::{
-    Called, Edge, Heading, NUMBERS, Names, Row, Writing, by_numbers, call_numbers, each_once,
-    node_in,
+    Called, Edge, Heading, NUMBERS, NameForm, Names, Row, Writing, by_numbers, call_numbers,
+    each_once, node_in,
 };
 use graph_edits::MOST_NODES;
 use lab_parts::{command, fault_of, flag, store_in, told, told_memory, told_of, value, word};
-use network_import::NamesAt;
+use network_import::{NamesAt, incoming_edges};
 use std::alloc::{AllocError, Global};
 use std::fs::{self, File};
 use std::io::{IsTerminal, Write};
@@ -43,7 +43,11 @@ pub fn grammar<'a>(alloc: Global) -> Result<Command<'a>, AllocError> {
             value(
                 "as",
                 "FORM",
-                "The form of FILE: edges, dimacs or as-rel; else its lines tell",
+                "The form of FILE: edges, dimacs, as-rel or json; else its lines tell",
+            ),
+            flag(
+                "update",
+                "Gives edges that are there their weights in FILE; else they are refused",
             ),
             flag(
                 "least",
@@ -95,6 +99,7 @@ where
         writing,
         by_names: found.get_flag("names"),
         by_least: found.get_flag("least"),
+        updates: found.get_flag("update"),
         beside,
     };
     match import.bring(out, err) {
@@ -128,6 +133,7 @@ struct Import<'a, R> {
     writing: Option<Writing>,
     by_names: bool,
     by_least: bool,
+    updates: bool,
     beside: Beside,
 }
 
@@ -137,6 +143,8 @@ struct List {
     edges: Vec<Edge>,
     text: Option<String>,
     nodes: u16,
+    // What in the file says an edge.
+    place: Place,
 }
 
 impl<R: Files<File = File> + AllocGlobal> Import<'_, R> {
@@ -273,7 +281,10 @@ impl<R: Files<File = File> + AllocGlobal> Import<'_, R> {
             return Err(told_of(err, self.device, text));
         }
         if listed.is_by_names() {
-            let text = "its nodes are called by numbers, and those of relations by names";
+            let text = match listed.place() {
+                Place::Link => "its nodes are called by numbers, and those of the JSON by names",
+                _ => "its nodes are called by numbers, and those of relations by names",
+            };
             return Err(told_of(err, self.device, text));
         }
         self.numbered(listed, most, why, err)
@@ -315,18 +326,20 @@ impl<R: Files<File = File> + AllocGlobal> Import<'_, R> {
     {
         let (rows, first) = (&listed.rows, listed.first());
         let last = listed.nodes.unwrap_or(most).saturating_sub(1);
+        let labelled = self.labelled(listed, last, why, err)?;
         match by_numbers(self.rt.alloc(), rows, first, last) {
             Ok(Ok(edges)) => {
-                let nodes = nodes_of(&edges).max(listed.nodes.unwrap_or(0));
+                let nodes = nodes_of(&edges).max(listed.nodes.unwrap_or(labelled));
                 let edges = self.once(listed, edges, err)?;
                 Ok(List {
                     edges,
                     text: None,
                     nodes,
+                    place: listed.place(),
                 })
             }
             Ok(Err(place)) => match rows.get(place) {
-                Some(row) => Err(self.told_end(row, first, last, why, err)),
+                Some(row) => Err(self.told_end(listed, row, last, why, err)),
                 None => Err(1),
             },
             Err(_) => Err(told_memory(err)),
@@ -342,45 +355,78 @@ impl<R: Files<File = File> + AllocGlobal> Import<'_, R> {
     ) -> Result<Vec<Edge>, u8>
         ensures { IfErr result (λ status. status ≤ 2) }
     {
-        if listed.is_edge_list() && !self.by_least {
+        if listed.is_edge_list() && !self.by_least && !self.updates {
             return Ok(edges);
         }
         match each_once(self.rt.alloc(), &edges, self.by_least) {
             Ok(Ok(taken)) => Ok(taken),
             Ok(Err(clash)) => {
-                let (file, first, second) = (self.file, clash.first, clash.second);
-                let _told = writeln!(
-                    err,
-                    "tzlab: {file}:{second}: line {first} has another weight for this edge; --least takes the smaller weight"
+                let (place, first) = (listed.place(), clash.first);
+                let word = place.word();
+                let text = format_args!(
+                    "{word} {first} has another weight for this edge; --least takes the smaller weight"
                 );
-                Err(2)
+                Err(told_in(err, 2, self.file, place, clash.second, text))
             }
             Err(_) => Err(told_memory(err)),
         }
     }
 
+    // One more than the greatest of the numbers by which JSON calls its nodes. One that is none is told.
+    fn labelled<E: Write>(
+        &self,
+        listed: &Listed,
+        last: u16,
+        why: &str,
+        err: &mut E,
+    ) -> Result<u16, u8>
+        ensures { IfErr result (λ status. status ≤ 2) }
+    {
+        let mut nodes = 0;
+        let mut number: usize = 0;
+        for label in &listed.labels {
+            number = number.saturating_add(1);
+            match node_in(self.rt.alloc(), label.as_str(), 0, last) {
+                Ok(Some(node)) => nodes = nodes.max(node.saturating_add(1)),
+                Ok(None) => {
+                    let text = format_args!("`{label}` is no number of a node, 0 to {last}: {why}");
+                    return Err(told_in(err, 1, self.file, Place::Node, number, text));
+                }
+                Err(_) => return Err(told_memory(err)),
+            }
+        }
+        Ok(nodes)
+    }
+
     // Tells that an end of a row is no number up to the last one.
-    fn told_end<E: Write>(&self, row: &Row, first: u16, last: u16, why: &str, err: &mut E) -> u8
+    fn told_end<E: Write>(
+        &self,
+        listed: &Listed,
+        row: &Row,
+        last: u16,
+        why: &str,
+        err: &mut E,
+    ) -> u8
         ensures { result ≡ 1 }
     {
+        let first = listed.first();
         let end = match node_in(self.rt.alloc(), row.a.as_str(), first, last) {
             Ok(Some(_)) => row.b.as_str(),
             Ok(None) => row.a.as_str(),
             Err(_) => return told_memory(err),
         };
-        let (file, line, last) = (self.file, row.line, last as u32 + first as u32);
-        let _told = if first == 1 {
-            writeln!(
-                err,
-                "tzlab: {file}:{line}: `{end}` is no number of a node, 1 to {last}"
-            )
-        } else {
-            writeln!(
-                err,
-                "tzlab: {file}:{line}: `{end}` is no number of a node, 0 to {last}: {why}"
-            )
-        };
-        1
+        let (file, place, line, last) = (
+            self.file,
+            listed.place(),
+            row.line,
+            last as u32 + first as u32,
+        );
+        if first == 1 {
+            let text = format_args!("`{end}` is no number of a node, 1 to {last}");
+            return told_in(err, 1, file, place, line, text);
+        }
+        let text = format_args!("`{end}` is no number of a node, 0 to {last}: {why}");
+        told_in(err, 1, file, place, line, text)
     }
 
     // The edges of rows whose ends are names, with those that there are already. A name that is one too many is told.
@@ -394,21 +440,34 @@ impl<R: Files<File = File> + AllocGlobal> Import<'_, R> {
         ensures { IfErr result (λ status. status ≤ 2) }
     {
         let alloc = self.rt.alloc();
+        let mut number: usize = 0;
+        for label in &listed.labels {
+            number = number.saturating_add(1);
+            match names.number_of(label.as_str(), most) {
+                Ok(Some(_)) => {}
+                Ok(None) => {
+                    let text = format_args!("{}, which are {most}", NameForm::TooMany);
+                    return Err(told_in(err, 1, self.file, Place::Node, number, text));
+                }
+                Err(_) => return Err(told_memory(err)),
+            }
+        }
         let edges = match names.take_rows(alloc, &listed.rows, most) {
             Ok(Ok(edges)) => self.once(listed, edges, err)?,
             Ok(Err(refused)) => {
-                let (file, number, form) = (self.file, refused.number, refused.form);
-                let _told = writeln!(err, "tzlab: {file}:{number}: {form}, which are {most}");
-                return Err(1);
+                let text = format_args!("{}, which are {most}", refused.form);
+                return Err(told_in(err, 1, self.file, listed.place(), refused.number, text));
             }
             Err(_) => return Err(told_memory(err)),
         };
         let nodes = u16::try_from(names.list().len()).unwrap_or(u16::MAX);
+        let nodes = nodes.max(listed.nodes.unwrap_or(0));
         match names.written(alloc) {
             Ok(text) => Ok(List {
                 edges,
                 text: Some(text),
                 nodes,
+                place: listed.place(),
             }),
             Err(_) => Err(told_memory(err)),
         }
@@ -476,11 +535,17 @@ where
     ensures ok { IfOk result (λ status. status ≤ 2) }
     ensures err { IfErr result (λ status. status ≤ 2) }
 {
+    let alloc = import.rt.alloc();
+    let edges = match incoming_edges(alloc, store.graph(), import.updates, &list.edges) {
+        Ok(edges) => edges,
+        Err(_) => return Err(told_memory(err)),
+    };
     let wanted = Wanted {
-        edges: &list.edges,
+        edges: &edges,
         whole: is_new,
         device: import.device,
         file: import.file,
+        place: list.place,
     };
     let mut names = NamesFile {
         rt: import.rt,
@@ -489,7 +554,7 @@ where
         at: NamesAt::Old,
         error: None,
     };
-    let taken = take_edges(import.rt.alloc(), store, wanted, &mut names, out, err);
+    let taken = take_edges(alloc, store, wanted, &mut names, out, err);
     if taken.edges.is_err() {
         return Err(taken.status());
     }

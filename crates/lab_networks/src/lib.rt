@@ -2,7 +2,7 @@
 //!
 //! | Command | Does |
 //! |---|---|
-//! | `import DEVICE FILE [--as FORM] [--nodes N] ..` ([`import`]) | brings a network to a device, and its names beside it |
+//! | `import DEVICE FILE [--as FORM] [--update] ..` ([`import`]) | brings a network to a device, and its names beside it |
 //! | `export DEVICE [--as FORM] [--words W]` ([`export`]) | prints the network of a device |
 //!
 //! How the nodes of a device are called is kept beside it, in `DEVICE.names` (`beside.rt`).
@@ -25,3 +25,4 @@ mod texts;
 
 pub use networks::{ExportRefused, Form, export_graph};
 pub use taken::{Taken, Wanted, take_edges};
+pub use texts::Place;

@@ -5,8 +5,8 @@ ghost use Rattle.written_values.specs.Words.{IsWithin};
 ghost use Rattle.edge_lists.specs.Reading.{IfNoneRead};
 ghost use Rattle.lab_networks.specs.Networks.{AreMarksBy, IsExportRefused, IsListOrCsv, IsTextOf, LacksNode, PrintsNetwork};
 
-use edge_lists::{Edge, dimacs_text, edge_list};
-use figure_lines::{Mark, edges_of, marks_of, network_csv, network_dot, network_json};
+use edge_lists::{Edge, dimacs_text, edge_list, node_link_text};
+use figure_lines::{Mark, edges_of, marks_of, network_csv, network_dot};
 use graph_edits::Graph;
 use lab_parts::{PrintRefused, print};
 use landmarks::choose;
@@ -21,6 +21,7 @@ pub enum Form {
     Csv,
     /// As DIMACS has arcs, each way. Nodes stand by number.
     Dimacs,
+    /// As networkx has node-link JSON.
     Json,
     /// With its nodes marked, where landmark words are named.
     Dot(Option<LandmarkWords>),
@@ -88,7 +89,7 @@ fn text_in(
         Form::Edges => Ok(Some(list_or_csv(alloc, &edges, names)?)),
         Form::Csv => Ok(Some(network_csv(alloc, &edges, names)?)),
         Form::Dimacs => Ok(Some(dimacs_text(alloc, graph.nodes(), &edges)?.into_bytes())),
-        Form::Json => Ok(Some(network_json(alloc, graph.nodes(), &edges, names)?.into_bytes())),
+        Form::Json => Ok(Some(node_link_text(alloc, graph.nodes(), &edges, names)?.into_bytes())),
         Form::Dot(None) => Ok(Some(network_dot(alloc, &edges, names, &[])?)),
         Form::Dot(Some(words)) => {
             if !words.is_within(graph.nodes()) {

@@ -9,25 +9,28 @@ ghost use Rattle.network_import.specs.declared.order.NamesAt.TheVariants.{Old};
 ghost use Rattle.command_output.specs.Printing.{PrintsText};
 ghost use Rattle.lab_networks.specs.Taken.{IsTaken, totals_of};
 
+use crate::texts::{Place, told_in};
 use checkpoint::Store;
 use command_output::Fault;
 use disk_trait::Disk;
-use edge_lists::Edge;
-use lab_parts::{PrintRefused, print, told, told_at, told_of};
-use network_import::{ImportRefused, NamedRefused, NamesPlace, Progress, import_named};
+use graph_edits::Code;
+use lab_parts::{PrintRefused, print, told, told_of};
+use network_import::{ImportRefused, Incoming, NamedRefused, NamesPlace, Progress, import_named};
 use std::alloc::{AllocError, Global};
 use std::io::{IsTerminal, Write};
 
 /// What is to come into a store, and from where.
 #[derive(Clone, Copy, Drop)]
 pub struct Wanted<'a> {
-    pub edges: &'a [Edge],
+    pub edges: &'a [Incoming],
     /// Whether what the store holds is printed only where all of them are in.
     pub whole: bool,
     /// The device's path.
     pub device: &'a str,
     /// The file that has the edges.
     pub file: &'a str,
+    /// What in it says an edge.
+    pub place: Place,
 }
 
 /// A place of names that tells what went wrong there.
@@ -136,9 +139,7 @@ impl<E: Write> Progress for Shown<'_, E> {
 fn tell_refused<E: Write>(wanted: Wanted<'_>, refused: NamedRefused, err: &mut E) {
     let fault = match refused {
         NamedRefused::Edges(ImportRefused::Op { place, code }) => {
-            if let Some(edge) = wanted.edges.get(place) {
-                let _status = told_at(err, 1, wanted.file, edge.line, code);
-            }
+            tell_op(wanted, place, code, err);
             return;
         }
         NamedRefused::Edges(ImportRefused::Device) => Fault::Device,
@@ -147,6 +148,25 @@ fn tell_refused<E: Write>(wanted: Wanted<'_>, refused: NamedRefused, err: &mut E
         NamedRefused::Names => return,
     };
     let _status = told_of(err, wanted.device, fault);
+}
+
+// Tells which edge is refused, and why. Where an edge before it has its nodes, that is told too.
+fn tell_op<E: Write>(wanted: Wanted<'_>, place: usize, code: Code, err: &mut E) {
+    let Some(Incoming { edge, .. }) = wanted.edges.get(place).copied() else {
+        return;
+    };
+    let (file, at) = (wanted.file, wanted.place);
+    if code == Code::EdgeThere {
+        for Incoming { edge: other, .. } in wanted.edges.iter().take(place) {
+            if (other.a, other.b) == (edge.a, edge.b) || (other.b, other.a) == (edge.a, edge.b) {
+                let (word, first) = (at.word(), other.line);
+                let text = format_args!("{code}, by {word} {first}");
+                let _status = told_in(err, 1, file, at, edge.line, text);
+                return;
+            }
+        }
+    }
+    let _status = told_in(err, 1, file, at, edge.line, code);
 }
 
 // Prints what a store holds.

@@ -7,7 +7,7 @@ use Rattle.std.specs.Option.{option_map}
 use Rattle.std.proofs.lemmas.List.{length-map, length-take-le, map-append, take-append-drop}
 use Rattle.requests.specs.Tickets.{tickets_after}
 use Rattle.requests.specs.declared.request.Request.{Request}
-use Rattle.edge_lists.specs.declared.edge.Edge.{Edge}
+use Rattle.network_import.specs.declared.incoming.Incoming.{Incoming}
 use Rattle.graph_edits.specs.declared.edits.Code.{Code}
 use Rattle.graph_edits.specs.declared.edits.EditRefused.{EditRefused}
 use Rattle.graph_edits.specs.declared.edits.EditRefused.TheVariants.{Op as EditOp, Memory as EditMemory}
@@ -21,7 +21,7 @@ use Rattle.network_import.specs.declared.order.NamesAt.{NamesAt}
 use Rattle.network_import.specs.declared.order.NamesAt.TheVariants.{Laid, Old}
 use Rattle.network_import.specs.declared.refused.ImportRefused.{ImportRefused}
 use Rattle.network_import.specs.declared.refused.ImportRefused.TheVariants.{Op as RefusedOp, Device, Memory, Worn}
-use Rattle.network_import.specs.Imported.{FitsAt, HasTaken, IsGroupRefused, IsLeft, add_of, adds, front_of, ops_of}
+use Rattle.network_import.specs.Imported.{FitsAt, HasTaken, IsGroupRefused, IsLeft, op_for, ops_for, front_of, ops_of}
 use Rattle.network_import.specs.Leaves.{LeavesFronts}
 use Rattle.network_import.specs.Order.{HasTakenSome, IsLeftOut, KeepsOrder}
 use Rattle.network_import.proofs.Groups.{taken_none}
@@ -38,14 +38,14 @@ place_within o change done (EditOp i c) fits is =
 place_within o change done EditMemory fits is = tt
 
 -- edges in three parts
-pub adds_around : (edges : List Edge) (d n : ℕ) → adds edges ≡ adds (take d edges) ++ (adds (take n (drop d edges)) ++ adds (drop n (drop d edges)))
-adds_around edges d n =
-    ap adds (sym (take-append-drop d edges)) ∙ map-append add_of (take d edges) (drop d edges)
-    ∙ ap (λ (l : List Op). adds (take d edges) ++ l) (ap adds (sym (take-append-drop n (drop d edges))) ∙ map-append add_of (take n (drop d edges)) (drop n (drop d edges)))
+pub ops_around : (edges : List Incoming) (d n : ℕ) → ops_for edges ≡ ops_for (take d edges) ++ (ops_for (take n (drop d edges)) ++ ops_for (drop n (drop d edges)))
+ops_around edges d n =
+    ap ops_for (sym (take-append-drop d edges)) ∙ map-append op_for (take d edges) (drop d edges)
+    ∙ ap (λ (l : List Op). ops_for (take d edges) ++ l) (ap ops_for (sym (take-append-drop n (drop d edges))) ∙ map-append op_for (take n (drop d edges)) (drop n (drop d edges)))
 
-pub adds_long : (edges : List Edge) (d : ℕ) → d ≤ length edges → d ≡ length (adds (take d edges))
-adds_long edges d within =
-    let long : length (adds (take d edges)) ≡ length (take d edges) = length-map (take d edges) add_of in
+pub ops_long : (edges : List Incoming) (d : ℕ) → d ≤ length edges → d ≡ length (ops_for (take d edges))
+ops_long edges d within =
+    let long : length (ops_for (take d edges)) ≡ length (take d edges) = length-map (take d edges) op_for in
     let cut : length (take d edges) ≡ d = length-take-le d edges within in
     omega (arith, long, cut)
 
@@ -77,8 +77,8 @@ state_ops old new rs is = by (fold old.graph (changes_of rs)) refl is where
       subst (λ (s : State). (edges_after old.graph.nodes old.graph.edges 0 (ops_of rs) ≡ Ok s.graph.edges) × (s.graph.nodes ≡ old.graph.nodes)) same (after_ops old.graph g rs folded)
 
 -- of edges that were judged whole, none is refused
-pub never_op : (old new : State) (edges : List Edge) (place : ℕ) (code : Code) → IsOk (edges_after old.graph.nodes old.graph.edges 0 (adds edges)) → IsLeft old edges new (RefusedOp place code) → ⊥
-never_op old new edges place code judged left = bad (edges_after old.graph.nodes old.graph.edges 0 (adds edges)) whole judged where
+pub never_op : (old new : State) (edges : List Incoming) (place : ℕ) (code : Code) → IsOk (edges_after old.graph.nodes old.graph.edges 0 (ops_for edges)) → IsLeft old edges new (RefusedOp place code) → ⊥
+never_op old new edges place code judged left = bad (edges_after old.graph.nodes old.graph.edges 0 (ops_for edges)) whole judged where
   f : ℕ
   f = front_of edges left.0
 
@@ -88,23 +88,23 @@ never_op old new edges place code judged left = bad (edges_after old.graph.nodes
   ran : (edges_after old.graph.nodes old.graph.edges 0 (ops_of have.requests) ≡ Ok new.graph.edges) × (new.graph.nodes ≡ old.graph.nodes)
   ran = state_ops old new have.requests have.leads
 
-  front : edges_after old.graph.nodes old.graph.edges 0 (adds (take f edges)) ≡ Ok new.graph.edges
+  front : edges_after old.graph.nodes old.graph.edges 0 (ops_for (take f edges)) ≡ Ok new.graph.edges
   front = subst (λ (l : List Op). edges_after old.graph.nodes old.graph.edges 0 l ≡ Ok new.graph.edges) have.ops ran.0
 
-  here : edges_after old.graph.nodes new.graph.edges f (adds (drop f edges)) ≡ Err (place, code)
-  here = subst (λ (n : ℕ). edges_after n new.graph.edges f (adds (drop f edges)) ≡ Err (place, code)) ran.1 left.2.first
+  here : edges_after old.graph.nodes new.graph.edges f (ops_for (drop f edges)) ≡ Err (place, code)
+  here = subst (λ (n : ℕ). edges_after n new.graph.edges f (ops_for (drop f edges)) ≡ Err (place, code)) ran.1 left.2.first
 
-  at : length (adds (take f edges)) + 0 ≡ f
-  at = let long = adds_long edges f have.within in omega (arith, long)
+  at : length (ops_for (take f edges)) + 0 ≡ f
+  at = let long = ops_long edges f have.within in omega (arith, long)
 
-  parts : adds edges ≡ adds (take f edges) ++ adds (drop f edges)
-  parts = ap adds (sym (take-append-drop f edges)) ∙ map-append add_of (take f edges) (drop f edges)
+  parts : ops_for edges ≡ ops_for (take f edges) ++ ops_for (drop f edges)
+  parts = ap ops_for (sym (take-append-drop f edges)) ∙ map-append op_for (take f edges) (drop f edges)
 
-  whole : edges_after old.graph.nodes old.graph.edges 0 (adds edges) ≡ Err (place, code)
+  whole : edges_after old.graph.nodes old.graph.edges 0 (ops_for edges) ≡ Err (place, code)
   whole =
       ap (λ (l : List Op). edges_after old.graph.nodes old.graph.edges 0 l) parts
-      ∙ behind_front old.graph.nodes 0 old.graph.edges new.graph.edges (adds (take f edges)) (adds (drop f edges)) front
-      ∙ ap (λ (n : ℕ). edges_after old.graph.nodes new.graph.edges n (adds (drop f edges))) at ∙ here
+      ∙ behind_front old.graph.nodes 0 old.graph.edges new.graph.edges (ops_for (take f edges)) (ops_for (drop f edges)) front
+      ∙ ap (λ (n : ℕ). edges_after old.graph.nodes new.graph.edges n (ops_for (drop f edges))) at ∙ here
 
   bad : (r : Result EdgeMap (ℕ × Code)) → r ≡ Err (place, code) → IsOk r → ⊥
   bad (Ok m) is ok = absurd (cc)
@@ -112,26 +112,26 @@ never_op old new edges place code judged left = bad (edges_after old.graph.nodes
 
 -- ---- what is left
 
-pub some_none : (old : State) (edges : List Edge) → HasTakenSome old edges old
+pub some_none : (old : State) (edges : List Incoming) → HasTakenSome old edges old
 some_none old edges =
     let zeroth : 0 ≡ front_of edges 0 = omega arith in
     (0, subst (λ (m : ℕ). HasTaken old edges m old) zeroth (taken_none old edges))
 
 -- where edges aren't taken by the judge
-pub left_judged : (old : State) (edges : List Edge) (e : ImportRefused) → IsGroupRefused old.graph (adds edges) e → IsLeftOut old edges old Old e
+pub left_judged : (old : State) (edges : List Incoming) (e : ImportRefused) → IsGroupRefused old.graph (ops_for edges) e → IsLeftOut old edges old Old e
 left_judged old edges (RefusedOp place code) is = (is, refl, refl)
 left_judged old edges Device is = some_none old edges
 left_judged old edges Memory is = some_none old edges
 left_judged old edges Worn is = some_none old edges
 
 -- where an import of judged edges ends
-pub left_taken : (old new : State) (edges : List Edge) (e : ImportRefused) → IsOk (edges_after old.graph.nodes old.graph.edges 0 (adds edges)) → IsLeft old edges new e → IsLeftOut old edges new Laid e
+pub left_taken : (old new : State) (edges : List Incoming) (e : ImportRefused) → IsOk (edges_after old.graph.nodes old.graph.edges 0 (ops_for edges)) → IsLeft old edges new e → IsLeftOut old edges new Laid e
 left_taken old new edges (RefusedOp place code) judged left = absurd (never_op old new edges place code judged left)
 left_taken old new edges Device judged left = left
 left_taken old new edges Memory judged left = left
 left_taken old new edges Worn judged left = left
 
-pub order_judged : (old : State) (edges : List Edge) (at : NamesAt) (e : ImportRefused) (r : Result (Unit {0}) NamedRefused) → r ≡ Err (Edges e) → at ≡ Old → IsGroupRefused old.graph (adds edges) e
+pub order_judged : (old : State) (edges : List Incoming) (at : NamesAt) (e : ImportRefused) (r : Result (Unit {0}) NamedRefused) → r ≡ Err (Edges e) → at ≡ Old → IsGroupRefused old.graph (ops_for edges) e
     → KeepsOrder old edges old at r
 order_judged old edges at e r is names why =
     subst (KeepsOrder old edges old at) (sym is) (subst (λ (a : NamesAt). KeepsOrder old edges old a (Err (Edges e))) (sym names) (record {
@@ -141,8 +141,8 @@ order_judged old edges at e r is names why =
       why = left_judged old edges e why;
     }))
 
-pub order_taken : (old new : State) (edges : List Edge) (at : NamesAt) (e : ImportRefused) (r : Result (Unit {0}) NamedRefused) → r ≡ Err (Edges e) → at ≡ Laid
-    → IsOk (edges_after old.graph.nodes old.graph.edges 0 (adds edges)) → IsLeft old edges new e → KeepsOrder old edges new at r
+pub order_taken : (old new : State) (edges : List Incoming) (at : NamesAt) (e : ImportRefused) (r : Result (Unit {0}) NamedRefused) → r ≡ Err (Edges e) → at ≡ Laid
+    → IsOk (edges_after old.graph.nodes old.graph.edges 0 (ops_for edges)) → IsLeft old edges new e → KeepsOrder old edges new at r
 order_taken old new edges at e r is names judged left =
     subst (KeepsOrder old edges new at) (sym is) (subst (λ (a : NamesAt). KeepsOrder old edges new a (Err (Edges e))) (sym names) (record {
       ok = tt;
@@ -152,7 +152,7 @@ order_taken old new edges at e r is names judged left =
     }))
 
 -- nothing is begun
-pub crash_none : {D : Type 0} {V : _} → (store : Store D V) (edges : List Edge) (r : Result (Unit {0}) ImportRefused) → is_down store ≡ false → ¬ (IsErrOf r Device) → IsTrue (view_of store).keeps_model → LeavesFronts store store edges r
+pub crash_none : {D : Type 0} {V : _} → (store : Store D V) (edges : List Incoming) (r : Result (Unit {0}) ImportRefused) → is_down store ≡ false → ¬ (IsErrOf r Device) → IsTrue (view_of store).keeps_model → LeavesFronts store store edges r
 crash_none store edges r up none model = record {
   any_moment = front_none store edges model up;
   durable = λ served. stands_now store model up;

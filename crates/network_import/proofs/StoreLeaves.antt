@@ -9,7 +9,7 @@ use Rattle.graph_edits.specs.Edges.{Network}
 use Rattle.graph_edits.specs.Changes.{fold}
 use Rattle.requests.specs.declared.request.Request.{Request}
 use Rattle.disk_trait.specs.Disk.{DiskView, IsSameDevice, LeavesOnly, joined, started, weaker}
-use Rattle.edge_lists.specs.declared.edge.Edge.{Edge}
+use Rattle.network_import.specs.declared.incoming.Incoming.{Incoming}
 use Rattle.checkpoint.specs.declared.store.Store.{Store}
 use Rattle.layout_2.specs.State.{State, after, asked, changes_of, state_with}
 use Rattle.layout_2.specs.Standing.{StandsFor}
@@ -21,11 +21,11 @@ use Rattle.network_import.proofs.Groups.{taken_both, taken_none}
 -- ---- one group
 
 -- a group that isn't begun leaves the state
-pub not_begun : {D : Type 0} {V : _} → (store : Store D V) (group : List Edge) → IsTrue (view_of store).keeps_model → is_down store ≡ false → LeavesOnly (view_of store) (view_of store) (StandsForOneMore (state_of store) group)
+pub not_begun : {D : Type 0} {V : _} → (store : Store D V) (group : List Incoming) → IsTrue (view_of store).keeps_model → is_down store ≡ false → LeavesOnly (view_of store) (view_of store) (StandsForOneMore (state_of store) group)
 not_begun store group model up = started (view_of store) (StandsForOneMore (state_of store) group) (λ image left. inl (stands_now store model up image left))
 
 -- one that is committed leaves the state, or the one with the whole group
-pub one_more : (old new : DiskView) (state next : State) (group : List Edge) → HasTaken state group (length group) next → LeavesOnly old new (λ image. StandsFor state image ⊎ StandsFor next image)
+pub one_more : (old new : DiskView) (state next : State) (group : List Incoming) → HasTaken state group (length group) next → LeavesOnly old new (λ image. StandsFor state image ⊎ StandsFor next image)
     → LeavesOnly old new (StandsForOneMore state group)
 one_more old new state next group taken run =
     weaker old new (λ image. StandsFor state image ⊎ StandsFor next image) (StandsForOneMore state group) run (λ image stands. ⊎_elim (λ here. inl here) (λ there. inr (next, taken, there)) stands)
@@ -47,27 +47,27 @@ up_durable old new ran up model = stands_now new (subst IsTrue (sym ran.model) m
 -- ---- group after group
 
 -- behind the first groups, the next one is so many edges
-pub record IsNextGroup (edges group : List Edge) (k d n : ℕ) : Type 0 where
+pub record IsNextGroup (edges group : List Incoming) (k d n : ℕ) : Type 0 where
   pub is : group ≡ take n (drop d edges)
   pub fits : d + n ≤ length edges
   pub front : d + n ≡ front_of edges (k + 1)
 
-pub next_group : (edges : List Edge) (k d n : ℕ) → d ≡ front_of edges k → d < length edges → n ≡ min 1024 (length edges - d) → IsNextGroup edges (take (d + n - d) (drop d edges)) k d n
+pub next_group : (edges : List Incoming) (k d n : ℕ) → d ≡ front_of edges k → d < length edges → n ≡ min 1024 (length edges - d) → IsNextGroup edges (take (d + n - d) (drop d edges)) k d n
 next_group edges k d n at lt some =
     let back : d + n - d ≡ n = omega arith in
     record { is = ap (λ (j : ℕ). take j (drop d edges)) back; fits = omega (arith, some, lt); front = omega (arith, at, lt, some) }
 
 -- the next group
-pub group_is : (edges : List Edge) (d n : ℕ) → n ≡ min 1024 (length edges - d) → take n (drop d edges) ≡ take 1024 (drop d edges)
+pub group_is : (edges : List Incoming) (d n : ℕ) → n ≡ min 1024 (length edges - d) → take n (drop d edges) ≡ take 1024 (drop d edges)
 group_is edges d n is = by_length (drop d edges) n (omega (arith, is, length-drop d edges)) where
-  by_length : (xs : List Edge) (m : ℕ) → m ≡ min 1024 (length xs) → take m xs ≡ take 1024 xs
+  by_length : (xs : List Incoming) (m : ℕ) → m ≡ min 1024 (length xs) → take m xs ≡ take 1024 xs
   by_length xs m same = ⊎_elim
       (λ long. let whole : m ≡ 1024 = omega (arith, same, long) in ap (λ (k : ℕ). take k xs) whole)
       (λ short. take_all m xs (omega (arith, same, short)) ∙ sym (take_all 1024 xs short))
       (cases_lt 1024 (length xs))
 
 -- an image that one group more leaves is one of a beginning
-pub front_of_more : (old mid : State) (edges group : List Edge) (k d n : ℕ) (image : List ℕ) → IsNextGroup edges group k d n → d ≡ front_of edges k → HasTaken old edges d mid → StandsForOneMore mid group image → StandsForFront old edges image
+pub front_of_more : (old mid : State) (edges group : List Incoming) (k d n : ℕ) (image : List ℕ) → IsNextGroup edges group k d n → d ≡ front_of edges k → HasTaken old edges d mid → StandsForOneMore mid group image → StandsForFront old edges image
 front_of_more old mid edges group k d n image next at taken (inl stands) =
     record { groups = k; state = mid; taken = subst (λ (m : ℕ). HasTaken old edges m mid) at taken; stands = stands }
 front_of_more old mid edges group k d n image next at taken (inr more) =
@@ -79,7 +79,7 @@ front_of_more old mid edges group k d n image next at taken (inr more) =
     }
 
 -- nothing is begun
-pub front_none : {D : Type 0} {V : _} → (store : Store D V) (edges : List Edge) → IsTrue (view_of store).keeps_model → is_down store ≡ false
+pub front_none : {D : Type 0} {V : _} → (store : Store D V) (edges : List Incoming) → IsTrue (view_of store).keeps_model → is_down store ≡ false
     → LeavesOnly (view_of store) (view_of store) (StandsForFront (state_of store) edges)
 front_none store edges model up = started (view_of store) (StandsForFront (state_of store) edges)
     (λ image left. record { groups = 0; state = state_of store; taken = none; stands = stands_now store model up image left }) where
@@ -87,29 +87,29 @@ front_none store edges model up = started (view_of store) (StandsForFront (state
       none = let zeroth : 0 ≡ front_of edges 0 = omega arith in subst (λ (m : ℕ). HasTaken (state_of store) edges m (state_of store)) zeroth (taken_none (state_of store) edges)
 
 -- one group more
-pub front_more : (first now new : DiskView) (old mid : State) (edges group : List Edge) (k d n : ℕ) → IsNextGroup edges group k d n → d ≡ front_of edges k → HasTaken old edges d mid
+pub front_more : (first now new : DiskView) (old mid : State) (edges group : List Incoming) (k d n : ℕ) → IsNextGroup edges group k d n → d ≡ front_of edges k → HasTaken old edges d mid
     → LeavesOnly first now (StandsForFront old edges) → LeavesOnly now new (StandsForOneMore mid group) → LeavesOnly first new (StandsForFront old edges)
 front_more first now new old mid edges group k d n next at taken before more =
     joined first now new (StandsForFront old edges) (StandsForOneMore mid group) (StandsForFront old edges) before more (λ image stands. stands)
     (λ image stands. front_of_more old mid edges group k d n image next at taken stands)
 
 -- what a failed call leaves
-pub cut_off_at : (old mid new : State) (edges group : List Edge) (k d : ℕ) (now disk : DiskView) → d ≡ front_of edges k → new ≡ mid → group ≡ take 1024 (drop d edges) → HasTaken old edges d mid
+pub cut_off_at : (old mid new : State) (edges group : List Incoming) (k d : ℕ) (now disk : DiskView) → d ≡ front_of edges k → new ≡ mid → group ≡ take 1024 (drop d edges) → HasTaken old edges d mid
     → LeavesOnly now disk (StandsForOneMore mid group) → IsCutOff old edges new disk
 cut_off_at old mid new edges group k d now disk at same is taken run =
     let next : group ≡ take 1024 (drop (front_of edges k) edges) = is ∙ ap (λ (m : ℕ). take 1024 (drop m edges)) at in
     record {
       groups = k;
       taken = subst (λ (m : ℕ). HasTaken old edges m new) at (subst (λ (s : State). HasTaken old edges d s) (sym same) taken);
-      left = λ image left. subst (λ (l : List Edge). StandsForOneMore new l image) next (subst (λ (s : State). StandsForOneMore s group image) (sym same) (run.now image left));
+      left = λ image left. subst (λ (l : List Incoming). StandsForOneMore new l image) next (subst (λ (s : State). StandsForOneMore s group image) (sym same) (run.now image left));
     }
 
 -- where the next group is past a limit
-pub stopped_at : {D : Type 0} {V : _} → (old mid new : Store D V) (edges group : List Edge) (k d : ℕ) → d ≡ front_of edges k → new ≡ mid → group ≡ take 1024 (drop d edges) → HasTaken (state_of old) edges d (state_of mid)
+pub stopped_at : {D : Type 0} {V : _} → (old mid new : Store D V) (edges group : List Incoming) (k d : ℕ) → d ≡ front_of edges k → new ≡ mid → group ≡ take 1024 (drop d edges) → HasTaken (state_of old) edges d (state_of mid)
     → IsPastLimits mid group → (groups : ℕ) × HasTakenGroups (state_of old) edges groups (state_of new) × IsPastLimits new (take 1024 (drop (front_of edges groups) edges))
 stopped_at {D} {V} old mid new edges group k d at same is taken past =
     let next : group ≡ take 1024 (drop (front_of edges k) edges) = is ∙ ap (λ (m : ℕ). take 1024 (drop m edges)) at in (
       k,
       subst (λ (m : ℕ). HasTaken (state_of old) edges m (state_of new)) at (subst (λ (s : Store D V). HasTaken (state_of old) edges d (state_of s)) (sym same) taken),
-      subst (λ (l : List Edge). IsPastLimits new l) next (subst (λ (s : Store D V). IsPastLimits s group) (sym same) past),
+      subst (λ (l : List Incoming). IsPastLimits new l) next (subst (λ (s : Store D V). IsPastLimits s group) (sym same) past),
     )

@@ -1,7 +1,7 @@
 -- What an import leaves of its store, and what a crash leaves of the device.
 use Rattle.std.specs.Prelude.{◌≡◌, ◌<◌, List, Result, IsErrOf, false, true}
 use Rattle.disk_trait.specs.Disk.{IsSameDevice, LeavesOnly}
-use Rattle.edge_lists.specs.declared.edge.Edge.{Edge}
+use Rattle.network_import.specs.declared.incoming.Incoming.{Incoming}
 use Rattle.checkpoint.specs.declared.store.Store.{Store}
 use Rattle.checkpoint.specs.StoreWords.{IsDurable, is_down, state_of, view_of}
 use Rattle.network_import.specs.declared.refused.ImportRefused.{ImportRefused}
@@ -20,7 +20,7 @@ pub record LeavesStore {D : Type 0} {V : _} (old new : Store D V) (result : Resu
   pub ran : IsSameDevice (view_of old) (view_of new)
 
 -- What a crash leaves of an import, on a disk that keeps the disk model.
-pub record LeavesFronts {D : Type 0} {V : _} (old new : Store D V) (edges : List Edge) (result : Result (Unit {0}) ImportRefused) : Type 0 where
+pub record LeavesFronts {D : Type 0} {V : _} (old new : Store D V) (edges : List Incoming) (result : Result (Unit {0}) ImportRefused) : Type 0 where
   -- at any moment of the call the state after a beginning of the groups
   pub any_moment : LeavesOnly (view_of old) (view_of new) (StandsForFront (state_of old) edges)
   -- behind any answer but Device the store's state

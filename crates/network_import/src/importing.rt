@@ -3,17 +3,17 @@ ghost use Rattle.std.specs.Prelude.{◌≡◌, ◌+◌, ◌<◌, ◌≤◌, ◌�
 ghost use Rattle.requests.specs.Tickets.{worn_limit};
 ghost use Rattle.disk_trait.specs.Disk.{LeavesOnly};
 ghost use Rattle.checkpoint.specs.StoreWords.{is_down, state_of, view_of};
-ghost use Rattle.network_import.specs.Imported.{FitsBehind, HasTaken, IsGroupRefused, IsLeft, StandsForOneMore, adds, group_edges, moved_behind};
+ghost use Rattle.network_import.specs.Imported.{FitsBehind, HasTaken, IsGroupRefused, IsLeft, StandsForOneMore, ops_for, group_edges, moved_behind};
 ghost use Rattle.network_import.specs.Leaves.{LeavesFronts, LeavesStore};
 ghost use Rattle.network_import.specs.Limits.{IsPastLimits, StopsAtLimit};
 
 use crate::changes::requests_in;
 use crate::committing::commit_group;
+use crate::incoming::Incoming;
 use crate::judging::judge;
 use crate::refused::ImportRefused;
 use checkpoint::{Store, WORN_LIMIT};
 use disk_trait::Disk;
-use edge_lists::Edge;
 use std::alloc::Global;
 
 // How many edges a group has: 64 changes of 16.
@@ -36,14 +36,14 @@ fn lacks_tickets(last: u64, edges: usize) -> bool
 fn take_group<D: Disk>(
     alloc: Global,
     store: &mut Store<D>,
-    edges: &[Edge],
+    edges: &[Incoming],
 ) -> Result<(), ImportRefused>
     requires up { is_down store.old ≡ false }
     requires some { 1 ≤ length edges.now }
     requires few { length edges.now ≤ group_edges }
     ensures ok { OnOk result (HasTaken (state_of store.old) edges.now (length edges.now) (state_of store.new)) }
     ensures err { OnErr result (state_of store.new ≡ state_of store.old) }
-    ensures refused { IfErr result (λ refused. IsGroupRefused (state_of store.old).graph (adds edges.now) refused) }
+    ensures refused { IfErr result (λ refused. IsGroupRefused (state_of store.old).graph (ops_for edges.now) refused) }
     ensures worn { IsErrOf result ImportRefused.Worn → (store.new ≡ store.old) × IsPastLimits store.old edges.now }
     ensures leaves { LeavesStore store.old store.new result }
     ensures any_moment { IsTrue (view_of store.old).keeps_model
@@ -75,11 +75,11 @@ fn moved(done: usize, refused: ImportRefused) -> ImportRefused
     }
 }
 
-/// Adds edges in order, group by group.
+/// Takes edges in, in order, group by group.
 pub fn import<D: Disk, P: Progress>(
     alloc: Global,
     store: &mut Store<D>,
-    edges: &[Edge],
+    edges: &[Incoming],
     progress: &mut P,
 ) -> Result<(), ImportRefused>
     requires { is_down store.old ≡ false }

@@ -2,11 +2,11 @@
 ghost use Rattle.std.specs.Prelude.{◌≡◌, ◌≢◌, ◌≤◌, Ok, IfErr, IsErrOf, IsOk, IsSome, OnOk, length};
 ghost use Rattle.graph_edits.specs.Changes.{edges_after, fold};
 ghost use Rattle.layout_2.specs.State.{changes_of};
-ghost use Rattle.network_import.specs.Imported.{FitsAt, IsGroupRefused, adds, ops_of, told_behind};
+ghost use Rattle.network_import.specs.Imported.{FitsAt, IsGroupRefused, ops_for, ops_of, told_behind};
 
 use crate::changes::change_of;
+use crate::incoming::Incoming;
 use crate::refused::ImportRefused;
-use edge_lists::Edge;
 use graph_edits::{EditRefused, Graph, MOST_OPS, Overlay};
 use requests::Request;
 use std::alloc::Global;
@@ -33,9 +33,13 @@ pub(crate) fn judge(alloc: Global, graph: &Graph, requests: &[Request]) -> Resul
 }
 
 /// Sees whether a graph takes edges, in order. Where one is refused, its place among them is named.
-pub(crate) fn judge_edges(alloc: Global, graph: &Graph, edges: &[Edge]) -> Result<(), ImportRefused>
-    ensures taken { OnOk result (IsOk (edges_after (graph.now).nodes (graph.now).edges 0 (adds edges.now))) }
-    ensures refused { IfErr result (λ refused. IsGroupRefused graph.now (adds edges.now) refused) }
+pub(crate) fn judge_edges(
+    alloc: Global,
+    graph: &Graph,
+    edges: &[Incoming],
+) -> Result<(), ImportRefused>
+    ensures taken { OnOk result (IsOk (edges_after (graph.now).nodes (graph.now).edges 0 (ops_for edges.now))) }
+    ensures refused { IfErr result (λ refused. IsGroupRefused graph.now (ops_for edges.now) refused) }
     ensures no_device { ¬ (IsErrOf result ImportRefused.Device) }
     ensures no_worn { ¬ (IsErrOf result ImportRefused.Worn) }
 {

@@ -2,7 +2,8 @@
 //!
 //! # What it is
 //!
-//! [`import`] makes the Adds of a list of edges, in its order: changes of 16 of them, in groups of 64 changes. Each
+//! [`import`] makes the ops for a list of edges, in its order: changes of 16 of them, in groups of 64 changes. An edge is
+//! added, or where it is there, and [`incoming_edges`] was asked for that, gets a new weight. Each
 //! group is judged first, whole, by the network as the groups before it left it; then it is committed as one record,
 //! with a roll before it where the journal has no room. The changes are those of session 0, under the tickets behind
 //! its last one.
@@ -13,8 +14,8 @@
 //!
 //! | Answer | What it says |
 //! |---|---|
-//! | `Ok` | the store's state is the old one after requests whose ops are just the Adds of all edges, in order (`HasTaken`) |
-//! | `Op { place, code }` | the state is the old one after the groups before; of the edges behind these the first whose Add it refuses is at `place`, with this code, and in the group that was next |
+//! | `Ok` | the store's state is the old one after requests whose ops are just those for all edges, in order (`HasTaken`) |
+//! | `Op { place, code }` | the state is the old one after the groups before; of the edges behind these the first whose op it refuses is at `place`, with this code, and in the group that was next |
 //! | `Device`, `Memory`, `Worn` | the state is the old one after the groups before |
 //!
 //! The requests are of session 0, each under the ticket behind the one before, and its last ticket goes on by as many.
@@ -39,6 +40,7 @@
 //!
 //! ```text
 //! let edges = [Edge { line: 1, a: 0, b: 1, weight: 5 }, Edge { line: 2, a: 1, b: 0, weight: 7 }];
+//! let edges = incoming_edges(alloc, store.graph(), false, &edges)?;
 //! import(alloc, &mut store, &edges, &mut progress)   // Err(Op { place: 1, code: EdgeThere }); nothing of the group is
 //! in
 //! ```
@@ -47,10 +49,12 @@
 mod changes;
 mod committing;
 mod importing;
+mod incoming;
 mod judging;
 mod order;
 mod refused;
 
 pub use importing::{Progress, import};
+pub use incoming::{Incoming, incoming_edges};
 pub use order::{NamedRefused, NamesAt, NamesFault, NamesPlace, import_named};
 pub use refused::ImportRefused;

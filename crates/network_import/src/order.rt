@@ -8,11 +8,11 @@ ghost use Rattle.network_import.specs.Order.{KeepsOrder, edges_result};
 ghost use Rattle.network_import.specs.declared.order.NamesAt.TheVariants.{Laid, Old, Put};
 
 use crate::importing::{Progress, import};
+use crate::incoming::Incoming;
 use crate::judging::judge_edges;
 use crate::refused::ImportRefused;
 use checkpoint::Store;
 use disk_trait::Disk;
-use edge_lists::Edge;
 use std::alloc::Global;
 use thiserror::Error;
 
@@ -84,7 +84,7 @@ impl From<NamesFault> for NamedRefused {
 fn take_laid<D: Disk, N: NamesPlace, P: Progress>(
     alloc: Global,
     store: &mut Store<D>,
-    edges: &[Edge],
+    edges: &[Incoming],
     _names: &N,
     progress: &mut P,
 ) -> Result<(), ImportRefused>
@@ -99,12 +99,12 @@ fn take_laid<D: Disk, N: NamesPlace, P: Progress>(
     import(alloc, store, edges, progress)
 }
 
-/// Adds edges, and puts the names that they are by. All edges are judged first. Then the names are laid beside the old
+/// Takes edges in, and puts the names that they are by. All edges are judged first. Then the names are laid beside the old
 /// ones, the edges are taken group by group, and the names are put.
 pub fn import_named<D: Disk, N: NamesPlace, P: Progress>(
     alloc: Global,
     store: &mut Store<D>,
-    edges: &[Edge],
+    edges: &[Incoming],
     names: &mut N,
     progress: &mut P,
 ) -> Result<(), NamedRefused>

@@ -8,7 +8,7 @@ use thiserror::Error;
 /// Why not all edges are imported. The groups before are in the store.
 #[derive(Clone, Copy, Debug, PartialEq, Eq, Drop, Error)]
 pub enum ImportRefused {
-    /// The first edge whose Add is refused, counted from 0, and why. Nothing of its group is in the store.
+    /// The first edge whose op is refused, counted from 0, and why. Nothing of its group is in the store.
     #[error("edge {place} is refused: {code}")]
     Op { place: usize, code: Code },
     /// A call of the device failed. A later opening finds all of the group, or nothing of it.

@@ -1,9 +1,10 @@
 // Drawn networks: written in each form, read, imported, and compared with the test's own list.
-use crate::helpers::{BY_WORDS, Came, got, new_store};
+use crate::helpers::{BY_WORDS, Came, added, got, new_store};
 use checkpoint::Store;
 use disk_trait::MemDisk;
 use edge_lists::{
-    Edge, Writing, by_numbers, dimacs_text, each_once, edge_list, form_of, read_rows,
+    Edge, Writing, by_numbers, dimacs_text, each_once, edge_list, form_of, node_link_text,
+    read_rows,
 };
 use network_import::import;
 use rand_core::SeedableRng;
@@ -90,6 +91,7 @@ fn taken(rt: &impl Abort, alloc: Global, text: &str, writing: Writing) -> Vec<Ed
     };
     let mut store = new_store(rt, alloc, 60);
     let mut came = Came { edges: 0 };
+    let once = added(rt, alloc, &store, &once);
     got(rt, import(alloc, &mut store, &once, &mut came));
     edges_of(rt, alloc, &store)
 }
@@ -105,6 +107,9 @@ fn drawn_networks_come_in_and_go_out(rt: HostRuntime) {
         assert_eq!(rt; read.as_slice(), edges.as_slice(), "seed {seed}");
         let arcs = got(rt, dimacs_text(alloc, 60, &others));
         let read = taken(rt, alloc, arcs.as_str(), Writing::Dimacs);
+        assert_eq!(rt; read.as_slice(), edges.as_slice(), "seed {seed}");
+        let links = got(rt, node_link_text(alloc, 60, &others, &[]));
+        let read = taken(rt, alloc, links.as_str(), Writing::NodeLink);
         assert_eq!(rt; read.as_slice(), edges.as_slice(), "seed {seed}");
         let text = relations(rt, alloc, &others);
         for edge in edges.iter_mut() {

@@ -5,7 +5,7 @@ ghost use Rattle.checkpoint.specs.StoreWords.{is_down};
 use checkpoint::Store;
 use disk_trait::MemDisk;
 use edge_lists::{Edge, Heading, Writing};
-use network_import::Progress;
+use network_import::{Incoming, Progress, incoming_edges};
 use std::alloc::Global;
 use std::process::Abort;
 
@@ -44,6 +44,16 @@ pub(crate) fn new_store(rt: &impl Abort, alloc: Global, nodes: u16) -> Store<Mem
     ensures { is_down result ≡ false }
 {
     opened(rt, alloc, got(rt, stand_ins::formatted(alloc, nodes)))
+}
+
+/// Edges to be added to the network of a store.
+pub(crate) fn added(
+    rt: &impl Abort,
+    alloc: Global,
+    store: &Store<MemDisk>,
+    edges: &[Edge],
+) -> Vec<Incoming> {
+    got(rt, incoming_edges(alloc, store.graph(), false, edges))
 }
 
 /// So many edges between 200 nodes: each joins its node to one that is a little further.

@@ -1,5 +1,5 @@
 // Imports of a list of 2,000 edges: two groups, of 64 changes and of 61.
-use crate::helpers::{Came, edges_between, got, has_up_to, new_store, opened};
+use crate::helpers::{Came, added, edges_between, got, has_up_to, new_store, opened};
 use disk_trait::{CrashDisk, Plan};
 use edge_lists::Edge;
 use graph_edits::Code;
@@ -12,7 +12,8 @@ fn all_edges_in_two_groups(rt: HostRuntime) {
     let edges = edges_between(&rt, rt.alloc(), 2000);
     let mut store = new_store(&rt, rt.alloc(), 200);
     let mut came = Came { edges: 0 };
-    got(&rt, import(rt.alloc(), &mut store, &edges, &mut came));
+    let all = added(&rt, rt.alloc(), &store, &edges);
+    got(&rt, import(rt.alloc(), &mut store, &all, &mut came));
     assert_eq!(rt; came.edges, 2000);
     assert_eq!(rt; store.count(), 125);
     assert_eq!(rt; store.resume(0), 125);
@@ -26,7 +27,8 @@ fn refused_in_the_second(rt: &impl Abort, alloc: Global, wrong: Edge, code: Code
     edges[1524] = wrong;
     let mut store = new_store(rt, alloc, 200);
     let mut came = Came { edges: 0 };
-    let answer = import(alloc, &mut store, &edges, &mut came);
+    let all = added(rt, alloc, &store, &edges);
+    let answer = import(alloc, &mut store, &all, &mut came);
     assert_eq!(rt; answer, Err(ImportRefused::Op { place: 1524, code }));
     assert_eq!(rt; came.edges, 1024);
     assert_eq!(rt; store.count(), 64);
@@ -75,9 +77,10 @@ fn each_call_of_the_device_fails_in_turn(rt: HostRuntime) {
     for (call, without, within) in &CALLS {
         for word in [0, 1, 255, 256, 257] {
             let mut store = new_store(&rt, alloc, 200);
+            let all = added(&rt, alloc, &store, &edges);
             store.arm(Plan::Fail(*call));
             let mut came = Came { edges: 0 };
-            let answer = import(alloc, &mut store, &edges, &mut came);
+            let answer = import(alloc, &mut store, &all, &mut came);
             assert_eq!(rt; answer, Err(ImportRefused::Device), "call {call}");
             assert_eq!(rt; came.edges, *without, "call {call}");
             assert_eq!(rt; store.graph().edges(), *without, "call {call}");
@@ -98,6 +101,7 @@ fn eight_calls_are_all(rt: HostRuntime) {
     let mut store = new_store(&rt, rt.alloc(), 200);
     store.arm(Plan::Fail(9));
     let mut came = Came { edges: 0 };
-    got(&rt, import(rt.alloc(), &mut store, &edges, &mut came));
+    let all = added(&rt, rt.alloc(), &store, &edges);
+    got(&rt, import(rt.alloc(), &mut store, &all, &mut came));
     has_up_to(&rt, &store, &edges, 2000);
 }

@@ -7,8 +7,11 @@ ghost use Rattle.checkpoint.specs.StoreWords.{is_down};
 use crate::helpers::{BY_WORDS, Came, has_up_to, new_store};
 use checkpoint::Store;
 use disk_trait::MemDisk;
-use edge_lists::{Edge, Form, LineRefused, Names, Row, by_numbers, edge_list, read_rows};
-use network_import::{ImportRefused, import};
+use edge_lists::{
+    Edge, Form, LineRefused, Names, Row, by_numbers, edge_list, node_link_text, read_links,
+    read_rows,
+};
+use network_import::{ImportRefused, import, incoming_edges};
 use std::alloc::Global;
 use std::process::Abort;
 
@@ -37,13 +40,17 @@ const EDGES: [Edge; 3] = [
 fn imported(rt: &impl Abort, alloc: Global, store: &mut Store<MemDisk>) -> Result<(), ImportRefused>
     requires { is_down store.old ≡ false }
 {
+    let edges = match incoming_edges(alloc, store.graph(), false, &EDGES) {
+        Ok(edges) => edges,
+        Err(_) => incoming_edges(alloc, store.graph(), false, &EDGES)?,
+    };
     let mut came = Came { edges: 0 };
-    match import(alloc, store, &EDGES, &mut came) {
+    match import(alloc, store, &edges, &mut came) {
         Err(ImportRefused::Memory) => {}
         answer => return answer,
     }
     has_up_to(rt, store, &EDGES, 0);
-    import(alloc, store, &EDGES, &mut came)
+    import(alloc, store, &edges, &mut came)
 }
 
 #[test]
@@ -68,6 +75,14 @@ fn a_text_after_a_want_of_memory(rt: HostRuntime) {
         Ok(Ok(rows)) => assert_eq!(rt; rows.len(), 2),
         _ => panic!(rt; "not read"),
     }
+    let links = match read_links(alloc, LINKS) {
+        Ok(links) => Ok(links),
+        Err(_) => read_links(alloc, LINKS),
+    };
+    match links {
+        Ok(Ok(links)) => assert_eq!(rt; (links.labels.len(), links.rows.len()), (2, 1)),
+        _ => panic!(rt; "not read"),
+    }
     let refused = match read_rows(alloc, "0 1 5\n0", BY_WORDS) {
         Ok(refused) => Ok(refused),
         Err(_) => read_rows(alloc, "0 1 5\n0", BY_WORDS),
@@ -80,6 +95,12 @@ fn a_text_after_a_want_of_memory(rt: HostRuntime) {
         _ => panic!(rt; "read"),
     }
 }
+
+const TWO_LINKS: &str =
+    "{\"directed\":false,\"edges\":[{\"source\":1,\"target\":2,\"weight\":5},{\"source\":4,\"target\":\"a\",\"weight\":6}],\"graph\":{},\"multigraph\":false,\"nodes\":[{\"id\":\"a\"}]}\n";
+
+const LINKS: &str =
+    "{\"nodes\":[{\"id\":\"a\"},{\"id\":1}],\"links\":[{\"source\":\"a\",\"target\":1}]}";
 
 const LIST: &str = "1 2 5\n\n4 0 6";
 
@@ -167,6 +188,14 @@ fn numbers_after_a_want_of_memory(rt: HostRuntime) {
         Ok(text) => Ok(text),
         Err(_) => edge_list(alloc, &edges, &["a", "b"]),
     };
+    let links = match node_link_text(alloc, 1, &edges, &["a"]) {
+        Ok(links) => Ok(links),
+        Err(_) => node_link_text(alloc, 1, &edges, &["a"]),
+    };
+    match links {
+        Ok(links) => assert_eq!(rt; links.as_str(), TWO_LINKS),
+        Err(_) => panic!(rt; "not written"),
+    }
     match text {
         Ok(text) => assert_eq!(rt; text.as_deref(), Some("b 2 5\n4 a 6\n")),
         Err(_) => panic!(rt; "not written"),

@@ -1,5 +1,5 @@
 // Edges and their names: what each refusal leaves of both, in a list of 2,000 edges.
-use crate::helpers::{Came, edges_between, has_up_to, new_store, opened};
+use crate::helpers::{Came, added, edges_between, has_up_to, new_store, opened};
 use checkpoint::Store;
 use disk_trait::{CrashDisk, MemDisk, Plan};
 use edge_lists::Edge;
@@ -52,7 +52,8 @@ fn imported(
     };
     let mut came = Came { edges: 0 };
     assert!(rt; !store.is_down());
-    let answer = import_named(alloc, store, edges, &mut shelf, &mut came);
+    let edges = added(rt, alloc, &*store, edges);
+    let answer = import_named(alloc, store, &edges, &mut shelf, &mut came);
     (answer, shelf.at)
 }
 

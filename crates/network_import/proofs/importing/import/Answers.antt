@@ -4,7 +4,7 @@ use Rattle.disk_trait.specs.Disk.{ran_none, ran_on}
 use Rattle.checkpoint.specs.StoreWords.{is_down, state_of, view_of}
 use Rattle.network_import.specs.declared.refused.ImportRefused.{ImportRefused}
 use Rattle.network_import.specs.declared.refused.ImportRefused.TheVariants.{Device, Worn}
-use Rattle.network_import.specs.Imported.{HasTaken, IsGroupRefused, IsLeft, adds, moved_behind}
+use Rattle.network_import.specs.Imported.{HasTaken, IsGroupRefused, IsLeft, ops_for, moved_behind}
 use Rattle.network_import.proofs.Groups.{group_fits, left_behind, taken_both, taken_none, worn_behind}
 use Rattle.network_import.proofs.StoreLeaves.{cut_off_at, front_more, front_none, group_is, next_group, stopped_at, up_durable}
 use Rattle.network_import.proofs.importing.import.Goals as goal
@@ -29,7 +29,7 @@ moved-requires g c =
     let some : s ≡ min 1024 (length edges - d) = c.min-some.ensures in
     let size : length group ≤ s = omega (arith, length-take (d + s - d) (drop d edges)) in
     let fits : d + length group < 2 ^ 64 = omega (arith, some, size) in
-    group_fits mid.graph group d c.in-Err.refused fits (IfErr-at_err (λ (e : ImportRefused). IsGroupRefused mid.graph (adds group) e) c.in-Err.is c.take_group.ensures.refused)
+    group_fits mid.graph group d c.in-Err.refused fits (IfErr-at_err (λ (e : ImportRefused). IsGroupRefused mid.graph (ops_for group) e) c.in-Err.is c.take_group.ensures.refused)
 
 pub returns-in-Err-clause-left : goal.returns-in-Err-clause-left
 returns-in-Err-clause-left g c =
@@ -43,7 +43,7 @@ returns-in-Err-clause-left g c =
     let some : s ≡ min 1024 (length edges - d) = c.min-some.ensures in
     let few : d + s - d ≤ 1024 = omega (arith, some) in
     let same : new ≡ mid = c.in-Err.ensures.err in
-    let why = IfErr-at_err (λ (e : ImportRefused). IsGroupRefused mid.graph (adds group) e) c.in-Err.is c.take_group.ensures.refused in
+    let why = IfErr-at_err (λ (e : ImportRefused). IsGroupRefused mid.graph (ops_for group) e) c.in-Err.is c.take_group.ensures.refused in
     subst (λ (e : ImportRefused). IsLeft old edges new e) (sym c.moved.ensures) (left_behind old mid new edges group c.loop-done.invariant.groups d (d + s - d) c.in-Err.refused c.loop-done.invariant.front refl few c.loop-done.invariant.taken same why)
 
 pub returns-in-Err-clause-worn : goal.returns-in-Err-clause-worn

@@ -4,7 +4,7 @@ use Rattle.graph_edits.specs.Edges.{Network}
 use Rattle.graph_edits.specs.Changes.{edges_after}
 use Rattle.checkpoint.specs.StoreWords.{state_of}
 use Rattle.network_import.specs.declared.order.NamedRefused.TheVariants.{Edges, Names}
-use Rattle.network_import.specs.Imported.{IsGroupRefused, adds}
+use Rattle.network_import.specs.Imported.{IsGroupRefused, ops_for}
 use Rattle.network_import.specs.Order.{edges_result}
 use Rattle.network_import.proofs.OrderLemmas.{crash_none, order_judged, order_taken}
 use Rattle.network_import.proofs.order.import_named.Goals as goal
@@ -14,7 +14,7 @@ returns-in_err-judge_edges-clause-order g c =
     let e = c.in_err-judge_edges.field-0.0 in
     let is : c.from_residual.result ≡ Err (Edges e) = search rules in
     let same : c.graph.result.now ≡ (state_of c.args.store.now).graph = c.graph.ensures in
-    let why = subst (λ (n : Network). IsGroupRefused n (adds c.args.edges.now) e) same c.in_err-judge_edges.ensures.refused in
+    let why = subst (λ (n : Network). IsGroupRefused n (ops_for c.args.edges.now) e) same c.in_err-judge_edges.ensures.refused in
     order_judged (state_of c.args.store.now) c.args.edges.now (g.N.NamesPlace.at c.args.names.now) e c.from_residual.result is c.requires.old why
 
 pub returns-in_err-judge_edges-clause-crashes : goal.returns-in_err-judge_edges-clause-crashes
@@ -34,7 +34,7 @@ returns-in_err-take_laid-clause-order g c =
     let e = c.in_err-take_laid.field-0.0 in
     let is : c.from_residual-in_err-take_laid.result ≡ Err (Edges e) = search rules in
     let same : c.graph.result.now ≡ (state_of c.args.store.now).graph = c.graph.ensures in
-    let judged = subst (λ (n : Network). IsOk (edges_after n.nodes n.edges 0 (adds c.args.edges.now))) same c.in_ok-judge_edges.ensures.taken in
+    let judged = subst (λ (n : Network). IsOk (edges_after n.nodes n.edges 0 (ops_for c.args.edges.now))) same c.in_ok-judge_edges.ensures.taken in
     order_taken (state_of c.args.store.now) (state_of c.take_laid.new.store) c.args.edges.now (g.N.NamesPlace.at c.lay.new.self) e c.from_residual-in_err-take_laid.result is c.in_ok-lay.ensures.laid judged c.in_err-take_laid.ensures.left
 
 pub returns-in_err-judge_edges-clause-worn : goal.returns-in_err-judge_edges-clause-worn

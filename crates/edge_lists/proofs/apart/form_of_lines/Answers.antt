@@ -1,9 +1,8 @@
-use Rattle.std.proofs.Common.{◌≡◌, ◌∙◌, ap, sym, Some, None}
-use Rattle.written_values.specs.Scripts.{lines_of}
+use Rattle.std.proofs.Common.{◌∙◌, ap, sym, Some, None}
 use Rattle.edge_lists.specs.Apart.{form_in}
 use Rattle.edge_lists.proofs.ApartLemmas.{form_alone}
 use Rattle.edge_lists.proofs.WordLemmas.{texts_at}
-use Rattle.edge_lists.proofs.apart.form_of.Goals as goal
+use Rattle.edge_lists.proofs.apart.form_of_lines.Goals as goal
 
 pub returns-in-Some : goal.returns-in-Some
 returns-in-Some c =

@@ -6,7 +6,7 @@ use Rattle.edge_lists.specs.declared.refused.LineRefused.{LineRefused}
 use Rattle.edge_lists.specs.Rows.{IsFirstRefused, Say, lead, row_of}
 use Rattle.edge_lists.proofs.RowLemmas.{carried}
 use Rattle.edge_lists.proofs.WordLemmas.{texts_at}
-use Rattle.edge_lists.proofs.reading.read_rows.Goals as goal
+use Rattle.edge_lists.proofs.reading.read_lines.Goals as goal
 
 pub returns-in-Ok-clause-found : goal.returns-in-Ok-clause-found
 returns-in-Ok-clause-found c =
