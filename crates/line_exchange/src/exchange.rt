@@ -29,8 +29,6 @@ pub struct Exchange<J: Stream, B: BoardName> {
     pub starts: [u64; SESSIONS],
     // Where editors note which lines put requests.
     pub book: LineBook,
-    // Behind the last line that waits for tables. Ways behind it wait for its answer.
-    fence: AtomicU64,
     // How many answers were printed, and no less than any place once none comes any more.
     printed: AtomicU64,
     ghost named: { known.opening ≡ B.opening },
@@ -73,7 +71,6 @@ impl<J: Stream, B: BoardName> Exchange<J, B> {
             known,
             starts: *starts,
             book: LineBook::new(alloc, blank)?,
-            fence: AtomicU64::new(0),
             printed: AtomicU64::new(0),
         })
     }
@@ -100,16 +97,6 @@ impl<J: Stream, B: BoardName> Exchange<J, B> {
         }
         self.waiter.shut(rt);
         self.tables.shut(rt);
-    }
-
-    /// The line at a place waits for tables, and later ones go by no older tables. It is the last one by now.
-    pub fn fence(&self, place: u64) {
-        self.fence.store(place.saturating_add(1), Ordering::SeqCst);
-    }
-
-    /// Up to which place answers are printed before the line at a place is answered by tables.
-    pub fn fence_before(&self, place: u64) -> u64 {
-        self.fence.load(Ordering::SeqCst).min(place)
     }
 
     /// So many answers were printed.

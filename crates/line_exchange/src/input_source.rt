@@ -73,6 +73,7 @@ fn read_ask<J: Stream, S: BufRead>(
         Ok(Some(asked)) => Ok(Some(Ask {
             place,
             asked,
+            behind: 0,
             of: PhantomData,
         })),
         Ok(None) => Ok(None),

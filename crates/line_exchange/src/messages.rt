@@ -43,6 +43,8 @@ impl Stream for Brand {
 pub struct Ask<J: Stream> {
     pub place: u64,
     pub asked: Asked,
+    /// Up to which place answers are printed before this one goes by tables: behind the last line before it that waits for them.
+    pub behind: u64,
     pub of: PhantomData<J>,
     ghost is_line: { ∥ IsAskedAt J.input J.editors place asked ∥₁ },
 }

@@ -54,7 +54,12 @@ fn answer_of(asked: Asked) -> Option<Answer>
 fn answered<J: Stream, B: BoardName>(ask: Ask<J>, known: History) -> Option<Answered<J, B>>
     requires { known.opening ≡ B.opening }
 {
-    let Ask { place, asked, of } = ask;
+    let Ask {
+        place,
+        asked,
+        behind: _,
+        of,
+    } = ask;
     let answer = answer_of(asked)?;
     Some(Answered {
         place,
@@ -66,17 +71,20 @@ fn answered<J: Stream, B: BoardName>(ask: Ask<J>, known: History) -> Option<Answ
     })
 }
 
-// Hands a line to whoever answers it: those that are forwarders' in turn.
+// Hands a line to whoever answers it: those that are forwarders' in turn. What goes by tables is behind the last line that waits for them.
 fn deal<J: Stream, B: BoardName, R: Wait>(
     rt: &R,
     exchange: &Exchange<J, B>,
     ask: Ask<J>,
     turn: &mut usize,
+    behind: &mut u64,
 ) -> Result<(), ReadFault>
     ensures { IfErr result (λ why. why ≢ ReadFault.Input) }
 {
+    let mut ask = ask;
+    ask.behind = *behind;
     if let Asked::Wait = ask.asked {
-        exchange.fence(ask.place);
+        *behind = ask.place.saturating_add(1);
     }
     let put = match owned_by(&ask.asked) {
         Owner::Session(session) => match exchange.sessions.get(session as usize) {
@@ -127,6 +135,7 @@ fn read_each<J: Stream, B: BoardName, L: LineSource<J> + Drop, R: Wait>(
     let mut source = source;
     let mut place: u64 = 0;
     let mut turn: usize = 0;
+    let mut behind: u64 = 0;
     for _ in rt.forever() {
         if !exchange.answers.await_room(rt, place) {
             return Ok(None);
@@ -134,7 +143,7 @@ fn read_each<J: Stream, B: BoardName, L: LineSource<J> + Drop, R: Wait>(
         let Some(ask) = source.next_ask(place)? else {
             return Ok(Some(place));
         };
-        deal(rt, exchange, ask, &mut turn)?;
+        deal(rt, exchange, ask, &mut turn, &mut behind)?;
         let Some(next) = place.checked_add(1) else {
             return Ok(None);
         };

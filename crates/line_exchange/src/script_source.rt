@@ -41,6 +41,7 @@ impl<J: Stream> LineSource<J> for ScriptSource {
             Some(line) => Ok(Some(Ask {
                 place,
                 asked: asked_by(line),
+                behind: 0,
                 of: PhantomData,
             })),
             None => Ok(None),

@@ -159,7 +159,12 @@ fn answered<J: Stream, B: BoardName, R: Wait>(
     ensures put { IfSome result (λ r. HasPutFor ask.asked r.2.answer editor.editor r.0.editor) }
     ensures noted { IfSome result (λ r. NotesAnswer editor.editor.session ask.place r.2.answer noted.now r.1) }
 {
-    let Ask { place, asked, of } = ask;
+    let Ask {
+        place,
+        asked,
+        behind: _,
+        of,
+    } = ask;
     let session = editor.session();
     let (editor, answer) = answer_of(here, editor, asked)?;
     let Some((line, more)) = noted_with(here, noted, session, place, &answer) else {

@@ -179,10 +179,9 @@ fn goes_by_newest(asked: &Asked) -> bool {
     }
 }
 
-// Waits until what was waited for on lines before a place is printed. False where all stop.
-fn await_waited<J: Stream, B: BoardName, R: Wait>(here: &Workplace<J, B, R>, place: u64) -> bool {
-    let fence = here.exchange.fence_before(place);
-    here.exchange.is_turn(here.rt, fence) || here.await_turn(fence)
+// Waits until the answers before a place are printed. False where all stop.
+fn await_waited<J: Stream, B: BoardName, R: Wait>(here: &Workplace<J, B, R>, behind: u64) -> bool {
+    here.exchange.is_turn(here.rt, behind) || here.await_turn(behind)
 }
 
 // The answer to the line at a place. What goes by the newest tables is answered behind each earlier line that waits for tables; that a
@@ -192,13 +191,14 @@ fn answer_at<J: Stream, B: BoardName, G: Gate, R: Wait>(
     gate: &G,
     forwarder: &mut ForwarderOf<B>,
     place: u64,
+    behind: u64,
     asked: &Asked,
 ) -> Option<Answer>
     ensures kept { GoesOn forwarder.old.forwarder forwarder.new.forwarder }
     ensures answer { IfSome result (λ answer. AnswersBy forwarder.new.forwarder asked.now answer) }
     ensures newest { IfSome result (GoesByNewest forwarder.old.forwarder forwarder.new.forwarder asked.now) }
 {
-    if goes_by_newest(asked) && !await_waited(here, place) {
+    if goes_by_newest(asked) && !await_waited(here, behind) {
         return None;
     }
     match answer_of(here, gate, forwarder, asked)? {
@@ -223,8 +223,13 @@ fn answered<J: Stream, B: BoardName, G: Gate, R: Wait>(
     // forwarder had seen.
     ensures newest { IfSome result (λ a. GoesByNewest forwarder.old.forwarder a.known ask.asked a.answer) }
 {
-    let Ask { place, asked, of } = ask;
-    let answer = answer_at(here, gate, forwarder, place, &asked)?;
+    let Ask {
+        place,
+        asked,
+        behind,
+        of,
+    } = ask;
+    let answer = answer_at(here, gate, forwarder, place, behind, &asked)?;
     Some(Answered {
         place,
         answer,

@@ -335,7 +335,12 @@ fn answered<J: Stream, T: TableFiles, B: BoardName, R: Wait>(
     reader: TablesReader<B>,
     ask: Ask<J>,
 ) -> Option<(TablesReader<B>, Answered<J, B>)> {
-    let Ask { place, asked, of } = ask;
+    let Ask {
+        place,
+        asked,
+        behind: _,
+        of,
+    } = ask;
     let (reader, answer) = answer_of(here, tables, reader, asked)?;
     let reader = match answer {
         Answer::Gone => looked_again(here, reader, place)?,

@@ -87,7 +87,12 @@ fn answered<J: Stream, B: BoardName, R: Wait>(
     here: &Workplace<J, B, R>,
     ask: Ask<J>,
 ) -> Option<Answered<J, B>> {
-    let Ask { place, asked, of } = ask;
+    let Ask {
+        place,
+        asked,
+        behind: _,
+        of,
+    } = ask;
     let (answer, known) = answer_of(here, asked)?;
     Some(Answered {
         place,
