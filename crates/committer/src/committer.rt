@@ -8,7 +8,7 @@ ghost use Rattle.checkpoint.specs.Kept.{kept_props};
 ghost use Rattle.checkpoint.specs.StoreWords.{state_of, view_of, is_down};
 ghost use Rattle.node_table.specs.Tables.{tables};
 ghost use Rattle.node_table.specs.Service.{Serves};
-ghost use Rattle.generations.specs.declared.posting.Notice.TheVariants.{Built, Marked};
+ghost use Rattle.generations.specs.declared.posting.Notice.TheVariants.{Built};
 ghost use Rattle.intake.specs.Turns.{of, last_asked, AreWithin};
 ghost use Rattle.intake.specs.Ends.{HasTaken};
 ghost use Rattle.scheme_builds.specs.Schemes.{IsSchemeOf};
@@ -16,7 +16,7 @@ ghost use Rattle.group_commit.specs.DeskWords.{store_of as desk_store, held_of a
 ghost use Rattle.group_commit.specs.Limits.{most_held};
 ghost use Rattle.settled_lists.specs.declared.builds.Builds.{Builds};
 ghost use Rattle.settled_lists.specs.Lists.{IsAhead};
-ghost use Rattle.committer.specs.Outboxes.{all_of, with_due, with_posted};
+ghost use Rattle.committer.specs.Outboxes.{all_of, with_posted};
 ghost use Rattle.committer.specs.Turns.{HoldsNoLater};
 ghost use Rattle.committer.specs.Ties.{IsTied};
 ghost use Rattle.committer.specs.Rounds.{TellsUpTo};
@@ -380,23 +380,19 @@ impl<D: Disk, R: Wait + Drop> Committer<D, R> {
         }
     }
 
-    /// Posts marks of no request. So each of the board's copies has what was posted before, and the oldest generation that this pushed
-    /// out is let go.
+    /// Publishes what was posted once more, without a posting, so that both copies of the board have it, and the oldest generation that
+    /// it pushed out is let go.
     ///
-    /// It is refused as `Board` alone, where the board doesn't take it: then it is due.
-    pub fn refresh(&mut self, alloc: Global) -> Result<(), RebuildRefused>
+    /// It is refused as `Board` alone, where a copy can't take it up.
+    pub fn refresh(&mut self) -> Result<(), RebuildRefused>
         requires nothing_due { (posts_of self.old).due ≡ [] }
-        requires up { is_down (store_of self.old) ≡ false }
-        requires held { held_of self.old ≡ [] }
-        ensures posted { OnOk result (posts_of self.new ≡ with_posted (posts_of self.old) (Marked [])) }
-        ensures due { OnErr result (posts_of self.new ≡ with_due (posts_of self.old) (Marked [])) }
+        ensures posts { posts_of self.new ≡ posts_of self.old }
         ensures only_board { IsErr result → IsErrOf result RebuildRefused.Board }
 
         ensures stays { StaysPut self.old self.new }
         ensures listed { StaysListed self.old self.new }
     {
-        let none = Vec::new(alloc);
-        if self.outbox.tell(Posting::Marks(none)) {
+        if self.outbox.publish_again() {
             return Ok(());
         }
         Err(RebuildRefused::Board)

@@ -85,6 +85,14 @@ impl<R: Wait + Drop> Outbox<R> {
         }
     }
 
+    /// Publishes what was posted once more, and says whether it did.
+    pub fn publish_again(&mut self) -> bool
+        requires nothing_due { self.old.due ≡ [] }
+        ensures { self.new ≡ self.old }
+    {
+        self.writer.publish_again().is_ok()
+    }
+
     /// Posts one posting. Where the writer gives it back, it is dropped.
     pub fn offer(&mut self, posting: Posting) -> Offered
         requires nothing_due { self.old.due ≡ [] }

@@ -32,7 +32,7 @@ pub enum RebuildRefused {
     /// The device failed before.
     #[error("the device failed before")]
     Down = 2,
-    /// The board took no posting.
+    /// The board took no posting, or one of its copies didn't take up what was posted.
     #[error("the board took no posting")]
     Board = 3,
 }

@@ -11,7 +11,7 @@ use graph_edits::Code;
 use requests::{SESSIONS, WORN_LIMIT};
 use std::alloc::{AllocError, Global};
 use std::process::Abort;
-use std::sync::Wait;
+use std::sync::{Arc, Wait};
 use std::test::Fail;
 use std::thread;
 use std::thread::Threads;
@@ -227,6 +227,34 @@ fn five_seen<W: Wait + Drop>(
 fn posts_five<R: Wait + Abort>(rt: &R, alloc: Global) -> Result<(), AllocError> {
     let (mut writer, reader) = one_reader(rt, alloc)?;
     five_seen(rt, alloc, &mut writer, reader)
+}
+
+// Posts five generations, and publishes them once more: how many owners the oldest has before and behind that, this one included. The
+// reader sees the last of them, and the next one behind it.
+fn owners_of_the_oldest<R: Wait + Abort>(
+    rt: &R,
+    alloc: Global,
+) -> Result<(usize, usize), AllocError> {
+    let (mut writer, reader) = one_reader(rt, alloc)?;
+    let oldest = empty_scheme(alloc, 1)?;
+    let reader = post_seen(rt, &mut writer, reader, 0, Arc::try_clone(&oldest)?);
+    post_up_to(rt, alloc, &mut writer, 1, 5);
+    let before = Arc::strong_count(&oldest);
+    writer.publish_again()?;
+    let behind = Arc::strong_count(&oldest);
+    post_seen(rt, &mut writer, reader, 5, empty_scheme(alloc, 6)?);
+    Ok((before, behind))
+}
+
+#[test]
+fn lets_the_oldest_go_once_it_is_published_again(rt: HostRuntime) -> Result<(), Fail> {
+    same(
+        &rt,
+        owners_of_the_oldest(&rt, rt.alloc())?,
+        (2, 1),
+        "owners",
+    );
+    Ok(())
 }
 
 /// Run with each allocation refused in turn too (`./refuse-memory`): what was refused is whole when it is made again.

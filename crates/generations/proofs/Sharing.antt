@@ -42,6 +42,10 @@ sees seat v x y folded on views h at = (
 pub looks : (seat : ℕ) (v : Option Beginning) (x : Replica) → TurnsAt IsConsistent seat v x x Observes
 looks seat v x views h at = sees seat v x x h.0 (goes_self x.history) views h at
 
+-- so does a publishing without an update
+pub looks_again : (seat : ℕ) (v : Option Beginning) (x y : Replica) → y ≡ x → TurnsAt IsConsistent seat v x y Observes
+looks_again seat v x y same = subst (λ (z : Replica). TurnsAt IsConsistent seat v x z Observes) (sym same) (looks seat v x)
+
 -- a new reader knows nothing
 pub admits : Admits IsConsistent None
 admits x views h = (h.0, λ j u e. ⊎_elim (h.1 j u) (λ (t : None ≡ u). subst (λ (z : Option Beginning). Follows z x.history) t tt) (at_snoc views None u j e))

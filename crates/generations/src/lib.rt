@@ -22,6 +22,7 @@
 //! | [`Board::fold`] | the board after one notice more (`after`); refused for memory, it is unchanged |
 //! | [`BoardWriter::post`] | `Ok`: the list is one longer. `Back`: the posting comes back and nothing changed. `Kept`: the writer keeps it, and no reader sees it |
 //! | [`BoardWriter::retry`] | `Ok`: the list has what was kept. `Kept`: it stays kept |
+//! | [`BoardWriter::publish_again`] | no posting: the list stays as it is, and the copy that readers have left catches up with it |
 //! | [`BoardWriter::tell`] | all that was posted |
 //! | [`BoardReader::look`] | the fold of the list up to some place, behind all that this reader has seen or learnt of it; or `Shut` |
 //!

@@ -25,7 +25,7 @@ pub struct Mark {
 /// What is told to all in one step.
 #[derive(Drop)]
 pub enum Posting {
-    /// What became of the requests of one group: a mark for each, in their order.
+    /// What became of the requests of one group, which has one at least: a mark for each, in their order.
     Marks(Vec<Mark>),
     /// A call of the device failed: the store takes no more until the device is opened again.
     Down,

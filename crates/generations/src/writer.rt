@@ -13,6 +13,7 @@ use crate::posting::Posting;
 use crate::reader::{Observation, Publication, Told};
 use crate::replica::{Replica, Update};
 use left_right::writer::Writer;
+use std::alloc::AllocError;
 use std::marker::Model;
 use std::mem;
 use std::sync::Wait;
@@ -158,6 +159,23 @@ impl<R: Wait + Drop> BoardWriter<R> {
         }
     }
 
+    /// Publishes what was posted once more, without a posting. So the other copy of the board takes it up too, and lets go of the
+    /// generation that it pushed out. Readers find no change by it.
+    ///
+    /// It waits for the readers of that copy, as a posting does. It is refused where the copy can't take it up. No clause of
+    /// `left_right` says that the copy has.
+    pub fn publish_again(&mut self) -> Result<(), AllocError>
+        requires nothing_kept { self.old.kept ≡ [] }
+        ensures { self.new ≡ self.old }
+    {
+        let Some(publisher) = self.publisher.take() else {
+            unreachable!()
+        };
+        let (publisher, shown) = publisher.show_again(&self.posted);
+        self.publisher = Some(publisher);
+        shown
+    }
+
     /// Publishes what is kept.
     pub fn retry(&mut self) -> Result<(), Kept>
         requires { self.old.kept ≢ [] }
@@ -228,5 +246,17 @@ impl<R: Wait + Drop> Publisher<R> {
             Ok(()) => (publisher, Waiting::Nothing),
             Err(_) => (publisher, Waiting::Logged),
         }
+    }
+
+    // Publishes where no update is pending.
+    fn show_again(self, posted: &History) -> (Publisher<R>, Result<(), AllocError>)
+        requires shown { Shows self posted.now }
+        requires pending { pending_of self ≡ [] }
+        ensures shown { Shows result.0 posted.now }
+        ensures pending { pending_of result.0 ≡ [] }
+    {
+        let Self { rt, writer } = self;
+        let (writer, shown) = writer.publish_as::<Observation, R>(&rt);
+        (Publisher { rt, writer }, shown)
     }
 }

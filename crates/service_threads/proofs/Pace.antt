@@ -82,16 +82,14 @@ pub shown_still : {D R : Type 0} {V : _} → (old new : Committer D R V) → sto
 shown_still old new same none serves =
     subst (λ s. IsShown (Some (state_of s).count) new) (sym same) (record { nothing_due = none; newest = served_newest (state_of (store_of old)) (posts_of new) serves })
 
--- and where it was announced
-pub shown_announced : {D R : Type 0} {V : _} → (old new : Committer D R V) (number : ℕ) (scheme : Parts) → number ≡ (state_of (store_of new)).count → posts_of new ≡ with_posted (posts_of old) (Built number scheme) → IsUpToDate new
-shown_announced old new number scheme same posted =
-    subst (λ (n : ℕ). IsShown (Some n) new) same (shown_so (Some number) new (with_posted (posts_of old) (Built number scheme)) posted (refl, ap (option_map (λ g. g.0)) (now_newest (posts_of old).posted number scheme)))
+-- one that is posted behind all is the newest
+pub shown_posted : {D R : Type 0} {V : _} → (old new : Committer D R V) (number : ℕ) (scheme : Parts) → posts_of new ≡ with_posted (posts_of old) (Built number scheme) → IsShown (Some number) new
+shown_posted old new number scheme posted =
+    shown_so (Some number) new (with_posted (posts_of old) (Built number scheme)) posted (refl, ap (option_map (λ g. g.0)) (now_newest (posts_of old).posted number scheme))
 
--- and behind it marks of no request
-pub shown_refreshed : {D R : Type 0} {V : _} → (old mid new : Committer D R V) (number : ℕ) (scheme : Parts) → posts_of mid ≡ with_posted (posts_of old) (Built number scheme) → posts_of new ≡ with_posted (posts_of mid) (Marked []) → IsShown (Some number) new
-shown_refreshed old mid new number scheme posted then =
-    shown_so (Some number) new (with_posted (posts_of mid) (Marked [])) then (shows_marked (Some number) (posts_of mid) []
-    (subst (λ (o : Outgoing). Shows (Some number) o) (sym posted) (refl, ap (option_map (λ g. g.0)) (now_newest (posts_of old).posted number scheme))))
+-- and so where it was announced
+pub shown_announced : {D R : Type 0} {V : _} → (old new : Committer D R V) (number : ℕ) (scheme : Parts) → number ≡ (state_of (store_of new)).count → posts_of new ≡ with_posted (posts_of old) (Built number scheme) → IsUpToDate new
+shown_announced old new number scheme same posted = subst (λ (n : ℕ). IsShown (Some n) new) same (shown_posted old new number scheme posted)
 
 -- ---- what is due
 

@@ -167,14 +167,14 @@ fn post<J: BoardName, D: Disk, G: Gate, R: Wait + Drop, S: Threads + Wait>(
     ensures number { IfOk result (λ number. number ≡ (graph_of build).generation) }
     ensures shown { IfOk result (λ number. IsShown (Some number) committer.new) }
 {
-    let (rt, alloc, coordinator) = (site.rt, site.alloc, site.coordinator);
+    let (rt, coordinator) = (site.rt, site.coordinator);
     let Build { graph, thread } = build;
     let scheme = thread.join(rt)?;
     shelf.put(Arc::try_clone(&scheme)?);
     let number = scheme.parts().generation;
     coordinator.show(rt, graph);
     committer.announce_earlier(number, scheme)?;
-    committer.refresh(alloc)?;
+    committer.refresh()?;
     coordinator.tell(rt, stand_of::<J, D, R>(committer, Some(number)), 0);
     Ok(number)
 }

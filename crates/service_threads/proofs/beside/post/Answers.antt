@@ -10,7 +10,7 @@ use Rattle.settled_lists.specs.declared.builds.Builds.TheVariants.{Beside}
 use Rattle.committer.specs.CommitterWords.{store_of}
 use Rattle.service_threads.specs.Beside.{graph_of}
 use Rattle.service_threads.proofs.OnWay.{earlier_of, is_ahead}
-use Rattle.service_threads.proofs.Pace.{shown_refreshed}
+use Rattle.service_threads.proofs.Pace.{shown_posted}
 use Rattle.service_threads.proofs.beside.post.Goals as goal
 
 pub announce_earlier-requires-clause-reached : goal.announce_earlier-requires-clause-reached
@@ -50,8 +50,8 @@ returns-clause-number g c = ap (λ (p : Parts). p.generation) (c.parts.ensures �
 
 pub returns-clause-shown : goal.returns-clause-shown
 returns-clause-shown g c =
-    shown_refreshed c.args.committer.now c.announce_earlier.new.self c.refresh.new.self c.parts.result.now.generation (arc_value c.in_ok-scheme.scheme) c.in_ok-announce_earlier.ensures.posted c.in_ok-refresh.ensures.posted
+    shown_posted c.args.committer.now c.refresh.new.self c.parts.result.now.generation (arc_value c.in_ok-scheme.scheme) (c.refresh.ensures.posts ∙ c.in_ok-announce_earlier.ensures.posted)
 
 pub stand_of-requires-clause-shown : goal.stand_of-requires-clause-shown
 stand_of-requires-clause-shown g c =
-    shown_refreshed c.args.committer.now c.announce_earlier.new.self c.refresh.new.self c.parts.result.now.generation (arc_value c.in_ok-scheme.scheme) c.in_ok-announce_earlier.ensures.posted c.in_ok-refresh.ensures.posted
+    shown_posted c.args.committer.now c.refresh.new.self c.parts.result.now.generation (arc_value c.in_ok-scheme.scheme) (c.refresh.ensures.posts ∙ c.in_ok-announce_earlier.ensures.posted)
