@@ -1,53 +1,39 @@
 -- Ranges one by one: the first of those that are left, those behind it, and the roots of all.
-use Rattle.std.proofs.Common.{◌≡◌, ℕ, suc, ◌+◌, ◌*◌, ◌<◌, ◌≤◌, Bool, sym, ap, subst, ◌∙◌, arith, List, [], ◌∷◌, ◌++◌, length, take, drop}
-use Rattle.std.specs.Prelude.{Option, Result, Ok, slice_index_or}
+use Rattle.std.proofs.Common.{◌≡◌, ℕ, suc, ◌+◌, ◌*◌, ◌<◌, ◌≤◌, sym, ap, subst, arith, List, [], ◌∷◌, ◌++◌, length, take, drop}
+use Rattle.std.specs.Prelude.{Result, Ok, slice_index_or}
 use Rattle.std.specs.declared.alloc.AllocError.{AllocError}
-use Rattle.graph_edits.specs.Edges.{Network}
-use Rattle.distances.specs.declared.nearest.Near.{Near}
 use Rattle.node_table.specs.declared.parts.Parts.{Parts}
-use Rattle.node_table.specs.Building.{AreAsLong, IsBuildOf}
-use Rattle.scheme_builds.specs.Ranges.{bound_at, IsRange, AreRanges}
+use Rattle.scheme_builds.specs.declared.ranges.Task.{Task}
+use Rattle.scheme_builds.specs.Ranges.{bound_at, IsBuilt, IsRange, AreRanges}
 
-module _ (m : Network) (flags : List Bool) (nearest : List (Option Near)) (generation size : ℕ) where
+module _ (task : Task) (size : ℕ) where
   -- the first of these ranges
-  pub first_range : (i : ℕ) (made : List (Result Parts AllocError)) (r : Result Parts AllocError) → AreRanges m flags nearest generation size i made → 0 < length made → r ≡ slice_index_or made 0 r → IsRange m flags nearest generation size i r
+  pub first_range : (i : ℕ) (made : List (Result Parts AllocError)) (r : Result Parts AllocError) → AreRanges task size i made → 0 < length made → r ≡ slice_index_or made 0 r → IsRange task size i r
   first_range i [] r h l e = absurd (omega (arith, l))
-  first_range i (x ∷ xs) r h l e = subst (IsRange m flags nearest generation size i) (sym e) h.0
+  first_range i (x ∷ xs) r h l e = subst (IsRange task size i) (sym e) h.0
 
   -- those behind the first
-  pub other_ranges : (i : ℕ) (made rest : List (Result Parts AllocError)) → AreRanges m flags nearest generation size i made → 0 < length made → rest ≡ take 0 made ++ drop (0 + 1) made → AreRanges m flags nearest generation size (i + 1) rest
+  pub other_ranges : (i : ℕ) (made rest : List (Result Parts AllocError)) → AreRanges task size i made → 0 < length made → rest ≡ take 0 made ++ drop (0 + 1) made → AreRanges task size (i + 1) rest
   other_ranges i [] rest h l e = absurd (omega (arith, l))
-  other_ranges i (x ∷ xs) rest h l e = subst (AreRanges m flags nearest generation size (i + 1)) (sym e) h.1
+  other_ranges i (x ∷ xs) rest h l e = subst (AreRanges task size (i + 1)) (sym e) h.1
 
   -- ranges that are known place by place
-  pub each_range : (made : List (Result Parts AllocError)) (i : ℕ) → ((k : ℕ) (d : Result Parts AllocError) → k < length made → IsRange m flags nearest generation size (i + k) (slice_index_or made k d)) → AreRanges m flags nearest generation size i made
+  pub each_range : (made : List (Result Parts AllocError)) (i : ℕ) → ((k : ℕ) (d : Result Parts AllocError) → k < length made → IsRange task size (i + k) (slice_index_or made k d)) → AreRanges task size i made
   each_range [] i h = tt
   each_range (x ∷ xs) i h = (
-    subst (λ k. IsRange m flags nearest generation size k x) (let e : i + 0 ≡ i = omega arith in e) (h 0 x (omega arith)),
-    each_range xs (i + 1) (λ k d l. subst (λ j. IsRange m flags nearest generation size j (slice_index_or xs k d)) (let e : i + suc k ≡ i + 1 + k = omega arith in e) (h (suc k) d (omega (arith, l)))),
+    subst (λ k. IsRange task size k x) (let e : i + 0 ≡ i = omega arith in e) (h 0 x (omega arith)),
+    each_range xs (i + 1) (λ k d l. subst (λ j. IsRange task size j (slice_index_or xs k d)) (let e : i + suc k ≡ i + 1 + k = omega arith in e) (h (suc k) d (omega (arith, l)))),
   )
 
   -- a range that is there
-  pub made_range : (i : ℕ) (r : Result Parts AllocError) (p : Parts) → r ≡ Ok p → IsRange m flags nearest generation size i r → IsBuildOf m flags nearest generation p (bound_at m size i) (bound_at m size (i + 1))
-  made_range i r p e h = (let k = subst (IsRange m flags nearest generation size i) e h in k)
+  pub made_range : (i : ℕ) (r : Result Parts AllocError) (p : Parts) → r ≡ Ok p → IsRange task size i r → IsBuilt task p (bound_at task.graph.now size i) (bound_at task.graph.now size (i + 1))
+  made_range i r p e h = (let k = subst (IsRange task size i) e h in k)
 
-  -- both of two builds have a place for each node
-  pub as_long : (p q : Parts) (a b c d : ℕ) → IsBuildOf m flags nearest generation p a b → IsBuildOf m flags nearest generation q c d → AreAsLong p q
-  as_long p q a b c d h k = record {
-    entries = h.built.entries ∙ sym k.built.entries;
-    directories = h.built.directories ∙ sym k.built.directories;
-    homes = h.built.homes ∙ sym k.built.homes;
-  }
-
-  pub bounds_rise : (i : ℕ) → bound_at m size i ≤ bound_at m size (i + 1)
+  pub bounds_rise : (i : ℕ) → bound_at task.graph.now size i ≤ bound_at task.graph.now size (i + 1)
   bounds_rise i = (let e : (i + 1) * size ≡ i * size + size = omega arith in omega (arith, e))
 
-  -- the first range begins with the first root
-  pub first_bound : bound_at m size 0 ≡ 0
-  first_bound = omega arith
-
   -- the last range ends with the last root
-  pub last_bound : (count : ℕ) → m.nodes ≤ count * size → bound_at m size count ≡ m.nodes
+  pub last_bound : (count : ℕ) → task.graph.now.nodes ≤ count * size → bound_at task.graph.now size count ≡ task.graph.now.nodes
   last_bound count l = omega (arith, l)
 
 -- one fewer is left

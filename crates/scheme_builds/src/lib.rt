@@ -18,6 +18,9 @@
 //! before the next. [`scheme_of`], one worker in a larger network, and each range of several workers number members over lists, as
 //! [`node_table::build_by_lists`] does, in less time. So no tree here is deeper than [`LEAST_SHARED`], and no call needs a large stack.
 //!
+//! [`scheme_of_in_turns`] builds the same beside threads that mustn't wait: before each root, others that wait for the worker's processor
+//! run.
+//!
 //! A range has 384 roots at most. In a larger network the workers build range after range, round by round, and what a round has built is
 //! joined before the next: so beside the tables a build takes little memory, however large they are.
 //!
@@ -52,6 +55,7 @@ mod queries;
 mod ranges;
 mod schemes;
 mod threads;
+mod turns;
 mod words;
 mod workers;
 
@@ -59,6 +63,6 @@ pub use lengths::length_over;
 pub use queries::{Checked, Route, carry_in, carry_packet, check_scheme};
 pub use ranges::SCRATCH_LEN;
 pub use schemes::scheme_of;
-pub use threads::{scheme_in_threads, scheme_of_in_threads};
+pub use threads::{scheme_in_threads, scheme_of_in_threads, scheme_of_in_turns};
 pub use words::first_words;
 pub use workers::{LEAST_SHARED, MOST_WORKERS, workers_for, workers_here};

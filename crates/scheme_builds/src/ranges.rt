@@ -1,9 +1,9 @@
 // Ranges of roots, each built by a worker, and joined in the order of the roots.
 ghost use Rattle.std.specs.Prelude.{◌+◌, ◌<◌, ◌≤◌, ◌^◌, length};
 ghost use Rattle.node_table.specs.KnownNearest.{CanBuild, KnowsNearest};
-ghost use Rattle.node_table.specs.Building.{IsBuildOf};
-ghost use Rattle.scheme_builds.specs.Ranges.{AreRanges, HasBuilt, IsRange, bound_at};
+ghost use Rattle.scheme_builds.specs.Ranges.{AreRanges, HasBuilt, IsBuilt, IsRange, bound_at};
 
+use crate::turns::InTurns;
 use distances::Nearest;
 use graph_edits::Graph;
 use landmarks::Landmarks;
@@ -20,20 +20,40 @@ pub const SCRATCH_LEN: usize = 67_108_864;
 /// beside the tables of a large network.
 const MOST_ROOTS: u16 = 384;
 
+/// What every worker of a build has before it. Where it yields, threads that wait for the worker's processor run before each root.
+#[derive(Clone, Copy)]
+pub(crate) struct Task<'a> {
+    pub(crate) graph: &'a Graph,
+    pub(crate) landmarks: &'a Landmarks,
+    pub(crate) nearest: &'a Nearest,
+    pub(crate) generation: u64,
+    pub(crate) yields: bool,
+}
+
 /// What a build has of the roots from `first` on and below `last`. Members are numbered over lists in a heap of this call's own.
 fn build_roots(
     alloc: Global,
-    graph: &Graph,
-    landmarks: &Landmarks,
-    nearest: &Nearest,
-    generation: u64,
+    task: &Task<'_>,
     first: u16,
     last: u16,
 ) -> Result<PartialScheme, AllocError>
-    requires { CanBuild graph.now landmarks.now nearest.now.nearest first last }
-    ensures { HasBuilt graph.now landmarks.now nearest.now.nearest generation first last result }
+    requires { CanBuild task.now.graph.now task.now.landmarks.now task.now.nearest.now.nearest first last }
+    ensures { HasBuilt task.now first last result }
 {
     let heap = LocalHeap::new(alloc, SCRATCH_LEN)?;
+    let Task {
+        graph,
+        landmarks,
+        nearest,
+        generation,
+        yields,
+    } = *task;
+    if yields {
+        let scratch = InTurns { inner: &heap };
+        return build_between(
+            alloc, graph, landmarks, nearest, generation, first, last, scratch,
+        );
+    }
     build_between(
         alloc, graph, landmarks, nearest, generation, first, last, &heap,
     )
@@ -42,39 +62,31 @@ fn build_roots(
 /// What a build has of the range of this number.
 fn build_range(
     alloc: Global,
-    graph: &Graph,
-    landmarks: &Landmarks,
-    nearest: &Nearest,
-    generation: u64,
+    task: &Task<'_>,
     size: u16,
     i: usize,
 ) -> Result<PartialScheme, AllocError>
-    requires { KnowsNearest graph.now landmarks.now nearest.now.nearest }
-    ensures { IsRange graph.now landmarks.now nearest.now.nearest generation size i result }
+    requires { KnowsNearest task.now.graph.now task.now.landmarks.now task.now.nearest.now.nearest }
+    ensures { IsRange task.now size i result }
 {
-    let nodes = graph.nodes() as usize;
+    let nodes = task.graph.nodes() as usize;
     let first = i.saturating_mul(size as usize).min(nodes);
     let last = (first + size as usize).min(nodes);
     let (first, last) = (first as u16, last as u16);
-    build_roots(alloc, graph, landmarks, nearest, generation, first, last)
+    build_roots(alloc, task, first, last)
 }
 
 /// What a build has of the roots of the whole and of these ranges, which follow it.
 fn join_ranges(
-    graph: &Graph,
-    landmarks: &Landmarks,
-    nearest: &Nearest,
-    generation: u64,
+    task: &Task<'_>,
     size: u16,
     begun: usize,
     mut whole: PartialScheme,
     mut made: Vec<Result<PartialScheme, AllocError>>,
 ) -> Result<PartialScheme, AllocError>
-    requires whole { IsBuildOf graph.now landmarks.now nearest.now.nearest generation whole
-        0 (bound_at graph.now size begun) }
-    requires ranges { AreRanges graph.now landmarks.now nearest.now.nearest generation size begun made.items }
-    ensures { HasBuilt graph.now landmarks.now nearest.now.nearest generation
-        0 (bound_at graph.now size (begun + length made.items)) result }
+    requires whole { IsBuilt task.now whole 0 (bound_at task.now.graph.now size begun) }
+    requires ranges { AreRanges task.now size begun made.items }
+    ensures { HasBuilt task.now 0 (bound_at task.now.graph.now size (begun + length made.items)) result }
 {
     for _k in 0..made.len() {
         let next = made.remove(0)?;
@@ -97,20 +109,17 @@ fn range_size(size: u16) -> u16
 pub(crate) fn build_ranges<R: Threads + Sync>(
     rt: &R,
     alloc: Global,
-    graph: &Graph,
-    landmarks: &Landmarks,
-    nearest: &Nearest,
-    generation: u64,
+    task: &Task<'_>,
     size: u16,
 ) -> Result<PartialScheme, AllocError>
     requires some { 0 < size }
-    requires known { KnowsNearest graph.now landmarks.now nearest.now.nearest }
-    ensures { HasBuilt graph.now landmarks.now nearest.now.nearest generation 0 graph.now.nodes result }
+    requires known { KnowsNearest task.now.graph.now task.now.landmarks.now task.now.nearest.now.nearest }
+    ensures { HasBuilt task.now 0 task.now.graph.now.nodes result }
 {
-    let workers = graph.nodes().div_ceil(size).max(1) as usize;
+    let workers = task.graph.nodes().div_ceil(size).max(1) as usize;
     let roots = range_size(size);
-    let count = graph.nodes().div_ceil(roots) as usize;
-    let mut whole = build_roots(alloc, graph, landmarks, nearest, generation, 0, 0)?;
+    let count = task.graph.nodes().div_ceil(roots) as usize;
+    let mut whole = build_roots(alloc, task, 0, 0)?;
     let mut begun: usize = 0;
     while begun < count {
         let many = workers.min(count - begun);
@@ -119,25 +128,12 @@ pub(crate) fn build_ranges<R: Threads + Sync>(
             alloc,
             many,
             &|i: usize| -> Result<PartialScheme, AllocError>
-                requires known { KnowsNearest graph.now landmarks.now nearest.now.nearest }
+                requires known { KnowsNearest task.now.graph.now task.now.landmarks.now task.now.nearest.now.nearest }
                 requires small { begun + i < 2 ^ 64 }
-                ensures { IsRange graph.entry.now landmarks.entry.now nearest.entry.now.nearest
-                    generation roots (begun + i) result }
-            {
-                build_range(
-                    alloc,
-                    graph,
-                    landmarks,
-                    nearest,
-                    generation,
-                    roots,
-                    begun + i,
-                )
-            },
+                ensures { IsRange task.entry.now roots (begun + i) result }
+            { build_range(alloc, task, roots, begun + i) },
         )?;
-        whole = join_ranges(
-            graph, landmarks, nearest, generation, roots, begun, whole, made,
-        )?;
+        whole = join_ranges(task, roots, begun, whole, made)?;
         begun += many;
     }
     Ok(whole)

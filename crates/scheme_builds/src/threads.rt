@@ -3,7 +3,8 @@ ghost use Rattle.std.specs.Prelude.{◌≡◌, IfOk, length};
 ghost use Rattle.node_table.specs.Schemes.{IsSchemeUnder};
 ghost use Rattle.scheme_builds.specs.Schemes.{IsSchemeOf};
 
-use crate::ranges::{SCRATCH_LEN, build_ranges};
+use crate::ranges::{SCRATCH_LEN, Task, build_ranges};
+use crate::turns::InTurns;
 use crate::words::first_words;
 use crate::workers::{LEAST_SHARED, at_most};
 use distances::from_landmarks;
@@ -22,15 +23,62 @@ fn built_alone(
     graph: &Graph,
     landmarks: &Landmarks,
     generation: u64,
+    yields: bool,
 ) -> Result<Scheme, AllocError>
     requires same_size { length landmarks.now ≡ graph.now.nodes }
     ensures { IfOk result (λ scheme. IsSchemeUnder graph.now landmarks.now generation scheme) }
 {
     let heap = LocalHeap::new(alloc, SCRATCH_LEN)?;
-    if graph.nodes() < LEAST_SHARED {
-        return build(alloc, graph, landmarks, generation, &heap);
+    let trees = graph.nodes() < LEAST_SHARED;
+    match (trees, yields) {
+        (true, false) => build(alloc, graph, landmarks, generation, &heap),
+        (true, true) => build(
+            alloc,
+            graph,
+            landmarks,
+            generation,
+            InTurns { inner: &heap },
+        ),
+        (false, false) => build_by_lists(alloc, graph, landmarks, generation, &heap),
+        (false, true) => build_by_lists(
+            alloc,
+            graph,
+            landmarks,
+            generation,
+            InTurns { inner: &heap },
+        ),
     }
-    build_by_lists(alloc, graph, landmarks, generation, &heap)
+}
+
+/// The scheme of a graph with these landmarks, by so many workers, which yield before each root or don't.
+fn built_by<R: Threads + Wait + Sync>(
+    rt: &R,
+    alloc: Global,
+    graph: &Graph,
+    landmarks: &Landmarks,
+    generation: u64,
+    workers: u16,
+    yields: bool,
+) -> Result<Scheme, AllocError>
+    requires same_size { length landmarks.now ≡ graph.now.nodes }
+    ensures { IfOk result (λ scheme. IsSchemeUnder graph.now landmarks.now generation scheme) }
+{
+    let workers = at_most(workers);
+    if workers == 1 {
+        return built_alone(alloc, graph, landmarks, generation, yields);
+    }
+    let nearest = from_landmarks(alloc, graph, landmarks)?;
+    let size = graph.nodes().div_ceil(workers).max(1);
+    let task = Task {
+        graph,
+        landmarks,
+        nearest: &nearest,
+        generation,
+        yields,
+    };
+    let whole = build_ranges(rt, alloc, &task, size)?;
+    let scheme = whole.finish(alloc, graph)?;
+    Ok(scheme)
 }
 
 /// The scheme of a graph with these landmarks, as [`node_table::build`] builds it: all eight rules hold of it, so it serves the
@@ -48,15 +96,7 @@ pub fn scheme_in_threads<R: Threads + Wait + Sync>(
     requires same_size { length landmarks.now ≡ graph.now.nodes }
     ensures { IfOk result (λ scheme. IsSchemeUnder graph.now landmarks.now generation scheme) }
 {
-    let workers = at_most(workers);
-    if workers == 1 {
-        return built_alone(alloc, graph, landmarks, generation);
-    }
-    let nearest = from_landmarks(alloc, graph, landmarks)?;
-    let size = graph.nodes().div_ceil(workers).max(1);
-    let whole = build_ranges(rt, alloc, graph, landmarks, &nearest, generation, size)?;
-    let scheme = whole.finish(alloc, graph)?;
-    Ok(scheme)
+    built_by(rt, alloc, graph, landmarks, generation, workers, false)
 }
 
 /// The scheme of a graph with the landmarks that these words give, as [`scheme_of`](crate::scheme_of) builds it, by so many
@@ -76,4 +116,21 @@ pub fn scheme_of_in_threads<R: Threads + Wait + Sync>(
     let first = first_words(alloc, words, nodes)?;
     let landmarks = choose(alloc, nodes, &first)?;
     scheme_in_threads(rt, alloc, graph, &landmarks, generation, workers)
+}
+
+/// The same scheme, built beside threads that are not to wait: before each root, those that wait for the worker's processor run.
+pub fn scheme_of_in_turns<R: Threads + Wait + Sync>(
+    rt: &R,
+    alloc: Global,
+    graph: &Graph,
+    words: &[u64],
+    generation: u64,
+    workers: u16,
+) -> Result<Scheme, AllocError>
+    ensures { IfOk result (λ scheme. IsSchemeOf graph.now words.now generation scheme) }
+{
+    let nodes = graph.nodes() as usize;
+    let first = first_words(alloc, words, nodes)?;
+    let landmarks = choose(alloc, nodes, &first)?;
+    built_by(rt, alloc, graph, &landmarks, generation, workers, true)
 }

@@ -11,14 +11,14 @@ ghost use Rattle.service_threads.specs.Pace.{IsShown, IsUpToDate};
 ghost use Rattle.service_threads.specs.Tables.{IsBuiltOf, IsGraphOf};
 
 use crate::committer_stop::CommitterStop;
-use crate::committing::{Rebuilds, next_graph, shared_scheme, stand_of, told_round};
+use crate::committing::{Rebuilds, next_graph, stand_of, told_round};
 use arrayvec::ArrayVec;
 use committer::{Committer, Round};
 use disk_trait::Disk;
 use generations::MOST_SHELVED;
 use node_table::Scheme;
 use packet_ways::BoardName;
-use scheme_builds::workers_here;
+use scheme_builds::{scheme_of_in_turns, workers_here};
 use service_workers::{Coordinator, Gate, GenerationGraph, StopCause, WordSource};
 use std::alloc::{AllocError, Global};
 use std::snapshot::Snapshot;
@@ -80,7 +80,8 @@ pub(crate) struct Build {
     thread: PromisedHandle<Result<Arc<Scheme, Global>, AllocError>, BuildPromise>,
 }
 
-// A scheme of a graph by landmark words. Where there are several processors one is left to the rest of the service.
+// A scheme of a graph by landmark words. Where there are several processors one is left to the rest of the service, and on all of them
+// whoever waits runs before the next root.
 fn scheme_beside<S: Threads + Wait + Sync>(
     rt: &S,
     alloc: Global,
@@ -90,7 +91,8 @@ fn scheme_beside<S: Threads + Wait + Sync>(
     ensures { IfOk result (λ scheme. IsBuiltOf of.now (arc_value scheme)) }
 {
     let workers = workers_here(rt, of.graph.nodes()).saturating_sub(1);
-    shared_scheme(rt, alloc, &of.graph, words, of.generation, workers)
+    let scheme = scheme_of_in_turns(rt, alloc, &of.graph, words, of.generation, workers)?;
+    Ok(Arc::new(alloc, scheme)?)
 }
 
 // The words of the next build, for a thread of its own.

@@ -145,7 +145,7 @@ fn rebuild_by<D: Disk, R: Wait + Drop, S: Threads + Wait + Sync>(
 }
 
 // A scheme of the graph by landmark words, built by so many workers, to be shared.
-pub(crate) fn shared_scheme<S: Threads + Wait + Sync>(
+fn shared_scheme<S: Threads + Wait + Sync>(
     rt: &S,
     alloc: Global,
     graph: &Graph,

@@ -1,12 +1,11 @@
 use Rattle.std.proofs.Common.{◌≤◌, ◌-◌}
-use Rattle.node_table.specs.Building.{IsBuildOf}
-use Rattle.scheme_builds.specs.Ranges.{bound_at}
+use Rattle.scheme_builds.specs.Ranges.{bound_at, IsBuilt}
 use Rattle.scheme_builds.proofs.ranges.build_ranges.Given as goal
 
 abbrev pub invariant-loop-begun : goal.invariant-loop-begun
 invariant-loop-begun g l = record {
   within : l.begun ≤ l.count;
-  joined : IsBuildOf l.graph l.landmarks l.nearest.nearest l.generation l.whole 0 (bound_at l.graph l.roots l.begun);
+  joined : IsBuilt l.task l.whole 0 (bound_at l.task.graph.now l.roots l.begun);
 }
 
 abbrev pub decreases-loop-begun : goal.decreases-loop-begun
