@@ -19,7 +19,8 @@ use Rattle.service_threads.specs.Kept.{IsLeftBy}
 use Rattle.line_exchange.specs.Ends.{HasToldSo, fault_of}
 use Rattle.line_exchange.specs.Begun.{PrintsUnless}
 use Rattle.line_exchange.specs.Inputs.{Bytes, Input}
-use Rattle.line_exchange.specs.Prints.{HasPrinted, answers_text}
+use Rattle.live_lines.specs.Answers.{answer_text}
+use Rattle.line_exchange.specs.Prints.{HasPrinted, lines_of}
 use Rattle.line_exchange.specs.declared.answer_writer.AnswerWriter.{Ghosts as Writers}
 use Rattle.live_service.specs.Runs.{HasBroken, PrintsTo}
 use Rattle.live_service.specs.Services.{AnswersInput}
@@ -92,7 +93,7 @@ untold_so (served.Untold came) outcome fault is same = cc
 
 -- what was printed, where another thing holds of it
 printed_so : (input : Input) (editors count : ℕ) (P Q : List ℕ → Type 0) → HasPrinted input editors P count → ((lines : List ℕ) → P lines → Q lines) → HasPrinted input editors Q count
-printed_so input editors count P Q has so = record { answers = has.answers; many = has.many; are = has.are; printed = so (answers_text has.answers) has.printed }
+printed_so input editors count P Q has so = record { answers = has.answers; many = has.many; are = has.are; printed = so (lines_of answer_text has.answers) has.printed }
 
 -- a service that a fault ended has begun its answers
 begins : {W : Type 0} (outlet : Writers W) (given : Known) (editors : ℕ) (out printed : W) (ended : Served) (fault : Fault) → fault_of ended ≡ Some fault → PrintsTo outlet (Bytes given) editors out printed ended

@@ -1,5 +1,5 @@
 -- What a command prints.
-use Rattle.std.specs.Prelude.{◌≡◌, ℕ, List, Option, Some, None, IsTrue}
+use Rattle.std.specs.Prelude.{◌≡◌, ℕ, List, Option, Some, None, IsSomeAnd, IsTrue}
 use Rattle.std.specs.FinMap.{len}
 use Rattle.std.specs.Io.KnownBytes.{Appends}
 use Rattle.clap.specs.Walk.{Text}
@@ -32,9 +32,10 @@ use Rattle.written_values.specs.declared.line.ScriptLine.{ScriptLine}
 use Rattle.written_values.specs.declared.words.LandmarkWords.{LandmarkWords}
 use Rattle.service_threads.specs.Kept.{IsLeftBy}
 use Rattle.line_exchange.specs.Gathers.{IsServed}
-use Rattle.line_exchange.specs.Inputs.{Bytes}
+use Rattle.line_exchange.specs.Inputs.{Bytes, Script}
 use Rattle.line_exchange.specs.Prints.{AreAllLines, HasPrinted}
-use Rattle.live_service.specs.Services.{AnswersInput, AnswersScript}
+use Rattle.live_lines.specs.Answers.{answer_text, script_text}
+use Rattle.live_service.specs.ServedList.{HasAnswered}
 use Rattle.commands.specs.declared.on_device.Transfer.{Transfer}
 use Rattle.commands.specs.declared.on_device.Transfer.TheVariants as how
 use Rattle.commands.specs.Devices.{Doing, IsAnswerOf, OfOpened, OfServed, OfTwo}
@@ -112,13 +113,13 @@ PrintsTwo model done transfer from_path to_path ended old new =
 abbrev pub PrintsServed : {D : Type 0} → Ghosts D → Doing D → List ℕ → Known → ℕ → Ended → Known → Known → Type 0
 PrintsServed model done path given editors ended old new =
     (ended ≡ Done) × (lines : List ScriptLine) × IsScriptOf given editors lines
-    × OfServed done path (λ disk back. IsServed lines (Appends old new) × AnswersScript model disk back lines editors (λ known. known) old new × IsLeftBy model disk back)
+    × OfServed done path (λ disk back. IsServed lines (Appends old new) × IsSomeAnd back (λ d. HasAnswered script_text model disk d (Script lines) editors old new) × IsLeftBy model disk back)
 
 -- `serve --live`: a line for each line that a reader gives, an answer to it, in their order, of one list of requests, which the device has
 abbrev pub PrintsLive : {D : Type 0} → Ghosts D → Doing D → List ℕ → Known → ℕ → Ended → Known → Known → Type 0
 PrintsLive model done path given editors ended old new =
     (ended ≡ Done) × ((count : ℕ) × HasPrinted (Bytes given) editors (Appends old new) count × AreAllLines (Bytes given) count)
-    × OfServed done path (λ disk back. AnswersInput model disk back (Bytes given) editors (λ known. known) old new × IsLeftBy model disk back)
+    × OfServed done path (λ disk back. IsSomeAnd back (λ d. HasAnswered answer_text model disk d (Bytes given) editors old new) × IsLeftBy model disk back)
 
 -- `tables`: the files of the tables that a scheme of that graph has of nodes, and their line, or that a node isn't there
 abbrev pub PrintsTables : LandmarkWords → List ℕ → List ℕ → (List Put → Type 0) → DiskView → DiskView → Ended → Known → Known → Type 0

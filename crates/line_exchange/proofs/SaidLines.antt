@@ -24,7 +24,6 @@ use Rattle.line_exchange.specs.Prints.{HasPrinted, HasPrintedBy, PrintsSo, lines
 use Rattle.line_exchange.specs.declared.printed.PrintEnd.{PrintEnd}
 use Rattle.line_exchange.specs.declared.printed.PrintEnd.TheVariants.{Output}
 use Rattle.line_exchange.specs.Gathers.{HasText}
-use Rattle.line_exchange.proofs.Answering.{fit}
 use Rattle.line_exchange.specs.Tallies.{Adds, AreAwaited, AreDropped, AreInTurn, AreReached, IsDropped, IsInTurn, IsReached, TellsCount, accepted_by, accepted_in, no_tickets, told_by, told_in}
 use Rattle.line_exchange.specs.Waits.{AreAwaitedTo, AreNoOlder, GoesBy, IsNoOlder}
 use Rattle.line_exchange.specs.declared.tally.Tally.{Tally}
@@ -238,7 +237,7 @@ pub printed_of : (tally : Tally) (input : Input) (editors : ℕ) (Stands : List 
 printed_of tally input editors Stands has = record {
   answers = has.answers;
   many = has.many;
-  are = λ k answer at. ∥∥₁_map (has.said k answer at) (λ x. fit input editors k x.asked answer x.fits x.by);
+  are = λ k answer at. ∥∥₁_map (has.said k answer at) (λ x. record { asked = x.asked; by = x.by; fits = x.fits });
   printed = has.printed;
 }
 

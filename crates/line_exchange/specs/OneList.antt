@@ -106,13 +106,9 @@ pub record IsAnswerOf (Says : Beginning → Asked → Answer → Type 0) (list :
   pub fits : Fits asked answer
   pub said : Says list asked answer
 
--- the list says it
-abbrev pub IsAnswerIn : Beginning → Input → ℕ → ℕ → Answer → Type 0
-IsAnswerIn all input editors place answer = IsAnswerOf IsSaidIn all input editors place answer
-
 -- each answer is to the line at its place, and the list says it
 abbrev pub AreAnswersIn : Beginning → Input → ℕ → List Answer → Type 0
-AreAnswersIn all input editors answers = AreEachAt (IsAnswerIn all input editors) answers
+AreAnswersIn all input editors answers = AreEachAt (IsAnswerOf IsSaidIn all input editors) answers
 
 -- ---- generations that are gone
 

@@ -22,19 +22,12 @@ use Rattle.line_exchange.specs.declared.printed.PrintEnd.TheVariants.{Output}
 abbrev pub lines_of : (Answer → List ℕ) → List Answer → List ℕ
 lines_of text answers = flat_map (λ answer. line (text answer)) answers
 
-abbrev pub answers_text : List Answer → List ℕ
-answers_text answers = lines_of answer_text answers
-
--- each answer is to the line at its place
-abbrev pub AreAnswers : Input → ℕ → List Answer → Type 0
-AreAnswers input editors answers = AreEachAt (IsAnswerAt input editors) answers
-
 -- Of so many answers this holds of their lines: the k-th answer is to the k-th line.
 pub record HasPrinted (input : Input) (editors : ℕ) (Stands : List ℕ → Type 0) (count : ℕ) : Type 0 where
   pub answers : List Answer
   pub many : length answers ≡ count
-  pub are : AreAnswers input editors answers
-  pub printed : Stands (answers_text answers)
+  pub are : AreEachAt (IsAnswerAt input editors) answers
+  pub printed : Stands (lines_of answer_text answers)
 
 -- Of as many answers as the tally has this holds of their lines, of this text each: the k-th answer is to the k-th line, and each list
 -- that goes on from what the tally knows says it.

@@ -6,7 +6,6 @@ use Rattle.live_lines.specs.declared.asked.Asked.{Asked}
 use Rattle.live_lines.specs.declared.asked.Asked.TheVariants as asks
 use Rattle.live_lines.specs.declared.answer.Answer.{Answer}
 use Rattle.live_lines.specs.declared.answer.Answer.TheVariants.{Settled, Way}
-use Rattle.live_lines.specs.Answers.{Fits}
 
 -- what a line asks for: a change under the session's next ticket, or a route
 abbrev pub line_asked : ScriptLine → Asked
@@ -18,12 +17,6 @@ pub record IsLineAsked (script : List ScriptLine) (place : ℕ) (asked : Asked) 
   pub line : ScriptLine
   pub at : slice_get script place ≡ Some line
   pub asks : asked ≡ line_asked line
-
--- an answer to what the line at a place asks for
-pub record IsLineAnswer (script : List ScriptLine) (place : ℕ) (answer : Answer) : Type 0 where
-  pub line : ScriptLine
-  pub at : slice_get script place ≡ Some line
-  pub fits : Fits (line_asked line) answer
 
 -- the line is a change of a session
 abbrev pub is_edit : ScriptLine → Bool

@@ -7,7 +7,7 @@ use Rattle.live_lines.specs.declared.answer.Answer.{Answer}
 use Rattle.live_lines.specs.Answers.{Fits}
 use Rattle.live_lines.specs.Lines.{IsAskedIn}
 use Rattle.line_exchange.specs.Inputs.{Input, Bytes, Script}
-use Rattle.line_exchange.specs.Scripts.{IsLineAnswer, IsLineAsked}
+use Rattle.line_exchange.specs.Scripts.{IsLineAsked}
 
 -- a line asks for this; one that is too long asks for nothing that is known
 abbrev pub LineAsks : ℕ → List ℕ → Asked → Type 0
@@ -19,21 +19,16 @@ pub record IsAskedBy (bytes : List ℕ) (editors place : ℕ) (asked : Asked) : 
   pub at : line_at bytes place ≡ Some line
   pub asks : LineAsks editors line asked
 
--- an answer to what the line at a place asks for
-pub record IsAnswerTo (bytes : List ℕ) (editors place : ℕ) (answer : Answer) : Type 0 where
-  pub asked : Asked
-  pub by : IsAskedBy bytes editors place asked
-  pub fits : Fits asked answer
-
 -- the line at a place asks for this, where it is known
 abbrev pub IsAskedAt : Input → ℕ → ℕ → Asked → Type 0
 IsAskedAt (Bytes bytes) editors place asked = IfSome bytes (λ xs. IsAskedBy xs editors place asked)
 IsAskedAt (Script script) editors place asked = IsLineAsked script place asked
 
--- and this is an answer to it
-abbrev pub IsAnswerAt : Input → ℕ → ℕ → Answer → Type 0
-IsAnswerAt (Bytes bytes) editors place answer = IfSome bytes (λ xs. IsAnswerTo xs editors place answer)
-IsAnswerAt (Script script) editors place answer = IsLineAnswer script place answer
+-- an answer to what the line at a place asks for
+pub record IsAnswerAt (input : Input) (editors place : ℕ) (answer : Answer) : Type 0 where
+  pub asked : Asked
+  pub by : IsAskedAt input editors place asked
+  pub fits : Fits asked answer
 
 -- each answer is so at its place
 abbrev pub AreEachAt : (ℕ → Answer → Type 0) → List Answer → Type 0

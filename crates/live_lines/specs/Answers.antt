@@ -1,7 +1,5 @@
 -- What a live service answers to a line, and the text of an answer.
 use Rattle.std.specs.Prelude.{◌≡◌, ℕ, Option, Some, None, List, [], ◌∷◌, ◌++◌, codes, decimal}
-use Rattle.command_output.specs.declared.fault.Fault.TheVariants.{Op, TableFile}
-use Rattle.command_output.specs.Faults.{fault_text}
 use Rattle.command_output.specs.Lines.{accepted_text, refused_text as refused_change, ticket_text}
 use Rattle.command_output.specs.RouteLines.{absent_text, route_text, tables_text, unreachable_text}
 use Rattle.generations.specs.declared.posting.Verdict.{Verdict}
@@ -100,9 +98,9 @@ answer_text (Unread e) = unread_text e
 answer_text (State count generation queue) = state_text count generation queue
 answer_text (Waited generation) = codes "generation=" ++ decimal generation
 answer_text (Tables generation tables bytes greatest) = tables_text generation tables bytes greatest
-answer_text TablesFailed = fault_text TableFile
+answer_text TablesFailed = codes "table file cannot be written"
 answer_text NoSession = codes "no session"
-answer_text NotOps = fault_text Op
+answer_text NotOps = codes "op not understood"
 answer_text NotUnderstood = codes "not understood"
 
 -- the line of an answer to a script: it tells no session and no ticket

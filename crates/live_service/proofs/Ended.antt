@@ -31,7 +31,7 @@ use Rattle.line_exchange.specs.Reads.{AreOfInput, IsReadEnd}
 use Rattle.line_exchange.specs.declared.read_fault.ReadFault.{ReadFault}
 use Rattle.line_exchange.specs.declared.read_fault.ReadFault.TheVariants.{Input as Failed}
 use Rattle.live_lines.specs.Answers.{answer_text}
-use Rattle.line_exchange.specs.Prints.{PrintsSo, answers_text}
+use Rattle.line_exchange.specs.Prints.{PrintsSo, lines_of}
 use Rattle.live_service.specs.Runs.{HasBroken, HasEnded, HasRun, IsFaultOf, IsPrintEnd, IsRun, PrintsTo}
 use Rattle.live_service.specs.ServedList.{EndsServed, HasPrintedOn, HasServedOn}
 use Rattle.line_exchange.specs.declared.printed.Printed.{Printed}
@@ -203,7 +203,7 @@ prints_on outlet store input editors old new printed given ended back so end on 
 pub none_to : {W : Type 0} (outlet : Ghosts W) (input : Input) (editors : ℕ) (old new : W) (ended : Served) (f : Fault) → new ≡ old → fault_of ended ≡ Some f → PrintsTo outlet input editors old new ended
 none_to outlet input editors old new ended f same fault =
     let none = none_printed input editors (outlet.contents old) in
-    let text = answers_text none.answers in
+    let text = lines_of answer_text none.answers in
     let all : Appends (outlet.contents old) (outlet.contents new) text = subst (λ w. Appends (outlet.contents old) (outlet.contents w) text) (sym same) none.printed in
     record {
       answers = (
