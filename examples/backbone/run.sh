@@ -1,6 +1,6 @@
 #!/usr/bin/env bash
-# run.sh [FOLDER]: brings the backbone to a new device in FOLDER (a new folder where none is named), checks it, routes in it and prints it in each form.
-# With graphviz (dot) installed it is drawn too. The folder stays.
+# run.sh [FOLDER]: brings the backbone to a new device in FOLDER (a new folder where none is named), unless that is there from an earlier run, checks it, routes in it and
+# prints it in each form. With graphviz (dot) installed it is drawn too. The folder stays.
 set -eu
 here=$(cd "$(dirname "$(readlink -f "${BASH_SOURCE[0]}")")" && pwd)
 top=$(cd "$here/../.." && pwd)
@@ -18,7 +18,7 @@ named() {
         { for (i = 3; i <= NF && $i != "length"; i++) $i = city[$i]; print }'
 }
 
-"$top/tzlab" import "$device" "$here/backbone.txt"
+[ -e "$device" ] || "$top/tzlab" import "$device" "$here/backbone.txt"
 words=$("$top/tzlab" landmarks "$device" --seed 7)
 echo "$words"
 "$top/tznode" check "$device" --words "$words"

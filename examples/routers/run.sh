@@ -8,6 +8,7 @@ top=$(cd "$here/../.." && pwd)
 folder=${1-$(mktemp -d)}
 mkdir -p "$folder" || { echo "run.sh: the folder $folder could not be made" >&2; exit 1; }
 device=$folder/network
+[ ! -e "$device" ] || { echo "run.sh: $device is there from an earlier run; name another folder" >&2; exit 1; }
 words=draw:7
 # By router: where its lines are written, and where its answers are read.
 declare -A lines answers
