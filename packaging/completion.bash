@@ -11,8 +11,11 @@ _tz_grammar() {
     tznode:tables) options='--words --node' words='file folder' ;;
     tznode:serve) options='--words --editors --forwarders --queue --live --rounds' words='file' ;;
     tznode:migrate | tznode:copy) options='' words='file file' ;;
-    tzlab:import) options='--as --update --least --names --header --no-header --nodes' words='file file' ;;
+    tzlab:import) options='--as --update --least --scale --names --header --no-header --nodes' words='file file' ;;
     tzlab:export) options='--as --words' words='file' ;;
+    tzlab:show) options='' words='file' ;;
+    tzlab:edit) options='--session --ticket' words='file op' ;;
+    tzlab:route) options='--words' words='file number' ;;
     tzlab:info) options='--json' words='file' ;;
     tzlab:stats) options='--words --pairs --seed --csv --json' words='file' ;;
     tzlab:landmarks) options='--seed --start --most-entries --most --figures' words='file' ;;
@@ -32,7 +35,7 @@ _tz() {
     elif [ "$COMP_CWORD" -eq 1 ]; then
         case $program in
         tznode) list='format edit show resume route check tables serve copy migrate' ;;
-        tzlab) list='import export info stats landmarks time journal rehearse help --help' ;;
+        tzlab) list='import export show edit route info stats landmarks time journal rehearse help --help' ;;
         esac
     else
         _tz_grammar "$program:${COMP_WORDS[1]}" || return 0
@@ -59,7 +62,7 @@ _tz() {
         --words) kind=choice list='none at: draw:' ;;
         --as)
             kind=choice list='edges csv dimacs dot json'
-            [ "${COMP_WORDS[1]}" != import ] || list='edges dimacs as-rel'
+            [ "${COMP_WORDS[1]}" != import ] || list='edges dimacs as-rel json'
             ;;
         --start) kind=choice list='best none draw degree' ;;
         --*) return 0 ;;

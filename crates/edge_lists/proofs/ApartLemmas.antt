@@ -6,21 +6,20 @@ use Rattle.std.proofs.lemmas.List.{at_drop_all, at_drop_more}
 use Rattle.written_values.specs.Scripts.{lines_of}
 use Rattle.edge_lists.specs.declared.forms.Heading.TheVariants.{ByWords, There, Absent}
 use Rattle.edge_lists.specs.declared.forms.Writing.{Writing}
-use Rattle.edge_lists.specs.declared.forms.Writing.TheVariants.{Edges, Dimacs, NodeLink, Relations}
-use Rattle.edge_lists.specs.Apart.{IsAlone, IsFormOf, IsPlain, are_some, form_at, form_by, form_in}
-use Rattle.edge_lists.specs.Labels.{begins_comment}
+use Rattle.edge_lists.specs.declared.forms.Writing.TheVariants.{Edges, Dimacs, Relations}
+use Rattle.edge_lists.specs.Apart.{IsAlone, IsPlain, are_some, form_at, form_by, form_in}
+use Rattle.edge_lists.specs.Labels.{are_digits, begins_comment}
 use Rattle.edge_lists.specs.Records.{comma_fields, has_comma}
-use Rattle.edge_lists.specs.Rows.{IsRowOf, IsWeight, Said, Say, arc_fields, comma_fields_in, fields_of, is_head, is_heading, is_letter, is_problem, lead, parts_at, reads_as, related, says_nothing, word_fields, words_of}
-use Rattle.edge_lists.specs.Written.{LinesSay, SaysEdges}
+use Rattle.edge_lists.specs.Rows.{IsRowOf, IsWeight, Said, Say, arc_fields, comma_fields_in, fields_of, is_head, is_heading, is_letter, is_problem, lead, parts_at, reads_as, related, says_nothing, scale_of, word_fields, words_of}
+use Rattle.edge_lists.specs.Written.{SaysEdges}
 use Rattle.edge_lists.proofs.HeaderLemmas.{nowhere}
 use Rattle.edge_lists.proofs.WordLemmas.{texts_at}
 
 -- what a line of a form shows
 abbrev shown : Writing → Option Writing
-shown (Edges heading) = None
+shown (Edges heading scale) = None
 shown Dimacs = Some Dimacs
 shown Relations = Some Relations
-shown NodeLink = None
 
 -- ---- words
 
@@ -36,8 +35,8 @@ comment_not (x ∷ y ∷ ys) n is other = refl
 
 mark_shows : (mark a b c : List ℕ) → is_letter 97 mark ≡ false → is_letter 112 mark ≡ false → form_by (mark ∷ a ∷ b ∷ c ∷ []) ≡ None
 mark_shows mark a b c arc problem =
-    ap (λ (t : Bool). cond (t || (is_letter 112 mark && reads_as a (codes "sp"))) (Some Dimacs) None) arc
-    ∙ ap (λ (t : Bool). cond (t && reads_as a (codes "sp")) (Some Dimacs) None) problem
+    ap (λ (t : Bool). cond (t || (is_letter 112 mark && reads_as a (codes "sp") && are_digits c)) (Some Dimacs) None) arc
+    ∙ ap (λ (t : Bool). cond (t && reads_as a (codes "sp") && are_digits c) (Some Dimacs) None) problem
 
 comment_shows : (words : List (List ℕ)) → says_nothing Relations words ≡ true → form_by words ≡ None
 comment_shows [] is = refl
@@ -53,11 +52,9 @@ alone_c (x ∷ []) is = subst (λ (k : ℕ). form_by ((k ∷ []) ∷ []) ≡ Non
 alone_c (x ∷ y ∷ ys) is = absurd (cc)
 
 silence_shows : (writing : Writing) (words : List (List ℕ)) → says_nothing writing words ≡ true → form_by words ≡ None
-silence_shows (Edges heading) [] is = refl
-silence_shows (Edges heading) (a ∷ more) is = comment_shows (a ∷ more) is
+silence_shows (Edges heading scale) [] is = refl
+silence_shows (Edges heading scale) (a ∷ more) is = comment_shows (a ∷ more) is
 silence_shows Relations words is = comment_shows words is
-silence_shows NodeLink [] is = refl
-silence_shows NodeLink (a ∷ more) is = absurd (cc)
 silence_shows Dimacs [] is = refl
 silence_shows Dimacs (a ∷ []) is = alone_c a is
 silence_shows Dimacs (a ∷ b ∷ []) is = refl
@@ -84,15 +81,16 @@ relation_shows (u ∷ []) behind a b some is =
     ap (λ (t : Bool). cond (not t && are_some (related (parts_at 124 u))) (Some Relations) None) some ∙ ap (λ (l : List (List ℕ)). cond (are_some l) (Some Relations) None) is
 relation_shows (u ∷ v ∷ more) behind a b some is = absurd (cc)
 
-weighted_shows : (words behind : List (List ℕ)) (a b : List ℕ) (weight : ℕ) → words ≡ a ∷ b ∷ behind → IsWeight weight behind → form_by words ≡ None
-weighted_shows words behind a b weight is (inl p) = ap form_by (is ∙ ap (λ (l : List (List ℕ)). a ∷ b ∷ l) p.0)
-weighted_shows words behind a b weight is (inr p) = ap form_by (is ∙ ap (λ (l : List (List ℕ)). a ∷ b ∷ l) p)
+weighted_shows : (scale : Option ℕ) (words behind : List (List ℕ)) (a b : List ℕ) (weight : ℕ) → words ≡ a ∷ b ∷ behind → IsWeight scale weight behind → form_by words ≡ None
+weighted_shows None words behind a b weight is (inl p) = ap form_by (is ∙ ap (λ (l : List (List ℕ)). a ∷ b ∷ l) p.0)
+weighted_shows None words behind a b weight is (inr p) = ap form_by (is ∙ ap (λ (l : List (List ℕ)). a ∷ b ∷ l) p)
+weighted_shows (Some scale) words behind a b weight is (inl p) = ap form_by (is ∙ ap (λ (l : List (List ℕ)). a ∷ b ∷ l) p.0)
+weighted_shows (Some scale) words behind a b weight is (inr p) = ap form_by (is ∙ ap (λ (l : List (List ℕ)). a ∷ b ∷ l) p.1)
 
-row_shows : (writing : Writing) (words : List (List ℕ)) (line : ℕ) (said : Said) → says_nothing writing words ≡ false → IsRowOf line (word_fields writing words) said → form_by words ≡ shown writing
-row_shows (Edges heading) words line said some row = weighted_shows words row.behind said.a said.b said.weight row.written row.weighted
+row_shows : (writing : Writing) (words : List (List ℕ)) (line : ℕ) (said : Said) → says_nothing writing words ≡ false → IsRowOf (scale_of writing) line (word_fields writing words) said → form_by words ≡ shown writing
+row_shows (Edges heading scale) words line said some row = weighted_shows scale words row.behind said.a said.b said.weight row.written row.weighted
 row_shows Dimacs words line said some row = arc_shows words row.behind said.a said.b row.written
 row_shows Relations words line said some row = relation_shows words row.behind said.a said.b some row.written
-row_shows NodeLink words line said some row = let bad : [] ≡ said.a ∷ said.b ∷ row.behind = row.written in absurd (cc)
 
 heading_shows : (words : List (List ℕ)) → is_heading false words ≡ true → form_by words ≡ None
 heading_shows [] is = absurd (cc)
@@ -122,28 +120,26 @@ silent_line writing text is = by (has_comma text) where
   by true = refl
   by false = silence_shows writing (words_of text) is
 
-row_line : (writing : Writing) (text : List ℕ) (line : ℕ) (said : Said) → says_nothing writing (words_of text) ≡ false → IsRowOf line (fields_of writing text) said → form_at text ≡ shown writing
+row_line : (writing : Writing) (text : List ℕ) (line : ℕ) (said : Said) → says_nothing writing (words_of text) ≡ false → IsRowOf (scale_of writing) line (fields_of writing text) said → form_at text ≡ shown writing
 row_line writing text line said some row = by writing (has_comma text) some row where
-  by : (w : Writing) (c : Bool) → says_nothing w (words_of text) ≡ false → IsRowOf line (cond c (comma_fields_in w text) (word_fields w (words_of text))) said → cond c None (form_by (words_of text)) ≡ shown w
+  by : (w : Writing) (c : Bool) → says_nothing w (words_of text) ≡ false → IsRowOf (scale_of w) line (cond c (comma_fields_in w text) (word_fields w (words_of text))) said → cond c None (form_by (words_of text)) ≡ shown w
   by w false some row = row_shows w (words_of text) line said some row
-  by (Edges heading) true some row = refl
+  by (Edges heading scale) true some row = refl
   by Dimacs true some row = let bad : [] ≡ said.a ∷ said.b ∷ row.behind = row.written in absurd (cc)
-  by NodeLink true some row = let bad : [] ≡ said.a ∷ said.b ∷ row.behind = row.written in absurd (cc)
   by Relations true some row = let bad : [] ≡ said.a ∷ said.b ∷ row.behind = row.written in absurd (cc)
 
 head_line : (writing : Writing) (text : List ℕ) → IsPlain writing → is_head writing text ≡ true → form_at text ≡ shown writing
-head_line (Edges ByWords) text plain is = by (has_comma text) is where
+head_line (Edges ByWords scale) text plain is = by (has_comma text) is where
   by : (c : Bool) → is_heading c (cond c (comma_fields text) (words_of text)) ≡ true → cond c None (form_by (words_of text)) ≡ None
   by true is = refl
   by false is = heading_shows (words_of text) is
-head_line (Edges There) text plain is = absurd (cc)
-head_line (Edges Absent) text plain is = absurd (cc)
+head_line (Edges There scale) text plain is = absurd (cc)
+head_line (Edges Absent scale) text plain is = absurd (cc)
 head_line Dimacs text plain is = by (has_comma text) is where
   by : (c : Bool) → (not c && is_problem (words_of text)) ≡ true → cond c None (form_by (words_of text)) ≡ Some Dimacs
   by true is = absurd (cc)
   by false is = problem_shows (words_of text) is
 head_line Relations text plain is = absurd (cc)
-head_line NodeLink text plain is = absurd plain
 
 -- ---- texts
 
@@ -155,23 +151,20 @@ line_shows text texts writing some = ap (λ (o : Option Writing). cond (is_some 
 
 -- what lines show that say edges in a form
 abbrev Shows : Writing → List Said → Option Writing → Type 0
-Shows (Edges heading) said form = form ≡ None
+Shows (Edges heading scale) said form = form ≡ None
 Shows Dimacs said form = said ≢ [] → form ≡ Some Dimacs
 Shows Relations said form = said ≢ [] → form ≡ Some Relations
-Shows NodeLink said form = Unit {0}
 
 -- a line of the form, and more lines
 shown_first : (writing : Writing) (text : List ℕ) (texts : List (List ℕ)) (said rest : List Said) → form_at text ≡ shown writing → Shows writing rest (form_in texts) → Shows writing said (form_in (text ∷ texts))
-shown_first (Edges heading) text texts said rest is more = line_passed text texts is ∙ more
+shown_first (Edges heading scale) text texts said rest is more = line_passed text texts is ∙ more
 shown_first Dimacs text texts said rest is more = λ _. line_shows text texts Dimacs is
 shown_first Relations text texts said rest is more = λ _. line_shows text texts Relations is
-shown_first NodeLink text texts said rest is more = tt
 
 lines_show : (writing : Writing) (before : ℕ) (texts : List (List ℕ)) (said : List Said) → Say writing before texts said → Shows writing said (form_in texts)
-lines_show (Edges heading) before [] said say = refl
+lines_show (Edges heading scale) before [] said say = refl
 lines_show Dimacs before [] said say = λ some. absurd (some say)
 lines_show Relations before [] said say = λ some. absurd (some say)
-lines_show NodeLink before [] said say = tt
 lines_show writing before (text ∷ texts) said (inl p) = subst (Shows writing said) (sym (line_passed text texts (silent_line writing text p.0))) (lines_show writing (before + 1) texts said p.1)
 lines_show writing before (text ∷ texts) said (inr p) =
     shown_first writing text texts said p.1 (row_line writing text (before + 1) p.0 p.2 p.4) (lines_show writing (before + 1) texts p.1 p.5)
@@ -188,23 +181,16 @@ text_shows writing before (text ∷ texts) said plain say = by (says_nothing wri
   by false false silent head say rest = lines_show writing before (text ∷ texts) said say
 
 -- the form that a text shows is the one in which it says edges
-pub form_alone : (text : List ℕ) (form : Option Writing) → form_in (lines_of text) ≡ form → IsAlone text (unwrap_or form (Edges ByWords))
+pub form_alone : (text : List ℕ) (form : Option Writing) → form_in (lines_of text) ≡ form → IsAlone text (unwrap_or form (Edges ByWords None))
 form_alone text form is = by where
-  shows : (writing : Writing) (said : List Said) → IsPlain writing → LinesSay writing text said → Shows writing said form
+  shows : (writing : Writing) (said : List Said) → IsPlain writing → SaysEdges writing text said → Shows writing said form
   shows writing said plain says = subst (Shows writing said) is (text_shows writing (lead writing (lines_of text)) (lines_of text) said plain says)
 
-  by : (writing : Writing) (said : List Said) → IsPlain writing → SaysEdges writing text said → said ≢ [] → writing ≡ unwrap_or form (Edges ByWords)
-  by (Edges heading) said plain says some = ap Edges plain ∙ ap (λ (o : Option Writing). unwrap_or o (Edges ByWords)) (sym (shows (Edges heading) said plain says))
-  by Dimacs said plain says some = ap (λ (o : Option Writing). unwrap_or o (Edges ByWords)) (sym (shows Dimacs said plain says some))
-  by Relations said plain says some = ap (λ (o : Option Writing). unwrap_or o (Edges ByWords)) (sym (shows Relations said plain says some))
-  by NodeLink said plain says some = absurd plain
-
--- the form of a text that begins as JSON, and of one in lines
-pub form_json : (text : List ℕ) (b : Bool) → b ≡ true → IsFormOf b text NodeLink
-form_json text b is = subst (λ (t : Bool). IsFormOf t text NodeLink) (sym is) refl
-
-pub form_is : (text : List ℕ) (form : Writing) (b : Bool) → b ≡ false → IsAlone text form → IsFormOf b text form
-form_is text form b is alone = subst (λ (t : Bool). IsFormOf t text form) (sym is) alone
+  by : (writing : Writing) (said : List Said) → IsPlain writing → SaysEdges writing text said → said ≢ [] → writing ≡ unwrap_or form (Edges ByWords None)
+  by (Edges heading scale) said plain says some =
+      ap (λ h. Edges h scale) plain.0 ∙ ap (Edges ByWords) plain.1 ∙ ap (λ (o : Option Writing). unwrap_or o (Edges ByWords None)) (sym (shows (Edges heading scale) said plain says))
+  by Dimacs said plain says some = ap (λ (o : Option Writing). unwrap_or o (Edges ByWords None)) (sym (shows Dimacs said plain says some))
+  by Relations said plain says some = ap (λ (o : Option Writing). unwrap_or o (Edges ByWords None)) (sym (shows Relations said plain says some))
 
 -- ---- the loop
 

@@ -1,7 +1,9 @@
 pub mod WordLemmas
 pub mod RowLemmas
+pub mod ScaleLemmas
 pub mod RecordLemmas
 pub mod HeaderLemmas
+pub mod NodeLemmas
 pub mod EdgeLemmas
 pub mod NameLemmas
 pub mod TakeLemmas

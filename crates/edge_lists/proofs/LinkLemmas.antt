@@ -6,12 +6,10 @@ use Rattle.serde_json.specs.Data.{Data, Items}
 use Rattle.serde_json.specs.Find.{as_array, as_number, as_str, as_u64, get}
 use Rattle.serde_json.specs.View.{items_of, items_view, view}
 use Rattle.serde_json.specs.declared.value.Value.{Value, Null}
-use Rattle.edge_lists.specs.declared.forms.Writing.{Writing}
 use Rattle.edge_lists.specs.Labels.{is_name}
 use Rattle.serde_json.specs.Read.{read}
 use Rattle.edge_lists.specs.Links.{AreIds, IsFirstNoLink, IsFirstNoNode, IsLink, IsNoLink, IsNoNetwork, IsNoNodeLink, LinksSay, SaysLinks, first_of, has_number, if_name, items_at, items_in, links_of, name_at, number_of, text_or, weight_in, word_of}
-use Rattle.edge_lists.specs.Rows.{Said, is_node_link}
-use Rattle.edge_lists.specs.Written.{IsLineRefused, IsRefusedAt, IsRefusedBy, LinesSay, SaysBy, SaysEdges}
+use Rattle.edge_lists.specs.Rows.{Said}
 use Rattle.edge_lists.specs.declared.refused.Form.{Form}
 use Rattle.edge_lists.specs.declared.refused.Form.TheVariants as forms
 
@@ -147,15 +145,3 @@ pub is_no_network : (text : List ℕ) (d : Data) (number : ℕ) (form : Form) �
 is_no_network text d number form is why = inr (d, is, why)
 
 -- ---- forms
-
-pub json_says : (w : Writing) (text : List ℕ) (labels : List (List ℕ)) (by_numbers : Bool) (said : List Said) → is_node_link w ≡ true → SaysLinks text labels by_numbers said → SaysEdges w text said
-json_says w text labels by_numbers said is says = subst (λ (b : Bool). SaysBy b w text said) (sym is) (labels, by_numbers, says)
-
-pub lines_say : (w : Writing) (text : List ℕ) (said : List Said) → is_node_link w ≡ false → LinesSay w text said → SaysEdges w text said
-lines_say w text said is says = subst (λ (b : Bool). SaysBy b w text said) (sym is) says
-
-pub json_refused : (w : Writing) (text : List ℕ) (number : ℕ) (form : Form) → is_node_link w ≡ true → IsNoNodeLink text number form → IsRefusedAt w text number
-json_refused w text number form is refused = subst (λ (b : Bool). IsRefusedBy b w text number) (sym is) (form, refused)
-
-pub lines_refused : (w : Writing) (text : List ℕ) (number : ℕ) → is_node_link w ≡ false → IsLineRefused w text number → IsRefusedAt w text number
-lines_refused w text number is refused = subst (λ (b : Bool). IsRefusedBy b w text number) (sym is) refused

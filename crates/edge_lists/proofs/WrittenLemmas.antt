@@ -1,11 +1,12 @@
 -- Lists that were written are read as what they are.
-use Rattle.std.proofs.Common.{arith, ◌≡◌, ◌≢◌, ◌==◌, ◌≤◌, ◌<◌, ◌+◌, ◌-◌, ◌^◌, ◌∙◌, ◌||◌, ◌&&◌, not, inl, inr, sym, ap, subst, refl, ℕ, zero, suc, List, [], ◌∷◌, ◌++◌, Bool, true, false, cond, map, length, take, drop, get_or, Option, Some, None, append_assoc, decimal, Bor}
+use Rattle.std.proofs.Common.{arith, ◌≡◌, ◌≢◌, ◌==◌, ◌≤◌, ◌<◌, ◌+◌, ◌-◌, ◌^◌, ◌∙◌, ◌||◌, ◌&&◌, not, inl, inr, sym, ap, subst, refl, ℕ, zero, suc, List, [], ◌∷◌, ◌++◌, Bool, true, false, cond, map, length, take, drop, get_or, Option, Some, None, append_assoc, codes, decimal, Bor}
 use Rattle.std.specs.Prelude.{All, unwrap_or}
 use Rattle.std.specs.Char.{is_ascii_whitespace}
 use Rattle.std.specs.List.{flat_map, list_any, slice_get, slice_split}
+use Rattle.std.proofs.Math.Seq.{drop-append_seam}
 use Rattle.std.proofs.lemmas.Bool.Decides.{Decides-eqb, nat_tests}
 use Rattle.std.proofs.lemmas.Fmt.{decimal_injective, decimal_is_IsNumeral, decimal_nonempty}
-use Rattle.std.proofs.lemmas.List.{append-nil, get_or-map, length-map, take-append-drop, take_all, take_more}
+use Rattle.std.proofs.lemmas.List.{append-nil, get_or-map, length-map, map-append, take-append-drop, take_all, take_more}
 use Rattle.std.proofs.lemmas.List.Concat.{flat_map-append}
 use Rattle.std.proofs.lemmas.List.Elements.{All-append, All-head, All-push, All-tail}
 use Rattle.std.proofs.lemmas.List.Folds.{flat_map-map}
@@ -22,9 +23,10 @@ use Rattle.edge_lists.specs.NameLists.{AreNames, IsFirstNoName, IsNoName, IsNumb
 use Rattle.edge_lists.specs.declared.forms.Heading.TheVariants.{ByWords}
 use Rattle.edge_lists.specs.declared.forms.Writing.TheVariants.{Edges}
 use Rattle.edge_lists.specs.Labels.{AreLabels, IsLabel, begins_comment, begins_mark, is_blank_at, is_name, separates}
+use Rattle.edge_lists.specs.Linked.{below}
 use Rattle.edge_lists.specs.Records.{comma_fields, has_comma}
-use Rattle.edge_lists.specs.Rows.{IsFirstRefused, IsRowOf, IsWeight, Said, Say, begins_as_name, fields_of, heads_ends, is_head, is_heading, lead, parts_at, says_nothing, unless_empty, words_of}
-use Rattle.edge_lists.specs.Written.{AreListed, AreRead, FitTypes, IsOneLine, SaysEdges, edge_line, edges_text, label_of, names_text, said_of}
+use Rattle.edge_lists.specs.Rows.{IsFirstRefused, IsRowOf, IsWeight, Said, Say, begins_as_name, counted, fields_of, head_count, heads_ends, is_head, is_heading, lead, names_said, nodes_said, parts_at, remarked, remarks, says_nothing, unless_empty, with_first, words_of}
+use Rattle.edge_lists.specs.Written.{AreListed, AreRead, FitTypes, IsList, IsOneLine, SaysEdges, edge_line, edges_text, head_lines, head_words, label_of, labels_of, names_text, remark, said_of}
 use Rattle.edge_lists.proofs.RecordLemmas.{none_any}
 use Rattle.edge_lists.proofs.RowLemmas.{both_ways}
 use Rattle.edge_lists.proofs.HeaderLemmas.{nowhere}
@@ -105,7 +107,7 @@ same_said s t l a b w =
     ∙ ap (λ (x : List ℕ). record { line = t.line; a = t.a; b = x; weight = s.weight }) b
     ∙ ap (λ (n : ℕ). record { line = t.line; a = t.a; b = t.b; weight = n }) w
 
-one_weight : (v w : ℕ) (fields : List (List ℕ)) → v < 2 ^ 32 → w < 2 ^ 32 → IsWeight v fields → IsWeight w fields → v ≡ w
+one_weight : (v w : ℕ) (fields : List (List ℕ)) → v < 2 ^ 32 → w < 2 ^ 32 → IsWeight None v fields → IsWeight None w fields → v ≡ w
 one_weight v w fields small fits (inl p) (inl q) = p.1 ∙ sym q.1
 one_weight v w fields small fits (inl p) (inr q) = let bad : [] ≡ decimal w ∷ [] = sym p.0 ∙ q in absurd (cc)
 one_weight v w fields small fits (inr p) (inl q) = let bad : [] ≡ decimal v ∷ [] = sym q.0 ∙ p in absurd (cc)
@@ -114,34 +116,34 @@ one_weight v w fields small fits (inr p) (inr q) =
     let same : decimal v ≡ decimal w = cc in
     decimal_injective v w (omega (arith, small)) (omega (arith, fits)) same
 
-one_row : (line : ℕ) (fields : List (List ℕ)) (s t : Said) → IsRowOf line fields s → IsRowOf line fields t → s ≡ t
+one_row : (line : ℕ) (fields : List (List ℕ)) (s t : Said) → IsRowOf None line fields s → IsRowOf None line fields t → s ≡ t
 one_row line fields s t a b =
     let whole : s.a ∷ s.b ∷ a.behind ≡ t.a ∷ t.b ∷ b.behind = sym a.written ∙ b.written in
     let first : s.a ≡ t.a = cc in
     let second : s.b ≡ t.b = cc in
     let rest : a.behind ≡ b.behind = cc in
-    same_said s t (a.number ∙ sym b.number) first second (one_weight s.weight t.weight b.behind a.fits b.fits (subst (IsWeight s.weight) rest a.weighted) b.weighted)
+    same_said s t (a.number ∙ sym b.number) first second (one_weight s.weight t.weight b.behind a.fits b.fits (subst (IsWeight None s.weight) rest a.weighted) b.weighted)
 
-one_say : (before : ℕ) (texts : List (List ℕ)) (s t : List Said) → Say (Edges ByWords) before texts s → Say (Edges ByWords) before texts t → s ≡ t
+one_say : (before : ℕ) (texts : List (List ℕ)) (s t : List Said) → Say (Edges ByWords None) before texts s → Say (Edges ByWords None) before texts t → s ≡ t
 one_say before [] s t a b = a ∙ sym b
 one_say before (text ∷ texts) s t (inl a) (inl b) = one_say (before + 1) texts s t a.1 b.1
 one_say before (text ∷ texts) s t (inl a) (inr b) = let bad : true ≡ false = sym a.0 ∙ b.2 in absurd (cc)
 one_say before (text ∷ texts) s t (inr a) (inl b) = let bad : true ≡ false = sym b.0 ∙ a.2 in absurd (cc)
 one_say before (text ∷ texts) s t (inr a) (inr b) =
-    let row : a.0 ≡ b.0 = one_row (before + 1) (fields_of (Edges ByWords) text) a.0 b.0 a.4 b.4 in
+    let row : a.0 ≡ b.0 = one_row (before + 1) (fields_of (Edges ByWords None) text) a.0 b.0 a.4 b.4 in
     let rest : a.1 ≡ b.1 = one_say (before + 1) texts a.1 b.1 a.5 b.5 in
     a.3 ∙ ap (λ (r : Said). r ∷ a.1) row ∙ ap (λ (l : List Said). b.0 ∷ l) rest ∙ sym b.3
 
-said_not_refused : (before : ℕ) (texts : List (List ℕ)) (said : List Said) (n : ℕ) → Say (Edges ByWords) before texts said → IsFirstRefused (Edges ByWords) before texts n → ⊥
+said_not_refused : (before : ℕ) (texts : List (List ℕ)) (said : List Said) (n : ℕ) → Say (Edges ByWords None) before texts said → IsFirstRefused (Edges ByWords None) before texts n → ⊥
 said_not_refused before texts said n say refused =
-    refused.refused (drop (n - before) texts) said (subst (λ (l : List (List ℕ)). Say (Edges ByWords) before l said) (sym (take-append-drop (n - before) texts)) say)
+    refused.refused (drop (n - before) texts) said (subst (λ (l : List (List ℕ)). Say (Edges ByWords None) before l said) (sym (take-append-drop (n - before) texts)) say)
 
 -- what a text says is read, and nothing else
-pub read_alone : (text : List ℕ) (said : List Said) → SaysEdges (Edges ByWords) text said → AreRead text said
+pub read_alone : (text : List ℕ) (said : List Said) → SaysEdges (Edges ByWords None) text said → AreRead text said
 read_alone text said says = record {
   says = says;
-  only = λ other is. one_say (lead (Edges ByWords) (lines_of text)) (drop (lead (Edges ByWords) (lines_of text)) (lines_of text)) other said is says;
-  none = λ number refused. said_not_refused (lead (Edges ByWords) (lines_of text)) (drop (lead (Edges ByWords) (lines_of text)) (lines_of text)) said number says refused;
+  only = λ other is. one_say (lead (Edges ByWords None) (lines_of text)) (drop (lead (Edges ByWords None) (lines_of text)) (lines_of text)) other said is says;
+  none = λ number refused. said_not_refused (lead (Edges ByWords None) (lines_of text)) (drop (lead (Edges ByWords None) (lines_of text)) (lines_of text)) said number says refused;
 }
 
 -- ---- labels
@@ -281,26 +283,27 @@ kept_word : (word : List ℕ) → word ≢ [] → unless_empty word ≡ word ∷
 kept_word [] some = absurd (some refl)
 kept_word (b ∷ bs) some = refl
 
-three_kept : (f : List ℕ → List (List ℕ)) (a b w : List ℕ) → f a ≡ a ∷ [] → f b ≡ b ∷ [] → f w ≡ w ∷ [] → flat_map f (a ∷ b ∷ w ∷ []) ≡ a ∷ b ∷ w ∷ []
-three_kept f a b w first second third =
-    ap (λ (l : List (List ℕ)). l ++ (f b ++ (f w ++ []))) first ∙ ap (λ (l : List (List ℕ)). a ∷ (l ++ (f w ++ []))) second ∙ ap (λ (l : List (List ℕ)). a ∷ b ∷ (l ++ [])) third
+-- the first word of a text, and one that stands alone
+word_first : (a rest : List ℕ) → IsPlain a → a ≢ [] → words_of (a ++ 32 ∷ rest) ≡ a ∷ words_of rest
+word_first a rest p some =
+    let parts = parts_at 32 rest in
+    ap (λ (l : List (List ℕ)). flat_map unless_empty (flat_map (parts_at 13) (flat_map (parts_at 9) l))) (slice_split_at (λ (x : ℕ). x == 32) a 32 rest p.blank refl)
+    ∙ ap (λ (l : List (List ℕ)). flat_map unless_empty (flat_map (parts_at 13) (l ++ flat_map (parts_at 9) parts))) (cut_none 9 a p.tab)
+    ∙ ap (λ (l : List (List ℕ)). flat_map unless_empty (l ++ flat_map (parts_at 13) (flat_map (parts_at 9) parts))) (cut_none 13 a p.carriage)
+    ∙ ap (λ (l : List (List ℕ)). l ++ words_of rest) (kept_word a some)
+
+word_alone : (w : List ℕ) → IsPlain w → w ≢ [] → words_of w ≡ w ∷ []
+word_alone w p some =
+    ap (λ (l : List (List ℕ)). flat_map unless_empty (flat_map (parts_at 13) (flat_map (parts_at 9) l))) (cut_none 32 w p.blank)
+    ∙ ap (λ (l : List (List ℕ)). flat_map unless_empty (flat_map (parts_at 13) (l ++ []))) (cut_none 9 w p.tab)
+    ∙ ap (λ (l : List (List ℕ)). flat_map unless_empty (l ++ [])) (cut_none 13 w p.carriage)
+    ∙ ap (λ (l : List (List ℕ)). l ++ []) (kept_word w some)
 
 line_words : (a b w : List ℕ) → IsLabel a → IsLabel b → IsLabel w → words_of (a ++ 32 ∷ (b ++ 32 ∷ w)) ≡ a ∷ b ∷ w ∷ []
 line_words a b w is_a is_b is_w =
-    let p = plain_by a is_a.plain in
-    let q = plain_by b is_b.plain in
-    let r = plain_by w is_w.plain in
-    let blanks : parts_at 32 (a ++ 32 ∷ (b ++ 32 ∷ w)) ≡ a ∷ b ∷ w ∷ [] =
-    slice_split_at (λ (x : ℕ). x == 32) a 32 (b ++ 32 ∷ w) p.blank refl
-    ∙ ap (λ (l : List (List ℕ)). a ∷ l) (slice_split_at (λ (x : ℕ). x == 32) b 32 w q.blank refl)
-    ∙ ap (λ (l : List (List ℕ)). a ∷ b ∷ l) (cut_none 32 w r.blank) in
-    let tabs : flat_map (parts_at 9) (a ∷ b ∷ w ∷ []) ≡ a ∷ b ∷ w ∷ [] = three_kept (parts_at 9) a b w (cut_none 9 a p.tab) (cut_none 9 b q.tab) (cut_none 9 w r.tab) in
-    let ends : flat_map (parts_at 13) (a ∷ b ∷ w ∷ []) ≡ a ∷ b ∷ w ∷ [] = three_kept (parts_at 13) a b w (cut_none 13 a p.carriage) (cut_none 13 b q.carriage) (cut_none 13 w r.carriage) in
-    let kept : flat_map (λ (x : List ℕ). unless_empty x) (a ∷ b ∷ w ∷ []) ≡ a ∷ b ∷ w ∷ [] =
-    three_kept (λ (x : List ℕ). unless_empty x) a b w (kept_word a (name_some a is_a.name)) (kept_word b (name_some b is_b.name)) (kept_word w (name_some w is_w.name)) in
-    ap (λ (l : List (List ℕ)). flat_map unless_empty (flat_map (parts_at 13) (flat_map (parts_at 9) l))) blanks
-    ∙ ap (λ (l : List (List ℕ)). flat_map unless_empty (flat_map (parts_at 13) l)) tabs
-    ∙ ap (λ (l : List (List ℕ)). flat_map unless_empty l) ends ∙ kept
+    word_first a (b ++ 32 ∷ w) (plain_by a is_a.plain) (name_some a is_a.name)
+    ∙ ap (λ (l : List (List ℕ)). a ∷ l) (word_first b w (plain_by b is_b.plain) (name_some b is_b.name))
+    ∙ ap (λ (l : List (List ℕ)). a ∷ b ∷ l) (word_alone w (plain_by w is_w.plain) (name_some w is_w.name))
 
 -- what holds of three words and a blank holds of the line
 line_all : (P : ℕ → Type 0) (a b w : List ℕ) → P 32 → All P a → All P b → All P w → All P (a ++ 32 ∷ (b ++ 32 ∷ w))
@@ -317,13 +320,13 @@ line_comma a b w is_a is_b is_w =
 line_feed : (a b w : List ℕ) → IsLabel a → IsLabel b → IsLabel w → IsOneLine (a ++ 32 ∷ (b ++ 32 ∷ w))
 line_feed a b w is_a is_b is_w = line_all (λ (x : ℕ). (x == 10) ≡ false) a b w refl (plain_by a is_a.plain).feed (plain_by b is_b.plain).feed (plain_by w is_w.plain).feed
 
-line_fields : (a b w : List ℕ) → IsLabel a → IsLabel b → IsLabel w → fields_of (Edges ByWords) (a ++ 32 ∷ (b ++ 32 ∷ w)) ≡ a ∷ b ∷ w ∷ []
+line_fields : (a b w : List ℕ) → IsLabel a → IsLabel b → IsLabel w → fields_of (Edges ByWords None) (a ++ 32 ∷ (b ++ 32 ∷ w)) ≡ a ∷ b ∷ w ∷ []
 line_fields a b w is_a is_b is_w =
     let line = a ++ 32 ∷ (b ++ 32 ∷ w) in
     ap (λ (c : Bool). cond c (comma_fields line) (words_of line)) (line_comma a b w is_a is_b is_w) ∙ line_words a b w is_a is_b is_w
 
-line_some : (a b w : List ℕ) → IsLabel a → IsLabel b → IsLabel w → says_nothing (Edges ByWords) (words_of (a ++ 32 ∷ (b ++ 32 ∷ w))) ≡ false
-line_some a b w is_a is_b is_w = ap (λ (l : List (List ℕ)). says_nothing (Edges ByWords) l) (line_words a b w is_a is_b is_w) ∙ is_a.silent
+line_some : (a b w : List ℕ) → IsLabel a → IsLabel b → IsLabel w → says_nothing (Edges ByWords None) (words_of (a ++ 32 ∷ (b ++ 32 ∷ w))) ≡ false
+line_some a b w is_a is_b is_w = ap (λ (l : List (List ℕ)). says_nothing (Edges ByWords None) l) (line_words a b w is_a is_b is_w) ∙ is_a.silent
 
 -- ---- edges
 
@@ -332,7 +335,7 @@ abbrev pub no_edge : Edge
 no_edge = record { line = 0; a = 0; b = 0; weight = 0 }
 
 edge_said : (names : List (List ℕ)) (before : ℕ) (edge : Edge) → All IsLabel names → FitTypes edge
-    → IsRowOf (before + 1) (fields_of (Edges ByWords) (edge_line names edge)) (record { line = before + 1; a = label_of names edge.a; b = label_of names edge.b; weight = edge.weight })
+    → IsRowOf None (before + 1) (fields_of (Edges ByWords None) (edge_line names edge)) (record { line = before + 1; a = label_of names edge.a; b = label_of names edge.b; weight = edge.weight })
 edge_said names before edge all fit =
     let a = label_is names edge.a all (omega (arith, fit.first)) in
     let b = label_is names edge.b all (omega (arith, fit.second)) in
@@ -347,7 +350,7 @@ edge_said names before edge all fit =
       weighted = inr refl;
     }
 
-edges_said : (names : List (List ℕ)) (before : ℕ) (edges : List Edge) → All IsLabel names → All FitTypes edges → Say (Edges ByWords) before (map (edge_line names) edges) (said_of names before edges)
+edges_said : (names : List (List ℕ)) (before : ℕ) (edges : List Edge) → All IsLabel names → All FitTypes edges → Say (Edges ByWords None) before (map (edge_line names) edges) (said_of names before edges)
 edges_said names before [] all fit = refl
 edges_said names before (edge ∷ edges) all fit =
     let here = All-head FitTypes edge edges fit in
@@ -363,7 +366,7 @@ edges_said names before (edge ∷ edges) all fit =
       edges_said names (before + 1) edges all (All-tail FitTypes edge edges fit),
     )
 
-no_lead : (names : List (List ℕ)) (edges : List Edge) → All IsLabel names → All FitTypes edges → lead (Edges ByWords) (map (edge_line names) edges) ≡ 0
+no_lead : (names : List (List ℕ)) (edges : List Edge) → All IsLabel names → All FitTypes edges → lead (Edges ByWords None) (map (edge_line names) edges) ≡ 0
 no_lead names [] all fit = refl
 no_lead names (edge ∷ edges) all fit =
     let here = All-head FitTypes edge edges fit in
@@ -374,11 +377,11 @@ no_lead names (edge ∷ edges) all fit =
     let first = label_of names edge.a in
     let second = label_of names edge.b in
     let some = line_some first second (decimal edge.weight) a b w in
-    let fields : is_heading (has_comma line) (fields_of (Edges ByWords) line) ≡ heads_ends first second && begins_as_name (decimal edge.weight) =
-    ap (λ (c : Bool). is_heading c (fields_of (Edges ByWords) line)) (line_comma first second (decimal edge.weight) a b w)
+    let fields : is_heading (has_comma line) (fields_of (Edges ByWords None) line) ≡ heads_ends first second && begins_as_name (decimal edge.weight) =
+    ap (λ (c : Bool). is_heading c (fields_of (Edges ByWords None) line)) (line_comma first second (decimal edge.weight) a b w)
     ∙ ap (λ (l : List (List ℕ)). is_heading false l) (line_fields first second (decimal edge.weight) a b w) in
-    let header : is_head (Edges ByWords) line ≡ false = fields ∙ ap (λ (c : Bool). heads_ends first second && c) (decimal_begins edge.weight (omega (arith, here.weight))) ∙ never (heads_ends first second) in
-    ap (λ (c : Bool). cond c (lead (Edges ByWords) (map (edge_line names) edges) + 1) (cond (is_head (Edges ByWords) line) 1 0)) some ∙ ap (λ (c : Bool). cond c 1 0) header where
+    let header : is_head (Edges ByWords None) line ≡ false = fields ∙ ap (λ (c : Bool). heads_ends first second && c) (decimal_begins edge.weight (omega (arith, here.weight))) ∙ never (heads_ends first second) in
+    ap (λ (c : Bool). cond c (lead (Edges ByWords None) (map (edge_line names) edges) + 1) (cond (is_head (Edges ByWords None) line) 1 0)) some ∙ ap (λ (c : Bool). cond c 1 0) header where
       never : (t : Bool) → (t && false) ≡ false
       never true = refl
       never false = refl
@@ -390,24 +393,144 @@ one_lines names (edge ∷ edges) all fit zero d lt =
     line_feed (label_of names edge.a) (label_of names edge.b) (decimal edge.weight) (label_is names edge.a all (omega (arith, here.first))) (label_is names edge.b all (omega (arith, here.second))) (decimal_label edge.weight (omega (arith, here.weight)))
 one_lines names (edge ∷ edges) all fit (suc k) d lt = one_lines names edges all (All-tail FitTypes edge edges fit) k d (omega (arith, lt))
 
--- what is written of edges is read as them
-pub edges_read : (names : List (List ℕ)) (edges : List Edge) (text : List ℕ) → text ≡ edges_text names edges → All IsLabel names → All FitTypes edges → AreRead text (said_of names 0 edges)
-edges_read names edges text is all fit =
-    let whole : text ≡ flat_map (λ (x : List ℕ). x ++ 10 ∷ []) (map (edge_line names) edges) = is ∙ sym (flat_map-map (λ (x : List ℕ). x ++ 10 ∷ []) (edge_line names) edges) in
-    let lines : lines_of text ≡ map (edge_line names) edges = ap lines_of whole ∙ lines_of_feeds (map (edge_line names) edges) (one_lines names edges all fit) in
-    let none : lead (Edges ByWords) (lines_of text) ≡ 0 = ap (lead (Edges ByWords)) lines ∙ no_lead names edges all fit in
-    let says : Say (Edges ByWords) 0 (drop 0 (lines_of text)) (said_of names 0 edges) = subst (λ (l : List (List ℕ)). Say (Edges ByWords) 0 l (said_of names 0 edges)) (sym lines) (edges_said names 0 edges all fit) in
-    read_alone text (said_of names 0 edges) (subst (λ (n : ℕ). Say (Edges ByWords) n (drop n (lines_of text)) (said_of names 0 edges)) (sym none) says)
+-- ---- the first lines
+
+-- a word that a comment has alone
+pub record IsWord (word : List ℕ) : Type 0 where
+  pub plain : IsPlain word
+  pub some : word ≢ []
+
+label_word : (word : List ℕ) → IsLabel word → IsWord word
+label_word word is = record { plain = plain_by word is.plain; some = name_some word is.name }
+
+hash_plain : (k d : ℕ) → k < 1 → separates (get_or (35 ∷ []) k d) ≡ false
+hash_plain zero d lt = refl
+hash_plain (suc k) d lt = absurd (omega (arith, lt))
+
+remark_words : (word : List ℕ) → IsWord word → words_of (remark word) ≡ (35 ∷ []) ∷ word ∷ []
+remark_words word is =
+    word_first (35 ∷ []) word (plain_by (35 ∷ []) hash_plain) (λ none. let bad : 35 ∷ [] ≡ [] = none in cc)
+    ∙ ap (λ (l : List (List ℕ)). (35 ∷ []) ∷ l) (word_alone word is.plain is.some)
+
+-- how many nodes there are
+nodes_low : (k d : ℕ) → k < 6 → 48 ≤ get_or (codes "nodes=") k d
+nodes_low zero d lt = omega arith
+nodes_low (suc zero) d lt = omega arith
+nodes_low (suc (suc zero)) d lt = omega arith
+nodes_low (suc (suc (suc zero))) d lt = omega arith
+nodes_low (suc (suc (suc (suc zero)))) d lt = omega arith
+nodes_low (suc (suc (suc (suc (suc zero))))) d lt = omega arith
+nodes_low (suc (suc (suc (suc (suc (suc k)))))) d lt = absurd (omega (arith, lt))
+
+count_word_is : (n : ℕ) → n < 2 ^ 64 → IsWord (codes "nodes=" ++ decimal n)
+count_word_is n small = record {
+  plain = plain_by (codes "nodes=" ++ decimal n) (All-append (λ (b : ℕ). separates b ≡ false) (codes "nodes=") (decimal n)
+      (λ k d lt. digit_plain (get_or (codes "nodes=") k d) (nodes_low k d lt)) (decimal_label n small).plain);
+  some = λ none. let bad : codes "nodes=" ++ decimal n ≡ [] = none in cc;
+}
+
+nodes_apart : (k d : ℕ) → k < 5 → (get_or (codes "nodes") k d == 61) ≡ false
+nodes_apart zero d lt = refl
+nodes_apart (suc zero) d lt = refl
+nodes_apart (suc (suc zero)) d lt = refl
+nodes_apart (suc (suc (suc zero))) d lt = refl
+nodes_apart (suc (suc (suc (suc zero)))) d lt = refl
+nodes_apart (suc (suc (suc (suc (suc k))))) d lt = absurd (omega (arith, lt))
+
+digits_apart : (n : ℕ) → n < 2 ^ 64 → All (λ b. (b == 61) ≡ false) (decimal n)
+digits_apart n small k d lt =
+    let range = digit_at (decimal n) k (decimal_is_IsNumeral n small).0.1 lt in
+    let same = same_default (decimal n) k d 0 lt in
+    other_byte (get_or (decimal n) k d) 61 (λ e. omega (arith, range.1, same, e))
+
+head_counted : (n : ℕ) → n < 2 ^ 64 → head_count (words_of (remark (codes "nodes=" ++ decimal n))) ≡ Some (decimal n)
+head_counted n small =
+    ap head_count (remark_words (codes "nodes=" ++ decimal n) (count_word_is n small))
+    ∙ ap counted (slice_split_at (λ (b : ℕ). b == 61) (codes "nodes") 61 (decimal n) nodes_apart refl ∙ ap (λ (l : List (List ℕ)). codes "nodes" ∷ l) (cut_none 61 (decimal n) (digits_apart n small)))
+
+-- what nodes are called
+labels_words : (names : List (List ℕ)) (n : ℕ) → All IsLabel names → n < 2 ^ 64 → All IsWord (map (label_of names) (below n))
+labels_words names zero all small = λ k d lt. absurd (omega (arith, lt))
+labels_words names (suc n) all small =
+    subst (λ (l : List (List ℕ)). All IsWord l) (sym (map-append (label_of names) (below n) (n ∷ [])))
+    (All-push IsWord (map (label_of names) (below n)) (label_of names n) (labels_words names n all (omega (arith, small))) (label_word (label_of names n) (label_is names n all (omega (arith, small)))))
+
+head_are_words : (names : List (List ℕ)) (nodes : ℕ) → All IsLabel names → nodes < 2 ^ 64 → All IsWord (head_words names nodes)
+head_are_words names nodes all small zero d lt = count_word_is nodes small
+head_are_words [] nodes all small (suc k) d lt = absurd (omega (arith, lt))
+head_are_words (name ∷ names) nodes all small (suc k) d lt = labels_words (name ∷ names) nodes all small k d (omega (arith, lt))
+
+lead_behind : (words texts : List (List ℕ)) → All IsWord words → lead (Edges ByWords None) (map remark words ++ texts) ≡ lead (Edges ByWords None) texts + length (map remark words)
+lead_behind [] texts all = omega arith
+lead_behind (word ∷ words) texts all =
+    let silent : says_nothing (Edges ByWords None) (words_of (remark word)) ≡ true = ap (says_nothing (Edges ByWords None)) (remark_words word (All-head IsWord word words all)) in
+    let rest = lead_behind words texts (All-tail IsWord word words all) in
+    let step : lead (Edges ByWords None) (map remark (word ∷ words) ++ texts) ≡ lead (Edges ByWords None) (map remark words ++ texts) + 1 =
+    ap (λ (c : Bool). cond c (lead (Edges ByWords None) (map remark words ++ texts) + 1) (cond (is_head (Edges ByWords None) (remark word)) 1 0)) silent in
+    omega (arith, step, rest)
+
+remarks_one_line : (words : List (List ℕ)) → All IsWord words → All IsOneLine (map remark words)
+remarks_one_line [] all k d lt = absurd (omega (arith, lt))
+remarks_one_line (word ∷ words) all (suc k) d lt = remarks_one_line words (All-tail IsWord word words all) k d (omega (arith, lt))
+remarks_one_line (word ∷ words) all zero d lt = one where
+  one : IsOneLine (remark word)
+  one zero e within = refl
+  one (suc zero) e within = refl
+  one (suc (suc k)) e within = (All-head IsWord word words all).plain.feed k e (omega (arith, within))
+
+remarks_front : (words texts : List (List ℕ)) → remarks (map remark words ++ texts) ≡ words ++ remarks texts
+remarks_front [] texts = refl
+remarks_front (word ∷ words) texts = ap (λ (l : List (List ℕ)). word ∷ l) (remarks_front words texts)
+
+unremarked : (a rest : List ℕ) → IsLabel a → remarked (a ++ 32 ∷ rest) ≡ None
+unremarked [] rest is = absurd (name_some [] is.name refl)
+unremarked (b ∷ []) rest is = ap (λ (t : Bool). cond (t && true) (Some rest) None) is.silent
+unremarked (b ∷ c ∷ bs) rest is = ap (λ (t : Bool). cond (t && (c == 32)) (Some (bs ++ 32 ∷ rest)) None) is.silent
+
+no_remarks : (names : List (List ℕ)) (edges : List Edge) → All IsLabel names → All FitTypes edges → remarks (map (edge_line names) edges) ≡ []
+no_remarks names [] all fit = refl
+no_remarks names (edge ∷ edges) all fit =
+    let here = All-head FitTypes edge edges fit in
+    ap (λ (o : Option (List ℕ)). with_first o (remarks (map (edge_line names) edges)))
+    (unremarked (label_of names edge.a) (label_of names edge.b ++ 32 ∷ decimal edge.weight) (label_is names edge.a all (omega (arith, here.first))))
+
+-- what is written of a network is read as it
+pub list_read : (names : List (List ℕ)) (nodes : ℕ) (edges : List Edge) (text : List ℕ) → text ≡ names_text (head_lines names nodes) ++ edges_text names edges → All IsLabel names → All FitTypes edges → nodes < 2 ^ 64
+    → IsList names nodes edges text
+list_read names nodes edges text is all fit small =
+    let feed = λ (x : List ℕ). x ++ 10 ∷ [] in
+    let head = head_lines names nodes in
+    let words = head_are_words names nodes all small in
+    let rest = map (edge_line names) edges in
+    let whole : text ≡ flat_map feed (head ++ rest) =
+    is ∙ ap (λ (t : List ℕ). names_text head ++ t) (sym (flat_map-map feed (edge_line names) edges)) ∙ sym (flat_map-append feed head rest) in
+    let lines : lines_of text ≡ head ++ rest =
+    ap lines_of whole ∙ lines_of_feeds (head ++ rest) (All-append IsOneLine head rest (remarks_one_line (head_words names nodes) words) (one_lines names edges all fit)) in
+    let none = no_lead names edges all fit in
+    let front : lead (Edges ByWords None) (head ++ rest) ≡ length head = omega (arith, lead_behind (head_words names nodes) rest words, none) in
+    let left : drop (lead (Edges ByWords None) (head ++ rest)) (head ++ rest) ≡ rest = ap (λ (n : ℕ). drop n (head ++ rest)) front ∙ drop-append_seam head rest in
+    let said = said_of names (length head) edges in
+    let says : Say (Edges ByWords None) (lead (Edges ByWords None) (head ++ rest)) (drop (lead (Edges ByWords None) (head ++ rest)) (head ++ rest)) said =
+    subst (λ (l : List (List ℕ)). Say (Edges ByWords None) (lead (Edges ByWords None) (head ++ rest)) l said) (sym left)
+    (subst (λ (n : ℕ). Say (Edges ByWords None) n rest said) (sym front) (edges_said names (length head) edges all fit)) in
+    record {
+      written = is;
+      read = read_alone text said (subst (λ (l : List (List ℕ)). Say (Edges ByWords None) (lead (Edges ByWords None) l) (drop (lead (Edges ByWords None) l) l) said) (sym lines) says);
+      counted = ap (nodes_said (Edges ByWords None)) lines ∙ head_counted nodes small;
+      called = ap (names_said (Edges ByWords None)) lines ∙ remarks_front (labels_of names nodes) rest
+          ∙ ap (λ (l : List (List ℕ)). labels_of names nodes ++ l) (no_remarks names edges all fit) ∙ append-nil (labels_of names nodes);
+    }
 
 -- one edge more fits
 pub fit_more : (edges : List Edge) (i : ℕ) → i < length edges → All FitTypes (take i edges) → FitTypes (get_or edges i no_edge) → All FitTypes (take (i + 1) edges)
 fit_more edges i lt all one = subst (λ (l : List Edge). All FitTypes l) (sym (take_more edges i no_edge lt)) (All-push FitTypes (take i edges) (get_or edges i no_edge) all one)
 
 -- one line more is written
-pub lines_more : (names : List (List ℕ)) (edges : List Edge) (i : ℕ) (old new : List ℕ) → i < length edges → old ≡ edges_text names (take i edges) → new ≡ old ++ (edge_line names (get_or edges i no_edge) ++ 10 ∷ [])
-    → new ≡ edges_text names (take (i + 1) edges)
-lines_more names edges i old new lt so_far is =
+pub lines_more : (names : List (List ℕ)) (front : List ℕ) (edges : List Edge) (i : ℕ) (old new : List ℕ) → i < length edges → old ≡ front ++ edges_text names (take i edges) → new ≡ old ++ (edge_line names (get_or edges i no_edge) ++ 10 ∷ [])
+    → new ≡ front ++ edges_text names (take (i + 1) edges)
+lines_more names front edges i old new lt so_far is =
     let line = λ (e : Edge). edge_line names e ++ 10 ∷ [] in
-    is ∙ ap (λ (t : List ℕ). t ++ line (get_or edges i no_edge)) so_far
-    ∙ ap (λ (t : List ℕ). flat_map line (take i edges) ++ t) (sym (append-nil (line (get_or edges i no_edge))))
-    ∙ sym (flat_map-append line (take i edges) (get_or edges i no_edge ∷ [])) ∙ ap (λ (l : List Edge). flat_map line l) (sym (take_more edges i no_edge lt))
+    let last = line (get_or edges i no_edge) in
+    is ∙ ap (λ (t : List ℕ). t ++ last) so_far ∙ append_assoc front (flat_map line (take i edges)) last
+    ∙ ap (λ (t : List ℕ). front ++ (flat_map line (take i edges) ++ t)) (sym (append-nil last))
+    ∙ ap (λ (t : List ℕ). front ++ t) (sym (flat_map-append line (take i edges) (get_or edges i no_edge ∷ [])) ∙ ap (λ (l : List Edge). flat_map line l) (sym (take_more edges i no_edge lt)))

@@ -2,7 +2,7 @@
 use Rattle.std.specs.Prelude.{◌≡◌, ◌≢◌, ◌==◌, ◌&&◌, ◌||◌, ℕ, List, [], ◌∷◌, Bool, true, false, not, Option, Some, None, cond, is_some}
 use Rattle.edge_lists.specs.declared.forms.Heading.TheVariants.{ByWords}
 use Rattle.edge_lists.specs.declared.forms.Writing.{Writing}
-use Rattle.edge_lists.specs.declared.forms.Writing.TheVariants.{Edges, Dimacs, NodeLink, Relations}
+use Rattle.edge_lists.specs.declared.forms.Writing.TheVariants.{Edges, Dimacs, Relations}
 use Rattle.edge_lists.specs.Labels.{begins_comment}
 use Rattle.edge_lists.specs.Records.{has_comma}
 use Rattle.edge_lists.specs.Rows.{Said, is_letter, is_problem, parts_at, related, words_of}
@@ -34,18 +34,12 @@ abbrev pub begins_object : List ℕ → Bool
 begins_object [] = false
 begins_object (b ∷ bs) = b == 123
 
--- the form is in lines, and a header is known by its words
+-- a header is known by its words, and weights aren't multiplied
 abbrev pub IsPlain : Writing → Type 0
-IsPlain (Edges heading) = heading ≡ ByWords
+IsPlain (Edges heading scale) = (heading ≡ ByWords) × (scale ≡ None)
 IsPlain Dimacs = Unit {0}
 IsPlain Relations = Unit {0}
-IsPlain NodeLink = ⊥
 
--- in no other form of lines the text says edges
+-- in no other form the text says edges
 abbrev pub IsAlone : List ℕ → Writing → Type 0
 IsAlone text form = (writing : Writing) (said : List Said) → IsPlain writing → SaysEdges writing text said → said ≢ [] → writing ≡ form
-
--- the form of a text: JSON where it begins so, and else the one form of lines in which it says edges
-abbrev pub IsFormOf : Bool → List ℕ → Writing → Type 0
-IsFormOf true text form = form ≡ NodeLink
-IsFormOf false text form = IsAlone text form

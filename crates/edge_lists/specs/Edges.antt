@@ -1,7 +1,8 @@
 -- Edges between numbered nodes, and the rows that they come from.
-use Rattle.std.specs.Prelude.{◌≡◌, ◌≢◌, ◌≤◌, ◌+◌, ◌&&◌, ℕ, List, [], All, Bool, true, Some, decimal, nat_le, take}
+use Rattle.std.specs.Prelude.{◌≡◌, ◌≤◌, ◌+◌, ◌&&◌, ℕ, List, Bool, Some, decimal, take}
 use Rattle.std.specs.List.{AllZip, slice_get}
 use Rattle.edge_lists.specs.declared.edge.Edge.{Edge}
+use Rattle.edge_lists.specs.Labels.{are_digits}
 use Rattle.edge_lists.specs.Rows.{Said}
 
 -- the edge of a row: its line and its weight, and for each of its ends a number that the word stands for
@@ -39,14 +40,6 @@ pub record IsFirstOther (first last : ℕ) (said : List Said) (place : ℕ) : Ty
   pub at : slice_get said place ≡ Some row
   pub other : IsNotNumbered first last row
 
--- a digit
-abbrev pub is_digit : ℕ → Bool
-is_digit b = nat_le 48 b && nat_le b 57
-
--- the word has a digit or more, and nothing else
-abbrev pub AreDigits : List ℕ → Type 0
-AreDigits word = (word ≢ []) × All (λ b. is_digit b ≡ true) word
-
 -- both ends have digits alone
-abbrev pub CallsNumbers : Said → Type 0
-CallsNumbers said = AreDigits said.a × AreDigits said.b
+abbrev pub calls_numbers : Said → Bool
+calls_numbers said = are_digits said.a && are_digits said.b

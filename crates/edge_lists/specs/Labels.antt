@@ -1,8 +1,8 @@
 -- What a name is.
 use Rattle.std.specs.Prelude.{◌≡◌, ◌==◌, ◌-◌, ◌&&◌, ◌||◌, ℕ, List, [], ◌∷◌, Bool, true, false, not, All, Option, Some, None, length}
 use Rattle.std.specs.Borrow.{Bor}
-use Rattle.std.specs.Char.{is_ascii_whitespace}
-use Rattle.std.specs.List.{list_any, slice_get}
+use Rattle.std.specs.Char.{is_ascii_digit, is_ascii_whitespace}
+use Rattle.std.specs.List.{list_all, list_any, slice_get}
 
 -- a blank stands there, or nothing
 abbrev pub is_blank_at : Option ℕ → Bool
@@ -19,6 +19,10 @@ begins_mark (b ∷ c ∷ bs) = (b == 35) && (c == 32)
 abbrev pub is_name : List ℕ → Bool
 is_name text = not (is_blank_at (slice_get text 0)) && not (is_blank_at (slice_get text (length text - 1)))
     && not (list_any (λ b. b == 10) text) && not (list_any (λ b. b == 13) text) && not (begins_mark text)
+
+-- the word has a digit or more, and nothing else
+abbrev pub are_digits : List ℕ → Bool
+are_digits word = not (length word == 0) && list_all is_ascii_digit word
 
 -- the word begins with `#`
 abbrev pub begins_comment : List ℕ → Bool

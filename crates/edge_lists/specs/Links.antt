@@ -135,11 +135,3 @@ IsNoNetwork value number Name = ⊥
 -- the text is no JSON, or a value that says none
 abbrev pub IsNoNodeLink : List ℕ → ℕ → Form → Type 0
 IsNoNodeLink text number form = ((read text ≡ None) × (form ≡ Json)) ⊎ ((value : Data) × (read text ≡ Some value) × IsNoNetwork value number form)
-
--- the same of a text that is read
-abbrev pub IsRefusedJson : List ℕ → ℕ → Type 0
-IsRefusedJson text number = (form : Form) × IsNoNodeLink text number form
-
--- the text says these rows
-abbrev pub SaysJson : List ℕ → List Said → Type 0
-SaysJson text said = (labels : List (List ℕ)) × (by_numbers : Bool) × SaysLinks text labels by_numbers said

@@ -1,6 +1,8 @@
 -- One edge for each two nodes.
-use Rattle.std.specs.Prelude.{◌≡◌, ◌≢◌, ◌≤◌, ◌+◌, ◌*◌, ℕ, List, All, Bool, false, Some, max, min, nat_eq, take}
+use Rattle.std.specs.Prelude.{◌≡◌, ◌≢◌, ◌≤◌, ◌+◌, ◌*◌, ℕ, List, [], ◌∷◌, All, Bool, false, Some, map, max, min, nat_eq, take}
 use Rattle.std.specs.HashMap.{HashMap, IsUnique, get}
+use Rattle.std.specs.Map.{keys_of}
+use Rattle.indexmap.specs.IndexSet.{insert_key}
 use Rattle.std.specs.List.{AllPairs, Contains, slice_get}
 use Rattle.edge_lists.specs.declared.edge.Edge.{Edge}
 use Rattle.edge_lists.specs.declared.once.Choice.{Choice}
@@ -25,12 +27,18 @@ IsChoice by_least old new Old = StandsFor by_least old new
 IsChoice by_least old new New = StandsFor by_least new old
 IsChoice by_least old new Neither = AreApart by_least old new
 
+-- the nodes of edges behind those of others, each two where they come first
+abbrev pub firsts : List ℕ → List Edge → List ℕ
+firsts pairs [] = pairs
+firsts pairs (edge ∷ edges) = firsts (insert_key nat_eq pairs (pair_of edge)) edges
+
 -- Of the given edges these are taken: no two of them join the same nodes, and each given one has its nodes and a weight
--- that stands for its own.
+-- that stands for its own. They stand in the order in which the first of each came.
 pub record AreOnce (by_least : Bool) (given taken : List Edge) : Type 0 where
   pub from : All (Contains given) taken
   pub each : All (λ edge. (other : Edge) × Contains taken other × (pair_of other ≡ pair_of edge) × StandsFor by_least other.weight edge.weight) given
   pub once : AllPairs (λ x y. pair_of x ≢ pair_of y) taken
+  pub order : map pair_of taken ≡ firsts [] given
 
 -- These are the lines of the first given edge that isn't taken, and of one before it with the same nodes and another weight.
 pub record IsFirstClash (by_least : Bool) (given : List Edge) (clash : Clash) : Type 0 where
@@ -50,4 +58,5 @@ pub record IsFirstClash (by_least : Bool) (given : List Edge) (clash : Clash) : 
 pub record IsKept (by_least : Bool) (given : List Edge) {S : Type 0} (kept : HashMap ℕ Edge S) : Type 0 where
   pub from : (pair : ℕ) (edge : Edge) → get nat_eq kept pair ≡ Some edge → Contains given edge × (pair_of edge ≡ pair)
   pub unique : IsUnique nat_eq kept
+  pub order : keys_of kept.entries ≡ firsts [] given
   pub each : All (λ edge. (other : Edge) × (get nat_eq kept (pair_of edge) ≡ Some other) × StandsFor by_least other.weight edge.weight) given

@@ -1,26 +1,20 @@
 -- What the lines of a list of edges say, in each form.
-use Rattle.std.specs.Prelude.{◌≡◌, ◌⊎◌, ◌==◌, ◌<◌, ◌≤◌, ◌+◌, ◌-◌, ◌^◌, ◌&&◌, ◌||◌, ℕ, List, [], ◌∷◌, ◌++◌, Bool, true, false, not, Option, Some, None, codes, cond, decimal, length, nat_le, take}
+use Rattle.std.specs.Prelude.{◌≡◌, ◌⊎◌, ◌==◌, ◌<◌, ◌≤◌, ◌+◌, ◌-◌, ◌*◌, ◌/◌, ◌^◌, ◌&&◌, ◌||◌, ℕ, List, [], ◌∷◌, ◌++◌, Bool, true, false, not, Option, Some, None, codes, cond, decimal, drop, length, nat_le, take}
 use Rattle.std.specs.Char.{to_ascii_lowercase}
 use Rattle.std.specs.List.{flat_map, slice_get, slice_split}
 use Rattle.std.specs.Option.{option_and_then}
+use Rattle.std.specs.Str.Parse.{digits_value}
 use Rattle.std.specs.String.{string_bytes}
 use Rattle.edge_lists.specs.declared.row.Row.{Row}
 use Rattle.edge_lists.specs.declared.header.Front.{Front}
 use Rattle.edge_lists.specs.declared.header.Front.TheVariants.{Nothing as FrontNothing, Header, Other}
 use Rattle.edge_lists.specs.declared.forms.Writing.{Writing}
-use Rattle.edge_lists.specs.declared.forms.Writing.TheVariants.{Edges, Dimacs, NodeLink, Relations}
+use Rattle.edge_lists.specs.declared.forms.Writing.TheVariants.{Edges, Dimacs, Relations}
 use Rattle.edge_lists.specs.declared.forms.Heading.TheVariants.{ByWords, There, Absent}
 use Rattle.edge_lists.specs.declared.reading.Read.{Read}
 use Rattle.edge_lists.specs.declared.reading.Read.TheVariants.{Nothing, Row as ReadRow, Refused}
-use Rattle.edge_lists.specs.Labels.{begins_comment, is_name}
+use Rattle.edge_lists.specs.Labels.{are_digits, begins_comment, begins_mark, is_name}
 use Rattle.edge_lists.specs.Records.{comma_fields, has_comma}
-
--- edges are written as a value of JSON, and not in lines
-abbrev pub is_node_link : Writing → Bool
-is_node_link (Edges heading) = false
-is_node_link Dimacs = false
-is_node_link Relations = false
-is_node_link NodeLink = true
 
 -- ---- the fields of a line
 
@@ -66,17 +60,15 @@ relation_parts words = []
 
 -- the fields of a line without commas, by its words: all of them in an edge list, an arc's in DIMACS, two networks in relations
 abbrev pub word_fields : Writing → List (List ℕ) → List (List ℕ)
-word_fields (Edges heading) words = words
+word_fields (Edges heading scale) words = words
 word_fields Dimacs words = arc_fields words
 word_fields Relations words = related (relation_parts words)
-word_fields NodeLink words = []
 
 -- the fields of a line with commas: those of its record in an edge list; the other forms have no such line
 abbrev pub comma_fields_in : Writing → List ℕ → List (List ℕ)
-comma_fields_in (Edges heading) text = comma_fields text
+comma_fields_in (Edges heading scale) text = comma_fields text
 comma_fields_in Dimacs text = []
 comma_fields_in Relations text = []
-comma_fields_in NodeLink text = []
 
 -- the fields of a line
 abbrev pub fields_of : Writing → List ℕ → List (List ℕ)
@@ -86,10 +78,9 @@ fields_of writing text = cond (has_comma text) (comma_fields_in writing text) (w
 
 -- the word begins a line that says nothing: in DIMACS it is `c`, elsewhere it begins with `#`
 abbrev pub begins_silence : Writing → List ℕ → Bool
-begins_silence (Edges heading) word = begins_comment word
+begins_silence (Edges heading scale) word = begins_comment word
 begins_silence Dimacs word = is_letter 99 word
 begins_silence Relations word = begins_comment word
-begins_silence NodeLink word = false
 
 -- a line of these words says nothing: there is none, or the first begins such a line
 abbrev pub says_nothing : Writing → List (List ℕ) → Bool
@@ -131,9 +122,9 @@ names_ends fields = false
 abbrev pub is_heading : Bool → List (List ℕ) → Bool
 is_heading commas fields = (commas && names_third fields) || names_ends fields
 
--- the words of a problem line of DIMACS: `p sp N M`
+-- the words of a problem line of DIMACS: `p sp N M`, where M is digits
 abbrev pub is_problem : List (List ℕ) → Bool
-is_problem (mark ∷ kind ∷ nodes ∷ arcs ∷ []) = is_letter 112 mark && reads_as kind (codes "sp")
+is_problem (mark ∷ kind ∷ nodes ∷ arcs ∷ []) = is_letter 112 mark && reads_as kind (codes "sp") && are_digits arcs
 is_problem words = false
 
 -- in them the word for how many nodes there are
@@ -143,24 +134,61 @@ nodes_word words = None
 
 -- a header, where it is the first line that isn't silent
 abbrev pub is_head : Writing → List ℕ → Bool
-is_head (Edges ByWords) text = is_heading (has_comma text) (fields_of (Edges ByWords) text)
-is_head (Edges There) text = true
-is_head (Edges Absent) text = false
+is_head (Edges ByWords scale) text = is_heading (has_comma text) (fields_of (Edges ByWords scale) text)
+is_head (Edges There scale) text = true
+is_head (Edges Absent scale) text = false
 is_head Dimacs text = not (has_comma text) && is_problem (words_of text)
 is_head Relations text = false
-is_head NodeLink text = false
 
 -- how many lines stand in front of the first that may say an edge: lines that say nothing, and behind them a header
 abbrev pub lead : Writing → List (List ℕ) → ℕ
 lead writing [] = 0
 lead writing (text ∷ texts) = cond (says_nothing writing (words_of text)) (lead writing texts + 1) (cond (is_head writing text) 1 0)
 
--- how many nodes a text of these lines says that there are, in a word: the problem line that is its header says it
+-- N of the parts of a word `nodes=N`, and of the words of a line `# nodes=N`
+abbrev pub counted : List (List ℕ) → Option (List ℕ)
+counted (kind ∷ count ∷ []) = cond (reads_as kind (codes "nodes")) (Some count) None
+counted parts = None
+
+abbrev pub head_count : List (List ℕ) → Option (List ℕ)
+head_count (mark ∷ word ∷ []) = cond (is_letter 35 mark) (counted (parts_at 61 word)) None
+head_count words = None
+
+-- the word for how many nodes there are, in those of a line that says it
+abbrev pub count_word : Writing → List (List ℕ) → Option (List ℕ)
+count_word (Edges heading scale) words = head_count words
+count_word Dimacs words = nodes_word words
+count_word Relations words = None
+
+-- the number of the line that may say it, from 1: the first of an edge list, and in DIMACS the header
+abbrev pub count_line : Writing → List (List ℕ) → ℕ
+count_line (Edges heading scale) texts = 1
+count_line Dimacs texts = lead Dimacs texts
+count_line Relations texts = 1
+
+-- how many nodes a text of these lines says that there are, in a word
 abbrev pub nodes_said : Writing → List (List ℕ) → Option (List ℕ)
-nodes_said (Edges heading) texts = None
-nodes_said Dimacs texts = option_and_then (λ text. nodes_word (words_of text)) (slice_get texts (lead Dimacs texts - 1))
-nodes_said Relations texts = None
-nodes_said NodeLink texts = None
+nodes_said writing texts = option_and_then (λ text. count_word writing (words_of text)) (slice_get texts (count_line writing texts - 1))
+
+-- what stands behind `# `, where a line begins so
+abbrev pub remarked : List ℕ → Option (List ℕ)
+remarked text = cond (begins_mark text) (Some (drop 2 text)) None
+
+-- an item in front of others, where there is one; else none
+abbrev pub with_first : {A : Type 0} → Option A → List A → List A
+with_first None xs = []
+with_first (Some x) xs = x ∷ xs
+
+-- the same of lines, up to the first that doesn't
+abbrev pub remarks : List (List ℕ) → List (List ℕ)
+remarks [] = []
+remarks (text ∷ texts) = with_first (remarked text) (remarks texts)
+
+-- what the nodes of a text of these lines are called, behind the line that says how many there are
+abbrev pub names_said : Writing → List (List ℕ) → List (List ℕ)
+names_said (Edges heading scale) texts = remarks (drop 1 texts)
+names_said Dimacs texts = []
+names_said Relations texts = []
 
 -- what a line is, where those in front of it say nothing
 abbrev pub IsFront : Writing → List ℕ → Front → Type 0
@@ -181,30 +209,52 @@ pub record Said : Type 0 where
 abbrev pub row_of : Row → Said
 row_of row = record { line = row.line; a = string_bytes row.a; b = string_bytes row.b; weight = row.weight }
 
--- the weight stands behind the ends, or nothing where it is 1
-abbrev pub IsWeight : ℕ → List (List ℕ) → Type 0
-IsWeight weight fields = ((fields ≡ []) × (weight ≡ 1)) ⊎ (fields ≡ decimal weight ∷ [])
+-- by what the weights of a list are multiplied
+abbrev pub scale_of : Writing → Option ℕ
+scale_of (Edges heading scale) = scale
+scale_of Dimacs = None
+scale_of Relations = None
+
+-- the whole number next to a decimal one that is multiplied: it has so many units, of which `unit` are 1; a half counts up
+abbrev pub nearest : ℕ → ℕ → ℕ → ℕ
+nearest scale units unit = (2 * (scale * units) + unit) / (2 * unit)
+
+-- a decimal number, multiplied: digits, and digits behind a point, 18 in all
+abbrev pub scaled_digits : ℕ → List ℕ → List ℕ → Option ℕ
+scaled_digits scale whole part =
+    cond (are_digits whole && are_digits (whole ++ part) && nat_le (length (whole ++ part)) 18) (Some (nearest scale (digits_value 10 (whole ++ part)) (10 ^ length part))) None
+
+-- the same by the parts around its point, which may be left out
+abbrev pub scaled_parts : ℕ → List (List ℕ) → Option ℕ
+scaled_parts scale (whole ∷ []) = scaled_digits scale whole []
+scaled_parts scale (whole ∷ part ∷ []) = scaled_digits scale whole part
+scaled_parts scale parts = None
+
+-- The weight that stands behind the ends, or 1 if nothing does: as it is, or where there is a scale a decimal number that is multiplied.
+abbrev pub IsWeight : Option ℕ → ℕ → List (List ℕ) → Type 0
+IsWeight None weight fields = ((fields ≡ []) × (weight ≡ 1)) ⊎ (fields ≡ decimal weight ∷ [])
+IsWeight (Some scale) weight fields = ((fields ≡ []) × (weight ≡ scale)) ⊎ ((word : List ℕ) × (fields ≡ word ∷ []) × (scaled_parts scale (parts_at 46 word) ≡ Some weight))
 
 -- these fields say that: both ends are names, and the weight fits its type
-pub record IsRowOf (line : ℕ) (fields : List (List ℕ)) (said : Said) : Type 0 where
+pub record IsRowOf (scale : Option ℕ) (line : ℕ) (fields : List (List ℕ)) (said : Said) : Type 0 where
   pub number : said.line ≡ line
   pub first : is_name said.a ≡ true
   pub second : is_name said.b ≡ true
   pub fits : said.weight < 2 ^ 32
   pub behind : List (List ℕ)
   pub written : fields ≡ said.a ∷ said.b ∷ behind
-  pub weighted : IsWeight said.weight behind
+  pub weighted : IsWeight scale said.weight behind
 
 -- no edge is written so
-abbrev pub IsNoRow : List (List ℕ) → Type 0
-IsNoRow fields = (line : ℕ) (said : Said) → IsRowOf line fields said → ⊥
+abbrev pub IsNoRow : Option ℕ → List (List ℕ) → Type 0
+IsNoRow scale fields = (line : ℕ) (said : Said) → IsRowOf scale line fields said → ⊥
 
 -- these lines, of which the first has the number behind `before`, say that
 abbrev pub Say : Writing → ℕ → List (List ℕ) → List Said → Type 0
 Say writing before [] said = said ≡ []
 Say writing before (text ∷ texts) said =
     ((says_nothing writing (words_of text) ≡ true) × Say writing (before + 1) texts said)
-    ⊎ ((first : Said) × (rest : List Said) × (says_nothing writing (words_of text) ≡ false) × (said ≡ first ∷ rest) × IsRowOf (before + 1) (fields_of writing text) first × Say writing (before + 1) texts rest)
+    ⊎ ((first : Said) × (rest : List Said) × (says_nothing writing (words_of text) ≡ false) × (said ≡ first ∷ rest) × IsRowOf (scale_of writing) (before + 1) (fields_of writing text) first × Say writing (before + 1) texts rest)
 
 -- Line n is the first that says no edge: the lines before it say edges, and no edges are said by the lines up to it,
 -- whatever the lines behind it are.
@@ -215,13 +265,13 @@ pub record IsFirstRefused (writing : Writing) (before : ℕ) (texts : List (List
   pub refused : (more : List (List ℕ)) (said : List Said) → Say writing before (take (n - before) texts ++ more) said → ⊥
 
 -- what a line of these fields is read as, where it says something
-abbrev pub IsEdgeRead : ℕ → List (List ℕ) → Read → Type 0
-IsEdgeRead line fields Nothing = ⊥
-IsEdgeRead line fields (ReadRow row) = IsRowOf line fields (row_of row)
-IsEdgeRead line fields (Refused form) = IsNoRow fields
+abbrev pub IsEdgeRead : Option ℕ → ℕ → List (List ℕ) → Read → Type 0
+IsEdgeRead scale line fields Nothing = ⊥
+IsEdgeRead scale line fields (ReadRow row) = IsRowOf scale line fields (row_of row)
+IsEdgeRead scale line fields (Refused form) = IsNoRow scale fields
 
 -- what one line of a text is read as
 abbrev pub IsReadAs : Writing → ℕ → List ℕ → Read → Type 0
 IsReadAs writing line text Nothing = says_nothing writing (words_of text) ≡ true
-IsReadAs writing line text (ReadRow row) = (says_nothing writing (words_of text) ≡ false) × IsRowOf line (fields_of writing text) (row_of row)
-IsReadAs writing line text (Refused form) = (says_nothing writing (words_of text) ≡ false) × IsNoRow (fields_of writing text)
+IsReadAs writing line text (ReadRow row) = (says_nothing writing (words_of text) ≡ false) × IsRowOf (scale_of writing) line (fields_of writing text) (row_of row)
+IsReadAs writing line text (Refused form) = (says_nothing writing (words_of text) ≡ false) × IsNoRow (scale_of writing) (fields_of writing text)

@@ -1,5 +1,5 @@
 -- Lists as they are written, and what is read of them.
-use Rattle.std.specs.Prelude.{◌≡◌, ◌==◌, ◌<◌, ◌+◌, ◌*◌, ◌^◌, ℕ, List, [], ◌∷◌, ◌++◌, Bool, true, false, All, codes, decimal, drop, length, unwrap_or}
+use Rattle.std.specs.Prelude.{◌≡◌, ◌==◌, ◌<◌, ◌+◌, ◌*◌, ◌^◌, ℕ, List, [], ◌∷◌, ◌++◌, None, Some, false, All, codes, decimal, drop, length, map, unwrap_or}
 use Rattle.std.specs.List.{flat_map, slice_get}
 use denote.Ref.{Bor}
 use Rattle.written_values.specs.Reading.{texts_of}
@@ -10,8 +10,8 @@ use Rattle.edge_lists.specs.NameLists.{AreNames, IsFirstNoName}
 use Rattle.edge_lists.specs.declared.forms.Heading.TheVariants.{ByWords}
 use Rattle.edge_lists.specs.declared.forms.Writing.{Writing}
 use Rattle.edge_lists.specs.declared.forms.Writing.TheVariants.{Edges}
-use Rattle.edge_lists.specs.Links.{IsRefusedJson, SaysJson}
-use Rattle.edge_lists.specs.Rows.{IsFirstRefused, Said, Say, is_node_link, lead}
+use Rattle.edge_lists.specs.Linked.{below}
+use Rattle.edge_lists.specs.Rows.{IsFirstRefused, Said, Say, lead, names_said, nodes_said}
 
 -- ---- names
 
@@ -57,6 +57,26 @@ text_of_edge names edge = edge_text (texts_of names) edge
 abbrev pub edges_text : List (List ℕ) → List Edge → List ℕ
 edges_text names edges = flat_map (λ edge. edge_text names edge) edges
 
+-- how many nodes a list calls: all of them if there are names, else none
+abbrev pub called_of : List (List ℕ) → ℕ → ℕ
+called_of [] nodes = 0
+called_of (name ∷ names) nodes = nodes
+
+-- what it calls them
+abbrev pub labels_of : List (List ℕ) → ℕ → List (List ℕ)
+labels_of names nodes = map (label_of names) (below (called_of names nodes))
+
+-- a comment
+abbrev pub remark : List ℕ → List ℕ
+remark text = codes "# " ++ text
+
+-- the first lines of a list, as comments: how many nodes there are, and what they are called
+abbrev pub head_words : List (List ℕ) → ℕ → List (List ℕ)
+head_words names nodes = (codes "nodes=" ++ decimal nodes) ∷ labels_of names nodes
+
+abbrev pub head_lines : List (List ℕ) → ℕ → List (List ℕ)
+head_lines names nodes = map remark (head_words names nodes)
+
 -- the line of an arc as DIMACS has it, where nodes count from 1
 abbrev pub arc_text : ℕ → ℕ → ℕ → List ℕ
 arc_text from to weight = codes "a " ++ (decimal (from + 1) ++ (32 ∷ (decimal (to + 1) ++ (32 ∷ (decimal weight ++ 10 ∷ [])))))
@@ -74,33 +94,23 @@ abbrev pub said_of : List (List ℕ) → ℕ → List Edge → List Said
 said_of names before [] = []
 said_of names before (edge ∷ edges) = record { line = before + 1; a = label_of names edge.a; b = label_of names edge.b; weight = edge.weight } ∷ said_of names (before + 1) edges
 
--- the text is a list of edges in this form, in lines, and says that
-abbrev pub LinesSay : Writing → List ℕ → List Said → Type 0
-LinesSay writing text said = Say writing (lead writing (lines_of text)) (drop (lead writing (lines_of text)) (lines_of text)) said
+-- the text is a list of edges in this form, and says that
+abbrev pub SaysEdges : Writing → List ℕ → List Said → Type 0
+SaysEdges writing text said = Say writing (lead writing (lines_of text)) (drop (lead writing (lines_of text)) (lines_of text)) said
 
 -- no edges are said by the text up to the line of that number, whose lines before say edges
-abbrev pub IsLineRefused : Writing → List ℕ → ℕ → Type 0
-IsLineRefused writing text number = IsFirstRefused writing (lead writing (lines_of text)) (drop (lead writing (lines_of text)) (lines_of text)) number
-
--- the text says that, as JSON or in lines
-abbrev pub SaysBy : Bool → Writing → List ℕ → List Said → Type 0
-SaysBy true writing text said = SaysJson text said
-SaysBy false writing text said = LinesSay writing text said
-
--- the text is a network in this form, and says that
-abbrev pub SaysEdges : Writing → List ℕ → List Said → Type 0
-SaysEdges writing text said = SaysBy (is_node_link writing) writing text said
-
--- it isn't, and that is the number of the first line, node or link that tells
-abbrev pub IsRefusedBy : Bool → Writing → List ℕ → ℕ → Type 0
-IsRefusedBy true writing text number = IsRefusedJson text number
-IsRefusedBy false writing text number = IsLineRefused writing text number
-
 abbrev pub IsRefusedAt : Writing → List ℕ → ℕ → Type 0
-IsRefusedAt writing text number = IsRefusedBy (is_node_link writing) writing text number
+IsRefusedAt writing text number = IsFirstRefused writing (lead writing (lines_of text)) (drop (lead writing (lines_of text)) (lines_of text)) number
 
 -- the text says that and nothing else, and no line of it is refused, where a header is known by its words
 pub record AreRead (text : List ℕ) (said : List Said) : Type 0 where
-  pub says : SaysEdges (Edges ByWords) text said
-  pub only : (other : List Said) → SaysEdges (Edges ByWords) text other → other ≡ said
-  pub none : (number : ℕ) → IsRefusedAt (Edges ByWords) text number → ⊥
+  pub says : SaysEdges (Edges ByWords None) text said
+  pub only : (other : List Said) → SaysEdges (Edges ByWords None) text other → other ≡ said
+  pub none : (number : ℕ) → IsRefusedAt (Edges ByWords None) text number → ⊥
+
+-- The text of a list: its first lines, and a line for each edge. It is read as these edges, so many nodes, and what they are called.
+pub record IsList (names : List (List ℕ)) (nodes : ℕ) (edges : List Edge) (text : List ℕ) : Type 0 where
+  pub written : text ≡ names_text (head_lines names nodes) ++ edges_text names edges
+  pub read : AreRead text (said_of names (length (head_lines names nodes)) edges)
+  pub counted : nodes_said (Edges ByWords None) (lines_of text) ≡ Some (decimal nodes)
+  pub called : names_said (Edges ByWords None) (lines_of text) ≡ labels_of names nodes

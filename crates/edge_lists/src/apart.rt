@@ -1,6 +1,6 @@
 // How the forms of lists of edges are told apart.
 ghost use Rattle.std.specs.Prelude.{◌≡◌, ◌∷◌, [], IfOk};
-ghost use Rattle.edge_lists.specs.Apart.{IsAlone, IsFormOf, begins_object, form_at, form_by, form_in};
+ghost use Rattle.edge_lists.specs.Apart.{IsAlone, begins_object, form_at, form_by, form_in};
 ghost use Rattle.written_values.specs.Reading.{texts_of};
 
 use crate::forms::{Heading, Writing, is_letter, is_problem, related, relation_parts};
@@ -67,8 +67,8 @@ fn form_in(alloc: Global, texts: &[&str]) -> Result<Option<Writing>, AllocError>
     Ok(None)
 }
 
-// Whether a text begins as JSON with nodes and links does.
-fn begins_object(text: &str) -> bool
+/// Whether a text begins as JSON with nodes and links does.
+pub fn begins_object(text: &str) -> bool
     ensures { result ≡ begins_object text.now }
 {
     match text.as_bytes() {
@@ -77,26 +77,14 @@ fn begins_object(text: &str) -> bool
     }
 }
 
-/// The form of a text: JSON where it begins with `{`. Else that of the first line that no edge list has, and an edge list where
-/// all lines may be one's: a text in lines that says edges says them in this form alone.
-#[tactic(auto, using(crate::proofs::ApartLemmas::form_is, crate::proofs::ApartLemmas::form_json))]
+/// The form of the first line that no edge list has, and an edge list where all lines may be one's: a text that says edges in
+/// lines says them in this form alone.
 pub fn form_of(alloc: Global, text: &str) -> Result<Writing, AllocError>
-    ensures { IfOk result (λ form. IsFormOf (begins_object text.now) text.now form) }
-{
-    if begins_object(text) {
-        return Ok(Writing::NodeLink);
-    }
-    let form = form_of_lines(alloc, text)?;
-    Ok(form)
-}
-
-// The form of a text in lines.
-fn form_of_lines(alloc: Global, text: &str) -> Result<Writing, AllocError>
     ensures { IfOk result (IsAlone text.now) }
 {
     let texts = lines_in(alloc, text)?;
     match form_in(alloc, &texts)? {
         Some(writing) => Ok(writing),
-        None => Ok(Writing::Edges(Heading::ByWords)),
+        None => Ok(Writing::Edges(Heading::ByWords, None)),
     }
 }

@@ -1,10 +1,12 @@
 // Edges between nodes that have numbers.
-ghost use Rattle.std.specs.Prelude.{◌↔◌, ℕ, All, IsTrue, map};
+ghost use Rattle.std.specs.Prelude.{◌≡◌, ℕ, map};
+ghost use Rattle.std.specs.List.{list_all};
 ghost use Rattle.written_values.specs.Reading.{IfRead};
-ghost use Rattle.edge_lists.specs.Edges.{AreDigits, AreNumbered, CallsNumbers, IsFirstOther, IsNotNumbered, IsNumber, IsNumbered};
+ghost use Rattle.edge_lists.specs.Edges.{AreNumbered, IsFirstOther, IsNotNumbered, IsNumber, IsNumbered, calls_numbers};
 ghost use Rattle.edge_lists.specs.Reading.{IfAccepted, IfNoneRead, IfRefused};
 ghost use Rattle.edge_lists.specs.Rows.{row_of};
 
+use crate::name::are_digits;
 use crate::row::Row;
 use std::alloc::{AllocError, Global};
 use written_values::number;
@@ -70,16 +72,9 @@ pub fn by_numbers(
     Ok(Ok(edges))
 }
 
-// Whether a word has a digit or more, and nothing else.
-fn are_digits(word: &str) -> bool
-    ensures { IsTrue result ↔ AreDigits word.now }
-{
-    !word.is_empty() && word.as_bytes().iter().all(|byte| byte.is_ascii_digit())
-}
-
 /// Whether rows call all their nodes by numbers: each end has digits alone.
 pub fn call_numbers(rows: &[Row]) -> bool
-    ensures { IsTrue result ↔ All (λ row. CallsNumbers (row_of row)) rows.now }
+    ensures { result ≡ list_all (λ row. calls_numbers (row_of row)) rows.now }
 {
     rows.iter().all(|row| are_digits(row.a.as_str()) && are_digits(row.b.as_str()))
 }

@@ -2,9 +2,9 @@
 ghost use Rattle.std.specs.Prelude.{◌≡◌, IfOk, codes};
 ghost use Rattle.std.specs.Option.{option_map};
 ghost use Rattle.written_values.specs.Reading.{texts_of};
-ghost use Rattle.edge_lists.specs.Rows.{arc_fields, begins_silence, is_letter, is_node_link, is_problem, is_relation, nodes_word, reads_as, related, relation_parts, says_nothing};
+ghost use Rattle.edge_lists.specs.Rows.{arc_fields, begins_silence, is_letter, is_problem, is_relation, nodes_word, reads_as, related, relation_parts, says_nothing, scale_of, word_fields};
 
-use crate::name::begins_comment;
+use crate::name::{are_digits, begins_comment};
 use crate::words::parts_in;
 use std::alloc::{AllocError, Global};
 
@@ -19,28 +19,25 @@ pub enum Heading {
     Absent,
 }
 
-/// In which form edges are written.
+/// In which form lines say edges.
 #[derive(Clone, Copy, Debug, PartialEq, Eq, Drop)]
 pub enum Writing {
-    /// An edge list: lines `A B W` or `A,B,W`.
-    Edges(Heading),
+    /// An edge list: lines `A B W` or `A,B,W`. Weights may be decimal numbers that are multiplied by this one, and rounded.
+    Edges(Heading, Option<u32>),
     /// As DIMACS has shortest paths: `a U V W` behind `c` lines and `p sp N M`. Nodes count from 1.
     Dimacs,
     /// As CAIDA has the relations of networks: `A|B|R`.
     Relations,
-    /// As networkx has a network: one value of JSON, with nodes and links.
-    NodeLink,
 }
 
-/// Whether edges are written as a value of JSON, and not in lines.
-pub(crate) fn is_node_link(writing: Writing) -> bool
-    ensures { result ≡ is_node_link writing }
+/// By what weights are multiplied.
+pub(crate) fn scale_of(writing: Writing) -> Option<u32>
+    ensures { result ≡ scale_of writing }
 {
     match writing {
-        Writing::NodeLink => true,
-        Writing::Edges(_) => false,
-        Writing::Dimacs => false,
-        Writing::Relations => false,
+        Writing::Edges(_, scale) => scale,
+        Writing::Dimacs => None,
+        Writing::Relations => None,
     }
 }
 
@@ -75,10 +72,9 @@ fn begins_silence(writing: Writing, word: &str) -> bool
     ensures { result ≡ begins_silence writing word.now }
 {
     match writing {
-        Writing::Edges(_) => begins_comment(word),
+        Writing::Edges(..) => begins_comment(word),
         Writing::Dimacs => is_letter(b'c', word),
         Writing::Relations => begins_comment(word),
-        Writing::NodeLink => false,
     }
 }
 
@@ -97,7 +93,9 @@ pub(crate) fn is_problem(words: &[&str]) -> bool
     ensures { result ≡ is_problem (texts_of words.now) }
 {
     match words {
-        [mark, kind, _, _] => is_letter(b'p', *mark) && reads_as(kind.as_bytes(), b"sp"),
+        [mark, kind, _, arcs] => {
+            is_letter(b'p', *mark) && reads_as(kind.as_bytes(), b"sp") && are_digits(*arcs)
+        }
         _ => false,
     }
 }
@@ -107,29 +105,17 @@ pub(crate) fn nodes_word<'a>(words: &[&'a str]) -> Option<&'a str>
     ensures { option_map (λ word. word.now) result ≡ nodes_word (texts_of words.entry.now) }
 {
     match words {
-        [_, _, nodes, _] => {
-            if is_problem(words) {
-                Some(*nodes)
-            } else {
-                None
-            }
-        }
+        [_, _, nodes, _] if is_problem(words) => Some(*nodes),
         _ => None,
     }
 }
 
-/// The three words behind the `a` of a line of DIMACS.
-pub(crate) fn arc_fields<'a, 'b>(words: &'a [&'b str]) -> &'a [&'b str]
+// The three words behind the `a` of a line of DIMACS.
+fn arc_fields<'a, 'b>(words: &'a [&'b str]) -> &'a [&'b str]
     ensures { texts_of result.now ≡ arc_fields (texts_of words.entry.now) }
 {
     match words {
-        [mark, _, _, _] => {
-            if is_letter(b'a', *mark) {
-                &words[1..]
-            } else {
-                &words[..0]
-            }
-        }
+        [mark, _, _, _] if is_letter(b'a', *mark) => &words[1..],
         _ => &words[..0],
     }
 }
@@ -163,20 +149,26 @@ pub(crate) fn related<'a, 'b>(parts: &'a [&'b str]) -> &'a [&'b str]
     ensures { texts_of result.now ≡ related (texts_of parts.entry.now) }
 {
     match parts {
-        [_, _, relation] => {
-            if is_relation(*relation) {
-                &parts[..2]
-            } else {
-                &parts[..0]
-            }
-        }
-        [_, _, relation, _] => {
-            if is_relation(*relation) {
-                &parts[..2]
-            } else {
-                &parts[..0]
-            }
-        }
+        [_, _, relation] if is_relation(*relation) => &parts[..2],
+        [_, _, relation, _] if is_relation(*relation) => &parts[..2],
         _ => &parts[..0],
+    }
+}
+
+/// The fields of a line without commas, by its words.
+pub(crate) fn word_fields<'a>(
+    alloc: Global,
+    writing: Writing,
+    words: &[&'a str],
+) -> Result<Vec<&'a str>, AllocError>
+    ensures { IfOk result (λ fields. texts_of fields.items ≡ word_fields writing (texts_of words.now)) }
+{
+    match writing {
+        Writing::Edges(..) => Vec::from_slice(alloc, words),
+        Writing::Dimacs => Vec::from_slice(alloc, arc_fields(words)),
+        Writing::Relations => {
+            let parts = relation_parts(alloc, words)?;
+            Vec::from_slice(alloc, related(&parts))
+        }
     }
 }

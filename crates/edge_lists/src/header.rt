@@ -1,15 +1,12 @@
 // Lines in front of edges.
-ghost use Rattle.std.specs.Prelude.{◌≡◌, ◌≤◌, IfOk, IfSome, codes, length};
-ghost use Rattle.std.specs.Option.{option_map};
+ghost use Rattle.std.specs.Prelude.{◌≡◌, ◌≤◌, IfOk, codes, length};
 ghost use Rattle.written_values.specs.Reading.{texts_of};
-ghost use Rattle.written_values.specs.Scripts.{lines_of};
-ghost use Rattle.edge_lists.specs.Rows.{IsFront, begins_as_name, heads_ends, is_head, is_heading, is_numeric, lead, names_ends, names_third, nodes_said, words_of};
+ghost use Rattle.edge_lists.specs.Rows.{IsFront, begins_as_name, heads_ends, is_head, is_heading, is_numeric, lead, names_ends, names_third, words_of};
 
-use crate::forms::{Heading, Writing, is_nothing, is_problem, nodes_word, reads_as};
+use crate::forms::{Heading, Writing, is_nothing, is_problem, reads_as};
 use crate::records::{has_comma, record_in, texts_in};
 use crate::words::words_in;
 use std::alloc::{AllocError, Global};
-use written_values::lines_in;
 
 // Whether a number may begin so.
 fn may_begin(byte: u8) -> bool
@@ -71,12 +68,11 @@ fn is_head(alloc: Global, writing: Writing, text: &str, words: &[&str]) -> Resul
     ensures { IfOk result (λ is. is ≡ is_head writing text.now) }
 {
     match writing {
-        Writing::Edges(Heading::There) => return Ok(true),
-        Writing::Edges(Heading::Absent) => return Ok(false),
+        Writing::Edges(Heading::There, _) => return Ok(true),
+        Writing::Edges(Heading::Absent, _) => return Ok(false),
         Writing::Dimacs => return Ok(!has_comma(text) && is_problem(words)),
         Writing::Relations => return Ok(false),
-        Writing::NodeLink => return Ok(false),
-        Writing::Edges(Heading::ByWords) => {}
+        Writing::Edges(Heading::ByWords, _) => {}
     }
     if !has_comma(text) {
         return Ok(is_heading(false, words));
@@ -124,29 +120,4 @@ pub(crate) fn lines_before(
         }
     }
     Ok(texts.len())
-}
-
-/// How many nodes a text says that there are, in a word; and the number of the line that says it, from 1.
-pub fn read_nodes<'a>(
-    alloc: Global,
-    text: &'a str,
-    writing: Writing,
-) -> Result<Option<(usize, &'a str)>, AllocError>
-    ensures said { IfOk result (λ said. option_map (λ p. p.1.now) said ≡ nodes_said writing (lines_of text.entry.now)) }
-    ensures line { IfOk result (λ said. IfSome said (λ p. p.0 ≡ lead writing (lines_of text.entry.now))) }
-{
-    match writing {
-        Writing::Dimacs => {}
-        _ => return Ok(None),
-    }
-    let texts = lines_in(alloc, text)?;
-    let before = lines_before(alloc, writing, &texts)?;
-    let Some(text) = texts.get(before.saturating_sub(1)).copied() else {
-        return Ok(None);
-    };
-    let words = words_in(alloc, text)?;
-    match nodes_word(&words) {
-        Some(word) => Ok(Some((before, word))),
-        None => Ok(None),
-    }
 }

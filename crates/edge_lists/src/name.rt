@@ -1,7 +1,9 @@
 // What a name is.
 ghost use Rattle.std.specs.Prelude.{◌≡◌, ◌↔◌, All, IsTrue, false};
+ghost use Rattle.std.specs.Char.{is_ascii_digit};
+ghost use Rattle.std.specs.List.{list_all};
 ghost use Rattle.std.specs.Option.{option_map};
-ghost use Rattle.edge_lists.specs.Labels.{AreLabels, IsLabel, begins_comment, begins_mark, is_blank_at, is_name, separates};
+ghost use Rattle.edge_lists.specs.Labels.{AreLabels, IsLabel, are_digits, begins_comment, begins_mark, is_blank_at, is_name, separates};
 
 // Whether a blank stands there, or nothing.
 fn is_blank_at(byte: Option<&u8>) -> bool
@@ -33,6 +35,19 @@ pub(crate) fn is_name(text: &str) -> bool
         && !bytes.contains(&b'\n')
         && !bytes.contains(&b'\r')
         && !begins_mark(bytes)
+}
+
+/// Whether a word has a digit or more, and nothing else.
+pub(crate) fn are_digits(word: &str) -> bool
+    ensures { result ≡ are_digits word.now }
+{
+    !word.is_empty() && has_digits_alone(word)
+}
+
+fn has_digits_alone(word: &str) -> bool
+    ensures { result ≡ list_all is_ascii_digit word.now }
+{
+    word.as_bytes().iter().all(|byte| byte.is_ascii_digit())
 }
 
 /// Whether a word begins a comment.

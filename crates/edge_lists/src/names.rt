@@ -96,8 +96,8 @@ impl<'a> Names<'a> {
         Ok(number)
     }
 
-    // The names that these lines are, or the first line that is none.
-    fn from_lines(
+    /// The names that these lines are, at most `most`. Or the first line that is no name, or is one for the second time.
+    pub fn from_lines(
         alloc: Global,
         lines: &[&'a str],
         most: u16,
@@ -126,8 +126,7 @@ impl<'a> Names<'a> {
         Ok(Ok(names))
     }
 
-    /// The names that a text lists, a line each, in the order of their numbers; at most `most`. Or the first line that
-    /// is no name, or is one for the second time.
+    /// The same of the lines of a text.
     pub fn read(
         alloc: Global,
         text: &'a str,

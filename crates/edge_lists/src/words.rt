@@ -1,5 +1,5 @@
 // The words of a line.
-ghost use Rattle.std.specs.Prelude.{◌≡◌, ◌<◌, IfOk};
+ghost use Rattle.std.specs.Prelude.{◌≡◌, ◌∷◌, [], ◌<◌, IfNone, IfOk, IfSome};
 ghost use Rattle.written_values.specs.Reading.{texts_of};
 ghost use Rattle.std.specs.List.{flat_map};
 ghost use Rattle.edge_lists.specs.Rows.{parts_at, unless_empty, words_of};
@@ -53,4 +53,15 @@ pub(crate) fn words_in<'a>(alloc: Global, text: &'a str) -> Result<Vec<&'a str>,
     let smallest = cut_each(alloc, &smaller, '\r')?;
     let words = kept(alloc, &smallest)?;
     Ok(words)
+}
+
+/// The first word, and those behind it.
+pub(crate) fn first_of<'a, 'b>(words: &'a [&'b str]) -> Option<(&'b str, &'a [&'b str])>
+    ensures some { IfSome result (λ p. texts_of words.entry.now ≡ p.0.now ∷ texts_of p.1.now) }
+    ensures none { IfNone result (texts_of words.entry.now ≡ []) }
+{
+    match words.split_first() {
+        Some((first, rest)) => Some((*first, rest)),
+        None => None,
+    }
 }

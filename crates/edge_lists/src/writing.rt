@@ -1,10 +1,10 @@
 // An edge list's text.
-ghost use Rattle.std.specs.Prelude.{◌≡◌, ◌++◌, IfOk, OnOk};
+ghost use Rattle.std.specs.Prelude.{◌≡◌, ◌++◌, ◌∷◌, [], IfOk, OnOk};
 ghost use Rattle.std.specs.String.{string_bytes};
 ghost use Rattle.written_values.specs.Reading.{IfRead, texts_of};
 ghost use Rattle.edge_lists.specs.Labels.{AreLabels};
 ghost use Rattle.edge_lists.specs.Reading.{IfNoneRead};
-ghost use Rattle.edge_lists.specs.Written.{AreRead, FitTypes, arc_text, arcs_text, dimacs_text, edges_text, label_of, said_of, text_of_edge};
+ghost use Rattle.edge_lists.specs.Written.{FitTypes, IsList, arc_text, arcs_text, dimacs_text, head_lines, label_of, names_text, remark, text_of_edge};
 
 use crate::edge::Edge;
 use crate::name::are_labels;
@@ -31,33 +31,53 @@ fn push_line(text: &mut String, names: &[&str], edge: &Edge) -> Result<(), Alloc
     writeln!(text, " {weight}")
 }
 
-/// The text of an edge list: a line `A B W` for each edge. Nodes are called by these names, and by their numbers where
-/// they have none. `None` where a name can't stand in such a line.
+// Adds a comment: what a node is called.
+fn push_remark(text: &mut String, names: &[&str], node: u16) -> Result<(), AllocError>
+    ensures { OnOk result (string_bytes text.new
+        ≡ string_bytes text.old ++ (remark (label_of (texts_of names.now) node) ++ 10 ∷ [])) }
+{
+    text.push_str("# ")?;
+    push_label(text, names, node)?;
+    text.push_str("\n")
+}
+
+/// The first lines of a list: how many nodes there are, and what they are called, where there are names.
+pub fn list_head(alloc: Global, nodes: u16, names: &[&str]) -> Result<String, AllocError>
+    ensures { IfOk result (λ text. string_bytes text ≡ names_text (head_lines (texts_of names.now) nodes)) }
+{
+    let mut text = format!(in alloc; "# nodes={nodes}\n")?;
+    let called = if names.is_empty() { 0 } else { nodes };
+    for node in 0..called {
+        push_remark(&mut text, names, node)?;
+    }
+    Ok(text)
+}
+
+/// The text of an edge list: its first lines, and a line `A B W` for each edge. Nodes are called by these names, and by
+/// their numbers where they have none. `None` where a name can't stand in such a line.
 ///
-/// [`crate::read_rows`] reads the text as just these edges.
+/// [`crate::read_rows`] reads the text as just these edges, and [`crate::read_nodes`] what it says of nodes.
 pub fn edge_list(
     alloc: Global,
+    nodes: u16,
     edges: &[Edge],
     names: &[&str],
 ) -> Result<Option<String>, AllocError>
-    ensures text { IfRead result (λ text. string_bytes text ≡ edges_text (texts_of names.now) edges.now) }
-    ensures read { IfRead result (λ text. AreRead (string_bytes text) (said_of (texts_of names.now) 0 edges.now)) }
+    ensures list { IfRead result (λ text. IsList (texts_of names.now) nodes edges.now (string_bytes text)) }
     ensures none { IfNoneRead result (¬ (AreLabels names.now)) }
 {
     if !are_labels(names) {
         return Ok(None);
     }
-    let text = text_of(alloc, edges, names)?;
+    let text = text_of(alloc, nodes, edges, names)?;
     Ok(Some(text))
 }
 
 // The text of these edges.
-fn text_of(alloc: Global, edges: &[Edge], names: &[&str]) -> Result<String, AllocError>
-    ensures text { IfOk result (λ text. string_bytes text ≡ edges_text (texts_of names.now) edges.now) }
-    ensures read { IfOk result (λ text. AreLabels names.now
-        → AreRead (string_bytes text) (said_of (texts_of names.now) 0 edges.now)) }
+fn text_of(alloc: Global, nodes: u16, edges: &[Edge], names: &[&str]) -> Result<String, AllocError>
+    ensures { IfOk result (λ text. AreLabels names.now → IsList (texts_of names.now) nodes edges.now (string_bytes text)) }
 {
-    let mut text = String::new(alloc);
+    let mut text = list_head(alloc, nodes, names)?;
     for edge in edges {
         push_line(&mut text, names, edge)?;
     }

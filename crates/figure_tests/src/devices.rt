@@ -42,6 +42,6 @@ fn changes_of_a_device_that_fails(rt: HostRuntime) {
             changes = changes.wrapping_add(1);
         }
     }
-    // Each call that fails is told, and the journal is read once more.
-    same(rt, changes, figures.wrapping_add(1), "calls");
+    // A sync, the header, the fronts of both slots, the tickets, the edges and the journal; for the changes the journal again.
+    same(rt, (figures, changes), (7, 8), "calls");
 }

@@ -7,6 +7,7 @@
 //! | `info DEVICE [--json]` | prints what a device holds, in a few figures |
 //! | `journal DEVICE [--last N]` | prints the changes since the checkpoint of a device |
 //! | `stats DEVICE --words W ..` | builds a device's scheme, and prints how large its tables and how long its ways are |
+//! | `show DEVICE`, `edit DEVICE OP..`, `route DEVICE A B .. --words W` | do what `tznode` does with numbers, by the names beside the device |
 //! | `landmarks DEVICE ..` | chooses landmarks under which no table is large, and prints them as words |
 //! | `time DEVICE --words W [--runs R]` | times an opening, builds, searches, packets and commits |
 //! | `rehearse FILE [--every-stop]` | runs the lives that a text asks for, on a device in memory, and prints the report of the proved call |
@@ -25,6 +26,7 @@ ghost use Rattle.std.specs.Prelude.{◌≤◌, IfErr};
 
 use clap::{ArgMatches, Command};
 use lab_figures::{info, recent, stats, time};
+use lab_names::{edit, route, show};
 use lab_networks::{export, import};
 use lab_parts::told_memory;
 use lab_rehearsals::rehearse;
@@ -53,6 +55,9 @@ where
         Some(("info", found)) => info::run(rt, found, out, err),
         Some(("journal", found)) => recent::run(rt, found, out, err),
         Some(("stats", found)) => stats::run(rt, found, out, err),
+        Some(("show", found)) => show::run(rt, found, out, err),
+        Some(("edit", found)) => edit::run(rt, found, out, err),
+        Some(("route", found)) => route::run(rt, found, out, err),
         Some(("landmarks", found)) => lab_landmarks::run(rt, found, out, err),
         Some(("time", found)) => time::run(rt, found, out, err),
         Some(("rehearse", found)) => rehearse::run(rt, found, out, err),
@@ -71,6 +76,9 @@ fn grammar<'a>(alloc: Global) -> Result<Command<'a>, AllocError> {
     let whole = with_command(whole, info::grammar(alloc))?;
     let whole = with_command(whole, recent::grammar(alloc))?;
     let whole = with_command(whole, stats::grammar(alloc))?;
+    let whole = with_command(whole, show::grammar(alloc))?;
+    let whole = with_command(whole, edit::grammar(alloc))?;
+    let whole = with_command(whole, route::grammar(alloc))?;
     let whole = with_command(whole, lab_landmarks::grammar(alloc))?;
     let whole = with_command(whole, time::grammar(alloc))?;
     with_command(whole, rehearse::grammar(alloc))

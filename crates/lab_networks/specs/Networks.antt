@@ -1,12 +1,12 @@
 -- What `export` prints of a network.
-use Rattle.std.specs.Prelude.{◌≡◌, ◌⊎◌, ℕ, List, [], Bool, Option, Some, None, map}
+use Rattle.std.specs.Prelude.{◌≡◌, ◌⊎◌, ◌++◌, ℕ, List, [], Bool, Option, Some, None, map}
 use Rattle.std.specs.Borrow.{Bor}
 use Rattle.std.specs.FinMap.{entries}
 use Rattle.command_output.specs.Printing.{Known, PrintsText}
 use Rattle.edge_lists.specs.declared.edge.Edge.{Edge}
 use Rattle.edge_lists.specs.Labels.{AreLabels}
 use Rattle.edge_lists.specs.Linked.{network_text}
-use Rattle.edge_lists.specs.Written.{AreRead, dimacs_text, edges_text, said_of}
+use Rattle.edge_lists.specs.Written.{IsList, dimacs_text, head_lines, names_text}
 use Rattle.figure_lines.specs.Networks.{AreMarks, dot_text, edge_at, edge_rows, names_of}
 use Rattle.figure_lines.specs.declared.marks.Mark.{Mark}
 use Rattle.graph_edits.specs.Edges.{Network}
@@ -23,11 +23,11 @@ use Rattle.written_values.specs.declared.words.LandmarkWords.{LandmarkWords}
 abbrev pub NameList : Type 0
 NameList = List (Bor (List ℕ))
 
--- an edge list that is read as the same edges, or CSV where a name can't stand in its lines
-abbrev pub IsListOrCsv : NameList → List Edge → List ℕ → Type 0
-IsListOrCsv names edges text =
-    ((text ≡ edges_text (texts_of names) edges) × AreRead text (said_of (texts_of names) 0 edges))
-    ⊎ (¬ AreLabels names × (text ≡ edge_rows (names_of names) edges))
+-- an edge list that is read as the same network, or CSV behind its first lines where a name can't stand in the others
+abbrev pub IsListOrCsv : NameList → ℕ → List Edge → List ℕ → Type 0
+IsListOrCsv names nodes edges text =
+    IsList (texts_of names) nodes edges text
+    ⊎ (¬ AreLabels names × (text ≡ names_text (head_lines (texts_of names) nodes) ++ edge_rows (names_of names) edges))
 
 -- the marks of a network's nodes by the landmarks that these words give
 pub record AreMarksBy (graph : Network) (asked : LandmarkWords) (marks : List (Option Mark)) : Type 0 where
@@ -39,7 +39,7 @@ pub record AreMarksBy (graph : Network) (asked : LandmarkWords) (marks : List (O
 
 -- the text of edges in each form; in a picture nodes are marked where words say by which landmarks
 abbrev pub IsText : Network → NameList → Form → List Edge → List ℕ → Type 0
-IsText graph names Edges edges text = IsListOrCsv names edges text
+IsText graph names Edges edges text = IsListOrCsv names graph.nodes edges text
 IsText graph names Dimacs edges text = text ≡ dimacs_text graph.nodes edges
 IsText graph names Csv edges text = text ≡ edge_rows (names_of names) edges
 IsText graph names Json edges text = text ≡ network_text graph.nodes edges (texts_of names)

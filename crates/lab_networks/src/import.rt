@@ -5,7 +5,7 @@ ghost use Rattle.checkpoint.specs.StoreWords.{is_down};
 use crate::beside::{Beside, Kept, NamesFile, called_in, kept_alone, kept_of, settle};
 use crate::files::text_of;
 use crate::taken::{Wanted, take_edges};
-use crate::texts::{Listed, Place, network_in, told_in, writing_named};
+use crate::texts::{FileForm, Listed, Place, form_named, network_in, told_in};
 use checkpoint::{DEVICE_LEN, Store};
 use clap::{ArgMatches, Command};
 use command_output::Fault;
@@ -53,6 +53,11 @@ pub fn grammar<'a>(alloc: Global) -> Result<Command<'a>, AllocError> {
                 "least",
                 "Takes lines with the same edge as one, of the least weight",
             ),
+            value(
+                "scale",
+                "K",
+                "Multiplies the weights of an edge list, which may be decimal, and rounds them",
+            ),
             flag("names", "Takes all ends of edges for names, numbers too"),
             flag("header", "Takes the first line for a header"),
             flag("no-header", "Takes no line for a header"),
@@ -76,27 +81,25 @@ where
     let (Some(device), Some(file)) = (found.get_str("device"), found.get_str("file")) else {
         return 2;
     };
-    let nodes = match found.get_str("nodes") {
-        Some(word) => match number(rt.alloc(), word, MOST_NODES as u64) {
-            Ok(Some(nodes)) if nodes >= 1 => Some(nodes as u16),
-            Ok(_) => return told(err, 2, "--nodes takes 1 to 16384"),
-            Err(_) => return told_memory(err),
-        },
-        None => None,
-    };
-    let writing = match writing_in(found) {
-        Ok(writing) => writing,
+    let form = match form_in(found) {
+        Ok(form) => form,
         Err(text) => return told(err, 2, text),
     };
-    let Ok(beside) = Beside::of(rt.alloc(), device) else {
+    let numbers = numbers_in(rt.alloc(), found);
+    let (Ok(numbers), Ok(beside)) = (numbers, Beside::of(rt.alloc(), device)) else {
         return told_memory(err);
+    };
+    let (nodes, scale) = match numbers {
+        Ok(numbers) => numbers,
+        Err(text) => return told(err, 2, text),
     };
     let import = Import {
         rt,
         device,
         file,
         nodes,
-        writing,
+        form,
+        scale,
         by_names: found.get_flag("names"),
         by_least: found.get_flag("least"),
         updates: found.get_flag("update"),
@@ -108,8 +111,30 @@ where
     }
 }
 
+// How many nodes and what scale are asked for, or what isn't understood of these.
+fn numbers_in(
+    alloc: Global,
+    found: &ArgMatches<'_>,
+) -> Result<Result<(Option<u16>, Option<u32>), &'static str>, AllocError> {
+    let nodes = match found.get_str("nodes") {
+        Some(word) => match number(alloc, word, MOST_NODES as u64)? {
+            Some(nodes) if nodes >= 1 => Some(nodes as u16),
+            _ => return Ok(Err("--nodes takes 1 to 16384")),
+        },
+        None => None,
+    };
+    let scale = match found.get_str("scale") {
+        Some(word) => match number(alloc, word, 1_000_000)? {
+            Some(scale) if scale >= 1 => Some(scale as u32),
+            _ => return Ok(Err("--scale takes 1 to 1000000")),
+        },
+        None => None,
+    };
+    Ok(Ok((nodes, scale)))
+}
+
 // The form that is asked for, or what isn't understood of it. A header is one of edge lists.
-fn writing_in(found: &ArgMatches<'_>) -> Result<Option<Writing>, &'static str> {
+fn form_in(found: &ArgMatches<'_>) -> Result<Option<FileForm>, &'static str> {
     let heading = match (found.get_flag("header"), found.get_flag("no-header")) {
         (true, true) => return Err("either --header or --no-header"),
         (true, false) => Heading::There,
@@ -117,9 +142,9 @@ fn writing_in(found: &ArgMatches<'_>) -> Result<Option<Writing>, &'static str> {
         (false, false) => Heading::ByWords,
     };
     match found.get_str("as") {
-        Some(name) => writing_named(name, heading),
+        Some(name) => Ok(Some(form_named(name, heading)?)),
         None if heading == Heading::ByWords => Ok(None),
-        None => Ok(Some(Writing::Edges(heading))),
+        None => Ok(Some(FileForm::Lines(Writing::Edges(heading, None)))),
     }
 }
 
@@ -130,7 +155,8 @@ struct Import<'a, R> {
     device: &'a str,
     file: &'a str,
     nodes: Option<u16>,
-    writing: Option<Writing>,
+    form: Option<FileForm>,
+    scale: Option<u32>,
     by_names: bool,
     by_least: bool,
     updates: bool,
@@ -155,7 +181,11 @@ impl<R: Files<File = File> + AllocGlobal> Import<'_, R> {
         let Some(text) = text_of(self.rt, self.file, err)? else {
             return Err(told_of(err, self.file, "the file is not there"));
         };
-        let listed = network_in(self.rt.alloc(), self.file, text.as_str(), self.writing, err)?;
+        let (alloc, file, text) = (self.rt.alloc(), self.file, text.as_str());
+        let listed = network_in(alloc, file, text, self.form, self.scale, err)?;
+        if self.by_names && listed.is_dimacs() {
+            return Err(told(err, 2, "--names does not go with DIMACS"));
+        }
         match self.opened(err)? {
             Some(store) => self.bring_to(store, &listed, out, err),
             None => self.bring_anew(&listed, out, err),
@@ -177,6 +207,11 @@ impl<R: Files<File = File> + AllocGlobal> Import<'_, R> {
         ensures err { IfErr result (λ status. status ≤ 2) }
     {
         let kept = kept_of(self.rt, &self.beside, store.graph(), err)?;
+        if listed.nodes.unwrap_or(0) > store.nodes() {
+            let (has, file, says) = (store.nodes(), self.file, listed.nodes.unwrap_or(0));
+            let text = format_args!("it has {has} nodes, and {file} {says}");
+            return Err(told_of(err, self.device, text));
+        }
         let has_edges = store.graph().edges() > 0;
         let list = self.list_of(listed, &kept, store.nodes(), has_edges, err)?;
         settle(self.rt, &self.beside, kept.is_laid, err)?;
@@ -195,6 +230,13 @@ impl<R: Files<File = File> + AllocGlobal> Import<'_, R> {
     {
         let kept = kept_alone(self.rt, &self.beside, err)?;
         let most = self.nodes.unwrap_or(MOST_NODES);
+        if listed.nodes.unwrap_or(0) > most {
+            let text = format_args!(
+                "it has {} nodes, and --nodes {most}",
+                listed.nodes.unwrap_or(0)
+            );
+            return Err(told_of(err, self.file, text));
+        }
         let list = self.list_of(listed, &kept, most, false, err)?;
         settle(self.rt, &self.beside, kept.is_laid, err)?;
         let mut store = self.made(self.nodes.unwrap_or(list.nodes), err)?;
@@ -233,16 +275,6 @@ impl<R: Files<File = File> + AllocGlobal> Import<'_, R> {
     ) -> Result<List, u8>
         ensures { IfErr result (λ status. status ≤ 2) }
     {
-        if let Some(nodes) = listed.nodes {
-            if nodes > most {
-                let (device, file) = (self.device, self.file);
-                let _told = writeln!(
-                    err,
-                    "tzlab: {device}: it has {most} nodes, and {file} {nodes}"
-                );
-                return Err(1);
-            }
-        }
         match &kept.text {
             Some(text) => {
                 let file = kept.file(&self.beside);
@@ -283,6 +315,9 @@ impl<R: Files<File = File> + AllocGlobal> Import<'_, R> {
         if listed.is_by_names() {
             let text = match listed.place() {
                 Place::Link => "its nodes are called by numbers, and those of the JSON by names",
+                _ if listed.is_edge_list() => {
+                    "its nodes are called by numbers, and those of the list by names"
+                }
                 _ => "its nodes are called by numbers, and those of relations by names",
             };
             return Err(told_of(err, self.device, text));
@@ -308,10 +343,8 @@ impl<R: Files<File = File> + AllocGlobal> Import<'_, R> {
 
     // Whether nodes are called by names, where that isn't said yet.
     fn calls_names(&self, listed: &Listed) -> bool {
-        if listed.is_dimacs() {
-            return false;
-        }
-        self.by_names || listed.is_by_names() || !call_numbers(&listed.rows)
+        !listed.is_dimacs()
+            && (self.by_names || listed.is_by_names() || !call_numbers(&listed.rows))
     }
 
     // The edges of rows whose ends are numbers of so many nodes. The first end that is none is told.
@@ -447,7 +480,8 @@ impl<R: Files<File = File> + AllocGlobal> Import<'_, R> {
                 Ok(Some(_)) => {}
                 Ok(None) => {
                     let text = format_args!("{}, which are {most}", NameForm::TooMany);
-                    return Err(told_in(err, 1, self.file, Place::Node, number, text));
+                    let (place, number) = listed.label_at(number);
+                    return Err(told_in(err, 1, self.file, place, number, text));
                 }
                 Err(_) => return Err(told_memory(err)),
             }

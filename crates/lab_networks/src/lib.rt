@@ -5,7 +5,7 @@
 //! | `import DEVICE FILE [--as FORM] [--update] ..` ([`import`]) | brings a network to a device, and its names beside it |
 //! | `export DEVICE [--as FORM] [--words W]` ([`export`]) | prints the network of a device |
 //!
-//! How the nodes of a device are called is kept beside it, in `DEVICE.names` (`beside.rt`).
+//! How the nodes of a device are called is kept beside it, in `DEVICE.names` (`beside.rt`); other commands read it by [`names_beside`].
 //!
 //! The contracts that the program uses, over any device, place of names and writer: [`take_edges`] is one call of `import_named` of
 //! `network_import`, with all that it promises, and where it says so, the line of what the store holds then was printed (`IsTaken` of
@@ -16,6 +16,7 @@
 #![tactic(auto)]
 
 mod beside;
+mod calling;
 pub mod export;
 mod files;
 pub mod import;
@@ -23,6 +24,7 @@ mod networks;
 mod taken;
 mod texts;
 
+pub use calling::{NamesBeside, names_beside};
 pub use networks::{ExportRefused, Form, export_graph};
 pub use taken::{Taken, Wanted, take_edges};
 pub use texts::Place;

@@ -5,7 +5,7 @@ ghost use Rattle.written_values.specs.Words.{IsWithin};
 ghost use Rattle.edge_lists.specs.Reading.{IfNoneRead};
 ghost use Rattle.lab_networks.specs.Networks.{AreMarksBy, IsExportRefused, IsListOrCsv, IsTextOf, LacksNode, PrintsNetwork};
 
-use edge_lists::{Edge, dimacs_text, edge_list, node_link_text};
+use edge_lists::{Edge, dimacs_text, edge_list, list_head, node_link_text};
 use figure_lines::{Mark, edges_of, marks_of, network_csv, network_dot};
 use graph_edits::Graph;
 use lab_parts::{PrintRefused, print};
@@ -86,7 +86,7 @@ fn text_in(
 {
     let edges = edges_of(alloc, graph)?;
     match form {
-        Form::Edges => Ok(Some(list_or_csv(alloc, &edges, names)?)),
+        Form::Edges => Ok(Some(list_or_csv(alloc, graph.nodes(), &edges, names)?)),
         Form::Csv => Ok(Some(network_csv(alloc, &edges, names)?)),
         Form::Dimacs => Ok(Some(dimacs_text(alloc, graph.nodes(), &edges)?.into_bytes())),
         Form::Json => Ok(Some(node_link_text(alloc, graph.nodes(), &edges, names)?.into_bytes())),
@@ -101,14 +101,22 @@ fn text_in(
     }
 }
 
-// An edge list, or CSV where a name can't stand in its lines.
-fn list_or_csv(alloc: Global, edges: &[Edge], names: &[&str]) -> Result<Vec<u8>, AllocError>
-    ensures { IfOk result (λ text. IsListOrCsv names.now edges.now text.items) }
+// An edge list; its lines are CSV where a name can't stand in lines of words.
+fn list_or_csv(
+    alloc: Global,
+    nodes: u16,
+    edges: &[Edge],
+    names: &[&str],
+) -> Result<Vec<u8>, AllocError>
+    ensures { IfOk result (λ text. IsListOrCsv names.now nodes edges.now text.items) }
 {
-    match edge_list(alloc, edges, names)? {
-        Some(text) => Ok(text.into_bytes()),
-        None => network_csv(alloc, edges, names),
+    if let Some(text) = edge_list(alloc, nodes, edges, names)? {
+        return Ok(text.into_bytes());
     }
+    let mut text = list_head(alloc, nodes, names)?.into_bytes();
+    let rows = network_csv(alloc, edges, names)?;
+    text.extend_from_slice(&rows)?;
+    Ok(text)
 }
 
 // The marks by words that name none but its nodes.

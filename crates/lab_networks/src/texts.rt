@@ -2,33 +2,41 @@
 ghost use Rattle.std.specs.Prelude.{◌≡◌, ◌≤◌, IfErr};
 
 use edge_lists::{
-    Form, Heading, LineRefused, Row, Writing, form_of, read_links, read_nodes, read_rows,
+    Form, Heading, LineRefused, Names, Nodes, Row, Writing, begins_object, form_of, read_links,
+    read_nodes, read_rows,
 };
 use graph_edits::MOST_NODES;
-use lab_parts::{told_at, told_memory};
-use std::alloc::Global;
+use lab_parts::{told, told_at, told_memory};
+use std::alloc::{AllocError, Global};
 use std::fmt::Display;
 use std::io::Write;
 use written_values::number;
 
+/// The form of a file.
+#[derive(Clone, Copy, Debug, PartialEq, Eq, Drop)]
+pub(crate) enum FileForm {
+    Lines(Writing),
+    Json,
+}
+
 /// The form of that name, where a list has its header so; or what isn't understood.
-pub(crate) fn writing_named(name: &str, heading: Heading) -> Result<Option<Writing>, &'static str> {
+pub(crate) fn form_named(name: &str, heading: Heading) -> Result<FileForm, &'static str> {
     if name == "edges" {
-        return Ok(Some(Writing::Edges(heading)));
+        return Ok(FileForm::Lines(Writing::Edges(heading, None)));
     }
-    let writing = if name == "dimacs" {
-        Writing::Dimacs
+    let form = if name == "dimacs" {
+        FileForm::Lines(Writing::Dimacs)
     } else if name == "as-rel" {
-        Writing::Relations
+        FileForm::Lines(Writing::Relations)
     } else if name == "json" {
-        Writing::NodeLink
+        FileForm::Json
     } else {
         return Err("--as takes edges, dimacs, as-rel or json");
     };
     if heading != Heading::ByWords {
         return Err("--header and --no-header go with edge lists");
     }
-    Ok(Some(writing))
+    Ok(form)
 }
 
 /// What in a file says something.
@@ -73,7 +81,7 @@ pub(crate) fn told_in<E: Write, T: Display + Drop>(
 /// What a file says of a network.
 #[derive(Drop)]
 pub(crate) struct Listed {
-    writing: Writing,
+    form: FileForm,
     pub(crate) rows: Vec<Row>,
     /// How many nodes there are, where that is said.
     pub(crate) nodes: Option<u16>,
@@ -86,12 +94,12 @@ pub(crate) struct Listed {
 impl Listed {
     /// Whether lines say edges, and not the arcs of each.
     pub(crate) fn is_edge_list(&self) -> bool {
-        matches!(self.writing, Writing::Edges(_))
+        matches!(self.form, FileForm::Lines(Writing::Edges(..)))
     }
 
     /// Whether nodes are called by numbers from 1.
     pub(crate) fn is_dimacs(&self) -> bool {
-        matches!(self.writing, Writing::Dimacs)
+        matches!(self.form, FileForm::Lines(Writing::Dimacs))
     }
 
     /// Whether nodes are called by names, numbers too.
@@ -101,9 +109,17 @@ impl Listed {
 
     /// What says an edge: a line, or a link of JSON.
     pub(crate) fn place(&self) -> Place {
-        match self.writing {
-            Writing::NodeLink => Place::Link,
-            _ => Place::Line,
+        match self.form {
+            FileForm::Json => Place::Link,
+            FileForm::Lines(_) => Place::Line,
+        }
+    }
+
+    /// Where the node of that number, from 1, is called: in a list behind its first line.
+    pub(crate) fn label_at(&self, number: usize) -> (Place, usize) {
+        match self.form {
+            FileForm::Json => (Place::Node, number),
+            FileForm::Lines(_) => (Place::Line, number.saturating_add(1)),
         }
     }
 
@@ -113,36 +129,80 @@ impl Listed {
     }
 }
 
-/// What a text says, which may begin with a byte order mark; its lines tell its form, where none is named. What isn't
-/// understood is told.
+/// What a text says, which may begin with a byte order mark; it tells its form, where none is named. What isn't
+/// understood is told, and how far weights are from those that are multiplied.
 pub(crate) fn network_in<E: Write>(
     alloc: Global,
     file: &str,
     text: &str,
-    writing: Option<Writing>,
+    form: Option<FileForm>,
+    scale: Option<u32>,
     err: &mut E,
 ) -> Result<Listed, u8>
     ensures { IfErr result (λ status. status ≤ 2) }
 {
     let text = text.strip_prefix('\u{feff}').unwrap_or(text);
-    let writing = match writing {
-        Some(writing) => writing,
+    let form = match form {
+        Some(form) => form,
+        None if begins_object(text) => FileForm::Json,
         None => match form_of(alloc, text) {
-            Ok(writing) => writing,
+            Ok(writing) => FileForm::Lines(writing),
             Err(_) => return Err(told_memory(err)),
         },
     };
-    if matches!(writing, Writing::NodeLink) {
-        return links_in(alloc, file, text, err);
+    match (form, scale) {
+        (FileForm::Lines(Writing::Edges(heading, _)), Some(scale)) => {
+            let listed = lines_in(alloc, file, text, Writing::Edges(heading, Some(scale)), err)?;
+            tell_error(alloc, file, text, &listed.rows, heading, scale, err);
+            Ok(listed)
+        }
+        (_, Some(_)) => Err(told(err, 2, "--scale goes with edge lists")),
+        (FileForm::Lines(writing), None) => lines_in(alloc, file, text, writing, err),
+        (FileForm::Json, None) => links_in(alloc, file, text, err),
     }
-    let nodes = nodes_in(alloc, file, text, writing, err)?;
+}
+
+// Tells how far a weight of a list that is multiplied is at most from what it should be. It is read once more, in thousandths.
+fn tell_error<E: Write>(
+    alloc: Global,
+    file: &str,
+    text: &str,
+    rows: &[Row],
+    heading: Heading,
+    scale: u32,
+    err: &mut E,
+) {
+    let fine = Writing::Edges(heading, Some(scale.saturating_mul(1000)));
+    if let Ok(Ok(exact)) = read_rows(alloc, text, fine) {
+        let mut most: u64 = 0;
+        for (row, exact) in rows.iter().zip(&exact) {
+            most = most.max((row.weight as u64 * 1000).abs_diff(exact.weight as u64));
+        }
+        let _told = writeln!(
+            err,
+            "tzlab: {file}: weights are multiplied by {scale}, with an error of at most 0.{most:03}"
+        );
+    }
+}
+
+// What a text in lines says.
+fn lines_in<E: Write>(
+    alloc: Global,
+    file: &str,
+    text: &str,
+    writing: Writing,
+    err: &mut E,
+) -> Result<Listed, u8>
+    ensures { IfErr result (λ status. status ≤ 2) }
+{
+    let (nodes, labels) = nodes_in(alloc, file, text, writing, err)?;
     match read_rows(alloc, text, writing) {
         Ok(Ok(rows)) => Ok(Listed {
-            writing,
+            form: FileForm::Lines(writing),
             rows,
             nodes,
-            labels: Vec::new(alloc),
-            by_names: matches!(writing, Writing::Relations),
+            by_names: matches!(writing, Writing::Relations) || !labels.is_empty(),
+            labels,
         }),
         Ok(Err(refused)) => Err(told_at(err, 2, file, refused.number, refused.form)),
         Err(_) => Err(told_memory(err)),
@@ -155,7 +215,7 @@ fn links_in<E: Write>(alloc: Global, file: &str, text: &str, err: &mut E) -> Res
 {
     match read_links(alloc, text) {
         Ok(Ok(links)) => Ok(Listed {
-            writing: Writing::NodeLink,
+            form: FileForm::Json,
             rows: links.rows,
             nodes: None,
             labels: links.labels,
@@ -174,24 +234,47 @@ fn links_in<E: Write>(alloc: Global, file: &str, text: &str, err: &mut E) -> Res
     }
 }
 
-// How many nodes a text says that there are. A number that no network has is told.
+// How many nodes a text says that there are, and what they are called. What no network has is told.
 fn nodes_in<E: Write>(
     alloc: Global,
     file: &str,
     text: &str,
     writing: Writing,
     err: &mut E,
-) -> Result<Option<u16>, u8>
+) -> Result<(Option<u16>, Vec<String>), u8>
     ensures { IfErr result (λ status. status ≤ 2) }
 {
-    let (line, word) = match read_nodes(alloc, text, writing) {
+    let Nodes { line, count, names } = match read_nodes(alloc, text, writing) {
         Ok(Some(said)) => said,
-        Ok(None) => return Ok(None),
+        Ok(None) => return Ok((None, Vec::new(alloc))),
         Err(_) => return Err(told_memory(err)),
     };
-    match number(alloc, word, MOST_NODES as u64) {
-        Ok(Some(nodes)) if nodes >= 1 => Ok(Some(nodes as u16)),
-        Ok(_) => Err(told_at(err, 2, file, line, "a network has 1 to 16384 nodes")),
+    let nodes = match number(alloc, count, MOST_NODES as u64) {
+        Ok(Some(nodes)) if nodes >= 1 => nodes as u16,
+        Ok(_) => return Err(told_at(err, 2, file, line, "a network has 1 to 16384 nodes")),
+        Err(_) => return Err(told_memory(err)),
+    };
+    if !names.is_empty() && names.len() != nodes as usize {
+        let text = "behind `# nodes=N` stand N lines `# NAME`, or none";
+        return Err(told_at(err, 2, file, line, text));
+    }
+    match Names::from_lines(alloc, &names, MOST_NODES) {
+        Ok(Ok(_)) => match texts_of(alloc, &names) {
+            Ok(labels) => Ok((Some(nodes), labels)),
+            Err(_) => Err(told_memory(err)),
+        },
+        Ok(Err(refused)) => {
+            let number = refused.number.saturating_add(line);
+            Err(told_at(err, 2, file, number, refused.form))
+        }
         Err(_) => Err(told_memory(err)),
     }
+}
+
+fn texts_of(alloc: Global, names: &[&str]) -> Result<Vec<String>, AllocError> {
+    let mut texts = Vec::new(alloc);
+    for name in names {
+        texts.push(String::from_str(alloc, *name)?)?;
+    }
+    Ok(texts)
 }

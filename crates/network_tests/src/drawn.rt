@@ -1,10 +1,10 @@
 // Drawn networks: written in each form, read, imported, and compared with the test's own list.
-use crate::helpers::{BY_WORDS, Came, added, got, new_store};
+use crate::helpers::{BY_WORDS, Came, added, got, new_store, told};
 use checkpoint::Store;
 use disk_trait::MemDisk;
 use edge_lists::{
-    Edge, Writing, by_numbers, dimacs_text, each_once, edge_list, form_of, node_link_text,
-    read_rows,
+    Edge, Row, Writing, by_numbers, dimacs_text, each_once, edge_list, form_of, node_link_text,
+    read_links, read_nodes, read_rows,
 };
 use network_import::import;
 use rand_core::SeedableRng;
@@ -76,14 +76,28 @@ fn edges_of(rt: &impl Abort, alloc: Global, store: &Store<MemDisk>) -> Vec<Edge>
     out
 }
 
-// The edges of a text of 60 nodes, by way of a store. The text's form is told by its lines.
+// The edges of a text of 60 nodes in lines, by way of a store. The text's form is told by its lines.
 fn taken(rt: &impl Abort, alloc: Global, text: &str, writing: Writing) -> Vec<Edge> {
     assert_eq!(rt; got(rt, form_of(alloc, text)), writing);
+    let nodes = got(rt, read_nodes(alloc, text, writing)).map(|nodes| nodes.count);
+    assert_eq!(rt;
+        nodes,
+        if writing == Writing::Relations {
+            None
+        } else {
+            Some("60")
+        }
+    );
     let first = if writing == Writing::Dimacs { 1 } else { 0 };
     let Ok(rows) = got(rt, read_rows(alloc, text, writing)) else {
         panic!(rt; "no rows");
     };
-    let Ok(read) = got(rt, by_numbers(alloc, &rows, first, 59)) else {
+    stored(rt, alloc, &rows, first)
+}
+
+// The same of rows, where the first node is written so.
+fn stored(rt: &impl Abort, alloc: Global, rows: &[Row], first: u16) -> Vec<Edge> {
+    let Ok(read) = got(rt, by_numbers(alloc, rows, first, 59)) else {
         panic!(rt; "no numbers");
     };
     let Ok(once) = got(rt, each_once(alloc, &read, false)) else {
@@ -102,14 +116,17 @@ fn drawn_networks_come_in_and_go_out(rt: HostRuntime) {
     for seed in 0..12 {
         let mut edges = drawn(rt, alloc, seed);
         let others = turned(rt, alloc, &edges);
-        let list = got(rt, edge_list(alloc, &others, &[])).expect(rt, "a list");
+        let list = got(rt, edge_list(alloc, 60, &others, &[])).expect(rt, "a list");
         let read = taken(rt, alloc, list.as_str(), BY_WORDS);
         assert_eq!(rt; read.as_slice(), edges.as_slice(), "seed {seed}");
         let arcs = got(rt, dimacs_text(alloc, 60, &others));
         let read = taken(rt, alloc, arcs.as_str(), Writing::Dimacs);
         assert_eq!(rt; read.as_slice(), edges.as_slice(), "seed {seed}");
         let links = got(rt, node_link_text(alloc, 60, &others, &[]));
-        let read = taken(rt, alloc, links.as_str(), Writing::NodeLink);
+        let Ok(links) = got(rt, read_links(alloc, links.as_str())) else {
+            panic!(rt; "no links");
+        };
+        let read = stored(rt, alloc, &links.rows, 0);
         assert_eq!(rt; read.as_slice(), edges.as_slice(), "seed {seed}");
         let text = relations(rt, alloc, &others);
         for edge in edges.iter_mut() {
@@ -145,15 +162,13 @@ fn arcs_of_one_edge(rt: HostRuntime) {
         };
         match got(rt, each_once(alloc, &arcs, false)) {
             Ok(edges) => {
-                let told = got(rt, edge_list(alloc, &edges, &[])).expect(rt, "a list");
-                assert_eq!(rt; Ok(told.as_str()), *want, "{text}");
+                assert_eq!(rt; Ok(told(rt, alloc, &edges).as_str()), *want, "{text}");
             }
             Err(clash) => assert_eq!(rt; Err((clash.first, clash.second)), *want, "{text}"),
         }
         let Ok(edges) = got(rt, each_once(alloc, &arcs, true)) else {
             panic!(rt; "{text}");
         };
-        let told = got(rt, edge_list(alloc, &edges, &[])).expect(rt, "a list");
-        assert_eq!(rt; told.as_str(), *least, "{text}");
+        assert_eq!(rt; told(rt, alloc, &edges).as_str(), *least, "{text}");
     }
 }

@@ -4,13 +4,13 @@ ghost use Rattle.checkpoint.specs.StoreWords.{is_down};
 
 use checkpoint::Store;
 use disk_trait::MemDisk;
-use edge_lists::{Edge, Heading, Writing};
+use edge_lists::{Edge, Heading, Writing, edge_list};
 use network_import::{Incoming, Progress, incoming_edges};
 use std::alloc::Global;
 use std::process::Abort;
 
 /// Edge lists with a header that is known by its words.
-pub(crate) const BY_WORDS: Writing = Writing::Edges(Heading::ByWords);
+pub(crate) const BY_WORDS: Writing = Writing::Edges(Heading::ByWords, None);
 
 /// The value of an answer that has to have one.
 pub(crate) fn got<T, E: Drop>(rt: &impl Abort, answer: Result<T, E>) -> T {
@@ -18,6 +18,13 @@ pub(crate) fn got<T, E: Drop>(rt: &impl Abort, answer: Result<T, E>) -> T {
         Ok(value) => value,
         Err(_) => panic!(rt; "no value"),
     }
+}
+
+/// The lines of edges between numbered nodes.
+pub(crate) fn told(rt: &impl Abort, alloc: Global, edges: &[Edge]) -> String {
+    let text = got(rt, edge_list(alloc, 60, edges, &[])).expect(rt, "a list");
+    let lines = text.strip_prefix("# nodes=60\n").expect(rt, "a head");
+    got(rt, String::from_str(alloc, lines))
 }
 
 /// How many edges the last group came to.

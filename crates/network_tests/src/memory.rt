@@ -184,9 +184,9 @@ fn numbers_after_a_want_of_memory(rt: HostRuntime) {
     let Ok(Ok(edges)) = found else {
         panic!(rt; "no numbers");
     };
-    let text = match edge_list(alloc, &edges, &["a", "b"]) {
+    let text = match edge_list(alloc, 3, &edges, &["a", "b"]) {
         Ok(text) => Ok(text),
-        Err(_) => edge_list(alloc, &edges, &["a", "b"]),
+        Err(_) => edge_list(alloc, 3, &edges, &["a", "b"]),
     };
     let links = match node_link_text(alloc, 1, &edges, &["a"]) {
         Ok(links) => Ok(links),
@@ -197,7 +197,10 @@ fn numbers_after_a_want_of_memory(rt: HostRuntime) {
         Err(_) => panic!(rt; "not written"),
     }
     match text {
-        Ok(text) => assert_eq!(rt; text.as_deref(), Some("b 2 5\n4 a 6\n")),
+        Ok(text) => assert_eq!(rt;
+            text.as_deref(),
+            Some("# nodes=3\n# a\n# b\n# 2\nb 2 5\n4 a 6\n")
+        ),
         Err(_) => panic!(rt; "not written"),
     }
 }

@@ -1,5 +1,5 @@
 // Names and numbers, by hand.
-use crate::helpers::{BY_WORDS, got};
+use crate::helpers::{BY_WORDS, got, told};
 use edge_lists::{Edge, Names, by_numbers, call_numbers, edge_list, read_rows};
 
 #[test]
@@ -60,8 +60,7 @@ fn ends_that_are_plain_numbers(rt: HostRuntime) {
         assert_eq!(rt; call_numbers(&rows), *numbers, "{text}");
         match got(&rt, by_numbers(alloc, &rows, 0, 9)) {
             Ok(edges) => {
-                let told = got(&rt, edge_list(alloc, &edges, &[])).expect(&rt, "a list");
-                assert_eq!(rt; Ok(told.as_str()), *want, "{text}");
+                assert_eq!(rt; Ok(told(&rt, alloc, &edges).as_str()), *want, "{text}");
             }
             Err(place) => assert_eq!(rt; Err(place), *want, "{text}"),
         }
@@ -76,7 +75,7 @@ fn names_that_no_line_of_words_may_have(rt: HostRuntime) {
     for name in &NO_LABELS {
         let text = got(
             &rt,
-            edge_list(rt.alloc(), &[], &["Bern", *name, "\"Thun\""]),
+            edge_list(rt.alloc(), 3, &[], &["Bern", *name, "\"Thun\""]),
         );
         assert!(rt; text.is_none(), "{name}");
     }
@@ -98,6 +97,9 @@ fn a_list_is_written_with_names(rt: HostRuntime) {
             weight: 6,
         },
     ];
-    let text = got(&rt, edge_list(rt.alloc(), &edges, &["Bern", "Thun"]));
-    assert_eq!(rt; text.as_deref(), Some("Bern Thun 5\n2 Bern 6\n"));
+    let text = got(&rt, edge_list(rt.alloc(), 3, &edges, &["Bern", "Thun"]));
+    assert_eq!(rt;
+        text.as_deref(),
+        Some("# nodes=3\n# Bern\n# Thun\n# 2\nBern Thun 5\n2 Bern 6\n")
+    );
 }

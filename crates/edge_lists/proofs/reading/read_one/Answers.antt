@@ -19,10 +19,10 @@ pub returns : goal.returns
 returns c =
     let text = c.args.text.now in
     let writing = c.args.writing in
-    let words = texts_at c.deref-2.result.now in
     let some : says_nothing writing (words_of text) ≡ false = search rules in
     let none : has_comma text ≡ false = search rules in
-    let here : words ≡ words_of text = ap texts_at c.deref-2.ensures.value ∙ c.in_ok-words.ensures in
-    let fields : word_fields writing words ≡ fields_of writing text =
-    ap (word_fields writing) here ∙ sym (ap (λ (b : Bool). cond b (comma_fields_in writing text) (word_fields writing (words_of text))) none) in
-    IfOk-weaker c.read_words.result _ _ (λ read is. as_read writing c.args.line text (word_fields writing words) read some fields is) c.read_words.ensures
+    let words : texts_at c.deref-2.result.now ≡ words_of text = ap texts_at c.deref-2.ensures.value ∙ c.in_ok-words.ensures in
+    let fields : texts_at c.deref-3.result.now ≡ fields_of writing text =
+    ap texts_at c.deref-3.ensures.value ∙ c.in_ok-fields.ensures ∙ ap (word_fields writing) words
+    ∙ sym (ap (λ (b : Bool). cond b (comma_fields_in writing text) (word_fields writing (words_of text))) none) in
+    IfOk-weaker c.read_fields.result _ _ (λ read is. as_read writing c.args.line text (texts_at c.deref-3.result.now) read some fields is) c.read_fields.ensures

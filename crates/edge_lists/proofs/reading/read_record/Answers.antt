@@ -1,9 +1,14 @@
-use Rattle.std.proofs.Common.{ap, sym, subst, List, ℕ}
+use Rattle.std.proofs.Common.{◌≡◌, ◌∙◌, ap, sym, subst, List, ℕ}
 use Rattle.std.specs.Prelude.{IfOk}
 use Rattle.edge_lists.specs.declared.forms.Writing.{Writing}
-use Rattle.edge_lists.specs.Rows.{IsEdgeRead, comma_fields_in}
+use Rattle.edge_lists.specs.Rows.{IsEdgeRead, comma_fields_in, scale_of}
+use Rattle.edge_lists.proofs.WordLemmas.{texts_at}
 use Rattle.edge_lists.proofs.reading.read_record.Goals as goal
 
-pub returns-in-Edges : goal.returns-in-Edges
-returns-in-Edges c =
-    subst (λ (l : List (List ℕ)). IfOk c.read_csv.result (λ read. IsEdgeRead c.args.line l read)) (sym (ap (λ (w : Writing). comma_fields_in w c.args.text.now) c.in-Edges.is)) c.read_csv.ensures
+pub returns : goal.returns
+returns c =
+    let text = c.args.text.now in
+    let scale = scale_of c.args.writing in
+    let fields : texts_at c.deref.result.now ≡ comma_fields_in c.args.writing text =
+    ap texts_at c.deref.ensures.value ∙ c.in_ok-fields.ensures ∙ c.in_ok-record.ensures ∙ sym (ap (λ (w : Writing). comma_fields_in w text) c.in-Edges.is) in
+    subst (λ (l : List (List ℕ)). IfOk c.read_fields.result (λ read. IsEdgeRead scale c.args.line l read)) fields c.read_fields.ensures

@@ -1,0 +1,3 @@
+pub mod Zipped
+pub mod Edited
+pub mod Routed

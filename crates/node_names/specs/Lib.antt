@@ -1,0 +1,4 @@
+pub mod Words
+pub mod NamedOps
+pub mod Texts
+pub mod Readings
