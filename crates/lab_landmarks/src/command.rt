@@ -1,5 +1,5 @@
 // The command `landmarks`.
-ghost use Rattle.std.specs.Prelude.{◌≤◌};
+ghost use Rattle.std.specs.Prelude.{◌≡◌, ◌≤◌};
 
 use crate::choosing::{Wanted, print_choice};
 use crate::chosen::Chosen;
@@ -59,7 +59,9 @@ where
     R: Files<File = File> + AllocGlobal + Threads + Wait + Sync,
     O: Write,
     E: Write + IsTerminal,
-    ensures { result ≤ 2 }
+    ensures few { result ≤ 2 }
+    // 2 only where nothing was printed.
+    ensures untouched { result ≡ 2 → out.new ≡ out.old }
 {
     let Some(device) = found.get_str("device") else {
         return 2;

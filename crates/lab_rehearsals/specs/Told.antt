@@ -43,6 +43,10 @@ pub record PrintsTold (model : Ghosts MemDisk) (watched : Ghosts Watched) (text 
   pub is : IsToldOfLines model watched lines asked told
   pub printed : PrintsText contents old new told
 
+-- what is asked for of the lives that some text spells was printed
+abbrev pub PrintsSomeTold : Ghosts MemDisk → Ghosts Watched → {W : Type 0} → (W → Known) → W → W → Type 0
+PrintsSomeTold model watched contents old new = (text : List ℕ) × (asked : Asked) × PrintsTold model watched text asked contents old new
+
 -- why no lives are run, where every line is understood
 abbrev pub IsNotRun : NotRehearsed → Type 0
 IsNotRun (Line refused) = ⊥

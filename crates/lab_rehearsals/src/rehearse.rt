@@ -1,8 +1,11 @@
 //! The words of `rehearse`, and its file.
-ghost use Rattle.std.specs.Prelude.{◌≤◌};
+ghost use Rattle.std.specs.Prelude.{◌≡◌, ◌≤◌};
+ghost use Rattle.lab_rehearsals.specs.Told.{PrintsSomeTold};
 
 use crate::told::{Asked, NotRehearsed, rehearse_text};
 use clap::{ArgMatches, Command, value_parser};
+use device_stops::Watched;
+use disk_trait::{Disk, MemDisk};
 use lab_parts::{command, flag, told, told_at, told_of, value, word};
 use std::alloc::{AllocError, Global};
 use std::fs::{self, File};
@@ -41,7 +44,10 @@ where
     R: Files<File = File> + AllocGlobal,
     O: Write,
     E: Write + IsTerminal,
-    ensures { result ≤ 2 }
+    ensures few { result ≤ 2 }
+    // 0 only where this was printed, and 2 only where nothing was.
+    ensures printed { result ≡ 0 → PrintsSomeTold ⟦<MemDisk as Disk>⟧ ⟦<Watched as Disk>⟧ O.contents out.old out.new }
+    ensures untouched { result ≡ 2 → out.new ≡ out.old }
 {
     let Some(file) = found.get_str("file") else {
         return 2;
