@@ -2,16 +2,16 @@
 use Rattle.std.proofs.Common.{◌≡◌, ◌<◌, ◌≤◌, ◌==◌, ℕ, zero, suc, Bool, true, sym, refl, ap, ◌∙◌, arith, List, [], ◌∷◌, length}
 use Rattle.std.specs.Prelude.{Option, Some, None, ◌↔◌}
 use Rattle.heavy_labels.specs.Numbering.{lights_at}
-use Rattle.node_table.specs.declared.parts.Parts.{Parts}
-use Rattle.node_table.specs.Entry.{Entry}
+use Rattle.schemes.specs.declared.parts.Parts.{Parts}
+use Rattle.schemes.specs.Entry.{Entry}
 use Rattle.graph_edits.specs.Edges.{Network}
-use Rattle.node_table.specs.Ports.{port_to}
-use Rattle.node_table.specs.Tables.{Tables, tables}
-use Rattle.node_table.specs.Checks.{k1, IsShaped, distance_of, farthest}
-use Rattle.node_table.specs.Local.{record_at, parent_of, lights_from, lights_to}
-use Rattle.node_table.proofs.Serving.Exact.{Distances}
-use Rattle.node_table.proofs.Serving.CheckedLaw.{distances_from}
-use Rattle.node_table.proofs.LocalForms.TreeOfTables.{far_enough}
+use Rattle.schemes.specs.Ports.{port_to}
+use Rattle.schemes.specs.Tables.{Tables, tables}
+use Rattle.schemes.specs.Checks.{k1, IsShaped, distance_of, farthest}
+use Rattle.schemes.specs.Local.{record_at, parent_of, lights_from, lights_to}
+use Rattle.schemes.proofs.Serving.Exact.{Distances}
+use Rattle.schemes.proofs.Serving.CheckedLaw.{distances_from}
+use Rattle.schemes.proofs.LocalForms.TreeOfTables.{far_enough}
 use Rattle.certificate.specs.Climbs.{HoldsFirst, lights_up}
 use Rattle.certificate.proofs.LookUps.{inside}
 

@@ -6,16 +6,16 @@ use Rattle.std.specs.List.Sorted.{IsStrictlyIncreasing}
 use Rattle.std.proofs.lemmas.Bool.Decides.{nat_tests}
 use Rattle.std.proofs.lemmas.Option.{slice_get_past}
 use Rattle.std.proofs.lemmas.List.Elements.{All-contains}
-use Rattle.node_table.specs.declared.parts.Parts.{Parts}
-use Rattle.node_table.specs.Entry.{Entry}
-use Rattle.distances.specs.declared.nearest.Near.{Near}
+use Rattle.schemes.specs.declared.parts.Parts.{Parts}
+use Rattle.schemes.specs.Entry.{Entry}
+use Rattle.landmarks.specs.declared.near.Near.{Near}
 use Rattle.graph_edits.specs.Edges.{Network, IsSound, weight_in, neighbours_of}
 use Rattle.graph_edits.specs.Laws.{All-neighbours_of, Contains-neighbours_of}
-use Rattle.node_table.specs.Tables.{tables, entries_at, directory_at, or_none, nodes_of}
-use Rattle.node_table.specs.Checks.{IsShaped, IsClosed, HasParents, IsStrict, IsNearestThere, HasDirectories}
-use Rattle.node_table.proofs.Basics.Walks.{symmetric}
+use Rattle.schemes.specs.Tables.{tables, entries_at, directory_at, or_none, nodes_of}
+use Rattle.schemes.specs.Checks.{IsShaped, IsClosed, HasParents, IsStrict, IsNearestThere, HasDirectories}
+use Rattle.schemes.proofs.Basics.Walks.{symmetric}
 use Rattle.certificate.specs.Entries.{EachEntry, HasPlaces, IsNodeShaped, IsEntryShaped, HasOwn, HasParentAt, IsClosedAt, IsClosedOver, IsTightAt, IsTightBy, IsNoEarlier, IsStrictAt, IsNearestAt, IsThere, IsNoNearer, HasDirectoryAt, IsListedRight, IsListedBack}
-use Rattle.node_table.proofs.Basics.Options.{is_there, not_none}
+use Rattle.schemes.proofs.Basics.Options.{is_there, not_none}
 use Rattle.certificate.proofs.LookUps.{found_has, found_at, listed_has, listed_at, no_directory, looked_up, inside, each_one}
 
 -- ---- Shape

@@ -1,7 +1,7 @@
 -- Tests of what a look-up found.
 use Rattle.std.proofs.Common.{◌≡◌, ◌⊎◌, inl, inr, Bool, true, false, refl, subst}
 use Rattle.std.specs.Prelude.{◌↔◌, IsTrue, Option, Some, None}
-use Rattle.node_table.proofs.Basics.Options.{same_value, not_none}
+use Rattle.schemes.proofs.Basics.Options.{same_value, not_none}
 
 pub found : {X : Type 0} (o : Option X) (g : X) (P : X → Type 0) (b : Bool) → o ≡ Some g → IsTrue b ↔ P g → IsTrue b ↔ ((x : X) × ((o ≡ Some x) × P x))
 found o g P b e h = (λ t. (g, (e, h.0 t)), λ k. h.1 (subst P (same_value k.1.0 e) k.1.1))

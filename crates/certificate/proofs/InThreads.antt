@@ -1,9 +1,9 @@
 -- From what the workers find right of each node to all rules.
 use Rattle.std.proofs.Common.{◌≡◌, ◌<◌, ℕ, refl, subst, arith}
 use Rattle.graph_edits.specs.Edges.{Network, IsSound}
-use Rattle.node_table.specs.declared.parts.Parts.{Parts}
-use Rattle.node_table.specs.Checks.{k1, k2, k3, k4, k5, k6, k7, k8, IsChecked, IsShaped, HasRecords}
-use Rattle.node_table.specs.Tables.{tables}
+use Rattle.schemes.specs.declared.parts.Parts.{Parts}
+use Rattle.schemes.specs.Checks.{k1, k2, k3, k4, k5, k6, k7, k8, IsChecked, IsShaped, HasRecords}
+use Rattle.schemes.specs.Tables.{tables}
 use Rattle.certificate.specs.Climbs.{HoldsFirst}
 use Rattle.certificate.specs.Entries.{HasPlaces, IsFramed, IsNodeFramed}
 use Rattle.certificate.specs.Ranges.{IsSweptWhole, HasListsAt}

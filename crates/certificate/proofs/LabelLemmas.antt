@@ -6,12 +6,12 @@ use Rattle.std.proofs.lemmas.Bool.Decides.{nat_tests}
 use Rattle.std.proofs.lemmas.Option.{slice_get_past}
 use Rattle.std.proofs.lemmas.List.Elements.{All-head, All-tail}
 use Rattle.heavy_labels.specs.Label.{Label}
-use Rattle.node_table.specs.declared.parts.Parts.{Parts}
-use Rattle.node_table.specs.declared.parts.Listed.{Listed}
+use Rattle.schemes.specs.declared.parts.Parts.{Parts}
+use Rattle.schemes.specs.declared.parts.Listed.{Listed}
 use Rattle.graph_edits.specs.Edges.{Network}
-use Rattle.node_table.specs.Tables.{tables, directory_at, or_none}
-use Rattle.node_table.specs.Checks.{IsShaped, IsListed}
-use Rattle.node_table.specs.Local.{HasLocalLabels}
+use Rattle.schemes.specs.Tables.{tables, directory_at, or_none}
+use Rattle.schemes.specs.Checks.{IsShaped, IsListed}
+use Rattle.schemes.specs.Local.{HasLocalLabels}
 use Rattle.certificate.specs.Climbs.{IsLabelRight, IsHomeRight, HasLabelsAt}
 use Rattle.certificate.proofs.LookUps.{no_directory}
 

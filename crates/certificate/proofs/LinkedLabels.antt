@@ -4,16 +4,16 @@ use Rattle.std.specs.Prelude.{Option, Some, None, IsSome, is_some}
 use Rattle.std.specs.List.{All}
 use Rattle.heavy_labels.specs.Label.{Label}
 use Rattle.heavy_labels.specs.Numbering.{lights_at}
-use Rattle.node_table.specs.declared.parts.Parts.{Parts}
-use Rattle.node_table.specs.Entry.{Entry}
-use Rattle.node_table.specs.declared.parts.Listed.{Listed}
+use Rattle.schemes.specs.declared.parts.Parts.{Parts}
+use Rattle.schemes.specs.Entry.{Entry}
+use Rattle.schemes.specs.declared.parts.Listed.{Listed}
 use Rattle.graph_edits.specs.Edges.{Network}
-use Rattle.node_table.specs.Checks.{distance_of, IsListed}
-use Rattle.node_table.specs.Local.{parent_of, record_at}
-use Rattle.node_table.specs.Ports.{port_to}
-use Rattle.node_table.specs.Tables.{Tables, tables, directory_at}
-use Rattle.node_table.proofs.Serving.CheckedLaw.{first_is_listed}
-use Rattle.node_table.proofs.Serving.Exact.{Distances}
+use Rattle.schemes.specs.Checks.{distance_of, IsListed}
+use Rattle.schemes.specs.Local.{parent_of, record_at}
+use Rattle.schemes.specs.Ports.{port_to}
+use Rattle.schemes.specs.Tables.{Tables, tables, directory_at}
+use Rattle.schemes.proofs.Serving.CheckedLaw.{first_is_listed}
+use Rattle.schemes.proofs.Serving.Exact.{Distances}
 use Rattle.certificate.specs.Climbs.{AreLinked, AreLinkedBy, AreLinkedOver, HasLights, HoldsFirst, IsLabelRight, IsLinked, lights_up}
 use Rattle.certificate.proofs.ClimbLemmas.{climb_falls, distances_first, lights_of_tree, lights_step}
 use Rattle.certificate.proofs.LabelLemmas.{all_listed, listed_place}

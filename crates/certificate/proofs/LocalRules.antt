@@ -1,10 +1,10 @@
 -- Records and Labels by what is said of each node, once the rules before them hold.
 use Rattle.std.proofs.Common.{◌<◌, ℕ}
-use Rattle.node_table.specs.declared.parts.Parts.{Parts}
+use Rattle.schemes.specs.declared.parts.Parts.{Parts}
 use Rattle.graph_edits.specs.Edges.{Network}
-use Rattle.node_table.specs.Tables.{tables}
-use Rattle.node_table.specs.Checks.{HasRecords, HasLabels}
-use Rattle.node_table.proofs.LocalForms.LocalChecks.{records_check, labels_check}
+use Rattle.schemes.specs.Tables.{tables}
+use Rattle.schemes.specs.Checks.{HasRecords, HasLabels}
+use Rattle.schemes.proofs.LocalForms.LocalChecks.{records_check, labels_check}
 use Rattle.certificate.specs.Rows.{IsLocalAt}
 use Rattle.certificate.specs.Climbs.{HoldsFirst, HasLabelsAt}
 use Rattle.certificate.proofs.ClimbLemmas.{distances_first, shaped_first}

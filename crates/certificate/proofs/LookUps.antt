@@ -7,13 +7,13 @@ use Rattle.std.proofs.lemmas.Bool.{eqb-true, eq-eqb}
 use Rattle.std.proofs.lemmas.Bool.Decides.{nat_tests}
 use Rattle.std.proofs.lemmas.Option.{slice_get_past}
 use Rattle.std.proofs.lemmas.List.Elements.{All-head, All-tail}
-use Rattle.node_table.specs.declared.parts.Parts.{Parts}
-use Rattle.node_table.specs.Entry.{Entry}
-use Rattle.node_table.specs.declared.parts.Listed.{Listed}
+use Rattle.schemes.specs.declared.parts.Parts.{Parts}
+use Rattle.schemes.specs.Entry.{Entry}
+use Rattle.schemes.specs.declared.parts.Listed.{Listed}
 use Rattle.heavy_labels.specs.Label.{Label}
 use Rattle.graph_edits.specs.Edges.{Network}
-use Rattle.node_table.specs.Tables.{tables, entries_at, directory_at, first_entry, first_listed, roots_of}
-use Rattle.node_table.proofs.Basics.Searches.{IsPast, index_at, entry_found, key_at, rises, keys_length}
+use Rattle.schemes.specs.Tables.{tables, entries_at, directory_at, first_entry, first_listed, roots_of}
+use Rattle.schemes.proofs.Basics.Searches.{IsPast, index_at, entry_found, key_at, rises, keys_length}
 use Rattle.certificate.specs.Entries.{EachEntry}
 
 -- what a look-up finds has the root that was asked for, and what all entries have

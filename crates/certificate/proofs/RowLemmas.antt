@@ -5,16 +5,16 @@ use Rattle.std.proofs.lemmas.List.{drop_more}
 use Rattle.std.proofs.lemmas.Bool.Decides.{nat_tests}
 use Rattle.std.proofs.lemmas.Bool.{eq-eqb}
 use Rattle.heavy_labels.specs.Numbering.{Record}
-use Rattle.node_table.specs.declared.parts.Parts.{Parts}
-use Rattle.node_table.specs.Entry.{Entry}
+use Rattle.schemes.specs.declared.parts.Parts.{Parts}
+use Rattle.schemes.specs.Entry.{Entry}
 use Rattle.graph_edits.specs.Edges.{Network}
-use Rattle.node_table.specs.Ports.{neighbours}
-use Rattle.node_table.specs.Tables.{Tables, tables}
-use Rattle.node_table.specs.Checks.{IsShaped, parent_is, children}
-use Rattle.node_table.specs.Local.{record_at, record_or, span, widest_span, first_with, all_but, row_by, in_row, IsRow, IsHeavyOf, FitsBelow, HasLocalRecords}
-use Rattle.node_table.proofs.Serving.Exact.{Distances}
-use Rattle.node_table.proofs.LocalForms.LocalChecks.{children_near}
-use Rattle.node_table.proofs.LocalForms.ChildRows.{row_scan}
+use Rattle.schemes.specs.Ports.{neighbours}
+use Rattle.schemes.specs.Tables.{Tables, tables}
+use Rattle.schemes.specs.Checks.{IsShaped, parent_is, children}
+use Rattle.schemes.specs.Local.{record_at, record_or, span, widest_span, first_with, all_but, row_by, in_row, IsRow, IsHeavyOf, FitsBelow, HasLocalRecords}
+use Rattle.schemes.proofs.Serving.Exact.{Distances}
+use Rattle.schemes.proofs.LocalForms.LocalChecks.{children_near}
+use Rattle.schemes.proofs.LocalForms.ChildRows.{row_scan}
 use Rattle.certificate.specs.Rows.{children_among, by_span, widest_from, others, with_other, row_after, row_at, FitsFirst, FitsRow, FitsAt, IsLocalAt}
 use Rattle.certificate.proofs.LookUps.{looked_up, each_one}
 

@@ -5,11 +5,11 @@ use Rattle.std.specs.List.{All}
 use Rattle.std.specs.List.Sorted.{IsStrictlyIncreasing}
 use Rattle.std.proofs.lemmas.Bool.Decides.{nat_tests}
 use Rattle.graph_edits.specs.Edges.{Network, neighbours_of}
-use Rattle.node_table.specs.declared.parts.Parts.{Parts}
-use Rattle.node_table.specs.Entry.{Entry}
-use Rattle.node_table.specs.Checks.{IsShaped}
-use Rattle.node_table.specs.Tables.{Tables, entries_at, first_entry, roots_of}
-use Rattle.node_table.proofs.Basics.Searches.{index_at, index_none, entry_found, entry_missing, key_at, rises, keys_length}
+use Rattle.schemes.specs.declared.parts.Parts.{Parts}
+use Rattle.schemes.specs.Entry.{Entry}
+use Rattle.schemes.specs.Checks.{IsShaped}
+use Rattle.schemes.specs.Tables.{Tables, entries_at, first_entry, roots_of}
+use Rattle.schemes.proofs.Basics.Searches.{index_at, index_none, entry_found, entry_missing, key_at, rises, keys_length}
 use Rattle.certificate.specs.Entries.{AllAscend, AreBelow, IsPlaceFor, IsFramed, IsNodeFramed, IsClosedAt, IsClosedOver, IsTightAt, IsLater, HasTightParent}
 use Rattle.certificate.proofs.LookUps.{no_entries}
 

@@ -5,13 +5,13 @@ use Rattle.std.specs.Prelude.{Option, Some, None}
 use Rattle.std.proofs.lemmas.List.{drop_more, get_or_default}
 use Rattle.std.proofs.lemmas.Bool.{cases_eq}
 use Rattle.std.proofs.lemmas.List.Elements.{All-contains}
-use Rattle.node_table.specs.declared.parts.Parts.{Parts}
-use Rattle.node_table.specs.Entry.{Entry}
+use Rattle.schemes.specs.declared.parts.Parts.{Parts}
+use Rattle.schemes.specs.Entry.{Entry}
 use Rattle.graph_edits.specs.Edges.{Network, IsSound, neighbours_of, weight_in}
 use Rattle.graph_edits.specs.Laws.{Contains-neighbours_of}
-use Rattle.node_table.specs.Checks.{IsClosed, IsShaped, HasParents}
-use Rattle.node_table.specs.Tables.{Tables, tables}
-use Rattle.node_table.proofs.Basics.Options.{is_there, not_none, same_value}
+use Rattle.schemes.specs.Checks.{IsClosed, IsShaped, HasParents}
+use Rattle.schemes.specs.Tables.{Tables, tables}
+use Rattle.schemes.proofs.Basics.Options.{is_there, not_none, same_value}
 use Rattle.certificate.specs.Entries.{EachEntry, IsClosedAt, IsFramed, IsLater, IsNodeFramed, IsNodeShaped, IsTightAt, IsTightBy}
 use Rattle.certificate.specs.Rows.{IsLocalAt, wider, widest_from}
 use Rattle.certificate.specs.Swift.{IsRightOver, IsSumOver, IsSwept, IsSweptAt}

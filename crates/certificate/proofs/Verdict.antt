@@ -2,12 +2,12 @@
 use Rattle.std.proofs.Common.{◌≡◌, ◌+◌, ◌<◌, ◌≤◌, ◌==◌, ℕ, Bool, true, false, cond, sym, refl, ap, subst, ◌∙◌, arith, nat_lt}
 use Rattle.std.specs.Prelude.{Result, Ok, Err, ◌↔◌, IsTrue}
 use Rattle.std.proofs.lemmas.Bool.Decides.{nat_tests}
-use Rattle.node_table.specs.declared.parts.Parts.{Parts}
+use Rattle.schemes.specs.declared.parts.Parts.{Parts}
 use Rattle.graph_edits.specs.Edges.{Network, IsSound}
-use Rattle.node_table.specs.Checks.{Fault as Rule, k1, k2, k3, k4, k5, k6, k7, k8, Holds, number_of, IsChecked, IsFirstFault}
-use Rattle.node_table.specs.Tables.{tables}
-use Rattle.node_table.specs.Service.{Serves}
-use Rattle.node_table.proofs.Serving.CheckedLaw.{checked_serves}
+use Rattle.schemes.specs.Checks.{Fault as Rule, k1, k2, k3, k4, k5, k6, k7, k8, Holds, number_of, IsChecked, IsFirstFault}
+use Rattle.schemes.specs.Tables.{tables}
+use Rattle.schemes.specs.Service.{Serves}
+use Rattle.schemes.proofs.Serving.CheckedLaw.{checked_serves}
 use Rattle.certificate.specs.declared.fault.Fault.{Fault}
 use Rattle.certificate.specs.declared.fault.Fault.TheVariants.{Shape, Edges, Parents, Strict, Nearest, Records, Labels, Directories}
 use Rattle.certificate.specs.Faults.{rule_of, IsExact}

@@ -4,14 +4,14 @@ use denote.Ref.{Bor}
 use Rattle.std.specs.List.{All}
 use Rattle.heavy_labels.specs.Label.{Label}
 use Rattle.heavy_labels.specs.Numbering.{lights_at}
-use Rattle.node_table.specs.declared.parts.Parts.{Parts}
-use Rattle.node_table.specs.declared.parts.Listed.{Listed}
-use Rattle.distances.specs.declared.nearest.Near.{Near}
+use Rattle.schemes.specs.declared.parts.Parts.{Parts}
+use Rattle.schemes.specs.declared.parts.Listed.{Listed}
+use Rattle.landmarks.specs.declared.near.Near.{Near}
 use Rattle.graph_edits.specs.Edges.{Network, IsSound}
-use Rattle.node_table.specs.Tables.{Tables, tables, directory_at}
-use Rattle.node_table.specs.Checks.{Fault, Holds, number_of, distance_of, farthest}
-use Rattle.node_table.specs.Local.{lights_to, parent_of, record_at, IsLocalLabel}
-use Rattle.node_table.specs.Ports.{port_to}
+use Rattle.schemes.specs.Tables.{Tables, tables, directory_at}
+use Rattle.schemes.specs.Checks.{Fault, Holds, number_of, distance_of, farthest}
+use Rattle.schemes.specs.Local.{lights_to, parent_of, record_at, IsLocalLabel}
+use Rattle.schemes.specs.Ports.{port_to}
 
 -- the network is sound, and the first five rules hold
 unfoldable pub HoldsFirst : Network → Parts → Type 0

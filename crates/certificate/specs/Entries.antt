@@ -2,12 +2,12 @@
 use Rattle.std.specs.Prelude.{◌≡◌, ◌≢◌, ℕ, ◌+◌, ◌<◌, ◌≤◌, ◌⊎◌, ◌↔◌, true, false, Some, None, IsSome, MatchOption, List, [], length, slice_index}
 use Rattle.std.specs.List.{All}
 use Rattle.std.specs.List.Sorted.{IsStrictlyIncreasing}
-use Rattle.node_table.specs.declared.parts.Parts.{Parts}
-use Rattle.node_table.specs.Entry.{Entry}
-use Rattle.distances.specs.declared.nearest.Near.{Near}
+use Rattle.schemes.specs.declared.parts.Parts.{Parts}
+use Rattle.schemes.specs.Entry.{Entry}
+use Rattle.landmarks.specs.declared.near.Near.{Near}
 use Rattle.graph_edits.specs.Edges.{Network, weight_in, neighbours_of}
-use Rattle.node_table.specs.Ports.{neighbours}
-use Rattle.node_table.specs.Tables.{Tables, tables, entries_at, directory_at, ports_at, roots_of, nodes_of}
+use Rattle.schemes.specs.Ports.{neighbours}
+use Rattle.schemes.specs.Tables.{Tables, tables, entries_at, directory_at, ports_at, roots_of, nodes_of}
 
 -- each entry of each node
 abbrev pub EachEntry : Network → Parts → (ℕ → Entry → Type 0) → Type 0

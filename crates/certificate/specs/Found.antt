@@ -1,10 +1,10 @@
 -- What a look-up of an entry finds.
 use Rattle.std.specs.Prelude.{◌≡◌, ℕ, ◌≤◌, false, Some, MatchOption, Option}
 use denote.Ref.{Bor}
-use Rattle.distances.specs.declared.nearest.Near.{Near}
-use Rattle.node_table.specs.Entry.{Entry}
-use Rattle.node_table.specs.Checks.{parent_is}
-use Rattle.node_table.specs.Tables.{RefersTo, Tables}
+use Rattle.landmarks.specs.declared.near.Near.{Near}
+use Rattle.schemes.specs.Entry.{Entry}
+use Rattle.schemes.specs.Checks.{parent_is}
+use Rattle.schemes.specs.Tables.{RefersTo, Tables}
 
 -- it is the entry of y for the root, or nothing where y has none
 abbrev pub IsEntryOf : Tables → ℕ → ℕ → Option (Bor Entry) → Type 0

@@ -2,8 +2,8 @@
 use Rattle.std.specs.Prelude.{ℕ, ◌+◌, ◌*◌, ◌<◌, ◌≤◌}
 use Rattle.std.specs.List.{All}
 use Rattle.graph_edits.specs.Edges.{Network}
-use Rattle.node_table.specs.declared.parts.Parts.{Parts}
-use Rattle.node_table.specs.Tables.{tables, entries_at}
+use Rattle.schemes.specs.declared.parts.Parts.{Parts}
+use Rattle.schemes.specs.Tables.{tables, entries_at}
 use Rattle.certificate.specs.Climbs.{HasLabelsAt}
 use Rattle.certificate.specs.Entries.{HasDirectoryAt, IsNearestAt, IsStrictAt}
 use Rattle.certificate.specs.Swift.{IsSweptAt}

@@ -3,13 +3,13 @@ use Rattle.std.specs.Prelude.{◌≡◌, ◌↔◌, ℕ, ◌+◌, ◌==◌, nat_
 use Rattle.heavy_labels.specs.Numbering.{Record}
 use Rattle.heavy_labels.specs.Stepped.{record_of}
 use Rattle.std.specs.List.{All}
-use Rattle.node_table.specs.declared.parts.Parts.{Parts}
-use Rattle.node_table.specs.Entry.{Entry}
+use Rattle.schemes.specs.declared.parts.Parts.{Parts}
+use Rattle.schemes.specs.Entry.{Entry}
 use Rattle.graph_edits.specs.Edges.{Network}
-use Rattle.node_table.specs.Ports.{neighbours, filtered}
-use Rattle.node_table.specs.Tables.{Tables, tables, entries_at}
-use Rattle.node_table.specs.Checks.{parent_is, up_port}
-use Rattle.node_table.specs.Local.{record_at, span, IsRow, IsHeavyOf, FitsChild, FitsRoot}
+use Rattle.schemes.specs.Ports.{neighbours, filtered}
+use Rattle.schemes.specs.Tables.{Tables, tables, entries_at}
+use Rattle.schemes.specs.Checks.{parent_is, up_port}
+use Rattle.schemes.specs.Local.{record_at, span, IsRow, IsHeavyOf, FitsChild, FitsRoot}
 
 -- the children of x in the tree of r among some nodes
 abbrev pub children_among : Tables → ℕ → ℕ → List ℕ → List ℕ

@@ -2,11 +2,11 @@
 use Rattle.std.specs.Prelude.{◌≡◌, ℕ, ◌+◌, Option, Some, None}
 use Rattle.std.specs.List.{All}
 use Rattle.std.specs.Option.{unwrap_or}
-use Rattle.node_table.specs.declared.parts.Parts.{Parts}
-use Rattle.node_table.specs.Entry.{Entry}
+use Rattle.schemes.specs.declared.parts.Parts.{Parts}
+use Rattle.schemes.specs.Entry.{Entry}
 use Rattle.graph_edits.specs.Edges.{Network, neighbours_of, over_port}
-use Rattle.node_table.specs.Local.{record_at, span, FitsRoot}
-use Rattle.node_table.specs.Tables.{Tables, tables, entries_at}
+use Rattle.schemes.specs.Local.{record_at, span, FitsRoot}
+use Rattle.schemes.specs.Tables.{Tables, tables, entries_at}
 use Rattle.certificate.specs.Entries.{IsClosedOver, IsEntryShaped, IsLater}
 use Rattle.certificate.specs.Rows.{FitsAt}
 

@@ -4,9 +4,9 @@ ghost use Rattle.certificate.specs.Climbs.{HoldsFirst};
 ghost use Rattle.certificate.specs.Faults.{IsExact, rule_of};
 ghost use Rattle.certificate.specs.Ranges.{HoldOfAll};
 ghost use Rattle.certificate.specs.Rows.{IsLocalAt};
-ghost use Rattle.node_table.specs.Checks.{Holds, IsChecked, IsFirstFault, IsShaped, k1, k2, k3, k6};
-ghost use Rattle.node_table.specs.Service.{Serves};
-ghost use Rattle.node_table.specs.Tables.{tables};
+ghost use Rattle.schemes.specs.Checks.{Holds, IsChecked, IsFirstFault, IsShaped, k1, k2, k3, k6};
+ghost use Rattle.schemes.specs.Service.{Serves};
+ghost use Rattle.schemes.specs.Tables.{tables};
 
 use crate::directories::has_directories;
 use crate::edges::has_edges;
@@ -19,7 +19,7 @@ use crate::shape::is_shaped;
 use crate::strict::is_strict;
 use crate::swift::is_swiftly_sound;
 use graph_edits::Graph;
-use node_table::Scheme;
+use schemes::Scheme;
 
 /// Whether a scheme keeps Shape: what the swift pass took for right isn't tested again.
 fn keeps_shape(graph: &Graph, scheme: &Scheme, swift: bool) -> bool

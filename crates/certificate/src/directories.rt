@@ -3,12 +3,12 @@ ghost use Rattle.std.specs.Prelude.{◌≡◌, ◌<◌, ◌↔◌, ℕ, IsTrue, 
 ghost use Rattle.std.specs.List.{All};
 ghost use Rattle.std.specs.List.Sorted.{IsStrictlyIncreasing};
 ghost use Rattle.certificate.specs.Entries.{HasDirectoryAt, IsListedBack, IsListedRight};
-ghost use Rattle.node_table.specs.Tables.{directory_at, entries_at, nodes_of, or_none, tables};
-ghost use Rattle.node_table.specs.Checks.{Holds, IsShaped, k8};
+ghost use Rattle.schemes.specs.Tables.{directory_at, entries_at, nodes_of, or_none, tables};
+ghost use Rattle.schemes.specs.Checks.{Holds, IsShaped, k8};
 
 use graph_edits::Graph;
 use heavy_labels::Label;
-use node_table::{Entry, Listed, Scheme};
+use schemes::{Entry, Listed, Scheme};
 
 fn all_have_entries(scheme: &Scheme, u: u16) -> bool
     ensures { IsTrue result ↔ All (λ e. IsSome ((tables scheme.now).entry e.node u)) (directory_at scheme.now u) }

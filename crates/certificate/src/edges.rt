@@ -3,13 +3,13 @@ ghost use Rattle.std.specs.Prelude.{◌≡◌, ◌+◌, ◌<◌, ◌≤◌, ◌�
 ghost use Rattle.std.specs.List.{All};
 ghost use Rattle.certificate.specs.Entries.{AllAscend, EachEntry, IsClosedAt, IsClosedOver};
 ghost use Rattle.certificate.specs.Found.{HasNearWithin, IsEntryOf};
-ghost use Rattle.node_table.specs.Tables.{entries_at, tables};
-ghost use Rattle.node_table.specs.Checks.{Holds, IsShaped, k2};
+ghost use Rattle.schemes.specs.Tables.{entries_at, tables};
+ghost use Rattle.schemes.specs.Checks.{Holds, IsShaped, k2};
 
 use crate::pairs::{entry_at, place_from};
 use crate::sums::is_at_most;
 use graph_edits::Graph;
-use node_table::{Entry, Scheme};
+use schemes::{Entry, Scheme};
 
 /// Whether a node's nearest landmark is no farther than an edge past a distance.
 fn is_landmark_near(scheme: &Scheme, y: u16, distance: u64, weight: u32) -> bool

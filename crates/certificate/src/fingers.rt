@@ -4,10 +4,10 @@ ghost use Rattle.std.specs.Prelude.{◌≤◌, length};
 ghost use Rattle.std.specs.List.Sorted.{IsStrictlyIncreasing};
 ghost use Rattle.certificate.specs.Entries.{AllAscend, AreBelow};
 ghost use Rattle.certificate.specs.Found.{IsEntryOf};
-ghost use Rattle.node_table.specs.Tables.{roots_of, tables};
+ghost use Rattle.schemes.specs.Tables.{roots_of, tables};
 
 use crate::pairs::{entry_at, place_from};
-use node_table::{Entry, Scheme};
+use schemes::{Entry, Scheme};
 
 /// For how many of a node's ports a finger is kept. Behind the others, entries are searched by halving.
 const MOST_FINGERS: usize = 32;

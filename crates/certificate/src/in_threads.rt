@@ -7,9 +7,9 @@ ghost use Rattle.certificate.specs.Entries.{AllAscend, IsFramed, IsNodeFramed};
 ghost use Rattle.certificate.specs.Faults.{IsExact, rule_of};
 ghost use Rattle.certificate.specs.Ranges.{HasListsAt, HoldBetween, HoldInPart, HoldOfAll, IsSweptWhole};
 ghost use Rattle.graph_edits.specs.Edges.{IsSound};
-ghost use Rattle.node_table.specs.Checks.{Holds, IsChecked, IsFirstFault, k6};
-ghost use Rattle.node_table.specs.Service.{Serves};
-ghost use Rattle.node_table.specs.Tables.{tables};
+ghost use Rattle.schemes.specs.Checks.{Holds, IsChecked, IsFirstFault, k6};
+ghost use Rattle.schemes.specs.Service.{Serves};
+ghost use Rattle.schemes.specs.Tables.{tables};
 
 use crate::checks::check;
 use crate::directories::has_directory;
@@ -20,7 +20,7 @@ use crate::shape::{has_places, is_node_framed};
 use crate::strict::are_strict;
 use crate::swift::is_swept_at;
 use graph_edits::Graph;
-use node_table::Scheme;
+use schemes::Scheme;
 use std::thread;
 use std::thread::Threads;
 

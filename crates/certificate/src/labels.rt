@@ -5,14 +5,14 @@ ghost use Rattle.std.specs.List.{All};
 ghost use Rattle.certificate.specs.Climbs.{AreAbove, AreLinked, HasLabelsAt, HasLights, HoldsFirst, IsHomeRight, IsLabelRight, IsLinked};
 ghost use Rattle.heavy_labels.specs.Label.{Label};
 ghost use Rattle.heavy_labels.specs.Numbering.{lights_at};
-ghost use Rattle.node_table.specs.Checks.{Holds, k6, k7};
-ghost use Rattle.node_table.specs.Local.{IsLocalLabel, parent_of, record_at};
-ghost use Rattle.node_table.specs.Ports.{port_to};
-ghost use Rattle.node_table.specs.Tables.{directory_at, or_none, tables};
+ghost use Rattle.schemes.specs.Checks.{Holds, k6, k7};
+ghost use Rattle.schemes.specs.Local.{IsLocalLabel, parent_of, record_at};
+ghost use Rattle.schemes.specs.Ports.{port_to};
+ghost use Rattle.schemes.specs.Tables.{directory_at, or_none, tables};
 
 use graph_edits::Graph;
 use heavy_labels::Label;
-use node_table::{Entry, Listed, Scheme, port};
+use schemes::{Entry, Listed, Scheme, port};
 
 /// The parent and the light depth that a node's entry for a root names.
 fn rung(scheme: &Scheme, root: u16, x: u16) -> (Option<u16>, u8)

@@ -2,11 +2,11 @@
 ghost use Rattle.std.specs.Prelude.{◌≡◌, ◌<◌, ◌↔◌, ℕ, IsTrue, false};
 ghost use Rattle.std.specs.List.{All};
 ghost use Rattle.certificate.specs.Entries.{IsNearestAt, IsNoNearer, IsThere};
-ghost use Rattle.node_table.specs.Tables.{entries_at, tables};
-ghost use Rattle.node_table.specs.Checks.{Holds, IsShaped, k5};
+ghost use Rattle.schemes.specs.Tables.{entries_at, tables};
+ghost use Rattle.schemes.specs.Checks.{Holds, IsShaped, k5};
 
 use graph_edits::Graph;
-use node_table::{Entry, Near, Scheme};
+use schemes::{Entry, Near, Scheme};
 
 #[tactic(auto, unfolding(crate::specs::Entries::IsThere))]
 fn is_there(scheme: &Scheme, x: u16, near: Near) -> bool

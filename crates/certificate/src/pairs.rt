@@ -2,9 +2,9 @@
 ghost use Rattle.std.specs.Prelude.{◌≡◌, ◌≤◌, None, Some, MatchOption, length};
 ghost use Rattle.std.specs.List.Sorted.{IsStrictlyIncreasing};
 ghost use Rattle.certificate.specs.Entries.{AreBelow, IsPlaceFor};
-ghost use Rattle.node_table.specs.Tables.{first_entry, roots_of};
+ghost use Rattle.schemes.specs.Tables.{first_entry, roots_of};
 
-use node_table::Entry;
+use schemes::Entry;
 
 /// The first place of a list whose root isn't below a root, looked for from a place on before which all are.
 pub(crate) fn place_from(there: &[Entry], from: usize, root: u16) -> usize

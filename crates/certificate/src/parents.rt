@@ -3,13 +3,13 @@ ghost use Rattle.std.specs.Prelude.{◌≡◌, ◌<◌, ◌↔◌, ℕ, IsTrue};
 ghost use Rattle.std.specs.List.{All};
 ghost use Rattle.certificate.specs.Entries.{AllAscend, EachEntry, HasTightParent, IsLater, IsNoEarlier, IsTightAt, IsTightBy};
 ghost use Rattle.certificate.specs.Found.{IsEntryOf};
-ghost use Rattle.node_table.specs.Tables.{Tables, entries_at, tables};
-ghost use Rattle.node_table.specs.Checks.{Holds, IsShaped, k3};
+ghost use Rattle.schemes.specs.Tables.{Tables, entries_at, tables};
+ghost use Rattle.schemes.specs.Checks.{Holds, IsShaped, k3};
 
 use crate::pairs::{entry_at, place_from};
 use crate::sums::is_sum;
 use graph_edits::Graph;
-use node_table::{Entry, Scheme};
+use schemes::{Entry, Scheme};
 
 #[tactic(auto, unfolding(crate::specs::Entries::IsTightBy))]
 fn is_tight_by(graph: &Graph, scheme: &Scheme, x: u16, entry: &Entry, y: u16) -> bool

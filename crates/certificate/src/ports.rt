@@ -1,9 +1,9 @@
 // Ports of the graph.
 ghost use Rattle.std.specs.Prelude.{◌≡◌, Some};
-ghost use Rattle.node_table.specs.Checks.{down_port, up_port};
+ghost use Rattle.schemes.specs.Checks.{down_port, up_port};
 
 use graph_edits::Graph;
-use node_table::{Entry, port};
+use schemes::{Entry, port};
 
 /// The port of a node to the parent that its entry names.
 pub(crate) fn port_up(graph: &Graph, x: u16, entry: &Entry) -> Option<u16>

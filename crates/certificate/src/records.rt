@@ -8,17 +8,17 @@ ghost use Rattle.certificate.specs.Found.{IsChildOf, IsEntryOf};
 ghost use Rattle.certificate.specs.Swift.{HasSpan};
 ghost use Rattle.heavy_labels.specs.Stepped.{record_of};
 ghost use Rattle.certificate.specs.Climbs.{HoldsFirst};
-ghost use Rattle.node_table.specs.Checks.{Holds, k6, parent_is, up_port};
-ghost use Rattle.node_table.specs.Local.{FitsChild, FitsRoot, IsHeavyOf, IsRow, record_at, span as span_of};
-ghost use Rattle.node_table.specs.Ports.{neighbours};
-ghost use Rattle.node_table.specs.Tables.{Tables, entries_at, tables};
+ghost use Rattle.schemes.specs.Checks.{Holds, k6, parent_is, up_port};
+ghost use Rattle.schemes.specs.Local.{FitsChild, FitsRoot, IsHeavyOf, IsRow, record_at, span as span_of};
+ghost use Rattle.schemes.specs.Ports.{neighbours};
+ghost use Rattle.schemes.specs.Tables.{Tables, entries_at, tables};
 ghost use Rattle.graph_edits.specs.Edges.{Network};
 
 use crate::fingers::Fingers;
 use crate::ports::{port_down, port_up};
 use graph_edits::Graph;
 use heavy_labels::Record;
-use node_table::{Entry, Scheme};
+use schemes::{Entry, Scheme};
 
 /// The entry of y for a root, if y is a child of x there.
 pub(crate) fn child_of<'a>(x: u16, behind: Option<&'a Entry>) -> Option<&'a Entry>

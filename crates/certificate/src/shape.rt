@@ -4,11 +4,11 @@ ghost use Rattle.std.specs.List.{All};
 ghost use Rattle.std.specs.List.Sorted.{IsStrictlyIncreasing};
 ghost use Rattle.certificate.specs.Entries.{HasOwn, HasParentAt, HasPlaces, IsEntryShaped, IsFramed, IsNodeFramed, IsNodeShaped};
 ghost use Rattle.graph_edits.specs.Edges.{IsSound};
-ghost use Rattle.node_table.specs.Checks.{Holds, k1};
-ghost use Rattle.node_table.specs.Tables.{entries_at, roots_of, tables};
+ghost use Rattle.schemes.specs.Checks.{Holds, k1};
+ghost use Rattle.schemes.specs.Tables.{entries_at, roots_of, tables};
 
 use graph_edits::Graph;
-use node_table::{Entry, Scheme};
+use schemes::{Entry, Scheme};
 
 pub(crate) fn has_places(scheme: &Scheme, nodes: u16) -> bool
     ensures { IsTrue result ↔ HasPlaces nodes scheme.now }

@@ -2,11 +2,11 @@
 ghost use Rattle.std.specs.Prelude.{◌≡◌, ◌<◌, ◌↔◌, ℕ, IsTrue};
 ghost use Rattle.std.specs.List.{All};
 ghost use Rattle.certificate.specs.Entries.{EachEntry, IsStrictAt};
-ghost use Rattle.node_table.specs.Tables.{entries_at, tables};
-ghost use Rattle.node_table.specs.Checks.{Holds, IsShaped, k4};
+ghost use Rattle.schemes.specs.Tables.{entries_at, tables};
+ghost use Rattle.schemes.specs.Checks.{Holds, IsShaped, k4};
 
 use graph_edits::Graph;
-use node_table::{Entry, Scheme};
+use schemes::{Entry, Scheme};
 
 fn is_strict_at(scheme: &Scheme, x: u16, entry: &Entry) -> bool
     ensures { IsTrue result ↔ IsStrictAt (tables scheme.now) x entry.now }

@@ -9,8 +9,8 @@ ghost use Rattle.certificate.specs.Ranges.{HoldOfAll};
 ghost use Rattle.certificate.specs.Swift.{HasSpan, IsRightOver, IsSumOver, IsSwept, IsSweptAt, named_over};
 ghost use Rattle.graph_edits.specs.Edges.{IsSound, Network, neighbours_of, weight_in};
 ghost use Rattle.heavy_labels.specs.Stepped.{record_of};
-ghost use Rattle.node_table.specs.Checks.{Holds, k1, k2, k3, parent_is};
-ghost use Rattle.node_table.specs.Tables.{Tables, tables};
+ghost use Rattle.schemes.specs.Checks.{Holds, k1, k2, k3, parent_is};
+ghost use Rattle.schemes.specs.Tables.{Tables, tables};
 
 use crate::edges::is_closed_over;
 use crate::fingers::Fingers;
@@ -19,7 +19,7 @@ use crate::records::{child_of, fits_first, fits_leaf, fits_root, number_after, w
 use crate::shape::is_framed;
 use crate::sums::is_sum;
 use graph_edits::Graph;
-use node_table::{Entry, Scheme};
+use schemes::{Entry, Scheme};
 
 /// Whether an edge gives an entry's distance, if it leads to the entry's parent. Behind the edge this entry stands for the
 /// same root, if there is one.

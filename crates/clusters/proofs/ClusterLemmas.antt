@@ -10,7 +10,7 @@ use Rattle.distances.specs.Search.{is_below, number_at, AreGentle}
 use Rattle.distances.specs.Reach.{IsTree, IsParent}
 use Rattle.distances.specs.Nearest.{AreNearest, IsNearestOf, near_limit}
 use Rattle.distances.specs.Laws.{limit_at, gentle_limits, open_limits, tree_limits}
-use Rattle.distances.specs.declared.nearest.Near.{Near}
+use Rattle.landmarks.specs.declared.near.Near.{Near}
 use Rattle.distances.specs.declared.reach.Reached.{Reached}
 use Rattle.clusters.specs.Cluster.{IsNearer, IsCluster, HasParents}
 

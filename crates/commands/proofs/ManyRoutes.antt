@@ -1,8 +1,8 @@
 -- Routes, one behind the other.
 use Rattle.std.proofs.Common.{◌<◌, ℕ, Bool, List, [], ◌∷◌, ◌++◌, refl, subst, Ok, Err}
 use Rattle.graph_edits.specs.Edges.{Network, IsSound}
-use Rattle.node_table.specs.Trails.{IsGoodTrail}
-use Rattle.node_table.specs.declared.trail.Trail.{Trail}
+use Rattle.schemes.specs.Trails.{IsGoodTrail}
+use Rattle.schemes.specs.declared.trail.Trail.{Trail}
 use Rattle.scheme_builds.specs.declared.queries.Route.{Route}
 use Rattle.scheme_builds.specs.declared.queries.Route.TheVariants.{Along, Unreachable}
 use Rattle.single_route.specs.Answers.{IsAnswer}

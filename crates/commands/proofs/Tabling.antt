@@ -6,7 +6,7 @@ use Rattle.clap.specs.Walk.{Text}
 use Rattle.disk_trait.specs.declared.disk.Disk.{Ghosts}
 use Rattle.disk_trait.specs.Disk.{DiskView}
 use Rattle.graph_edits.specs.Edges.{Network}
-use Rattle.node_table.specs.declared.parts.Parts.{Parts}
+use Rattle.schemes.specs.declared.parts.Parts.{Parts}
 use Rattle.scheme_builds.specs.Schemes.{IsSchemeOf}
 use Rattle.written_values.specs.Words.{AreWords, IsWithin}
 use Rattle.written_values.specs.declared.words.LandmarkWords.{LandmarkWords}

@@ -7,7 +7,7 @@ use Rattle.graph_edits.specs.declared.edits.Op.{Op}
 use Rattle.layout_2.specs.Layout.{device_len}
 use Rattle.layout_2.specs.Standing.{KeepsThrough, StandsFor}
 use Rattle.migrate.specs.Moved.{MovesWholly}
-use Rattle.node_table.specs.declared.parts.Parts.{Parts}
+use Rattle.schemes.specs.declared.parts.Parts.{Parts}
 use Rattle.written_values.specs.Words.{IsWithin}
 use Rattle.written_values.specs.declared.line.ScriptLine.{ScriptLine}
 use Rattle.written_values.specs.declared.words.LandmarkWords.{LandmarkWords}

@@ -11,7 +11,7 @@ use Rattle.command_output.specs.declared.ended.Ended.{Ended}
 use Rattle.command_output.specs.declared.ended.Ended.TheVariants.{Done, Refused}
 use Rattle.command_output.specs.declared.fault.Fault.{Fault}
 use Rattle.command_output.specs.declared.fault.Fault.TheVariants as told
-use Rattle.node_table.specs.declared.parts.Parts.{Parts}
+use Rattle.schemes.specs.declared.parts.Parts.{Parts}
 use Rattle.table_files.specs.Files.{Put}
 use Rattle.table_files.specs.Tables.{AnswersTables, EndsPutting}
 use Rattle.written_values.specs.declared.words.LandmarkWords.{LandmarkWords}

@@ -7,12 +7,12 @@ use Rattle.written_values.specs.Words.{AreWords, IsWithin}
 use Rattle.graph_edits.specs.Edges.{Network}
 use Rattle.graph_edits.specs.Walks.{IsWalk}
 use Rattle.landmarks.specs.Chosen.{IsBound, chosen}
-use Rattle.node_table.specs.Checks.{IsChecked}
-use Rattle.node_table.specs.Service.{address}
-use Rattle.node_table.specs.Tables.{tables}
-use Rattle.node_table.specs.Trails.{IsTrailOf}
-use Rattle.node_table.specs.declared.parts.Parts.{Parts}
-use Rattle.node_table.specs.declared.trail.Trail.{Trail}
+use Rattle.schemes.specs.Checks.{IsChecked}
+use Rattle.schemes.specs.Service.{address}
+use Rattle.schemes.specs.Tables.{tables}
+use Rattle.schemes.specs.Trails.{IsTrailOf}
+use Rattle.schemes.specs.declared.parts.Parts.{Parts}
+use Rattle.schemes.specs.declared.trail.Trail.{Trail}
 use Rattle.scheme_builds.specs.declared.queries.Checked.{Checked}
 use Rattle.scheme_builds.specs.declared.queries.Route.{Route}
 use Rattle.scheme_builds.specs.declared.queries.Route.TheVariants.{Along, Unreachable}

@@ -7,9 +7,9 @@ use Rattle.std.proofs.Math.Seq.{take-length}
 use Rattle.layout_2.specs.State.{State, AreInTurn, asked}
 use Rattle.requests.specs.Tickets.{worn_limit, Rises}
 use Rattle.requests.specs.declared.request.Request.{Request}
-use Rattle.node_table.specs.declared.parts.Parts.{Parts}
-use Rattle.node_table.specs.Tables.{tables}
-use Rattle.node_table.specs.Service.{Serves}
+use Rattle.schemes.specs.declared.parts.Parts.{Parts}
+use Rattle.schemes.specs.Tables.{tables}
+use Rattle.schemes.specs.Service.{Serves}
 use Rattle.generations.specs.declared.posting.Notice.{Notice}
 use Rattle.generations.specs.declared.posting.Notice.TheVariants.{Marked, Failed, Built}
 use Rattle.generations.specs.Beginnings.{Opening}

@@ -3,9 +3,9 @@ use Rattle.std.proofs.Common.{◌≡◌, ◌≢◌, ◌≤◌, Some, ℕ, Bool, 
 use Rattle.layout_2.specs.State.{State, asked}
 use Rattle.requests.specs.Tickets.{Rises}
 use Rattle.requests.specs.declared.request.Request.{Request}
-use Rattle.node_table.specs.declared.parts.Parts.{Parts}
-use Rattle.node_table.specs.Tables.{tables}
-use Rattle.node_table.specs.Service.{Serves}
+use Rattle.schemes.specs.declared.parts.Parts.{Parts}
+use Rattle.schemes.specs.Tables.{tables}
+use Rattle.schemes.specs.Service.{Serves}
 use Rattle.generations.specs.declared.posting.Mark.{Mark}
 use Rattle.generations.specs.declared.posting.Posting.{Posting}
 use Rattle.generations.specs.declared.posting.Notice.{Notice}

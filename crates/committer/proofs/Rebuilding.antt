@@ -6,9 +6,9 @@ use Rattle.layout_2.specs.State.{State}
 use Rattle.requests.specs.declared.request.Request.{Request}
 use Rattle.graph_edits.specs.Edges.{Network}
 use Rattle.checkpoint.specs.StoreWords.{state_of}
-use Rattle.node_table.specs.declared.parts.Parts.{Parts}
-use Rattle.node_table.specs.Tables.{tables}
-use Rattle.node_table.specs.Service.{Serves}
+use Rattle.schemes.specs.declared.parts.Parts.{Parts}
+use Rattle.schemes.specs.Tables.{tables}
+use Rattle.schemes.specs.Service.{Serves}
 use Rattle.generations.specs.declared.posting.Notice.{Notice}
 use Rattle.generations.specs.declared.posting.Notice.TheVariants.{Built}
 use Rattle.generations.specs.Beginnings.{Opening}

@@ -3,9 +3,9 @@ use Rattle.std.specs.Prelude.{ℕ, ◌≡◌, ◌+◌, ◌≤◌, Bool, List, le
 use Rattle.requests.specs.declared.request.Request.{Request}
 use Rattle.layout_2.specs.State.{State}
 use Rattle.checkpoint.specs.StoreWords.{state_of, is_down}
-use Rattle.node_table.specs.declared.parts.Parts.{Parts}
-use Rattle.node_table.specs.Tables.{tables}
-use Rattle.node_table.specs.Service.{Serves}
+use Rattle.schemes.specs.declared.parts.Parts.{Parts}
+use Rattle.schemes.specs.Tables.{tables}
+use Rattle.schemes.specs.Service.{Serves}
 use Rattle.group_commit.specs.Settling.{settle}
 use Rattle.settled_lists.specs.declared.builds.Builds.{Builds}
 use Rattle.settled_lists.specs.declared.builds.Builds.TheVariants.{Beside}

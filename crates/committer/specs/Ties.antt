@@ -2,9 +2,9 @@
 use Rattle.std.specs.Prelude.{ℕ, ◌≡◌, ◌+◌, ◌≤◌, ◌++◌, Bool, List, length, map, fold, Option, Some}
 use Rattle.std.specs.Option.{option_map}
 use Rattle.layout_2.specs.State.{State, asked}
-use Rattle.node_table.specs.declared.parts.Parts.{Parts}
-use Rattle.node_table.specs.Tables.{tables}
-use Rattle.node_table.specs.Service.{Serves}
+use Rattle.schemes.specs.declared.parts.Parts.{Parts}
+use Rattle.schemes.specs.Tables.{tables}
+use Rattle.schemes.specs.Service.{Serves}
 use Rattle.requests.specs.Tickets.{Rises}
 use Rattle.requests.specs.declared.request.Request.{Request}
 use Rattle.generations.specs.declared.posting.Notice.{Notice}

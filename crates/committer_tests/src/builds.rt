@@ -6,7 +6,7 @@ use committer::RebuildRefused;
 use disk_trait::Plan;
 use forwarders::{Forwarder, Refused};
 use linked_list_allocator::LocalHeap;
-use node_table::{Move, Packet};
+use schemes::{Move, Packet};
 
 /// The words of a rebuild, whether its heap is the large one, the answer, and the shelf.
 type Rebuild = ([u64; 5], bool, Result<u64, RebuildRefused>, Shelf);

@@ -15,7 +15,7 @@ use Rattle.distances.specs.Search.{flag_at, PrecedesAll, IsAscending, EachSettle
 use Rattle.distances.specs.Table.{IsTable, IsListing}
 use Rattle.distances.specs.Nearest.{IsNearestOf, IsNearBy, IsLeastOver, IsTightNear, near_at, landmark_over, lesser}
 use Rattle.distances.specs.Laws.{last_edge}
-use Rattle.distances.specs.declared.nearest.Near.{Near}
+use Rattle.landmarks.specs.declared.near.Near.{Near}
 use Rattle.distances.specs.declared.search.Settled.{Settled}
 use Rattle.distances.proofs.Turns.{neighbour_at}
 use Rattle.distances.proofs.Tight.{tight_from, tight_exists}

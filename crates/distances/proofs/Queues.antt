@@ -13,7 +13,7 @@ use Rattle.graph_edits.specs.Edges.{Network, neighbours_of, weight_in, below, mo
 use Rattle.std.specs.Option.{option_map}
 use Rattle.distances.specs.declared.search.Settled.{Settled}
 use Rattle.distances.specs.Search.{is_below, is_better, offered, flag_at, number_at, first_number, degrees, HasNode}
-use Rattle.distances.specs.Waiting.{Entry, nearest_first, waiting_key, IsQueue, IsJoined, IsTracked, IsClean, Waits}
+use Rattle.distances.specs.Waiting.{Entry, nearest_first, waiting_key, IsQueue, IsJoined, IsTracked, Waits}
 use Rattle.graph_edits.specs.Edges.{degree_of}
 use Rattle.distances.proofs.Progress.{IsNext}
 use Rattle.distances.proofs.Turns.{number_set, split_and, first_at, flag_set_same, flag_set_other}
@@ -358,26 +358,6 @@ last_listed n before after s e h =
 
 pub first_entry : (n : ℕ) (before after : List Entry) (x : Entry) → IsPermutation before (x ∷ after) → All (λ q. q.0.node < n) before → x.0.node < n
 first_entry n before after x moved h = All-head (λ q. q.0.node < n) x after (All-permutation (λ q. q.0.node < n) before (x ∷ after) moved h)
-
--- where nothing is left, the lists are clean
-pub tracked_none : (n : ℕ) (numbers : List (Option ℕ)) (flags : List Bool) (order : List Settled) (waiting : List Entry) → length flags ≡ length numbers → order ≡ [] → waiting ≡ [] → IsTracked n (number_at numbers) (flag_at flags) order waiting
-    → IsClean numbers flags order waiting
-tracked_none n numbers flags order waiting lengths none empty h = record {
-  lengths = lengths;
-  none_numbered = λ y. elim (number_at numbers y) as (λ o. number_at numbers y ≡ o → number_at numbers y ≡ None) [
-    | None ↦ λ is. is
-    | Some e ↦ λ is. absurd (elim (h.numbered y e is) [ inl l ↦ subst (HasNode y) none l | inr w ↦ no_entry (subst (λ l. Contains l w.0) empty w.1.0) ])
-  ] refl;
-  none_flagged = λ y. elim (flag_at flags y) as (λ b. flag_at flags y ≡ b → flag_at flags y ≡ false) [
-    | true ↦ λ t. absurd (subst (HasNode y) none (h.flagged y t))
-    | false ↦ λ t. t
-  ] refl;
-  none_listed = none;
-  none_waits = empty;
-}
-  where
-    no_entry : {q : Entry} → Contains [] q → ⊥
-    no_entry (k, lt, e) = absurd (omega (arith, lt))
 
 -- an empty queue, where nothing has a number
 pub queue_empty : (n : ℕ) (number : ℕ → Option ℕ) (done : ℕ → Bool) (waiting : List Entry) → waiting ≡ [] → ((y : ℕ) → number y ≡ None) → IsQueue n number done waiting

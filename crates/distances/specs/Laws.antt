@@ -11,7 +11,7 @@ use Rattle.distances.specs.Search.{is_below, number_at, AreGentle}
 use Rattle.distances.specs.Reach.{IsTree}
 use Rattle.distances.specs.Nearest.{IsNearestOf, near_limit}
 use Rattle.distances.specs.declared.reach.Reached.{Reached}
-use Rattle.distances.specs.declared.nearest.Near.{Near}
+use Rattle.landmarks.specs.declared.near.Near.{Near}
 
 -- ---- walks
 

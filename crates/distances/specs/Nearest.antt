@@ -1,16 +1,25 @@
 -- The nearest landmark of each node.
-use Rattle.std.specs.Prelude.{◌≡◌, ℕ, ◌+◌, ◌≤◌, ◌==◌, Bool, true, false, cond, nat_lt, List, Option, Some, None, slice_index_or}
+use Rattle.std.specs.Prelude.{◌≡◌, ℕ, ◌+◌, ◌≤◌, ◌==◌, Bool, true, false, cond, nat_lt, List, Option, Some, None, length, slice_index_or}
 use Rattle.std.specs.Option.{option_map}
-use Rattle.graph_edits.specs.Edges.{EdgeMap, weight_between}
+use Rattle.graph_edits.specs.Edges.{EdgeMap, Network, weight_between}
 use Rattle.graph_edits.specs.Walks.{IsReached, IsLeast}
 use Rattle.landmarks.specs.Chosen.{IsLandmark}
-use Rattle.distances.specs.declared.nearest.Near.{Near}
+use Rattle.landmarks.specs.declared.near.Near.{Near}
 
 -- of the nodes that hold a flag, the nearest to v, the smaller one where two are as near;  none where no walk comes from one
 abbrev pub IsNearestOf : EdgeMap → List Bool → ℕ → Option Near → Type 0
 IsNearestOf m flags v None = IsReached m (IsLandmark flags) v → ⊥
 IsNearestOf m flags v (Some n) = IsLeast m (IsLandmark flags) v n.distance × IsLandmark flags n.landmark × IsLeast m (λ s. s ≡ n.landmark) v n.distance
     × ((a : ℕ) → IsLandmark flags a → IsLeast m (λ s. s ≡ a) v n.distance → n.landmark ≤ a)
+
+-- the nearest landmark of each node is known
+pub record KnowsNearest (m : Network) (flags : List Bool) (list : List (Option Near)) : Type 0 where
+  -- each node has a flag
+  pub flagged : length flags ≡ m.nodes
+  -- and a place in the list
+  pub listed : length list ≡ m.nodes
+  -- where its nearest landmark stands, if a landmark reaches it
+  pub nearest : (v : ℕ) → IsNearestOf m.edges flags v (slice_index_or list v None)
 
 -- what contracts see of the nearest landmarks: that of each node, and how many entries the search popped
 pub record NearestAll : Type 0 where

@@ -4,6 +4,8 @@ use Rattle.std.specs.Ordering.{nat_cmp}
 use Rattle.std.specs.declared.cmp.Ordering.{Ordering}
 use Rattle.std.specs.declared.cmp.Reverse.{Reverse}
 use Rattle.std.specs.List.{All, Contains}
+use Rattle.std.specs.BinaryHeap.{heap_items}
+use Rattle.distances.specs.declared.search.Search.{Search}
 use Rattle.distances.specs.declared.search.Settled.{Settled}
 use Rattle.distances.specs.Search.{HasNode, number_at, flag_at}
 
@@ -40,10 +42,16 @@ pub record IsTracked (n : ℕ) (number : ℕ → Option ℕ) (done : ℕ → Boo
   pub listed : All (λ s. s.node < n) order
   pub entries : All (λ q. q.0.node < n) waiting
 
--- no search has left anything: no number, no flag, no node in the order and none that waits
-pub record IsClean (numbers : List (Option ℕ)) (flags : List Bool) (order : List Settled) (waiting : List Entry) : Type 0 where
-  pub lengths : length flags ≡ length numbers
-  pub none_numbered : (y : ℕ) → number_at numbers y ≡ None
-  pub none_flagged : (y : ℕ) → flag_at flags y ≡ false
-  pub none_listed : order ≡ []
-  pub none_waits : waiting ≡ []
+-- a search in a graph of n nodes: each of its lists has a place for each node
+pub record HasNodes (n : ℕ) (search : Search) : Type 0 where
+  pub tentative : length search.tentative.items ≡ n
+  pub settled : length search.settled.items ≡ n
+  pub arrivals : length search.arrivals.items ≡ n
+
+-- a search that has left nothing: no number, no flag, no node in the order and none that waits
+pub record IsClean (search : Search) : Type 0 where
+  pub places : HasNodes (length search.tentative.items) search
+  pub none_numbered : (y : ℕ) → number_at search.tentative.items y ≡ None
+  pub none_flagged : (y : ℕ) → flag_at search.settled.items y ≡ false
+  pub none_listed : search.order.items ≡ []
+  pub none_waits : heap_items search.waiting ≡ []

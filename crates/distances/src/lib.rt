@@ -33,8 +33,9 @@ mod search;
 mod waiting;
 mod workspace;
 
+pub use landmarks::Near;
 pub use linked::Linked;
-pub use nearest::{Near, Nearest, from_landmarks};
+pub use nearest::{Nearest, from_landmarks};
 pub use reach::{Reach, Reached, from_root, tree_within};
 pub use search::Settled;
 pub use workspace::Workspace;

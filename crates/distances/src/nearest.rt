@@ -8,18 +8,11 @@ ghost use Rattle.distances.specs.Search.{number_at, flag_at, IsAscending, degree
 ghost use Rattle.distances.specs.Table.{IsTable, IsListing};
 ghost use Rattle.distances.specs.Nearest.{IsNearestOf, IsNearBy, IsLeastOver, near_at, landmark_over, lesser};
 
-use crate::search::{Settled, first_numbers, first_waiting, settle_all};
+use crate::search::{Search, Settled, first_numbers, first_waiting, settle_all};
 use graph_edits::Graph;
-use landmarks::Landmarks;
+use landmarks::{Landmarks, Near};
 use std::alloc::{AllocError, Global};
 use std::marker::Model;
-
-/// The nearest landmark of a node, the smallest-numbered where several are as near, and its distance.
-#[derive(Clone, Copy, Debug, PartialEq, Eq)]
-pub struct Near {
-    pub landmark: u16,
-    pub distance: u64,
-}
 
 /// For each node its nearest landmark, or none where it reaches no landmark.
 #[derive(Drop)]
@@ -97,21 +90,21 @@ pub fn from_landmarks(
         nearest.pops ≤ count_by (λ flag. flag) landmarks.now + 2 * len graph.now.edges) }
 {
     let flags = landmarks.flags();
-    let mut numbers = first_numbers(alloc, flags)?;
-    let mut settled = vec![in alloc; false; graph.nodes() as usize]?;
-    let mut arrivals = vec![in alloc; None; graph.nodes() as usize]?;
-    let mut waiting = first_waiting(alloc, flags)?;
-    let mut order = Vec::with_capacity(alloc, graph.nodes() as usize)?;
-    let pops = settle_all(
+    let mut search = Search {
+        tentative: first_numbers(alloc, flags)?,
+        settled: vec![in alloc; false; graph.nodes() as usize]?,
+        arrivals: vec![in alloc; None; graph.nodes() as usize]?,
+        waiting: first_waiting(alloc, flags)?,
+        order: Vec::with_capacity(alloc, graph.nodes() as usize)?,
+    };
+    let pops = settle_all(graph, &[], &mut search)?;
+    let of = nearest_each(
+        alloc,
         graph,
-        &[],
-        &mut numbers,
-        &mut settled,
-        &mut arrivals,
-        &mut waiting,
-        &mut order,
+        flags,
+        search.order.as_slice(),
+        search.tentative.as_slice(),
     )?;
-    let of = nearest_each(alloc, graph, flags, &order, &numbers)?;
     let distances = distances_of(alloc, &of)?;
     Ok(Nearest {
         of,

@@ -6,7 +6,7 @@ ghost use Rattle.std.specs.FinMap.{len};
 ghost use Rattle.distances.specs.Search.{is_below, is_better, offered, number_at, flag_at, first_number, IsAtZero, AreGentle, IsSearched, IsRelaxed, degrees};
 ghost use Rattle.distances.specs.Table.{IsTable, IsListing};
 ghost use Rattle.distances.specs.Arrivals.{arrival_at, arrived, is_taken as taken, is_tied as tied, is_smaller as smaller, is_nearer as nearer, IsArriving, AreArrivals};
-ghost use Rattle.distances.specs.Waiting.{nearest_first, IsQueue, IsJoined, IsTracked};
+ghost use Rattle.distances.specs.Waiting.{nearest_first, HasNodes, IsQueue, IsJoined, IsTracked};
 ghost use Rattle.graph_edits.specs.Edges.{degree_of};
 
 use crate::waiting::Waiting;
@@ -29,6 +29,21 @@ pub struct Arrival {
     pub down: u16,
 }
 
+/// A search: what it has found so far, and what waits.
+#[derive(Drop)]
+pub struct Search {
+    /// The least distance that each node was offered so far.
+    pub tentative: Vec<Option<u64>>,
+    /// Whether each node is settled.
+    pub settled: Vec<bool>,
+    /// The edge over which each node was reached.
+    pub arrivals: Vec<Option<Arrival>>,
+    /// The nodes that wait.
+    pub waiting: BinaryHeap<Reverse<Waiting>>,
+    /// The settled nodes, in the order in which they were settled.
+    pub order: Vec<Settled>,
+}
+
 /// Settles the nodes whose distance from the sources is below their limit, and lists them in order. The sources are the
 /// nodes that stand at distance 0 when the search begins. A node without a limit may lie at any distance. Answers how many
 /// entries were popped. For each node it notes the edge over which the node was reached, the one from the smallest node
@@ -39,54 +54,60 @@ pub struct Arrival {
 pub fn settle_all(
     graph: &Graph,
     limits: &[Option<u64>],
-    tentative: &mut [Option<u64>],
-    settled: &mut [bool],
-    arrivals: &mut [Option<Arrival>],
-    waiting: &mut BinaryHeap<Reverse<Waiting>>,
-    order: &mut Vec<Settled>,
+    search: &mut Search,
 ) -> Result<u64, AllocError>
-    requires tentative { length tentative.old ≡ graph.now.nodes }
-    requires settled { length settled.old ≡ graph.now.nodes }
-    requires arrivals { length arrivals.old ≡ graph.now.nodes }
-    requires none_arrived { (y : ℕ) → IsAtZero tentative.old y → arrival_at arrivals.old y ≡ None }
-    requires zero { (y e : ℕ) → number_at tentative.old y ≡ Some e → e ≡ 0 }
-    requires none_settled { (y : ℕ) → flag_at settled.old y ≡ false }
-    requires none_listed { order.old.items ≡ [] }
-    requires queue { IsQueue graph.now.nodes (number_at tentative.old) (flag_at settled.old)
-        (heap_items waiting.old) }
-    requires heap { IsHeap nearest_first (heap_items waiting.old) }
-    requires few { length (heap_items waiting.old) ≤ graph.now.nodes }
-    requires within_limits { (s : ℕ) → IsAtZero tentative.old s → is_below 0 (number_at limits.now s) ≡ true }
+    requires places { HasNodes graph.now.nodes search.old }
+    requires none_arrived { (y : ℕ) → IsAtZero search.old.tentative.items y
+        → arrival_at search.old.arrivals.items y ≡ None }
+    requires zero { (y e : ℕ) → number_at search.old.tentative.items y ≡ Some e → e ≡ 0 }
+    requires none_settled { (y : ℕ) → flag_at search.old.settled.items y ≡ false }
+    requires none_listed { search.old.order.items ≡ [] }
+    requires queue { IsQueue graph.now.nodes (number_at search.old.tentative.items)
+        (flag_at search.old.settled.items) (heap_items search.old.waiting) }
+    requires heap { IsHeap nearest_first (heap_items search.old.waiting) }
+    requires few { length (heap_items search.old.waiting) ≤ graph.now.nodes }
+    requires within_limits { (s : ℕ) → IsAtZero search.old.tentative.items s
+        → is_below 0 (number_at limits.now s) ≡ true }
     requires gentle { AreGentle graph.now.edges (number_at limits.now) }
     ensures order { OnOk result (
-        IsSearched graph.now.edges (IsAtZero tentative.old)
-        (number_at limits.now) order.new.items) }
+        IsSearched graph.now.edges (IsAtZero search.old.tentative.items)
+        (number_at limits.now) search.new.order.items) }
     ensures distances { OnOk result (
-        IsTable graph.now.edges (IsAtZero tentative.old) (number_at limits.now)
-        (number_at tentative.new)) }
-    ensures listing { OnOk result (IsListing (number_at tentative.new) order.new.items) }
+        IsTable graph.now.edges (IsAtZero search.old.tentative.items) (number_at limits.now)
+        (number_at search.new.tentative.items)) }
+    ensures listing { OnOk result (
+        IsListing (number_at search.new.tentative.items) search.new.order.items) }
     ensures arrivals { OnOk result (
-        AreArrivals graph.now (number_at tentative.new) (λ _. true) (arrival_at arrivals.new)) }
+        AreArrivals graph.now (number_at search.new.tentative.items) (λ _. true)
+        (arrival_at search.new.arrivals.items)) }
     ensures pops { IfOk result (λ pops.
-        pops ≤ length (heap_items waiting.old) + degrees graph.now order.new.items) }
-    ensures edges { OnOk result (degrees graph.now order.new.items ≤ 2 * len graph.now.edges) }
-    ensures no_fewer { IfOk result (λ pops. length order.new.items ≤ pops) }
-    ensures tracked { IsTracked graph.now.nodes (number_at tentative.new) (flag_at settled.new)
-        order.new.items (heap_items waiting.new) }
+        pops ≤ length (heap_items search.old.waiting) + degrees graph.now search.new.order.items) }
+    ensures edges { OnOk result (degrees graph.now search.new.order.items ≤ 2 * len graph.now.edges) }
+    ensures no_fewer { IfOk result (λ pops. length search.new.order.items ≤ pops) }
+    ensures places { HasNodes graph.now.nodes search.new }
+    ensures tracked { IsTracked graph.now.nodes (number_at search.new.tentative.items)
+        (flag_at search.new.settled.items) search.new.order.items (heap_items search.new.waiting) }
 {
     let _sound = graph.nodes();
     let mut pops: u64 = 0;
-    order.reserve(1)?;
-    while let Some(Reverse(next)) = waiting.pop() {
+    search.order.reserve(1)?;
+    while let Some(Reverse(next)) = search.waiting.pop() {
         let next = next.settled();
         pops += 1;
-        if settled[next.node as usize] {
+        if search.settled[next.node as usize] {
             continue;
         }
-        settled[next.node as usize] = true;
-        enlist(order, next);
-        relax(graph, limits, tentative, arrivals, waiting, next)?;
-        order.reserve(1)?;
+        search.settled[next.node as usize] = true;
+        enlist(&mut search.order, next);
+        relax(
+            graph,
+            limits,
+            search.tentative.as_mut_slice(),
+            search.arrivals.as_mut_slice(),
+            &mut search.waiting,
+            next,
+        )?;
+        search.order.reserve(1)?;
     }
     Ok(pops)
 }

@@ -3,14 +3,13 @@ ghost use Rattle.std.specs.Prelude.{◌≡◌, ℕ, ◌+◌, ◌*◌, ◌<◌, �
 ghost use Rattle.std.specs.BinaryHeap.{heap_items};
 ghost use Rattle.std.specs.FinMap.{len};
 ghost use Rattle.distances.specs.Search.{is_below, number_at, flag_at, AreGentle};
-ghost use Rattle.distances.specs.Waiting.{IsClean, IsTracked};
+ghost use Rattle.distances.specs.Waiting.{HasNodes, IsClean, IsTracked};
 ghost use Rattle.distances.specs.Reach.{IsTree, degrees_of};
 ghost use Rattle.distances.specs.Workspace.{reached_of, AreLinked};
 
 use crate::linked::Linked;
 use crate::reach::link_all;
-use crate::search::{Arrival, Settled, offer, settle_all};
-use crate::waiting::Waiting;
+use crate::search::{Search, Settled, offer, settle_all};
 use graph_edits::Graph;
 use std::alloc::{AllocError, Global};
 use std::cmp::Reverse;
@@ -24,26 +23,20 @@ use std::marker::Model;
 /// finds what it would find in a new workspace.
 #[derive(Drop)]
 pub struct Workspace {
-    numbers: Vec<Option<u64>>,
-    settled: Vec<bool>,
-    arrivals: Vec<Option<Arrival>>,
-    waiting: BinaryHeap<Reverse<Waiting>>,
-    order: Vec<Settled>,
+    search: Search,
     members: Vec<Linked>,
 }
 
 impl Model for Workspace {
-    ghost use Rattle.std.specs.Prelude.{◌≡◌, length};
-    ghost use Rattle.std.specs.BinaryHeap.{heap_items};
+    ghost use Rattle.std.specs.Prelude.{length};
     ghost use Rattle.distances.specs.Waiting.{IsClean};
     ghost use Rattle.distances.specs.Workspace.{Workspace};
 
     ghost Value = { Workspace };
 
-    ghost view = { λ a. record { nodes = length a.numbers.items; members = a.members.items } };
+    ghost view = { λ a. record { nodes = length a.search.tentative.items; members = a.members.items } };
 
-    ghost invariant = { λ a. IsClean a.numbers.items a.settled.items a.order.items (heap_items a.waiting)
-        × (length a.arrivals.items ≡ length a.numbers.items) };
+    ghost invariant = { λ a. IsClean a.search };
 }
 
 impl Workspace {
@@ -51,14 +44,15 @@ impl Workspace {
     pub fn new(alloc: Global, nodes: u16) -> Result<Workspace, AllocError>
         ensures { IfOk result (λ workspace. workspace ≡ record { nodes = nodes; members = [] }) }
     {
-        Ok(Workspace {
-            numbers: vec![in alloc; None; nodes as usize]?,
+        let search = Search {
+            tentative: vec![in alloc; None; nodes as usize]?,
             settled: vec![in alloc; false; nodes as usize]?,
             arrivals: vec![in alloc; None; nodes as usize]?,
             waiting: BinaryHeap::with_capacity(alloc, nodes as usize)?,
             order: Vec::with_capacity(alloc, nodes as usize)?,
-            members: Vec::with_capacity(alloc, nodes as usize)?,
-        })
+        };
+        let members = Vec::with_capacity(alloc, nodes as usize)?;
+        Ok(Workspace { search, members })
     }
 
     /// The members of the tree that was found last, the root first.
@@ -109,23 +103,8 @@ impl Workspace {
         ensures refused { OnErr result (self.new.members ≡ []) }
     {
         self.members.clear();
-        let found = find_tree(
-            graph,
-            root,
-            limits,
-            &mut self.numbers,
-            &mut self.settled,
-            &mut self.arrivals,
-            &mut self.waiting,
-            &mut self.order,
-            &mut self.members,
-        );
-        clean(
-            &mut self.numbers,
-            &mut self.settled,
-            &mut self.waiting,
-            &mut self.order,
-        );
+        let found = find_tree(graph, root, limits, &mut self.search, &mut self.members);
+        clean(&mut self.search);
         if found.is_err() {
             self.members.clear();
         }
@@ -133,21 +112,16 @@ impl Workspace {
     }
 }
 
-/// Searches from a root over clean lists, and lists the members of its tree.
+/// Searches from a root in a clean search, and lists the members of its tree.
 fn find_tree(
     graph: &Graph,
     root: u16,
     limits: &[Option<u64>],
-    numbers: &mut [Option<u64>],
-    settled: &mut [bool],
-    arrivals: &mut [Option<Arrival>],
-    waiting: &mut BinaryHeap<Reverse<Waiting>>,
-    order: &mut Vec<Settled>,
+    search: &mut Search,
     members: &mut Vec<Linked>,
 ) -> Result<u64, AllocError>
-    requires clean { IsClean numbers.old settled.old order.old.items (heap_items waiting.old) }
-    requires nodes { length numbers.old ≡ graph.now.nodes }
-    requires arrivals { length arrivals.old ≡ graph.now.nodes }
+    requires clean { IsClean search.old }
+    requires nodes { length search.old.tentative.items ≡ graph.now.nodes }
     requires no_members { members.old.items ≡ [] }
     requires root { root < graph.now.nodes }
     requires root_within { is_below 0 (number_at limits.now root) ≡ true }
@@ -159,39 +133,41 @@ fn find_tree(
     ensures degrees { IfOk result (λ pops.
         pops ≤ 1 + degrees_of graph.now (reached_of members.new.items)) }
     ensures edges { IfOk result (λ pops. pops ≤ 1 + 2 * len graph.now.edges) }
-    ensures tracked { IsTracked graph.now.nodes (number_at numbers.new) (flag_at settled.new)
-        order.new.items (heap_items waiting.new) }
+    ensures places { HasNodes graph.now.nodes search.new }
+    ensures tracked { IsTracked graph.now.nodes (number_at search.new.tentative.items)
+        (flag_at search.new.settled.items) search.new.order.items (heap_items search.new.waiting) }
 {
     let _sound = graph.nodes();
     let start = Settled {
         distance: 0,
         node: root,
     };
-    numbers[root as usize] = offer(None, start, None, waiting)?;
-    arrivals[root as usize] = None;
-    let pops = settle_all(graph, limits, numbers, settled, arrivals, waiting, order)?;
-    link_all(graph, order, arrivals, members)?;
+    search.tentative[root as usize] = offer(None, start, None, &mut search.waiting)?;
+    search.arrivals[root as usize] = None;
+    let pops = settle_all(graph, limits, search)?;
+    link_all(
+        graph,
+        search.order.as_slice(),
+        search.arrivals.as_slice(),
+        members,
+    )?;
     Ok(pops)
 }
 
 /// Cleans what a search has touched: what it settled, and what still waits.
-fn clean(
-    numbers: &mut [Option<u64>],
-    settled: &mut [bool],
-    waiting: &mut BinaryHeap<Reverse<Waiting>>,
-    order: &mut Vec<Settled>,
-)
-    requires lengths { length settled.old ≡ length numbers.old }
-    requires tracked { IsTracked (length numbers.old) (number_at numbers.old) (flag_at settled.old)
-        order.old.items (heap_items waiting.old) }
-    ensures { IsClean numbers.new settled.new order.new.items (heap_items waiting.new) }
+fn clean(search: &mut Search)
+    requires places { HasNodes (length search.old.tentative.items) search.old }
+    requires tracked { IsTracked (length search.old.tentative.items) (number_at search.old.tentative.items)
+        (flag_at search.old.settled.items) search.old.order.items (heap_items search.old.waiting) }
+    ensures clean { IsClean search.new }
+    ensures nodes { length search.new.tentative.items ≡ length search.old.tentative.items }
 {
-    while let Some(listed) = order.pop() {
-        numbers[listed.node as usize] = None;
-        settled[listed.node as usize] = false;
+    while let Some(listed) = search.order.pop() {
+        search.tentative[listed.node as usize] = None;
+        search.settled[listed.node as usize] = false;
     }
-    while let Some(Reverse(open)) = waiting.pop() {
+    while let Some(Reverse(open)) = search.waiting.pop() {
         let open = open.settled();
-        numbers[open.node as usize] = None;
+        search.tentative[open.node as usize] = None;
     }
 }

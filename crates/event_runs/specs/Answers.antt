@@ -3,9 +3,9 @@ use Rattle.std.specs.Prelude.{◌≡◌, ◌≢◌, ◌⊎◌, ℕ, ◌+◌, max
 use Rattle.std.specs.Option.{option_map}
 use Rattle.requests.specs.declared.request.Request.{Request}
 use Rattle.requests.specs.Tickets.{last_of}
-use Rattle.node_table.specs.declared.parts.Parts.{Parts}
-use Rattle.node_table.specs.declared.packet.Packet.{Packet}
-use Rattle.node_table.specs.declared.packet.Move.{Move}
+use Rattle.schemes.specs.declared.parts.Parts.{Parts}
+use Rattle.schemes.specs.declared.packet.Packet.{Packet}
+use Rattle.schemes.specs.declared.packet.Move.{Move}
 use Rattle.generations.specs.declared.posting.Notice.{Notice}
 use Rattle.generations.specs.declared.posting.Notice.TheVariants.{Built}
 use Rattle.generations.specs.Notices.{newest_in}

@@ -1,9 +1,9 @@
 -- A packet's way, and how it goes on.
 use Rattle.std.specs.Prelude.{ℕ, List, [], ◌∷◌, ◌++◌, Bool, true, false, Option, Some, None, Result, Ok, Err}
-use Rattle.node_table.specs.declared.packet.Address.{Address}
-use Rattle.node_table.specs.declared.packet.Packet.{Packet}
-use Rattle.node_table.specs.declared.packet.Move.{Move}
-use Rattle.node_table.specs.declared.packet.Move.TheVariants as packets
+use Rattle.schemes.specs.declared.packet.Address.{Address}
+use Rattle.schemes.specs.declared.packet.Packet.{Packet}
+use Rattle.schemes.specs.declared.packet.Move.{Move}
+use Rattle.schemes.specs.declared.packet.Move.TheVariants as packets
 use Rattle.generations.specs.Boards.{latest_of}
 use Rattle.forwarders.specs.declared.refused.Refused.{Refused}
 use Rattle.forwarders.specs.declared.refused.Refused.TheVariants.{GenerationGone}

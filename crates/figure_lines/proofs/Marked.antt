@@ -6,7 +6,7 @@ use Rattle.std.proofs.lemmas.Bool.{cases_lt}
 use Rattle.std.proofs.lemmas.List.{get_or_past}
 use Rattle.std.proofs.Math.Nat.{mul-le-mul_right}
 use Rattle.distances.specs.Nearest.{IsNearestOf}
-use Rattle.distances.specs.declared.nearest.Near.{Near}
+use Rattle.landmarks.specs.declared.near.Near.{Near}
 use Rattle.graph_edits.specs.Edges.{EdgeMap}
 use Rattle.figure_lines.specs.Networks.{colour_of, mark_by, mark_in}
 use Rattle.figure_lines.specs.declared.marks.Mark.{Mark}

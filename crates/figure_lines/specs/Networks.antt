@@ -4,7 +4,7 @@ use Rattle.std.specs.Borrow.{Bor}
 use Rattle.std.specs.List.{flat_map}
 use Rattle.std.specs.Option.{option_map}
 use Rattle.distances.specs.Nearest.{IsNearestOf, near_at}
-use Rattle.distances.specs.declared.nearest.Near.{Near}
+use Rattle.landmarks.specs.declared.near.Near.{Near}
 use Rattle.edge_lists.specs.declared.edge.Edge.{Edge}
 use Rattle.graph_edits.specs.Edges.{Network}
 use Rattle.figure_lines.specs.Figures.{row}

@@ -1,7 +1,7 @@
 -- The figures of a scheme's tables.
 use Rattle.std.specs.Prelude.{◌≡◌, ℕ, ◌-◌, ◌*◌, ◌^◌, ◌==◌, cond, Option, Some, None, List, [], ◌∷◌, ◌++◌, codes, decimal, count_by, length, map, max, min, sum}
 use Rattle.std.specs.List.{fold}
-use Rattle.node_table.specs.declared.parts.Parts.{Parts}
+use Rattle.schemes.specs.declared.parts.Parts.{Parts}
 use Rattle.scheme_figures.specs.Sizes.{directory_sizes, each_node, entry_sizes, table_bytes}
 use Rattle.spreads.specs.Decimals.{quotient}
 use Rattle.spreads.specs.Spreads.{IsSpread}

@@ -1,7 +1,7 @@
 -- A few figures of a scheme's tables, to be compared with those of another one.
 use Rattle.std.specs.Prelude.{ℕ, List, [], ◌∷◌, ◌++◌, codes, count_by, length, max, sum}
 use Rattle.std.specs.List.{fold}
-use Rattle.node_table.specs.declared.parts.Parts.{Parts}
+use Rattle.schemes.specs.declared.parts.Parts.{Parts}
 use Rattle.scheme_figures.specs.Sizes.{directory_sizes, entry_sizes}
 use Rattle.figure_lines.specs.Figures.{Said, thousandths, whole}
 use Rattle.figure_lines.specs.Schemes.{kept, share, table_sizes}

@@ -27,7 +27,7 @@ mod json;
 mod marks;
 mod networks;
 mod printed;
-mod schemes;
+mod scheme_tables;
 mod tables;
 mod ways;
 
@@ -37,6 +37,6 @@ pub use info::info_json;
 pub use marks::{Mark, marks_of};
 pub use networks::{edges_of, network_csv};
 pub use printed::{figures_csv, figures_json, figures_text};
-pub use schemes::scheme_figures_of;
+pub use scheme_tables::scheme_figures_of;
 pub use tables::table_figures_of;
 pub use ways::way_figures_of;

@@ -6,9 +6,9 @@ ghost use Rattle.figure_lines.specs.Schemes.{table_sizes};
 ghost use Rattle.figure_lines.specs.Tables.{landmark_figures, pair_figures, table_figures};
 
 use crate::figure::{Figure, push_thousandths, push_whole};
-use crate::schemes::{greatest_of, share_of};
-use node_table::Scheme;
+use crate::scheme_tables::{greatest_of, share_of};
 use scheme_figures::{directory_lengths, entry_counts, landmark_count, table_lengths};
+use schemes::Scheme;
 use spreads::sum_of;
 use std::alloc::{AllocError, Global};
 

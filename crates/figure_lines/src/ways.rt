@@ -4,7 +4,7 @@ ghost use Rattle.figure_lines.specs.Figures.{ArePut, said};
 ghost use Rattle.figure_lines.specs.Ways.{AreWayFigures, mean_of as mean_in, stretch_figures};
 
 use crate::figure::{Figure, push_thousandths, push_whole};
-use crate::schemes::share_of;
+use crate::scheme_tables::share_of;
 use scheme_figures::{Measured, Stretches, stretches_of};
 use spreads::{percentile, rounded, sum_of};
 use std::alloc::{AllocError, Global};

@@ -1,11 +1,11 @@
 // What the tests of this crate share: each call is made again where memory was refused.
-ghost use Rattle.node_table.specs.Checks.{IsChecked};
+ghost use Rattle.schemes.specs.Checks.{IsChecked};
 
 use graph_edits::Graph;
-use node_table::Scheme;
 pub(crate) use sample_networks::{Edge, PAIRS, PATH};
 use scheme_builds::scheme_of;
 use scheme_figures::{Measured, Stretches, are_pairs, measure_all, stretches_of};
+use schemes::Scheme;
 use std::alloc::{AllocError, Global};
 use std::fmt::Debug;
 use std::process::Abort;

@@ -3,10 +3,10 @@ use crate::helpers::{
     Edge, PAIRS, PATH, SQUARE, STAR, got, graph_of, measured_at, same, scheme_at, stretches_in,
 };
 use graph_edits::Graph;
-use node_table::Scheme;
 use scheme_figures::{
     Measured, directory_lengths, entry_counts, full_length, landmark_count, table_lengths,
 };
+use schemes::Scheme;
 use std::alloc::Global;
 use std::process::Abort;
 

@@ -2,16 +2,16 @@
 use Rattle.std.proofs.Common.{◌≡◌, ◌⊎◌, inl, inr, ℕ, List, [], ◌∷◌, ◌&&◌, nat_lt, is_some, Option, Some, None, Result, Ok, Err, refl, sym, ap, ◌∙◌, subst}
 use Rattle.std.proofs.lemmas.Bool.{cond_both}
 use Rattle.heavy_labels.specs.Label.{Label}
-use Rattle.node_table.specs.declared.parts.Parts.{Parts}
-use Rattle.node_table.specs.declared.packet.Address.{Address}
-use Rattle.node_table.specs.declared.packet.Home.{Home}
-use Rattle.node_table.specs.declared.packet.Packet.{Packet}
-use Rattle.node_table.specs.declared.packet.Move.{Move}
-use Rattle.node_table.specs.declared.packet.Move.TheVariants.{Delivered, Forward}
-use Rattle.node_table.specs.declared.packet.Refused as scheme
-use Rattle.node_table.specs.declared.packet.Refused.TheVariants.{NoNode, Unreachable}
-use Rattle.node_table.specs.Tables.{Tables, tables}
-use Rattle.node_table.specs.Service.{address, decide, by_directory, through_home, packet_by, node_step, one_less, Carries, Arrives}
+use Rattle.schemes.specs.declared.parts.Parts.{Parts}
+use Rattle.schemes.specs.declared.packet.Address.{Address}
+use Rattle.schemes.specs.declared.packet.Home.{Home}
+use Rattle.schemes.specs.declared.packet.Packet.{Packet}
+use Rattle.schemes.specs.declared.packet.Move.{Move}
+use Rattle.schemes.specs.declared.packet.Move.TheVariants.{Delivered, Forward}
+use Rattle.schemes.specs.declared.packet.Refused as scheme
+use Rattle.schemes.specs.declared.packet.Refused.TheVariants.{NoNode, Unreachable}
+use Rattle.schemes.specs.Tables.{Tables, tables}
+use Rattle.schemes.specs.Service.{address, decide, by_directory, through_home, packet_by, node_step, one_less, Carries, Arrives}
 use Rattle.generations.specs.Boards.{scheme_of}
 use Rattle.generations.specs.Beginnings.{Beginning}
 use Rattle.forwarders.specs.declared.refused.Refused.{Refused}

@@ -1,9 +1,9 @@
 -- Every list of bytes comes to an end.
 use Rattle.std.proofs.Common.{◌≡◌, ℕ, zero, suc, Option, Result, Ok, Err, List, refl, sym, subst, ap, ◌∙◌, ◌⊎◌, inl, inr, arith}
-use Rattle.node_table.specs.declared.packet.Packet.{Packet}
-use Rattle.node_table.specs.declared.packet.Move.{Move}
-use Rattle.node_table.specs.declared.packet.Move.TheVariants.{Delivered, Forward}
-use Rattle.node_table.specs.Service.{one_less}
+use Rattle.schemes.specs.declared.packet.Packet.{Packet}
+use Rattle.schemes.specs.declared.packet.Move.{Move}
+use Rattle.schemes.specs.declared.packet.Move.TheVariants.{Delivered, Forward}
+use Rattle.schemes.specs.Service.{one_less}
 use Rattle.packet_bytes.specs.declared.wire.WireRefused.{WireRefused}
 use Rattle.packet_bytes.specs.Laws.{PacketsAreRead, OnePacket}
 use Rattle.packet_bytes.specs.Spelling.{packet_text, SpellsPacket}

@@ -3,15 +3,15 @@ use Rattle.std.proofs.Common.{◌≡◌, ℕ, zero, suc, ◌-◌, ◌<◌, max, 
 use Rattle.std.proofs.lemmas.Bool.{cond_both, ltb-true, eqb-false}
 use Rattle.heavy_labels.specs.Numbering.{Step, arrived, port, no_parent, no_light, step}
 use Rattle.heavy_labels.specs.Stepped.{record_of}
-use Rattle.node_table.specs.Entry.{Entry}
-use Rattle.node_table.specs.declared.parts.Parts.{Parts}
-use Rattle.node_table.specs.declared.packet.Packet.{Packet}
-use Rattle.node_table.specs.declared.packet.Move.{Move}
-use Rattle.node_table.specs.declared.packet.Move.TheVariants.{Delivered, Forward}
-use Rattle.node_table.specs.declared.packet.Refused as scheme
-use Rattle.node_table.specs.declared.packet.Refused.TheVariants.{NoNode, Stray, Spent}
-use Rattle.node_table.specs.Tables.{Tables, tables}
-use Rattle.node_table.specs.Service.{node_step, move_at, move_by, forward_over, one_less}
+use Rattle.schemes.specs.Entry.{Entry}
+use Rattle.schemes.specs.declared.parts.Parts.{Parts}
+use Rattle.schemes.specs.declared.packet.Packet.{Packet}
+use Rattle.schemes.specs.declared.packet.Move.{Move}
+use Rattle.schemes.specs.declared.packet.Move.TheVariants.{Delivered, Forward}
+use Rattle.schemes.specs.declared.packet.Refused as scheme
+use Rattle.schemes.specs.declared.packet.Refused.TheVariants.{NoNode, Stray, Spent}
+use Rattle.schemes.specs.Tables.{Tables, tables}
+use Rattle.schemes.specs.Service.{node_step, move_at, move_by, forward_over, one_less}
 use Rattle.generations.specs.Boards.{scheme_of}
 use Rattle.forwarders.specs.declared.refused.Refused.{Refused}
 use Rattle.forwarders.specs.Answers.{Shelf, IsAnswer, by, by_name, hop_at}

@@ -1,7 +1,7 @@
 -- The board that a forwarder looked at.
 use Rattle.std.proofs.Common.{◌≡◌, ◌⊎◌, inl, inr, ℕ, List, None, Option, Result, Ok, Err, refl, subst, sym, ap, ◌∙◌}
-use Rattle.node_table.specs.declared.packet.Packet.{Packet}
-use Rattle.node_table.specs.declared.packet.Move.{Move}
+use Rattle.schemes.specs.declared.packet.Packet.{Packet}
+use Rattle.schemes.specs.declared.packet.Move.{Move}
 use Rattle.packet_bytes.specs.declared.wire.WireRefused.{WireRefused}
 use Rattle.packet_bytes.specs.Refusals.{packet_refusal}
 use Rattle.packet_bytes.specs.Spelling.{SpellsPacket}

@@ -2,12 +2,12 @@
 use Rattle.std.specs.Prelude.{◌≡◌, ◌⊎◌, ℕ, ◌<◌, List, [], ◌∷◌, Result, Ok, Err}
 use Rattle.std.specs.List.{Contains}
 use Rattle.graph_edits.specs.Edges.{Network}
-use Rattle.node_table.specs.declared.parts.Parts.{Parts}
-use Rattle.node_table.specs.declared.packet.Packet.{Packet}
-use Rattle.node_table.specs.declared.packet.Move.{Move}
-use Rattle.node_table.specs.declared.packet.Move.TheVariants.{Delivered, Forward}
-use Rattle.node_table.specs.Tables.{tables}
-use Rattle.node_table.specs.Service.{address, node_step, one_less, IsGoodTrip, LeadAlong, Serves}
+use Rattle.schemes.specs.declared.parts.Parts.{Parts}
+use Rattle.schemes.specs.declared.packet.Packet.{Packet}
+use Rattle.schemes.specs.declared.packet.Move.{Move}
+use Rattle.schemes.specs.declared.packet.Move.TheVariants.{Delivered, Forward}
+use Rattle.schemes.specs.Tables.{tables}
+use Rattle.schemes.specs.Service.{address, node_step, one_less, IsGoodTrip, LeadAlong, Serves}
 use Rattle.generations.specs.Notices.{generations_in}
 use Rattle.generations.specs.Beginnings.{Beginning, GoesOn, board_after}
 use Rattle.generations.specs.Lawful.{IsLawful}

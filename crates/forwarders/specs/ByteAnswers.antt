@@ -1,8 +1,8 @@
 -- What a forwarder answers to bytes.
 use Rattle.std.specs.Prelude.{◌≡◌, ◌⊎◌, ℕ, List, Option, Some, None, Result, Ok, Err}
-use Rattle.node_table.specs.declared.packet.Packet.{Packet}
-use Rattle.node_table.specs.declared.packet.Move.{Move}
-use Rattle.node_table.specs.declared.packet.Move.TheVariants as packets
+use Rattle.schemes.specs.declared.packet.Packet.{Packet}
+use Rattle.schemes.specs.declared.packet.Move.{Move}
+use Rattle.schemes.specs.declared.packet.Move.TheVariants as packets
 use Rattle.packet_bytes.specs.declared.wire.WireRefused.{WireRefused}
 use Rattle.packet_bytes.specs.declared.wire.WireRefused.TheVariants as wire
 use Rattle.packet_bytes.specs.Refusals.{packet_refusal}

@@ -1,9 +1,9 @@
 -- The bytes of packets that are sent arrive as the packets do.
 use Rattle.std.specs.Prelude.{◌≡◌, ◌⊎◌, ℕ, List, [], ◌∷◌, Result, Ok, Err}
-use Rattle.node_table.specs.declared.packet.Packet.{Packet}
-use Rattle.node_table.specs.declared.packet.Move.{Move}
-use Rattle.node_table.specs.declared.packet.Move.TheVariants.{Delivered, Forward}
-use Rattle.node_table.specs.Service.{one_less}
+use Rattle.schemes.specs.declared.packet.Packet.{Packet}
+use Rattle.schemes.specs.declared.packet.Move.{Move}
+use Rattle.schemes.specs.declared.packet.Move.TheVariants.{Delivered, Forward}
+use Rattle.schemes.specs.Service.{one_less}
 use Rattle.packet_bytes.specs.Spelling.{packet_text, IsPacket}
 use Rattle.generations.specs.Beginnings.{Beginning}
 use Rattle.forwarders.specs.declared.refused.BytesRefused.{BytesRefused}

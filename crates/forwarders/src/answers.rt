@@ -6,7 +6,7 @@ ghost use Rattle.forwarders.specs.Answers.{address_at, hop_at, launch_at};
 
 use crate::refused::{Refused, named_by};
 use generations::{Board, Shelved};
-use node_table::{Address, Move, Packet, Scheme};
+use schemes::{Address, Move, Packet, Scheme};
 
 // The number of the last of these.
 fn last_number(places: &[Option<Shelved>]) -> Option<u64>

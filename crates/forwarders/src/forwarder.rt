@@ -10,7 +10,7 @@ use crate::answers::{address_on, hop_on, latest_on, launch_on};
 use crate::in_bytes::{ByteMove, answer_in_bytes, packet_in};
 use crate::refused::{BytesRefused, Refused};
 use generations::{BoardReader, History, Told};
-use node_table::{Address, Move, Packet};
+use schemes::{Address, Move, Packet};
 use std::marker::Model;
 
 /// A forwarder. Contracts see it as the beginning of the board's list that it saw or was told of.

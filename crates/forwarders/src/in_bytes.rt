@@ -5,8 +5,8 @@ ghost use Rattle.packet_bytes.specs.Spelling.{SpellsPacket};
 ghost use Rattle.forwarders.specs.ByteAnswers.{IsUnread, move_in_bytes, without_packet};
 
 use crate::refused::{BytesRefused, Refused, in_turn_by};
-use node_table::{Move, Packet};
 use packet_bytes::{PACKET_SIZE, Wire, WireRefused};
+use schemes::{Move, Packet};
 
 /// What a node does with a packet's bytes.
 #[derive(Debug, PartialEq, Eq, Drop)]

@@ -55,14 +55,14 @@ pub enum BytesRefused {
 }
 
 /// A scheme's refusal, as a forwarder's.
-pub(crate) fn named_by(refused: node_table::Refused) -> Refused
+pub(crate) fn named_by(refused: schemes::Refused) -> Refused
     ensures { result ≡ named refused }
 {
     match refused {
-        node_table::Refused::NoNode => Refused::NoNode,
-        node_table::Refused::Unreachable => Refused::Unreachable,
-        node_table::Refused::Stray => Refused::Stray,
-        node_table::Refused::Spent => Refused::Spent,
+        schemes::Refused::NoNode => Refused::NoNode,
+        schemes::Refused::Unreachable => Refused::Unreachable,
+        schemes::Refused::Stray => Refused::Stray,
+        schemes::Refused::Spent => Refused::Spent,
     }
 }
 

@@ -2,10 +2,10 @@
 use crate::posted::{one_forwarder, post_next, same, way};
 use forwarders::Forwarder;
 use heavy_labels::MOST_LIGHTS;
-use node_table::{Address, Packet};
 use packet_bytes::{ADDRESS_SIZE, PACKET_SIZE, Wire};
 use rand_core::{Rng, SeedableRng};
 use rand_xoshiro::Xoshiro256PlusPlus;
+use schemes::{Address, Packet};
 use std::process::Abort;
 use std::test::Fail;
 

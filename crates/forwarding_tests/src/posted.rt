@@ -6,10 +6,11 @@ ghost use Rattle.forwarding_tests.specs.InARow.{IsInARow, MayFollow};
 
 use forwarders::{ByteMove, BytesRefused, Forwarder};
 use generations::{Board, BoardReader, BoardWriter, Mark, PostRefused, Posting, Verdict, board};
-use node_table::{Parts, Scheme, build};
+use node_table::build;
 use packet_bytes::PACKET_SIZE;
 use requests::SESSIONS;
 use sample_networks::{Edge, PATH, graph_of, landmarks_at};
+use schemes::{Parts, Scheme};
 use std::alloc::{AllocError, Global};
 use std::fmt::Debug;
 use std::process::Abort;

@@ -3,7 +3,7 @@ ghost use Rattle.std.specs.Prelude.{◌≡◌, []};
 
 use crate::posted::{got, post_next, post_up_to, same, two_readers};
 use forwarders::{Forwarder, Refused};
-use node_table::Move;
+use schemes::Move;
 use std::test::Fail;
 use std::thread;
 

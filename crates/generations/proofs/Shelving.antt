@@ -2,7 +2,7 @@
 use Rattle.std.proofs.Common.{◌≡◌, ◌-◌, ℕ, List, [], ◌∷◌, ◌++◌, Option, Some, map, drop, length, ap, sym, ◌∙◌}
 use Rattle.std.proofs.lemmas.List.{map-append, drop-map, length-map}
 use Rattle.std.specs.Arc.{arc_value}
-use Rattle.node_table.specs.declared.parts.Parts.{Parts}
+use Rattle.schemes.specs.declared.parts.Parts.{Parts}
 use Rattle.generations.specs.declared.fold.Shelved.{Shelved}
 use Rattle.generations.specs.Shelves.{plain, newest, most_shelved}
 

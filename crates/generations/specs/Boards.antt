@@ -1,6 +1,6 @@
 -- What a board holds: the fold of a list of notices.
 use Rattle.std.specs.Prelude.{ℕ, Bool, true, false, List, [], ◌∷◌, ◌++◌, fold, Option, Some, None, slice_set, replicate, get_or, cond, ◌==◌}
-use Rattle.node_table.specs.declared.parts.Parts.{Parts}
+use Rattle.schemes.specs.declared.parts.Parts.{Parts}
 use Rattle.requests.specs.Tickets.{sessions, raise}
 use Rattle.generations.specs.declared.posting.Mark.{Mark}
 use Rattle.generations.specs.declared.posting.Verdict.{Verdict}

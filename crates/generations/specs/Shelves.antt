@@ -1,7 +1,7 @@
 -- The shelf of the newest generations.
 use Rattle.std.specs.Prelude.{ℕ, ◌-◌, List, length, drop, Option, Some, None}
 use Rattle.std.specs.Arc.{arc_value}
-use Rattle.node_table.specs.declared.parts.Parts.{Parts}
+use Rattle.schemes.specs.declared.parts.Parts.{Parts}
 use Rattle.generations.specs.declared.fold.Shelved.{Shelved}
 
 -- how many generations stand on the shelf at most. `limits_law` says that the code's number is the same

@@ -7,8 +7,8 @@ ghost use Rattle.generations.specs.Boards.{after, fresh, marked, accepting, coun
 
 use crate::posting::{Mark, Posting, Verdict};
 use arrayvec::ArrayVec;
-use node_table::Scheme;
 use requests::SESSIONS;
+use schemes::Scheme;
 use std::alloc::{AllocError, Global};
 use std::marker::Model;
 use std::sync::Arc;

@@ -1,6 +1,6 @@
 // What is told to all in one step.
 use graph_edits::Code;
-use node_table::{Parts, Scheme};
+use schemes::{Parts, Scheme};
 use std::alloc::Global;
 use std::collections::LinkedList;
 use std::sync::Arc;

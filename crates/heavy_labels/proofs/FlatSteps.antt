@@ -488,3 +488,10 @@ nodes_same (n ∷ ns) (m ∷ ms) l h = ap₂ (λ x xs. x ∷ xs) (h 0 (omega ari
 pub flat_nodes : (ms : List Member) (above heavy ahead : List ℕ) (ns : List NumberedMember) → AreFlat ms above heavy ahead (length ms) (map seen ns) → map (λ (n : NumberedMember). n.node) ns ≡ map (λ (m : Member). m.node) ms
 flat_nodes ms above heavy ahead ns f =
     nodes_same ns ms (let n = length-map ns seen in let k = f.length_is in omega (arith, n, k)) (λ k l. ap (λ (z : Brief). z.0) (f.is k l) ∙ root_node ms k)
+
+-- ---- the same lists
+
+-- the same over equal lists of parents and of heavy children
+pub flat_over : (ms : List Member) (above above2 heavy heavy2 ahead : List ℕ) (n : ℕ) (all : List Brief) → above ≡ above2 → heavy ≡ heavy2 → AreFlat ms above heavy ahead n all → AreFlat ms above2 heavy2 ahead n all
+flat_over ms above above2 heavy heavy2 ahead n all same alike f =
+    subst (λ z. AreFlat ms above2 z ahead n all) alike (subst (λ z. AreFlat ms z heavy ahead n all) same f)

@@ -4,19 +4,19 @@ ghost use Rattle.route_tree.specs.Growth.{subtrees, first_or};
 ghost use Rattle.route_tree.specs.Members.{AreMembers};
 ghost use Rattle.route_tree.specs.Places.{HasPlaces};
 ghost use Rattle.route_tree.specs.Rose.{Tree, tree_size};
-ghost use Rattle.heavy_labels.specs.ByNode.{AreByNode, tree_of};
+ghost use Rattle.heavy_labels.specs.ByNode.{tree_of};
 ghost use Rattle.heavy_labels.specs.FlatNumbers.{AreFlat, IsLabelAt, label_below, label_over, port_or_none, tree_brief};
 ghost use Rattle.heavy_labels.specs.HeavyKids.{AreAheadTo, AreHeavy};
 ghost use Rattle.heavy_labels.specs.Label.{Label};
 ghost use Rattle.heavy_labels.specs.Measured.{AreMeasured};
 ghost use Rattle.heavy_labels.specs.Numbered.{AreNumbersOf, seen};
 ghost use Rattle.heavy_labels.specs.Numbering.{lights_at};
-ghost use Rattle.heavy_labels.specs.Sizes.{AreSizes};
 
 use crate::ahead::numbers_ahead;
 use crate::by_node::places_by_node;
 use crate::heavy_kids::heavy_children;
 use crate::label::{Label, MOST_LIGHTS};
+use crate::measured_tree::MeasuredTree;
 use crate::numbered_member::{Numbered, NumberedMember};
 use crate::sizes::{heavy_size, parents, sizes};
 use crate::tree_record::Record;
@@ -37,30 +37,26 @@ fn child_label(over: &Label, ahead: u16, heavy: bool, down: Option<u16>) -> Labe
 }
 
 /// The label of the member at `at`, where all before it are listed.
-fn label_at(
-    out: &[NumberedMember],
-    members: &[Member],
-    above: &[u16],
-    sizes: &[u16],
-    heavy: &[u16],
-    ahead: &[u16],
-    by_node: &[u16],
-    at: usize,
-) -> Label
-    requires there { at < length members.now }
-    requires measured { AreMeasured members.now above.now sizes.now by_node.now }
-    requires heavy { AreHeavy members.now by_node.now heavy.now }
-    requires ahead { AreAheadTo members.now by_node.now (length by_node.now) ahead.now }
-    requires flat { AreFlat members.now above.now heavy.now ahead.now at (map seen out.now) }
-    ensures { IsLabelAt members.now above.now heavy.now ahead.now at
-        (label_over above.now (map seen out.now) at) result }
+fn label_at(out: &[NumberedMember], tree: &MeasuredTree<'_>, ahead: &[u16], at: usize) -> Label
+    requires there { at < length tree.now.members.now }
+    requires measured { AreMeasured tree.now.members.now tree.now.above.now tree.now.sizes.now tree.now.by_node.now }
+    requires heavy { AreHeavy tree.now.members.now tree.now.by_node.now tree.now.heavy.now }
+    requires ahead { AreAheadTo tree.now.members.now tree.now.by_node.now (length tree.now.by_node.now) ahead.now }
+    requires flat { AreFlat tree.now.members.now tree.now.above.now tree.now.heavy.now ahead.now at (map seen out.now) }
+    ensures { IsLabelAt tree.now.members.now tree.now.above.now tree.now.heavy.now ahead.now at
+        (label_over tree.now.above.now (map seen out.now) at) result }
 {
     if at == 0 {
         return Label::of(0, &[]);
     }
-    let parent = above[at] as usize;
-    let is_heavy = heavy[parent] as usize == at;
-    child_label(&out[parent].label, ahead[at], is_heavy, members[at].down)
+    let parent = tree.above[at] as usize;
+    let is_heavy = tree.heavy[parent] as usize == at;
+    child_label(
+        &out[parent].label,
+        ahead[at],
+        is_heavy,
+        tree.members[at].down,
+    )
 }
 
 /// The port to a heavy child by the child's place, where 0 stands for no child.
@@ -75,33 +71,23 @@ fn heavy_port(members: &[Member], heavy: u16) -> Option<u16>
 }
 
 /// The member at `at` with its record and this label.
-fn member_with(
-    members: &[Member],
-    sizes: &[u16],
-    heavy: &[u16],
-    by_node: &[u16],
-    at: usize,
-    label: Label,
-) -> NumberedMember
-    requires there { at < length members.now }
-    requires members { AreMembers members.now }
-    requires length { length sizes.now ≡ length members.now }
-    requires sizes { AreSizes members.now 1 sizes.now }
-    requires by_node { AreByNode members.now by_node.now }
-    requires heavy { AreHeavy members.now by_node.now heavy.now }
-    requires fits { label.first + tree_size (tree_of members.now at) ≤ length members.now }
-    ensures { seen result ≡ tree_brief (tree_of members.now at) label }
+fn member_with(tree: &MeasuredTree<'_>, at: usize, label: Label) -> NumberedMember
+    requires there { at < length tree.now.members.now }
+    requires measured { AreMeasured tree.now.members.now tree.now.above.now tree.now.sizes.now tree.now.by_node.now }
+    requires heavy { AreHeavy tree.now.members.now tree.now.by_node.now tree.now.heavy.now }
+    requires fits { label.first + tree_size (tree_of tree.now.members.now at) ≤ length tree.now.members.now }
+    ensures { seen result ≡ tree_brief (tree_of tree.now.members.now at) label }
 {
-    let member = members[at];
+    let member = tree.members[at];
     let first = label.first();
-    let best = heavy[at];
+    let best = tree.heavy[at];
     let tree_record = Record {
         first,
-        last: first + (sizes[at] - 1),
-        heavy_last: first + heavy_size(sizes, best),
+        last: first + (tree.sizes[at] - 1),
+        heavy_last: first + heavy_size(tree.sizes, best),
         light_depth: label.lights().len() as u8,
         parent_port: member.up,
-        heavy_port: heavy_port(members, best),
+        heavy_port: heavy_port(tree.members, best),
     };
     NumberedMember {
         node: member.node,
@@ -113,32 +99,21 @@ fn member_with(
 /// Lists the member at `at` behind those before it.
 fn list_member(
     out: &mut Numbered,
-    members: &[Member],
-    above: &[u16],
-    sizes: &[u16],
-    heavy: &[u16],
+    tree: &MeasuredTree<'_>,
     ahead: &[u16],
-    by_node: &[u16],
     at: usize,
 ) -> Result<(), AllocError>
-    requires there { at < length members.now }
-    requires measured { AreMeasured members.now above.now sizes.now by_node.now }
-    requires heavy { AreHeavy members.now by_node.now heavy.now }
-    requires ahead { AreAheadTo members.now by_node.now (length by_node.now) ahead.now }
-    requires flat { AreFlat members.now above.now heavy.now ahead.now at (map seen out.old.items) }
-    ensures { OnOk result (AreFlat members.now above.now heavy.now ahead.now (at + 1) (map seen out.new.items)) }
+    requires there { at < length tree.now.members.now }
+    requires measured { AreMeasured tree.now.members.now tree.now.above.now tree.now.sizes.now tree.now.by_node.now }
+    requires heavy { AreHeavy tree.now.members.now tree.now.by_node.now tree.now.heavy.now }
+    requires ahead { AreAheadTo tree.now.members.now tree.now.by_node.now (length tree.now.by_node.now) ahead.now }
+    requires flat { AreFlat tree.now.members.now tree.now.above.now tree.now.heavy.now ahead.now at
+        (map seen out.old.items) }
+    ensures { OnOk result (AreFlat tree.now.members.now tree.now.above.now tree.now.heavy.now ahead.now (at + 1)
+        (map seen out.new.items)) }
 {
-    let label = label_at(
-        out.as_slice(),
-        members,
-        above,
-        sizes,
-        heavy,
-        ahead,
-        by_node,
-        at,
-    );
-    let member = member_with(members, sizes, heavy, by_node, at, label);
+    let label = label_at(out.as_slice(), tree, ahead, at);
+    let member = member_with(tree, at, label);
     out.push(member)?;
     Ok(())
 }
@@ -162,12 +137,17 @@ pub fn number_members<A: Allocator + Clone>(
     let sizes = sizes(scratch.clone()?, members, &above)?;
     let by_node = places_by_node(scratch.clone()?, members, places)?;
     let heavy = heavy_children(scratch.clone()?, members, &above, &sizes, &by_node)?;
-    let ahead = numbers_ahead(scratch, members, &above, &sizes, &heavy, &by_node)?;
+    let tree = MeasuredTree {
+        members,
+        above: above.as_slice(),
+        sizes: sizes.as_slice(),
+        heavy: heavy.as_slice(),
+        by_node: by_node.as_slice(),
+    };
+    let ahead = numbers_ahead(scratch, &tree)?;
     let mut out = Vec::with_capacity(alloc, members.len())?;
     for at in 0..members.len() {
-        list_member(
-            &mut out, members, &above, &sizes, &heavy, &ahead, &by_node, at,
-        )?;
+        list_member(&mut out, &tree, ahead.as_slice(), at)?;
     }
     Ok(out)
 }

@@ -31,6 +31,7 @@ mod by_node;
 mod flat;
 mod heavy_kids;
 mod label;
+mod measured_tree;
 mod numbered_member;
 mod preorder;
 mod sizes;

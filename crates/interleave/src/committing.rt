@@ -20,9 +20,9 @@ use event_runs::Reply;
 use generations::Posting;
 use graph_edits::Graph;
 use group_commit::{DeskRefused, MOST_HELD, limits_law, settling_law};
-use node_table::Scheme;
 use run_laws::{lists_law, ways_law};
 use scheme_builds::scheme_of;
+use schemes::Scheme;
 use std::alloc::{AllocError, Global};
 use std::sync::Arc;
 

@@ -14,7 +14,7 @@ use disk_trait::Disk;
 use event_runs::Reply;
 use forwarders::{Refused, address_on, hop_on, latest_on, launch_on};
 use generations::Board;
-use node_table::{Move, Packet};
+use schemes::{Move, Packet};
 use std::alloc::Global;
 
 impl<D: Disk> World<D> {

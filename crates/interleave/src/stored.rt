@@ -8,8 +8,8 @@ ghost use Rattle.interleave.specs.Stores.{newer, postings_of};
 
 use event_runs::Session;
 use generations::{Board, Posting};
-use node_table::Packet;
 use requests::{Request, SESSIONS};
+use schemes::Packet;
 use std::alloc::AllocError;
 
 /// A packet's way: where it was sent from and to, the nodes that it has visited, where it stands, what is left of it, and whether it

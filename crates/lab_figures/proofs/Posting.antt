@@ -1,6 +1,6 @@
 -- One generation may be posted where nothing was.
 use Rattle.std.proofs.Common.{◌≡◌, ℕ, List, [], ◌∷◌, ◌++◌, refl, sym, subst, arith}
-use Rattle.node_table.specs.declared.parts.Parts.{Parts}
+use Rattle.schemes.specs.declared.parts.Parts.{Parts}
 use Rattle.generations.specs.declared.posting.Notice.{Notice}
 use Rattle.generations.specs.declared.posting.Notice.TheVariants.{Built}
 use Rattle.generations.specs.Lawful.{IsLawful}

@@ -16,7 +16,7 @@ use Rattle.lab_figures.specs.declared.stats.Layout.TheVariants.{Lines, Csv, Json
 use Rattle.layout_2.specs.Loading.{IsNotLoaded, IsRead}
 use Rattle.layout_2.specs.Standing.{StandsFor}
 use Rattle.layout_2.specs.State.{State}
-use Rattle.node_table.specs.declared.parts.Parts.{Parts}
+use Rattle.schemes.specs.declared.parts.Parts.{Parts}
 use Rattle.scheme_builds.specs.Schemes.{IsSchemeOf}
 use Rattle.scheme_figures.specs.declared.measures.Measured.{Measured}
 use Rattle.scheme_figures.specs.Measures.{AreMeasured}

@@ -7,7 +7,7 @@ use command_output::Fault;
 use device_files::DeviceFile;
 use forwarders::Forwarder;
 use generations::{BoardWriter, Posting, board};
-use node_table::Scheme;
+use schemes::Scheme;
 use std::alloc::Global;
 use std::sync::{Arc, Wait};
 

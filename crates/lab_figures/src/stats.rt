@@ -2,7 +2,7 @@
 ghost use Rattle.std.specs.Prelude.{◌≡◌, ◌≢◌, ◌≤◌, IfErr, IfOk, OnOk, map};
 ghost use Rattle.figure_lines.specs.Figures.{said};
 ghost use Rattle.written_values.specs.Words.{IsWithin};
-ghost use Rattle.node_table.specs.Checks.{IsChecked};
+ghost use Rattle.schemes.specs.Checks.{IsChecked};
 ghost use Rattle.lab_figures.specs.Stats.{AreFiguresOf, AreMeasuredOf, AreStatsOf, IsStatsRefused, PrintsStats, text_in};
 
 use crate::refused::FiguresRefused;
@@ -17,9 +17,9 @@ use lab_parts::{
     PrintRefused, command, device, flag, landmarks, print, told, told_memory, told_of, value,
 };
 use layout_2::{Loaded, load};
-use node_table::Scheme;
 use scheme_builds::{scheme_of_in_threads, workers_here};
 use scheme_figures::{MOST_PAIRS, Measured, drawn_pairs, measure_all};
+use schemes::Scheme;
 use std::alloc::{AllocError, Global};
 use std::fs::File;
 use std::io::Write;

@@ -1,10 +1,10 @@
 //! Packets that are decided on, and walked to their end.
 use crate::samples::{TimeRefused, Timed};
 use forwarders::{ByteMove, Forwarder};
-use node_table::{Move, Packet, Scheme};
 use packet_bytes::{PACKET_SIZE, Wire};
 use rand_core::{Rng, SeedableRng};
 use rand_xoshiro::Xoshiro256PlusPlus;
+use schemes::{Move, Packet, Scheme};
 use std::alloc::{AllocError, Global};
 
 // How many packets are walked in a run.

@@ -17,5 +17,7 @@
 #![tactic(auto)]
 
 mod landmarks;
+mod near;
 
 pub use landmarks::{Landmarks, bound, choose};
+pub use near::Near;

@@ -2,9 +2,9 @@
 use Rattle.std.proofs.Common.{arith, ◌≡◌, ⊎_elim, inl, ◌+◌, ◌||◌, ℕ, Bool, true, false, cond, nat_le, is_some, List, length, Option, Some, None, slice_get, Result, Ok, Err, refl, sym, ap, ◌∙◌, subst}
 use Rattle.requests.specs.Tickets.{last_of}
 use Rattle.requests.specs.declared.request.Request.{Request}
-use Rattle.node_table.specs.declared.packet.Packet.{Packet}
-use Rattle.node_table.specs.declared.packet.Move.{Move}
-use Rattle.node_table.specs.declared.packet.Move.TheVariants as packets
+use Rattle.schemes.specs.declared.packet.Packet.{Packet}
+use Rattle.schemes.specs.declared.packet.Move.{Move}
+use Rattle.schemes.specs.declared.packet.Move.TheVariants as packets
 use Rattle.generations.specs.declared.posting.Notice.{Notice}
 use Rattle.group_commit.specs.Limits.{most_held}
 use Rattle.group_commit.specs.declared.refused.DeskRefused.TheVariants.{Device, Down, Worn}

@@ -4,7 +4,7 @@ use Rattle.disk_trait.specs.declared.disk.Disk.{Ghosts}
 use Rattle.layout_2.specs.State.{State}
 use Rattle.layout_2.specs.Refusals.{TellsOf}
 use Rattle.layout_parts.specs.declared.refusals.OpenRefused.{OpenRefused}
-use Rattle.node_table.specs.declared.parts.Parts.{Parts}
+use Rattle.schemes.specs.declared.parts.Parts.{Parts}
 use Rattle.generations.specs.declared.posting.Notice.TheVariants.{Built}
 use Rattle.scheme_builds.specs.Schemes.{IsSchemeOf}
 use Rattle.event_runs.specs.declared.reply.Reply.{Reply}

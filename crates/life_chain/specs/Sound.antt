@@ -8,9 +8,9 @@ use Rattle.layout_2.specs.Standing.{StandsFor, StandsForNone}
 use Rattle.layout_parts.specs.Refusals.{IsFormatFault, IsNoDeviceFault}
 use Rattle.layout_parts.specs.declared.refusals.OpenRefused.{OpenRefused}
 use Rattle.layout_parts.specs.declared.refusals.OpenRefused.TheVariants.{Device}
-use Rattle.node_table.specs.declared.parts.Parts.{Parts}
-use Rattle.node_table.specs.Service.{Serves}
-use Rattle.node_table.specs.Tables.{tables}
+use Rattle.schemes.specs.declared.parts.Parts.{Parts}
+use Rattle.schemes.specs.Service.{Serves}
+use Rattle.schemes.specs.Tables.{tables}
 use Rattle.generations.specs.declared.posting.Notice.TheVariants.{Built}
 use Rattle.checkpoint.specs.StoreWords.{disk_of}
 use Rattle.event_runs.specs.declared.reply.Reply.{Reply}

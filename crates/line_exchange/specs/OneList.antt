@@ -1,12 +1,12 @@
 -- What the one list of postings says of what is asked for.
 use Rattle.std.specs.Prelude.{◌≡◌, ◌<◌, ◌≤◌, ℕ, List, Some, None, Result, Ok, Err, IsSome, slice_get, take}
 use Rattle.std.specs.List.{Contains}
-use Rattle.node_table.specs.declared.parts.Parts.{Parts}
-use Rattle.node_table.specs.declared.packet.Address.{Address}
-use Rattle.node_table.specs.declared.packet.Packet.{Packet}
-use Rattle.node_table.specs.declared.packet.Refused as scheme
-use Rattle.node_table.specs.Tables.{Tables, tables}
-use Rattle.node_table.specs.Service.{address_given, decide, node_step}
+use Rattle.schemes.specs.declared.parts.Parts.{Parts}
+use Rattle.schemes.specs.declared.packet.Address.{Address}
+use Rattle.schemes.specs.declared.packet.Packet.{Packet}
+use Rattle.schemes.specs.declared.packet.Refused as scheme
+use Rattle.schemes.specs.Tables.{Tables, tables}
+use Rattle.schemes.specs.Service.{address_given, decide, node_step}
 use Rattle.generations.specs.Boards.{scheme_of}
 use Rattle.requests.specs.Tickets.{last_of}
 use Rattle.generations.specs.declared.posting.Mark.{Mark}

@@ -1,14 +1,14 @@
 -- What forwarders answer, by each list that goes on from what they know.
 use Rattle.std.proofs.Common.{◌≡◌, ℕ, refl, sym, ap, ◌∙◌, subst}
 use Rattle.std.specs.Prelude.{Option, Some, None, IfSome, IsSome, Result, Ok, Err}
-use Rattle.node_table.specs.declared.parts.Parts.{Parts}
-use Rattle.node_table.specs.declared.packet.Address.{Address}
-use Rattle.node_table.specs.declared.packet.Packet.{Packet}
-use Rattle.node_table.specs.declared.packet.Move.{Move}
-use Rattle.node_table.specs.declared.packet.Refused as scheme
-use Rattle.node_table.specs.declared.packet.Refused.TheVariants as by_scheme
-use Rattle.node_table.specs.Tables.{Tables, tables}
-use Rattle.node_table.specs.Service.{address_given, decide, node_step}
+use Rattle.schemes.specs.declared.parts.Parts.{Parts}
+use Rattle.schemes.specs.declared.packet.Address.{Address}
+use Rattle.schemes.specs.declared.packet.Packet.{Packet}
+use Rattle.schemes.specs.declared.packet.Move.{Move}
+use Rattle.schemes.specs.declared.packet.Refused as scheme
+use Rattle.schemes.specs.declared.packet.Refused.TheVariants as by_scheme
+use Rattle.schemes.specs.Tables.{Tables, tables}
+use Rattle.schemes.specs.Service.{address_given, decide, node_step}
 use Rattle.generations.specs.Boards.{scheme_of}
 use Rattle.generations.specs.Notices.{newest_in}
 use Rattle.generations.specs.Beginnings.{Beginning, board_after}

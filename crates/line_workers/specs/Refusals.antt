@@ -1,6 +1,6 @@
 -- How refusals are answered.
 use Rattle.std.specs.Prelude.{◌≡◌}
-use Rattle.node_table.specs.declared.packet.Refused.TheVariants as by_scheme
+use Rattle.schemes.specs.declared.packet.Refused.TheVariants as by_scheme
 use Rattle.forwarders.specs.declared.refused.Refused.{Refused}
 use Rattle.forwarders.specs.declared.refused.Refused.TheVariants as refused
 use Rattle.live_lines.specs.declared.answer.Answer.{Answer}

@@ -1,7 +1,7 @@
 -- What the thread that puts tables answers, and what it puts.
 use Rattle.std.specs.Prelude.{◌≡◌, ◌⊎◌, ◌++◌, ◌∷◌, [], ◌<◌, ℕ, List, Option, Some, None, length}
 use Rattle.graph_edits.specs.Edges.{below}
-use Rattle.node_table.specs.declared.parts.Parts.{Parts}
+use Rattle.schemes.specs.declared.parts.Parts.{Parts}
 use Rattle.router_table.specs.Order.{IsTable}
 use Rattle.router_table.specs.Table.{table_at}
 use Rattle.generations.specs.Beginnings.{Beginning, GoesOn, board_after}

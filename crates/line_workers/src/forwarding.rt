@@ -10,8 +10,8 @@ use crate::workplace::Workplace;
 use forwarders::Refused;
 use line_exchange::{Answered, Ask, Stream};
 use live_lines::{Answer, Asked};
-use node_table::{Address, Packet};
 use packet_ways::{BoardName, Carried, Trip};
+use schemes::{Address, Packet};
 use service_workers::{ForwarderOf, Gate, StopCause};
 use std::marker::PhantomData;
 use std::sync::Wait;
@@ -107,10 +107,10 @@ fn named(refused: Refused) -> Option<Answer>
 {
     match refused {
         Refused::GenerationGone => Some(Answer::Gone),
-        Refused::NoNode => Some(Answer::NotCarried(node_table::Refused::NoNode)),
-        Refused::Unreachable => Some(Answer::NotCarried(node_table::Refused::Unreachable)),
-        Refused::Stray => Some(Answer::NotCarried(node_table::Refused::Stray)),
-        Refused::Spent => Some(Answer::NotCarried(node_table::Refused::Spent)),
+        Refused::NoNode => Some(Answer::NotCarried(schemes::Refused::NoNode)),
+        Refused::Unreachable => Some(Answer::NotCarried(schemes::Refused::Unreachable)),
+        Refused::Stray => Some(Answer::NotCarried(schemes::Refused::Stray)),
+        Refused::Spent => Some(Answer::NotCarried(schemes::Refused::Spent)),
         Refused::BoardShut => None,
     }
 }

@@ -1,6 +1,6 @@
 // The thread that puts tables.
 ghost use Rattle.std.specs.Prelude.{◌≡◌, ◌<◌, ◌∷◌, ◌++◌, [], ℕ, IfSome, MatchOption, None, Some, map};
-ghost use Rattle.node_table.specs.declared.parts.Parts.{Parts};
+ghost use Rattle.schemes.specs.declared.parts.Parts.{Parts};
 ghost use Rattle.generations.specs.Beginnings.{Beginning, GoesOn, board_after};
 ghost use Rattle.generations.specs.Boards.{scheme_of};
 ghost use Rattle.generations.specs.Shelves.{plain};
@@ -13,8 +13,8 @@ use forwarders::latest_on;
 use generations::{Board, BoardReader, History, Shelved};
 use line_exchange::{Answered, Ask, Stream};
 use live_lines::{Answer, Asked};
-use node_table::Scheme;
 use packet_ways::BoardName;
+use schemes::Scheme;
 use service_workers::StopCause;
 use std::alloc::Global;
 use std::marker::PhantomData;

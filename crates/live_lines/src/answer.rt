@@ -10,9 +10,9 @@ use command_output::{
 };
 use generations::{Mark, Verdict};
 use graph_edits::Code;
-use node_table::{Address, Move, Packet, Refused};
 use packet_bytes::{WireRefused, moved_text, packet_text, refused_name, told_text, unread_name};
 use packet_ways::Carried;
+use schemes::{Address, Move, Packet, Refused};
 use std::alloc::{AllocError, Global};
 
 /// What is answered to a line.

@@ -11,9 +11,9 @@ ghost use Rattle.live_lines.specs.Lines.{AddressAsks, AsksBehind, AsksJust, HopA
 use crate::digits::{hop_of, launch_of};
 use crate::words::{Word, is_folder, word_in, words_in};
 use graph_edits::Change;
-use node_table::{Address, Packet};
 use packet_bytes::WireRefused;
 use requests::WORN_LIMIT;
+use schemes::{Address, Packet};
 use std::alloc::{AllocError, Global};
 use written_values::{change_in, node, number, op};
 

@@ -4,8 +4,8 @@ ghost use Rattle.hex.specs.Hex.{is_hex_digit};
 ghost use Rattle.live_lines.specs.Lines.{AreHex, AsksJust, HopAsks, LaunchAsks};
 
 use crate::asked::Asked;
-use node_table::{Address, Packet};
 use packet_bytes::{ADDRESS_SIZE, NoBytes, PACKET_SIZE, Wire, WireRefused, bytes_in};
+use schemes::{Address, Packet};
 
 /// Whether a byte is a hex digit, in either case.
 fn is_digit(byte: u8) -> bool

@@ -2,7 +2,7 @@
 use arrayvec::ArrayVec;
 use heavy_labels::{Label, MOST_LIGHTS};
 use live_lines::{Answer, Asked, asked_in};
-use node_table::{Address, Home, Packet};
+use schemes::{Address, Home, Packet};
 use std::alloc::Global;
 use std::process::Abort;
 

@@ -3,7 +3,7 @@
 use crate::helpers::{address, expect_asked, expect_text, got, packet};
 use graph_edits::{Change, Op};
 use live_lines::{Answer, Asked};
-use node_table::Move;
+use schemes::Move;
 
 #[test]
 fn reads_an_edit_again(rt: HostRuntime) {

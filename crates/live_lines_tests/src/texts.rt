@@ -3,8 +3,8 @@ use crate::helpers::{expect_text, got, packet};
 use generations::{Mark, Verdict};
 use graph_edits::Code;
 use live_lines::Answer;
-use node_table::Move;
 use packet_ways::Carried;
+use schemes::Move;
 
 #[test]
 fn texts_of_great_numbers(rt: HostRuntime) {

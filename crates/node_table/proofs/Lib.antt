@@ -1,5 +1,1 @@
-pub mod Basics
-pub mod Serving
-pub mod OnTheWay
-pub mod LocalForms
 pub mod Builds

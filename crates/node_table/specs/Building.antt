@@ -4,20 +4,17 @@ use Rattle.std.specs.List.{All, IsDistinct}
 use Rattle.std.specs.List.Sorted.{IsStrictlyIncreasing}
 use Rattle.std.specs.declared.vec.Vec.{Vec}
 use Rattle.graph_edits.specs.Edges.{Network}
-use Rattle.distances.specs.Nearest.{near_limit}
-use Rattle.distances.specs.declared.nearest.Near.{Near}
+use Rattle.distances.specs.Nearest.{KnowsNearest, near_limit}
+use Rattle.landmarks.specs.declared.near.Near.{Near}
 use Rattle.heavy_labels.specs.Label.{Label}
 use Rattle.heavy_labels.specs.declared.numbered_member.NumberedMember.{NumberedMember}
-use Rattle.node_table.specs.declared.parts.Parts.{Parts}
-use Rattle.node_table.specs.Entry.{Entry}
-use Rattle.node_table.specs.declared.parts.Listed.{Listed}
-use Rattle.node_table.specs.Tables.{nodes_of, or_false, value_at}
+use Rattle.schemes.specs.declared.parts.Parts.{Parts}
+use Rattle.schemes.specs.Entry.{Entry}
+use Rattle.schemes.specs.declared.parts.Listed.{Listed}
+use Rattle.node_table.specs.declared.survey.Survey.{Survey}
+use Rattle.schemes.specs.Tables.{items_at, nodes_of, or_false, value_at}
 use Rattle.node_table.specs.Columns.{AreRowsWithin, IsBuiltBetween}
 use Rattle.node_table.specs.RowLists.{Row, nodes_in}
-
--- the list at a place, empty where there is none
-abbrev pub items_at : {X A : Type 0} → List (Vec X A) → ℕ → List X
-items_at vs x = elim (slice_get vs x) [ None ↦ [] | Some v ↦ v.items ]
 
 -- two tables say the same of all but one place
 abbrev pub AgreeBut : {X : Type 0} → ℕ → (ℕ → X) → (ℕ → X) → Type 0
@@ -100,12 +97,29 @@ pub record IsWith (p : Parts) (r : ℕ) (ws : List Row) (ls : List Listed) (q : 
   pub homes_length : length q.homes.items ≡ length p.homes.items
   pub homes : (v : ℕ) → value_at q.homes.items v ≡ home_after (value_at p.nearest.items v) r ls v (value_at p.homes.items v)
 
+-- a survey has the nearest landmark of each node
+abbrev pub IsComplete : Survey → Type 0
+IsComplete survey = KnowsNearest survey.graph.now survey.landmarks.now survey.nearest.now.nearest
+
+-- the trees of the roots from the first to below the last can be built
+pub record CanBuild (survey : Survey) (first last : ℕ) : Type 0 where
+  -- the survey is complete
+  pub known : IsComplete survey
+  -- the last isn't before the first
+  pub order : first ≤ last
+  -- the roots are nodes of the network
+  pub inside : last ≤ survey.graph.now.nodes
+
 -- the tables of a build that holds the trees of the roots from j to below k
 pub record IsBuildOf (m : Network) (flags : List Bool) (nearest : List (Option Near)) (generation : ℕ) (p : Parts) (j k : ℕ) : Type 0 where
   pub built : IsBuiltBetween m p j k
   pub landmarks : p.landmarks.items ≡ flags
   pub nearest_list : p.nearest.items ≡ nearest
   pub given : p.generation ≡ generation
+
+-- the same of a build from this survey
+abbrev pub IsBuiltFrom : Survey → Parts → ℕ → ℕ → Type 0
+IsBuiltFrom survey = IsBuildOf survey.graph.now survey.landmarks.now survey.nearest.now.nearest survey.generation
 
 -- the first list, and the second where the first is empty
 abbrev pub first_list : {X : Type 0} → List X → List X → List X

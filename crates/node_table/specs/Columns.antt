@@ -13,16 +13,16 @@ use Rattle.route_tree.specs.declared.member.Member.{Member}
 use Rattle.heavy_labels.specs.Label.{Label}
 use Rattle.heavy_labels.specs.Numbering.{Line, Place, tree_lines, Among}
 use Rattle.heavy_labels.specs.Stepped.{record_of}
-use Rattle.node_table.specs.Entry.{Entry}
-use Rattle.node_table.specs.declared.parts.Parts.{Parts}
-use Rattle.node_table.specs.declared.parts.Listed.{Listed}
-use Rattle.distances.specs.declared.nearest.Near.{Near}
+use Rattle.schemes.specs.Entry.{Entry}
+use Rattle.schemes.specs.declared.parts.Parts.{Parts}
+use Rattle.schemes.specs.declared.parts.Listed.{Listed}
+use Rattle.landmarks.specs.declared.near.Near.{Near}
 use Rattle.distances.specs.Nearest.{IsNearestOf}
 use Rattle.distances.specs.declared.reach.Reached.{Reached}
 use Rattle.distances.specs.declared.linked.Linked.{Linked}
-use Rattle.node_table.specs.Ports.{neighbours, port_to}
-use Rattle.node_table.specs.Tables.{tables, ports_at, entries_at, directory_at, first_entry, first_listed, roots_of, nodes_of}
-use Rattle.node_table.specs.Checks.{up_port, down_port, IsListed}
+use Rattle.schemes.specs.Ports.{neighbours, port_to}
+use Rattle.schemes.specs.Tables.{tables, ports_at, entries_at, directory_at, first_entry, first_listed, roots_of, nodes_of}
+use Rattle.schemes.specs.Checks.{up_port, down_port, IsListed}
 use Rattle.node_table.specs.RowLists.{Row, entry_in, label_in}
 
 -- the port at a node to its parent

@@ -1,16 +1,3 @@
-pub mod Checks
-pub mod Local
-pub mod Ports
-pub mod Service
-pub mod Tables
-pub mod KnownNearest
-pub mod Schemes
-pub mod Trails
-pub mod Laws
 pub mod Columns
 pub mod RowLists
 pub mod Building
-pub mod Ways
-pub mod Apart
-pub mod Entry
-pub mod Packed

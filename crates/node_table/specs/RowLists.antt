@@ -6,21 +6,13 @@ use Rattle.distances.specs.declared.reach.Reached.{Reached}
 use Rattle.distances.specs.declared.linked.Linked.{Linked}
 use Rattle.heavy_labels.specs.Label.{Label}
 use Rattle.heavy_labels.specs.declared.numbered_member.NumberedMember.{NumberedMember}
-use Rattle.node_table.specs.Entry.{Entry}
+use Rattle.schemes.specs.Entry.{Entry}
 
 -- a member of a root's tree, with its entry for the root and its label
 pub record Row : Type 0 where
   pub node : ℕ
   pub entry : Entry
   pub label : Label
-
--- a table has for each of the first n nodes of a list a place at which the list has that node
-abbrev pub ArePlacesTo : List ℕ → ℕ → List ℕ → Type 0
-ArePlacesTo list n table = (i : ℕ) → i < n → (slice_index table (slice_index list i) < length list) × (slice_index list (slice_index table (slice_index list i)) ≡ slice_index list i)
-
--- the same for each node of the list
-abbrev pub ArePlaces : List ℕ → List ℕ → Type 0
-ArePlaces list table = ArePlacesTo list (length list) table
 
 -- the nodes that were reached
 abbrev pub nodes_linked : List Linked → List ℕ

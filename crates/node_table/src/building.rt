@@ -2,26 +2,23 @@
 ghost use Rattle.std.specs.Prelude.{◌≡◌, ◌<◌, ◌≤◌, ◌+◌, ◌++◌, ◌∷◌, ◌==◌, [], ℕ, None, cond, All, IfOk, OnOk, length, map, nat_eq};
 ghost use Rattle.std.specs.List.{IsDistinct};
 ghost use Rattle.std.specs.List.Sorted.{IsNonDecreasingBy, IsPermutation};
-ghost use Rattle.node_table.specs.Building.{AgreeBut, GrowBy, IsDirectoryAfter, IsDirectoryOf, IsWith, IsBuildOf, entries_for, has_home, home_after, home_by, items_at, limit_for, listed_member};
+ghost use Rattle.node_table.specs.Building.{AgreeBut, GrowBy, IsDirectoryAfter, IsDirectoryOf, IsComplete, IsWith, IsBuiltFrom, entries_for, has_home, home_after, home_by, limit_for, listed_member, CanBuild};
 ghost use Rattle.node_table.specs.Columns.{AreRowsWithin};
-ghost use Rattle.node_table.specs.KnownNearest.{CanBuild, KnowsNearest};
-ghost use Rattle.node_table.specs.Ports.{neighbours};
+ghost use Rattle.schemes.specs.Ports.{neighbours};
 ghost use Rattle.node_table.specs.RowLists.{AreReached, nodes_numbered, rows_by};
-ghost use Rattle.node_table.specs.Schemes.{IsSchemeUnder};
-ghost use Rattle.node_table.specs.Tables.{value_at};
+ghost use Rattle.schemes.specs.Schemes.{IsSchemeUnder};
+ghost use Rattle.schemes.specs.Tables.{value_at, items_at};
 
 use crate::columns::{entry_of, number_reached};
-use crate::entry::Entry;
-use crate::laws::graph_is_sound;
 use crate::numbering::{ByLists, ByTrees, Numbering};
 use crate::partial::PartialScheme;
-use crate::parts::{Listed, Near, Parts};
-use crate::scheme::Scheme;
+use crate::survey::Survey;
 use clusters::cluster_in;
 use distances::{Linked, Nearest, Workspace, from_landmarks};
 use graph_edits::Graph;
 use heavy_labels::{Label, Numbered, NumberedMember};
 use landmarks::Landmarks;
+use schemes::{Entry, Listed, Near, Parts, Scheme, graph_is_sound};
 use std::alloc::{AllocError, Allocator, Global};
 
 /// For how many entries a list has room at first. A node is in many trees, so a smaller list would only grow more often.
@@ -202,32 +199,31 @@ fn add_rows(
 /// what was reached, and the places tell where.
 fn root_members<N: Numbering>(
     alloc: Global,
-    graph: &Graph,
-    landmarks: &Landmarks,
-    nearest: &Nearest,
+    survey: &Survey<'_>,
     workspace: &mut Workspace,
     places: &mut [u16],
     root: u16,
     numbering: &N,
 ) -> Result<Numbered, AllocError>
-    requires inside { root < graph.now.nodes }
-    requires known { KnowsNearest graph.now landmarks.now nearest.now.nearest }
-    requires workspace { workspace.old.nodes ≡ graph.now.nodes }
-    requires places { length places.old ≡ graph.now.nodes }
+    requires inside { root < survey.now.graph.now.nodes }
+    requires known { IsComplete survey.now }
+    requires workspace { workspace.old.nodes ≡ survey.now.graph.now.nodes }
+    requires places { length places.old ≡ survey.now.graph.now.nodes }
     ensures workspace { workspace.new.nodes ≡ workspace.old.nodes }
     ensures apart { IfOk result (λ numbered. IsDistinct nat_eq (nodes_numbered numbered.items)) }
-    ensures inside { IfOk result (λ numbered. All (λ n. n.node < graph.now.nodes) numbered.items) }
+    ensures inside { IfOk result (λ numbered. All (λ n. n.node < survey.now.graph.now.nodes) numbered.items) }
     ensures reached { IfOk result (λ numbered. AreReached workspace.new.members places.new numbered.items) }
     ensures column { IfOk result (λ numbered.
-        AreRowsWithin graph.now (limit_for landmarks.now nearest.now.nearest root) root
+        AreRowsWithin survey.now.graph.now (limit_for survey.now.landmarks.now survey.now.nearest.now.nearest root) root
         (rows_by root workspace.new.members places.new numbered.items)) }
 {
+    let graph = survey.graph;
     graph_is_sound(graph);
-    if landmarks.holds(root) {
+    if survey.landmarks.holds(root) {
         workspace.from_root(graph, root)?;
         return number_reached(alloc, graph, root, workspace.members(), places, numbering);
     }
-    cluster_in(workspace, graph, nearest, root)?;
+    cluster_in(workspace, graph, survey.nearest, root)?;
     number_reached(alloc, graph, root, workspace.members(), places, numbering)
 }
 
@@ -303,92 +299,44 @@ fn flag_list(alloc: Global, landmarks: &Landmarks) -> Result<Vec<bool>, AllocErr
 }
 
 /// The tables without a tree: what a range of roots that begins with this one has at first.
-fn empty_parts(
-    alloc: Global,
-    graph: &Graph,
-    landmarks: &Landmarks,
-    nearest: &Nearest,
-    generation: u64,
-    first: u16,
-) -> Result<Parts, AllocError>
-    requires { KnowsNearest graph.now landmarks.now nearest.now.nearest }
-    ensures { IfOk result (λ parts.
-        IsBuildOf graph.now landmarks.now nearest.now.nearest generation parts first first) }
+fn empty_parts(alloc: Global, survey: &Survey<'_>, first: u16) -> Result<Parts, AllocError>
+    requires { IsComplete survey.now }
+    ensures { IfOk result (λ parts. IsBuiltFrom survey.now parts first first) }
 {
-    let nodes = graph.nodes();
+    let nodes = survey.graph.nodes();
     Ok(Parts {
         nodes,
-        generation,
-        landmarks: flag_list(alloc, landmarks)?,
-        ports: all_ports(alloc, graph)?,
-        nearest: nearest_list(alloc, nodes, nearest)?,
+        generation: survey.generation,
+        landmarks: flag_list(alloc, survey.landmarks)?,
+        ports: all_ports(alloc, survey.graph)?,
+        nearest: nearest_list(alloc, nodes, survey.nearest)?,
         entries: empty_lists(alloc, nodes)?,
         directories: empty_lists(alloc, nodes)?,
         homes: no_homes(alloc, nodes)?,
     })
 }
 
-/// One root more of the range that begins with `first`: the members of its tree are numbered, and their rows put into the tables.
-fn add_root<N: Numbering>(
-    alloc: Global,
-    graph: &Graph,
-    landmarks: &Landmarks,
-    nearest: &Nearest,
-    workspace: &mut Workspace,
-    places: &mut [u16],
-    parts: &mut Parts,
-    first: u16,
-    root: u16,
-    numbering: &N,
-) -> Result<(), AllocError>
-    requires inside { root < graph.now.nodes }
-    requires known { KnowsNearest graph.now landmarks.now nearest.now.nearest }
-    requires workspace { workspace.old.nodes ≡ graph.now.nodes }
-    requires places { length places.old ≡ graph.now.nodes }
-    requires order { first ≤ root }
-    requires built { IsBuildOf graph.now landmarks.now nearest.now.nearest parts.old.generation parts.old first root }
-    ensures workspace { workspace.new.nodes ≡ workspace.old.nodes }
-    ensures built { OnOk result
-        (IsBuildOf graph.now landmarks.now nearest.now.nearest parts.old.generation parts.new first (root + 1)) }
-{
-    let numbered = root_members(
-        alloc, graph, landmarks, nearest, workspace, places, root, numbering,
-    )?;
-    add_rows(alloc, parts, root, workspace.members(), places, numbered)
-}
-
-/// The trees of the roots from the first to below the last, one after the other, over one workspace.
+/// The trees of the roots from the first to below the last, one after the other, over one workspace: the members of each are
+/// numbered, and their rows put into the tables.
 fn add_roots<N: Numbering>(
     alloc: Global,
-    graph: &Graph,
-    landmarks: &Landmarks,
-    nearest: &Nearest,
+    survey: &Survey<'_>,
     parts: &mut Parts,
     first: u16,
     last: u16,
     numbering: &N,
 ) -> Result<(), AllocError>
-    requires range { CanBuild graph.now landmarks.now nearest.now.nearest first last }
-    requires built { IsBuildOf graph.now landmarks.now nearest.now.nearest parts.old.generation parts.old first first }
-    ensures { OnOk result
-        (IsBuildOf graph.now landmarks.now nearest.now.nearest parts.old.generation parts.new first last) }
+    requires range { CanBuild survey.now first last }
+    requires built { IsBuiltFrom survey.now parts.old first first }
+    ensures { OnOk result (IsBuiltFrom survey.now parts.new first last) }
 {
-    let nodes = graph.nodes();
+    let nodes = survey.graph.nodes();
     let mut workspace = Workspace::new(alloc, nodes)?;
-    let mut places = vec![in alloc; 0; nodes as usize]?;
+    let mut room = vec![in alloc; 0; nodes as usize]?;
+    let places = room.as_mut_slice();
     for root in first..last {
-        add_root(
-            alloc,
-            graph,
-            landmarks,
-            nearest,
-            &mut workspace,
-            places.as_mut_slice(),
-            parts,
-            first,
-            root,
-            numbering,
-        )?;
+        let numbered = root_members(alloc, survey, &mut workspace, places, root, numbering)?;
+        add_rows(alloc, parts, root, workspace.members(), places, numbered)?;
     }
     Ok(())
 }
@@ -397,23 +345,17 @@ fn add_roots<N: Numbering>(
 /// [`build_by_lists`] does it, and nothing of the scratch is kept. An `Err` means that memory was refused.
 pub fn build_between<A: Allocator + Clone>(
     alloc: Global,
-    graph: &Graph,
-    landmarks: &Landmarks,
-    nearest: &Nearest,
-    generation: u64,
+    survey: &Survey<'_>,
     first: u16,
     last: u16,
     scratch: A,
 ) -> Result<PartialScheme, AllocError>
-    requires { CanBuild graph.now landmarks.now nearest.now.nearest first last }
-    ensures { IfOk result (λ partial.
-        IsBuildOf graph.now landmarks.now nearest.now.nearest generation partial first last) }
+    requires { CanBuild survey.now first last }
+    ensures { IfOk result (λ partial. IsBuiltFrom survey.now partial first last) }
 {
-    let mut parts = empty_parts(alloc, graph, landmarks, nearest, generation, first)?;
+    let mut parts = empty_parts(alloc, survey, first)?;
     let lists = ByLists { scratch };
-    add_roots(
-        alloc, graph, landmarks, nearest, &mut parts, first, last, &lists,
-    )?;
+    add_roots(alloc, survey, &mut parts, first, last, &lists)?;
     Ok(PartialScheme::of(parts, first, last))
 }
 
@@ -429,17 +371,14 @@ fn build_by<N: Numbering>(
     ensures { IfOk result (λ scheme. IsSchemeUnder graph.now landmarks.now generation scheme) }
 {
     let nearest = from_landmarks(alloc, graph, landmarks)?;
-    let mut parts = empty_parts(alloc, graph, landmarks, &nearest, generation, 0)?;
-    add_roots(
-        alloc,
+    let survey = Survey {
         graph,
         landmarks,
-        &nearest,
-        &mut parts,
-        0,
-        graph.nodes(),
-        numbering,
-    )?;
+        nearest: &nearest,
+        generation,
+    };
+    let mut parts = empty_parts(alloc, &survey, 0)?;
+    add_roots(alloc, &survey, &mut parts, 0, graph.nodes(), numbering)?;
     let scheme = PartialScheme::of(parts, 0, graph.nodes()).finish(alloc, graph)?;
     Ok(scheme)
 }

@@ -3,14 +3,15 @@ ghost use Rattle.std.specs.Prelude.{◌≡◌, ◌<◌, ◌≤◌, ℕ, Option, 
 ghost use Rattle.std.specs.List.{All, IsDistinct};
 ghost use Rattle.distances.specs.Workspace.{AreLinked};
 ghost use Rattle.node_table.specs.Columns.{linked_member, AreRowsWithin, IsTreeWithin};
-ghost use Rattle.node_table.specs.RowLists.{ArePlaces, AreReached, entry_by, nodes_linked, nodes_numbered, rows_by};
+ghost use Rattle.node_table.specs.RowLists.{AreReached, entry_by, nodes_linked, nodes_numbered, rows_by};
+ghost use Rattle.schemes.specs.Places.{ArePlaces};
 
-use crate::entry::Entry;
 use crate::numbering::Numbering;
 use distances::Linked;
 use graph_edits::{Graph, MOST_NODES};
 use heavy_labels::{Numbered, NumberedMember};
 use route_tree::{MOST_MEMBERS, Member};
+use schemes::Entry;
 use std::alloc::{AllocError, Global};
 
 const _: () = prove!(MOST_NODES as usize <= MOST_MEMBERS);

@@ -1,16 +1,13 @@
 // What a build has of a range of roots: it is joined with what stands behind, and finished when no root is left.
 ghost use Rattle.std.specs.Prelude.{◌≡◌, ◌<◌, ◌++◌, ℕ, IfOk, OnOk, length};
-ghost use Rattle.node_table.specs.Building.{AreAsLong, GrowBy, IsJoined, IsJoinedAt, JoinsRanges, first_list, first_some, items_at};
+ghost use Rattle.node_table.specs.Building.{AreAsLong, GrowBy, IsJoined, IsJoinedAt, JoinsRanges, first_list, first_some};
 ghost use Rattle.node_table.specs.Columns.{IsBuiltBetween};
-ghost use Rattle.node_table.specs.Schemes.{IsSchemeUnder};
-ghost use Rattle.node_table.specs.Tables.{value_at};
+ghost use Rattle.schemes.specs.Schemes.{IsSchemeUnder};
+ghost use Rattle.schemes.specs.Tables.{value_at, items_at};
 
-use crate::entry::Entry;
-use crate::laws::graph_is_sound;
-use crate::parts::{Listed, Parts};
-use crate::scheme::Scheme;
 use graph_edits::Graph;
 use heavy_labels::Label;
+use schemes::{Entry, Listed, Parts, Scheme, graph_is_sound};
 use std::alloc::{AllocError, Global};
 use std::marker::Model;
 use std::mem;
@@ -25,7 +22,7 @@ pub struct PartialScheme {
 }
 
 impl Model for PartialScheme {
-    ghost use Rattle.node_table.specs.declared.parts.Parts.{Parts};
+    ghost use Rattle.schemes.specs.declared.parts.Parts.{Parts};
 
     ghost Value = { Parts };
 

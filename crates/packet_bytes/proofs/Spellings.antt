@@ -5,9 +5,9 @@ use Rattle.std.specs.List.{flat_map, AllByRecursion}
 use Rattle.std.proofs.lemmas.List.{take_at, drop_at, drop-drop, length-append, length-replicate}
 use Rattle.std.proofs.lemmas.List.Elements.{recursion_from_All}
 use Rattle.std.proofs.lemmas.Nat.{from_be_bytes-to_be_bytes_2, from_be_bytes-to_be_bytes_8}
-use Rattle.node_table.specs.declared.packet.Address.{Address}
-use Rattle.node_table.specs.declared.packet.Home.{Home}
-use Rattle.node_table.specs.declared.packet.Packet.{Packet}
+use Rattle.schemes.specs.declared.packet.Address.{Address}
+use Rattle.schemes.specs.declared.packet.Home.{Home}
+use Rattle.schemes.specs.declared.packet.Packet.{Packet}
 use Rattle.packet_bytes.specs.Layout.{most_ports, home_size}
 use Rattle.packet_bytes.specs.Laws.{PacketsAreRead, OnePacket, AddressesAreRead, OneAddress}
 use Rattle.packet_bytes.specs.Refusals.{are_zeros, ports_refusal, home_refusal, packet_refusal, address_refusal}

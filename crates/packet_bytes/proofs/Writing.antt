@@ -4,8 +4,8 @@ use Rattle.std.specs.Int.{w16, w64, to_be_bytes}
 use Rattle.std.proofs.lemmas.List.{append-nil}
 use borrow.Rule.Slice.PartMut.{put_mid}
 use Rattle.packet_bytes.specs.Spelling.{ports_text, home_text, IsHome, SpellsAddress}
-use Rattle.node_table.specs.declared.packet.Address.{Address}
-use Rattle.node_table.specs.declared.packet.Home.{Home}
+use Rattle.schemes.specs.declared.packet.Address.{Address}
+use Rattle.schemes.specs.declared.packet.Home.{Home}
 use Rattle.packet_bytes.proofs.Places.{put_at}
 
 abbrev zeros : ℕ → List ℕ

@@ -1,7 +1,7 @@
 -- Laws of spellings.
 use Rattle.std.specs.Prelude.{◌≡◌, ℕ, List, None}
-use Rattle.node_table.specs.declared.packet.Address.{Address}
-use Rattle.node_table.specs.declared.packet.Packet.{Packet}
+use Rattle.schemes.specs.declared.packet.Address.{Address}
+use Rattle.schemes.specs.declared.packet.Packet.{Packet}
 use Rattle.packet_bytes.specs.Refusals.{packet_refusal, address_refusal}
 use Rattle.packet_bytes.specs.Spelling.{SpellsPacket, SpellsAddress}
 

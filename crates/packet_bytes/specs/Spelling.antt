@@ -3,9 +3,9 @@ use Rattle.std.specs.Prelude.{◌≡◌, ℕ, ◌-◌, ◌^◌, ◌<◌, ◌≤�
 use Rattle.std.specs.List.{flat_map, All}
 use Rattle.std.specs.Int.{w16, w64, to_be_bytes}
 use Rattle.heavy_labels.specs.Label.{Label}
-use Rattle.node_table.specs.declared.packet.Address.{Address}
-use Rattle.node_table.specs.declared.packet.Home.{Home}
-use Rattle.node_table.specs.declared.packet.Packet.{Packet}
+use Rattle.schemes.specs.declared.packet.Address.{Address}
+use Rattle.schemes.specs.declared.packet.Home.{Home}
+use Rattle.schemes.specs.declared.packet.Packet.{Packet}
 use Rattle.packet_bytes.specs.Layout.{most_ports, home_size}
 
 -- the places for ports: the ports that there are, and 0 in each unused place

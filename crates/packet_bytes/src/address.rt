@@ -11,7 +11,7 @@ use crate::layout::{
 use crate::ports::{all_zero, put_ports, read_ports};
 use crate::wire::{Wire, WireRefused};
 use heavy_labels::Label;
-use node_table::{Address, Home};
+use schemes::{Address, Home};
 
 impl Wire for Address {
     type Bytes = [u8; ADDRESS_SIZE];

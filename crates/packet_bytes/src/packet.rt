@@ -7,7 +7,7 @@ use crate::layout::{DESTINATION_AT, FIRST_AT, HOPS_AT, PACKET_PORTS_AT, PACKET_S
 use crate::ports::{put_ports, read_ports};
 use crate::wire::{Wire, WireRefused};
 use heavy_labels::Label;
-use node_table::Packet;
+use schemes::Packet;
 
 impl Wire for Packet {
     type Bytes = [u8; PACKET_SIZE];

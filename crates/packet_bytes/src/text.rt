@@ -6,7 +6,7 @@ ghost use Rattle.packet_bytes.specs.Texts.{address_line, move_text, packet_line,
 use crate::layout::PACKET_SIZE;
 use crate::wire::{Wire, WireRefused};
 use itoa::Buffer;
-use node_table::{Address, Move, Packet, Refused};
+use schemes::{Address, Move, Packet, Refused};
 use std::alloc::{AllocError, Global};
 
 /// `port=65535 next=65535 packet=`, a packet's digits and a line feed: no line with a packet is longer.

@@ -1,12 +1,12 @@
 -- What a board's one list of postings says of a packet.
 use Rattle.std.specs.Prelude.{◌≡◌, ◌<◌, ℕ, List, Ok, Err}
-use Rattle.node_table.specs.declared.parts.Parts.{Parts}
-use Rattle.node_table.specs.declared.packet.Packet.{Packet}
-use Rattle.node_table.specs.declared.packet.Move.TheVariants.{Delivered}
-use Rattle.node_table.specs.declared.packet.Refused.TheVariants as by_scheme
-use Rattle.node_table.specs.Tables.{Tables, tables}
-use Rattle.node_table.specs.Service.{address, decide, node_step}
-use Rattle.node_table.specs.Trails as trail
+use Rattle.schemes.specs.declared.parts.Parts.{Parts}
+use Rattle.schemes.specs.declared.packet.Packet.{Packet}
+use Rattle.schemes.specs.declared.packet.Move.TheVariants.{Delivered}
+use Rattle.schemes.specs.declared.packet.Refused.TheVariants as by_scheme
+use Rattle.schemes.specs.Tables.{Tables, tables}
+use Rattle.schemes.specs.Service.{address, decide, node_step}
+use Rattle.schemes.specs.Trails as trail
 use Rattle.generations.specs.Beginnings.{Beginning, GoesOn}
 use Rattle.forwarders.specs.Arrivals.{IsLawfulList, IsPublished}
 use Rattle.packet_ways.specs.declared.carried.Carried.{Carried}

@@ -1,9 +1,10 @@
 // Graphs, landmarks and the comparison that the tests share: each call is made again where memory was refused.
 use graph_edits::Graph;
 use landmarks::Landmarks;
-use node_table::{Scheme, build};
+use node_table::build;
 pub(crate) use sample_networks::Edge;
 use scheme_builds::scheme_in_threads;
+use schemes::Scheme;
 use std::alloc::Global;
 use std::process::Abort;
 use std::sync::Wait;

@@ -4,10 +4,10 @@ use crate::helpers::{
     words_of,
 };
 use commands::run_words_at;
-use node_table::Scheme;
 use router_table::RouterTable;
 use sample_networks::{PATH, graph_of, words_at};
 use scheme_builds::scheme_of;
+use schemes::Scheme;
 use std::alloc::{Allocator, Global};
 use std::fs;
 use std::fs::{File, Metadata, OpenOptions};

@@ -1,10 +1,10 @@
 -- What a router answers to a line, and the text of an answer.
 use Rattle.std.specs.Prelude.{◌≡◌, ◌⊎◌, ◌-◌, ℕ, Result, Ok, Err, Option, Some, None, List, [], ◌∷◌, ◌++◌, codes, decimal, get_or, length}
 use Rattle.std.specs.List.{flat_map}
-use Rattle.node_table.specs.declared.packet.Address.{Address}
-use Rattle.node_table.specs.declared.packet.Packet.{Packet}
-use Rattle.node_table.specs.declared.packet.Move.{Move}
-use Rattle.node_table.specs.declared.packet.Refused.{Refused}
+use Rattle.schemes.specs.declared.packet.Address.{Address}
+use Rattle.schemes.specs.declared.packet.Packet.{Packet}
+use Rattle.schemes.specs.declared.packet.Move.{Move}
+use Rattle.schemes.specs.declared.packet.Refused.{Refused}
 use Rattle.packet_bytes.specs.Texts.{address_line, move_text, packet_line, refused_text, unread_text}
 use Rattle.packet_bytes.specs.declared.wire.WireRefused.{WireRefused}
 use Rattle.router_table.specs.Handing.{hopped, launched}

@@ -7,9 +7,9 @@ ghost use Rattle.router_lines.specs.Answers.{answer_text, behind_comma, listed_t
 use crate::shelf::{LoadRefused, SHELF_SIZE};
 use arrayvec::ArrayVec;
 use itoa::Buffer;
-use node_table::{Address, Move, Packet, Refused};
 use packet_bytes::{WireRefused, moved_text, packet_text, refused_name, told_text, unread_name};
 use router_table::ReadRefused;
+use schemes::{Address, Move, Packet, Refused};
 use std::alloc::{AllocError, Global};
 
 /// What a router answers to a line.

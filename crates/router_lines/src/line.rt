@@ -2,8 +2,8 @@
 ghost use Rattle.std.specs.Prelude.{◌≡◌, ◌≢◌, ◌++◌, MatchOption, ℕ, List};
 ghost use Rattle.router_lines.specs.Lines.{IsAskedIn, IsLaunch, IsHop, load_word};
 
-use node_table::{Address, Packet};
 use packet_bytes::{ADDRESS_SIZE, NoBytes, PACKET_SIZE, Wire, WireRefused, bytes_in};
+use schemes::{Address, Packet};
 
 /// What a line asks for.
 #[derive(Drop)]

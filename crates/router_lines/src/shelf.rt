@@ -8,7 +8,7 @@ ghost use Rattle.router_lines.specs.Answers.{IsAnswerTo, IsLoadedBy, moved_by, n
 use crate::answer::Answer;
 use crate::line::Asked;
 use arrayvec::ArrayVec;
-use node_table::{Address, Packet};
+use schemes::{Address, Packet};
 use std::alloc::{AllocError, AllocFailed, Global};
 use std::marker::Model;
 use table_view::TableFile;

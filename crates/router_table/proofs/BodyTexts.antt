@@ -4,9 +4,9 @@ use Rattle.std.specs.Int.{w16, w64, to_be_bytes}
 use Rattle.std.proofs.lemmas.Bool.{eqb-true}
 use Rattle.std.proofs.lemmas.List.{append-nil, drop_at, nil_from_length, take_at, take-append-drop, take-take}
 use Rattle.std.proofs.lemmas.Option.{cond_some, same_Some}
-use Rattle.node_table.specs.declared.packet.Address.{Address}
-use Rattle.node_table.specs.declared.packet.Home.{Home}
-use Rattle.node_table.specs.declared.parts.Listed.{Listed}
+use Rattle.schemes.specs.declared.packet.Address.{Address}
+use Rattle.schemes.specs.declared.packet.Home.{Home}
+use Rattle.schemes.specs.declared.parts.Listed.{Listed}
 use Rattle.packet_bytes.specs.declared.wire.WireRefused.{WireRefused}
 use Rattle.packet_bytes.specs.Layout.{address_size}
 use Rattle.packet_bytes.specs.Refusals.{address_refusal}

@@ -8,7 +8,7 @@ use Rattle.std.proofs.lemmas.List.Concat.{flat_map-cons}
 use Rattle.std.proofs.lemmas.Nat.{from_be_bytes-to_be_bytes_2}
 use Rattle.std.proofs.lemmas.Option.{none-some, same_Some}
 use Rattle.sha2.proofs.Facts256.{length-sha256}
-use Rattle.node_table.specs.declared.parts.Listed.{Listed}
+use Rattle.schemes.specs.declared.parts.Listed.{Listed}
 use Rattle.packet_bytes.specs.Spelling.{SpellsAddress, address_text}
 use Rattle.packet_bytes.proofs.Spellings.{one_address}
 use Rattle.router_table.specs.declared.head.Head.{Head}

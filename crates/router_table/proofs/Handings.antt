@@ -6,19 +6,19 @@ use Rattle.heavy_labels.specs.Label.{Label}
 use Rattle.heavy_labels.specs.Numbering.{Step, arrived, port, no_parent, no_light, step}
 use Rattle.heavy_labels.specs.Stepped.{record_of}
 use Rattle.heavy_labels.specs.declared.tree_record.Record.{Record}
-use Rattle.node_table.specs.declared.packet.Address.{Address}
-use Rattle.node_table.specs.declared.packet.Home.{Home}
-use Rattle.node_table.specs.declared.packet.Packet.{Packet}
-use Rattle.node_table.specs.declared.packet.Move.{Move}
-use Rattle.node_table.specs.declared.packet.Move.TheVariants.{Delivered, Forward}
-use Rattle.node_table.specs.declared.packet.Refused.{Refused}
-use Rattle.node_table.specs.declared.packet.Refused.TheVariants.{NoNode, Stray, Unreachable}
-use Rattle.node_table.specs.Entry.{Entry}
-use Rattle.node_table.specs.declared.parts.Listed.{Listed}
-use Rattle.node_table.specs.declared.parts.Parts.{Parts}
-use Rattle.node_table.specs.Service.{Carries, address, address_given, by_directory, decide, forward_over, move_at, move_by, node_step, one_less, packet_by, through_home}
-use Rattle.node_table.specs.Tables.{Tables, directory_at, entries_at, first_entry, first_listed, tables}
-use Rattle.node_table.proofs.Serving.Moves.{forward_is}
+use Rattle.schemes.specs.declared.packet.Address.{Address}
+use Rattle.schemes.specs.declared.packet.Home.{Home}
+use Rattle.schemes.specs.declared.packet.Packet.{Packet}
+use Rattle.schemes.specs.declared.packet.Move.{Move}
+use Rattle.schemes.specs.declared.packet.Move.TheVariants.{Delivered, Forward}
+use Rattle.schemes.specs.declared.packet.Refused.{Refused}
+use Rattle.schemes.specs.declared.packet.Refused.TheVariants.{NoNode, Stray, Unreachable}
+use Rattle.schemes.specs.Entry.{Entry}
+use Rattle.schemes.specs.declared.parts.Listed.{Listed}
+use Rattle.schemes.specs.declared.parts.Parts.{Parts}
+use Rattle.schemes.specs.Service.{Carries, address, address_given, by_directory, decide, forward_over, move_at, move_by, node_step, one_less, packet_by, through_home}
+use Rattle.schemes.specs.Tables.{Tables, directory_at, entries_at, first_entry, first_listed, tables}
+use Rattle.schemes.proofs.Serving.Moves.{forward_is}
 use Rattle.router_table.specs.declared.tree_entry.TreeEntry.{TreeEntry}
 use Rattle.router_table.specs.Handing.{AreTablesOf, Hands, WasHanded, hopped, launched}
 use Rattle.router_table.specs.Items.{item_at}

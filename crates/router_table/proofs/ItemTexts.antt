@@ -10,7 +10,7 @@ use Rattle.heavy_labels.specs.Label.{Label}
 use Rattle.heavy_labels.specs.Numbering.{Record as Fields}
 use Rattle.heavy_labels.specs.Stepped.{record_of}
 use Rattle.heavy_labels.specs.declared.tree_record.Record.{Record}
-use Rattle.node_table.specs.declared.parts.Listed.{Listed}
+use Rattle.schemes.specs.declared.parts.Listed.{Listed}
 use Rattle.packet_bytes.specs.Layout.{most_ports}
 use Rattle.packet_bytes.specs.Spelling.{IsLabel}
 use Rattle.router_table.specs.declared.tree_entry.TreeEntry.{TreeEntry}

@@ -1,13 +1,13 @@
 -- Packets that are handed from table to table.
 use Rattle.std.specs.Prelude.{◌≡◌, ℕ, ◌<◌, Ok, List, [], ◌∷◌}
 use Rattle.graph_edits.specs.Edges.{Network}
-use Rattle.node_table.specs.declared.packet.Address.{Address}
-use Rattle.node_table.specs.declared.packet.Packet.{Packet}
-use Rattle.node_table.specs.declared.packet.Move.{Move}
-use Rattle.node_table.specs.declared.packet.Move.TheVariants.{Delivered, Forward}
-use Rattle.node_table.specs.declared.packet.Refused.{Refused}
-use Rattle.node_table.specs.Service.{IsGoodTrip, LeadAlong, address, decide, node_step, one_less}
-use Rattle.node_table.specs.Tables.{Tables}
+use Rattle.schemes.specs.declared.packet.Address.{Address}
+use Rattle.schemes.specs.declared.packet.Packet.{Packet}
+use Rattle.schemes.specs.declared.packet.Move.{Move}
+use Rattle.schemes.specs.declared.packet.Move.TheVariants.{Delivered, Forward}
+use Rattle.schemes.specs.declared.packet.Refused.{Refused}
+use Rattle.schemes.specs.Service.{IsGoodTrip, LeadAlong, address, decide, node_step, one_less}
+use Rattle.schemes.specs.Tables.{Tables}
 use Rattle.router_table.specs.Table.{IsTableOf, Table, shown}
 use Rattle.std.specs.Prelude.{Result}
 

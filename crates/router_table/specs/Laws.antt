@@ -2,10 +2,10 @@
 use Rattle.std.specs.Prelude.{◌≡◌, ℕ, ◌+◌, ◌<◌, Err, List, ◌∷◌, length}
 use Rattle.graph_edits.specs.Edges.{Network}
 use Rattle.graph_edits.specs.Walks.{IsWalk}
-use Rattle.node_table.specs.declared.packet.Packet.{Packet}
-use Rattle.node_table.specs.declared.packet.Refused.TheVariants.{Unreachable}
-use Rattle.node_table.specs.Service.{Serves, address}
-use Rattle.node_table.specs.Tables.{Tables}
+use Rattle.schemes.specs.declared.packet.Packet.{Packet}
+use Rattle.schemes.specs.declared.packet.Refused.TheVariants.{Unreachable}
+use Rattle.schemes.specs.Service.{Serves, address}
+use Rattle.schemes.specs.Tables.{Tables}
 use Rattle.router_table.specs.declared.refused.ReadRefused.{ReadRefused}
 use Rattle.router_table.specs.declared.refused.ReadRefused.TheVariants.{Memory}
 use Rattle.router_table.specs.Handing.{AreTablesOf, IsHandedOver, WasHanded, launched}

@@ -2,7 +2,7 @@
 use Rattle.std.specs.Prelude.{ℕ, ◌<◌, ◌^◌, Option, IfSome, length}
 use Rattle.std.specs.List.{All}
 use Rattle.heavy_labels.specs.declared.tree_record.Record.{Record}
-use Rattle.node_table.specs.declared.packet.Home.{Home}
+use Rattle.schemes.specs.declared.packet.Home.{Home}
 use Rattle.packet_bytes.specs.Spelling.{IsLabel}
 use Rattle.router_table.specs.declared.head.Head.{Head}
 use Rattle.router_table.specs.Items.{AreInOrder}

@@ -4,8 +4,8 @@ use Rattle.std.proofs.Common.{sym}
 use Rattle.std.specs.Int.{Width, w16, w64, byte_len, from_be_bytes}
 use Rattle.heavy_labels.specs.Label.{Label}
 use Rattle.heavy_labels.specs.declared.tree_record.Record.{Record}
-use Rattle.node_table.specs.declared.packet.Address.{Address}
-use Rattle.node_table.specs.declared.parts.Listed.{Listed}
+use Rattle.schemes.specs.declared.packet.Address.{Address}
+use Rattle.schemes.specs.declared.parts.Listed.{Listed}
 use Rattle.packet_bytes.specs.Layout.{most_ports}
 use Rattle.router_table.specs.declared.head.Head.{Head}
 use Rattle.router_table.specs.declared.tree_entry.TreeEntry.{TreeEntry}

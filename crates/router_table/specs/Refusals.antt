@@ -1,7 +1,7 @@
 -- Why bytes are refused: the first case that holds, in the order of the tests.
 use Rattle.std.specs.Prelude.{◌≡◌, ◌≢◌, ℕ, zero, suc, ◌-◌, ◌*◌, ◌≤◌, ◌<◌, nat_lt, if◌then◌else◌, List, ◌++◌, length, get_or, take, drop, Option, Some, None}
 use Rattle.std.specs.Int.{w16, from_be_bytes}
-use Rattle.node_table.specs.declared.parts.Parts.{Parts}
+use Rattle.schemes.specs.declared.parts.Parts.{Parts}
 use Rattle.router_table.specs.declared.refused.ReadRefused.{ReadRefused}
 use Rattle.router_table.specs.declared.refused.ReadRefused.TheVariants.{NoTable, UnknownVersion, CutShort, TooLong, Damaged, NotInOrder, Memory}
 use Rattle.router_table.specs.declared.refused.TableRefused.{TableRefused}

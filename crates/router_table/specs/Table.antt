@@ -1,12 +1,12 @@
 -- What a router keeps of a generation, and when that is what the tables of all nodes say of it.
 use Rattle.std.specs.Prelude.{◌≡◌, ℕ, false, Option, None, List, map, option_map, slice_get}
 use Rattle.heavy_labels.specs.Label.{Label}
-use Rattle.node_table.specs.declared.packet.Address.{Address}
-use Rattle.node_table.specs.Entry.{Entry}
-use Rattle.node_table.specs.declared.parts.Listed.{Listed}
-use Rattle.node_table.specs.declared.parts.Parts.{Parts}
-use Rattle.node_table.specs.Service.{home_of}
-use Rattle.node_table.specs.Tables.{Tables, directory_at, entries_at, ports_at, tables}
+use Rattle.schemes.specs.declared.packet.Address.{Address}
+use Rattle.schemes.specs.Entry.{Entry}
+use Rattle.schemes.specs.declared.parts.Listed.{Listed}
+use Rattle.schemes.specs.declared.parts.Parts.{Parts}
+use Rattle.schemes.specs.Service.{home_of}
+use Rattle.schemes.specs.Tables.{Tables, directory_at, entries_at, ports_at, tables}
 use Rattle.router_table.specs.declared.head.Head.{Head}
 use Rattle.router_table.specs.declared.tree_entry.TreeEntry.{TreeEntry}
 use Rattle.router_table.specs.Items.{item_at}

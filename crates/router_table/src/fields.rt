@@ -11,7 +11,7 @@ use crate::head::Head;
 use crate::item::Item;
 use crate::tree_entry::TreeEntry;
 use heavy_labels::{Label, MOST_LIGHTS, Record};
-use node_table::{Home, Listed};
+use schemes::{Home, Listed};
 
 /// A table's head and lists.
 #[derive(Drop)]

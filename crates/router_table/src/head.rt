@@ -1,4 +1,4 @@
-use node_table::Home;
+use schemes::Home;
 
 /// Who a router is: a node of so many in a generation, and the landmark and label under which it is found, where a landmark
 /// reaches it.

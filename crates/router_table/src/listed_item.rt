@@ -9,7 +9,7 @@ use crate::item::Item;
 use crate::numbers::{put_u16, u8_at, u16_at};
 use arrayvec::ArrayVec;
 use heavy_labels::{Label, MOST_LIGHTS};
-use node_table::Listed;
+use schemes::Listed;
 use std::alloc::AllocError;
 
 impl Item for Listed {

@@ -14,8 +14,8 @@ use crate::item::list_of;
 use crate::numbers::{u16_at, u64_at};
 use crate::refused::ReadRefused;
 use crate::tree_entry::TreeEntry;
-use node_table::{Address, Listed};
 use packet_bytes::Wire;
+use schemes::{Address, Listed};
 use std::alloc::Global;
 
 /// The three lists of a table, and nothing behind them.

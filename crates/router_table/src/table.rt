@@ -1,6 +1,6 @@
 ghost use Rattle.std.specs.Prelude.{◌≡◌, IfErr, IfOk, MatchOption, MatchResult, Ok, map, slice_get};
-ghost use Rattle.node_table.specs.Service.{address_given, decide as packet_given, node_step as move_given};
-ghost use Rattle.node_table.specs.Tables.{Tables, tables};
+ghost use Rattle.schemes.specs.Service.{address_given, decide as packet_given, node_step as move_given};
+ghost use Rattle.schemes.specs.Tables.{Tables, tables};
 ghost use Rattle.router_table.specs.Fields.{table_of};
 ghost use Rattle.router_table.specs.Handing.{hopped, launched};
 ghost use Rattle.router_table.specs.Order.{IsTable};
@@ -17,7 +17,7 @@ use crate::search::find;
 use crate::tree_entry::TreeEntry;
 use crate::writing::{address_in, bytes_of};
 use heavy_labels::{Label, Record};
-use node_table::{
+use schemes::{
     Address, Entry, Listed, Move, NodeRows, Packet, Refused, Scheme, move_from, packet_from,
 };
 use std::alloc::{AllocError, Global};

@@ -10,8 +10,8 @@ use crate::form::{LETTERS, VERSION, digest};
 use crate::head::Head;
 use crate::item::put_list;
 use crate::numbers::{put_u16, put_u64};
-use node_table::Address;
 use packet_bytes::Wire;
+use schemes::Address;
 use std::alloc::{AllocError, Global};
 
 /// The address that a head tells.

@@ -1,10 +1,10 @@
 // Drawn networks: packets that go from table to table, for all pairs, against the trail over which the scheme carries them.
 use crate::helpers::{Edge, got, same, scheme_at, tables_of};
-use node_table::{CarryRefused, Move, Packet, Refused, Scheme, Trail};
 use rand_core::{Rng, SeedableRng};
 use rand_xoshiro::Xoshiro256PlusPlus;
 use router_table::RouterTable;
 use sample_networks::{drawn_edges, drawn_nodes};
+use schemes::{CarryRefused, Move, Packet, Refused, Scheme, Trail};
 use std::alloc::Global;
 use std::process::Abort;
 

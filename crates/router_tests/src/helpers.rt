@@ -1,9 +1,9 @@
 // Graphs, schemes and tables that the tests share.
-use node_table::Scheme;
 use router_table::{ReadRefused, RouterTable};
 pub(crate) use sample_networks::{Edge, RING};
 use sample_networks::{graph_of, words_at};
 use scheme_builds::scheme_of;
+use schemes::Scheme;
 use std::alloc::Global;
 use std::fmt::Debug;
 use std::process::Abort;

@@ -1,8 +1,8 @@
 // Want of memory. Run by `./refuse-memory`, each allocation refused in turn: a call that is refused memory says so, and made again it
 // gives the whole table. What else a test allocates it asks for again where it is refused.
 use crate::helpers::{RING, got, same, scheme_at};
-use node_table::Scheme;
 use router_table::{ReadRefused, RouterTable, TableRefused};
+use schemes::Scheme;
 use std::alloc::Global;
 use std::process::Abort;
 

@@ -2,13 +2,13 @@
 use Rattle.std.proofs.Common.{arith, ◌≡◌, ◌≢◌, ◌⊎◌, inl, inr, ◌<◌, ◌+◌, ◌==◌, ℕ, cond, List, [], ◌∷◌, length, Bool, true, false, Option, Some, None, Result, Ok, Err, slice_get, refl, sym, ap, ◌∙◌, subst, ⊎_elim, eq-eqb, ne_eqb}
 use Rattle.std.proofs.lemmas.Bool.{cases_eq}
 use Rattle.layout_2.specs.State.{State}
-use Rattle.node_table.specs.declared.parts.Parts.{Parts}
-use Rattle.node_table.specs.declared.packet.Packet.{Packet}
-use Rattle.node_table.specs.declared.packet.Move.{Move}
-use Rattle.node_table.specs.declared.packet.Move.TheVariants as packets
-use Rattle.node_table.specs.declared.packet.Refused as scheme
-use Rattle.node_table.specs.Tables.{Tables, tables}
-use Rattle.node_table.specs.Service.{node_step, one_less, Carries}
+use Rattle.schemes.specs.declared.parts.Parts.{Parts}
+use Rattle.schemes.specs.declared.packet.Packet.{Packet}
+use Rattle.schemes.specs.declared.packet.Move.{Move}
+use Rattle.schemes.specs.declared.packet.Move.TheVariants as packets
+use Rattle.schemes.specs.declared.packet.Refused as scheme
+use Rattle.schemes.specs.Tables.{Tables, tables}
+use Rattle.schemes.specs.Service.{node_step, one_less, Carries}
 use Rattle.generations.specs.declared.posting.Notice.{Notice}
 use Rattle.generations.specs.Boards.{scheme_of}
 use Rattle.forwarders.specs.declared.refused.Refused.{Refused}

@@ -1,7 +1,7 @@
 -- A packet that is gone stays so, and no event moves it.
 use Rattle.std.proofs.Common.{◌≡◌, ◌≢◌, inl, inr, ℕ, cond, List, [], ◌∷◌, Bool, true, false, Option, Some, None, Result, Ok, Err, slice_get, refl, sym, ap, ◌∙◌, subst}
 use Rattle.std.proofs.lemmas.Bool.{cases_eq}
-use Rattle.node_table.specs.declared.packet.Packet.{Packet}
+use Rattle.schemes.specs.declared.packet.Packet.{Packet}
 use Rattle.forwarders.specs.declared.refused.Refused.{Refused}
 use Rattle.forwarders.specs.Answers.{hop_at}
 use Rattle.event_runs.specs.declared.event.Event.{Event}

@@ -3,14 +3,14 @@ use Rattle.std.proofs.Common.{◌≡◌, inl, inr, cond, ℕ, List, [], ◌∷�
 use Rattle.std.specs.List.{AllByRecursion}
 use Rattle.graph_edits.specs.Edges.{Network, over_port}
 use Rattle.layout_2.specs.State.{State}
-use Rattle.node_table.specs.declared.parts.Parts.{Parts}
-use Rattle.node_table.specs.declared.packet.Packet.{Packet}
-use Rattle.node_table.specs.declared.packet.Move.{Move}
-use Rattle.node_table.specs.declared.packet.Move.TheVariants as packets
-use Rattle.node_table.specs.declared.packet.Refused as scheme
-use Rattle.node_table.specs.Tables.{Tables, tables}
-use Rattle.node_table.specs.Service.{node_step, one_less, Carries, LeadAlong}
-use Rattle.node_table.specs.Ways.{Went, ServedStayOnCourse}
+use Rattle.schemes.specs.declared.parts.Parts.{Parts}
+use Rattle.schemes.specs.declared.packet.Packet.{Packet}
+use Rattle.schemes.specs.declared.packet.Move.{Move}
+use Rattle.schemes.specs.declared.packet.Move.TheVariants as packets
+use Rattle.schemes.specs.declared.packet.Refused as scheme
+use Rattle.schemes.specs.Tables.{Tables, tables}
+use Rattle.schemes.specs.Service.{node_step, one_less, Carries, LeadAlong}
+use Rattle.schemes.specs.Ways.{Went, ServedStayOnCourse}
 use Rattle.generations.specs.declared.posting.Notice.{Notice}
 use Rattle.generations.specs.Boards.{scheme_of}
 use Rattle.forwarders.specs.Answers.{by, by_name, hop_at}

@@ -3,8 +3,8 @@ use Rattle.std.proofs.Common.{ℕ, List, arith}
 use mathlib.Core.List.{IsPrefix}
 use Rattle.std.specs.List.Sorted.{IsStrictlyIncreasing}
 use Rattle.layout_2.specs.State.{State}
-use Rattle.node_table.specs.declared.parts.Parts.{Parts}
-use Rattle.node_table.specs.Ways.{ServedStayOnCourse}
+use Rattle.schemes.specs.declared.parts.Parts.{Parts}
+use Rattle.schemes.specs.Ways.{ServedStayOnCourse}
 use Rattle.generations.specs.declared.posting.Notice.{Notice}
 use Rattle.generations.specs.Notices.{numbers_in}
 use Rattle.event_runs.specs.Trips.{Trip}

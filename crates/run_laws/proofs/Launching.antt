@@ -2,11 +2,11 @@
 use Rattle.std.proofs.Common.{◌≡◌, ⊎_elim, ◌<◌, ℕ, List, [], true, false, Option, Some, None, Result, Ok, Err, refl, sym, ap, ◌∙◌, subst}
 use Rattle.std.specs.List.{AllByRecursion}
 use Rattle.layout_2.specs.State.{State}
-use Rattle.node_table.specs.declared.parts.Parts.{Parts}
-use Rattle.node_table.specs.declared.packet.Packet.{Packet}
-use Rattle.node_table.specs.Tables.{tables}
-use Rattle.node_table.specs.Service.{address, decide}
-use Rattle.node_table.specs.Ways.{ServedStayOnCourse}
+use Rattle.schemes.specs.declared.parts.Parts.{Parts}
+use Rattle.schemes.specs.declared.packet.Packet.{Packet}
+use Rattle.schemes.specs.Tables.{tables}
+use Rattle.schemes.specs.Service.{address, decide}
+use Rattle.schemes.specs.Ways.{ServedStayOnCourse}
 use Rattle.generations.specs.declared.posting.Notice.{Notice}
 use Rattle.generations.specs.Boards.{latest_of}
 use Rattle.forwarders.specs.declared.refused.Refused.{Refused}

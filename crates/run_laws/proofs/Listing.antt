@@ -5,7 +5,7 @@ use Rattle.std.proofs.lemmas.Option.{slice_get_within}
 use Rattle.requests.specs.Tickets.{sessions, last_of}
 use Rattle.requests.specs.declared.request.Request.{Request}
 use Rattle.layout_2.specs.State.{State, AreInTurn}
-use Rattle.node_table.specs.declared.packet.Packet.{Packet}
+use Rattle.schemes.specs.declared.packet.Packet.{Packet}
 use Rattle.generations.specs.declared.posting.Notice.{Notice}
 use Rattle.generations.specs.declared.posting.Notice.TheVariants.{Marked, Failed, Built}
 use Rattle.group_commit.specs.Limits.{most_held}

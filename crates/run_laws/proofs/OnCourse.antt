@@ -2,13 +2,13 @@
 use Rattle.std.proofs.Common.{◌≡◌, ◌<◌, ℕ, List, [], ◌∷◌, ◌++◌, Result, Ok, refl, sym, ap, ◌∙◌, subst, append-nil}
 use Rattle.graph_edits.specs.Edges.{EdgeMap, Network}
 use Rattle.graph_edits.specs.Walks.{IsWalk}
-use Rattle.node_table.specs.declared.packet.Packet.{Packet}
-use Rattle.node_table.specs.declared.packet.Move.{Move}
-use Rattle.node_table.specs.declared.packet.Move.TheVariants.{Delivered, Forward}
-use Rattle.node_table.specs.declared.packet.Refused.{Refused}
-use Rattle.node_table.specs.Tables.{Tables, tables}
-use Rattle.node_table.specs.Service.{address, node_step, one_less, Carries, Serves}
-use Rattle.node_table.specs.Ways.{Went, ServedStayOnCourse}
+use Rattle.schemes.specs.declared.packet.Packet.{Packet}
+use Rattle.schemes.specs.declared.packet.Move.{Move}
+use Rattle.schemes.specs.declared.packet.Move.TheVariants.{Delivered, Forward}
+use Rattle.schemes.specs.declared.packet.Refused.{Refused}
+use Rattle.schemes.specs.Tables.{Tables, tables}
+use Rattle.schemes.specs.Service.{address, node_step, one_less, Carries, Serves}
+use Rattle.schemes.specs.Ways.{Went, ServedStayOnCourse}
 use Rattle.generations.specs.declared.posting.Notice.{Notice}
 use Rattle.event_runs.specs.Trips.{Trip}
 use Rattle.run_laws.specs.Ways.{IsOnWay}

@@ -2,14 +2,14 @@
 use Rattle.std.proofs.Common.{◌≡◌, ◌⊎◌, inl, inr, ⊎_elim, ◌<◌, ℕ, nat_lt, Bool, true, false, ◌&&◌, cond, is_some, Option, Some, None, Result, Ok, Err, refl, sym, ap, ◌∙◌, arith}
 use Rattle.std.proofs.lemmas.Bool.Decides.{nat_tests}
 use Rattle.heavy_labels.specs.Label.{Label}
-use Rattle.node_table.specs.declared.packet.Address.{Address}
-use Rattle.node_table.specs.declared.packet.Home.{Home}
-use Rattle.node_table.specs.declared.packet.Packet.{Packet}
-use Rattle.node_table.specs.declared.packet.Refused.{Refused}
-use Rattle.node_table.specs.declared.packet.Refused.TheVariants.{NoNode, Unreachable}
-use Rattle.node_table.specs.declared.parts.Parts.{Parts}
-use Rattle.node_table.specs.Tables.{Tables, tables}
-use Rattle.node_table.specs.Service.{address, address_given, decide, packet_by, by_directory, through_home}
+use Rattle.schemes.specs.declared.packet.Address.{Address}
+use Rattle.schemes.specs.declared.packet.Home.{Home}
+use Rattle.schemes.specs.declared.packet.Packet.{Packet}
+use Rattle.schemes.specs.declared.packet.Refused.{Refused}
+use Rattle.schemes.specs.declared.packet.Refused.TheVariants.{NoNode, Unreachable}
+use Rattle.schemes.specs.declared.parts.Parts.{Parts}
+use Rattle.schemes.specs.Tables.{Tables, tables}
+use Rattle.schemes.specs.Service.{address, address_given, decide, packet_by, by_directory, through_home}
 use Rattle.generations.specs.Boards.{scheme_of}
 use Rattle.forwarders.specs.declared.refused.Refused as route
 use Rattle.forwarders.specs.declared.refused.Refused.TheVariants as by_route

@@ -4,9 +4,9 @@ use Rattle.std.specs.List.{AllByRecursion}
 use Rattle.graph_edits.specs.Edges.{Network}
 use Rattle.requests.specs.declared.request.Request.{Request}
 use Rattle.layout_2.specs.State.{State}
-use Rattle.node_table.specs.declared.parts.Parts.{Parts}
-use Rattle.node_table.specs.Tables.{Tables, tables}
-use Rattle.node_table.specs.Ways as served
+use Rattle.schemes.specs.declared.parts.Parts.{Parts}
+use Rattle.schemes.specs.Tables.{Tables, tables}
+use Rattle.schemes.specs.Ways as served
 use Rattle.generations.specs.declared.posting.Notice.{Notice}
 use Rattle.group_commit.specs.Settling.{settle}
 use Rattle.event_runs.specs.Trips.{Trip}

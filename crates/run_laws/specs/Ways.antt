@@ -1,12 +1,12 @@
 -- Packets on their way, by the schemes that were posted.
 use Rattle.std.specs.Prelude.{◌≡◌, ℕ, List, ◌∷◌, ◌++◌, take, false, Ok}
 use Rattle.std.specs.List.{AllByRecursion}
-use Rattle.node_table.specs.declared.parts.Parts.{Parts}
-use Rattle.node_table.specs.declared.packet.Packet.{Packet}
-use Rattle.node_table.specs.declared.packet.Move.TheVariants.{Delivered}
-use Rattle.node_table.specs.Tables.{tables}
-use Rattle.node_table.specs.Service.{address, decide, node_step}
-use Rattle.node_table.specs.Ways.{Went}
+use Rattle.schemes.specs.declared.parts.Parts.{Parts}
+use Rattle.schemes.specs.declared.packet.Packet.{Packet}
+use Rattle.schemes.specs.declared.packet.Move.TheVariants.{Delivered}
+use Rattle.schemes.specs.Tables.{tables}
+use Rattle.schemes.specs.Service.{address, decide, node_step}
+use Rattle.schemes.specs.Ways.{Went}
 use Rattle.generations.specs.declared.posting.Notice.{Notice}
 use Rattle.generations.specs.declared.posting.Notice.TheVariants.{Built}
 use Rattle.event_runs.specs.Trips.{Trip}

@@ -40,7 +40,7 @@ ghost use Rattle.run_laws.specs.WayLaws.{BegunAreOnWay, EventsKeepWays, Rebuilds
 ghost use Rattle.run_laws.specs.Arriving.{HoppedArrive};
 
 use crate::queue::lists_law;
-use node_table::scheme_laws;
+use schemes::scheme_laws;
 
 /// A machine begins with each packet on its way; what answers an event keeps them so, a rebuild does, and so does a run; each reply to
 /// a launch or a hop is that of such a packet, and each refusal stands for its one reason; each packet goes on under its number. Packets

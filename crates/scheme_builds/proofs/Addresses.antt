@@ -3,12 +3,12 @@ use Rattle.std.proofs.Common.{◌≡◌, ◌<◌, ◌∙◌, refl, ℕ, true, ar
 use Rattle.std.specs.Prelude.{nat_lt, Result, Ok, Err}
 use Rattle.std.proofs.lemmas.Bool.Decides.{nat_tests}
 use Rattle.graph_edits.specs.Edges.{Network}
-use Rattle.node_table.specs.declared.packet.Address.{Address}
-use Rattle.node_table.specs.declared.packet.Refused.{Refused}
-use Rattle.node_table.specs.declared.parts.Parts.{Parts}
-use Rattle.node_table.specs.Checks.{IsChecked, IsShaped, k1}
-use Rattle.node_table.specs.Service.{address, address_given}
-use Rattle.node_table.specs.Tables.{tables}
+use Rattle.schemes.specs.declared.packet.Address.{Address}
+use Rattle.schemes.specs.declared.packet.Refused.{Refused}
+use Rattle.schemes.specs.declared.parts.Parts.{Parts}
+use Rattle.schemes.specs.Checks.{IsChecked, IsShaped, k1}
+use Rattle.schemes.specs.Service.{address, address_given}
+use Rattle.schemes.specs.Tables.{tables}
 
 -- in a scheme that keeps all rules every node of the network has an address
 given : (m : Network) (p : Parts) (v : ℕ) → IsChecked m p → v < m.nodes → address_given (tables p) v ≡ Ok (address (tables p) v)

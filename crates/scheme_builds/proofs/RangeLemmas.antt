@@ -2,7 +2,7 @@
 use Rattle.std.proofs.Common.{◌≡◌, ℕ, suc, ◌+◌, ◌*◌, ◌<◌, ◌≤◌, sym, ap, subst, arith, List, [], ◌∷◌, ◌++◌, length, take, drop}
 use Rattle.std.specs.Prelude.{Result, Ok, slice_index_or}
 use Rattle.std.specs.declared.alloc.AllocError.{AllocError}
-use Rattle.node_table.specs.declared.parts.Parts.{Parts}
+use Rattle.schemes.specs.declared.parts.Parts.{Parts}
 use Rattle.scheme_builds.specs.declared.ranges.Task.{Task}
 use Rattle.scheme_builds.specs.Ranges.{bound_at, IsBuilt, IsRange, AreRanges}
 
@@ -26,14 +26,14 @@ module _ (task : Task) (size : ℕ) where
   )
 
   -- a range that is there
-  pub made_range : (i : ℕ) (r : Result Parts AllocError) (p : Parts) → r ≡ Ok p → IsRange task size i r → IsBuilt task p (bound_at task.graph.now size i) (bound_at task.graph.now size (i + 1))
+  pub made_range : (i : ℕ) (r : Result Parts AllocError) (p : Parts) → r ≡ Ok p → IsRange task size i r → IsBuilt task p (bound_at task.survey.graph.now size i) (bound_at task.survey.graph.now size (i + 1))
   made_range i r p e h = (let k = subst (IsRange task size i) e h in k)
 
-  pub bounds_rise : (i : ℕ) → bound_at task.graph.now size i ≤ bound_at task.graph.now size (i + 1)
+  pub bounds_rise : (i : ℕ) → bound_at task.survey.graph.now size i ≤ bound_at task.survey.graph.now size (i + 1)
   bounds_rise i = (let e : (i + 1) * size ≡ i * size + size = omega arith in omega (arith, e))
 
   -- the last range ends with the last root
-  pub last_bound : (count : ℕ) → task.graph.now.nodes ≤ count * size → bound_at task.graph.now size count ≡ task.graph.now.nodes
+  pub last_bound : (count : ℕ) → task.survey.graph.now.nodes ≤ count * size → bound_at task.survey.graph.now size count ≡ task.survey.graph.now.nodes
   last_bound count l = omega (arith, l)
 
 -- one fewer is left

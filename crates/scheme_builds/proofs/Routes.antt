@@ -3,13 +3,13 @@ use Rattle.std.proofs.Common.{◌≡◌, ◌<◌, subst, ℕ, List}
 use Rattle.std.specs.Prelude.{Result, Ok, Err, IfOk, MatchResult}
 use Rattle.graph_edits.specs.Edges.{Network}
 use Rattle.graph_edits.specs.Walks.{IsWalk}
-use Rattle.node_table.specs.declared.parts.Parts.{Parts}
-use Rattle.node_table.specs.declared.trail.Trail.{Trail}
-use Rattle.node_table.specs.declared.trail.CarryRefused.{CarryRefused}
-use Rattle.node_table.specs.declared.trail.CarryRefused.TheVariants.{Unreachable as CarryUnreachable, Memory}
-use Rattle.node_table.specs.Service.{address, Serves}
-use Rattle.node_table.specs.Tables.{tables}
-use Rattle.node_table.specs.Trails.{IsGoodTrail, IsTrailOf}
+use Rattle.schemes.specs.declared.parts.Parts.{Parts}
+use Rattle.schemes.specs.declared.trail.Trail.{Trail}
+use Rattle.schemes.specs.declared.trail.CarryRefused.{CarryRefused}
+use Rattle.schemes.specs.declared.trail.CarryRefused.TheVariants.{Unreachable as CarryUnreachable, Memory}
+use Rattle.schemes.specs.Service.{address, Serves}
+use Rattle.schemes.specs.Tables.{tables}
+use Rattle.schemes.specs.Trails.{IsGoodTrail, IsTrailOf}
 use Rattle.scheme_builds.specs.declared.queries.Route.TheVariants.{Along, Unreachable}
 use Rattle.scheme_builds.specs.Carrying.{IsCarried}
 use Rattle.scheme_builds.specs.Queries.{IsRouteAnswer, IsRouteIn}

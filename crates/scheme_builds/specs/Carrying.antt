@@ -2,13 +2,13 @@
 use Rattle.std.specs.Prelude.{◌≡◌, ℕ, List, Result, Err, IfOk, MatchResult}
 use Rattle.graph_edits.specs.Edges.{Network}
 use Rattle.graph_edits.specs.Walks.{IsWalk}
-use Rattle.node_table.specs.declared.parts.Parts.{Parts}
-use Rattle.node_table.specs.declared.trail.Trail.{Trail}
-use Rattle.node_table.specs.declared.trail.CarryRefused.{CarryRefused}
-use Rattle.node_table.specs.declared.trail.CarryRefused.TheVariants.{Unreachable, Memory}
-use Rattle.node_table.specs.Service.{address}
-use Rattle.node_table.specs.Tables.{tables}
-use Rattle.node_table.specs.Trails.{IsGoodTrail, IsTrailOf}
+use Rattle.schemes.specs.declared.parts.Parts.{Parts}
+use Rattle.schemes.specs.declared.trail.Trail.{Trail}
+use Rattle.schemes.specs.declared.trail.CarryRefused.{CarryRefused}
+use Rattle.schemes.specs.declared.trail.CarryRefused.TheVariants.{Unreachable, Memory}
+use Rattle.schemes.specs.Service.{address}
+use Rattle.schemes.specs.Tables.{tables}
+use Rattle.schemes.specs.Trails.{IsGoodTrail, IsTrailOf}
 
 -- a packet was carried from u to v's own address: over a good trail where a walk leads there, unless memory ran out, and
 -- nowhere where none does

@@ -4,14 +4,14 @@ use Rattle.std.specs.declared.alloc.AllocError.{AllocError}
 use Rattle.graph_edits.specs.Edges.{Network}
 use Rattle.graph_edits.specs.Walks.{IsWalk}
 pub use Rattle.scheme_builds.specs.Schemes.{IsSchemeOf, IsLandmarkCount}
-use Rattle.node_table.specs.declared.packet.Refused.TheVariants.{Unreachable as NotReached}
-use Rattle.node_table.specs.declared.parts.Parts.{Parts}
-use Rattle.node_table.specs.Checks.{IsChecked, IsFirstFault}
+use Rattle.schemes.specs.declared.packet.Refused.TheVariants.{Unreachable as NotReached}
+use Rattle.schemes.specs.declared.parts.Parts.{Parts}
+use Rattle.schemes.specs.Checks.{IsChecked, IsFirstFault}
 use Rattle.certificate.specs.declared.fault.Fault.{Fault}
 use Rattle.certificate.specs.Faults.{rule_of}
-use Rattle.node_table.specs.Service.{address, decide}
-use Rattle.node_table.specs.Tables.{tables}
-use Rattle.node_table.specs.Trails.{IsGoodTrail, IsTrailOf}
+use Rattle.schemes.specs.Service.{address, decide}
+use Rattle.schemes.specs.Tables.{tables}
+use Rattle.schemes.specs.Trails.{IsGoodTrail, IsTrailOf}
 use Rattle.scheme_builds.specs.declared.queries.Route.{Route}
 use Rattle.scheme_builds.specs.declared.queries.Route.TheVariants.{Along, Unreachable}
 use Rattle.scheme_builds.specs.declared.queries.Checked.{Checked}

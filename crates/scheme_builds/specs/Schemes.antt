@@ -2,10 +2,10 @@
 use Rattle.std.specs.Prelude.{◌≡◌, ℕ, List, count_by}
 use Rattle.graph_edits.specs.Edges.{Network}
 use Rattle.landmarks.specs.Chosen.{IsBound, chosen}
-use Rattle.node_table.specs.declared.parts.Parts.{Parts}
-use Rattle.node_table.specs.Checks.{IsChecked}
-use Rattle.node_table.specs.Service.{Serves}
-use Rattle.node_table.specs.Tables.{tables}
+use Rattle.schemes.specs.declared.parts.Parts.{Parts}
+use Rattle.schemes.specs.Checks.{IsChecked}
+use Rattle.schemes.specs.Service.{Serves}
+use Rattle.schemes.specs.Tables.{tables}
 use Rattle.scheme_builds.specs.Words.{IsByWords, first_of}
 
 -- a scheme of the network: all rules hold, it serves the network, the words give its landmarks, and it has the generation

@@ -1,7 +1,7 @@
 -- Words for so many nodes: the first ones count, and missing ones are the greatest.
 use Rattle.std.specs.Prelude.{◌≡◌, ◌-◌, ◌^◌, ℕ, zero, suc, List, [], ◌∷◌}
 use Rattle.landmarks.specs.Chosen.{IsBound, chosen}
-use Rattle.node_table.specs.declared.parts.Parts.{Parts}
+use Rattle.schemes.specs.declared.parts.Parts.{Parts}
 
 -- the greatest word
 abbrev pub greatest_word : ℕ

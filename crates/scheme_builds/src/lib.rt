@@ -53,7 +53,7 @@
 mod lengths;
 mod queries;
 mod ranges;
-mod schemes;
+mod scheme;
 mod threads;
 mod turns;
 mod words;
@@ -62,7 +62,7 @@ mod workers;
 pub use lengths::length_over;
 pub use queries::{Checked, Route, carry_in, carry_packet, check_scheme};
 pub use ranges::SCRATCH_LEN;
-pub use schemes::scheme_of;
+pub use scheme::scheme_of;
 pub use threads::{scheme_in_threads, scheme_of_in_threads, scheme_of_in_turns};
 pub use words::first_words;
 pub use workers::{LEAST_SHARED, MOST_WORKERS, workers_for, workers_here};

@@ -1,16 +1,16 @@
 // A scheme for each query, and what is asked of it.
 ghost use Rattle.std.specs.Prelude.{◌≡◌, ◌<◌, IfOk, count_by};
-ghost use Rattle.node_table.specs.Checks.{IsChecked};
+ghost use Rattle.schemes.specs.Checks.{IsChecked};
 ghost use Rattle.scheme_builds.specs.Carrying.{IsCarried};
 ghost use Rattle.scheme_builds.specs.Schemes.{IsSchemeOf};
 ghost use Rattle.scheme_builds.specs.Queries.{IsCheckAnswer, IsRouteAnswer, IsRouteBy};
 
 use crate::ranges::SCRATCH_LEN;
-use crate::schemes::scheme_of;
+use crate::scheme::scheme_of;
 use crate::threads::scheme_of_in_threads;
 use graph_edits::Graph;
 use linked_list_allocator::LocalHeap;
-use node_table::{CarryRefused, Scheme, Trail, graph_is_sound};
+use schemes::{CarryRefused, Scheme, Trail, graph_is_sound};
 use std::alloc::{AllocError, Global};
 use std::sync::Wait;
 use std::thread::Threads;

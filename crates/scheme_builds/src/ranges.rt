@@ -1,14 +1,11 @@
 // Ranges of roots, each built by a worker, and joined in the order of the roots.
 ghost use Rattle.std.specs.Prelude.{◌+◌, ◌<◌, ◌≤◌, ◌^◌, length};
-ghost use Rattle.node_table.specs.KnownNearest.{CanBuild, KnowsNearest};
+ghost use Rattle.node_table.specs.Building.{CanBuild, IsComplete};
 ghost use Rattle.scheme_builds.specs.Ranges.{AreRanges, HasBuilt, IsBuilt, IsRange, bound_at};
 
 use crate::turns::InTurns;
-use distances::Nearest;
-use graph_edits::Graph;
-use landmarks::Landmarks;
 use linked_list_allocator::LocalHeap;
-use node_table::{PartialScheme, build_between};
+use node_table::{PartialScheme, Survey, build_between};
 use std::alloc::{AllocError, Global};
 use std::thread;
 use std::thread::Threads;
@@ -23,10 +20,7 @@ const MOST_ROOTS: u16 = 384;
 /// What every worker of a build has before it. Where it yields, threads that wait for the worker's processor run before each root.
 #[derive(Clone, Copy)]
 pub(crate) struct Task<'a> {
-    pub(crate) graph: &'a Graph,
-    pub(crate) landmarks: &'a Landmarks,
-    pub(crate) nearest: &'a Nearest,
-    pub(crate) generation: u64,
+    pub(crate) survey: Survey<'a>,
     pub(crate) yields: bool,
 }
 
@@ -37,26 +31,15 @@ fn build_roots(
     first: u16,
     last: u16,
 ) -> Result<PartialScheme, AllocError>
-    requires { CanBuild task.now.graph.now task.now.landmarks.now task.now.nearest.now.nearest first last }
+    requires { CanBuild task.now.survey first last }
     ensures { HasBuilt task.now first last result }
 {
     let heap = LocalHeap::new(alloc, SCRATCH_LEN)?;
-    let Task {
-        graph,
-        landmarks,
-        nearest,
-        generation,
-        yields,
-    } = *task;
-    if yields {
+    if task.yields {
         let scratch = InTurns { inner: &heap };
-        return build_between(
-            alloc, graph, landmarks, nearest, generation, first, last, scratch,
-        );
+        return build_between(alloc, &task.survey, first, last, scratch);
     }
-    build_between(
-        alloc, graph, landmarks, nearest, generation, first, last, &heap,
-    )
+    build_between(alloc, &task.survey, first, last, &heap)
 }
 
 /// What a build has of the range of this number.
@@ -66,10 +49,10 @@ fn build_range(
     size: u16,
     i: usize,
 ) -> Result<PartialScheme, AllocError>
-    requires { KnowsNearest task.now.graph.now task.now.landmarks.now task.now.nearest.now.nearest }
+    requires { IsComplete task.now.survey }
     ensures { IsRange task.now size i result }
 {
-    let nodes = task.graph.nodes() as usize;
+    let nodes = task.survey.graph.nodes() as usize;
     let first = i.saturating_mul(size as usize).min(nodes);
     let last = (first + size as usize).min(nodes);
     let (first, last) = (first as u16, last as u16);
@@ -84,9 +67,9 @@ fn join_ranges(
     mut whole: PartialScheme,
     mut made: Vec<Result<PartialScheme, AllocError>>,
 ) -> Result<PartialScheme, AllocError>
-    requires whole { IsBuilt task.now whole 0 (bound_at task.now.graph.now size begun) }
+    requires whole { IsBuilt task.now whole 0 (bound_at task.now.survey.graph.now size begun) }
     requires ranges { AreRanges task.now size begun made.items }
-    ensures { HasBuilt task.now 0 (bound_at task.now.graph.now size (begun + length made.items)) result }
+    ensures { HasBuilt task.now 0 (bound_at task.now.survey.graph.now size (begun + length made.items)) result }
 {
     for _k in 0..made.len() {
         let next = made.remove(0)?;
@@ -113,12 +96,12 @@ pub(crate) fn build_ranges<R: Threads + Sync>(
     size: u16,
 ) -> Result<PartialScheme, AllocError>
     requires some { 0 < size }
-    requires known { KnowsNearest task.now.graph.now task.now.landmarks.now task.now.nearest.now.nearest }
-    ensures { HasBuilt task.now 0 task.now.graph.now.nodes result }
+    requires known { IsComplete task.now.survey }
+    ensures { HasBuilt task.now 0 task.now.survey.graph.now.nodes result }
 {
-    let workers = task.graph.nodes().div_ceil(size).max(1) as usize;
+    let workers = task.survey.graph.nodes().div_ceil(size).max(1) as usize;
     let roots = range_size(size);
-    let count = task.graph.nodes().div_ceil(roots) as usize;
+    let count = task.survey.graph.nodes().div_ceil(roots) as usize;
     let mut whole = build_roots(alloc, task, 0, 0)?;
     let mut begun: usize = 0;
     while begun < count {
@@ -128,7 +111,7 @@ pub(crate) fn build_ranges<R: Threads + Sync>(
             alloc,
             many,
             &|i: usize| -> Result<PartialScheme, AllocError>
-                requires known { KnowsNearest task.now.graph.now task.now.landmarks.now task.now.nearest.now.nearest }
+                requires known { IsComplete task.now.survey }
                 requires small { begun + i < 2 ^ 64 }
                 ensures { IsRange task.entry.now roots (begun + i) result }
             { build_range(alloc, task, roots, begun + i) },

@@ -1,6 +1,6 @@
 // A scheme out of a graph, built in several threads.
 ghost use Rattle.std.specs.Prelude.{◌≡◌, IfOk, length};
-ghost use Rattle.node_table.specs.Schemes.{IsSchemeUnder};
+ghost use Rattle.schemes.specs.Schemes.{IsSchemeUnder};
 ghost use Rattle.scheme_builds.specs.Schemes.{IsSchemeOf};
 
 use crate::ranges::{SCRATCH_LEN, Task, build_ranges};
@@ -11,7 +11,8 @@ use distances::from_landmarks;
 use graph_edits::Graph;
 use landmarks::{Landmarks, choose};
 use linked_list_allocator::LocalHeap;
-use node_table::{Scheme, build, build_by_lists};
+use node_table::{Survey, build, build_by_lists};
+use schemes::Scheme;
 use std::alloc::{AllocError, Global};
 use std::sync::Wait;
 use std::thread::Threads;
@@ -69,13 +70,13 @@ fn built_by<R: Threads + Wait + Sync>(
     }
     let nearest = from_landmarks(alloc, graph, landmarks)?;
     let size = graph.nodes().div_ceil(workers).max(1);
-    let task = Task {
+    let survey = Survey {
         graph,
         landmarks,
         nearest: &nearest,
         generation,
-        yields,
     };
+    let task = Task { survey, yields };
     let whole = build_ranges(rt, alloc, &task, size)?;
     let scheme = whole.finish(alloc, graph)?;
     Ok(scheme)

@@ -11,13 +11,13 @@ use Rattle.distances.proofs.LeastWalks.{none_least}
 use Rattle.distances.specs.Reach.{IsTree}
 use Rattle.distances.specs.Search.{is_below}
 use Rattle.distances.specs.declared.reach.Reached.{Reached}
-use Rattle.node_table.specs.declared.parts.Parts.{Parts}
-use Rattle.node_table.specs.declared.trail.Trail.{Trail}
-use Rattle.node_table.specs.declared.trail.CarryRefused.{CarryRefused}
-use Rattle.node_table.specs.declared.trail.CarryRefused.TheVariants.{Memory, Unreachable}
-use Rattle.node_table.specs.Service.{address}
-use Rattle.node_table.specs.Tables.{tables}
-use Rattle.node_table.specs.Trails.{IsGoodTrail, IsTrailOf}
+use Rattle.schemes.specs.declared.parts.Parts.{Parts}
+use Rattle.schemes.specs.declared.trail.Trail.{Trail}
+use Rattle.schemes.specs.declared.trail.CarryRefused.{CarryRefused}
+use Rattle.schemes.specs.declared.trail.CarryRefused.TheVariants.{Memory, Unreachable}
+use Rattle.schemes.specs.Service.{address}
+use Rattle.schemes.specs.Tables.{tables}
+use Rattle.schemes.specs.Trails.{IsGoodTrail, IsTrailOf}
 use Rattle.scheme_builds.specs.Carrying.{IsCarried}
 use Rattle.scheme_figures.specs.declared.measures.Measured.{Measured}
 use Rattle.scheme_figures.specs.Measures.{AreMeasured, IsAlong, IsMeasured, distance_in}

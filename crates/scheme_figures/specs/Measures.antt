@@ -3,11 +3,11 @@ use Rattle.std.specs.Prelude.{◌≡◌, ℕ, ◌==◌, cond, Option, Some, None
 use Rattle.graph_edits.specs.Edges.{Network}
 use Rattle.graph_edits.specs.Walks.{IsLeast, IsWalk}
 use Rattle.distances.specs.declared.reach.Reached.{Reached}
-use Rattle.node_table.specs.declared.parts.Parts.{Parts}
-use Rattle.node_table.specs.declared.trail.Trail.{Trail}
-use Rattle.node_table.specs.Service.{address}
-use Rattle.node_table.specs.Tables.{tables}
-use Rattle.node_table.specs.Trails.{IsGoodTrail, IsTrailOf}
+use Rattle.schemes.specs.declared.parts.Parts.{Parts}
+use Rattle.schemes.specs.declared.trail.Trail.{Trail}
+use Rattle.schemes.specs.Service.{address}
+use Rattle.schemes.specs.Tables.{tables}
+use Rattle.schemes.specs.Trails.{IsGoodTrail, IsTrailOf}
 use Rattle.scheme_figures.specs.declared.measures.Measured.{Measured}
 use Rattle.scheme_figures.specs.declared.measures.Measured.TheVariants.{Along, Apart}
 

@@ -1,9 +1,9 @@
 -- How large the tables of a scheme are.
 use Rattle.std.specs.Prelude.{◌≡◌, ◌⊎◌, ◌<◌, ◌≤◌, ℕ, zero, suc, ◌+◌, ◌-◌, ◌*◌, ◌^◌, List, [], ◌∷◌, ◌++◌, length, min}
 use Rattle.std.specs.List.{sum_by}
-use Rattle.node_table.specs.declared.parts.Parts.{Parts}
-use Rattle.node_table.specs.declared.parts.Listed.{Listed}
-use Rattle.node_table.specs.Tables.{directory_at, entries_at}
+use Rattle.schemes.specs.declared.parts.Parts.{Parts}
+use Rattle.schemes.specs.declared.parts.Listed.{Listed}
+use Rattle.schemes.specs.Tables.{directory_at, entries_at}
 
 -- what a function gives for each number below n, in order
 abbrev pub each_node : {X : Type 0} → (ℕ → X) → ℕ → List X

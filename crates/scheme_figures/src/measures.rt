@@ -1,14 +1,14 @@
 //! Packets that are carried, and how long the shortest ways are.
 ghost use Rattle.std.specs.Prelude.{◌≡◌, ◌<◌, All, IfOk, IfSome, MatchOption, OnOk, ℕ};
 ghost use Rattle.distances.specs.Workspace.{reached_of};
-ghost use Rattle.node_table.specs.Checks.{IsChecked};
+ghost use Rattle.schemes.specs.Checks.{IsChecked};
 ghost use Rattle.scheme_figures.specs.Pairs.{IsPairOf};
 ghost use Rattle.scheme_figures.specs.Measures.{AreMeasured, IsMeasured, distance_in};
 
 use distances::{Linked, Workspace};
 use graph_edits::Graph;
-use node_table::{CarryRefused, Scheme};
 use scheme_builds::carry_in;
+use schemes::{CarryRefused, Scheme};
 use std::alloc::{AllocError, Global};
 
 /// How long the way of a packet is.

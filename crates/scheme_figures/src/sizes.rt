@@ -1,9 +1,9 @@
 //! How large the tables of a scheme are.
 ghost use Rattle.std.specs.Prelude.{◌≡◌, ◌*◌, ◌-◌, ◌^◌, IfOk, count_by, length, map, min};
-ghost use Rattle.node_table.specs.Tables.{directory_at, entries_at};
+ghost use Rattle.schemes.specs.Tables.{directory_at, entries_at};
 ghost use Rattle.scheme_figures.specs.Sizes.{directory_bytes, each_node, entry_sizes, table_size as size_in, IsGreatestSize, directory_sizes, listed_bytes, size_of, table_bytes};
 
-use node_table::{Entry, Listed, Scheme};
+use schemes::{Entry, Listed, Scheme};
 use std::alloc::{AllocError, Global};
 
 /// How many bytes of a table an entry takes: its root and its place in the root's tree.

@@ -2,9 +2,9 @@
 use crate::drawn::{below, number};
 use arrayvec::ArrayVec;
 use heavy_labels::{Label, MOST_LIGHTS, Record};
-use node_table::{Entry, Listed, Near, Parts};
 use rand_core::Rng;
 use rand_xoshiro::Xoshiro256PlusPlus;
+use schemes::{Entry, Listed, Near, Parts};
 use std::alloc::{AllocError, Global};
 
 /// The part that is changed.

@@ -2,7 +2,7 @@
 use crate::plain_graph::PlainGraph;
 use crate::tables::entry;
 use heavy_labels::{Label, Record};
-use node_table::Parts;
+use schemes::Parts;
 use std::alloc::{AllocError, Global};
 
 /// The tree of a root. The lists have a place for each node.

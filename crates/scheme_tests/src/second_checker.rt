@@ -4,7 +4,7 @@ use crate::plain_tree::PlainTree;
 use crate::tables::{directory, do_ascend, entries, entry, home, is_landmark, nearest, ports};
 use certificate::Fault;
 use heavy_labels::Label;
-use node_table::{Entry, Near, Parts};
+use schemes::{Entry, Near, Parts};
 use std::alloc::{AllocError, Global};
 
 /// The first rule that tables break for a graph, none where they keep all.

@@ -1,6 +1,6 @@
 // What tables say, found by going through their lists from the front.
 use heavy_labels::Label;
-use node_table::{Entry, Listed, Near, Parts};
+use schemes::{Entry, Listed, Near, Parts};
 
 /// The entries of a node.
 pub(crate) fn entries(parts: &Parts, x: u16) -> &[Entry] {

@@ -13,7 +13,7 @@ use Rattle.generations.specs.Beginnings.{Beginning}
 use Rattle.generations.specs.Lawful.{IsLawful}
 use Rattle.generations.proofs.Lawfulness.{count_as_told}
 use Rattle.generations.proofs.Numbers.{now_newest, same_newest}
-use Rattle.node_table.specs.declared.parts.Parts.{Parts}
+use Rattle.schemes.specs.declared.parts.Parts.{Parts}
 use Rattle.committer.specs.declared.committer.Committer.{Committer}
 use Rattle.committer.specs.Answers.{HasCommitted, HasRebuilt, asked_group}
 use Rattle.committer.specs.CommitterWords.{posts_of, store_of}

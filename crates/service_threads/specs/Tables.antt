@@ -1,8 +1,8 @@
 -- What a build makes of a graph.
 use Rattle.std.specs.Prelude.{◌≡◌}
-use Rattle.node_table.specs.declared.parts.Parts.{Parts}
-use Rattle.node_table.specs.Tables.{tables}
-use Rattle.node_table.specs.Service.{Serves}
+use Rattle.schemes.specs.declared.parts.Parts.{Parts}
+use Rattle.schemes.specs.Tables.{tables}
+use Rattle.schemes.specs.Service.{Serves}
 use Rattle.layout_2.specs.State.{State}
 use Rattle.service_workers.specs.declared.graphs.GenerationGraph.{GenerationGraph}
 

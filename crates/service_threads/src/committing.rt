@@ -1,8 +1,8 @@
 // The committer's thread.
 ghost use Rattle.std.specs.Arc.{arc_value};
 ghost use Rattle.std.specs.Prelude.{◌≡◌, ◌≢◌, ◌⊎◌, ◌↔◌, ◌+◌, ◌-◌, ◌^◌, min, IfErr, IfOk, IsErrOf, IsTrue, None, OnOk, Some, false};
-ghost use Rattle.node_table.specs.Service.{Serves};
-ghost use Rattle.node_table.specs.Tables.{tables};
+ghost use Rattle.schemes.specs.Service.{Serves};
+ghost use Rattle.schemes.specs.Tables.{tables};
 ghost use Rattle.checkpoint.specs.StoreWords.{is_down, state_of};
 ghost use Rattle.settled_lists.specs.declared.builds.Builds.TheVariants.{InTurn};
 ghost use Rattle.committer.specs.CommitterWords.{posts_of, store_of};
@@ -17,9 +17,9 @@ use committer::{Committer, Round};
 use disk_trait::Disk;
 use graph_edits::Graph;
 use linked_list_allocator::LocalHeap;
-use node_table::Scheme;
 use packet_ways::BoardName;
 use scheme_builds::{SCRATCH_LEN, scheme_of_in_threads, workers_here};
+use schemes::Scheme;
 use service_workers::{
     Coordinator, GenerationGraph, Graphs, Stand, StopCause, ToldOf, WordSource, shared_graph,
 };

@@ -1,9 +1,9 @@
 -- What a forwarder's thread answers of packets.
 use Rattle.std.specs.Prelude.{◌≡◌, ℕ, List, Ok}
-use Rattle.node_table.specs.declared.parts.Parts.{Parts}
-use Rattle.node_table.specs.declared.packet.Packet.{Packet}
-use Rattle.node_table.specs.Tables.{tables}
-use Rattle.node_table.specs.Service.{address, decide}
+use Rattle.schemes.specs.declared.parts.Parts.{Parts}
+use Rattle.schemes.specs.declared.packet.Packet.{Packet}
+use Rattle.schemes.specs.Tables.{tables}
+use Rattle.schemes.specs.Service.{address, decide}
 use Rattle.generations.specs.Beginnings.{Beginning, GoesOn}
 use Rattle.forwarders.specs.declared.refused.Refused as forwarder
 use Rattle.forwarders.specs.declared.refused.Refused.TheVariants as refused

@@ -6,9 +6,9 @@ use Rattle.std.specs.List.{range_with_len}
 use Rattle.std.proofs.lemmas.Bool.{false_from_ne_true}
 use Rattle.std.proofs.lemmas.List.{take-append-le, take-append-drop, take-take, take-map}
 use Rattle.std.proofs.lemmas.List.FromFn.{length-range_with_len}
-use Rattle.node_table.specs.declared.parts.Parts.{Parts}
-use Rattle.node_table.specs.Tables.{tables}
-use Rattle.node_table.specs.Service.{Serves}
+use Rattle.schemes.specs.declared.parts.Parts.{Parts}
+use Rattle.schemes.specs.Tables.{tables}
+use Rattle.schemes.specs.Service.{Serves}
 use Rattle.requests.specs.Tickets.{Rises}
 use Rattle.requests.specs.Requests.{asked_by}
 use Rattle.requests.specs.declared.request.Request.{Request}

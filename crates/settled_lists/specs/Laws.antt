@@ -1,9 +1,9 @@
 -- How the lists of a life go on.
 use Rattle.std.specs.Prelude.{◌≡◌, ◌≢◌, ◌≤◌, ℕ, List, [], ◌∷◌, ◌++◌, length, take, drop, Bool, true, false, Some}
 use Rattle.std.specs.Option.{option_map}
-use Rattle.node_table.specs.declared.parts.Parts.{Parts}
-use Rattle.node_table.specs.Tables.{tables}
-use Rattle.node_table.specs.Service.{Serves}
+use Rattle.schemes.specs.declared.parts.Parts.{Parts}
+use Rattle.schemes.specs.Tables.{tables}
+use Rattle.schemes.specs.Service.{Serves}
 use Rattle.requests.specs.declared.request.Request.{Request}
 use Rattle.layout_2.specs.State.{State, AreInTurn}
 use Rattle.generations.specs.declared.posting.Notice.{Notice}

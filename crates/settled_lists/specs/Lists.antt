@@ -1,6 +1,6 @@
 -- What the lists of a life keep: what was told, what was asked, and how far that is settled.
 use Rattle.std.specs.Prelude.{◌≡◌, ◌<◌, ◌≤◌, ℕ, List, length, take, Bool, true, Some}
-use Rattle.node_table.specs.declared.parts.Parts.{Parts}
+use Rattle.schemes.specs.declared.parts.Parts.{Parts}
 use Rattle.requests.specs.declared.request.Request.{Request}
 use Rattle.layout_2.specs.State.{State, AreInTurn}
 use Rattle.generations.specs.declared.posting.Notice.{Notice}

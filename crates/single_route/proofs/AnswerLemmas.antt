@@ -3,7 +3,7 @@ use Rattle.std.proofs.Common.{◌≡◌, ◌⊎◌, inl, inr, ◌<◌, ◌≤◌
 use Rattle.std.specs.Prelude.{Result, Ok, Err}
 use Rattle.graph_edits.specs.Edges.{Network, IsSound}
 use Rattle.graph_edits.specs.Walks.{IsWalk}
-use Rattle.node_table.specs.declared.trail.Trail.{Trail}
+use Rattle.schemes.specs.declared.trail.Trail.{Trail}
 use Rattle.single_route.specs.LandmarkTrails.{IsTrailBetween}
 use Rattle.single_route.specs.Answers.{IsAnswer}
 use Rattle.single_route.specs.declared.no_trail.NoTrail.TheVariants.{NoNode, Unreachable, Memory}

@@ -8,26 +8,26 @@ use Rattle.graph_edits.specs.Walks.{IsWalk, walk_length, IsLeast}
 use Rattle.landmarks.specs.Chosen.{IsLandmark}
 use Rattle.clusters.specs.Cluster.{IsNearer}
 use Rattle.distances.specs.Nearest.{IsNearestOf}
-use Rattle.distances.specs.declared.nearest.Near.{Near}
-use Rattle.node_table.specs.declared.parts.Parts.{Parts}
-use Rattle.node_table.specs.Entry.{Entry}
-use Rattle.node_table.specs.declared.packet.Packet.{Packet}
-use Rattle.node_table.specs.declared.packet.Move.{Move}
-use Rattle.node_table.specs.declared.packet.Move.TheVariants.{Delivered, Forward}
-use Rattle.node_table.specs.declared.packet.Refused.{Refused}
-use Rattle.node_table.specs.declared.packet.Refused.TheVariants.{Unreachable}
-use Rattle.node_table.specs.Tables.{Tables, tables, first_listed}
-use Rattle.node_table.specs.Checks.{IsChecked, HasDirectories, k8}
-use Rattle.node_table.specs.Service.{address, decide, node_step, one_less, packet_by}
-use Rattle.node_table.specs.Trails.{Goes, IsGoodTrail}
-use Rattle.node_table.specs.Laws.{NearestIsRight, IsInTree}
-use Rattle.node_table.proofs.Basics.Options.{some_is, is_there, not_none, same_value}
-use Rattle.node_table.proofs.Basics.Walks.{walk_from}
-use Rattle.node_table.proofs.Serving.StepsAsMoves.{Passes}
-use Rattle.node_table.proofs.Serving.Exact.{nearest_least}
-use Rattle.node_table.proofs.Serving.CheckedLaw.{TableLaws, laws_of}
-use Rattle.node_table.proofs.Serving.SchemeLaws.{nearest_law, trees_law}
-use Rattle.node_table.proofs.OnTheWay.CarriedTrails.{connected_ok}
+use Rattle.landmarks.specs.declared.near.Near.{Near}
+use Rattle.schemes.specs.declared.parts.Parts.{Parts}
+use Rattle.schemes.specs.Entry.{Entry}
+use Rattle.schemes.specs.declared.packet.Packet.{Packet}
+use Rattle.schemes.specs.declared.packet.Move.{Move}
+use Rattle.schemes.specs.declared.packet.Move.TheVariants.{Delivered, Forward}
+use Rattle.schemes.specs.declared.packet.Refused.{Refused}
+use Rattle.schemes.specs.declared.packet.Refused.TheVariants.{Unreachable}
+use Rattle.schemes.specs.Tables.{Tables, tables, first_listed}
+use Rattle.schemes.specs.Checks.{IsChecked, HasDirectories, k8}
+use Rattle.schemes.specs.Service.{address, decide, node_step, one_less, packet_by}
+use Rattle.schemes.specs.Trails.{Goes, IsGoodTrail}
+use Rattle.schemes.specs.Laws.{NearestIsRight, IsInTree}
+use Rattle.schemes.proofs.Basics.Options.{some_is, is_there, not_none, same_value}
+use Rattle.schemes.proofs.Basics.Walks.{walk_from}
+use Rattle.schemes.proofs.Serving.StepsAsMoves.{Passes}
+use Rattle.schemes.proofs.Serving.Exact.{nearest_least}
+use Rattle.schemes.proofs.Serving.CheckedLaw.{TableLaws, laws_of}
+use Rattle.schemes.proofs.Serving.SchemeLaws.{nearest_law, trees_law}
+use Rattle.schemes.proofs.OnTheWay.CarriedTrails.{connected_ok}
 use Rattle.single_route.specs.LandmarkTrees.{IsMemberAt, IsParentIn}
 use Rattle.single_route.specs.LandmarkTrails.{IsTreePath, IsInOwnTree, IsRootFor}
 use Rattle.single_route.specs.TrailLaws.{CarriedTrailsAreThese}

@@ -3,7 +3,7 @@ use Rattle.std.proofs.Common.{◌≡◌, ℕ, ◌+◌, ◌-◌, ◌*◌, ◌^◌
 use Rattle.graph_edits.specs.Edges.{Network, IsSound, greatest_weight, most_nodes}
 use Rattle.graph_edits.specs.Walks.{IsWalk, walk_length}
 use Rattle.distances.specs.declared.reach.Reached.{Reached}
-use Rattle.node_table.specs.declared.trail.Trail.{Trail}
+use Rattle.schemes.specs.declared.trail.Trail.{Trail}
 use Rattle.single_route.specs.LandmarkTrees.{IsMemberAt, IsParentIn}
 use Rattle.single_route.specs.LandmarkTrails.{IsTreePath, IsTrailBetween}
 use Rattle.single_route.specs.ListedLines.{IsListedPath}

@@ -12,21 +12,21 @@ use Rattle.graph_edits.specs.Edges.{Network, IsSound}
 use Rattle.graph_edits.specs.Walks.{IsWalk, walk_length}
 use Rattle.graph_edits.specs.Laws.{IsLeast-unique}
 use Rattle.landmarks.specs.Chosen.{IsLandmark}
-use Rattle.node_table.specs.declared.parts.Parts.{Parts}
-use Rattle.node_table.specs.Entry.{Entry}
-use Rattle.node_table.specs.Ports.{neighbours, port_to}
-use Rattle.node_table.specs.Tables.{Tables, tables, or_false}
-use Rattle.node_table.specs.Checks.{IsChecked, IsShaped, HasParents, HasRecords, IsLabelIn, farthest, tree_at, k1, k3}
-use Rattle.node_table.specs.Laws.{IsInTree}
-use Rattle.node_table.specs.Service.{packet_by}
-use Rattle.node_table.proofs.Basics.Options.{is_there, some_is, same_value}
-use Rattle.node_table.proofs.Serving.StepsAsMoves.{IsAtPlace, AreAtPlaces, Ports, EndsAt, carry, Passes, index_get, next_port}
-use Rattle.node_table.proofs.Serving.TripLengths.{Chained, head_or}
-use Rattle.node_table.proofs.Serving.TripsInTrees.{placed_left, placed_right, placed_append, placed_reverse, ends_after, ends_turned, head_is}
-use Rattle.node_table.proofs.Serving.Exact.{Distances}
-use Rattle.node_table.proofs.Serving.CheckedLaw.{distances_of}
-use Rattle.node_table.proofs.Serving.SchemeLaws.{exact_law, trees_law}
-use Rattle.node_table.proofs.LocalForms.TreeOfTables.{IsPlacedLine, node_inside, entry_has_place, few_members, placed_tree, tree_to_depth-node, tree_to_depth-fits, children_ports}
+use Rattle.schemes.specs.declared.parts.Parts.{Parts}
+use Rattle.schemes.specs.Entry.{Entry}
+use Rattle.schemes.specs.Ports.{neighbours, port_to}
+use Rattle.schemes.specs.Tables.{Tables, tables, or_false}
+use Rattle.schemes.specs.Checks.{IsChecked, IsShaped, HasParents, HasRecords, IsLabelIn, farthest, tree_at, k1, k3}
+use Rattle.schemes.specs.Laws.{IsInTree}
+use Rattle.schemes.specs.Service.{packet_by}
+use Rattle.schemes.proofs.Basics.Options.{is_there, some_is, same_value}
+use Rattle.schemes.proofs.Serving.StepsAsMoves.{IsAtPlace, AreAtPlaces, Ports, EndsAt, carry, Passes, index_get, next_port}
+use Rattle.schemes.proofs.Serving.TripLengths.{Chained, head_or}
+use Rattle.schemes.proofs.Serving.TripsInTrees.{placed_left, placed_right, placed_append, placed_reverse, ends_after, ends_turned, head_is}
+use Rattle.schemes.proofs.Serving.Exact.{Distances}
+use Rattle.schemes.proofs.Serving.CheckedLaw.{distances_of}
+use Rattle.schemes.proofs.Serving.SchemeLaws.{exact_law, trees_law}
+use Rattle.schemes.proofs.LocalForms.TreeOfTables.{IsPlacedLine, node_inside, entry_has_place, few_members, placed_tree, tree_to_depth-node, tree_to_depth-fits, children_ports}
 use Rattle.single_route.specs.LandmarkTrees.{IsMemberAt, IsParentIn}
 use Rattle.single_route.specs.LandmarkTrails.{IsClimb, IsTreePath}
 use Rattle.single_route.specs.ListedLines.{LastsDiffer}

@@ -13,7 +13,7 @@ use Rattle.distances.specs.Search.{is_below, IsAscending, PrecedesAll}
 use Rattle.distances.specs.Reach.{IsTree, IsParent, settled_of}
 use Rattle.distances.specs.Nearest.{IsNearestOf, near_limit}
 use Rattle.distances.specs.Laws.{open_limits}
-use Rattle.distances.specs.declared.nearest.Near.{Near}
+use Rattle.landmarks.specs.declared.near.Near.{Near}
 use Rattle.distances.specs.declared.reach.Reached.{Reached}
 use Rattle.single_route.specs.LandmarkTrees.{IsMemberAt, IsParentIn}
 use Rattle.distances.proofs.LeastWalks.{none_least}

@@ -1,7 +1,7 @@
 -- The laws of trails.
 use Rattle.std.proofs.Common.{◌≡◌, ℕ, List, ◌∷◌, length, sym, ap, ◌∙◌, subst, arith}
 use Rattle.graph_edits.specs.Walks.{IsWalk, walk_length}
-use Rattle.node_table.specs.Service.{LeadAlong}
+use Rattle.schemes.specs.Service.{LeadAlong}
 use Rattle.single_route.specs.LandmarkTrees.{IsMemberAt, IsParentIn}
 use Rattle.single_route.specs.LandmarkTrails.{IsTreePath}
 use Rattle.single_route.specs.TrailLaws.{TrailsAreOne, TrailsAreGood}

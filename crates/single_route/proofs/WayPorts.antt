@@ -10,7 +10,7 @@ use Rattle.graph_edits.specs.Edges.{Network, IsSound, weight_in, neighbours_of, 
 use Rattle.graph_edits.specs.Laws.{Contains-neighbours_of}
 use Rattle.graph_edits.specs.Walks.{walk_length, IsWalk}
 use Rattle.distances.proofs.Arrived.{port_both}
-use Rattle.node_table.specs.Service.{LeadAlong}
+use Rattle.schemes.specs.Service.{LeadAlong}
 use Rattle.single_route.specs.Ways.{AreHops}
 
 -- a neighbour stands behind some port

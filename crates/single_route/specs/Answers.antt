@@ -3,8 +3,8 @@ use Rattle.std.specs.Prelude.{◌≡◌, ◌⊎◌, ◌↔◌, ℕ, ◌<◌, ◌
 use Rattle.std.specs.Coded.{Coded, code_by, coded×, coded_list, coded_bool}
 use Rattle.graph_edits.specs.Edges.{Network, network_code}
 use Rattle.graph_edits.specs.Walks.{IsWalk}
-use Rattle.node_table.specs.declared.trail.Trail.{Trail}
-use Rattle.node_table.specs.Trails.{IsGoodTrail}
+use Rattle.schemes.specs.declared.trail.Trail.{Trail}
+use Rattle.schemes.specs.Trails.{IsGoodTrail}
 use Rattle.single_route.specs.LandmarkTrails.{IsApart, IsTrailBetween}
 use Rattle.single_route.specs.declared.no_trail.NoTrail.{NoTrail}
 use Rattle.single_route.specs.declared.no_trail.NoTrail.TheVariants.{NoNode, Unreachable, Memory}

@@ -7,8 +7,8 @@ use Rattle.graph_edits.specs.Walks.{IsWalk, walk_length}
 use Rattle.landmarks.specs.Chosen.{IsLandmark}
 use Rattle.clusters.specs.Cluster.{IsNearer}
 use Rattle.distances.specs.Nearest.{IsNearestOf}
-use Rattle.node_table.specs.declared.trail.Trail.{Trail}
-use Rattle.node_table.specs.Service.{LeadAlong}
+use Rattle.schemes.specs.declared.trail.Trail.{Trail}
+use Rattle.schemes.specs.Service.{LeadAlong}
 use Rattle.single_route.specs.LandmarkTrees.{IsMemberAt, IsParentIn}
 
 -- from x over the nodes of the list to `at`, each followed by its parent; `at` itself isn't listed

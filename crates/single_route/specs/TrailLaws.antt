@@ -1,12 +1,12 @@
 -- What holds of the trails under given landmarks: statements that `trail_laws` proves.
 use Rattle.std.specs.Prelude.{◌≡◌, ℕ, ◌<◌, Bool, List}
 use Rattle.graph_edits.specs.Edges.{Network, IsSound}
-use Rattle.node_table.specs.declared.parts.Parts.{Parts}
-use Rattle.node_table.specs.declared.trail.Trail.{Trail}
-use Rattle.node_table.specs.Checks.{IsChecked}
-use Rattle.node_table.specs.Service.{address}
-use Rattle.node_table.specs.Tables.{tables}
-use Rattle.node_table.specs.Trails.{IsGoodTrail, IsTrailOf}
+use Rattle.schemes.specs.declared.parts.Parts.{Parts}
+use Rattle.schemes.specs.declared.trail.Trail.{Trail}
+use Rattle.schemes.specs.Checks.{IsChecked}
+use Rattle.schemes.specs.Service.{address}
+use Rattle.schemes.specs.Tables.{tables}
+use Rattle.schemes.specs.Trails.{IsGoodTrail, IsTrailOf}
 use Rattle.single_route.specs.LandmarkTrails.{IsTrailBetween}
 
 -- two trails that are the same: over the same nodes, by the same ports, as long

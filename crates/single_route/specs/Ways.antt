@@ -2,7 +2,7 @@
 use Rattle.std.specs.Prelude.{◌≡◌, ℕ, ◌-◌, ◌^◌, min, List, [], ◌∷◌, IsSome}
 use Rattle.graph_edits.specs.Edges.{Network, weight_in}
 use Rattle.graph_edits.specs.Walks.{walk_length}
-use Rattle.node_table.specs.Service.{LeadAlong}
+use Rattle.schemes.specs.Service.{LeadAlong}
 
 -- an edge leads from x to the first node of the list, and from each to the next
 abbrev pub AreHops : Network → ℕ → List ℕ → Type 0

@@ -1,6 +1,6 @@
 // Routes in a network with landmarks.
 ghost use Rattle.std.specs.Prelude.{◌≡◌, ◌<◌, IfOk, MatchOption, length};
-ghost use Rattle.node_table.specs.KnownNearest.{KnowsNearest};
+ghost use Rattle.distances.specs.Nearest.{KnowsNearest};
 ghost use Rattle.single_route.specs.Answers.{IsAnswer};
 ghost use Rattle.single_route.specs.LandmarkTrails.{IsApart, IsTrailBetween};
 
@@ -11,7 +11,7 @@ use crate::ways::trail_over;
 use distances::{Nearest, Workspace, from_landmarks};
 use graph_edits::Graph;
 use landmarks::Landmarks;
-use node_table::Trail;
+use schemes::Trail;
 use std::alloc::{AllocError, Global};
 use std::marker::Model;
 
@@ -29,7 +29,7 @@ pub struct Routes<'g> {
 
 impl<'g> Model for Routes<'g> {
     ghost use Rattle.std.specs.Prelude.{◌≡◌};
-    ghost use Rattle.node_table.specs.KnownNearest.{KnowsNearest};
+    ghost use Rattle.distances.specs.Nearest.{KnowsNearest};
     ghost use Rattle.single_route.specs.Answers.{Routes, routes_code};
 
     ghost Value = { Routes };

@@ -1,6 +1,6 @@
 // The tree in which a packet goes.
 ghost use Rattle.std.specs.Prelude.{◌≡◌, ◌<◌, IfOk, false};
-ghost use Rattle.node_table.specs.KnownNearest.{KnowsNearest};
+ghost use Rattle.distances.specs.Nearest.{KnowsNearest};
 ghost use Rattle.single_route.specs.FoundTrees.{IsFoundFor, has_node};
 ghost use Rattle.single_route.specs.LandmarkTrails.{IsApart, IsInOwnTree};
 

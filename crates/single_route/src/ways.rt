@@ -4,7 +4,7 @@ ghost use Rattle.graph_edits.specs.Edges.{over_port, weight_in};
 ghost use Rattle.single_route.specs.Ways.{IsMeasured, IsWay};
 
 use graph_edits::Graph;
-use node_table::Trail;
+use schemes::Trail;
 use std::alloc::{AllocError, Global};
 
 /// The port by which a node leads to its neighbour, and the weight of the edge.

@@ -1,11 +1,11 @@
 // Drawn graphs: each route against the trail over which the built scheme carries the packet.
 use crate::helpers::{got, graph_of, landmarks_at, routed, routes_in, same, words_at};
 use graph_edits::Graph;
-use node_table::{CarryRefused, Scheme, Trail};
 use rand_core::{Rng, SeedableRng};
 use rand_xoshiro::Xoshiro256PlusPlus;
 use sample_networks::{drawn_edges, drawn_nodes};
 use scheme_builds::scheme_of;
+use schemes::{CarryRefused, Scheme, Trail};
 use single_route::{NoTrail, route_of};
 use std::alloc::Global;
 use std::process::Abort;

@@ -1,8 +1,8 @@
 // The worked graphs, and what the tests share: each call is made again where memory was refused.
 use graph_edits::Graph;
 use landmarks::Landmarks;
-use node_table::Trail;
 pub(crate) use sample_networks::{Edge, PATH, Way, ends_of};
+use schemes::Trail;
 use single_route::{NoTrail, Routes};
 use std::alloc::Global;
 use std::fmt::Debug;

@@ -1,7 +1,7 @@
 // The longest path.
 use crate::helpers::{got, graph_of, landmarks_at, routed, routes_in, same};
 use graph_edits::MOST_NODES;
-use node_table::Trail;
+use schemes::Trail;
 use std::process::Abort;
 
 /// Sees that a trail goes over all nodes of the path, from the first to the last.

@@ -2,7 +2,7 @@
 use Rattle.std.specs.Prelude.{◌≡◌, ◌⊎◌, ℕ, ◌<◌, List, [], ◌∷◌, Result, All, length, map, take, sum_by, fold, max}
 use Rattle.std.specs.Io.KnownBytes.{Appends}
 use Rattle.graph_edits.specs.Edges.{below}
-use Rattle.node_table.specs.declared.parts.Parts.{Parts}
+use Rattle.schemes.specs.declared.parts.Parts.{Parts}
 use Rattle.router_table.specs.Order.{IsTable}
 use Rattle.router_table.specs.Spelling.{table_text}
 use Rattle.router_table.specs.Table.{table_at}

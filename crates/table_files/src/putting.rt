@@ -13,8 +13,8 @@ ghost use Rattle.table_files.specs.Tables.{AreInOrder, AreThere, EndsPutAll, End
 use crate::place::{TableFile, TableFiles, path_of};
 use crate::totals::Totals;
 use command_output::{AbsentLine, Ended, Fault, TablesLine, print_line};
-use node_table::Scheme;
 use router_table::{RouterTable, TableRefused};
+use schemes::Scheme;
 use std::alloc::{AllocError, Global};
 use std::io::Write;
 

@@ -4,12 +4,12 @@ use Rattle.std.specs.Prelude.{Result, Ok, Err}
 use Rattle.std.proofs.lemmas.Bool.{le-ltb, lt-ltb}
 use Rattle.std.proofs.lemmas.Option.{same_Some}
 use Rattle.heavy_labels.specs.Label.{Label}
-use Rattle.node_table.specs.declared.packet.Address.{Address}
-use Rattle.node_table.specs.declared.packet.Home.{Home}
-use Rattle.node_table.specs.declared.packet.Packet.{Packet}
-use Rattle.node_table.specs.declared.packet.Refused.{Refused}
-use Rattle.node_table.specs.declared.packet.Refused.TheVariants.{NoNode, Unreachable}
-use Rattle.node_table.specs.Service.{packet_by}
+use Rattle.schemes.specs.declared.packet.Address.{Address}
+use Rattle.schemes.specs.declared.packet.Home.{Home}
+use Rattle.schemes.specs.declared.packet.Packet.{Packet}
+use Rattle.schemes.specs.declared.packet.Refused.{Refused}
+use Rattle.schemes.specs.declared.packet.Refused.TheVariants.{NoNode, Unreachable}
+use Rattle.schemes.specs.Service.{packet_by}
 use Rattle.router_table.specs.Handing.{launched}
 use Rattle.router_table.specs.Reading.{numbers_at}
 use Rattle.router_table.specs.Spelling.{SpellsTable}

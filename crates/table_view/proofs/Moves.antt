@@ -8,11 +8,11 @@ use Rattle.std.proofs.lemmas.Option.{none-some, same_Some}
 use Rattle.heavy_labels.specs.Label.{Label}
 use Rattle.heavy_labels.specs.Numbering.{Step, arrived, port, no_parent, no_light, step}
 use Rattle.heavy_labels.specs.Stepped.{record_of}
-use Rattle.node_table.specs.declared.packet.Packet.{Packet}
-use Rattle.node_table.specs.declared.packet.Move.TheVariants.{Delivered, Forward}
-use Rattle.node_table.specs.declared.packet.Refused.TheVariants.{Spent, Stray}
-use Rattle.node_table.specs.Service.{forward_over, move_by, one_less}
-use Rattle.node_table.specs.Tables.{Tables}
+use Rattle.schemes.specs.declared.packet.Packet.{Packet}
+use Rattle.schemes.specs.declared.packet.Move.TheVariants.{Delivered, Forward}
+use Rattle.schemes.specs.declared.packet.Refused.TheVariants.{Spent, Stray}
+use Rattle.schemes.specs.Service.{forward_over, move_by, one_less}
+use Rattle.schemes.specs.Tables.{Tables}
 use Rattle.packet_bytes.specs.Spelling.{SpellsPacket}
 use Rattle.router_table.specs.declared.tree_entry.TreeEntry.{TreeEntry}
 use Rattle.router_table.specs.Handing.{hopped}

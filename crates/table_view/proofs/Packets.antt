@@ -7,8 +7,8 @@ use Rattle.std.proofs.lemmas.Bool.{cases_lt, le-ltb, lt-ltb}
 use Rattle.std.proofs.lemmas.List.{drop-drop, get_or-drop, get_or_append_left, length-append}
 use Rattle.std.proofs.lemmas.Nat.{from_be_bytes-to_be_bytes_2}
 use Rattle.std.proofs.lemmas.Option.{none-some, slice_get-get_or, slice_get_past}
-use Rattle.node_table.specs.declared.packet.Packet.{Packet}
-use Rattle.node_table.specs.Service.{one_less}
+use Rattle.schemes.specs.declared.packet.Packet.{Packet}
+use Rattle.schemes.specs.Service.{one_less}
 use Rattle.packet_bytes.specs.Layout.{most_ports, packet_size}
 use Rattle.packet_bytes.specs.Refusals.{packet_refusal, ports_refusal}
 use Rattle.packet_bytes.specs.declared.wire.WireRefused.TheVariants.{BadCount, BadLength}

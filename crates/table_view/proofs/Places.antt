@@ -11,7 +11,7 @@ use Rattle.packet_bytes.specs.Spelling.{SpellsAddress, address_text}
 use Rattle.packet_bytes.proofs.Spellings.{addresses_are_read, one_address}
 use Rattle.packet_bytes.specs.Refusals.{address_refusal}
 use Rattle.packet_bytes.specs.declared.wire.WireRefused.{WireRefused}
-use Rattle.node_table.specs.declared.packet.Address.{Address}
+use Rattle.schemes.specs.declared.packet.Address.{Address}
 use Rattle.router_table.specs.declared.head.Head.{Head}
 use Rattle.router_table.specs.declared.tree_entry.TreeEntry.{TreeEntry}
 use Rattle.router_table.specs.Order.{IsHead}

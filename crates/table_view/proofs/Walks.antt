@@ -5,7 +5,7 @@ use Rattle.std.specs.List.{flat_map, AllByRecursion}
 use Rattle.std.proofs.lemmas.Bool.{eq-eqb, ne_eqb}
 use Rattle.std.proofs.lemmas.List.Concat.{flat_map-cons}
 use Rattle.std.proofs.lemmas.Option.{none-some, same_Some}
-use Rattle.node_table.specs.declared.parts.Listed.{Listed}
+use Rattle.schemes.specs.declared.parts.Listed.{Listed}
 use Rattle.router_table.specs.Items.{item_at}
 use Rattle.router_table.specs.Reading.{member_at, number_at}
 use Rattle.router_table.specs.Spelling.{member_text, number}

@@ -1,11 +1,11 @@
 -- What is answered out of the bytes of a table.
 use Rattle.std.specs.Prelude.{◌≡◌, ℕ, List, Some, None, Result, Ok, Err, length}
-use Rattle.node_table.specs.declared.packet.Address.{Address}
-use Rattle.node_table.specs.declared.packet.Packet.{Packet}
-use Rattle.node_table.specs.declared.packet.Move.{Move}
-use Rattle.node_table.specs.declared.packet.Move.TheVariants.{Delivered, Forward}
-use Rattle.node_table.specs.declared.packet.Refused.{Refused}
-use Rattle.node_table.specs.Service.{one_less}
+use Rattle.schemes.specs.declared.packet.Address.{Address}
+use Rattle.schemes.specs.declared.packet.Packet.{Packet}
+use Rattle.schemes.specs.declared.packet.Move.{Move}
+use Rattle.schemes.specs.declared.packet.Move.TheVariants.{Delivered, Forward}
+use Rattle.schemes.specs.declared.packet.Refused.{Refused}
+use Rattle.schemes.specs.Service.{one_less}
 use Rattle.packet_bytes.specs.Layout.{address_size, packet_size}
 use Rattle.packet_bytes.specs.Refusals.{address_refusal, packet_refusal}
 use Rattle.packet_bytes.specs.Spelling.{SpellsAddress, SpellsPacket}

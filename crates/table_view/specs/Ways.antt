@@ -1,8 +1,8 @@
 -- What is done with a packet after a step, by fields of the packet.
 use Rattle.std.specs.Prelude.{ℕ, ◌==◌, Bool, cond, Option, Some, None, Result, Ok, Err}
 use Rattle.heavy_labels.specs.Numbering.{Step, arrived, port, no_parent, no_light}
-use Rattle.node_table.specs.declared.packet.Refused.{Refused}
-use Rattle.node_table.specs.declared.packet.Refused.TheVariants.{Stray, Spent}
+use Rattle.schemes.specs.declared.packet.Refused.{Refused}
+use Rattle.schemes.specs.declared.packet.Refused.TheVariants.{Stray, Spent}
 use Rattle.table_view.specs.declared.hops.Hop.{Hop}
 use Rattle.table_view.specs.declared.hops.Hop.TheVariants.{Delivered as Arrived, Forward as Onward}
 

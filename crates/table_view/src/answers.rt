@@ -6,8 +6,8 @@ ghost use Rattle.table_view.specs.Answers.{OfTable, figures_of};
 use crate::fields::u16_at;
 use crate::heads::numbers_of;
 use crate::parts::{ADDRESS_AT, GENERATION_AT, parts_of, port_in};
-use node_table::Address;
 use packet_bytes::Wire;
+use schemes::Address;
 
 /// Who a router is, and how much its table has.
 #[derive(Clone, Copy, PartialEq, Eq, Debug, Drop)]

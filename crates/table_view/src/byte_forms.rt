@@ -6,8 +6,8 @@ use crate::hops::{Hop, hop_of};
 use crate::launches::launch_in;
 use crate::packet_fields::{put_one_less, refusal_of};
 use crate::refused::BytesRefused;
-use node_table::Address;
 use packet_bytes::{ADDRESS_SIZE, PACKET_SIZE, Wire};
+use schemes::Address;
 
 /// Writes the router's own address. What is refused leaves `out` as it was.
 pub fn address_bytes(table: &[u8], out: &mut [u8]) -> Result<(), BytesRefused>

@@ -11,8 +11,8 @@ ghost use Rattle.table_view.specs.Files.{Spelled, spelled_prop};
 
 use crate::answers::Figures;
 use crate::view::TableView;
-use node_table::{Address, Move, Packet, Refused};
 use router_table::ReadRefused;
+use schemes::{Address, Move, Packet, Refused};
 use std::marker::Model;
 
 /// The bytes of a table in order, which were tested once, as long as they are kept. Contracts see the table that they spell.

@@ -6,9 +6,9 @@ ghost use Rattle.router_table.specs.Spelling.{router_text};
 ghost use Rattle.router_table.specs.declared.head.Head.{Head};
 
 use crate::fields::{u16_at, u64_at};
-use node_table::Address;
 use packet_bytes::Wire;
 use router_table::Head;
+use schemes::Address;
 
 /// The generation, the number of nodes and the node at the front, and the bytes behind them.
 #[tactic(auto, unfolding(router_table::specs::Reading::numbers_at))]

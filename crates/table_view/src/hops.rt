@@ -3,7 +3,7 @@ ghost use Rattle.std.specs.Prelude.{◌≡◌, ◌↔◌, ◌*◌, ◌<◌, ℕ,
 ghost use Rattle.heavy_labels.specs.Label.{Label};
 ghost use Rattle.heavy_labels.specs.Numbering.{by_port as port_or, step as step_by};
 ghost use Rattle.heavy_labels.specs.Stepped.{record_of as fields_of, stepped};
-ghost use Rattle.node_table.specs.Service.{one_less};
+ghost use Rattle.schemes.specs.Service.{one_less};
 ghost use Rattle.packet_bytes.specs.Layout.{packet_size};
 ghost use Rattle.packet_bytes.specs.Refusals.{packet_refusal};
 ghost use Rattle.router_table.specs.Handing.{hopped};
@@ -17,9 +17,9 @@ use crate::packet_fields::{DESTINATION_AT, FIRST_AT, HOPS_AT, ROOT_AT, light_at}
 use crate::parts::{ENTRY_SIZE, NODE_AT, NODES_AT, PORT_SIZE, parts_of, port_in};
 use crate::search::place_of;
 use heavy_labels::{Record, TreeStep};
-use node_table::{Move, Packet, Refused};
 use packet_bytes::Wire;
 use router_table::TreeEntry;
+use schemes::{Move, Packet, Refused};
 
 /// What a router does with a packet, which goes on with one hop less.
 #[derive(Clone, Copy, PartialEq, Eq, Debug, Drop)]

@@ -9,8 +9,8 @@ ghost use Rattle.table_view.specs.Listing.{IsListIn};
 use crate::fields::{u8_at, u16_at};
 use arrayvec::ArrayVec;
 use heavy_labels::{Label, MOST_LIGHTS, Record};
-use node_table::Listed;
 use router_table::TreeEntry;
+use schemes::Listed;
 
 /// What stands for a port that isn't there.
 const NO_PORT: u16 = 65535;

@@ -1,6 +1,6 @@
 // The packet that a router sends to an address, out of the bytes of its table.
 ghost use Rattle.std.specs.Prelude.{◌≡◌, ◌-◌, ℕ, List, Some, option_map};
-ghost use Rattle.node_table.specs.declared.parts.Listed.{Listed};
+ghost use Rattle.schemes.specs.declared.parts.Listed.{Listed};
 ghost use Rattle.router_table.specs.Handing.{launched};
 ghost use Rattle.router_table.specs.Items.{item_at};
 ghost use Rattle.table_view.specs.Answers.{OfTable};
@@ -12,7 +12,7 @@ use crate::item::Item;
 use crate::parts::{GENERATION_AT, parts_of};
 use crate::search::place_of;
 use heavy_labels::Label;
-use node_table::{Address, Listed, Packet, Refused};
+use schemes::{Address, Listed, Packet, Refused};
 
 /// The label of a node in a directory, which is walked from its first member. None where it meets that the bytes are no directory.
 fn label_in(directory: &[u8], node: u16) -> Option<Option<Label>>

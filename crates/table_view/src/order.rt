@@ -8,8 +8,8 @@ use crate::form::FRONT_SIZE;
 use crate::heads::head_of;
 use crate::item::{is_label, list_in_order};
 use crate::parts::HEAD_SIZE;
-use node_table::{Home, Listed};
 use router_table::{Head, TreeEntry};
+use schemes::{Home, Listed};
 
 /// Whether a landmark, where there is one, is one of so many nodes.
 fn is_home(home: &Option<Home>, nodes: u16) -> bool

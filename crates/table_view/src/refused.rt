@@ -1,6 +1,6 @@
 // Why nothing is answered in bytes.
-use node_table::Refused;
 use packet_bytes::WireRefused;
+use schemes::Refused;
 use thiserror::Error;
 
 /// Why nothing is answered in bytes, in the order in which the cases are tested.

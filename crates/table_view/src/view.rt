@@ -14,8 +14,8 @@ use crate::hops::{Hop, hop_in};
 use crate::launches::launch_in;
 use crate::order::is_body;
 use crate::refused::BytesRefused;
-use node_table::{Address, Move, Packet, Refused};
 use router_table::ReadRefused;
+use schemes::{Address, Move, Packet, Refused};
 use std::marker::Model;
 
 /// The bytes of a table in order. Contracts see the bytes, and speak of the one table that they spell.

@@ -1,11 +1,11 @@
 // Every table of sample and drawn networks and every packet, by view and by `RouterTable`.
 use crate::helpers::{files_of, got, same};
-use node_table::{Address, Home, Move, NodeRows, Packet, Refused};
 use packet_bytes::{ADDRESS_SIZE, PACKET_SIZE, Wire};
 use rand_core::{Rng, SeedableRng};
 use rand_xoshiro::Xoshiro256PlusPlus;
 use router_table::RouterTable;
 use sample_networks::{PAIRS, PATH, RING, TRIANGLE, drawn_edges, drawn_nodes};
+use schemes::{Address, Home, Move, NodeRows, Packet, Refused};
 use std::alloc::Global;
 use std::process::Abort;
 use table_view::{BytesRefused, Hop, TableView, address_bytes};

@@ -1,8 +1,8 @@
 // Tables that the tests share.
-use node_table::Scheme;
 use router_table::RouterTable;
 use sample_networks::{Edge, RING, graph_of, words_at};
 use scheme_builds::scheme_of;
+use schemes::Scheme;
 use std::alloc::Global;
 use std::fmt::Debug;
 use std::process::Abort;

@@ -1,8 +1,8 @@
 // Bytes that nobody tested: nothing is read outside them, and what they can't answer is refused by name.
 use crate::helpers::{got, ring_files, same};
-use node_table::Packet;
 use packet_bytes::{ADDRESS_SIZE, PACKET_SIZE, Wire, WireRefused};
 use router_table::RouterTable;
+use schemes::Packet;
 use std::alloc::Global;
 use std::process::Abort;
 use table_view::{

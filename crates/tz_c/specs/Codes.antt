@@ -1,7 +1,7 @@
 -- What the answers of the C functions say.
 use Rattle.std.specs.Prelude.{◌≡◌, ◌≢◌, ◌⊎◌, ℕ, ℤ, pos, List, Option, Some, None, Result, Ok, Err}
-use Rattle.node_table.specs.declared.packet.Refused.{Refused}
-use Rattle.node_table.specs.declared.packet.Refused.TheVariants.{NoNode, Unreachable, Stray, Spent}
+use Rattle.schemes.specs.declared.packet.Refused.{Refused}
+use Rattle.schemes.specs.declared.packet.Refused.TheVariants.{NoNode, Unreachable, Stray, Spent}
 use Rattle.packet_bytes.specs.declared.wire.WireRefused.{WireRefused}
 use Rattle.packet_bytes.specs.declared.wire.WireRefused.TheVariants.{BadLength, BadFlag, BadCount, BadPadding}
 use Rattle.router_table.specs.declared.refused.ReadRefused.{ReadRefused}

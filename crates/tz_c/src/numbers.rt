@@ -2,9 +2,9 @@
 ghost use Rattle.std.specs.Prelude.{◌≡◌};
 ghost use Rattle.tz_c.specs.Codes.{bytes_code, read_code, table_code, wire_code};
 
-use node_table::Refused;
 use packet_bytes::WireRefused;
 use router_table::ReadRefused;
+use schemes::Refused;
 use table_view::BytesRefused;
 
 /// The letters of a table don't stand in front.

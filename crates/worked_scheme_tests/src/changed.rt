@@ -2,7 +2,7 @@
 use crate::helpers::{Edge, PATH, entry, got, graph_of, label, same};
 use certificate::{Fault, check};
 use heavy_labels::Label;
-use node_table::{Entry, Listed, Near, Parts, Scheme};
+use schemes::{Entry, Listed, Near, Parts, Scheme};
 use std::alloc::Global;
 use std::process::Abort;
 

@@ -2,10 +2,10 @@
 use crate::helpers::{Edge, built, by_lists, carried, got, graph_of, heap_of, same};
 use bumpalo::Bump;
 use graph_edits::Graph;
-use node_table::{CarryRefused, Scheme, Trail};
 use rand_core::{Rng, SeedableRng};
 use rand_xoshiro::Xoshiro256PlusPlus;
 use sample_networks::plain_distances;
+use schemes::{CarryRefused, Scheme, Trail};
 use std::alloc::Global;
 use std::process::Abort;
 use written_values::Draws;

@@ -2,7 +2,7 @@
 ghost use Rattle.std.specs.Prelude.{◌≡◌};
 
 use crate::helpers::{entry, got, label, same};
-use node_table::{
+use schemes::{
     Address, CarryRefused, Entry, Home, Listed, Move, Near, Packet, Parts, Refused, Scheme,
 };
 use std::alloc::Global;

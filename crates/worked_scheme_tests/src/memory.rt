@@ -4,10 +4,10 @@ use crate::drawn::is_right;
 use crate::helpers::{
     Edge, PATH, built, carried, expect_trail, got, graph_of, heap_of, same, scheme_with,
 };
-use node_table::Scheme;
 use rand_core::{Rng, SeedableRng};
 use rand_xoshiro::Xoshiro256PlusPlus;
 use sample_networks::plain_distances;
+use schemes::Scheme;
 use std::alloc::Global;
 use std::process::Abort;
 use written_values::Draws;

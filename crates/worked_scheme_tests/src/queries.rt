@@ -2,8 +2,8 @@
 use crate::helpers::{
     PAIRS, PATH, TRIANGLE, Way, ends_of, expect_trail, got, graph_of, same, words_at,
 };
-use node_table::Trail;
 use scheme_builds::{Route, SCRATCH_LEN, carry_packet};
+use schemes::Trail;
 use std::alloc::Global;
 use std::process::Abort;
 

@@ -4,8 +4,8 @@ use crate::helpers::{
     graph_of, same, scheme_with,
 };
 use graph_edits::{Change, Graph, MOST_NODES, Op};
-use node_table::{Move, Refused, Scheme};
 use scheme_builds::{first_words, length_over};
+use schemes::{Move, Refused, Scheme};
 use std::alloc::{AllocError, Global};
 use std::process::Abort;
 use std::thread;

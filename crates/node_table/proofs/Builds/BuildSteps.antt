@@ -14,15 +14,16 @@ use Rattle.graph_edits.specs.Edges.{Network, IsSound}
 use Rattle.landmarks.specs.Chosen.{IsLandmark}
 use Rattle.distances.specs.Search.{is_below}
 use Rattle.distances.specs.Nearest.{IsNearestOf, near_limit}
-use Rattle.distances.specs.declared.nearest.Near.{Near}
+use Rattle.landmarks.specs.declared.near.Near.{Near}
 use Rattle.heavy_labels.specs.Label.{Label}
 use Rattle.heavy_labels.specs.declared.numbered_member.NumberedMember.{NumberedMember}
 use Rattle.distances.specs.declared.linked.Linked.{Linked}
-use Rattle.node_table.specs.Entry.{Entry}
-use Rattle.node_table.specs.declared.parts.Listed.{Listed}
-use Rattle.node_table.specs.Tables.{nodes_of, value_at}
+use Rattle.schemes.specs.Entry.{Entry}
+use Rattle.schemes.specs.declared.parts.Listed.{Listed}
+use Rattle.schemes.specs.Tables.{nodes_of, value_at, items_at}
 use Rattle.node_table.specs.RowLists.{Row, entry_by, nodes_numbered, row_by, rows_by}
-use Rattle.node_table.specs.Building.{items_at, entries_for, home_by, home_after, listed_member, IsDirectoryOf}
+use Rattle.node_table.specs.Building.{entries_for, home_by, home_after, listed_member, IsDirectoryOf}
+use Rattle.schemes.proofs.Basics.Places.{items_other, items_read, items_set}
 use Rattle.node_table.proofs.Builds.MadeRows.{listed_row}
 use Rattle.node_table.proofs.Builds.RowColumns.{flips}
 use Rattle.node_table.proofs.Builds.Built.{zero_walk}
@@ -33,27 +34,6 @@ on_ok P Q (Ok x) f h = f h
 on_ok P Q (Err e) f h = h
 
 -- ---- lists at places
-
-pub items_are : {X A : Type 0} (vs : List (Vec X A)) (i : ℕ) (d : Vec X A) → i < length vs → items_at vs i ≡ (get_or vs i d).items
-items_are [] i d l = absurd (omega (arith, l))
-items_are (v ∷ vs) zero d l = refl
-items_are (v ∷ vs) (suc i) d l = items_are vs i d (omega (arith, l))
-
--- the list that is read
-pub items_read : {X A : Type 0} (vs : List (Vec X A)) (i : ℕ) (v : Vec X A) → i < length vs → v ≡ get_or vs i v → v.items ≡ items_at vs i
-items_read vs i v l is = ap (λ u. u.items) is ∙ sym (items_are vs i v l)
-
-pub items_set : {X A : Type 0} (vs : List (Vec X A)) (i : ℕ) (v : Vec X A) → i < length vs → items_at (set vs i v) i ≡ v.items
-items_set [] i v l = absurd (omega (arith, l))
-items_set (u ∷ vs) zero v l = refl
-items_set (u ∷ vs) (suc i) v l = items_set vs i v (omega (arith, l))
-
-pub items_other : {X A : Type 0} (vs : List (Vec X A)) (i x : ℕ) (v : Vec X A) → (x ≡ i → ⊥) → items_at (set vs i v) x ≡ items_at vs x
-items_other [] i x v n = refl
-items_other (u ∷ vs) zero zero v n = absurd (n refl)
-items_other (u ∷ vs) zero (suc x) v n = refl
-items_other (u ∷ vs) (suc i) zero v n = refl
-items_other (u ∷ vs) (suc i) (suc x) v n = items_other vs i x v (λ e. n (ap suc e))
 
 append_nil : {X : Type 0} (xs : List X) → xs ≡ xs ++ []
 append_nil [] = refl

@@ -11,20 +11,20 @@ use Rattle.graph_edits.specs.Laws.{IsWalk-push, IsLeast-unique}
 use Rattle.landmarks.specs.Chosen.{IsLandmark}
 use Rattle.distances.specs.Search.{is_below}
 use Rattle.distances.specs.Nearest.{IsNearestOf}
-use Rattle.distances.specs.declared.nearest.Near.{Near}
+use Rattle.landmarks.specs.declared.near.Near.{Near}
 use Rattle.heavy_labels.specs.Label.{Label}
 use Rattle.heavy_labels.specs.Numbering.{Line, Place, tree_lines, Among}
 use Rattle.heavy_labels.specs.Stepped.{record_of}
-use Rattle.node_table.specs.declared.parts.Parts.{Parts}
-use Rattle.node_table.specs.Entry.{Entry}
-use Rattle.node_table.specs.Tables.{tables, entries_at, directory_at, first_entry, roots_of, nodes_of, or_false}
-use Rattle.node_table.specs.Checks.{IsShaped, IsClosed, HasParents, IsStrict, IsNearestThere, HasRecords, HasLabels, IsLabelIn, HasDirectories, IsChecked, tree_at, k1, k2, k3, k4, k5, k6, k7, k8}
+use Rattle.schemes.specs.declared.parts.Parts.{Parts}
+use Rattle.schemes.specs.Entry.{Entry}
+use Rattle.schemes.specs.Tables.{tables, entries_at, directory_at, first_entry, roots_of, nodes_of, or_false}
+use Rattle.schemes.specs.Checks.{IsShaped, IsClosed, HasParents, IsStrict, IsNearestThere, HasRecords, HasLabels, IsLabelIn, HasDirectories, IsChecked, tree_at, k1, k2, k3, k4, k5, k6, k7, k8}
 use Rattle.node_table.specs.Columns.{IsParentIn, limit_in, HasColumn, IsBuiltBetween, AreBelow}
-use Rattle.node_table.proofs.Basics.Walks.{symmetric}
-use Rattle.node_table.proofs.Serving.Exact.{Distances}
-use Rattle.node_table.proofs.Serving.CheckedLaw.{first_is_listed}
+use Rattle.schemes.proofs.Basics.Walks.{symmetric}
+use Rattle.schemes.proofs.Serving.Exact.{Distances}
+use Rattle.schemes.proofs.Serving.CheckedLaw.{first_is_listed}
 use Rattle.node_table.proofs.Builds.GrownTrees.{grown_tree}
-use Rattle.node_table.proofs.Basics.Options.{is_there, some_is, same_value}
+use Rattle.schemes.proofs.Basics.Options.{is_there, some_is, same_value}
 
 -- ---- least lengths
 

@@ -12,16 +12,16 @@ use Rattle.route_tree.specs.Growth.{is_parent, trees_on, subtrees, first_or}
 use Rattle.route_tree.specs.declared.member.Member.{Member}
 use Rattle.route_tree.proofs.Ascending.{Has, Above, Rising, Fresh, Differ, rising_same, has_ascending, ascending_has, rising_ascending}
 use Rattle.route_tree.proofs.Heaviest.{heavy_here, heavy_size, from_part}
-use Rattle.node_table.specs.Entry.{Entry}
-use Rattle.node_table.specs.Tables.{Tables}
-use Rattle.node_table.specs.Checks.{parent_is, children, up_port, down_port, tree_to_depth, farthest, tree_at}
+use Rattle.schemes.specs.Entry.{Entry}
+use Rattle.schemes.specs.Tables.{Tables}
+use Rattle.schemes.specs.Checks.{parent_is, children, up_port, down_port, tree_to_depth, farthest, tree_at}
 use Rattle.node_table.specs.Columns.{HasMember, LacksMember, AreDistinct, BeginsWith, FitsEntry, IsLaid}
-use Rattle.node_table.proofs.Serving.Exact.{Distances}
-use Rattle.node_table.proofs.Basics.Lists.{Each, each_filtered, any_filtered, within_up_to}
-use Rattle.node_table.proofs.LocalForms.ChildRows.{Ascends, ascends_filtered, ascends_up_to}
-use Rattle.node_table.proofs.LocalForms.LocalRecords.{Every, IsDeep, child_farther, child_deep}
-use Rattle.node_table.proofs.Basics.Options.{same_value}
-use Rattle.node_table.proofs.LocalForms.TreeOfTables.{child_of, tree_to_depth-node, node_inside, far_enough, parent_is_from}
+use Rattle.schemes.proofs.Serving.Exact.{Distances}
+use Rattle.schemes.proofs.Basics.Lists.{Each, each_filtered, any_filtered, within_up_to}
+use Rattle.schemes.proofs.LocalForms.ChildRows.{Ascends, ascends_filtered, ascends_up_to}
+use Rattle.schemes.proofs.LocalForms.LocalRecords.{Every, IsDeep, child_farther, child_deep}
+use Rattle.schemes.proofs.Basics.Options.{same_value}
+use Rattle.schemes.proofs.LocalForms.TreeOfTables.{child_of, tree_to_depth-node, node_inside, far_enough, parent_is_from}
 
 -- ---- the heavy tree in front, said in two ways
 

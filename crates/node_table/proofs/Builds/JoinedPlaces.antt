@@ -4,8 +4,7 @@ use Rattle.std.specs.Prelude.{Option, None}
 use Rattle.std.proofs.Math.ListN.{set}
 use Rattle.std.proofs.lemmas.Bool.Decides.{nat_tests}
 use Rattle.std.specs.declared.vec.Vec.{Vec}
-use Rattle.node_table.specs.Tables.{value_at}
-use Rattle.node_table.specs.Building.{items_at}
+use Rattle.schemes.specs.Tables.{value_at, items_at}
 
 -- below n what stands now is made of both, and from n on it is what stood there; what is left of the second is all from n on
 pub record AreJoinedBelow (X Y : Type 0) (f : X → Y → X) (before now : ℕ → X) (next left : ℕ → Y) (n : ℕ) : Type 0 where

@@ -5,13 +5,13 @@ use Rattle.std.specs.List.Sorted.{IsStrictlyIncreasing}
 use Rattle.std.proofs.lemmas.Bool.Decides.{nat_tests}
 use Rattle.graph_edits.specs.Edges.{Network}
 use Rattle.distances.specs.Nearest.{IsNearestOf}
-use Rattle.distances.specs.declared.nearest.Near.{Near}
+use Rattle.landmarks.specs.declared.near.Near.{Near}
 use Rattle.heavy_labels.specs.Label.{Label}
-use Rattle.node_table.specs.declared.parts.Parts.{Parts}
-use Rattle.node_table.specs.Entry.{Entry}
-use Rattle.node_table.specs.Tables.{tables, entries_at, directory_at, first_entry, roots_of, value_at, or_false}
+use Rattle.schemes.specs.declared.parts.Parts.{Parts}
+use Rattle.schemes.specs.Entry.{Entry}
+use Rattle.schemes.specs.Tables.{tables, entries_at, directory_at, first_entry, roots_of, value_at, or_false, items_at}
 use Rattle.node_table.specs.Columns.{HasColumn, IsBuiltBetween, AreBelow, AreFrom}
-use Rattle.node_table.specs.Building.{items_at, first_list, first_some, IsJoined, IsBuildOf}
+use Rattle.node_table.specs.Building.{first_list, first_some, IsJoined, IsBuildOf}
 use Rattle.node_table.proofs.Builds.KeptColumns.{column_kept}
 use Rattle.node_table.proofs.Builds.RowSteps.{below_more}
 use Rattle.node_table.proofs.Builds.OneRootMore.{first_left, first_right, roots_append, differ, from_both}

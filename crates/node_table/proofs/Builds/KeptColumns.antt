@@ -4,10 +4,10 @@ use Rattle.std.specs.Prelude.{Some, None, IsSome}
 use Rattle.std.specs.Option.{option_map}
 use Rattle.std.specs.List.Sorted.{IsStrictlyIncreasing}
 use Rattle.graph_edits.specs.Edges.{Network}
-use Rattle.distances.specs.declared.nearest.Near.{Near}
-use Rattle.node_table.specs.declared.parts.Parts.{Parts}
-use Rattle.node_table.specs.Tables.{tables, entries_at, directory_at, first_entry, first_listed, nodes_of}
-use Rattle.node_table.specs.Checks.{IsListed}
+use Rattle.landmarks.specs.declared.near.Near.{Near}
+use Rattle.schemes.specs.declared.parts.Parts.{Parts}
+use Rattle.schemes.specs.Tables.{tables, entries_at, directory_at, first_entry, first_listed, nodes_of}
+use Rattle.schemes.specs.Checks.{IsListed}
 use Rattle.node_table.specs.Columns.{IsColumn, HasColumn, limit_in}
 
 -- the limits of a root

@@ -11,18 +11,18 @@ use Rattle.std.proofs.lemmas.List.Sorted.{Contains-permutation, IsPermutation-sy
 use Rattle.std.proofs.lemmas.Map.Keys.{IsDistinct-head, IsDistinct-tail}
 use Rattle.graph_edits.specs.Edges.{Network}
 use Rattle.distances.specs.Nearest.{IsNearestOf}
-use Rattle.distances.specs.declared.nearest.Near.{Near}
+use Rattle.landmarks.specs.declared.near.Near.{Near}
 use Rattle.distances.specs.declared.linked.Linked.{Linked}
 use Rattle.heavy_labels.specs.Label.{Label}
 use Rattle.heavy_labels.specs.declared.numbered_member.NumberedMember.{NumberedMember}
-use Rattle.node_table.specs.declared.parts.Parts.{Parts}
-use Rattle.node_table.specs.Entry.{Entry}
-use Rattle.node_table.specs.declared.parts.Listed.{Listed}
-use Rattle.node_table.specs.Tables.{tables, entries_at, directory_at, first_entry, first_listed, roots_of, nodes_of, value_at, or_false}
-use Rattle.node_table.specs.Checks.{IsListed}
+use Rattle.schemes.specs.declared.parts.Parts.{Parts}
+use Rattle.schemes.specs.Entry.{Entry}
+use Rattle.schemes.specs.declared.parts.Listed.{Listed}
+use Rattle.schemes.specs.Tables.{tables, entries_at, directory_at, first_entry, first_listed, roots_of, nodes_of, value_at, or_false, items_at}
+use Rattle.schemes.specs.Checks.{IsListed}
 use Rattle.node_table.specs.Columns.{IsColumn, HasColumn, IsBuiltBetween, AreBelow, AreFrom, limit_in}
 use Rattle.node_table.specs.RowLists.{Row, nodes_in, nodes_numbered, row_at, row_by, rows_by, entry_in, label_in}
-use Rattle.node_table.specs.Building.{items_at, entries_for, listed_member, home_by, home_after, limit_by, IsDirectoryOf, IsDirectoryAfter, AreRowsOf, IsWith, IsBuildOf}
+use Rattle.node_table.specs.Building.{entries_for, listed_member, home_by, home_after, limit_by, IsDirectoryOf, IsDirectoryAfter, AreRowsOf, IsWith, IsBuildOf}
 use Rattle.node_table.proofs.Builds.KeptColumns.{column_kept, limit_kept}
 use Rattle.node_table.proofs.Builds.MadeRows.{listed_row}
 use Rattle.node_table.proofs.Builds.RowSteps.{increasing_push, below_more, below_push, rows_nodes}
@@ -30,7 +30,7 @@ use Rattle.node_table.proofs.Builds.RowColumns.{row_found}
 use Rattle.node_table.proofs.Builds.TreeMembers.{IsIn, is_in_of, contains_of}
 use Rattle.node_table.proofs.Builds.BuildSteps.{near_is, rows_listed}
 use Rattle.node_table.proofs.Builds.Built.{flag_is}
-use Rattle.node_table.specs.Ports.{neighbours}
+use Rattle.schemes.specs.Ports.{neighbours}
 
 -- ---- numbers that differ
 

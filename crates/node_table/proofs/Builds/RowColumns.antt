@@ -20,13 +20,13 @@ use Rattle.heavy_labels.specs.Numbered.{Brief, IsListed, seen, head_brief}
 use Rattle.heavy_labels.specs.Numbering.{Line, Place, tree_lines, Among}
 use Rattle.heavy_labels.specs.Stepped.{record_of}
 use Rattle.heavy_labels.specs.declared.numbered_member.NumberedMember.{NumberedMember}
-use Rattle.node_table.specs.Entry.{Entry}
-use Rattle.node_table.specs.Checks.{up_port, down_port}
+use Rattle.schemes.specs.Entry.{Entry}
+use Rattle.schemes.specs.Checks.{up_port, down_port}
 use Rattle.node_table.specs.Columns.{up_by, down_by, member_of, LacksMember, AreDistinct, FitsEntry, IsTightFrom, IsParentIn, IsColumn}
 use Rattle.node_table.specs.RowLists.{Row, nodes_in, nodes_numbered, row_at, entry_in, label_in}
 use Rattle.node_table.proofs.Builds.MadeRows.{IsRowOf, IsRowFrom, IsRowList}
 use Rattle.node_table.proofs.Builds.TreeMembers.{IsIn, is_in_of, contains_of, all_in, distinct_members, laid_members, ChildrenReached, same_distance, parent_reached, farther, begins_with_root, at_in, in_at, one_place, exact_in, parent_in, reached_inside, reached_members, first_member}
-use Rattle.node_table.proofs.Basics.Options.{some_is, same_value}
+use Rattle.schemes.proofs.Basics.Options.{some_is, same_value}
 
 none_some : {X : Type 0} {x : X} {o : Option X} → o ≡ None → o ≡ Some x → ⊥
 none_some e f = cc

@@ -1,12 +1,11 @@
 -- Rows, as they are made: ports, places of nodes in lists, and the rows of what was numbered.
-use Rattle.std.proofs.Common.{◌≡◌, ℕ, zero, suc, ◌+◌, ◌≤◌, ◌<◌, ◌⊎◌, inl, inr, Bool, true, false, nat_lt, sym, refl, ap, subst, ◌∙◌, arith, List, [], ◌∷◌, ◌++◌, length, map, get_or}
-use Rattle.std.specs.Prelude.{Option, Some, None, ◌↔◌, slice_get, slice_index}
+use Rattle.std.proofs.Common.{◌≡◌, ℕ, zero, suc, ◌+◌, ◌≤◌, ◌<◌, sym, refl, ap, subst, ◌∙◌, arith, List, [], ◌∷◌, ◌++◌, length, map, get_or}
+use Rattle.std.specs.Prelude.{Option, Some, None, slice_index}
 use Rattle.std.specs.List.{All, Contains}
 use Rattle.std.specs.List.Sorted.{IsStrictlyIncreasing}
 use Rattle.std.proofs.lemmas.List.{get_or-map}
-use Rattle.std.proofs.lemmas.Bool.Decides.{nat_tests}
 use Rattle.std.proofs.Math.ListN.{set}
-use Rattle.graph_edits.specs.Edges.{Network, over_port, neighbours_of}
+use Rattle.graph_edits.specs.Edges.{Network}
 use Rattle.distances.specs.declared.reach.Reached.{Reached}
 use Rattle.distances.specs.declared.linked.Linked.{Linked}
 use Rattle.distances.specs.Workspace.{reached_of, HasLinks, AreLinked}
@@ -14,37 +13,14 @@ use Rattle.route_tree.specs.declared.member.Member.{Member}
 use Rattle.route_tree.specs.Growth.{IsEachOnce}
 use Rattle.route_tree.specs.Places.{HasPlaces}
 use Rattle.heavy_labels.specs.declared.numbered_member.NumberedMember.{NumberedMember}
-use Rattle.node_table.specs.Ports.{neighbours, port_to}
 use Rattle.node_table.specs.Columns.{AreBelow, linked_member, member_of, up_by, down_by}
-use Rattle.node_table.specs.RowLists.{Row, ArePlaces, ArePlacesTo, nobody, nodes_in, nodes_linked, nodes_numbered, row_by, rows_by}
+use Rattle.node_table.specs.RowLists.{Row, nobody, nodes_in, nodes_linked, nodes_numbered, row_by, rows_by}
+use Rattle.schemes.specs.Places.{ArePlaces, ArePlacesTo}
 use Rattle.node_table.proofs.Builds.MadeRows.{IsRowFrom, IsRowList}
-use Rattle.node_table.proofs.Basics.Lists.{Within, index_found}
-use Rattle.node_table.proofs.Serving.StepsAsMoves.{index_get}
-use Rattle.node_table.proofs.Serving.Moves.{get_map}
-
-none_some : {X : Type 0} {x : X} {o : Option X} → o ≡ None → o ≡ Some x → ⊥
-none_some e f = cc
-
-some_same : {X : Type 0} {x y : X} → Some x ≡ Some y → x ≡ y
-some_same e = cc
+use Rattle.schemes.proofs.Basics.Places.{places_more}
+use Rattle.schemes.proofs.Basics.PortLemmas.{port_is}
 
 -- ---- ports
-
-within_get : (xs : List ℕ) (i y : ℕ) → slice_get xs i ≡ Some y → Within y xs
-within_get [] i y e = absurd (none_some refl e)
-within_get (x ∷ xs) zero y e = inl (sym (some_same e))
-within_get (x ∷ xs) (suc i) y e = inr (within_get xs i y e)
-
-pub port_is : (m : Network) (x y : ℕ) (o : Option ℕ) → ((port : ℕ) → (o ≡ Some port) ↔ (over_port m x port ≡ Some y)) → o ≡ port_to m x y
-port_is m x y o h = go (port_to m x y) refl o refl
-  where
-    over_is : (q : ℕ) → slice_get (neighbours m x) q ≡ over_port m x q
-    over_is q = get_map (λ e. e.0) (neighbours_of m x) q
-
-    go : (p : Option ℕ) → port_to m x y ≡ p → (z : Option ℕ) → o ≡ z → o ≡ p
-    go (Some q) e z g = (h q).1 (sym (over_is q) ∙ index_get y q (neighbours m x) e)
-    go None e None g = g
-    go None e (Some q) g = absurd (none_some e (index_found y (neighbours m x) (within_get (neighbours m x) q y (over_is q ∙ (h q).0 g))).1)
 
 -- what is reached with its ports is a member of the tree
 up_is : (m : Network) (x : ℕ) (parent up down : Option ℕ) → HasLinks m x parent up down → up ≡ up_by m x parent
@@ -77,38 +53,6 @@ linked_length [] = refl
 linked_length (k ∷ ks) = omega (arith, linked_length ks)
 
 -- ---- places
-
-set_same : (xs : List ℕ) (i : ℕ) (v : ℕ) → i < length xs → slice_index (set xs i v) i ≡ v
-set_same [] i v l = absurd (omega arith)
-set_same (x ∷ xs) zero v l = refl
-set_same (x ∷ xs) (suc i) v l = set_same xs i v (omega (arith, l))
-
-set_other : (xs : List ℕ) (i j : ℕ) (v : ℕ) → (i ≡ j → ⊥) → slice_index (set xs i v) j ≡ slice_index xs j
-set_other [] i j v n = refl
-set_other (x ∷ xs) zero zero v n = absurd (n refl)
-set_other (x ∷ xs) zero (suc j) v n = refl
-set_other (x ∷ xs) (suc i) zero v n = refl
-set_other (x ∷ xs) (suc i) (suc j) v n = set_other xs i j v (λ e. n (ap suc e))
-
-eq_cases : (a b : ℕ) → (a ≡ b) ⊎ (a ≡ b → ⊥)
-eq_cases a b = go (nat_lt a b) (nat_lt b a) refl refl
-  where
-    go : (c d : Bool) → nat_lt a b ≡ c → nat_lt b a ≡ d → (a ≡ b) ⊎ (a ≡ b → ⊥)
-    go true d p q = inr (λ e. (let l : a < b = grind (arith, nat_tests) in omega (arith, l, e)))
-    go false true p q = inr (λ e. (let l : b < a = grind (arith, nat_tests) in omega (arith, l, e)))
-    go false false p q = inl (grind (arith, nat_tests))
-
-pub places_more : (list : List ℕ) (n : ℕ) (table : List ℕ) → ArePlacesTo list n table → n < length list → slice_index list n < length table → ArePlacesTo list (n + 1) (set table (slice_index list n) n)
-places_more list n table h l inside i k = elim (eq_cases (slice_index list n) (slice_index list i)) [
-  | inl s ↦ (let at : slice_index (set table (slice_index list n) n) (slice_index list i) ≡ n = ap (λ z. slice_index (set table (slice_index list n) n) z) (sym s) ∙ set_same table (slice_index list n) n inside in
-      (subst (λ z. z < length list) (sym at) l, ap (slice_index list) at ∙ s))
-  | inr d ↦ (let at : slice_index (set table (slice_index list n) n) (slice_index list i) ≡ slice_index table (slice_index list i) = set_other table (slice_index list n) (slice_index list i) n d in
-      let old = h i (before d (eq_cases i n)) in
-      (subst (λ z. z < length list) (sym at) old.0, ap (slice_index list) at ∙ old.1))
-]
-  where
-    before : (slice_index list n ≡ slice_index list i → ⊥) → (i ≡ n) ⊎ (i ≡ n → ⊥) → i < n
-    before d c = elim c [ inl s ↦ absurd (d (ap (slice_index list) (sym s))) | inr ne ↦ grind (arith, k, ne) ]
 
 pub node_at : (ks : List Linked) (i : ℕ) (z : Linked) → i < length ks → slice_index (nodes_linked ks) i ≡ (get_or ks i z).reached.node
 node_at ks i z l = get_or-map (λ (k : Linked). k.reached.node) ks i z 0 l

@@ -14,12 +14,12 @@ use Rattle.distances.specs.Reach.{IsTree, IsParent, settled_of}
 use Rattle.distances.specs.declared.reach.Reached.{Reached}
 use Rattle.route_tree.specs.Members.{AreMembers, IsRoot, HasBoth, HasParentBefore}
 use Rattle.route_tree.specs.declared.member.Member.{Member}
-use Rattle.node_table.specs.Entry.{Entry}
-use Rattle.node_table.specs.Ports.{index_of}
+use Rattle.schemes.specs.Entry.{Entry}
+use Rattle.schemes.specs.Ports.{index_of}
 use Rattle.node_table.specs.Columns.{up_by, down_by, member_of, HasMember, LacksMember, AreDistinct, BeginsWith, FitsEntry, IsLaid}
-use Rattle.node_table.proofs.Basics.Walks.{symmetric}
-use Rattle.node_table.proofs.Basics.Lists.{port_found, Covers, at_most}
-use Rattle.node_table.proofs.Basics.Searches.{index_at}
+use Rattle.schemes.proofs.Basics.Walks.{symmetric}
+use Rattle.schemes.proofs.Basics.Lists.{port_found, Covers, at_most}
+use Rattle.schemes.proofs.Basics.Searches.{index_at}
 use Rattle.node_table.proofs.Builds.Built.{zero_walk, itself}
 
 -- ---- one of a list

@@ -1,5 +1,5 @@
 use Rattle.std.proofs.Common.{refl}
-use Rattle.node_table.specs.Checks.{k1, k2, k3, k4, k5, k6, k7, k8}
+use Rattle.schemes.specs.Checks.{k1, k2, k3, k4, k5, k6, k7, k8}
 use Rattle.certificate.specs.declared.fault.Fault.TheVariants.{Shape, Edges, Parents, Strict, Nearest, Records, Labels, Directories}
 use Rattle.certificate.proofs.Verdict.{to_none, to_shape, to_edges, to_parents, to_strict, to_nearest, to_records, to_labels, to_directories, first_five, all_eight, first_fault, failed, exact_fault, exact_ok, serves}
 use Rattle.certificate.proofs.checks.check.Goals as goal

@@ -1,6 +1,6 @@
 use Rattle.std.proofs.Common.{◌<◌, ℕ, get_or}
 use Rattle.std.specs.List.{All}
-use Rattle.node_table.specs.Tables.{entries_at, tables}
+use Rattle.schemes.specs.Tables.{entries_at, tables}
 use Rattle.certificate.specs.Entries.{IsClosedOver}
 use Rattle.certificate.proofs.edges.are_closed.Given as goal
 

@@ -1,6 +1,6 @@
 use Rattle.std.proofs.Common.{ℕ, ◌<◌}
 use Rattle.std.specs.List.{All}
-use Rattle.node_table.specs.Tables.{entries_at, tables}
+use Rattle.schemes.specs.Tables.{entries_at, tables}
 use Rattle.certificate.specs.Entries.{IsClosedAt}
 use Rattle.certificate.proofs.edges.has_edges.Given as goal
 

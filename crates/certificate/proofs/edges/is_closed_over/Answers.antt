@@ -1,6 +1,6 @@
 use Rattle.std.proofs.Common.{◌≤◌, ◌+◌, ◌≡◌, subst}
 use Rattle.std.specs.Prelude.{MatchOption, Some, None}
-use Rattle.node_table.specs.Tables.{tables}
+use Rattle.schemes.specs.Tables.{tables}
 use Rattle.certificate.specs.Entries.{IsClosedOver}
 use Rattle.certificate.proofs.Found.{found_first}
 use Rattle.certificate.proofs.edges.is_closed_over.Goals as goal

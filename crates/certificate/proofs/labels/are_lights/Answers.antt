@@ -1,6 +1,6 @@
 use Rattle.std.proofs.Common.{◌≡◌, [], true, false, sym, ◌∙◌, rules}
 use Rattle.std.specs.Prelude.{◌↔◌, IsTrue}
-use Rattle.node_table.specs.Tables.{tables}
+use Rattle.schemes.specs.Tables.{tables}
 use Rattle.certificate.specs.Climbs.{HasLights}
 use Rattle.certificate.proofs.ClimbLemmas.{distances_first, climb_falls, climb_on, climb_off, climb_done, empty_test, lights_of_tree}
 use Rattle.certificate.proofs.labels.are_lights.Goals as goal

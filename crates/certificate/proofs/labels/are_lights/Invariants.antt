@@ -1,9 +1,9 @@
 use Rattle.std.proofs.Common.{◌≡◌}
 use Rattle.std.specs.Prelude.{◌↔◌}
 use Rattle.certificate.specs.Climbs.{lights_up}
-use Rattle.node_table.specs.Tables.{tables}
-use Rattle.node_table.specs.Local.{parent_of, record_at}
-use Rattle.node_table.specs.Checks.{distance_of}
+use Rattle.schemes.specs.Tables.{tables}
+use Rattle.schemes.specs.Local.{parent_of, record_at}
+use Rattle.schemes.specs.Checks.{distance_of}
 use Rattle.certificate.proofs.labels.are_lights.Given as goal
 
 abbrev pub invariant-loop-here : goal.invariant-loop-here

@@ -1,7 +1,7 @@
 use Rattle.std.proofs.Common.{◌∙◌, ap, sym, arith}
 use Rattle.std.specs.Prelude.{Some}
-use Rattle.node_table.proofs.Basics.Searches.{key_at, key_there}
-use Rattle.node_table.specs.Entry.{Entry}
+use Rattle.schemes.proofs.Basics.Searches.{key_at, key_there}
+use Rattle.schemes.specs.Entry.{Entry}
 use Rattle.certificate.proofs.SideBySide.{entry_here, entry_nowhere}
 use Rattle.certificate.proofs.pairs.entry_at.Goals as goal
 use Rattle.certificate.proofs.pairs.entry_at.Goals.{else-at-there-via-then-at-there+else-root, else-at-there-via-else-at-there}

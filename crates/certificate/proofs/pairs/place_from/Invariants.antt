@@ -1,5 +1,5 @@
 use Rattle.std.proofs.Common.{◌≤◌, ◌-◌, ℕ, List, length}
-use Rattle.node_table.specs.Entry.{Entry}
+use Rattle.schemes.specs.Entry.{Entry}
 use Rattle.certificate.specs.Entries.{AreBelow}
 use Rattle.certificate.proofs.pairs.place_from.Given as goal
 

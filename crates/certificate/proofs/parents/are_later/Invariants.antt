@@ -1,7 +1,7 @@
 use Rattle.std.proofs.Common.{◌≤◌, ◌<◌, ℕ, List, length, get_or}
 use Rattle.std.specs.Prelude.{slice_index}
-use Rattle.node_table.specs.Entry.{Entry}
-use Rattle.node_table.specs.Tables.{Tables, tables, roots_of}
+use Rattle.schemes.specs.Entry.{Entry}
+use Rattle.schemes.specs.Tables.{Tables, tables, roots_of}
 use Rattle.certificate.specs.Entries.{AreBelow, IsLater}
 use Rattle.certificate.proofs.parents.are_later.Given as goal
 

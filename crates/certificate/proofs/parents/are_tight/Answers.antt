@@ -1,6 +1,6 @@
 use Rattle.std.proofs.Common.{ap, sym, subst, arith, length, get_or}
 use Rattle.std.specs.List.{All}
-use Rattle.node_table.specs.Tables.{entries_at, tables}
+use Rattle.schemes.specs.Tables.{entries_at, tables}
 use Rattle.certificate.specs.Entries.{IsLater}
 use Rattle.certificate.proofs.Found.{fails, refused}
 use Rattle.certificate.proofs.SideBySide.{tight_to, later_from, parents_of}

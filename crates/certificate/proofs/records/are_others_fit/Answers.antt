@@ -2,8 +2,8 @@ use Rattle.std.proofs.Common.{◌+◌, get_or, sym, subst, drop, map, false}
 use Rattle.certificate.specs.Rows.{others}
 use Rattle.certificate.proofs.Found.{refused}
 use Rattle.certificate.proofs.RowLemmas.{row_on, row_off}
-use Rattle.node_table.specs.Local.{IsRow}
-use Rattle.node_table.specs.Tables.{tables}
+use Rattle.schemes.specs.Local.{IsRow}
+use Rattle.schemes.specs.Tables.{tables}
 use Rattle.certificate.proofs.records.are_others_fit.Goals as goal
 
 pub returns-in-None : goal.returns-in-None

@@ -1,8 +1,8 @@
 use Rattle.std.proofs.Common.{drop, map, false}
 use Rattle.std.specs.Prelude.{◌↔◌}
 use Rattle.certificate.specs.Rows.{others}
-use Rattle.node_table.specs.Local.{IsRow}
-use Rattle.node_table.specs.Tables.{tables}
+use Rattle.schemes.specs.Local.{IsRow}
+use Rattle.schemes.specs.Tables.{tables}
 use Rattle.certificate.proofs.records.are_others_fit.Given as goal
 
 abbrev pub invariant-loop-port : goal.invariant-loop-port

@@ -1,8 +1,8 @@
 use Rattle.std.proofs.Common.{◌+◌, ap, sym, subst, false}
 use Rattle.heavy_labels.specs.Stepped.{record_of}
-use Rattle.node_table.specs.Local.{IsRow, record_or}
-use Rattle.node_table.specs.Ports.{neighbours}
-use Rattle.node_table.specs.Tables.{tables}
+use Rattle.schemes.specs.Local.{IsRow, record_or}
+use Rattle.schemes.specs.Ports.{neighbours}
+use Rattle.schemes.specs.Tables.{tables}
 use Rattle.certificate.specs.Rows.{others}
 use Rattle.certificate.proofs.Found.{fails}
 use Rattle.certificate.proofs.RowLemmas.{row_first}

@@ -1,7 +1,7 @@
 use Rattle.std.proofs.Common.{refl, get_or}
 use Rattle.certificate.specs.Swift.{HasSpan}
 use Rattle.certificate.proofs.SwiftLemmas.{widest_on}
-use Rattle.node_table.specs.Tables.{tables}
+use Rattle.schemes.specs.Tables.{tables}
 use Rattle.certificate.proofs.records.heavy_child.Goals as goal
 
 pub loop-port-init : goal.loop-port-init

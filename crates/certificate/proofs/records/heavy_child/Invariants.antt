@@ -2,7 +2,7 @@ use Rattle.std.proofs.Common.{◌≡◌, drop, map}
 use Rattle.std.specs.Prelude.{None}
 use Rattle.certificate.specs.Rows.{widest_from}
 use Rattle.certificate.specs.Swift.{HasSpan}
-use Rattle.node_table.specs.Tables.{tables}
+use Rattle.schemes.specs.Tables.{tables}
 use Rattle.certificate.proofs.records.heavy_child.Given as goal
 
 abbrev pub invariant-loop-port : goal.invariant-loop-port

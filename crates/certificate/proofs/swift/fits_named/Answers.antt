@@ -1,5 +1,5 @@
 use Rattle.heavy_labels.specs.Stepped.{record_of}
-use Rattle.node_table.specs.Tables.{tables}
+use Rattle.schemes.specs.Tables.{tables}
 use Rattle.certificate.proofs.RowLemmas.{row_named}
 use Rattle.certificate.proofs.swift.fits_named.Goals as goal
 

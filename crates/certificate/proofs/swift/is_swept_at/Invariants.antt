@@ -1,6 +1,6 @@
 use Rattle.std.proofs.Common.{◌<◌, ℕ, get_or}
-use Rattle.node_table.specs.Entry.{Entry}
-use Rattle.node_table.specs.Tables.{tables, entries_at}
+use Rattle.schemes.specs.Entry.{Entry}
+use Rattle.schemes.specs.Tables.{tables, entries_at}
 use Rattle.certificate.specs.Swift.{IsSwept}
 use Rattle.certificate.proofs.swift.is_swept_at.Given as goal
 

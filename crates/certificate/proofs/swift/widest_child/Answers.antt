@@ -7,7 +7,7 @@ use Rattle.certificate.specs.Rows.{others}
 use Rattle.certificate.specs.Swift.{HasSpan, IsRightOver}
 use Rattle.certificate.proofs.RowLemmas.{row_on}
 use Rattle.certificate.proofs.SwiftLemmas.{each_on, widest_on}
-use Rattle.node_table.specs.Tables.{tables}
+use Rattle.schemes.specs.Tables.{tables}
 use Rattle.certificate.proofs.swift.widest_child.Goals as goal
 use Rattle.certificate.proofs.swift.widest_child.Goals.{then-met, else-met}
 

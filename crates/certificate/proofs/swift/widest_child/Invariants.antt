@@ -1,9 +1,9 @@
 use Rattle.std.proofs.Common.{Bool, ◌≡◌, ◌≢◌, ◌<◌, ◌+◌, ℕ, List, drop, map, get_or, false}
 use Rattle.std.specs.Prelude.{IsTrue, ◌↔◌, Option, None}
 use Rattle.graph_edits.specs.Edges.{Network}
-use Rattle.node_table.specs.Entry.{Entry}
-use Rattle.node_table.specs.Local.{IsRow}
-use Rattle.node_table.specs.Tables.{Tables, tables}
+use Rattle.schemes.specs.Entry.{Entry}
+use Rattle.schemes.specs.Local.{IsRow}
+use Rattle.schemes.specs.Tables.{Tables, tables}
 use Rattle.certificate.specs.Entries.{HasParentAt}
 use Rattle.certificate.specs.Rows.{others, widest_from}
 use Rattle.certificate.specs.Swift.{HasSpan, IsRightOver}

@@ -1,5 +1,5 @@
 use Rattle.std.proofs.Common.{rules, subst, Result}
-use Rattle.node_table.specs.declared.trail.Trail.{Trail}
+use Rattle.schemes.specs.declared.trail.Trail.{Trail}
 use Rattle.single_route.specs.Answers.{IsAnswer}
 use Rattle.single_route.specs.declared.no_trail.NoTrail.{NoTrail}
 use Rattle.commands.proofs.ManyRoutes.{none_routes, trail_routes}

@@ -9,11 +9,11 @@ returns-then-place-eq0-clause-beside c = root_beside _ _ _ c.args.j c.requires.m
 pub returns-then-place-eq0-clause-ahead : goal.returns-then-place-eq0-clause-ahead
 returns-then-place-eq0-clause-ahead c = root_ahead _ _ _ c.args.j c.requires.measured.members (omega arith) c.requires.ahead
 
-pub bounds-above-place : goal.bounds-above-place
-bounds-above-place c = (let i = place_there _ _ _ _ _ _ _ c.args.j c.requires.measured c.requires.heavy c.requires.beside c.requires.ahead c.requires.there (omega arith) in omega (arith, i, c.requires.measured.above.length_is))
+pub bounds-tree-place : goal.bounds-tree-place
+bounds-tree-place c = (let i = place_there _ _ _ _ _ _ _ c.args.j c.requires.measured c.requires.heavy c.requires.beside c.requires.ahead c.requires.there (omega arith) in omega (arith, i, c.requires.measured.above.length_is))
 
-pub bounds-heavy-parent : goal.bounds-heavy-parent
-bounds-heavy-parent c = (let i = parent_there _ _ _ _ _ _ _ c.args.j c.requires.measured c.requires.heavy c.requires.beside c.requires.ahead c.requires.there (omega arith) in omega (arith, i, c.requires.heavy.length_is))
+pub bounds-tree-parent : goal.bounds-tree-parent
+bounds-tree-parent c = (let i = parent_there _ _ _ _ _ _ _ c.args.j c.requires.measured c.requires.heavy c.requires.beside c.requires.ahead c.requires.there (omega arith) in omega (arith, i, c.requires.heavy.length_is))
 
 pub returns-then-best-place-clause-beside : goal.returns-then-best-place-clause-beside
 returns-then-best-place-clause-beside c = turn_heavy_beside _ _ _ _ _ _ _ c.args.j c.requires.measured c.requires.heavy c.requires.beside c.requires.ahead c.requires.there (omega arith) _ (omega arith) refl
@@ -33,8 +33,8 @@ overflow_add-ahead-2 c = (let i = turn_counts _ _ _ _ _ _ _ c.args.j c.requires.
 pub bounds-ahead-place-2 : goal.bounds-ahead-place-2
 bounds-ahead-place-2 c = (let i = place_there _ _ _ _ _ _ _ c.args.j c.requires.measured c.requires.heavy c.requires.beside c.requires.ahead c.requires.there (omega arith) in omega (arith, i, c.requires.ahead.length_is))
 
-pub bounds-sizes-place : goal.bounds-sizes-place
-bounds-sizes-place c = (let i = place_there _ _ _ _ _ _ _ c.args.j c.requires.measured c.requires.heavy c.requires.beside c.requires.ahead c.requires.there (omega arith) in omega (arith, i, c.requires.measured.length_is))
+pub bounds-tree-place-2 : goal.bounds-tree-place-2
+bounds-tree-place-2 c = (let i = place_there _ _ _ _ _ _ _ c.args.j c.requires.measured c.requires.heavy c.requires.beside c.requires.ahead c.requires.there (omega arith) in omega (arith, i, c.requires.measured.length_is))
 
 pub bounds-beside-parent-2 : goal.bounds-beside-parent-2
 bounds-beside-parent-2 c = (let i = parent_there _ _ _ _ _ _ _ c.args.j c.requires.measured c.requires.heavy c.requires.beside c.requires.ahead c.requires.there (omega arith) in omega (arith, i, c.requires.beside.length_is))
@@ -49,4 +49,4 @@ pub returns-clause-beside : goal.returns-clause-beside
 returns-clause-beside c = turn_light_beside _ _ _ _ _ _ _ c.args.j c.requires.measured c.requires.heavy c.requires.beside c.requires.ahead c.requires.there (omega arith) _ _ (λ e. (c.if-best-place.false e)) refl refl
 
 pub returns-clause-ahead : goal.returns-clause-ahead
-returns-clause-ahead c = turn_light_ahead _ _ _ _ _ _ _ c.args.j c.requires.measured c.requires.heavy c.requires.beside c.requires.ahead c.requires.there (omega arith) _ _ (λ e. (c.if-best-place.false e)) (ap (λ z. 1 + z + slice_index c.args.beside.now (slice_index c.args.above.now (slice_index c.args.by_node.now c.args.j))) c.heavy_size.ensures) refl
+returns-clause-ahead c = turn_light_ahead _ _ _ _ _ _ _ c.args.j c.requires.measured c.requires.heavy c.requires.beside c.requires.ahead c.requires.there (omega arith) _ _ (λ e. (c.if-best-place.false e)) (ap (λ z. 1 + z + slice_index c.args.beside.now (slice_index c.args.tree.now.above.now (slice_index c.args.tree.now.by_node.now c.args.j))) c.heavy_size.ensures) refl

@@ -4,4 +4,4 @@ use Rattle.heavy_labels.specs.Numbered.{seen}
 use Rattle.heavy_labels.proofs.flat.number_members.Given as goal
 
 abbrev pub invariant-loop-at : goal.invariant-loop-at
-invariant-loop-at g l = AreFlat l.members l.above.items l.heavy.items l.ahead.items l.at (map seen l.out.items)
+invariant-loop-at g l = AreFlat l.tree.members.now l.tree.above.now l.tree.heavy.now l.ahead.items l.at (map seen l.out.items)

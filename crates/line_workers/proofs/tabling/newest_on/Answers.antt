@@ -1,5 +1,5 @@
 use Rattle.std.proofs.Common.{◌≡◌, Some, ap, sym, subst}
-use Rattle.node_table.specs.declared.parts.Parts.{Parts}
+use Rattle.schemes.specs.declared.parts.Parts.{Parts}
 use Rattle.generations.specs.Boards.{scheme_of}
 use Rattle.forwarders.specs.Answers.{Shelf}
 use Rattle.line_workers.proofs.tabling.newest_on.Goals as goal

@@ -1,8 +1,8 @@
 use Rattle.std.proofs.Common.{◌≡◌, ◌<◌, ℕ, List, length}
 use Rattle.std.specs.declared.vec.Vec.{Vec}
 use Rattle.graph_edits.specs.Edges.{Network}
-use Rattle.node_table.specs.Building.{items_at}
-use Rattle.node_table.specs.Ports.{neighbours}
+use Rattle.schemes.specs.Tables.{items_at}
+use Rattle.schemes.specs.Ports.{neighbours}
 use Rattle.node_table.proofs.building.all_ports.Given as goal
 
 pub record ArePorts (A : Type 0) (m : Network) (lists : List (Vec ℕ A)) (n : ℕ) : Type 0 where

@@ -1,6 +1,6 @@
 use Rattle.std.proofs.Common.{◌≡◌, [], ℕ, List, length}
 use Rattle.std.specs.declared.vec.Vec.{Vec}
-use Rattle.node_table.specs.Building.{items_at}
+use Rattle.schemes.specs.Tables.{items_at}
 use Rattle.node_table.proofs.building.empty_lists.Given as goal
 
 pub record AllEmpty (X A : Type 0) (lists : List (Vec X A)) (n : ℕ) : Type 0 where

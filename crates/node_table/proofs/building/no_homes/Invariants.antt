@@ -1,7 +1,7 @@
 use Rattle.std.proofs.Common.{◌≡◌, ℕ, List, length}
 use Rattle.std.specs.Prelude.{Option, None}
 use Rattle.heavy_labels.specs.Label.{Label}
-use Rattle.node_table.specs.Tables.{value_at}
+use Rattle.schemes.specs.Tables.{value_at}
 use Rattle.node_table.proofs.building.no_homes.Given as goal
 
 pub record AllNone (labels : List (Option Label)) (n : ℕ) : Type 0 where

@@ -28,28 +28,28 @@ tree_within : (m : Network) (r : ℕ) (limit : ℕ → Option ℕ) (ks js : List
 tree_within m r limit ks js e tree below = (subst (λ ms. IsTree m.edges r limit (reached_of ms)) (sym e) tree, below)
 
 pub cluster_in-requires-clause-nearest : goal.cluster_in-requires-clause-nearest
-cluster_in-requires-clause-nearest g c = (c.args.landmarks.now, c.requires.known.nearest)
+cluster_in-requires-clause-nearest g c = (c.args.survey.now.landmarks.now, c.requires.known.nearest)
 
 wrong : false ≡ true → ⊥
 wrong e = cc
 
 pub number_reached-requires-2-clause-tree : goal.number_reached-requires-2-clause-tree
 number_reached-requires-2-clause-tree g c = (
-  near_limit c.args.nearest.now.nearest,
-  tree_within c.args.graph.now c.args.root (near_limit c.args.nearest.now.nearest) _ _ c.members-2.ensures c.in_ok-cluster_in.ensures.tree
-      (cluster_within c.args.graph.now c.graph_is_sound.ensures c.args.landmarks.now c.args.nearest.now.nearest c.args.root c.requires.known.nearest (λ k. wrong (c.if-holds.ensures.1 k))),
+  near_limit c.args.survey.now.nearest.now.nearest,
+  tree_within c.args.survey.now.graph.now c.args.root (near_limit c.args.survey.now.nearest.now.nearest) _ _ c.members-2.ensures c.in_ok-cluster_in.ensures.tree
+      (cluster_within c.args.survey.now.graph.now c.graph_is_sound.ensures c.args.survey.now.landmarks.now c.args.survey.now.nearest.now.nearest c.args.root c.requires.known.nearest (λ k. wrong (c.if-holds.ensures.1 k))),
 )
 
 pub returns-clause-column : goal.returns-clause-column
 returns-clause-column g c = if_ok _ _ c.number_reached-2.result (λ numbered k.
-    rows_within c.args.graph.now c.args.root c.number_reached-2.new.places numbered.items _ _ _ _ c.members-2.ensures
-    (ap (λ b. limit_by b c.args.nearest.now.nearest) (sym (flag_false c.args.landmarks.now c.args.root (λ k. wrong (c.if-holds.ensures.1 k)))))
-    (k (near_limit c.args.nearest.now.nearest)
-    (tree_within c.args.graph.now c.args.root (near_limit c.args.nearest.now.nearest) _ _ c.members-2.ensures c.in_ok-cluster_in.ensures.tree
-    (cluster_within c.args.graph.now c.graph_is_sound.ensures c.args.landmarks.now c.args.nearest.now.nearest c.args.root c.requires.known.nearest (λ k. wrong (c.if-holds.ensures.1 k)))))) c.number_reached-2.ensures.column
+    rows_within c.args.survey.now.graph.now c.args.root c.number_reached-2.new.places numbered.items _ _ _ _ c.members-2.ensures
+    (ap (λ b. limit_by b c.args.survey.now.nearest.now.nearest) (sym (flag_false c.args.survey.now.landmarks.now c.args.root (λ k. wrong (c.if-holds.ensures.1 k)))))
+    (k (near_limit c.args.survey.now.nearest.now.nearest)
+    (tree_within c.args.survey.now.graph.now c.args.root (near_limit c.args.survey.now.nearest.now.nearest) _ _ c.members-2.ensures c.in_ok-cluster_in.ensures.tree
+    (cluster_within c.args.survey.now.graph.now c.graph_is_sound.ensures c.args.survey.now.landmarks.now c.args.survey.now.nearest.now.nearest c.args.root c.requires.known.nearest (λ k. wrong (c.if-holds.ensures.1 k)))))) c.number_reached-2.ensures.column
 
 pub returns-then-holds-clause-column : goal.returns-then-holds-clause-column
 returns-then-holds-clause-column g c = if_ok _ _ c.number_reached.result (λ numbered k.
-    rows_within c.args.graph.now c.args.root c.number_reached.new.places numbered.items _ _ (λ x. None) _ c.members.ensures
-    (ap (λ b. limit_by b c.args.nearest.now.nearest) (sym (c.if-holds.ensures.0 refl)))
-    (k (λ x. None) (tree_within c.args.graph.now c.args.root (λ x. None) _ _ c.members.ensures c.in_ok-from_root.ensures.tree refl))) c.number_reached.ensures.column
+    rows_within c.args.survey.now.graph.now c.args.root c.number_reached.new.places numbered.items _ _ (λ x. None) _ c.members.ensures
+    (ap (λ b. limit_by b c.args.survey.now.nearest.now.nearest) (sym (c.if-holds.ensures.0 refl)))
+    (k (λ x. None) (tree_within c.args.survey.now.graph.now c.args.root (λ x. None) _ _ c.members.ensures c.in_ok-from_root.ensures.tree refl))) c.number_reached.ensures.column

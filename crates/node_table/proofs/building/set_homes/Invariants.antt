@@ -1,5 +1,5 @@
 use Rattle.std.proofs.Common.{◌≡◌, map, take, ℕ}
-use Rattle.node_table.specs.Tables.{value_at}
+use Rattle.schemes.specs.Tables.{value_at}
 use Rattle.node_table.specs.Building.{home_after, listed_member}
 use Rattle.node_table.proofs.building.set_homes.Given as goal
 

@@ -1,6 +1,7 @@
 use Rattle.std.proofs.Common.{◌++◌, ◌∙◌, ap, length-set}
-use Rattle.node_table.specs.Building.{items_at}
-use Rattle.node_table.proofs.Builds.BuildSteps.{items_other, items_read, items_set, on_ok}
+use Rattle.schemes.specs.Tables.{items_at}
+use Rattle.node_table.proofs.Builds.BuildSteps.{on_ok}
+use Rattle.schemes.proofs.Basics.Places.{items_read, items_set, items_other}
 use Rattle.node_table.proofs.partial.append_at.Goals as goal
 
 pub returns : goal.returns

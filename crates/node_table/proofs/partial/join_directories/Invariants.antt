@@ -1,5 +1,6 @@
 use Rattle.std.proofs.Common.{◌≡◌, length}
-use Rattle.node_table.specs.Building.{items_at, first_list}
+use Rattle.node_table.specs.Building.{first_list}
+use Rattle.schemes.specs.Tables.{items_at}
 use Rattle.node_table.proofs.Builds.JoinedPlaces.{AreJoinedBelow}
 use Rattle.node_table.proofs.partial.join_directories.Given as goal
 

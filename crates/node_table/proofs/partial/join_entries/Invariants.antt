@@ -1,5 +1,5 @@
 use Rattle.std.proofs.Common.{◌≡◌, ◌++◌, length}
-use Rattle.node_table.specs.Building.{items_at}
+use Rattle.schemes.specs.Tables.{items_at}
 use Rattle.node_table.proofs.Builds.JoinedPlaces.{AreJoinedBelow}
 use Rattle.node_table.proofs.partial.join_entries.Given as goal
 

@@ -1,6 +1,6 @@
 use Rattle.std.proofs.Common.{◌≡◌, length}
 use Rattle.node_table.specs.Building.{first_some}
-use Rattle.node_table.specs.Tables.{value_at}
+use Rattle.schemes.specs.Tables.{value_at}
 use Rattle.node_table.proofs.Builds.JoinedPlaces.{AreJoinedBelow}
 use Rattle.node_table.proofs.partial.join_homes.Given as goal
 

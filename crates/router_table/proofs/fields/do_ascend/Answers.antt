@@ -1,6 +1,6 @@
 use Rattle.std.proofs.Common.{nat_lt, rules}
 use Rattle.std.proofs.lemmas.List.Sorted.{answers_always}
-use Rattle.node_table.proofs.Basics.Searches.{ascending_answer}
+use Rattle.schemes.proofs.Basics.Searches.{ascending_answer}
 use Rattle.router_table.proofs.fields.do_ascend.Goals as goal
 
 pub returns : goal.returns

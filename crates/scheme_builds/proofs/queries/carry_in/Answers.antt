@@ -1,8 +1,8 @@
 use Rattle.std.proofs.Common.{◌≡◌, subst}
 use Rattle.std.specs.Prelude.{IfOk}
-use Rattle.node_table.specs.Service.{address}
-use Rattle.node_table.specs.Tables.{tables}
-use Rattle.node_table.specs.Trails.{IsTrailOf}
+use Rattle.schemes.specs.Service.{address}
+use Rattle.schemes.specs.Tables.{tables}
+use Rattle.schemes.specs.Trails.{IsTrailOf}
 use Rattle.scheme_builds.proofs.Addresses.{never_refused, own_address}
 use Rattle.scheme_builds.proofs.queries.carry_in.Goals as goal
 

@@ -1,6 +1,6 @@
 use Rattle.std.proofs.Common.{◌≡◌}
 use Rattle.std.specs.Prelude.{Err}
-use Rattle.node_table.specs.declared.trail.CarryRefused.TheVariants.{Unreachable}
+use Rattle.schemes.specs.declared.trail.CarryRefused.TheVariants.{Unreachable}
 use Rattle.scheme_builds.proofs.Routes.{along_answers, along_in_scheme, unreachable_in_scheme}
 use Rattle.scheme_builds.proofs.queries.carry_packet.Goals as goal
 

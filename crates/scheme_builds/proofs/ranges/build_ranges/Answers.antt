@@ -18,7 +18,7 @@ loop-begun-preserved g c =
     let all : length c.in_ok-made.made.items ≡ c.min-many.result = omega (arith, c.in_ok-made.ensures.len) in
     record {
       within = omega (arith, c.loop-begun-test.true, c.min-many.ensures);
-      joined = subst (λ k. IsBuilt task c.in_ok-whole-2.whole 0 (bound_at task.graph.now roots (c.loop-begun.begun + k))) all c.in_ok-whole-2.ensures;
+      joined = subst (λ k. IsBuilt task c.in_ok-whole-2.whole 0 (bound_at task.survey.graph.now roots (c.loop-begun.begun + k))) all c.in_ok-whole-2.ensures;
     }
 
 pub returns : goal.returns
@@ -29,6 +29,6 @@ returns g c =
     let some : 0 < roots = c.range_size-roots.ensures in
     let bound : c.nodes-2.result ≤ div_ceil c.nodes-2.result roots * roots = (div_ceil_times c.nodes-2.result roots some).0 in
     let same : count * roots ≡ div_ceil c.nodes-2.result roots * roots = ap (λ k. k * roots) c.div_ceil-count.ensures in
-    let all : task.graph.now.nodes ≤ count * roots = omega (arith, bound, same, c.nodes-2.ensures.nodes) in
+    let all : task.survey.graph.now.nodes ≤ count * roots = omega (arith, bound, same, c.nodes-2.ensures.nodes) in
     let end : c.loop-begun.begun ≡ count = omega (arith, c.loop-begun.invariant.within, c.loop-begun-test.false) in
-    subst (IsBuilt task c.loop-begun.whole 0) (ap (bound_at task.graph.now roots) end ∙ last_bound task roots count all) c.loop-begun.invariant.joined
+    subst (IsBuilt task c.loop-begun.whole 0) (ap (bound_at task.survey.graph.now roots) end ∙ last_bound task roots count all) c.loop-begun.invariant.joined

@@ -16,7 +16,7 @@ loop-k-preserved c =
       left = (let fewer = one_fewer c.loop-k.made.items c.remove.new.self.items some rest in omega (arith, fewer, c.loop-k.invariant.left));
       ranges = subst (λ j. AreRanges task size j c.remove.new.self.items) next
           (other_ranges task size i c.loop-k.made.items c.remove.new.self.items c.loop-k.invariant.ranges some rest);
-      joined = subst (λ j. IsBuilt task c.in_ok-whole.whole 0 (bound_at task.graph.now size j)) next
-          (c.in_ok-whole.ensures.ranges task.graph.now task.landmarks.now task.nearest.now.nearest task.generation 0 (bound_at task.graph.now size i) (bound_at task.graph.now size (i + 1)) (omega arith) (bounds_rise task size i) c.loop-k.invariant.joined
+      joined = subst (λ j. IsBuilt task c.in_ok-whole.whole 0 (bound_at task.survey.graph.now size j)) next
+          (c.in_ok-whole.ensures.ranges task.survey.graph.now task.survey.landmarks.now task.survey.nearest.now.nearest task.survey.generation 0 (bound_at task.survey.graph.now size i) (bound_at task.survey.graph.now size (i + 1)) (omega arith) (bounds_rise task size i) c.loop-k.invariant.joined
           (made_range task size i c.remove.result c.in_ok-next.next c.in_ok-next.was here));
     }

@@ -6,5 +6,5 @@ abbrev pub invariant-loop-k : goal.invariant-loop-k
 invariant-loop-k l = record {
   left : length l.made.items + l._k ≡ length l.initial.made.items;
   ranges : AreRanges l.task l.size (l.begun + l._k) l.made.items;
-  joined : IsBuilt l.task l.whole 0 (bound_at l.task.graph.now l.size (l.begun + l._k));
+  joined : IsBuilt l.task l.whole 0 (bound_at l.task.survey.graph.now l.size (l.begun + l._k));
 }

@@ -1,5 +1,5 @@
 use Rattle.std.proofs.Common.{◌≡◌, length}
-use Rattle.node_table.specs.Tables.{directory_at}
+use Rattle.schemes.specs.Tables.{directory_at}
 use Rattle.scheme_figures.specs.Sizes.{each_node, size_of}
 use Rattle.scheme_figures.proofs.sizes.directory_lengths.Given as goal
 

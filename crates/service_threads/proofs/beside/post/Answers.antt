@@ -3,9 +3,9 @@ use Rattle.std.specs.Arc.{arc_value}
 use Rattle.std.specs.Prelude.{IfSome}
 use Rattle.graph_edits.specs.Edges.{Network}
 use Rattle.checkpoint.specs.StoreWords.{state_of}
-use Rattle.node_table.specs.declared.parts.Parts.{Parts}
-use Rattle.node_table.specs.Tables.{tables}
-use Rattle.node_table.specs.Service.{Serves}
+use Rattle.schemes.specs.declared.parts.Parts.{Parts}
+use Rattle.schemes.specs.Tables.{tables}
+use Rattle.schemes.specs.Service.{Serves}
 use Rattle.settled_lists.specs.declared.builds.Builds.TheVariants.{Beside}
 use Rattle.committer.specs.CommitterWords.{store_of}
 use Rattle.service_threads.specs.Beside.{graph_of}

@@ -1,6 +1,6 @@
 use Rattle.std.proofs.Common.{rules, ◌≡◌, ap, sym, subst, refl}
 use Rattle.std.specs.Prelude.{Ok, Err}
-use Rattle.node_table.specs.declared.packet.Packet.{Packet}
+use Rattle.schemes.specs.declared.packet.Packet.{Packet}
 use Rattle.generations.proofs.Sharing.{goes_self, goes_trans}
 use Rattle.packet_ways.specs.declared.carried.Carried.TheVariants.{Along}
 use Rattle.service_workers.specs.Forwarded.{IsOnWay}

@@ -1,5 +1,5 @@
 use Rattle.std.proofs.Common.{rules, IsTrue, List, ℕ, subst, sym, ◌∙◌}
-use Rattle.node_table.specs.declared.parts.Parts.{Parts}
+use Rattle.schemes.specs.declared.parts.Parts.{Parts}
 use Rattle.table_files.specs.Tables.{AreThere, asked_nodes}
 use Rattle.table_files.proofs.PutFiles.{asked_there}
 use Rattle.table_files.proofs.putting.put_asked.Goals as goal

@@ -1,5 +1,5 @@
 use Rattle.std.proofs.Common.{ap, Some}
-use Rattle.node_table.specs.declared.packet.Address.{Address}
+use Rattle.schemes.specs.declared.packet.Address.{Address}
 use Rattle.table_view.proofs.Places.{address_out, has_parts, no_address_out}
 use Rattle.table_view.proofs.answers.address_in.Goals as goal
 

@@ -1,8 +1,8 @@
 use Rattle.std.proofs.Common.{◌≡◌, ◌∙◌, List, Ok, ap, subst, sym, ℕ}
 use Rattle.std.specs.Prelude.{Result}
 use Rattle.std.proofs.lemmas.Option.{same_Some}
-use Rattle.node_table.specs.declared.packet.Packet.{Packet}
-use Rattle.node_table.specs.declared.packet.Refused.{Refused}
+use Rattle.schemes.specs.declared.packet.Packet.{Packet}
+use Rattle.schemes.specs.declared.packet.Refused.{Refused}
 use Rattle.packet_bytes.specs.Spelling.{SpellsPacket}
 use Rattle.packet_bytes.proofs.Spellings.{one_address}
 use Rattle.router_table.specs.Handing.{launched}

@@ -1,7 +1,7 @@
 use Rattle.std.proofs.Common.{◌∙◌, ◌<◌, ap, refl, sym, arith}
 use Rattle.std.specs.Prelude.{Result}
 use Rattle.heavy_labels.specs.Stepped.{stepped}
-use Rattle.node_table.specs.declared.packet.Refused.{Refused}
+use Rattle.schemes.specs.declared.packet.Refused.{Refused}
 use Rattle.table_view.specs.Answers.{move_of}
 use Rattle.table_view.specs.Parts.{u16_of}
 use Rattle.table_view.specs.declared.hops.Hop.{Hop}

@@ -1,6 +1,6 @@
 use Rattle.std.proofs.Common.{ap, sym, Option, Some}
 use Rattle.std.specs.Prelude.{option_map}
-use Rattle.node_table.specs.declared.parts.Listed.{Listed}
+use Rattle.schemes.specs.declared.parts.Listed.{Listed}
 use Rattle.table_view.proofs.Walks.{at_first, goes_on, has_member, has_number, is_found, is_none}
 use Rattle.table_view.proofs.launches.label_in.Goals as goal
 

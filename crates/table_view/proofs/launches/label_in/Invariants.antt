@@ -1,5 +1,5 @@
 use Rattle.std.proofs.Common.{ℕ, List}
-use Rattle.node_table.specs.declared.parts.Listed.{Listed}
+use Rattle.schemes.specs.declared.parts.Listed.{Listed}
 use Rattle.table_view.specs.Parts.{IsDirectory}
 use Rattle.table_view.proofs.Walks.{IsLeft}
 use Rattle.table_view.proofs.launches.label_in.Given as goal

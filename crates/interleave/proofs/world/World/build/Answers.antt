@@ -2,7 +2,7 @@ use Rattle.std.proofs.Common.{rules, ◌≡◌, ◌≢◌, ℕ, inr, ap, sym, �
 use Rattle.std.specs.Arc.{arc_value}
 use Rattle.checkpoint.specs.StoreWords.{state_of, is_down}
 use Rattle.graph_edits.specs.Edges.{Network}
-use Rattle.node_table.specs.declared.parts.Parts.{Parts}
+use Rattle.schemes.specs.declared.parts.Parts.{Parts}
 use Rattle.scheme_builds.specs.Schemes.{IsSchemeOf}
 use Rattle.generations.specs.declared.posting.Notice.TheVariants.{Built}
 use Rattle.event_runs.specs.Machines.{Machine, with_posted}

@@ -1,5 +1,5 @@
 use Rattle.std.proofs.Common.{◌≡◌, ℕ, Result, Ok, Err, refl, sym, ap, ◌∙◌, subst}
-use Rattle.node_table.specs.declared.packet.Packet.{Packet}
+use Rattle.schemes.specs.declared.packet.Packet.{Packet}
 use Rattle.forwarders.specs.declared.refused.Refused.{Refused}
 use Rattle.event_runs.specs.declared.reply.Reply.TheVariants.{NotRouted}
 use Rattle.event_runs.specs.Trips.{launch_by}

@@ -1,10 +1,10 @@
 use Rattle.std.proofs.Common.{◌≡◌, ◌∙◌, sym, ap, subst}
 use Rattle.graph_edits.specs.Edges.{Network, IsSound}
-use Rattle.node_table.specs.declared.parts.Parts.{Parts}
-use Rattle.node_table.specs.Checks.{IsChecked}
+use Rattle.schemes.specs.declared.parts.Parts.{Parts}
+use Rattle.schemes.specs.Checks.{IsChecked}
 use Rattle.node_table.specs.Columns.{IsBuiltBetween}
 use Rattle.node_table.proofs.Builds.Built.{built_checked}
-use Rattle.node_table.proofs.Serving.SchemeLaws.{serves_law, trees_law, nearest_law}
+use Rattle.schemes.proofs.Serving.SchemeLaws.{serves_law, trees_law, nearest_law}
 use Rattle.node_table.proofs.partial.PartialScheme.finish.Goals as goal
 
 checked_as : (m : Network) → IsSound m → (p q : Parts) → q ≡ p → IsBuiltBetween m p 0 m.nodes → IsChecked m q

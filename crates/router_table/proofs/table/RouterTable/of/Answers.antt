@@ -1,5 +1,5 @@
 use Rattle.std.proofs.Common.{sym, subst, ◌∙◌}
-use Rattle.node_table.specs.Tables.{tables}
+use Rattle.schemes.specs.Tables.{tables}
 use Rattle.router_table.specs.Table.{IsTableOf, Table}
 use Rattle.router_table.proofs.Handings.{is_table_of}
 use Rattle.router_table.proofs.table.RouterTable.of.Goals as goal

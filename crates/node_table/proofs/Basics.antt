@@ -1,8 +1,0 @@
--- Lists, options, ports and walks, as the proofs use them.
-pub mod Options
-pub mod Lists
-pub mod Searches
-pub mod PortLemmas
-pub mod Walks
-pub mod NumbersApart
-pub mod PackedEntries

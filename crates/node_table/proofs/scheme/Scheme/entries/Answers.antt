@@ -1,7 +1,0 @@
-use Rattle.std.proofs.Common.{subst, sym, length}
-use Rattle.node_table.specs.Laws.{AreTreesOf}
-use Rattle.node_table.proofs.Serving.EntryCounts.{trees_of}
-use Rattle.node_table.proofs.scheme.Scheme.entries.Goals as goal
-
-pub returns-clause-trees : goal.returns-clause-trees
-returns-clause-trees c = subst (λ z. AreTreesOf c.args.self.now c.args.x (length z)) (sym c.entries_of.ensures) (trees_of c.args.self.now c.args.x c.requires)

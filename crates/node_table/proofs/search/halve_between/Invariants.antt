@@ -1,9 +1,0 @@
-use Rattle.std.proofs.Common.{◌-◌, map}
-use Rattle.node_table.proofs.Basics.Searches.{IsNarrowed}
-use Rattle.node_table.proofs.search.halve_between.Given as goal
-
-abbrev pub invariant-loop-low : goal.invariant-loop-low
-invariant-loop-low g l = IsNarrowed (map g.T.Keyed.key l.items) l.number (l.to - l.from) l.low l.high l.probes
-
-abbrev pub decreases-loop-low : goal.decreases-loop-low
-decreases-loop-low g l = l.high - l.low

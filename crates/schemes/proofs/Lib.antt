@@ -1,0 +1,4 @@
+pub mod Basics
+pub mod Serving
+pub mod OnTheWay
+pub mod LocalForms

@@ -1,0 +1,13 @@
+pub mod Apart
+pub mod Checks
+pub mod Entry
+pub mod Laws
+pub mod Local
+pub mod Packed
+pub mod Places
+pub mod Ports
+pub mod Schemes
+pub mod Service
+pub mod Tables
+pub mod Trails
+pub mod Ways
