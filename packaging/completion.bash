@@ -17,9 +17,9 @@ _tz_grammar() {
     tzlab:edit) options='--session --ticket' words='file op' ;;
     tzlab:route) options='--words' words='file number' ;;
     tzlab:info) options='--json' words='file' ;;
-    tzlab:stats) options='--words --pairs --seed --csv --json' words='file' ;;
+    tzlab:stats) options='--words --pairs --seed --by-node --csv --json' words='file' ;;
     tzlab:landmarks) options='--seed --start --most-entries --most --figures' words='file' ;;
-    tzlab:time) options='--words --runs' words='file' ;;
+    tzlab:time) options='--words --runs --json' words='file' ;;
     tzlab:journal) options='--last' words='file' ;;
     tzlab:rehearse) options='--every-stop --most' words='file' ;;
     *) return 1 ;;
@@ -45,7 +45,7 @@ _tz() {
             word=${COMP_WORDS[k]}
             if [ "$word" = : ] || [ "${COMP_WORDS[k - 1]}" = : ]; then continue; fi
             case $word in
-            --live | --names | --header | --no-header | --least | --update | --json | --csv | --figures | --every-stop | --help) last='' ;;
+            --live | --names | --header | --no-header | --least | --update | --json | --csv | --by-node | --figures | --every-stop | --help) last='' ;;
             --*) last=$word ;;
             *)
                 [ -n "$last" ] || at=$((at + 1))

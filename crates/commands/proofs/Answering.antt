@@ -1,21 +1,34 @@
--- How runs end.
-use Rattle.std.proofs.Common.{◌≡◌, ◌≤◌, ◌∙◌, ◌⊎◌, ⊎_elim, inl, inr, refl, sym, ℕ, List, Option}
+-- How runs end, and what a status says of a run.
+use Rattle.std.proofs.Common.{◌≡◌, ◌≢◌, ◌≤◌, ◌∙◌, ◌⊎◌, ⊎_elim, inl, inr, refl, sym, ℕ, List, [], Option, Some, None}
 use Rattle.clap.specs.Walk.{Text}
 use Rattle.disk_trait.specs.declared.disk.Disk.{Ghosts}
+use Rattle.command_output.specs.Faults.{IsNotUnderstood, status_of}
+use Rattle.command_output.specs.Printing.{Known}
+use Rattle.command_output.specs.declared.ended.Ended.{Ended}
 use Rattle.command_output.specs.declared.ended.Ended.TheVariants.{Done, Refused}
 use Rattle.command_output.specs.declared.fault.Fault.{Fault}
 use Rattle.command_output.specs.declared.fault.Fault.TheVariants as told
-use Rattle.command_output.specs.Faults.{IsNotUnderstood, status_of}
-use Rattle.commands.specs.Devices.{Doing}
-use Rattle.commands.specs.declared.outcome.Outcome.{Outcome}
-use Rattle.commands.specs.declared.streams.Streams.{Streams}
-use Rattle.commands.specs.declared.outcome.Outcome.TheVariants.{Answered, Told, Untold}
-use Rattle.commands.specs.Endings.{IsFaultFor}
-use Rattle.commands.specs.Outcomes.{IsOutcome, status_in}
-use Rattle.commands.specs.Printed.{AnswersWords}
-use Rattle.commands.specs.Runs.{RunsWords, SaysAll}
+use Rattle.command_line.specs.declared.task.Task.{Task}
+use Rattle.command_line.specs.declared.task.Task.TheVariants.{Serve}
 use Rattle.table_files.specs.Files.{Put}
-use Rattle.commands.proofs.Faults.{never_output}
+use Rattle.file_commands.specs.Devices.{Doing}
+use Rattle.file_commands.specs.Endings.{MayEndAlone, MayEndTables}
+use Rattle.file_commands.specs.Events.{Event}
+use Rattle.file_commands.specs.Printed.{PrintedAlone, PrintedTables}
+use Rattle.file_commands.proofs.Places as rest
+use Rattle.commands.specs.declared.outcome.Outcome.{Outcome}
+use Rattle.commands.specs.declared.outcome.Outcome.TheVariants.{Answered, Told, Untold}
+use Rattle.commands.specs.declared.streams.Streams.{Streams}
+use Rattle.commands.specs.Serves.{AskService, MayEndServing, OfServed, PrintedServing}
+use Rattle.commands.specs.Runs.{AnswersWords, IsFaultBy, IsFaultFor, IsOutcome, IsServingFault, MayEnd, PrintedFor, RunsWords, Says, SaysAll, SaysAlone, SaysServing, SaysTables, status_in}
+
+-- what isn't understood is no fault of an output
+pub never_output : (fault : Fault) → IsNotUnderstood fault → fault ≢ told.Output
+never_output told.Usage is = λ same. absurd (cc)
+never_output told.Op is = λ same. absurd (cc)
+never_output told.Words is = λ same. absurd (cc)
+never_output told.Script is = λ same. absurd (cc)
+never_output _ is = absurd is
 
 -- the faults of status 2 are those by which words are not understood
 is_not_understood : (fault : Fault) → status_of fault ≡ 2 → IsNotUnderstood fault
@@ -75,3 +88,128 @@ says model done put words remaining contents shown old new outcome code runs is 
       (λ batch. runs.untouched batch why.0 (never_output why.0 why.1) why.3, (why.0, why.1, why.2));
   unread = runs.unread;
 }
+
+-- ---- of places of which less is known
+
+-- what is said of a device that a service had
+served_too : {D : Type 0} (done did : Doing D) (path : List ℕ) (P : D → Option D → Type 0) → ((events : List (Event D)) → done events → did events) → OfServed done path P → OfServed did path P
+served_too done did path P so is = record { disk = is.disk; back = is.back; did = so _ is.did; holds = is.holds }
+
+printed_too : {D : Type 0} (model : Ghosts D) (done did : Doing D) (put also : List Put → Type 0) (task : Task) (given : Known) (ended : Ended) (old new : Known) → ((events : List (Event D)) → done events → did events) → ((puts : List Put) → put puts → also puts)
+    → PrintedFor model done put task given ended old new → PrintedFor model did also task given ended old new
+printed_too model done did put also (Serve device editors forwarders places None words) given ended old new so weaker is = (is.0, is.1, is.2, served_too done did device.now _ so is.3)
+printed_too model done did put also (Serve device editors forwarders places (Some rounds) words) given ended old new so weaker is = (is.0, is.1, served_too done did device.now _ so is.2)
+printed_too model done did put also task given ended old new so weaker is = rest.printed_too model done did put also task ended old new so weaker is
+
+may_too : {D : Type 0} (model : Ghosts D) (done did : Doing D) (put also : List Put → Type 0) (task : Task) (given old new : Known) (fault : Fault) → ((events : List (Event D)) → done events → did events) → ((puts : List Put) → put puts → also puts)
+    → MayEnd model done put task given old new fault → MayEnd model did also task given old new fault
+may_too model done did put also (Serve device editors forwarders places None words) given old new fault so weaker (inl none) = inl (so [] none.0, none.1)
+may_too model done did put also (Serve device editors forwarders places None words) given old new fault so weaker (inr (inl early)) = inr (inl (so _ early.0, early.1))
+may_too model done did put also (Serve device editors forwarders places None words) given old new fault so weaker (inr (inr is)) = inr (inr (is.0, served_too done did device.now _ so is.1))
+may_too model done did put also (Serve device editors forwarders places (Some rounds) words) given old new fault so weaker (inl (same, inl none)) = inl (same, inl (so [] none.0, none.1))
+may_too model done did put also (Serve device editors forwarders places (Some rounds) words) given old new fault so weaker (inl (same, inr early)) = inl (same, inr (so _ early.0, early.1))
+may_too model done did put also (Serve device editors forwarders places (Some rounds) words) given old new fault so weaker (inr is) = inr (is.0, served_too done did device.now _ so is.1)
+may_too model done did put also task given old new fault so weaker is = rest.may_too model done did put also task fault so weaker is
+
+words_too : {D : Type 0} (model : Ghosts D) (done did : Doing D) (put also : List Put → Type 0) (words : List Text) (given : Known) (ended : Ended) (old new : Known) → ((events : List (Event D)) → done events → did events) → ((puts : List Put) → put puts → also puts)
+    → AnswersWords model done put words given ended old new → AnswersWords model did also words given ended old new
+words_too model done did put also words given ended old new so weaker is = (is.0, is.1, printed_too model done did put also is.0 given ended old new so weaker is.2)
+
+fault_too : {D : Type 0} (model : Ghosts D) (done did : Doing D) (put also : List Put → Type 0) (words : List Text) (given old new : Known) (fault : Fault) → ((events : List (Event D)) → done events → did events) → ((puts : List Put) → put puts → also puts)
+    → IsFaultFor model done put words given old new fault → IsFaultFor model did also words given old new fault
+fault_too model done did put also words given old new fault so weaker (inl refused) = inl (so [] refused.0, refused.1)
+fault_too model done did put also words given old new fault so weaker (inr is) = inr (is.0, is.1, may_too model done did put also is.0 given old new fault so weaker is.2)
+
+-- what a status says of places of which all is known it says of those of which less is
+pub says_too : {D R W : Type 0} (model : Ghosts D) (done did : Doing D) (put also : List Put → Type 0) (words : List Text) (remaining : R → Known) (contents : W → Known) (script left : R) (out printed : W) (code : ℕ)
+    → ((events : List (Event D)) → done events → did events) → ((puts : List Put) → put puts → also puts) → SaysAll model done put words remaining contents script left out printed code → SaysAll model did also words remaining contents script left out printed code
+says_too model done did put also words remaining contents script left out printed code so weaker says =
+    let given = remaining script in
+    let before = contents out in
+    let after = contents printed in
+    record {
+      status = says.status;
+      answered = λ zero. words_too model done did put also words given Done before after so weaker (says.answered zero);
+      refused = λ one. ⊎_elim (λ is. inl (words_too model done did put also words given Refused before after so weaker is))
+          (λ why. inr (why.0, why.1, fault_too model done did put also words given before after why.0 so weaker why.2, why.3)) (says.refused one);
+      not_understood = λ two.
+          let why = says.not_understood two in
+          (why.0, (why.1.0, why.1.1, fault_too model done did put also words given before after why.1.0 so weaker why.1.2));
+      unread = says.unread;
+    }
+
+-- ---- of one kind of tasks what is said of all
+
+-- what holds of each task's answers and faults, a status says
+says_so : {D R W : Type 0} (done : Doing D) (words : List Text) (Answers Others : Task → Known → Ended → Known → Known → Type 0) (MayFail May : Task → Known → Known → Known → Fault → Type 0) (remaining : R → Known) (contents : W → Known) (script left : R) (out printed : W) (code : ℕ)
+    → ((task : Task) (given : Known) (ended : Ended) (old new : Known) → Answers task given ended old new → Others task given ended old new) → ((task : Task) (given old new : Known) (fault : Fault) → MayFail task given old new fault → May task given old new fault)
+    → Says done words Answers MayFail remaining contents script left out printed code → Says done words Others May remaining contents script left out printed code
+says_so done words Answers Others MayFail May remaining contents script left out printed code answers fails says =
+    let given = remaining script in
+    let before = contents out in
+    let after = contents printed in
+    let by : (fault : Fault) → IsFaultBy done words (λ task why. MayFail task given before after why) fault → IsFaultBy done words (λ task why. May task given before after why) fault = λ fault is.
+    ⊎_elim (λ refused. inl refused) (λ may. inr (may.0, may.1, fails may.0 given before after fault may.2)) is in
+    record {
+      status = says.status;
+      answered = λ zero. (let is = says.answered zero in (is.0, is.1, answers is.0 given Done before after is.2));
+      refused = λ one. ⊎_elim (λ is. inl (is.0, is.1, answers is.0 given Refused before after is.2)) (λ why. inr (why.0, why.1, by why.0 why.2, why.3)) (says.refused one);
+      not_understood = λ two. (let why = says.not_understood two in (why.0, (why.1.0, why.1.1, by why.1.0 why.1.2)));
+      unread = says.unread;
+    }
+
+printed_alone : {D : Type 0} (model : Ghosts D) (done : Doing D) (put : List Put → Type 0) (task : Task) (given : Known) (ended : Ended) (old new : Known) → PrintedFor model done put task given ended old new → PrintedAlone model done task ended old new
+printed_alone model done put (Serve device editors forwarders places live words) given ended old new is = tt
+printed_alone model done put task given ended old new is = rest.printed_alone model done put task ended old new is
+
+ends_alone : {D : Type 0} (model : Ghosts D) (done : Doing D) (put : List Put → Type 0) (task : Task) (given old new : Known) (fault : Fault) → MayEnd model done put task given old new fault → MayEndAlone model done task fault
+ends_alone model done put (Serve device editors forwarders places live words) given old new fault is = tt
+ends_alone model done put task given old new fault is = rest.ends_alone model done put task fault is
+
+printed_tables : {D : Type 0} (model : Ghosts D) (done : Doing D) (put : List Put → Type 0) (task : Task) (given : Known) (ended : Ended) (old new : Known) → PrintedFor model done put task given ended old new → PrintedTables model done put task ended old new
+printed_tables model done put (Serve device editors forwarders places live words) given ended old new is = tt
+printed_tables model done put task given ended old new is = rest.printed_tables model done put task ended old new is
+
+ends_tables : {D : Type 0} (model : Ghosts D) (done : Doing D) (put : List Put → Type 0) (task : Task) (given old new : Known) (fault : Fault) → MayEnd model done put task given old new fault → MayEndTables model done put task fault
+ends_tables model done put (Serve device editors forwarders places live words) given old new fault is = tt
+ends_tables model done put task given old new fault is = rest.ends_tables model done put task fault is
+
+printed_serving : {D : Type 0} (model : Ghosts D) (done : Doing D) (put : List Put → Type 0) (task : Task) (given : Known) (ended : Ended) (old new : Known) → PrintedFor model done put task given ended old new → PrintedServing model done task given ended old new
+printed_serving model done put (Serve device editors forwarders places live words) given ended old new is = is
+printed_serving model done put _ given ended old new is = tt
+
+ends_serving : {D : Type 0} (model : Ghosts D) (done : Doing D) (put : List Put → Type 0) (task : Task) (given old new : Known) (fault : Fault) → MayEnd model done put task given old new fault → MayEndServing model done task given old new fault
+ends_serving model done put (Serve device editors forwarders places live words) given old new fault is = is
+ends_serving model done put _ given old new fault is = tt
+
+-- where words ask for a service, a fault that ends what they ask for is one of it
+fails_serving : {D : Type 0} (model : Ghosts D) (done : Doing D) (put : List Put → Type 0) (words : List Text) (given old new : Known) (fault : Fault) → AskService words → IsFaultFor model done put words given old new fault → IsServingFault model done words given old new fault
+fails_serving model done put words given old new fault asks (inl refused) = inl (refused.0, refused.1.3 asks.0 asks.1)
+fails_serving model done put words given old new fault asks (inr may) = inr (may.0, may.1, ends_serving model done put may.0 given old new fault may.2)
+
+says_serving : {D R W : Type 0} (model : Ghosts D) (done : Doing D) (put : List Put → Type 0) (words : List Text) (remaining : R → Known) (contents : W → Known) (script left : R) (out printed : W) (code : ℕ) → SaysAll model done put words remaining contents script left out printed code
+    → SaysServing model done words remaining contents script out printed code
+says_serving model done put words remaining contents script left out printed code says =
+    let given = remaining script in
+    let before = contents out in
+    let after = contents printed in
+    record {
+      answered = λ zero. (let is = says.answered zero in (is.0, is.1, printed_serving model done put is.0 given Done before after is.2));
+      refused = λ one asks. ⊎_elim (λ is. inl (is.0, is.1, printed_serving model done put is.0 given Refused before after is.2))
+          (λ why. inr (why.0, why.1, fails_serving model done put words given before after why.0 asks why.2, why.3)) (says.refused one);
+      not_understood = λ two asks. (let why = says.not_understood two in (why.1.0, why.1.1, fails_serving model done put words given before after why.1.0 asks why.1.2));
+    }
+
+-- a status of any task, in three
+pub says_parts : {D R W : Type 0} (model : Ghosts D) (done : Doing D) (put : List Put → Type 0) (words : List Text) (remaining : R → Known) (contents : W → Known) (script left : R) (out printed : W) (code : ℕ) → SaysAll model done put words remaining contents script left out printed code
+    → SaysAlone model done words remaining contents script left out printed code
+    × (SaysTables model done put words remaining contents script left out printed code × SaysServing model done words remaining contents script out printed code)
+says_parts model done put words remaining contents script left out printed code all =
+    let full = PrintedFor model done put in
+    let may = MayEnd model done put in (
+      says_so done words full (λ task given. PrintedAlone model done task) may (λ task given old new. MayEndAlone model done task) remaining contents script left out printed code (printed_alone model done put) (ends_alone model done put) all,
+      (
+        says_so done words full (λ task given. PrintedTables model done put task) may (λ task given old new. MayEndTables model done put task) remaining contents script left out printed code (printed_tables model done put) (ends_tables model done put) all,
+        says_serving model done put words remaining contents script left out printed code all,
+      ),
+    )

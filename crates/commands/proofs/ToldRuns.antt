@@ -5,9 +5,12 @@ use Rattle.std.specs.Io.Buffered.{reader_buffer, reader_capacity, reader_inner, 
 use Rattle.std.specs.declared.io.buffered.BufReader.{BufReader}
 use Rattle.clap.specs.Walk.{Text}
 use Rattle.disk_trait.specs.declared.disk.Disk.{Ghosts}
-use Rattle.command_line.specs.Asked.{IsAskedFor}
+use Rattle.command_line.specs.Asked.{IsAskedFor, IsRefusedFor}
+use Rattle.command_line.specs.declared.refused.WordsRefused.{WordsRefused}
+use Rattle.command_line.specs.declared.refused.WordsRefused.TheVariants as why
 use Rattle.command_line.specs.declared.task.Task.{Task}
-use Rattle.command_output.specs.Printing.{Known}
+use Rattle.command_line.specs.declared.task.Task.TheVariants.{Serve}
+use Rattle.command_output.specs.Printing.{Ends, Known}
 use Rattle.command_output.specs.declared.ended.Ended.{Ended}
 use Rattle.command_output.specs.declared.fault.Fault.{Fault}
 use Rattle.command_output.specs.declared.fault.Fault.TheVariants as told
@@ -25,15 +28,14 @@ use Rattle.line_exchange.specs.declared.answer_writer.AnswerWriter.{Ghosts as Wr
 use Rattle.live_service.specs.Runs.{HasBroken, PrintsTo}
 use Rattle.live_service.specs.Services.{AnswersInput}
 use Rattle.table_files.specs.Files.{Put}
-use Rattle.commands.specs.declared.devices.Access.TheVariants.{ToChange}
+use Rattle.file_commands.specs.declared.devices.Access.TheVariants.{ToChange}
 use Rattle.commands.specs.declared.outcome.Outcome.{Outcome}
 use Rattle.commands.specs.declared.outcome.Outcome.TheVariants.{Answered, Told, Untold}
-use Rattle.commands.specs.Devices.{Doing, IsFileFault, closing}
-use Rattle.commands.specs.Events.{NotHad, Opened}
-use Rattle.commands.specs.Endings.{BeginsAnswers, EndsLive, EndsServe, IsFaultFor, MayEnd}
-use Rattle.commands.specs.Outcomes.{AnswersOrTells, IsEndOf, IsLiveOutcome, IsOutcome, IsOutcomeOf, IsToldSo}
-use Rattle.commands.specs.Printed.{AnswersWords, PrintedFor, PrintsLive}
-use Rattle.commands.specs.Runs.{EndsScript}
+use Rattle.file_commands.specs.Devices.{Doing, IsFileFault}
+use Rattle.file_commands.specs.Runs.{EndsTask}
+use Rattle.file_commands.specs.Events.{NotHad, Opened}
+use Rattle.commands.specs.Serves.{BeginsAnswers, EndsLive, EndsScript, EndsServe, PrintsLive, closing}
+use Rattle.commands.specs.Runs.{AnswersOrTells, AnswersWords, IsEndOf, IsFaultFor, IsLiveOutcome, IsOutcome, IsOutcomeOf, IsToldSo, MayEnd, PrintedFor, words_fault}
 
 -- what was answered, or the fault that came, is the outcome of a run that tells its fault
 pub told_so : (Answers : Ended → Type 0) (MayFail : Fault → Type 0) (told_old told_new : Known) (r : Result Ended Fault) (outcome : Outcome) → IsToldSo r told_old told_new outcome → IfOk r Answers → IfErr r MayFail
@@ -65,6 +67,25 @@ pub refused_so : {D : Type 0} (model : Ghosts D) (done : Doing D) (put : List Pu
     → (let r : Result Ended Fault = Err fault in IsToldSo r told_old told_new outcome) → IsFaultFor model done put words given old new fault → IsOutcome model done put words given old new told_old told_new outcome
 refused_so model done put words given old new told_old told_new fault outcome is why =
     told_so (λ ended. AnswersWords model done put words given ended old new) (λ f. IsFaultFor model done put words given old new f) told_old told_new (Err fault) outcome is tt why
+
+pub memory_alone : (refused : WordsRefused) → refused ≡ why.Memory → words_fault refused ≡ told.Memory
+memory_alone why.Memory is = refl
+memory_alone why.Usage is = absurd (cc)
+memory_alone why.Words is = absurd (cc)
+memory_alone why.Op is = absurd (cc)
+memory_alone why.TooLong is = absurd (cc)
+
+-- words that are refused are so by a fault for them
+pub refused_for : {D : Type 0} (model : Ghosts D) (done : Doing D) (put : List Put → Type 0) (words : List Text) (given old new : Option (List ℕ)) (refused : WordsRefused) (fault : Fault) → fault ≡ words_fault refused → done [] → IsRefusedFor words refused
+    → ((task : Task) → IsAskedFor words task → refused ≡ why.Memory) → IsFaultFor model done put words given old new fault
+refused_for model done put words given old new refused fault is none cause memory = inl (none, (refused, is, cause, λ task asked. is ∙ memory_alone refused (memory task asked)))
+
+-- a task that is no service ends so in a run
+pub at_rest : {D W : Type 0} (model : Ghosts D) (done : Doing D) (put : List Put → Type 0) (task : Task) (given : Known) (contents : W → Known) (old new : W) (r : Result Ended Fault) → EndsTask model done put task contents old new r
+    → Ends (λ ended before after. PrintedFor model done put task given ended before after) (λ fault. MayEnd model done put task given (contents old) (contents new) fault) contents old new r
+at_rest model done put (Serve device editors forwarders places live words) given contents old new (Ok ended) is = absurd is.printed
+at_rest model done put (Serve device editors forwarders places live words) given contents old new (Err fault) is = absurd is.fault
+at_rest model done put _ given contents old new r is = is
 
 -- what holds behind each fault but the output's holds behind the one that was told
 pub told_behind : (P : Type 0) (told_old told_new : Known) (r : Result Ended Fault) (outcome : Outcome) → IsToldSo r told_old told_new outcome → IfErr r (λ fault. fault ≢ told.Output → P)

@@ -1,10 +1,2 @@
-pub mod Events
-pub mod Devices
-pub mod Copies
-pub mod SchemeAnswers
-pub mod ServedScripts
-pub mod Printed
-pub mod Endings
-pub mod Outcomes
-pub mod Queries
+pub mod Serves
 pub mod Runs

@@ -1,91 +1,121 @@
--- What a command and a run promise: what is printed, which fault ends it, and what it leaves alone.
-use Rattle.std.specs.Prelude.{◌≡◌, ◌≢◌, ◌≤◌, ◌⊎◌, ℕ, List, [], Result, IsErrOf, IsOkAnd}
+-- What a run promises: what is printed and told, which fault ends it, and what it leaves alone.
+use Rattle.std.specs.Prelude.{◌≡◌, ◌≢◌, ◌≤◌, ◌⊎◌, ℕ, List, [], Result, Ok, Err}
 use Rattle.std.specs.Io.KnownBytes.{Appends}
 use Rattle.clap.specs.Walk.{Text}
 use Rattle.disk_trait.specs.declared.disk.Disk.{Ghosts}
-use Rattle.disk_trait.specs.Disk.{DiskView, IsSameDevice}
+use Rattle.new_devices.specs.Events.{Event as Making}
+use Rattle.written_values.specs.declared.words.LandmarkWords.{LandmarkWords}
+use Rattle.command_line.specs.Asked.{IsAskedFor, IsRefusedFor}
+use Rattle.command_line.specs.declared.refused.WordsRefused.{WordsRefused}
+use Rattle.command_line.specs.declared.refused.WordsRefused.TheVariants as why
 use Rattle.command_line.specs.declared.task.Task.{Task}
-use Rattle.command_output.specs.Faults.{IsNotUnderstood}
-use Rattle.command_output.specs.Printing.{Ends, Known}
+use Rattle.command_line.specs.declared.task.Task.TheVariants.{Serve}
+use Rattle.command_output.specs.Faults.{IsNotUnderstood, status_at, status_of, told_text}
+use Rattle.command_output.specs.Printing.{Known}
 use Rattle.command_output.specs.declared.ended.Ended.{Ended}
 use Rattle.command_output.specs.declared.ended.Ended.TheVariants.{Done, Refused}
 use Rattle.command_output.specs.declared.fault.Fault.{Fault}
 use Rattle.command_output.specs.declared.fault.Fault.TheVariants as told
-use Rattle.schemes.specs.declared.parts.Parts.{Parts}
+use Rattle.line_exchange.specs.declared.served.Served.{Served}
+use Rattle.line_exchange.specs.declared.served.Served.TheVariants as served
 use Rattle.table_files.specs.Files.{Put}
-use Rattle.table_files.specs.Tables.{AnswersTables, EndsPutting}
-use Rattle.written_values.specs.declared.words.LandmarkWords.{LandmarkWords}
-use Rattle.commands.specs.declared.on_device.Transfer.{Transfer}
+use Rattle.file_commands.specs.Devices.{Doing}
+use Rattle.file_commands.specs.Endings.{MayEndAlone, MayEndAtRest, MayEndTables}
+use Rattle.file_commands.specs.Printed.{PrintedAlone, PrintedAtRest, PrintedTables}
+use Rattle.file_commands.specs.Tasks.{IsService}
 use Rattle.commands.specs.declared.outcome.Outcome.{Outcome}
-use Rattle.commands.specs.declared.outcome.Outcome.TheVariants.{Told, Untold}
+use Rattle.commands.specs.declared.outcome.Outcome.TheVariants.{Answered, Told, Untold}
 use Rattle.commands.specs.declared.streams.Streams.{Streams}
-use Rattle.commands.specs.Devices.{Doing, Ending, EndsBy, OfOpened, Printing}
-use Rattle.commands.specs.Endings.{EndsOpened, EndsServe, EndsTransfer, IsFaultBy, IsTransferEnd, Leaves, LeavesTwo, MayEnd, MayEndAlone, MayEndServing, MayEndTables, access_of, device_of}
-use Rattle.commands.specs.Outcomes.{IsLiveOutcome, IsOutcome, IsOutcomeOf}
-use Rattle.commands.specs.Printed.{OfTask, PrintedAlone, PrintedFor, PrintedServing, PrintedTables, PrintsOpened, PrintsServed, PrintsTransfer, PrintsTwo}
-use Rattle.commands.specs.ServedScripts.{AskLive, AskService, AskTables, IsLiveService, IsService}
+use Rattle.commands.specs.Serves.{AskLive, AskService, AskTables, EndsLive, IsLiveService, MayEndServing, PrintedServing, PrintsLive}
 
--- ---- a command
+-- ---- what is printed, and why a run ends
 
--- so ends one that prints what was answered: it ends by that answer, and prints its text, or tells its fault
-abbrev pub EndsAfter : {X W : Type 0} → Result X Fault → (X → Ended) → (X → List ℕ) → (W → Known) → W → W → Result Ended Fault → Type 0
-EndsAfter answer ended_of text_of contents old new result =
-    Ends (λ ended before after. IsOkAnd answer (λ x. (ended ≡ ended_of x) × Appends before after (text_of x)))
-    (λ fault. (fault ≡ told.Output) ⊎ IsErrOf answer fault) contents old new result
+-- what is told of words that are no task
+abbrev pub words_fault : WordsRefused → Fault
+words_fault why.Usage = told.Usage
+words_fault why.Words = told.Words
+words_fault why.Op = told.Op
+words_fault why.TooLong = told.ChangeTooLong
+words_fault why.Memory = told.Memory
 
--- A command on a device that is open ended so, between two views of it.
-pub record EndsOn {W : Type 0} (LeavesSo : DiskView → DiskView → Type 0) (Prints : Printing) (MayFail : Ending) (disk left : DiskView)
-    (contents : W → Known) (old new : W) (result : Result Ended Fault) : Type 0 where
-  pub ran : IsSameDevice disk left
-  -- whatever ended it, and at any moment
-  pub leaves : LeavesSo disk left
-  pub ends : Ends (λ ended before after. Prints disk left ended before after) (λ fault. MayFail disk left fault) contents old new result
+-- the faults that may end a task that is under way, and what a live service has printed by then
+abbrev pub MayEnd : {D : Type 0} → Ghosts D → Doing D → (List Put → Type 0) → Task → Known → Known → Known → Fault → Type 0
+MayEnd model done put (Serve device editors forwarders places live words) given old new fault = MayEndServing model done (Serve device editors forwarders places live words) given old new fault
+MayEnd model done put task given old new fault = MayEndAtRest model done put task fault
 
--- and so a task on one device
-abbrev pub EndsTaskOn : {W : Type 0} → (List Put → Type 0) → Task → DiskView → DiskView → (W → Known) → W → W → Result Ended Fault → Type 0
-EndsTaskOn put task disk left contents old new result =
-    EndsOn (Leaves task) (PrintsOpened put task) (EndsOpened put task) disk left contents old new result
+-- The words are no task, no device was opened, and the fault is the one for what is wrong with them, or memory ran out
+-- while they were read; or they ask for a task, and `MayFail` says that the fault may end it.
+abbrev pub IsFaultBy : {D : Type 0} → Doing D → List Text → (Task → Fault → Type 0) → Fault → Type 0
+IsFaultBy done words MayFail fault =
+    (done [] × ((refused : WordsRefused) × (fault ≡ words_fault refused) × IsRefusedFor words refused × ((task : Task) → IsAskedFor words task → fault ≡ told.Memory)))
+    ⊎ ((task : Task) × IsAskedFor words task × MayFail task fault)
 
--- the same on the device by its path, which is opened and closed
-abbrev pub EndsAt : {D W : Type 0} → Ghosts D → Doing D → (List Put → Type 0) → Task → (W → Known) → W → W → Result Ended Fault → Type 0
-EndsAt model done put task contents old new result =
-    Ends (λ ended before after. OfOpened model done (device_of task) (access_of task) (λ disk left. Leaves task disk left × PrintsOpened put task disk left ended before after))
-    (λ fault. EndsBy model done put (device_of task) (access_of task) (λ disk left why. Leaves task disk left × EndsOpened put task disk left why) fault)
-    contents old new result
+-- and of any task
+abbrev pub IsFaultFor : {D : Type 0} → Ghosts D → Doing D → (List Put → Type 0) → List Text → Known → Known → Known → Fault → Type 0
+IsFaultFor model done put words given old new fault = IsFaultBy done words (λ task why. MayEnd model done put task given old new why) fault
 
--- `migrate` and `copy`, on two devices that are open
-pub record EndsTransferOn {W : Type 0} (transfer : Transfer) (from from_left to to_left : DiskView) (contents : W → Known) (old new : W) (result : Result Ended Fault) : Type 0 where
-  pub ran : IsSameDevice from from_left × IsSameDevice to to_left
-  pub leaves : LeavesTwo transfer from from_left to to_left
-  pub ends : Ends (λ ended before after. PrintsTransfer transfer from to to_left ended before after)
-      (λ fault. (fault ≡ told.Output) ⊎ IsTransferEnd transfer from from_left to to_left fault) contents old new result
+-- A command that ends so has printed the answer to its task, and nothing else: of the device that it opened, and closed. The script of a
+-- service is what a reader gives, and the files of `tables` are those that were put.
+abbrev pub PrintedFor : {D : Type 0} → Ghosts D → Doing D → (List Put → Type 0) → Task → Known → Ended → Known → Known → Type 0
+PrintedFor model done put (Serve device editors forwarders places live words) given ended old new = PrintedServing model done (Serve device editors forwarders places live words) given ended old new
+PrintedFor model done put task given ended old new = PrintedAtRest model done put task ended old new
 
--- and on the devices by two paths
-abbrev pub EndsTransferAt : {D W : Type 0} → Ghosts D → Doing D → Transfer → List ℕ → List ℕ → (W → Known) → W → W → Result Ended Fault → Type 0
-EndsTransferAt model done transfer from_path to_path contents old new result =
-    Ends (λ ended before after. PrintsTwo model done transfer from_path to_path ended before after)
-    (λ fault. EndsTransfer model done transfer from_path to_path fault) contents old new result
+-- this holds of a task that the words ask for
+abbrev pub OfTask : List Text → (Task → Type 0) → Type 0
+OfTask words P = (task : Task) × IsAskedFor words task × P task
 
--- and behind the search for a scheme: it was found, or it wasn't and nothing is put
-abbrev pub EndsPutFound : {W : Type 0} → Result (ℕ × Parts) Fault → List ℕ → List ℕ → (List Put → Type 0)
-    → (W → Known) → W → W → Result Ended Fault → Type 0
-EndsPutFound answer folder named put contents old new result =
-    Ends (λ ended before after. IsOkAnd answer (λ found. AnswersTables found.1 found.0 folder named put ended before after))
-    (λ fault. (IsErrOf answer fault × put []) ⊎ IsOkAnd answer (λ found. EndsPutting found.1 folder named put fault)) contents old new result
+-- the answer to a task that the words ask for was printed, and nothing else
+abbrev pub AnswersWords : {D : Type 0} → Ghosts D → Doing D → (List Put → Type 0) → List Text → Known → Ended → Known → Known → Type 0
+AnswersWords model done put words given ended old new = OfTask words (λ task. PrintedFor model done put task given ended old new)
 
--- `serve` over a script
-abbrev pub EndsScript : {D W : Type 0} → Ghosts D → Doing D → List ℕ → Known → ℕ → LandmarkWords
-    → (W → Known) → W → W → Result Ended Fault → Type 0
-EndsScript model done path given editors words contents old new result =
-    Ends (λ ended before after. PrintsServed model done path given editors ended before after)
-    (λ fault. EndsServe model done path given editors words (contents old) (contents new) fault) contents old new result
+-- ---- how a run ends
 
--- any task that is no service
-abbrev pub EndsTask : {D W : Type 0} → Ghosts D → Doing D → (List Put → Type 0) → Task → Known
-    → (W → Known) → W → W → Result Ended Fault → Type 0
-EndsTask model done put task given contents old new result =
-    Ends (λ ended before after. PrintedFor model done put task given ended before after)
-    (λ fault. MayEnd model done put task given (contents old) (contents new) fault) contents old new result
+-- the exit status of a run that ends so
+abbrev pub status_in : Outcome → ℕ
+status_in (Answered ended) = status_at ended
+status_in (Told fault) = status_of fault
+status_in (Untold fault) = status_of fault
+
+-- what was put into files of the system no clause says
+abbrev pub AnyPut : List Put → Type 0
+AnyPut puts = Unit {0}
+
+-- A run ended so: the answer was printed and nothing was told, or a fault that may end it was told where that could be written.
+abbrev pub AnswersOrTells : (Ended → Type 0) → (Fault → Type 0) → Known → Known → Outcome → Type 0
+AnswersOrTells Answers MayFail told_old told_new (Answered ended) = Answers ended × (told_new ≡ told_old)
+AnswersOrTells Answers MayFail told_old told_new (Told fault) = MayFail fault × Appends told_old told_new (told_text fault)
+AnswersOrTells Answers MayFail told_old told_new (Untold fault) = MayFail fault
+
+-- What a run of these words, with what its reader gives, has printed on a writer, and told on another.
+abbrev pub IsOutcome : {D : Type 0} → Ghosts D → Doing D → (List Put → Type 0) → List Text → Known → Known → Known → Known → Known → Outcome → Type 0
+IsOutcome model done put words given old new told_old told_new outcome =
+    AnswersOrTells (λ ended. AnswersWords model done put words given ended old new) (λ fault. IsFaultFor model done put words given old new fault)
+    told_old told_new outcome
+
+-- the same of a task that is asked for
+abbrev pub IsOutcomeOf : {D : Type 0} → Ghosts D → Doing D → (List Put → Type 0) → Task → Known → Known → Known → Known → Known → Outcome → Type 0
+IsOutcomeOf model done put task given old new told_old told_new outcome =
+    AnswersOrTells (λ ended. PrintedFor model done put task given ended old new) (λ fault. MayEnd model done put task given old new fault)
+    told_old told_new outcome
+
+-- of a live service, by a device's path
+abbrev pub IsLiveOutcome : {D : Type 0} → Ghosts D → Doing D → List ℕ → Known → ℕ → LandmarkWords → Known → Known → Known → Known → Outcome → Type 0
+IsLiveOutcome model done path given editors words old new told_old told_new outcome =
+    AnswersOrTells (λ ended. PrintsLive model done path given editors ended old new) (λ fault. EndsLive model done path given editors words old new fault)
+    told_old told_new outcome
+
+-- the outcome is what was answered, or the fault that came, told where that could be written
+abbrev pub IsToldSo : Result Ended Fault → Known → Known → Outcome → Type 0
+IsToldSo (Ok ended) told_old told_new (Answered answered) = (answered ≡ ended) × (told_new ≡ told_old)
+IsToldSo (Err fault) told_old told_new (Told came) = (came ≡ fault) × Appends told_old told_new (told_text came)
+IsToldSo (Err fault) told_old told_new (Untold came) = came ≡ fault
+IsToldSo result told_old told_new outcome = ⊥
+
+-- the program ends as its live service does
+abbrev pub IsEndOf : Served → Outcome → Type 0
+IsEndOf served.Printed outcome = outcome ≡ Answered Done
+IsEndOf (served.Told fault) outcome = outcome ≡ Told fault
+IsEndOf (served.Untold fault) outcome = outcome ≡ Untold fault
 
 -- ---- a run
 
@@ -134,6 +164,10 @@ RunsLive model done path editors words remaining contents shown old new result =
 -- no file was put, but by `tables` and for a live service
 abbrev pub PutsOnlyAsked : {T : Type 0} → List Text → (T → List Put) → T → T → Type 0
 PutsOnlyAsked words puts old new = ¬ AskTables words → ¬ AskLive words → puts new ≡ puts old
+
+-- no device was made for a backup, but for a live service
+abbrev pub MakesOnlyLive : {N D : Type 0} → List Text → (N → List (Making D)) → N → N → Type 0
+MakesOnlyLive words events old new = ¬ AskLive words → events new ≡ events old
 
 -- What the exit status of a run says: `Answers` of what is printed by a task that ends so, and `MayFail` of the faults that may end it.
 pub record Says {D R W : Type 0} (done : Doing D) (words : List Text) (Answers : Task → Known → Ended → Known → Known → Type 0) (MayFail : Task → Known → Known → Known → Fault → Type 0)

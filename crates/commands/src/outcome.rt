@@ -1,7 +1,7 @@
 //! How a run of the program ends.
 ghost use Rattle.std.specs.Prelude.{◌≡◌, ◌≤◌, IsTrue};
 ghost use Rattle.command_output.specs.declared.fault.Fault.{Fault};
-ghost use Rattle.commands.specs.Outcomes.{IsToldSo, status_in};
+ghost use Rattle.commands.specs.Runs.{IsToldSo, status_in};
 
 use command_output::{Ended, Fault, FaultWriter};
 

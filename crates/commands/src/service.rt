@@ -3,16 +3,17 @@ ghost use Rattle.std.specs.Prelude.{◌≡◌, ◌++◌, IfOk, IfErr, IsTrue};
 ghost use Rattle.command_output.specs.declared.fault.Fault.{Fault};
 ghost use Rattle.written_values.specs.Scripts.{AreOfSessions};
 ghost use Rattle.service_threads.specs.Config.{IsServiceConfig};
-ghost use Rattle.commands.specs.Devices.{closing};
-ghost use Rattle.commands.specs.Events.{HasDone};
-ghost use Rattle.commands.specs.Outcomes.{IsEndOf};
-ghost use Rattle.commands.specs.Runs.{EndsScript, RunsLive, streams_of};
-ghost use Rattle.commands.specs.ServedScripts.{IsReadFault, IsScriptFault, IsScriptOf};
+ghost use Rattle.file_commands.specs.Events.{HasDone};
+ghost use Rattle.commands.specs.Serves.{EndsScript, IsReadFault, IsScriptFault, IsScriptOf, closing};
+ghost use Rattle.commands.specs.Runs.{IsEndOf, RunsLive, streams_of};
 
-use crate::devices::{Access, Devices};
 use crate::outcome::{Outcome, told};
+use crate::streams::Streams;
 use command_output::{Ended, Fault, FaultWriter};
-use live_service::{Served, serve_lines, serve_live};
+use file_commands::{Access, Devices};
+use live_service::{Env, LiveInput, Places, Served, ServedDevice, Surroundings, serve_live};
+use new_devices::{LentDevices, NewDevices};
+use script_service::serve_lines;
 use service_threads::{OpenGate, ServiceConfig};
 use std::alloc::Global;
 use std::io;
@@ -101,7 +102,16 @@ where
     } = service;
     let lines = read_script(rt.alloc(), script, config.editors)?;
     let disk = devices.open(device, Access::ToChange)?;
-    let (answer, left) = serve_lines(rt, rt.alloc(), disk, words, config, lines, &OpenGate, out);
+    let env = Env {
+        rt,
+        alloc: rt.alloc(),
+    };
+    let served = ServedDevice {
+        disk,
+        words,
+        config,
+    };
+    let (answer, left) = serve_lines(env, served, lines, &OpenGate, out);
     close_back(devices, left);
     answer?;
     Ok(Ended::Done)
@@ -119,19 +129,20 @@ fn outcome_of(served: Served) -> Outcome
 }
 
 /// Answers the lines that a reader gives on a device, each as it comes, until the reader's end. A fault is told. The tables that lines ask
-/// for are put at this place.
-pub(crate) fn run_live<R, F, T, S, O, E>(
+/// for are put at this place, and the backups made at that one.
+pub(crate) fn run_live<R, F, N, T, S, O, E>(
     rt: &R,
     devices: &mut F,
+    backups: &mut N,
     tables: &mut T,
     live: LiveService<'_>,
-    script: &mut S,
-    out: &mut O,
-    err: &mut E,
+    streams: Streams<&mut S, &mut O, &mut E>,
 ) -> Outcome
 where
     R: AllocGlobal + Threads + Wait + Sync,
     F: Devices,
+    N: NewDevices + Send,
+    N::Device: Send,
     T: TableFiles + Send,
     S: Read + Send,
     O: Write,
@@ -139,36 +150,46 @@ where
     requires { IsServiceConfig live.service.config }
     ensures runs { RunsLive F.Device.Disk (HasDone F.opened F.events devices.old devices.new) live.entry.service.device.now
         live.entry.service.config.editors live.entry.service.words S.remaining O.contents E.contents
-        (streams_of script.old out.old err.old) (streams_of script.new out.new err.new) result }
+        (streams_of streams.entry.script.now streams.entry.out.now streams.entry.err.now)
+        (streams_of streams.exit.0.now streams.exit.1.0.now streams.exit.1.1.0.now) result }
 
-    ensures untold { (fault : Fault) → result ≡ Outcome.Untold fault → IsTrue (E.has_failed err.new) }
+    ensures untold { (fault : Fault) → result ≡ Outcome.Untold fault → IsTrue (E.has_failed streams.exit.1.1.0.now) }
 {
+    let Streams { script, out, err } = streams;
     let LiveService { service, rounds } = live;
     let Service {
         device,
         words,
         config,
     } = service;
-    let Ok(input) = BufReader::new(rt.alloc(), script) else {
+    let Ok(input) = BufReader::new(rt.alloc(), &mut *script) else {
         return told(err, Err(Fault::Memory));
     };
     let disk = match devices.open(device, Access::ToChange) {
         Ok(disk) => disk,
         Err(fault) => return told(err, Err(fault)),
     };
-    let (served, back) = serve_live(
+    let env = Env {
         rt,
-        rt.alloc(),
+        alloc: rt.alloc(),
+    };
+    let given = ServedDevice {
         disk,
         words,
         config,
-        u32::from(rounds),
-        input,
-        &OpenGate,
-        LentTables::new(tables),
-        out,
-        err,
-    );
+    };
+    let input = LiveInput {
+        lines: input,
+        rounds: u32::from(rounds),
+    };
+    let around = Surroundings {
+        gate: &OpenGate,
+        places: Places {
+            tables: LentTables::new(tables),
+            devices: LentDevices::new(backups),
+        },
+    };
+    let (served, back) = serve_live(env, given, input, around, out, err);
     close_back(devices, back);
     outcome_of(served)
 }

@@ -14,6 +14,7 @@ use generations::{Board, BoardReader, board};
 use graph_edits::{Change, Op};
 use group_commit::Desk;
 use intake::{Editor, SubmitRefused, open_intake};
+use new_devices::NoDevices;
 use packet_ways::BoardName;
 use service_threads::{Rebuilds, Site, begun, commit_beside};
 use service_workers::{Coordinator, Gate, StopCause, WordSource};
@@ -147,7 +148,8 @@ fn commits<J: BoardName + Send + Sync, R: Threads + Wait + Abort + Copy + Drop +
             if scope.spawn(job).is_err() {
                 coordinator.leave(rt);
             }
-            let ended = commit_beside(scope, site, &mut committer, &mut rebuilds);
+            let mut devices = NoDevices::new();
+            let ended = commit_beside(scope, site, &mut committer, &mut rebuilds, &mut devices);
             (ended, committer)
         },
     );

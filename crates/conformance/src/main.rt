@@ -15,6 +15,7 @@ mod report;
 mod steps;
 mod talk;
 
+use lab_parts::Places;
 use report::{Fault, told, told_at};
 use std::fs::File;
 use std::process::ExitCode;
@@ -62,7 +63,8 @@ fn named(rt: &HostRuntime) -> io::Result<Vec<String>> {
 // Runs a transcript, and answers the exit status.
 fn run_file<'a, R>(rt: &HostRuntime, programs: &'a R, name: &str) -> u8
 where
-    R: Files<File = File> + AllocGlobal + Clock + Threads + Wait + Sync + TablePlaces<'a>,
+    R: Files<File = File> + Places + AllocGlobal + Clock + Threads + Wait + Sync + TablePlaces<'a>,
+    R::Dir: Send,
 {
     let text = match fs::read_to_string(rt, name) {
         Ok(text) => text,
@@ -78,7 +80,8 @@ where
 // Runs the steps of a transcript in a fresh folder, and answers the exit status.
 fn run_in_folder<'a, R>(rt: &HostRuntime, programs: &'a R, name: &str, steps: &[Step<'_>]) -> u8
 where
-    R: Files<File = File> + AllocGlobal + Clock + Threads + Wait + Sync + TablePlaces<'a>,
+    R: Files<File = File> + Places + AllocGlobal + Clock + Threads + Wait + Sync + TablePlaces<'a>,
+    R::Dir: Send,
 {
     if let Err(error) = fs::create_dir(rt, FOLDER).and_then(|()| env::set_current_dir(rt, FOLDER)) {
         return told(rt, FOLDER, &error);
@@ -95,7 +98,8 @@ where
 // Runs steps until one differs, and answers the exit status.
 fn run_steps<'a, R>(rt: &HostRuntime, programs: &'a R, name: &str, steps: &[Step<'_>]) -> u8
 where
-    R: Files<File = File> + AllocGlobal + Clock + Threads + Wait + Sync + TablePlaces<'a>,
+    R: Files<File = File> + Places + AllocGlobal + Clock + Threads + Wait + Sync + TablePlaces<'a>,
+    R::Dir: Send,
 {
     for step in steps {
         match compared(rt, programs, name, step) {
@@ -117,7 +121,8 @@ fn compared<'a, R>(
     step: &Step<'_>,
 ) -> Result<bool, Fault>
 where
-    R: Files<File = File> + AllocGlobal + Clock + Threads + Wait + Sync + TablePlaces<'a>,
+    R: Files<File = File> + Places + AllocGlobal + Clock + Threads + Wait + Sync + TablePlaces<'a>,
+    R::Dir: Send,
 {
     let found = ran(rt, programs, step)?;
     let same = match &found {

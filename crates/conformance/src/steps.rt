@@ -2,6 +2,7 @@
 use crate::files;
 use crate::report::Fault;
 use crate::talk::{Output, PacedInput, Talk, Told};
+use lab_parts::Places;
 use std::alloc::{AllocError, Global};
 use std::fs::File;
 use std::io::Write;
@@ -49,7 +50,8 @@ fn came_of<'a, R>(
     step: &Step<'_>,
 ) -> Result<CameOf, Fault>
 where
-    R: Files<File = File> + AllocGlobal + Clock + Threads + Wait + Sync + TablePlaces<'a>,
+    R: Files<File = File> + Places + AllocGlobal + Clock + Threads + Wait + Sync + TablePlaces<'a>,
+    R::Dir: Send,
 {
     let talk = Talk::new(rt.alloc());
     let mut input = PacedInput::new(rt, &talk, &step.given);
@@ -72,7 +74,8 @@ where
 /// Does what a step says.
 pub(crate) fn ran<'a, R>(rt: &HostRuntime, programs: &'a R, step: &Step<'_>) -> Result<Found, Fault>
 where
-    R: Files<File = File> + AllocGlobal + Clock + Threads + Wait + Sync + TablePlaces<'a>,
+    R: Files<File = File> + Places + AllocGlobal + Clock + Threads + Wait + Sync + TablePlaces<'a>,
+    R::Dir: Send,
 {
     let mut words = Vec::new(rt.alloc());
     for word in &step.words {

@@ -1,11 +1,11 @@
 //! A disk on a file that is locked.
-ghost use Rattle.std.specs.Prelude.{◌≡◌, IfOk};
+ghost use Rattle.std.specs.Prelude.{◌≡◌, ◌⊎◌, IfOk};
 
 use crate::held::{Held, filled, locked};
 use crate::refused::FileRefused;
 use disk_trait::{DeviceFault, Disk, FileDisk};
 use std::fs::{File, OpenOptions};
-use std::io;
+use std::io::{self, ErrorKind};
 use std::path::Path;
 use std::rt::Files;
 
@@ -38,6 +38,16 @@ fn sync_folder<R: Files<File = File>>(files: &R, path: &str) -> io::Result<()> {
         .sync_all()
 }
 
+// Why a file can't be opened or made.
+fn refusal_of(error: io::Error) -> FileRefused
+    ensures { (result ≡ FileRefused.Exists) ⊎ (result ≡ FileRefused.Unusable) }
+{
+    match error.kind() {
+        ErrorKind::AlreadyExists => FileRefused::Exists,
+        _ => FileRefused::Unusable,
+    }
+}
+
 impl DeviceFile {
     ghost use Rattle.device_files.specs.DeviceFiles.{lock_of};
 
@@ -50,7 +60,10 @@ impl DeviceFile {
     ) -> Result<DeviceFile, FileRefused>
         ensures { IfOk result (λ device. lock_of device ≡ Lock.Alone) }
     {
-        let file = options.read(true).write(true).open(files, path)?;
+        let file = match options.read(true).write(true).open(files, path) {
+            Ok(file) => file,
+            Err(error) => return Err(refusal_of(error)),
+        };
         let held = filled(file, len)?;
         sync_folder(files, path)?;
         Ok(DeviceFile { held })
@@ -93,7 +106,7 @@ impl DeviceFile {
         DeviceFile::filled(files, path, OpenOptions::new().create(true), len)
     }
 
-    /// Makes a file of so many zeros where none stands yet, and locks it alone.
+    /// Makes a file of so many zeros where nothing stands yet, and locks it alone.
     pub fn make_new<R: Files<File = File>>(
         files: &R,
         path: &str,

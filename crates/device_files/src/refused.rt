@@ -10,6 +10,9 @@ pub enum FileRefused {
     /// Another program holds a lock on it. Nothing was touched.
     #[error("device in use")]
     InUse,
+    /// Something stands there already, where it is to be made. Nothing was touched.
+    #[error("file exists")]
+    Exists,
     /// The system doesn't open, lock, fill or sync it.
     #[error("device file cannot be used")]
     Unusable,

@@ -6,3 +6,5 @@ pub mod Schemes
 pub mod Tables
 pub mod Ways
 pub mod Networks
+pub mod NodeRows
+pub mod Times

@@ -1,6 +1,7 @@
 //! A figure.
 ghost use Rattle.std.specs.Prelude.{◌≡◌, ◌∷◌, [], IfOk, OnOk};
-ghost use Rattle.figure_lines.specs.Figures.{ArePut, said, thousandths as said_thousandths, whole as said_whole};
+ghost use Rattle.std.specs.String.{string_bytes};
+ghost use Rattle.figure_lines.specs.Figures.{ArePut, said, thousandths as said_thousandths, thousandths_or_none, whole as said_whole};
 
 use serde::{Described, Serialize, Serializer};
 use spreads::Thousandths;
@@ -54,15 +55,21 @@ fn thousandths(
 ) -> Result<Figure, AllocError>
     ensures { IfOk result (λ figure. said figure ≡ said_thousandths name.now value unit.entry.now) }
 {
-    let value = match value {
-        Some(value) => format!(in alloc; "{}", Thousandths(value))?,
-        None => String::from_str(alloc, "none")?,
-    };
     Ok(Figure {
         name: String::from_str(alloc, name)?,
-        value,
+        value: thousandths_text(alloc, value)?,
         unit,
     })
+}
+
+/// Thousandths as a text, or that there are none.
+pub(crate) fn thousandths_text(alloc: Global, value: Option<u64>) -> Result<String, AllocError>
+    ensures { IfOk result (λ text. string_bytes text ≡ thousandths_or_none value) }
+{
+    match value {
+        Some(value) => format!(in alloc; "{}", Thousandths(value)),
+        None => String::from_str(alloc, "none"),
+    }
 }
 
 /// Puts a figure of a whole number behind the others.

@@ -70,8 +70,8 @@ fn push_stretches(
     )
 }
 
-// The mean of thousandths, none where there is none.
-fn mean_of(stretches: &[u64]) -> Option<u64>
+/// The mean of thousandths, none where there is none.
+pub(crate) fn mean_of(stretches: &[u64]) -> Option<u64>
     ensures { result ≡ mean_in stretches.now }
 {
     let count = stretches.len() as u64;

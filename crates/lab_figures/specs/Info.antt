@@ -23,6 +23,10 @@ pub record PrintsInfo (as_json : Bool) (disk left : DiskView) {W : Type 0} (cont
   pub printed : PrintsText contents old new (text_of_info as_json info)
   pub read : IsRead disk left
 
+-- figures of some device were printed, in one of the two forms
+abbrev pub PrintsSomeInfo : {W : Type 0} → (W → Known) → W → W → Type 0
+PrintsSomeInfo contents old new = (as_json : Bool) × (disk : DiskView) × (left : DiskView) × PrintsInfo as_json disk left contents old new
+
 -- why none are: the device is refused
 abbrev pub IsInfoRefused : DiskView → DiskView → FiguresRefused → Type 0
 IsInfoRefused disk left (Device refused) = IsNotLoaded disk left refused

@@ -13,3 +13,7 @@ pub record PrintsChanges (last : Option ℕ) (disk left : DiskView) {W : Type 0}
   pub own : IsTrue disk.keeps_model → AreChangesOf changes disk.content
   pub printed : PrintsText contents old new (last_lines last changes)
   pub read : IsRead disk left
+
+-- changes of some device were printed, all or the last ones
+abbrev pub PrintsSomeChanges : {W : Type 0} → (W → Known) → W → W → Type 0
+PrintsSomeChanges contents old new = (last : Option ℕ) × (disk : DiskView) × (left : DiskView) × PrintsChanges last disk left contents old new

@@ -1,10 +1,12 @@
 -- What `stats` prints of a device.
-use Rattle.std.specs.Prelude.{◌≡◌, ◌⊎◌, ◌<◌, ◌≤◌, ℕ, List, [], ◌++◌, IsTrue, map}
+use Rattle.std.specs.Prelude.{◌≡◌, ◌⊎◌, ◌<◌, ◌≤◌, ℕ, Bool, true, false, List, [], ◌++◌, IsTrue, map}
 use Rattle.std.specs.List.{flat_map}
 use Rattle.command_output.specs.Printing.{Known, PrintsText}
 use Rattle.disk_trait.specs.Disk.{DiskView}
 use Rattle.figure_lines.specs.Figures.{Said, figure_line, figure_rows, figures_data}
 use Rattle.figure_lines.specs.Json.{json_line}
+use Rattle.figure_lines.specs.NodeRows.{AreNodeRows, node_line, node_rows, nodes_data}
+use Rattle.figure_lines.specs.declared.nodes.NodeRow.{NodeRow}
 use Rattle.figure_lines.specs.Schemes.{AreSchemeFigures}
 use Rattle.figure_lines.specs.Ways.{AreWayFigures}
 use Rattle.graph_edits.specs.Edges.{Network}
@@ -45,15 +47,35 @@ pub record AreFiguresOf (asked : Asked) (graph : Network) (scheme : Parts) (figu
   pub of_ways : AreWayFigures measured ways
   pub are : figures ≡ sizes ++ ways
 
--- the text is that of the figures of a scheme of the network, of this generation and by the landmark words that were asked for
+-- the text of rows in each layout
+abbrev pub rows_in : Layout → List NodeRow → List ℕ
+rows_in Lines rows = flat_map node_line rows
+rows_in Csv rows = node_rows rows
+rows_in Json rows = json_line (nodes_data rows)
+
+-- the rows of a scheme's nodes, by the pairs that a seed draws, as many as were asked for; none where there are no two nodes
+pub record AreRowsOf (asked : Asked) (graph : Network) (scheme : Parts) (rows : List NodeRow) : Type 0 where
+  pub pairs : List (ℕ × ℕ)
+  pub measured : List Measured
+  pub drawn : 2 ≤ graph.nodes → asked.pairs ≤ 32767 → AreDrawnPairs graph.nodes asked.seed asked.pairs pairs × AreMeasured graph scheme pairs measured
+  pub none : graph.nodes < 2 → (pairs ≡ []) × (measured ≡ [])
+  pub are : AreNodeRows scheme pairs measured rows
+
+-- the text of figures, or of rows where they were asked for
+abbrev pub IsTextBy : Bool → Asked → Network → Parts → List ℕ → Type 0
+IsTextBy true asked graph scheme text = (rows : List NodeRow) × AreRowsOf asked graph scheme rows × (text ≡ rows_in asked.layout rows)
+IsTextBy false asked graph scheme text = (figures : List Said) × AreFiguresOf asked graph scheme figures × (text ≡ text_in asked.layout figures)
+
+abbrev pub IsTextOf : Asked → Network → Parts → List ℕ → Type 0
+IsTextOf asked graph scheme text = IsTextBy asked.by_node asked graph scheme text
+
+-- the text is that of a scheme of the network, of this generation and by the landmark words that were asked for
 pub record AreStatsOf (asked : Asked) (graph : Network) (generation : ℕ) (text : List ℕ) : Type 0 where
   pub words : List ℕ
   pub scheme : Parts
-  pub figures : List Said
   pub by : AreWords asked.words graph.nodes words
   pub is_scheme : IsSchemeOf graph words generation scheme
-  pub of : AreFiguresOf asked graph scheme figures
-  pub is : text ≡ text_in asked.layout figures
+  pub of : IsTextOf asked graph scheme text
 
 -- A device that was only read holds this state, where it keeps the model.
 abbrev pub HoldsState : DiskView → State → Type 0
@@ -67,6 +89,10 @@ pub record PrintsStats (asked : Asked) (disk left : DiskView) {W : Type 0} (cont
   pub are : AreStatsOf asked state.graph state.count text
   pub printed : PrintsText contents old new text
   pub read : IsRead disk left
+
+-- figures of a scheme of some device were printed, for some words
+abbrev pub PrintsSomeStats : {W : Type 0} → (W → Known) → W → W → Type 0
+PrintsSomeStats contents old new = (asked : Asked) × (disk : DiskView) × (left : DiskView) × PrintsStats asked disk left contents old new
 
 -- why none are: the device is refused, or the words name a node that it hasn't
 abbrev pub IsStatsRefused : Asked → DiskView → DiskView → FiguresRefused → Type 0

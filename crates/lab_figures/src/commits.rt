@@ -1,5 +1,5 @@
 //! Commits on a device beside the one that is asked about.
-use crate::samples::{Samples, TimeRefused, Timed, samples_of};
+use crate::samples::{Samples, TimeRefused, Timed, Times, samples_of};
 use checkpoint::{DEVICE_LEN, format};
 use command_output::Fault;
 use device_files::DeviceFile;
@@ -21,7 +21,7 @@ pub(crate) fn time_commits<R, O>(
     device: &str,
     runs: u16,
     changes: u8,
-    out: &mut O,
+    times: &mut Times<'_, O>,
 ) -> Result<(), TimeRefused>
 where
     R: Files<File = File> + AllocGlobal + Clock,
@@ -32,7 +32,7 @@ where
         Err(_) => return Err(TimeRefused::Fault(Fault::Memory)),
     };
     let samples = samples_at(rt, scratch.as_str(), runs, changes);
-    samples?.print_of(rt.alloc(), out, "commit", "changes", changes as u16)
+    samples?.put_of(rt.alloc(), times, "commit", "changes", changes as u16)
 }
 
 // The same of a file under this path.

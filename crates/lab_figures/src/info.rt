@@ -1,7 +1,7 @@
 //! The command `info`.
 ghost use Rattle.std.specs.Prelude.{◌≡◌, ◌≢◌, ◌≤◌, IfErr, IfOk, OnOk};
 ghost use Rattle.std.specs.String.{string_bytes};
-ghost use Rattle.lab_figures.specs.Info.{IsInfoRefused, PrintsInfo, text_of_info};
+ghost use Rattle.lab_figures.specs.Info.{IsInfoRefused, PrintsInfo, PrintsSomeInfo, text_of_info};
 
 use crate::refused::FiguresRefused;
 use clap::{ArgMatches, Command};
@@ -31,7 +31,10 @@ where
     R: Files<File = File> + AllocGlobal,
     O: Write,
     E: Write,
-    ensures { result ≤ 2 }
+    ensures few { result ≤ 2 }
+    // 0 only where this was printed, and 2 only where nothing was.
+    ensures printed { result ≡ 0 → PrintsSomeInfo O.contents out.old out.new }
+    ensures untouched { result ≡ 2 → out.new ≡ out.old }
 {
     let Some(device) = found.get_str("device") else {
         return 2;

@@ -1,7 +1,7 @@
 //! The command `journal`.
 ghost use Rattle.std.specs.Prelude.{◌≡◌, ◌≢◌, ◌≤◌, IfErr, OnOk};
 ghost use Rattle.lab_figures.specs.Info.{IsInfoRefused};
-ghost use Rattle.lab_figures.specs.Recent.{PrintsChanges};
+ghost use Rattle.lab_figures.specs.Recent.{PrintsChanges, PrintsSomeChanges};
 
 use crate::refused::FiguresRefused;
 use clap::{ArgMatches, Command};
@@ -34,7 +34,10 @@ where
     R: Files<File = File> + AllocGlobal,
     O: Write,
     E: Write,
-    ensures { result ≤ 2 }
+    ensures few { result ≤ 2 }
+    // 0 only where this was printed, and 2 only where nothing was.
+    ensures printed { result ≡ 0 → PrintsSomeChanges O.contents out.old out.new }
+    ensures untouched { result ≡ 2 → out.new ≡ out.old }
 {
     let Some(device) = found.get_str("device") else {
         return 2;

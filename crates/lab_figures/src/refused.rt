@@ -19,7 +19,9 @@ pub enum FiguresRefused {
 impl FiguresRefused {
     // Tells it of a device, and answers the exit status.
     pub(crate) fn told<E: Write>(self, err: &mut E, device: &str) -> u8
-        ensures { result ≤ 2 }
+        ensures some { 1 ≤ result }
+        ensures few { result ≤ 2 }
+        ensures words { result ≡ 2 → self ≡ FiguresRefused.Words }
     {
         match self {
             FiguresRefused::Device(refused) => told_of(err, device, refused),

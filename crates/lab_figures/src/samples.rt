@@ -1,5 +1,6 @@
 //! The times of runs of one thing.
 use command_output::Fault;
+use figure_lines::{Machine, TimeRow, times_json};
 use std::alloc::{AllocError, AllocFailed, Global};
 use std::io::Write;
 use std::rt::Clock;
@@ -96,20 +97,20 @@ fn nanos_of<R: Clock, T: Timed>(rt: &R, number: u16, timed: &mut T) -> Result<u6
     Ok(nanos.checked_div(T::parts(&made)).unwrap_or(0))
 }
 
-/// Times so many runs, and prints what they took.
+/// Times so many runs, and tells what they took.
 pub(crate) fn time_runs<R, T, O>(
     rt: &R,
     runs: u16,
     what: &str,
     timed: &mut T,
-    out: &mut O,
+    times: &mut Times<'_, O>,
 ) -> Result<(), TimeRefused>
 where
     R: AllocGlobal + Clock,
     T: Timed,
     O: Write,
 {
-    samples_of(rt, runs, timed)?.print(out, what)
+    samples_of(rt, runs, timed)?.put(rt.alloc(), times, what)
 }
 
 /// The nanoseconds of each run.
@@ -130,34 +131,80 @@ impl Samples {
         Ok(())
     }
 
-    /// Prints the least of them and the median. Nothing is printed where nothing ran.
-    pub(crate) fn print<O: Write>(&mut self, out: &mut O, what: &str) -> Result<(), TimeRefused> {
+    /// Tells the least of them and the median. Nothing is told where nothing ran.
+    pub(crate) fn put<O: Write>(
+        &mut self,
+        alloc: Global,
+        times: &mut Times<'_, O>,
+        what: &str,
+    ) -> Result<(), TimeRefused> {
         self.nanos.sort_unstable();
         let runs = self.nanos.len();
         let (Some(least), Some(median)) = (self.nanos.first(), self.nanos.get(runs / 2)) else {
             return Ok(());
         };
-        match writeln!(
-            out,
-            "{what} runs={runs} least={least} median={median} unit=ns"
-        ) {
-            Ok(()) => Ok(()),
-            Err(_) => Err(TimeRefused::Fault(Fault::Output)),
-        }
+        times.put(TimeRow {
+            what: String::from_str(alloc, what)?,
+            runs,
+            least: *least,
+            median: *median,
+        })
     }
 
     /// The same of a thing with a number.
-    pub(crate) fn print_of<O: Write>(
+    pub(crate) fn put_of<O: Write>(
         &mut self,
         alloc: Global,
-        out: &mut O,
+        times: &mut Times<'_, O>,
         what: &str,
         name: &str,
         number: u16,
     ) -> Result<(), TimeRefused> {
-        match format!(in alloc; "{what} {name}={number}") {
-            Ok(text) => self.print(out, text.as_str()),
-            Err(_) => Err(TimeRefused::Fault(Fault::Memory)),
+        let text = format!(in alloc; "{what} {name}={number}")?;
+        self.put(alloc, times, text.as_str())
+    }
+}
+
+/// Where times are told: a line for each as soon as it is known, or all of them in an object of JSON at the end.
+#[derive(Drop)]
+pub(crate) struct Times<'a, O> {
+    out: &'a mut O,
+    is_json: bool,
+    rows: Vec<TimeRow>,
+}
+
+impl<'a, O: Write> Times<'a, O> {
+    pub(crate) fn new(alloc: Global, out: &'a mut O, is_json: bool) -> Times<'a, O> {
+        Times {
+            out,
+            is_json,
+            rows: Vec::new(alloc),
         }
+    }
+
+    fn put(&mut self, row: TimeRow) -> Result<(), TimeRefused> {
+        if self.is_json {
+            self.rows.push(row)?;
+            return Ok(());
+        }
+        let (what, runs) = (row.what.as_str(), row.runs);
+        let told = writeln!(
+            self.out,
+            "{what} runs={runs} least={} median={} unit=ns",
+            row.least, row.median
+        );
+        told.map_err(|_| TimeRefused::Fault(Fault::Output))
+    }
+
+    /// Tells on what machine it was timed, and all that isn't told yet.
+    pub(crate) fn end(&mut self, alloc: Global, machine: Machine) -> Result<(), TimeRefused> {
+        let told = if self.is_json {
+            let text = times_json(alloc, &machine, &self.rows)?;
+            write!(self.out, "{text}")
+        } else {
+            let (threads, processor) = (machine.threads, machine.processor.as_str());
+            writeln!(self.out, "machine threads={threads} processor={processor}")
+        };
+        told.map_err(|_| TimeRefused::Fault(Fault::Output))
     }
 }

@@ -3,14 +3,15 @@ ghost use Rattle.std.specs.Prelude.{◌≡◌, ◌≢◌, ◌≤◌, IfErr, IfOk
 ghost use Rattle.figure_lines.specs.Figures.{said};
 ghost use Rattle.written_values.specs.Words.{IsWithin};
 ghost use Rattle.schemes.specs.Checks.{IsChecked};
-ghost use Rattle.lab_figures.specs.Stats.{AreFiguresOf, AreMeasuredOf, AreStatsOf, IsStatsRefused, PrintsStats, text_in};
+ghost use Rattle.lab_figures.specs.Stats.{AreFiguresOf, AreMeasuredOf, AreRowsOf, AreStatsOf, IsStatsRefused, IsTextOf, PrintsSomeStats, PrintsStats, rows_in, text_in};
 
 use crate::refused::FiguresRefused;
 use clap::{ArgMatches, Command};
 use device_files::DeviceFile;
 use disk_trait::Disk;
 use figure_lines::{
-    Figure, figures_csv, figures_json, figures_text, scheme_figures_of, way_figures_of,
+    Figure, NodeRow, figures_csv, figures_json, figures_text, node_rows_of, nodes_csv, nodes_json,
+    nodes_text, scheme_figures_of, way_figures_of,
 };
 use graph_edits::Graph;
 use lab_parts::{
@@ -37,6 +38,8 @@ pub struct Asked {
     /// The seed that draws them.
     pub seed: u64,
     pub layout: Layout,
+    /// Whether a row is printed for each node, in place of the figures of all.
+    pub by_node: bool,
 }
 
 /// How figures are printed.
@@ -66,6 +69,10 @@ pub fn grammar<'a>(alloc: Global) -> Result<Command<'a>, AllocError> {
                 "S",
                 "The seed that draws them, 0 where none is named",
             ),
+            flag(
+                "by-node",
+                "Prints a line for each node: its entries, the members of its directory, the bytes of its table, and the stretch of what it sends",
+            ),
             flag("csv", "Prints CSV"),
             flag("json", "Prints an array of JSON"),
         ],
@@ -78,7 +85,10 @@ where
     R: Files<File = File> + AllocGlobal + Threads + Wait + Sync,
     O: Write,
     E: Write,
-    ensures { result ≤ 2 }
+    ensures few { result ≤ 2 }
+    // 0 only where this was printed, and 2 only where nothing was.
+    ensures printed { result ≡ 0 → PrintsSomeStats O.contents out.old out.new }
+    ensures untouched { result ≡ 2 → out.new ≡ out.old }
 {
     let Some(device) = found.get_str("device") else {
         return 2;
@@ -113,6 +123,7 @@ fn asked_in(
             pairs,
             seed,
             layout,
+            by_node: found.get_flag("by-node"),
         })),
         Err(text) => Ok(Err(text)),
     }
@@ -140,7 +151,7 @@ fn measures_in(
     }
 }
 
-/// Builds the scheme of a device, and prints how large its tables and how long its ways are. The device is only read.
+/// Builds the scheme of a device, and prints how large its tables and how long its ways are, of all nodes or of each. The device is only read.
 pub fn stats_on<R, D, O>(
     rt: &R,
     disk: &mut D,
@@ -177,12 +188,47 @@ fn text_of<R: Threads + Wait + Sync + AllocGlobal>(
     let words = asked.words.of_nodes(alloc, graph.nodes())?;
     let workers = workers_here(rt, graph.nodes());
     match scheme_of_in_threads(rt, alloc, graph, &words, loaded.count, workers) {
-        Ok(scheme) => {
-            let figures = figures_of(alloc, graph, &scheme, asked)?;
-            Ok(laid_out(alloc, &figures, asked.layout)?)
-        }
+        Ok(scheme) => Ok(text_by(alloc, graph, &scheme, asked)?),
         Err(AllocError) => Err(AllocError),
     }
+}
+
+// The text of a scheme's figures, or of a row for each node.
+fn text_by(
+    alloc: Global,
+    graph: &Graph,
+    scheme: &Scheme,
+    asked: &Asked,
+) -> Result<Vec<u8>, AllocError>
+    requires { IsChecked graph.now scheme.now }
+    ensures { IfOk result (λ text. IsTextOf asked.now graph.now scheme.now text.items) }
+{
+    if asked.by_node {
+        let rows = rows_of(alloc, graph, scheme, asked)?;
+        rows_laid_out(alloc, &rows, asked.layout)
+    } else {
+        let figures = figures_of(alloc, graph, scheme, asked)?;
+        laid_out(alloc, &figures, asked.layout)
+    }
+}
+
+// A row for each node of a scheme. A node alone sends nothing.
+fn rows_of(
+    alloc: Global,
+    graph: &Graph,
+    scheme: &Scheme,
+    asked: &Asked,
+) -> Result<Vec<NodeRow>, AllocError>
+    requires { IsChecked graph.now scheme.now }
+    ensures { IfOk result (λ rows. AreRowsOf asked.now graph.now scheme.now rows.items) }
+{
+    let nodes = graph.nodes();
+    if nodes < 2 || asked.pairs > MOST_PAIRS {
+        return node_rows_of(alloc, scheme, &[], &[]);
+    }
+    let pairs = drawn_pairs(alloc, nodes, asked.pairs, asked.seed)?;
+    let measured = measure_all(alloc, graph, scheme, &pairs)?;
+    node_rows_of(alloc, scheme, &pairs, &measured)
 }
 
 // The figures of a scheme, and behind them those of the ways in it.
@@ -227,5 +273,15 @@ fn laid_out(alloc: Global, figures: &[Figure], layout: Layout) -> Result<Vec<u8>
         Layout::Lines => Ok(figures_text(alloc, figures)?.into_bytes()),
         Layout::Csv => figures_csv(alloc, figures),
         Layout::Json => Ok(figures_json(alloc, figures)?.into_bytes()),
+    }
+}
+
+fn rows_laid_out(alloc: Global, rows: &[NodeRow], layout: Layout) -> Result<Vec<u8>, AllocError>
+    ensures { IfOk result (λ text. text.items ≡ rows_in layout rows.now) }
+{
+    match layout {
+        Layout::Lines => Ok(nodes_text(alloc, rows)?.into_bytes()),
+        Layout::Csv => Ok(nodes_csv(alloc, rows)?.into_bytes()),
+        Layout::Json => Ok(nodes_json(alloc, rows)?.into_bytes()),
     }
 }

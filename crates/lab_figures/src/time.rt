@@ -1,17 +1,19 @@
-//! The command `time`: how long builds, searches, packets, openings and commits take.
-ghost use Rattle.std.specs.Prelude.{◌≤◌};
+//! The command `time`: how long builds, checks, searches, packets, openings and commits take.
+ghost use Rattle.std.specs.Prelude.{◌≡◌, ◌≤◌};
 
 use crate::commits::time_commits;
 use crate::forwarder::forwarder_with;
-use crate::samples::{Clocked, Samples, TimeRefused, Timed, time_runs};
+use crate::machine::machine_here;
+use crate::samples::{Clocked, Samples, TimeRefused, Timed, Times, time_runs};
 use crate::walks::{ByForwarder, ByTables, Decisions, Walks, drawn_pairs, in_bytes, packets_of};
+use certificate::check_in_threads;
 use checkpoint::Store;
 use clap::{ArgMatches, Command};
 use command_output::Fault;
 use device_files::DeviceFile;
 use distances::{Reach, from_root};
 use graph_edits::Graph;
-use lab_parts::{command, landmarks, store_in, told, told_memory, told_of, value, word};
+use lab_parts::{command, flag, landmarks, store_in, told, told_memory, told_of, value, word};
 use packet_bytes::PACKET_SIZE;
 use scheme_builds::{LEAST_SHARED, scheme_of_in_threads, workers_here};
 use schemes::Scheme;
@@ -36,7 +38,7 @@ pub fn grammar<'a>(alloc: Global) -> Result<Command<'a>, AllocError> {
     command(
         alloc,
         "time",
-        "Times an opening, builds, searches, packets and commits",
+        "Times an opening, builds, checks, searches, packets and commits, and says on what machine",
         &[
             word(
                 "device",
@@ -45,6 +47,7 @@ pub fn grammar<'a>(alloc: Global) -> Result<Command<'a>, AllocError> {
             ),
             landmarks(),
             value("runs", "R", "How often each is run; 5 where it is left out"),
+            flag("json", "Prints an object of JSON, at the end"),
         ],
     )
 }
@@ -55,7 +58,9 @@ where
     R: Files<File = File> + AllocGlobal + Clock + Threads + Wait + Sync,
     O: Write,
     E: Write,
-    ensures { result ≤ 2 }
+    ensures few { result ≤ 2 }
+    // 2 only where nothing was printed.
+    ensures untouched { result ≡ 2 → out.new ≡ out.old }
 {
     let (Some(device), Some(words)) = (found.get_str("device"), found.get_str("words")) else {
         return 2;
@@ -77,14 +82,15 @@ where
         words,
         runs,
     };
-    match time_all(rt, &asked, out) {
+    let mut times = Times::new(rt.alloc(), out, found.get_flag("json"));
+    match time_all(rt, &asked, &mut times) {
         Ok(()) => 0,
         Err(refused) => told_of(err, device, refused),
     }
 }
 
-// Times one thing after the other, and prints each as soon as it is known.
-fn time_all<R, O>(rt: &R, asked: &Asked<'_>, out: &mut O) -> Result<(), TimeRefused>
+// Times one thing after the other, and at the end says on what.
+fn time_all<R, O>(rt: &R, asked: &Asked<'_>, times: &mut Times<'_, O>) -> Result<(), TimeRefused>
 where
     R: Files<File = File> + AllocGlobal + Clock + Threads + Wait + Sync,
     O: Write,
@@ -93,11 +99,12 @@ where
         rt,
         device: asked.device,
     };
-    time_runs(rt, asked.runs, "open", &mut opening, out)?;
+    time_runs(rt, asked.runs, "open", &mut opening, times)?;
     let store = store_in(rt.alloc(), DeviceFile::open_to_read(rt, asked.device))?;
-    time_network(rt, asked, store, out)?;
-    time_commits(rt, asked.device, asked.runs, 1, out)?;
-    time_commits(rt, asked.device, asked.runs, 64, out)
+    time_network(rt, asked, store, times)?;
+    time_commits(rt, asked.device, asked.runs, 1, times)?;
+    time_commits(rt, asked.device, asked.runs, 64, times)?;
+    times.end(rt.alloc(), machine_here(rt)?)
 }
 
 // Times what is done with the network that a device holds, which has to have the nodes that are named.
@@ -105,7 +112,7 @@ fn time_network<R, O>(
     rt: &R,
     asked: &Asked<'_>,
     store: Store<DeviceFile>,
-    out: &mut O,
+    times: &mut Times<'_, O>,
 ) -> Result<(), TimeRefused>
 where
     R: AllocGlobal + Clock + Threads + Wait + Sync,
@@ -121,7 +128,7 @@ where
         words: &words,
         runs: asked.runs,
     };
-    time_graph(rt, &builds, out)
+    time_graph(rt, &builds, times)
 }
 
 // What is built, from which words, and how often.
@@ -132,29 +139,35 @@ struct Builds<'a> {
     runs: u16,
 }
 
-fn time_graph<R, O>(rt: &R, builds: &Builds<'_>, out: &mut O) -> Result<(), TimeRefused>
+fn time_graph<R, O>(
+    rt: &R,
+    builds: &Builds<'_>,
+    times: &mut Times<'_, O>,
+) -> Result<(), TimeRefused>
 where
     R: AllocGlobal + Clock + Threads + Wait + Sync,
     O: Write,
 {
-    time_builds(rt, builds, 1, out)?;
+    time_builds(rt, builds, 1, times)?;
     let workers = workers_here(rt, builds.store.nodes().max(LEAST_SHARED));
-    time_builds(rt, builds, workers, out)?;
+    time_builds(rt, builds, workers, times)?;
+    let scheme = built(rt, builds, workers)?;
+    time_checks(rt, builds, &scheme, 1, times)?;
+    time_checks(rt, builds, &scheme, workers, times)?;
     let mut search = Search {
         alloc: rt.alloc(),
         graph: builds.store.graph(),
         runs: builds.runs,
     };
-    time_runs(rt, builds.runs, "search", &mut search, out)?;
-    let scheme = built(rt, builds, workers)?;
-    time_scheme(rt, builds, scheme, out)
+    time_runs(rt, builds.runs, "search", &mut search, times)?;
+    time_scheme(rt, builds, scheme, times)
 }
 
 fn time_builds<R, O>(
     rt: &R,
     builds: &Builds<'_>,
     workers: u16,
-    out: &mut O,
+    times: &mut Times<'_, O>,
 ) -> Result<(), TimeRefused>
 where
     R: AllocGlobal + Clock + Threads + Wait + Sync,
@@ -164,7 +177,28 @@ where
     for _ in 0..builds.runs {
         samples.add(nanos_of_build(rt, builds, workers)?)?;
     }
-    samples.print_of(rt.alloc(), out, "build", "workers", workers)
+    samples.put_of(rt.alloc(), times, "build", "workers", workers)
+}
+
+// The checks of all rules, by so many workers.
+fn time_checks<R, O>(
+    rt: &R,
+    builds: &Builds<'_>,
+    scheme: &Scheme,
+    workers: u16,
+    times: &mut Times<'_, O>,
+) -> Result<(), TimeRefused>
+where
+    R: AllocGlobal + Clock + Threads + Sync,
+    O: Write,
+{
+    let mut samples = Samples::new(rt.alloc());
+    for _ in 0..builds.runs {
+        let clock = Clocked::start(rt)?;
+        let _fault = check_in_threads(rt, builds.store.graph(), scheme, workers);
+        samples.add(clock.nanos(rt)?)?;
+    }
+    samples.put_of(rt.alloc(), times, "check", "workers", workers)
 }
 
 // How many nanoseconds a build takes. The scheme is let go of when the clock has been read.
@@ -200,19 +234,19 @@ fn time_scheme<R, O>(
     rt: &R,
     builds: &Builds<'_>,
     scheme: Scheme,
-    out: &mut O,
+    times: &mut Times<'_, O>,
 ) -> Result<(), TimeRefused>
 where
     R: AllocGlobal + Clock + Wait,
     O: Write,
 {
-    let packets = time_tables(rt, builds, &scheme, out)?;
+    let packets = time_tables(rt, builds, &scheme, times)?;
     let (_writer, forwarder) = forwarder_with(rt.alloc(), rt, builds.store, scheme)?;
     let mut walks = Walks {
         by: ByForwarder(forwarder),
         packets: &packets,
     };
-    time_runs(rt, builds.runs, "hop_bytes", &mut walks, out)
+    time_runs(rt, builds.runs, "hop_bytes", &mut walks, times)
 }
 
 // The part of the tables. It answers its packets in bytes.
@@ -220,7 +254,7 @@ fn time_tables<R, O>(
     rt: &R,
     builds: &Builds<'_>,
     scheme: &Scheme,
-    out: &mut O,
+    times: &mut Times<'_, O>,
 ) -> Result<Vec<(u16, [u8; PACKET_SIZE])>, TimeRefused>
 where
     R: AllocGlobal + Clock,
@@ -232,13 +266,13 @@ where
         scheme,
         pairs: &pairs,
     };
-    time_runs(rt, builds.runs, "decide", &mut decisions, out)?;
+    time_runs(rt, builds.runs, "decide", &mut decisions, times)?;
     let packets = packets_of(alloc, scheme, &pairs)?;
     let mut walks = Walks {
         by: ByTables(scheme),
         packets: &packets,
     };
-    time_runs(rt, builds.runs, "node_step", &mut walks, out)?;
+    time_runs(rt, builds.runs, "node_step", &mut walks, times)?;
     Ok(in_bytes(alloc, &packets)?)
 }
 

@@ -9,9 +9,9 @@ use Rattle.command_output.specs.RouteLines.{unreachable_text}
 use Rattle.command_output.specs.declared.ended.Ended.{Ended}
 use Rattle.command_output.specs.declared.fault.Fault.{Fault as Told}
 use Rattle.command_output.specs.declared.fault.Fault.TheVariants.{Usage, Output, Memory as NoRoom}
-use Rattle.commands.specs.Endings.{IsRouteDeviceFault}
-use Rattle.commands.specs.Queries.{AnswersOf, AreRoutesIn, LacksNodeOf}
-use Rattle.commands.specs.SchemeAnswers.{ended_after}
+use Rattle.file_commands.specs.Endings.{IsRouteDeviceFault}
+use Rattle.file_commands.specs.Queries.{AnswersOf, AreRoutesIn, LacksNodeOf}
+use Rattle.file_commands.specs.SchemeAnswers.{ended_after}
 use Rattle.disk_trait.specs.Disk.{DiskView}
 use Rattle.edge_lists.specs.declared.called.Called.{Called}
 use Rattle.lab_names.specs.declared.refused.AskedRefused.{AskedRefused}

@@ -11,7 +11,7 @@
 //!
 //! The contracts that the program uses, over any device and writer, and by what nodes are called: [`edit_named`] makes the change by the call of
 //! `device_commands` that makes each edit, of the ops for which the texts stand, and prints its answer (`HasEdited` of `specs/Edits`);
-//! [`route_named`] finds the routes by the call of `commands` that finds each route, between the nodes for which the words stand, and prints them
+//! [`route_named`] finds the routes by the call of `file_commands` that finds each route, between the nodes for which the words stand, and prints them
 //! (`HasRouted` of `specs/Routes`);
 //! [`show_graph`] prints the listing of `node_names`. Where a word stands for no node, or a text is no op, nothing is printed, and the device is
 //! as it was. What a file of names holds no contract says: it is tested.

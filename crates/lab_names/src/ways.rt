@@ -2,13 +2,13 @@
 ghost use Rattle.std.specs.Prelude.{◌≡◌, ◌≢◌, ◌%◌, ◌++◌, ◌⊎◌, IfErr, IfOk, List, OnOk, ℕ, length};
 ghost use Rattle.std.specs.Result.{IsOkAnd};
 ghost use Rattle.std.specs.String.{string_bytes};
-ghost use Rattle.commands.specs.SchemeAnswers.{ended_after, is_along};
+ghost use Rattle.file_commands.specs.SchemeAnswers.{ended_after, is_along};
 ghost use Rattle.node_names.specs.Readings.{IsToldOf};
 ghost use Rattle.lab_names.specs.Routes.{AreNodesBy, ArePairsBy, HasRouted, IsNoPairs, IsRouteFault, IsUnrouted, PrintsWays, nodes_of, way_line, way_lines};
 
 use crate::refused::AskedRefused;
 use command_output::{Ended, Fault, UnreachableLine, print_text};
-use commands::route_device;
+use file_commands::route_device;
 use disk_trait::Disk;
 use edge_lists::Called;
 use node_names::{OpRefused, node_by, route_line};
@@ -18,7 +18,7 @@ use std::io::Write;
 use written_values::LandmarkWords;
 
 /// Prints a line for each two nodes of a device, for which these words stand by what its nodes are called: the route of a packet from the
-/// first to the second. They are found by `route_device` of `commands`, as the program finds them. The device was only read.
+/// first to the second. They are found by `route_device` of `file_commands`, as the program finds them. The device was only read.
 #[tactic(auto, using(crate::proofs::Routed::routed, crate::proofs::Routed::unrouted))]
 pub fn route_named<'a, D: Disk, O: Write>(
     alloc: Global,

@@ -11,7 +11,7 @@ use std::alloc::Global;
 pub fn fault_of(refused: FileRefused) -> Fault {
     match refused {
         FileRefused::InUse => Fault::DeviceInUse,
-        FileRefused::Unusable => Fault::DeviceFile,
+        FileRefused::Exists | FileRefused::Unusable => Fault::DeviceFile,
     }
 }
 

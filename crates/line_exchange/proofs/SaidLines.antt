@@ -16,7 +16,7 @@ use Rattle.generations.specs.Beginnings.{Beginning, GoesOn, Opening}
 use Rattle.generations.proofs.Sharing.{goes_trans}
 use Rattle.live_lines.specs.declared.asked.Asked.{Asked}
 use Rattle.live_lines.specs.declared.answer.Answer.{Answer}
-use Rattle.live_lines.specs.declared.answer.Answer.TheVariants.{Gone, Settled, Waited}
+use Rattle.live_lines.specs.declared.answer.Answer.TheVariants.{BackedUp, Gone, Settled, Waited}
 use Rattle.live_lines.specs.Answers.{answer_text, script_text}
 use Rattle.line_exchange.specs.Inputs.{Input}
 use Rattle.line_exchange.specs.OneList.{AreGone, AreSaid, IsOffAt, IsSaidAt, IsSaidBy}
@@ -24,7 +24,7 @@ use Rattle.line_exchange.specs.Prints.{HasPrinted, HasPrintedBy, PrintsSo, lines
 use Rattle.line_exchange.specs.declared.printed.PrintEnd.{PrintEnd}
 use Rattle.line_exchange.specs.declared.printed.PrintEnd.TheVariants.{Output}
 use Rattle.line_exchange.specs.Gathers.{HasText}
-use Rattle.line_exchange.specs.Tallies.{Adds, AreAwaited, AreDropped, AreInTurn, AreReached, IsDropped, IsInTurn, IsReached, TellsCount, accepted_by, accepted_in, no_tickets, told_by, told_in}
+use Rattle.line_exchange.specs.Tallies.{Adds, AreAwaited, AreBackedUp, AreDropped, AreInTurn, AreReached, IsDropped, IsInTurn, IsReached, TellsCount, accepted_by, accepted_in, no_tickets, told_by, told_in}
 use Rattle.line_exchange.specs.Waits.{AreAwaitedTo, AreNoOlder, GoesBy, IsNoOlder}
 use Rattle.line_exchange.specs.declared.tally.Tally.{Tally}
 use Rattle.line_exchange.specs.PutLines.{no_puts}
@@ -67,6 +67,16 @@ more_awaited old new answers answer are reached is before k count generation ear
   where
     no_later : slice_get answers k ≡ Some (Waited generation) → before ≡ length answers → ⊥
     no_later there last = (let within = get_within answers k (Waited generation) there in omega (arith, within, less, last))
+
+-- and so has a backup
+more_backed : (old new : ℕ) (answers : List Answer) (answer : Answer) → AreBackedUp answers → AreReached old answers → IsReached old answer new → AreBackedUp (answers ++ answer ∷ [])
+more_backed old new answers answer are reached is before k count held earlier less at tells backs =
+    ⊎_elim (λ there. ⊎_elim (λ first. are before k count held earlier less first tells there) (λ last. absurd (no_later there last.0)) (get_snoc answers answer before earlier at))
+    (λ last. ⊎_elim (λ first. (let least = reached before count earlier first tells in let most = is.backed held last.1 in omega (arith, least, most))) (λ same. absurd (let one = same.0 in let two = last.0 in omega (arith, one, two, less)))
+    (get_snoc answers answer before earlier at)) (get_snoc answers answer k (BackedUp held) backs)
+  where
+    no_later : slice_get answers k ≡ Some (BackedUp held) → before ≡ length answers → ⊥
+    no_later there last = (let within = get_within answers k (BackedUp held) there in omega (arith, within, less, last))
 
 -- none was waited for that is later
 more_waited : (old new : ℕ) (answers : List Answer) (answer : Answer) → AreAwaitedTo old answers → IsNoOlder old answer new → AreAwaitedTo new (answers ++ answer ∷ [])
@@ -156,6 +166,7 @@ none_printed_by text tally input editors old none untold unput starts = record {
   said = none_said tally.known input editors;
   gone = λ k at. absurd (cc);
   awaited = λ before k count generation earlier less at tells waits. absurd (cc);
+  backed = λ before k count held earlier less at tells backs. absurd (cc);
   reached = λ k count answer at tells. absurd (cc);
   no_older = λ before k waited number answer less waits at by. absurd (cc);
   awaited_to = λ k waited at. absurd (cc);
@@ -170,7 +181,7 @@ none_printed_by text tally input editors old none untold unput starts = record {
 pub printed_as : (text : Answer → List ℕ) (tally : Tally) (input : Input) (editors : ℕ) (P Q : List ℕ → Type 0) → HasPrintedBy text tally input editors P → ((lines : List ℕ) → P lines → Q lines)
     → HasPrintedBy text tally input editors Q
 printed_as text tally input editors P Q has so =
-    record { answers = has.answers; many = has.many; said = has.said; gone = has.gone; awaited = has.awaited; reached = has.reached; no_older = has.no_older; awaited_to = has.awaited_to; in_turn = has.in_turn; noted = has.noted; dropped = has.dropped; accepted = has.accepted; printed = so (lines_of text has.answers) has.printed }
+    record { answers = has.answers; many = has.many; said = has.said; gone = has.gone; awaited = has.awaited; backed = has.backed; reached = has.reached; no_older = has.no_older; awaited_to = has.awaited_to; in_turn = has.in_turn; noted = has.noted; dropped = has.dropped; accepted = has.accepted; printed = so (lines_of text has.answers) has.printed }
 
 -- a flush prints nothing
 pub still_printed_by : (text : Answer → List ℕ) (tally : Tally) (input : Input) (editors : ℕ) (old mid new : Option (List ℕ)) → HasPrintedBy text tally input editors (Appends old mid) → Keeps mid new
@@ -191,6 +202,7 @@ one_more_by text tally more seen input editors P Q answer has adds is off so =
       said = more_said tally.known seen more.known input editors tally.count has.answers answer has.said has.many adds.on adds.covers is;
       gone = more_gone tally.known seen more.known input editors has.answers answer has.gone has.said adds.on adds.covers adds.gone (λ gone. subst (λ (n : ℕ). ∥ IsOffAt seen input editors n ∥₁) (sym has.many) (off gone));
       awaited = more_awaited tally.reached more.reached has.answers answer has.awaited has.reached adds.reached;
+      backed = more_backed tally.reached more.reached has.answers answer has.backed has.reached adds.reached;
       reached = more_reached tally.reached more.reached has.answers answer has.reached adds.reached;
       no_older = more_no_older tally.awaited more.awaited has.answers answer has.no_older has.awaited_to adds.no_older;
       awaited_to = more_waited tally.awaited more.awaited has.answers answer has.awaited_to adds.no_older;

@@ -19,7 +19,7 @@ use Rattle.packet_ways.specs.Standing.{Counts, IsNewest}
 use Rattle.live_lines.specs.declared.asked.Asked.{Asked}
 use Rattle.live_lines.specs.declared.asked.Asked.TheVariants as asks
 use Rattle.live_lines.specs.declared.answer.Answer.{Answer}
-use Rattle.live_lines.specs.declared.answer.Answer.TheVariants.{Settled, AlreadyIn, RefusedBefore, OldTicket, Way, NoNode, Told, Sent, Moved, NotCarried, Gone, State, Waited}
+use Rattle.live_lines.specs.declared.answer.Answer.TheVariants.{Settled, AlreadyIn, RefusedBefore, OldTicket, Way, NoNode, Told, Sent, Moved, NotCarried, Gone, State, Waited, BackedUp}
 use Rattle.live_lines.specs.Answers.{Fits}
 use Rattle.line_exchange.specs.Inputs.{Input}
 use Rattle.line_exchange.specs.Streams.{AreEachAt, IsAskedAt}
@@ -87,6 +87,11 @@ abbrev pub IsWaitedIn : Beginning → Answer → Type 0
 IsWaitedIn all (Waited generation) = (p : Parts) × IsPublished all generation p
 IsWaitedIn all other = Unit {0}
 
+-- after some beginning of the list so many changes were accepted
+abbrev pub IsBackupIn : Beginning → Answer → Type 0
+IsBackupIn all (BackedUp count) = (seen : Beginning) × GoesOn seen all × Counts seen count
+IsBackupIn all other = Unit {0}
+
 -- The answer to what is asked for is what the list says. Of a session's last ticket and of tables nothing is said here, nor of how many
 -- changes wait at the queue. `AreGone` says when a generation is gone.
 abbrev pub IsSaidIn : Beginning → Asked → Answer → Type 0
@@ -97,6 +102,7 @@ IsSaidIn all (asks.Launch from to) answer = IsLaunchIn all from to answer
 IsSaidIn all (asks.Hop at packet) answer = IsHopIn all at packet answer
 IsSaidIn all asks.State answer = IsStateIn all answer
 IsSaidIn all asks.Wait answer = IsWaitedIn all answer
+IsSaidIn all (asks.Backup file) answer = IsBackupIn all answer
 IsSaidIn all asked answer = Unit {0}
 
 -- An answer to what the line at a place asks for, which a list says: `Says` tells how.

@@ -12,7 +12,7 @@ use Rattle.line_exchange.specs.Inputs.{Input, Bytes, Script}
 use Rattle.line_exchange.specs.Streams.{AreEachAt, IsAnswerAt}
 use Rattle.line_exchange.specs.OneList.{AreGone, AreSaid}
 use Rattle.line_exchange.specs.PutLines.{AreNotedFirst}
-use Rattle.line_exchange.specs.Tallies.{AreAwaited, AreDropped, AreInTurn, AreReached, accepted_in}
+use Rattle.line_exchange.specs.Tallies.{AreAwaited, AreBackedUp, AreDropped, AreInTurn, AreReached, accepted_in}
 use Rattle.line_exchange.specs.Waits.{AreAwaitedTo, AreNoOlder}
 use Rattle.line_exchange.specs.declared.tally.Tally.{Tally}
 use Rattle.line_exchange.specs.declared.printed.Printed.{Printed}
@@ -38,6 +38,8 @@ pub record HasPrintedBy (text : Answer → List ℕ) (tally : Tally) (input : In
   pub gone : AreGone (λ seen before. AreSaid seen input editors before) tally.known input editors answers
   -- a generation that was waited for has what was told before
   pub awaited : AreAwaited answers
+  -- .. and so has a backup
+  pub backed : AreBackedUp answers
   pub reached : AreReached tally.reached answers
   -- ways and addresses go by no older one than was waited for before
   pub no_older : AreNoOlder answers

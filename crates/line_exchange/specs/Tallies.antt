@@ -7,7 +7,7 @@ use Rattle.generations.specs.declared.posting.Verdict.{Verdict}
 use Rattle.generations.specs.declared.posting.Verdict.TheVariants.{Accepted, Refused}
 use Rattle.generations.specs.Beginnings.{Beginning, GoesOn}
 use Rattle.live_lines.specs.declared.answer.Answer.{Answer}
-use Rattle.live_lines.specs.declared.answer.Answer.TheVariants.{AlreadyIn, Gone, OldTicket, RefusedBefore, Resumed, Settled, Waited}
+use Rattle.live_lines.specs.declared.answer.Answer.TheVariants.{AlreadyIn, BackedUp, Gone, OldTicket, RefusedBefore, Resumed, Settled, Waited}
 use Rattle.line_exchange.specs.PutLines.{NotesMore}
 use Rattle.line_exchange.specs.Waits.{IsNoOlder}
 use Rattle.line_exchange.specs.declared.tally.Tally.{Tally}
@@ -22,6 +22,11 @@ abbrev pub AreAwaited : List Answer → Type 0
 AreAwaited answers = (before k count generation : ℕ) (earlier : Answer) → before < k → slice_get answers before ≡ Some earlier → TellsCount earlier count
     → slice_get answers k ≡ Some (Waited generation) → count ≤ generation
 
+-- a backup has all changes that an earlier answer tells as accepted
+abbrev pub AreBackedUp : List Answer → Type 0
+AreBackedUp answers = (before k count held : ℕ) (earlier : Answer) → before < k → slice_get answers before ≡ Some earlier → TellsCount earlier count
+    → slice_get answers k ≡ Some (BackedUp held) → count ≤ held
+
 -- no change is told as accepted whose number is above this one
 abbrev pub AreReached : ℕ → List Answer → Type 0
 AreReached reached answers = (k count : ℕ) (answer : Answer) → slice_get answers k ≡ Some answer → TellsCount answer count → count ≤ reached
@@ -31,6 +36,7 @@ pub record IsReached (old : ℕ) (answer : Answer) (new : ℕ) : Type 0 where
   pub kept : old ≤ new
   pub told : (count : ℕ) → TellsCount answer count → count ≤ new
   pub awaited : (generation : ℕ) → answer ≡ Waited generation → old ≤ generation
+  pub backed : (held : ℕ) → answer ≡ BackedUp held → old ≤ held
 
 -- the session and the ticket that an answer tells as a verdict
 abbrev pub told_by : Answer → List (ℕ × ℕ)

@@ -30,7 +30,7 @@ fn owned_by(asked: &Asked) -> Owner {
         Asked::Edit { session, .. } | Asked::Resume { session } => Owner::Session(*session),
         Asked::Route { .. } | Asked::Address { .. } => Owner::Forwarder,
         Asked::Launch { .. } | Asked::Hop { .. } => Owner::Forwarder,
-        Asked::State | Asked::Wait => Owner::Waiter,
+        Asked::State | Asked::Wait | Asked::Backup { .. } => Owner::Waiter,
         Asked::Tables { .. } => Owner::Tables,
         Asked::Unread(_) | Asked::NoSession => Owner::Reader,
         Asked::NotOps | Asked::NotUnderstood => Owner::Reader,

@@ -48,7 +48,7 @@ fn furthest(known: &History, other: &History) -> History
     }
 }
 
-// How far answers reach, with one more. None where that waited for less.
+// How far answers reach, with one more. None where that waited for less, or is a backup of less.
 fn reached_with(reached: u64, answer: &Answer) -> Option<u64>
     ensures { IfSome result (IsReached reached answer.now) }
 {
@@ -58,6 +58,7 @@ fn reached_with(reached: u64, answer: &Answer) -> Option<u64>
             Verdict::Refused { op: _, code: _ } => Some(reached),
         },
         Answer::Waited { generation } if *generation < reached => None,
+        Answer::BackedUp { count } if *count < reached => None,
         _ => Some(reached),
     }
 }

@@ -22,3 +22,12 @@ waited_told told generation newest = record {
 
 pub waited_said : (known told : Beginning) (generation : ℕ) → known ≡ told → IsNewest told generation → AnswersBy known asks.Wait (answers.Waited generation)
 waited_said known told generation same newest = subst (λ (b : Beginning). AnswersBy b asks.Wait (answers.Waited generation)) (sym same) (waited_told told generation newest)
+
+backup_told : (told : Beginning) (count : ℕ) (file : _) → Counts told count → AnswersBy told (asks.Backup file) (answers.BackedUp count)
+backup_told told count file counted = record { fits = tt; said = λ all lawful are_named on. (told, on, counted); off = λ gone. tt }
+
+pub backup_said : (known told : Beginning) (count : ℕ) → known ≡ told → Counts told count → (file : _) → AnswersBy known (asks.Backup file) (answers.BackedUp count)
+backup_said known told count same counted file = subst (λ (b : Beginning). AnswersBy b (asks.Backup file) (answers.BackedUp count)) (sym same) (backup_told told count file counted)
+
+pub no_backup_said : (known : Beginning) (why : _) (file : _) → AnswersBy known (asks.Backup file) (answers.NoBackup why)
+no_backup_said known why file = record { fits = tt; said = λ all lawful are_named on. tt; off = λ gone. tt }

@@ -1,4 +1,4 @@
-// The thread that answers how a service stands.
+// The thread that answers how a service stands, and asks for backups.
 ghost use Rattle.std.specs.Prelude.{◌≡◌, IfSome};
 ghost use Rattle.line_exchange.specs.OneList.{AnswersBy};
 ghost use Rattle.packet_ways.specs.Standing.{IsNewest};
@@ -8,7 +8,7 @@ use generations::History;
 use line_exchange::{Answered, Ask, Stream};
 use live_lines::{Answer, Asked};
 use packet_ways::BoardName;
-use service_workers::{Standing, StopCause};
+use service_workers::{Backed, Standing, StopCause};
 use std::marker::PhantomData;
 use std::sync::Wait;
 
@@ -57,6 +57,19 @@ fn waited_of<B: BoardName>(standing: &Standing<B>, newest: u64) -> (Answer, Hist
     (answer, standing.stand.told.told().history())
 }
 
+// What is answered of a backup, and what was told when it was made.
+fn backed_of<B: BoardName>(backed: &Backed<B>) -> (Answer, History)
+    ensures answers { (file : _) → AnswersBy result.1 (Asked.Backup file) result.0 }
+    ensures named { result.1.opening ≡ B.opening }
+{
+    let stand = &backed.stand;
+    let known = stand.told.told().history();
+    match backed.end {
+        Ok(()) => (Answer::BackedUp { count: stand.count }, known),
+        Err(refused) => (Answer::NoBackup(refused), known),
+    }
+}
+
 // The answer to a line that is the waiter's, and what was told by then. Without one all stop.
 fn answer_of<J: Stream, B: BoardName, R: Wait>(
     here: &Workplace<J, B, R>,
@@ -74,6 +87,10 @@ fn answer_of<J: Stream, B: BoardName, R: Wait>(
         Asked::Wait => {
             let (now, newest) = standing_from(here, 0, first.reached.max(first.stand.count))?;
             Some(waited_of(&now, newest))
+        }
+        Asked::Backup { file } => {
+            let backed = here.coordinator.ask_backup(here.rt, file)?;
+            Some(backed_of(&backed))
         }
         _ => {
             here.coordinator.stop(here.rt, StopCause::Internal);
@@ -104,9 +121,8 @@ fn answered<J: Stream, B: BoardName, R: Wait>(
     })
 }
 
-/// Answers the lines that ask how the service stands, each once all lines before it are taken to be printed, until no more comes or
-/// all stop.
-pub fn wait_lines<J: Stream, B: BoardName, R: Wait>(here: &Workplace<J, B, R>) {
+// Answers lines, until no more comes or all stop.
+fn answer_each<J: Stream, B: BoardName, R: Wait>(here: &Workplace<J, B, R>) {
     for _ in here.rt.forever() {
         let Some(ask) = here.exchange.waiter.take(here.rt) else {
             return;
@@ -119,4 +135,11 @@ pub fn wait_lines<J: Stream, B: BoardName, R: Wait>(here: &Workplace<J, B, R>) {
         };
         let _put = here.exchange.answers.put(here.rt, answered);
     }
+}
+
+/// Answers the lines that ask how the service stands or for a backup, each once all lines before it are taken to be printed, until no
+/// more comes or all stop. Then it leaves, as an editor does: the committer goes on until then.
+pub fn wait_lines<J: Stream, B: BoardName, R: Wait>(here: &Workplace<J, B, R>) {
+    answer_each(here);
+    here.coordinator.leave(here.rt);
 }

@@ -8,14 +8,14 @@ use Rattle.std.proofs.lemmas.List.Elements.{All-head, All-tail}
 use Rattle.std.proofs.lemmas.Str.Parse.{digit_at}
 use Rattle.graph_edits.specs.declared.edits.Op.{Op}
 use Rattle.live_lines.specs.declared.asked.Asked.{Asked}
-use Rattle.live_lines.specs.declared.asked.Asked.TheVariants.{Edit, Resume, Route, Address, Tables, NoSession, NotOps, NotUnderstood}
+use Rattle.live_lines.specs.declared.asked.Asked.TheVariants.{Edit, Resume, Route, Address, Tables, Backup, NoSession, NotOps, NotUnderstood}
 use Rattle.live_lines.specs.declared.asked.Named.TheVariants.{Unedited}
 use Rattle.written_values.specs.OpText.{Fits, op_text}
 use Rattle.written_values.specs.Reading.{texts_of}
 use Rattle.written_values.specs.Scripts.{IsChange, words_of}
 use Rattle.live_lines.specs.declared.words.Word.{Word}
 use Rattle.live_lines.specs.declared.words.Word.TheVariants as word
-use Rattle.live_lines.specs.Lines.{AddressAsks, AsksBehind, AsksJust, EditAsks, IsAskedIn, IsFolder, IsNamed, IsOp, IsTicket, LacksOps, NoSessionAsks, NodeAsks, NotOpsAsks, ResumeAsks, RouteAsks, TablesAsks, WordsAsk, edit_words, ticket_word, word_text}
+use Rattle.live_lines.specs.Lines.{AddressAsks, AsksBehind, AsksJust, EditAsks, IsAskedIn, IsFolder, IsNamed, IsOp, IsTicket, LacksOps, NoSessionAsks, NodeAsks, NotOpsAsks, ResumeAsks, RouteAsks, TablesAsks, BackupAsks, WordsAsk, edit_words, ticket_word, word_text}
 
 -- no number is written as `-`
 no_dash : (n : ℕ) → n < 2 ^ 64 → decimal n ≡ codes "-" → ⊥
@@ -246,6 +246,16 @@ no_folder words none _ asks = asks
 
 pub no_tables : (words : List (List ℕ)) → ((word : List ℕ) → IsFolder word → words ≡ word ∷ [] → ⊥) → AsksJust (TablesAsks words) NotUnderstood
 no_tables words none = inr (refl, λ other asks. no_folder words none other asks)
+
+pub backup_asked : (words : List (List ℕ)) (word : List ℕ) (file : _) → words ≡ word ∷ [] → IsFolder word → string_bytes file ≡ word → AsksJust (BackupAsks words) (Backup file)
+backup_asked words word file written is same = inl (written ∙ ap (λ (w : List ℕ). w ∷ []) (sym same), subst (λ (w : List ℕ). IsFolder w) (sym same) is)
+
+no_file : (words : List (List ℕ)) → ((word : List ℕ) → IsFolder word → words ≡ word ∷ [] → ⊥) → (other : Asked) → BackupAsks words other → ⊥
+no_file words none (Backup file) asks = none (string_bytes file) asks.1 asks.0
+no_file words none _ asks = asks
+
+pub no_backup : (words : List (List ℕ)) → ((word : List ℕ) → IsFolder word → words ≡ word ∷ [] → ⊥) → AsksJust (BackupAsks words) NotUnderstood
+no_backup words none = inr (refl, λ other asks. no_file words none other asks)
 
 -- a first word alone
 pub alone_asked : (words : List (List ℕ)) (something asked : Asked) → (words ≡ [] → asked ≡ something) → ((words ≡ [] → ⊥) → asked ≡ NotUnderstood) → AsksJust (λ other. (words ≡ []) × (other ≡ something)) asked

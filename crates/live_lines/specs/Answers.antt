@@ -10,10 +10,11 @@ use Rattle.packet_ways.specs.declared.carried.Carried.{Carried}
 use Rattle.packet_ways.specs.declared.carried.Carried.TheVariants.{Along, Unreachable}
 use Rattle.packet_ways.specs.declared.carried.Carried.TheVariants as ways
 use Rattle.packet_bytes.specs.Texts.{address_line, move_text, packet_line, refused_text, unread_text}
+use Rattle.new_devices.specs.Events.{refused_text as no_backup_text}
 use Rattle.live_lines.specs.declared.asked.Asked.{Asked}
 use Rattle.live_lines.specs.declared.asked.Asked.TheVariants as asks
 use Rattle.live_lines.specs.declared.answer.Answer.{Answer}
-use Rattle.live_lines.specs.declared.answer.Answer.TheVariants.{Settled, AlreadyIn, RefusedBefore, OldTicket, Resumed, Way, NoNode, Told, Sent, Moved, NotCarried, Gone, Unread, State, Waited, Tables, TablesFailed, NoSession, NotOps, NotUnderstood}
+use Rattle.live_lines.specs.declared.answer.Answer.TheVariants.{Settled, AlreadyIn, RefusedBefore, OldTicket, Resumed, Way, NoNode, Told, Sent, Moved, NotCarried, Gone, Unread, State, Waited, Tables, TablesFailed, BackedUp, NoBackup, NoSession, NotOps, NotUnderstood}
 
 -- ---- which answers are of a line
 
@@ -53,6 +54,8 @@ Fits asks.Wait (Waited generation) = Unit {0}
 Fits (asks.Tables folder) (Tables generation tables bytes greatest) = Unit {0}
 Fits (asks.Tables folder) Gone = Unit {0}
 Fits (asks.Tables folder) TablesFailed = Unit {0}
+Fits (asks.Backup file) (BackedUp count) = Unit {0}
+Fits (asks.Backup file) (NoBackup why) = Unit {0}
 Fits (asks.Unread why) (Unread told) = told ≡ why
 Fits asks.NoSession NoSession = Unit {0}
 Fits asks.NotOps NotOps = Unit {0}
@@ -99,6 +102,8 @@ answer_text (State count generation queue) = state_text count generation queue
 answer_text (Waited generation) = codes "generation=" ++ decimal generation
 answer_text (Tables generation tables bytes greatest) = tables_text generation tables bytes greatest
 answer_text TablesFailed = codes "table file cannot be written"
+answer_text (BackedUp count) = codes "count=" ++ decimal count
+answer_text (NoBackup why) = no_backup_text why
 answer_text NoSession = codes "no session"
 answer_text NotOps = codes "op not understood"
 answer_text NotUnderstood = codes "not understood"

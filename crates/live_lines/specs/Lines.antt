@@ -18,7 +18,7 @@ use Rattle.live_lines.specs.declared.words.Word.TheVariants as word
 use Rattle.live_lines.specs.declared.asked.Named.{Named}
 use Rattle.live_lines.specs.declared.asked.Named.TheVariants.{Edited, Unedited}
 use Rattle.live_lines.specs.declared.asked.Asked.{Asked}
-use Rattle.live_lines.specs.declared.asked.Asked.TheVariants.{Edit, Resume, Route, Address, Launch, Hop, State, Wait, Tables, Unread, NoSession, NotOps, NotUnderstood}
+use Rattle.live_lines.specs.declared.asked.Asked.TheVariants.{Edit, Resume, Route, Address, Launch, Hop, State, Wait, Tables, Backup, Unread, NoSession, NotOps, NotUnderstood}
 
 -- the first words of lines
 abbrev pub word_text : Word → List ℕ
@@ -31,6 +31,7 @@ word_text word.Hop = codes "hop"
 word_text word.State = codes "state"
 word_text word.Wait = codes "wait"
 word_text word.Tables = codes "tables"
+word_text word.Backup = codes "backup"
 
 -- ---- edits
 
@@ -151,7 +152,7 @@ pub record AddressAsks (words : List (List ℕ)) (asked : Asked) : Type 0 where
   pub fits : node < 2 ^ 16
   pub same : asked ≡ Address node
 
--- a folder's name has a byte or more, each above a blank
+-- the name of a folder or a file has a byte or more, each above a blank
 abbrev pub IsFolder : List ℕ → Type 0
 IsFolder text = (text ≢ []) × All (λ c. 32 < c) text
 
@@ -159,6 +160,11 @@ IsFolder text = (text ≢ []) × All (λ c. 32 < c) text
 abbrev pub TablesAsks : List (List ℕ) → Asked → Type 0
 TablesAsks words (Tables folder) = (words ≡ string_bytes folder ∷ []) × IsFolder (string_bytes folder)
 TablesAsks words asked = ⊥
+
+-- the same of a file's name
+abbrev pub BackupAsks : List (List ℕ) → Asked → Type 0
+BackupAsks words (Backup file) = (words ≡ string_bytes file ∷ []) × IsFolder (string_bytes file)
+BackupAsks words asked = ⊥
 
 abbrev pub AsksBehind : ℕ → Word → List (List ℕ) → Asked → Type 0
 AsksBehind editors word.Edit words asked = EditAsks editors words asked ⊎ (NoSessionAsks editors words asked ⊎ NotOpsAsks editors words asked)
@@ -170,6 +176,7 @@ AsksBehind editors word.Hop words asked = NodeAsks HopAsks words asked
 AsksBehind editors word.State words asked = (words ≡ []) × (asked ≡ State)
 AsksBehind editors word.Wait words asked = (words ≡ []) × (asked ≡ Wait)
 AsksBehind editors word.Tables words asked = TablesAsks words asked
+AsksBehind editors word.Backup words asked = BackupAsks words asked
 
 -- the words of a line ask for something that is known, in a service of so many editors
 pub record WordsAsk (editors : ℕ) (words : List (List ℕ)) (asked : Asked) : Type 0 where

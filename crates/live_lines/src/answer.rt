@@ -10,6 +10,7 @@ use command_output::{
 };
 use generations::{Mark, Verdict};
 use graph_edits::Code;
+use new_devices::BackupRefused;
 use packet_bytes::{WireRefused, moved_text, packet_text, refused_name, told_text, unread_name};
 use packet_ways::Carried;
 use schemes::{Address, Move, Packet, Refused};
@@ -77,6 +78,12 @@ pub enum Answer {
     },
     /// The file of a table can't be written.
     TablesFailed,
+    /// A new device holds the first so many accepted changes and their tickets.
+    BackedUp {
+        count: u64,
+    },
+    /// Why there is no such device.
+    NoBackup(BackupRefused),
     /// The session that the line names has no editor.
     NoSession,
     /// A word in the place of an op isn't one.
@@ -228,6 +235,8 @@ impl Answer {
                 greatest,
             } => tables_line(alloc, *generation, *tables, *bytes, *greatest),
             Answer::TablesFailed => String::from_str(alloc, Fault::TableFile.text()),
+            Answer::BackedUp { count } => format!(in alloc; "count={count}"),
+            Answer::NoBackup(refused) => String::from_str(alloc, refused.text()),
             Answer::NoSession => String::from_str(alloc, "no session"),
             Answer::NotOps => String::from_str(alloc, Fault::Op.text()),
             Answer::NotUnderstood => String::from_str(alloc, "not understood"),

@@ -6,7 +6,7 @@ ghost use Rattle.written_values.specs.Scripts.{IsChange};
 ghost use Rattle.written_values.specs.Reading.{IfRead, Reads, ReadsPair, texts_of};
 ghost use Rattle.live_lines.specs.declared.asked.Asked.{Asked};
 ghost use Rattle.live_lines.specs.declared.words.Word.{Word};
-ghost use Rattle.live_lines.specs.Lines.{AddressAsks, AsksBehind, AsksJust, HopAsks, IsAskedIn, IsNamed, IsOp, IsTicket, LacksOps, LaunchAsks, NodeAsks, RouteAsks, TablesAsks, WordsAsk, ticket_word};
+ghost use Rattle.live_lines.specs.Lines.{AddressAsks, AsksBehind, AsksJust, BackupAsks, HopAsks, IsAskedIn, IsNamed, IsOp, IsTicket, LacksOps, LaunchAsks, NodeAsks, RouteAsks, TablesAsks, WordsAsk, ticket_word};
 
 use crate::digits::{hop_of, launch_of};
 use crate::words::{Word, is_folder, word_in, words_in};
@@ -59,6 +59,11 @@ pub enum Asked {
     Tables {
         /// One byte or more, each above a blank.
         folder: String,
+    },
+    /// The accepted changes and their tickets, written to a new device.
+    Backup {
+        /// One byte or more, each above a blank.
+        file: String,
     },
     /// What is to be launched or to hop has no spelling.
     Unread(WireRefused),
@@ -331,6 +336,21 @@ fn tables_of(alloc: Global, words: &[&str]) -> Result<Asked, AllocError>
     Ok(Asked::Tables { folder })
 }
 
+/// What is asked for behind `backup`.
+#[tactic(auto, using(crate::proofs::Asking::backup_asked, crate::proofs::Asking::no_backup))]
+fn backup_of(alloc: Global, words: &[&str]) -> Result<Asked, AllocError>
+    ensures { IfOk result (AsksJust (BackupAsks (texts_of words.now))) }
+{
+    let [file] = words else {
+        return Ok(Asked::NotUnderstood);
+    };
+    if !is_folder(file) {
+        return Ok(Asked::NotUnderstood);
+    }
+    let file = String::from_str(alloc, file)?;
+    Ok(Asked::Backup { file })
+}
+
 /// What is asked for by a first word alone.
 fn alone(words: &[&str], asked: Asked) -> Asked
     ensures empty { texts_of words.now ≡ [] → result ≡ asked }
@@ -358,6 +378,7 @@ fn behind(alloc: Global, first: Word, words: &[&str], editors: u8) -> Result<Ask
         Word::State => Ok(alone(words, Asked::State)),
         Word::Wait => Ok(alone(words, Asked::Wait)),
         Word::Tables => tables_of(alloc, words),
+        Word::Backup => backup_of(alloc, words),
     }
 }
 

@@ -19,6 +19,7 @@ pub(crate) enum Word {
     State,
     Wait,
     Tables,
+    Backup,
 }
 
 /// The first word that a text is.
@@ -44,12 +45,14 @@ pub(crate) fn word_in(text: &str) -> Option<Word>
         Some(Word::Wait)
     } else if text == "tables" {
         Some(Word::Tables)
+    } else if text == "backup" {
+        Some(Word::Backup)
     } else {
         None
     }
 }
 
-/// Whether a word may name a folder: it has a byte or more, and each is above a blank.
+/// Whether a word may name a folder or a file: it has a byte or more, and each is above a blank.
 pub(crate) fn is_folder(word: &str) -> bool
     ensures { IsTrue result ↔ IsFolder word.now }
 {

@@ -4,6 +4,8 @@ use crate::helpers::{address, expect_asked, expect_text, got, packet};
 use graph_edits::{Change, Op};
 use live_lines::{Answer, Asked};
 use schemes::Move;
+use std::alloc::Global;
+use std::process::Abort;
 
 #[test]
 fn reads_an_edit_again(rt: HostRuntime) {
@@ -61,15 +63,29 @@ fn writes_answers_again(rt: HostRuntime) {
         },
         "63 9 already in",
     );
+    expect_text(rt, alloc, &Answer::BackedUp { count: 7 }, "count=7");
+}
+
+// A name, made again where memory was short.
+fn name_of(rt: &impl Abort, alloc: Global, text: &str) -> String {
+    match String::from_str(alloc, text) {
+        Ok(name) => name,
+        Err(_) => got(rt, String::from_str(alloc, text)),
+    }
 }
 
 #[test]
 fn reads_a_folder_again(rt: HostRuntime) {
     let alloc = rt.alloc();
     let rt = &rt;
-    let folder = match String::from_str(alloc, "out") {
-        Ok(folder) => folder,
-        Err(_) => got(rt, String::from_str(alloc, "out")),
-    };
+    let folder = name_of(rt, alloc, "out");
     expect_asked(rt, alloc, "tables out", 1, &Asked::Tables { folder });
+}
+
+#[test]
+fn reads_a_file_again(rt: HostRuntime) {
+    let alloc = rt.alloc();
+    let rt = &rt;
+    let file = name_of(rt, alloc, "out/b");
+    expect_asked(rt, alloc, "backup out/b", 1, &Asked::Backup { file });
 }

@@ -11,9 +11,6 @@ use Rattle.command_output.specs.declared.fault.Fault.{Fault}
 use Rattle.command_output.specs.declared.fault.Fault.TheVariants as told
 use Rattle.line_exchange.specs.Begun.{PrintsUnless}
 use Rattle.line_exchange.specs.declared.answer_writer.AnswerWriter.{Ghosts}
-use Rattle.service_threads.specs.Faults.{stop_fault}
-use Rattle.service_threads.specs.declared.fault.Fault.{Fault as Stopped}
-use Rattle.service_threads.specs.declared.fault.Fault.TheVariants as why
 use Rattle.service_threads.specs.Kept.{HasFailed, HasSettledSome, IsServedDisk}
 use Rattle.service_threads.proofs.Settling.{some_settled}
 use Rattle.device_commands.specs.Openings.{TellsOf}
@@ -71,7 +68,7 @@ thread_early opening book store new input editors up same =
 -- ---- faults
 
 -- the fault that is told of threads that stopped
-pub cause_later : (c : StopCause) → IsLater (told_fault (stop_fault c))
+pub cause_later : (c : StopCause) → IsLater (told_fault c)
 cause_later cause.Device = tt
 cause_later cause.Worn = tt
 cause_later cause.Memory = tt
@@ -80,7 +77,7 @@ cause_later cause.NoThread = tt
 cause_later cause.Internal = tt
 
 -- is the device's only where the device was the cause
-pub cause_device : (c : StopCause) → told_fault (stop_fault c) ≡ told.Device → c ≡ cause.Device
+pub cause_device : (c : StopCause) → told_fault c ≡ told.Device → c ≡ cause.Device
 cause_device cause.Device is = refl
 cause_device cause.Worn is = absurd (cc)
 cause_device cause.Memory is = absurd (cc)
@@ -89,7 +86,7 @@ cause_device cause.NoThread is = absurd (cc)
 cause_device cause.Internal is = absurd (cc)
 
 -- and it is never the output's
-pub cause_other : (c : StopCause) → told_fault (stop_fault c) ≡ told.Output → ⊥
+pub cause_other : (c : StopCause) → told_fault c ≡ told.Output → ⊥
 cause_other cause.Device is = cc
 cause_other cause.Worn is = cc
 cause_other cause.Memory is = cc
@@ -103,19 +100,6 @@ met_late input given (Ok lines) why end is = (let other : ◌≡◌ {A = Result 
 met_late input given (Err fault) why end is =
     let same : fault ≡ Failed = (let both : ◌≡◌ {A = Result (Option ℕ) ReadFault} (Err fault) (Err Failed) = why is in cc) in
     end.1 same
-
--- nor is that of an opening
-pub opening_other : (f : Stopped) → told_fault f ≡ told.Output → ⊥
-opening_other why.NotFormatted is = cc
-opening_other why.BadVersion is = cc
-opening_other why.Damaged is = cc
-opening_other why.Words is = cc
-opening_other why.Device is = cc
-opening_other why.Worn is = cc
-opening_other why.Memory is = cc
-opening_other why.Board is = cc
-opening_other why.NoThread is = cc
-opening_other why.Internal is = cc
 
 -- what holds of each fault of a service whose device was opened
 later_each : (P : Fault → Type 0) (f : Fault) → IsLater f → P told.Device → P told.Worn → P told.Memory → P told.NoThread → P told.Internal → P told.Output → P f

@@ -2,7 +2,6 @@ pub mod Noting
 pub mod AllTaken
 pub mod Backs
 pub mod Ended
-pub mod GatheredLines
 pub mod OneListed
 pub mod Seats
 pub mod Sending

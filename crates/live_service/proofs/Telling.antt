@@ -1,98 +1,60 @@
--- What is told of a service's fault says what the service's fault does.
-use Rattle.std.proofs.Common.{◌≡◌, refl, List, ℕ, Some, IsTrue}
+-- What a device that is refused tells.
+use Rattle.std.proofs.Common.{◌≡◌, refl, Some}
 use Rattle.disk_trait.specs.declared.disk.Disk.{Ghosts}
-use Rattle.disk_trait.specs.Disk.{OnlyRead}
-use Rattle.layout_2.specs.State.{State}
-use Rattle.layout_2.specs.Standing.{StandsFor}
-use Rattle.written_values.specs.Words.{IsWithin}
+use Rattle.disk_trait.specs.Disk.{DiskView}
 use Rattle.written_values.specs.declared.words.LandmarkWords.{LandmarkWords}
+use Rattle.command_output.specs.declared.fault.Fault.{Fault}
 use Rattle.command_output.specs.declared.fault.Fault.TheVariants as told
-use Rattle.device_commands.specs.Openings.{TellsOf}
-use Rattle.service_threads.specs.Faults.{IsOpeningFault as IsStoppedOpening, TellsOf as StoppedTells}
-use Rattle.service_threads.specs.Kept.{HasFailed}
-use Rattle.service_threads.specs.declared.fault.Fault.{Fault as Stopped}
-use Rattle.service_threads.specs.declared.fault.Fault.TheVariants as why
-use Rattle.live_service.specs.ServeEnds.{IsOpeningFault, IsServeEnd, IsServeFault, told_fault}
+use Rattle.device_commands.specs.Openings.{IsOpenFault, TellsNotOpened}
+use Rattle.live_service.specs.ServeEnds.{IsRefusedFor, IsServeEnd, IsServeFault, IsStartFault}
 
--- it is one of a service
-serve_told : (f : Stopped) → IsServeFault (told_fault f)
-serve_told why.NotFormatted = tt
-serve_told why.BadVersion = tt
-serve_told why.Damaged = tt
-serve_told why.Words = tt
-serve_told why.Device = tt
-serve_told why.Worn = tt
-serve_told why.Memory = tt
-serve_told why.Board = tt
-serve_told why.NoThread = tt
-serve_told why.Internal = tt
+-- what holds of each fault of an opening
+open_each : (P : Fault → Type 0) (f : Fault) → IsOpenFault f → P told.NotFormatted → P told.LayoutNotKnown → P told.Damaged → P told.Device → P told.Memory → P f
+open_each P told.NotFormatted is front layout damaged device memory = front
+open_each P told.LayoutNotKnown is front layout damaged device memory = layout
+open_each P told.Damaged is front layout damaged device memory = damaged
+open_each P told.Device is front layout damaged device memory = device
+open_each P told.Memory is front layout damaged device memory = memory
+open_each P _ is front layout damaged device memory = absurd is
 
--- it tells the same of a content
-content_told : (f : Stopped) (content : List ℕ) → StoppedTells f content → TellsOf (told_fault f) content
-content_told why.NotFormatted content is = is
-content_told why.BadVersion content is = is
-content_told why.Damaged content is = is
-content_told why.Words content is = tt
-content_told why.Device content is = tt
-content_told why.Worn content is = tt
-content_told why.Memory content is = tt
-content_told why.Board content is = tt
-content_told why.NoThread content is = tt
-content_told why.Internal content is = tt
+-- and of each by which a service doesn't begin
+start_each : (P : Fault → Type 0) (f : Fault) → IsStartFault f → P told.NotFormatted → P told.LayoutNotKnown → P told.Damaged → P told.Device → P told.Memory → P told.Words → P f
+start_each P told.NotFormatted is front layout damaged device memory words = front
+start_each P told.LayoutNotKnown is front layout damaged device memory words = layout
+start_each P told.Damaged is front layout damaged device memory words = damaged
+start_each P told.Device is front layout damaged device memory words = device
+start_each P told.Memory is front layout damaged device memory words = memory
+start_each P told.Words is front layout damaged device memory words = words
+start_each P _ is front layout damaged device memory words = absurd is
 
--- words that aren't understood are told of no other fault
-words_told : (f : Stopped) → told_fault f ≡ told.Words → f ≡ why.Words
-words_told why.Words is = refl
-words_told why.NotFormatted is = absurd (cc)
-words_told why.BadVersion is = absurd (cc)
-words_told why.Damaged is = absurd (cc)
-words_told why.Device is = absurd (cc)
-words_told why.Worn is = absurd (cc)
-words_told why.Memory is = absurd (cc)
-words_told why.Board is = absurd (cc)
-words_told why.NoThread is = absurd (cc)
-words_told why.Internal is = absurd (cc)
+-- none of an opening is that of the words
+not_words : (f : Fault) → IsOpenFault f → f ≡ told.Words → ⊥
+not_words f is = open_each (λ (e : Fault). e ≡ told.Words → ⊥) f is (λ same. cc) (λ same. cc) (λ same. cc) (λ same. cc) (λ same. cc)
 
--- nor is a device that failed
-device_told : (f : Stopped) → told_fault f ≡ told.Device → f ≡ why.Device
-device_told why.Device is = refl
-device_told why.NotFormatted is = absurd (cc)
-device_told why.BadVersion is = absurd (cc)
-device_told why.Damaged is = absurd (cc)
-device_told why.Words is = absurd (cc)
-device_told why.Worn is = absurd (cc)
-device_told why.Memory is = absurd (cc)
-device_told why.Board is = absurd (cc)
-device_told why.NoThread is = absurd (cc)
-device_told why.Internal is = absurd (cc)
+-- so it says of the device what the opening says
+pub not_opened : (words : LandmarkWords) (disk left : DiskView) (f : Fault) → TellsNotOpened disk left f → IsRefusedFor words disk left f
+not_opened words disk left f is = record {
+  named = open_each IsStartFault f is.fault tt tt tt tt tt;
+  tells = is.tells;
+  words = λ model state stands same. absurd (not_words f is.fault same);
+  of_one = λ same. absurd (not_words f is.fault same);
+  device = is.device;
+  reads = is.reads;
+  ran = is.ran;
+}
 
--- and an opening's is one
-opening_told : (f : Stopped) → IsOpeningFault (told_fault f) → IsStoppedOpening f
-opening_told why.NotFormatted is = tt
-opening_told why.BadVersion is = tt
-opening_told why.Damaged is = tt
-opening_told why.Words is = tt
-opening_told why.Device is = absurd is
-opening_told why.Worn is = absurd is
-opening_told why.Memory is = absurd is
-opening_told why.Board is = absurd is
-opening_told why.NoThread is = absurd is
-opening_told why.Internal is = absurd is
+-- none by which a service doesn't begin is the output's
+pub start_other : (f : Fault) → IsStartFault f → f ≡ told.Output → ⊥
+start_other f is = start_each (λ (e : Fault). e ≡ told.Output → ⊥) f is (λ same. cc) (λ same. cc) (λ same. cc) (λ same. cc) (λ same. cc) (λ same. cc)
 
--- what a service's fault tells of its device, told of what is told
-pub told_end : {D : Type 0} (model : Ghosts D) (disk back : D) (asked : LandmarkWords) (f : Stopped)
-    → (IsTrue (model.view disk).keeps_model → StoppedTells f (model.view disk).content)
-    → (IsTrue (model.view disk).keeps_model → (state : State) → StandsFor state (model.view disk).content → f ≡ why.Words → ¬ IsWithin asked state.graph.nodes)
-    → (f ≡ why.Words → (state : State) × ¬ IsWithin asked state.graph.nodes)
-    → (IsTrue (model.view disk).keeps_model → IsStoppedOpening f → OnlyRead (model.view disk) (model.view back))
-    → (f ≡ why.Device → HasFailed (model.view disk) (model.view back))
-    → IsServeEnd model disk asked (Some back) (told_fault f)
-told_end model disk back asked f tells not_within of_one refused device = record {
+-- a service whose device was refused ended so
+pub refused_end : {D : Type 0} (model : Ghosts D) (disk back : D) (asked : LandmarkWords) (f : Fault) → IsRefusedFor asked (model.view disk) (model.view back) f → IsServeEnd model disk asked (Some back) f
+refused_end model disk back asked f is = record {
+  named = start_each IsServeFault f is.named tt tt tt tt tt tt;
   given_back = refl;
-  named = serve_told f;
-  tells = λ keeps. content_told f (model.view disk).content (tells keeps);
-  not_within = λ keeps state stands is. not_within keeps state stands (words_told f is);
-  of_one = λ is. of_one (words_told f is);
-  refused = λ keeps is. refused keeps (opening_told f is);
-  device = λ is. device (device_told f is);
+  tells = is.tells;
+  not_within = is.words;
+  of_one = is.of_one;
+  refused = λ keeps opening. is.reads keeps;
+  device = is.device;
 }

@@ -1,30 +1,26 @@
 -- The faults of a service, and what they tell of its device.
 use Rattle.std.specs.Prelude.{◌≡◌, Option, IfSome, IsSome, IsTrue}
 use Rattle.disk_trait.specs.declared.disk.Disk.{Ghosts}
-use Rattle.disk_trait.specs.Disk.{OnlyRead}
+use Rattle.disk_trait.specs.Disk.{DiskView, IsSameDevice, OnlyRead}
 use Rattle.layout_2.specs.State.{State}
 use Rattle.layout_2.specs.Standing.{StandsFor}
 use Rattle.command_output.specs.declared.fault.Fault.{Fault}
 use Rattle.command_output.specs.declared.fault.Fault.TheVariants as told
-use Rattle.device_commands.specs.Openings.{TellsOf}
+use Rattle.device_commands.specs.Openings.{IsOpenFault, TellsOf}
 use Rattle.written_values.specs.Words.{IsWithin}
 use Rattle.written_values.specs.declared.words.LandmarkWords.{LandmarkWords}
 use Rattle.service_threads.specs.Kept.{HasFailed}
-use Rattle.service_threads.specs.declared.fault.Fault.{Fault as Stopped}
-use Rattle.service_threads.specs.declared.fault.Fault.TheVariants as why
+use Rattle.service_workers.specs.declared.stop_cause.StopCause.{StopCause}
+use Rattle.service_workers.specs.declared.stop_cause.StopCause.TheVariants as cause
 
--- what is told of a service that gives no answers
-abbrev pub told_fault : Stopped → Fault
-told_fault why.NotFormatted = told.NotFormatted
-told_fault why.BadVersion = told.LayoutNotKnown
-told_fault why.Damaged = told.Damaged
-told_fault why.Words = told.Words
-told_fault why.Device = told.Device
-told_fault why.Worn = told.Worn
-told_fault why.Memory = told.Memory
-told_fault why.Board = told.Memory
-told_fault why.NoThread = told.NoThread
-told_fault why.Internal = told.Internal
+-- what is told of threads that stopped
+abbrev pub told_fault : StopCause → Fault
+told_fault cause.Device = told.Device
+told_fault cause.Worn = told.Worn
+told_fault cause.Memory = told.Memory
+told_fault cause.Board = told.Memory
+told_fault cause.NoThread = told.NoThread
+told_fault cause.Internal = told.Internal
 
 -- the faults of a service
 abbrev pub IsServeFault : Fault → Type 0
@@ -57,6 +53,23 @@ IsOpeningFault told.LayoutNotKnown = Unit {0}
 IsOpeningFault told.Damaged = Unit {0}
 IsOpeningFault told.Words = Unit {0}
 IsOpeningFault fault = ⊥
+
+-- the faults by which a service doesn't begin: those of an opening, and that the words name a node which the device hasn't
+abbrev pub IsStartFault : Fault → Type 0
+IsStartFault told.Words = Unit {0}
+IsStartFault fault = IsOpenFault fault
+
+-- A service's device was refused: a fault tells why, and the device, which was only read, comes back.
+pub record IsRefusedFor (asked : LandmarkWords) (disk left : DiskView) (fault : Fault) : Type 0 where
+  pub named : IsStartFault fault
+  pub tells : IsTrue disk.keeps_model → TellsOf fault disk.content
+  -- the landmark words don't fit the nodes of the state for which the device stands
+  pub words : IsTrue disk.keeps_model → (state : State) → StandsFor state disk.content → fault ≡ told.Words → ¬ IsWithin asked state.graph.nodes
+  -- where it doesn't keep the model, they don't fit those of a state
+  pub of_one : fault ≡ told.Words → (state : State) × ¬ IsWithin asked state.graph.nodes
+  pub device : fault ≡ told.Device → HasFailed disk left
+  pub reads : IsTrue disk.keeps_model → OnlyRead disk left
+  pub ran : IsSameDevice disk left
 
 -- What a fault that ended a service under these words tells of its device, and what is left of that.
 pub record IsServeEnd {D : Type 0} (model : Ghosts D) (disk : D) (asked : LandmarkWords) (back : Option D) (fault : Fault) : Type 0 where

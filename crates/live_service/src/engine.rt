@@ -19,7 +19,7 @@ ghost use Rattle.live_service.specs.Noting.{AreJoined};
 ghost use Rattle.live_service.specs.Taken.{TakesNoMore};
 
 use crate::ending::{Ending, Joined};
-use crate::opened::{EngineParts, Opened};
+use crate::opened::{EngineParts, Opened, Places};
 use checkpoint::Store;
 use committer::Committer;
 use disk_trait::Disk;
@@ -28,6 +28,7 @@ use group_commit::Desk;
 use intake::{Editor, Taker, open_intake};
 use line_exchange::{Exchange, Noted, Stream};
 use line_workers::{TablesReader, Workplace, edit_lines, forward_lines, table_lines, wait_lines};
+use new_devices::NewDevices;
 use packet_ways::BoardName;
 use put_lines::PutLines;
 use requests::SESSIONS;
@@ -42,12 +43,12 @@ use std::thread;
 use std::thread::{JoinHandle, Promise, PromisedHandle, Scope, Threads};
 use table_files::TableFiles;
 
-/// The editors, the forwarders, and where tables are put, with a reader for that, at the board that `B` names.
+/// The editors, the forwarders, and where tables are put and new devices made, with a reader for tables, at the board that `B` names.
 #[derive(Drop)]
-pub struct Seats<B: BoardName, T> {
+pub struct Seats<B: BoardName, P> {
     pub editors: Vec<SessionEditor<B>>,
     pub forwarders: Vec<ForwarderOf<B>>,
-    pub tables: T,
+    pub places: P,
     pub reader: TablesReader<B>,
 }
 
@@ -293,7 +294,7 @@ fn ended(
     }
 }
 
-// Commits what editors submit, and builds tables in turn with that or beside it, as the input has it.
+// Commits what editors submit, makes the backups that are asked for, and builds tables in turn with that or beside it, as the input has it.
 fn commit_lines<
     's,
     E,
@@ -301,6 +302,7 @@ fn commit_lines<
     B: BoardName + Send + Sync,
     D: Disk,
     G: Gate + Sync,
+    F: NewDevices,
     Q: Wait + Drop,
     R: Threads + Wait + Sync,
 >(
@@ -309,6 +311,7 @@ fn commit_lines<
     gate: &'s G,
     committer: &mut Committer<D, Q>,
     rebuilds: &mut Rebuilds,
+    devices: &mut F,
 ) -> Result<bool, StopCause>
     requires opening { (posts_of committer.old).opening ≡ B.opening }
     requires fresh { IsFresh committer.old }
@@ -326,7 +329,14 @@ fn commit_lines<
     let (rt, alloc) = (here.rt, here.alloc);
     match rebuilds.builds {
         Builds::InTurn => {
-            return commit_all::<B, D, Q, R>(rt, alloc, here.coordinator, committer, rebuilds);
+            return commit_all::<B, D, Q, F, R>(
+                rt,
+                alloc,
+                here.coordinator,
+                committer,
+                rebuilds,
+                devices,
+            );
         }
         Builds::Beside => {}
     }
@@ -336,7 +346,7 @@ fn commit_lines<
         coordinator: here.coordinator,
         gate,
     };
-    commit_beside(scope, &site, committer, rebuilds)
+    commit_beside(scope, &site, committer, rebuilds, devices)
 }
 
 // Runs the threads of all seats, the committer in the caller's, and gives the store back.
@@ -347,13 +357,14 @@ fn run_seats<
     D: Disk + Drop,
     G: Gate + Sync,
     T: TableFiles + Drop + Send,
+    F: NewDevices + Drop,
     Q: Wait + Drop,
     R: Threads + Wait + Sync,
 >(
     here: &'a Workplace<'a, J, B, R>,
     gate: &'a G,
     committer: Committer<D, Q>,
-    seats: Seats<B, T>,
+    seats: Seats<B, Places<T, F>>,
     rebuilds: Rebuilds,
 ) -> (Result<Ending, StopCause>, Store<D>)
     requires opening { (posts_of committer).opening ≡ B.opening }
@@ -381,9 +392,11 @@ fn run_seats<
             let Seats {
                 editors,
                 forwarders,
-                tables,
+                places,
                 reader,
             } = seats;
+            let Places { tables, devices } = places;
+            let mut devices = devices;
             let sessions = editors.len();
             let Ok(mut editing) = Vec::with_capacity(here.alloc, sessions) else {
                 return (Err(StopCause::Memory), committer.into_store());
@@ -397,7 +410,14 @@ fn run_seats<
             start_forwarders(scope, here, gate, forwarders, &mut handles);
             start_tables(scope, here, tables, reader, &mut handles);
             let waiter = start_waiter(scope, here);
-            let own = commit_lines(scope, here, gate, &mut committer, &mut rebuilds);
+            let own = commit_lines(
+                scope,
+                here,
+                gate,
+                &mut committer,
+                &mut rebuilds,
+                &mut devices,
+            );
             let board = committer.told().history();
             if here.coordinator.stopped(here.rt) {
                 here.exchange.shut(here.rt);
@@ -429,13 +449,14 @@ fn run<
     D: Disk + Drop,
     G: Gate + Sync,
     T: TableFiles + Drop + Send,
+    F: NewDevices + Drop,
     Q: Wait + Drop,
     R: Threads + Wait + Sync,
 >(
     rt: &R,
     alloc: Global,
     committer: Committer<D, Q>,
-    seats: Seats<B, T>,
+    seats: Seats<B, Places<T, F>>,
     rebuilds: Rebuilds,
     gate: &G,
     exchange: &Exchange<J, B>,
@@ -450,7 +471,8 @@ fn run<
 {
     let mut committer = committer;
     let mut rebuilds = rebuilds;
-    let editing = seats.editors.len();
+    // The waiter is one more: while it may ask for a backup, the committer goes on.
+    let editing = seats.editors.len().saturating_add(1);
     match begun::<B, D, Q, R>(rt, alloc, &mut committer, &mut rebuilds, editing) {
         Ok(coordinator) => {
             let here = Workplace {
@@ -459,9 +481,9 @@ fn run<
                 coordinator: &coordinator,
                 exchange,
             };
-            run_seats::<J, B, D, G, T, Q, R>(&here, gate, committer, seats, rebuilds)
+            run_seats::<J, B, D, G, T, F, Q, R>(&here, gate, committer, seats, rebuilds)
         }
-        Err(stop) => (Err(stop.cause), committer.into_store()),
+        Err(cause) => (Err(cause), committer.into_store()),
     }
 }
 
@@ -515,13 +537,13 @@ fn reader_for_tables<B: BoardName>(readers: &mut Vec<BoardReader>) -> TablesRead
 }
 
 // The queue's end, and editors, forwarders and a reader for tables at the board that `B` names.
-fn seat_all<B: BoardName, T: Drop>(
+fn seat_all<B: BoardName, P: Drop>(
     alloc: Global,
     config: ServiceConfig,
-    tables: T,
+    places: P,
     readers: Vec<BoardReader>,
     starts: &[u64; SESSIONS],
-) -> Result<(Taker, Seats<B, T>), AllocError>
+) -> Result<(Taker, Seats<B, P>), AllocError>
     requires config { IsSeated config }
     requires some { 0 < vec_len readers }
     requires readers { All (λ r. r.all.opening ≡ B.opening) readers.items }
@@ -538,7 +560,7 @@ fn seat_all<B: BoardName, T: Drop>(
     let seats = Seats {
         editors,
         forwarders,
-        tables,
+        places,
         reader,
     };
     Ok((taker, seats))
@@ -551,12 +573,13 @@ fn seat<
     D: Disk + Drop,
     G: Gate + Sync,
     T: TableFiles + Drop + Send,
+    F: NewDevices + Drop,
     Q: Wait + Drop,
     R: Threads + Wait + Sync,
 >(
     rt: &R,
     alloc: Global,
-    parts: EngineParts<B, D, T, Q>,
+    parts: EngineParts<B, D, Places<T, F>, Q>,
     gate: &G,
     exchange: &Exchange<J, B>,
 ) -> (Result<Ending, StopCause>, Store<D>)
@@ -573,15 +596,15 @@ fn seat<
         config,
         store,
         source,
-        tables,
+        places,
     } = opened;
     let Ok(rebuilds) = Rebuilds::new(alloc, source, config.rounds, config.builds) else {
         return (Err(StopCause::Memory), store);
     };
-    match seat_all::<B, T>(alloc, config.service, tables, readers, &store.starts()) {
+    match seat_all::<B, Places<T, F>>(alloc, config.service, places, readers, &store.starts()) {
         Ok((taker, seats)) => {
             let committer = Committer::new(Desk::new(store), taker, writer);
-            run::<J, B, D, G, T, Q, R>(rt, alloc, committer, seats, rebuilds, gate, exchange)
+            run::<J, B, D, G, T, F, Q, R>(rt, alloc, committer, seats, rebuilds, gate, exchange)
         }
         Err(_) => (Err(StopCause::Memory), store),
     }
@@ -595,19 +618,20 @@ pub fn engine<
     D: Disk + Drop,
     G: Gate + Sync,
     T: TableFiles + Drop + Send,
+    F: NewDevices + Drop,
     Q: Wait + Drop,
     R: Threads + Wait + Sync,
 >(
     rt: &R,
     alloc: Global,
-    parts: EngineParts<B, D, T, Q>,
+    parts: EngineParts<B, D, Places<T, F>, Q>,
     gate: &G,
     exchange: &Exchange<J, B>,
 ) -> (Result<Ending, StopCause>, D)
     requires builds { parts.opened.config.builds ≡ builds_of J.input }
     ensures { EndsServed B.opening J.book parts.opened.store J.input J.editors result.0 (D.view result.1) }
 {
-    let (result, store) = seat::<J, B, D, G, T, Q, R>(rt, alloc, parts, gate, exchange);
+    let (result, store) = seat::<J, B, D, G, T, F, Q, R>(rt, alloc, parts, gate, exchange);
     exchange.shut(rt);
     exchange.end(rt);
     (result, store.into_disk())

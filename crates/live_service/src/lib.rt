@@ -1,7 +1,7 @@
-//! A service that answers lines: those of an input as they come, with edits, routes, addresses and packets, or those of a script.
+//! A service that answers lines as they come, with edits, routes, addresses and packets, and its engine, which runs scripts too.
 //!
 //! [`serve_live`] opens a device and starts the threads of an engine: a committer, an editor for each session, forwarders, a waiter,
-//! which answers `state` and `wait`, and the one that puts tables (all of `line_workers`). One more thread reads lines and hands each to
+//! which answers `state`, `wait` and `backup`, and the one that puts tables (all of `line_workers`). One more thread reads lines and hands each to
 //! the thread that answers it, and the caller's thread prints the answers in the order of their lines (both of `line_exchange`), each as
 //! soon as it and all before it are there. A line that waits for a commit holds up the printing of later answers, not the work on them.
 //!
@@ -9,11 +9,7 @@
 //! tables: a build begins when no edit waits, or at the latest `rounds` rounds after the first edit that they lack. It goes on beside the
 //! commits, one build at a time.
 //!
-//! [`serve_lines`] runs a script by the same engine. Its answers are gathered, and printed once all are there; tables are built behind
-//! each round that changed the graph, in the committer's thread. [`serve_told`] does so too, tells a fault on a second writer, and answers how it ended
-//! ([`Served`]); [`serve_on`] answers the program's exit status instead: 0 also where changes were refused. Where no fault comes, the
-//! lines of answers were printed of which just those are verdicts whose line is an edit; a fault but that of the printing has printed
-//! nothing (`ServesScript` and `FailsScript` of `specs/Services`).
+//! A script is run by the same engine ([`serve_opened`]): that is the crate `script_service`.
 //!
 //! A fault is told on a `FaultWriter` of `command_output`, which `WatchedWriter` makes of any writer. Where one of these calls answers
 //! that a fault wasn't told, a write of this very writer has failed.
@@ -32,13 +28,14 @@
 //! generation serves the graph of the state that its number names, and the marks of the requests that led there were posted before it.
 //! A route is the way that a packet goes there, and so are addresses, launches and hops by the scheme of their generation (`IsSaidIn`
 //! of `line_exchange`). `state` tells how the board stood, and the generation that `wait` answers has each change that was told as
-//! accepted before; routes and addresses behind it go by no older one (`AreNoOlder`). `resume` tells the last ticket that was told as
+//! accepted before; routes and addresses behind it go by no older one (`AreNoOlder`). `backup` tells how many changes were accepted after
+//! a beginning of the list, which has each that was told before (`AreBackedUp`). `resume` tells the last ticket that was told as
 //! accepted. The device holds the state after all of the requests.
 //! Nothing of this kind is said of `tables`, nor of a way's length. The same holds of a script.
 //!
 //! ```text
 //! let mut err = WatchedWriter::new(rt.stderr());
-//! let (served, disk) = serve_live(&rt, alloc, disk, words, config, 16, input, &OpenGate, tables, &mut out, &mut err);
+//! let (served, disk) = serve_live(env, device, input, around, &mut out, &mut err);
 //! // edit 0 - add:0:1:1    0 1 accepted count=1
 //! // wait                  generation=1
 //! // route 0 1             generation=1 route 0 1 length 1
@@ -47,14 +44,15 @@
 
 mod ending;
 mod engine;
-mod faults;
 mod opened;
+mod opening;
 mod running;
-mod script;
 mod serve;
 mod serving;
 
 pub use line_exchange::{AnswerWriter, Served, WatchedOutput};
-pub use script::{serve_lines, serve_on, serve_told};
+pub use opened::{EngineConfig, Env, LiveInput, Opened, Places, ServedDevice, Surroundings};
+pub use opening::open_device;
 pub use serve::serve_live;
 pub use service_threads::{Gate, OpenGate, ServiceConfig};
+pub use serving::{seated, serve_opened, take_back};

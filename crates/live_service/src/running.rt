@@ -3,7 +3,6 @@ ghost use Rattle.std.specs.Prelude.{◌≡◌, ◌≢◌, IfErr, IfOk, IfSome, I
 ghost use Rattle.checkpoint.specs.StoreWords.{is_down, state_of, view_of};
 ghost use Rattle.command_output.specs.declared.fault.Fault.{Fault};
 ghost use Rattle.generations.specs.Beginnings.{GoesOn};
-ghost use Rattle.service_threads.specs.Faults.{stop_fault};
 ghost use Rattle.service_threads.specs.Kept.{HasSettledSome};
 ghost use Rattle.live_service.specs.ServeEnds.{IsLater, told_fault};
 ghost use Rattle.line_exchange.specs.declared.served.Served.{Served};
@@ -16,17 +15,15 @@ ghost use Rattle.live_service.specs.ServedList.{EndsServed, IsBoardOf, builds_of
 
 use crate::ending::Ending;
 use crate::engine::engine;
-use crate::faults::fault_of as told_fault;
-use crate::opened::{EngineParts, Opened};
+use crate::opened::{EngineParts, Opened, Places};
 use checkpoint::Store;
 use command_output::Fault;
-use core::thread::Stack;
 use disk_trait::Disk;
 use line_exchange::{
     Console, Exchange, LineSource, PrintEnd, Printed, ReadFault, Served, Stream, read_lines,
 };
+use new_devices::NewDevices;
 use packet_ways::BoardName;
-use service_threads::STACK_LEN;
 use service_workers::{Gate, StopCause};
 use std::alloc::Global;
 use std::marker::PhantomData;
@@ -66,9 +63,15 @@ impl<J: Stream> Promise<Result<Option<u64>, ReadFault>> for ReaderPromise<J> {
 
 // What is told of threads that stopped.
 fn told_cause(cause: StopCause) -> Fault
-    ensures { result ≡ told_fault (stop_fault cause) }
+    ensures { result ≡ told_fault cause }
 {
-    told_fault(service_threads::Fault::from(cause))
+    match cause {
+        StopCause::Device => Fault::Device,
+        StopCause::Worn => Fault::Worn,
+        StopCause::Memory | StopCause::Board => Fault::Memory,
+        StopCause::NoThread => Fault::NoThread,
+        StopCause::Internal => Fault::Internal,
+    }
 }
 
 // The fault that is known once the answers are printed and the engine has ended: that the output failed goes before all others. The
@@ -161,8 +164,8 @@ fn conclude<J: Stream, C: Console<J>, R: Threads>(
     }
 }
 
-// Starts the engine in a thread of its own, with a stack for deep trees. Where none can be made the disk comes back: then `unmade` is
-// set, and the engine's own closure hands the disk out instead.
+// Starts the engine in a thread of its own. Where none can be made the disk comes back: then `unmade` is set, and the engine's own
+// closure hands the disk out instead.
 fn start_engine<
     's,
     E,
@@ -171,17 +174,20 @@ fn start_engine<
     D: Disk + Drop + Send + 's,
     G: Gate + Sync,
     T: TableFiles + Drop + Send + 's,
+    F: NewDevices + Drop + Send + 's,
     Q: Wait + Drop + Send + 's,
     R: Threads + Wait + Sync,
 >(
     scope: &Scope<'s, E>,
     rt: &'s R,
     alloc: Global,
-    parts: EngineParts<B, D, T, Q>,
+    parts: EngineParts<B, D, Places<T, F>, Q>,
     gate: &'s G,
     exchange: &'s Exchange<J, B>,
     unmade: &'s AtomicBool,
 ) -> Result<PromisedHandle<(Result<Ending, StopCause>, D), EnginePromise<J, B, D>>, D>
+where
+    F::Device: Send,
     requires builds { parts.opened.config.builds ≡ builds_of J.input }
     ensures made { IfOk result (λ handle. handle.promise.store.value ≡ parts.opened.store) }
     ensures unmade { IfErr result (λ disk.
@@ -203,8 +209,9 @@ fn start_engine<
         config,
         store,
         source,
-        tables,
+        places,
     } = opened;
+    let Places { tables, devices } = places;
     let job = move || -> (Result<Ending, StopCause>, D)
         requires config { IsSeated config.service }
         requires builds { config.builds ≡ builds_of J.input }
@@ -219,7 +226,7 @@ fn start_engine<
             config,
             store,
             source,
-            tables,
+            places: Places { tables, devices },
         };
         let parts = EngineParts {
             opened,
@@ -229,10 +236,7 @@ fn start_engine<
         };
         engine(rt, alloc, parts, gate, exchange)
     };
-    match Stack::new()
-        .stack_size(STACK_LEN)
-        .spawn_scoped_with(scope, promise, job)
-    {
+    match scope.spawn_with(promise, job) {
         Ok(handle) => Ok(handle),
         Err(refused) => {
             unmade.store(true, Ordering::SeqCst);
@@ -250,6 +254,7 @@ pub(crate) fn run_threads<
     D: Disk + Drop + Send,
     G: Gate + Sync,
     T: TableFiles + Drop + Send,
+    F: NewDevices + Drop + Send,
     Q: Wait + Drop + Send,
     R: Threads + Wait + Sync,
     L: LineSource<J> + Send + Drop,
@@ -257,12 +262,14 @@ pub(crate) fn run_threads<
 >(
     rt: &'a R,
     alloc: Global,
-    parts: EngineParts<B, D, T, Q>,
+    parts: EngineParts<B, D, Places<T, F>, Q>,
     gate: &'a G,
     exchange: &'a Exchange<J, B>,
     lines: L,
     console: C,
 ) -> (C, Served, Option<D>)
+where
+    F::Device: Send,
     requires given { L.has_given lines 0 }
     requires builds { parts.opened.config.builds ≡ builds_of J.input }
     ensures { HasRun C.prints C.finishes J.input J.editors parts.opened.store console result.0 result.1 result.2 }

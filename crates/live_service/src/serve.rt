@@ -12,30 +12,27 @@ ghost use Rattle.live_lines.specs.Answers.{answer_text};
 ghost use Rattle.live_service.specs.ServedList.{HasPrintedOn};
 ghost use Rattle.live_service.specs.Services.{AnswersInput};
 
-use crate::faults::fault_of as told_fault;
-use crate::opened::{EngineConfig, Opened};
+use crate::opened::{EngineConfig, Env, LiveInput, Opened, Places, ServedDevice, Surroundings};
+use crate::opening::open_device;
 use crate::serving::{seated, serve_opened, take_back};
 use checkpoint::standing_law;
 use command_output::FaultWriter;
 use disk_trait::Disk;
 use line_exchange::{AnswerWriter, InputSource, Served, Stream, Terminal, told};
+use new_devices::NewDevices;
 use put_lines::BlankBook;
-use service_threads::{ServiceConfig, open_device};
 use service_workers::Gate;
 use settled_lists::Builds;
-use std::alloc::Global;
 use std::io::BufRead;
 use std::marker::Brand;
 use std::sync::Wait;
 use std::thread::Threads;
 use table_files::TableFiles;
-use written_values::LandmarkWords;
 
 // The service of a device that was opened, for the input that `J` names and with a book of its own.
-fn serve_stream<'a, J, D, G, T, R, S, O, E>(
-    rt: &'a R,
-    alloc: Global,
-    opened: Opened<D, T>,
+fn serve_stream<'a, J, D, G, T, F, R, S, O, E>(
+    env: Env<'a, R>,
+    opened: Opened<D, Places<T, F>>,
     gate: &'a G,
     input: (S, BlankBook),
     out: &mut O,
@@ -46,6 +43,8 @@ where
     D: Disk + Drop + Send,
     G: Gate + Sync,
     T: TableFiles + Drop + Send,
+    F: NewDevices + Drop + Send,
+    F::Device: Send,
     R: Threads + Wait + Sync,
     S: BufRead + Send + Drop,
     O: AnswerWriter,
@@ -61,10 +60,11 @@ where
         → HasPrintedOn answer_text opened.store J.input J.editors (O.contents out.old) (O.contents out.new) result.1 }
 {
     let (input, blank) = input;
+    let alloc = env.alloc;
     let lines = InputSource::new(alloc, opened.config.service.editors, input);
     let terminal = Terminal { alloc, out, err };
-    let (terminal, served, disk) = serve_opened::<J, D, G, T, R, InputSource<S>, Terminal<O, E>>(
-        rt, alloc, opened, gate, lines, blank, terminal,
+    let (terminal, served, disk) = serve_opened::<J, D, G, T, F, R, InputSource<S>, Terminal<O, E>>(
+        env, opened, gate, lines, blank, terminal,
     );
     let Terminal { alloc: _, out, err } = terminal;
     take_back(out);
@@ -74,27 +74,21 @@ where
 
 /// Answers the lines of an input on a device: each line as it comes, in the order of the lines, until the input's end.
 ///
-/// The committer runs in a thread whose stack has [`STACK_LEN`] bytes, each editor, each forwarder, the waiter and the reader in one
-/// of its own, and the printer in the caller's. The first generation is begun at the start. The next one is begun where
-/// something that was accepted isn't in one and no more edits wait, or `rounds` rounds after the first such edit at the latest. Each is
-/// built in a thread of its own, one at a time, so that no edit waits for it, and no `resume`. What asks for a way, an address, a packet,
-/// tables or how the service stands waits until the first one is there. An edit goes to its
-/// session's editor; the k-th of the other lines but `state` and `wait`, from 0, to the forwarder `k` modulo their number.
-/// With the most editors there is one forwarder less than asked for, where that was the most too.
+/// The committer, each editor, each forwarder, the waiter and the reader run in threads of their own, and the printer in the caller's.
+/// The first generation is begun at the start. The next one is begun where something that was accepted isn't in one and no more edits
+/// wait, or `rounds` rounds after the first such edit at the latest. Each is built in a thread of its own, one at a time, so that no edit
+/// waits for it, and no `resume`. What asks for a way, an address, a packet, tables or how the service stands waits until the first one
+/// is there. An edit goes to its session's editor; the k-th of the other lines but `state`, `wait` and `backup`, from 0, to the
+/// forwarder `k` modulo their number. With the most editors there is one forwarder less than asked for, where that was the most too.
 ///
 /// What ends the service before the input's end is told on `err`, once all answers before the first line without one are printed.
 /// [`Served::Printed`]: the input came to its end, and all its lines are answered. What was accepted stays on the device, which comes
 /// back whatever ends the service.
-pub fn serve_live<'a, D, G, T, R, S, O, E>(
-    rt: &'a R,
-    alloc: Global,
-    disk: D,
-    words: LandmarkWords,
-    config: ServiceConfig,
-    rounds: u32,
-    input: S,
-    gate: &'a G,
-    tables: T,
+pub fn serve_live<'a, D, G, T, F, R, S, O, E>(
+    env: Env<'a, R>,
+    device: ServedDevice<D>,
+    input: LiveInput<S>,
+    around: Surroundings<'a, G, T, F>,
     out: &mut O,
     err: &mut E,
 ) -> (Served, Option<D>)
@@ -102,31 +96,41 @@ where
     D: Disk + Drop + Send,
     G: Gate + Sync,
     T: TableFiles + Drop + Send,
+    F: NewDevices + Drop + Send,
+    F::Device: Send,
     R: Threads + Wait + Sync,
     S: BufRead + Send + Drop,
     O: AnswerWriter,
     E: FaultWriter,
-    requires config { IsServiceConfig config }
+    requires config { IsServiceConfig device.config }
     // Lines of answers, the k-th to the k-th line of the input, where its bytes are known. Where a write of this writer failed, a beginning
     // of such lines.
-    ensures printed { PrintsTo O.AnswerWriter (Bytes (S.remaining input)) config.editors out.old out.new result.0 }
+    ensures printed { PrintsTo O.AnswerWriter (Bytes (S.remaining input.lines)) device.config.editors out.old out.new result.0 }
     ensures told { HasToldSo (E.contents err.old) (E.contents err.new) result.0 }
     // A fault that wasn't told couldn't be: a write of this writer has failed.
     ensures untold { (fault : Fault) → result.0 ≡ Served.Untold fault → IsTrue (E.has_failed err.new) }
     // A fault is true of the device.
-    ensures ended { IfSome (fault_of result.0) (λ fault. IsServeEnd D.Disk disk words result.1 fault) }
+    ensures ended { IfSome (fault_of result.0) (λ fault. IsServeEnd D.Disk device.disk device.words result.1 fault) }
     // The device comes back, whatever ended it.
     ensures back { IsSome result.1 }
     // It is the very device: a crash at any moment leaves the state after a beginning of the requests that were taken.
-    ensures left { IsLeftBy D.Disk disk result.1 }
+    ensures left { IsLeftBy D.Disk device.disk result.1 }
     // Where no fault ended it, the device came back, and the answers are of one list of requests.
     ensures one_list { result.0 ≡ Served.Printed
-        → AnswersInput D.Disk disk result.1 (Bytes (S.remaining input)) config.editors O.contents out.old out.new }
+        → AnswersInput D.Disk device.disk result.1 (Bytes (S.remaining input.lines)) device.config.editors
+        O.contents out.old out.new }
 {
+    let ServedDevice {
+        disk,
+        words,
+        config,
+    } = device;
+    let LiveInput { lines, rounds } = input;
+    let Surroundings { gate, places } = around;
     standing_law();
-    let (store, source) = match open_device(alloc, disk, &words) {
+    let (store, source) = match open_device(env.alloc, disk, &words) {
         Ok(opened) => opened,
-        Err((fault, disk)) => return (told(err, Some(told_fault(fault))), Some(disk)),
+        Err((fault, disk)) => return (told(err, Some(fault)), Some(disk)),
     };
     let opened = Opened {
         config: EngineConfig {
@@ -136,8 +140,8 @@ where
         },
         store,
         source,
-        tables,
+        places,
     };
-    let input = (input, BlankBook::new());
-    serve_stream::<Brand, D, G, T, R, S, O, E>(rt, alloc, opened, gate, input, out, err)
+    let input = (lines, BlankBook::new());
+    serve_stream::<Brand, D, G, T, F, R, S, O, E>(env, opened, gate, input, out, err)
 }

@@ -6,13 +6,14 @@ ghost use Rattle.live_service.specs.Runs.{HasRun};
 ghost use Rattle.live_service.specs.Seated.{IsSeated};
 ghost use Rattle.live_service.specs.ServedList.{IsBoardOf, builds_of};
 
-use crate::opened::{EngineConfig, EngineParts, Opened};
+use crate::opened::{EngineConfig, EngineParts, Env, Opened, Places};
 use crate::running::run_threads;
 use checkpoint::Store;
 use command_output::Fault;
 use disk_trait::Disk;
 use generations::{BoardReader, BoardWriter, MOST_READERS, board};
 use line_exchange::{Console, Exchange, LineSource, Served, Stream};
+use new_devices::NewDevices;
 use packet_ways::BoardName;
 use put_lines::BlankBook;
 use service_threads::ServiceConfig;
@@ -60,8 +61,8 @@ fn board_of<'a, D: Disk, R: Wait>(
 }
 
 // Memory ran out before the threads were started: that is told, and the device comes back.
-fn unstarted<J: Stream, D: Disk + Drop, T: Drop, C: Console<J>>(
-    opened: Opened<D, T>,
+fn unstarted<J: Stream, D: Disk + Drop, P: Drop, C: Console<J>>(
+    opened: Opened<D, P>,
     console: C,
 ) -> (C, Served, Option<D>)
     ensures { HasRun C.prints C.finishes J.input J.editors opened.store console result.0 result.1 result.2 }
@@ -71,16 +72,15 @@ fn unstarted<J: Stream, D: Disk + Drop, T: Drop, C: Console<J>>(
         config: _,
         store,
         source: _,
-        tables: _,
+        places: _,
     } = opened;
     (console, served, Some(store.into_disk()))
 }
 
 // The service at the board that `B` names, whose editors note lines in the book that `J` names.
-fn serve_at_board<'a, J, B, D, G, T, Q, R, L, C>(
-    rt: &'a R,
-    alloc: Global,
-    opened: Opened<D, T>,
+fn serve_at_board<'a, J, B, D, G, T, F, Q, R, L, C>(
+    env: Env<'a, R>,
+    opened: Opened<D, Places<T, F>>,
     board: (BoardWriter<Q>, Vec<BoardReader>, BlankBook),
     gate: &'a G,
     lines: L,
@@ -92,6 +92,8 @@ where
     D: Disk + Drop + Send,
     G: Gate + Sync,
     T: TableFiles + Drop + Send,
+    F: NewDevices + Drop + Send,
+    F::Device: Send,
     Q: Wait + Drop + Send,
     R: Threads + Wait + Sync,
     L: LineSource<J> + Send + Drop,
@@ -102,6 +104,7 @@ where
     requires builds { opened.config.builds ≡ builds_of J.input }
     ensures { HasRun C.prints C.finishes J.input J.editors opened.store console result.0 result.1 result.2 }
 {
+    let Env { rt, alloc } = env;
     let (writer, readers, blank) = board;
     let service = opened.config.service;
     let known = writer.tell().history();
@@ -123,16 +126,15 @@ where
             };
             run_threads(rt, alloc, parts, gate, &exchange, lines, console)
         }
-        Err(_) => unstarted::<J, D, T, C>(opened, console),
+        Err(_) => unstarted::<J, D, Places<T, F>, C>(opened, console),
     }
 }
 
 /// The service of a device that was opened, for the lines that `J` names: all threads, from these lines to this console. Editors note in
 /// the book that `J` names which lines put requests. The disk comes back.
-pub(crate) fn serve_opened<'a, J, D, G, T, R, L, C>(
-    rt: &'a R,
-    alloc: Global,
-    opened: Opened<D, T>,
+pub fn serve_opened<'a, J, D, G, T, F, R, L, C>(
+    env: Env<'a, R>,
+    opened: Opened<D, Places<T, F>>,
     gate: &'a G,
     lines: L,
     blank: BlankBook,
@@ -143,6 +145,8 @@ where
     D: Disk + Drop + Send,
     G: Gate + Sync,
     T: TableFiles + Drop + Send,
+    F: NewDevices + Drop + Send,
+    F::Device: Send,
     R: Threads + Wait + Sync,
     L: LineSource<J> + Send + Drop,
     C: Console<J> + Drop,
@@ -151,16 +155,15 @@ where
     requires blank { blank.book ≡ J.book }
     ensures { HasRun C.prints C.finishes J.input J.editors opened.store console result.0 result.1 result.2 }
 {
-    match board_of(rt, alloc, &opened.config, &opened.store) {
-        Ok((writer, readers)) => serve_at_board::<J, Brand, D, G, T, &R, R, L, C>(
-            rt,
-            alloc,
+    match board_of(env.rt, env.alloc, &opened.config, &opened.store) {
+        Ok((writer, readers)) => serve_at_board::<J, Brand, D, G, T, F, &R, R, L, C>(
+            env,
             opened,
             (writer, readers, blank),
             gate,
             lines,
             console,
         ),
-        Err(_) => unstarted::<J, D, T, C>(opened, console),
+        Err(_) => unstarted::<J, D, Places<T, F>, C>(opened, console),
     }
 }

@@ -1,7 +1,7 @@
 // Services that end while their input stays open: whoever still reads it is called off once the fault is told.
 use crate::helpers::{Setup, fresh, got, reopened, run, same, text_of};
 use command_output::Fault;
-use live_service::Served;
+use live_service::{Env, Served};
 use service_threads::OpenGate;
 use stand_ins::{BeforeSync, HookedDisk, NarrowWriter};
 use standard_streams::{InterruptibleInput, InterruptingWriter};
@@ -73,7 +73,15 @@ where
         input: interrupter,
     };
     let disk = HookedDisk::new(fresh(&rt, alloc, 5), Refused(refused));
-    let (served, disk) = run(&rt, alloc, disk, &SETUP, input, &OpenGate, out, &mut err);
+    let (served, disk) = run(
+        Env { rt: &rt, alloc },
+        disk,
+        &SETUP,
+        input,
+        &OpenGate,
+        out,
+        &mut err,
+    );
     let (fault, told, count) = want;
     same(&rt, served, Served::Told(fault), "the end");
     same(&rt, text_of(&rt, &err.out), told, "what is told");

@@ -1,6 +1,6 @@
 // Inputs that end while edits wait.
 use crate::helpers::{Setup, count_lines, fresh, got, reopened, run, same, text_of};
-use live_service::Served;
+use live_service::{Env, Served};
 use service_threads::OpenGate;
 use stand_ins::{BeforeSync, HookedDisk, comes};
 use std::alloc::Global;
@@ -118,7 +118,13 @@ fn edits_that_wait_at_the_end(rt: HostRuntime) {
     let input = got(&rt, BufReader::with_capacity(alloc, 64, ending));
     let (mut out, mut err) = (Vec::new(alloc), Vec::new(alloc));
     let (served, disk) = run(
-        &rt, alloc, disk, &SETUP, input, &OpenGate, &mut out, &mut err,
+        Env { rt: &rt, alloc },
+        disk,
+        &SETUP,
+        input,
+        &OpenGate,
+        &mut out,
+        &mut err,
     );
     same(
         &rt,

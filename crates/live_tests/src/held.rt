@@ -1,6 +1,6 @@
 // Lines that are worked on while the device holds a commit.
 use crate::helpers::{Setup, fresh, got, run, same, text_of};
-use live_service::Served;
+use live_service::{Env, Served};
 use service_threads::Gate;
 use stand_ins::{BeforeSync, HookedDisk, comes};
 use std::alloc::Global;
@@ -199,7 +199,15 @@ fn expect_row<R: Threads + Wait + Abort + Sync>(rt: &R, alloc: Global, row: &Row
         signs: &signs,
     };
     let mut err = Vec::new(alloc);
-    let (served, _disk) = run(rt, alloc, disk, &SETUP, input, &gate, &mut out, &mut err);
+    let (served, _disk) = run(
+        Env { rt, alloc },
+        disk,
+        &SETUP,
+        input,
+        &gate,
+        &mut out,
+        &mut err,
+    );
     let wanted = answers_of(rt, alloc, row);
     same(
         rt,

@@ -3,7 +3,10 @@ use crate::places::NoFiles;
 use checkpoint::Store;
 use command_output::WatchedWriter;
 use disk_trait::{Disk, MemDisk};
-use live_service::{Served, WatchedOutput, serve_live};
+use live_service::{
+    Env, LiveInput, Places, Served, ServedDevice, Surroundings, WatchedOutput, serve_live,
+};
+use new_devices::NoDevices;
 use service_threads::{Gate, OpenGate, ServiceConfig};
 use std::alloc::Global;
 use std::fmt::Debug;
@@ -54,15 +57,13 @@ fn config_of(numbers: Numbers) -> ServiceConfig {
     }
 }
 
-/// Runs a service on a disk, with a place for tables. The disk lacks where no thread was made for it.
+/// Runs a service on a disk, with what may hold it up and a place for tables. The disk lacks where no thread was made for it.
 pub(crate) fn run_at<D, G, T, R, S, O, E>(
-    rt: &R,
-    alloc: Global,
+    env: Env<'_, R>,
     disk: D,
     setup: &Setup,
     input: S,
-    gate: &G,
-    tables: T,
+    around: (&G, T),
     out: &mut O,
     err: &mut E,
 ) -> (Served, Option<D>)
@@ -75,6 +76,8 @@ where
     O: Write,
     E: Write,
 {
+    let Env { rt, alloc } = env;
+    let (gate, tables) = around;
     let config = config_of(setup.numbers);
     assert!(rt; 1 <= config.editors && config.editors <= 64);
     assert!(rt; 1 <= config.forwarders && config.forwarders <= 64);
@@ -86,15 +89,23 @@ where
             .expect(rt, "words"),
     };
     serve_live(
-        rt,
-        alloc,
-        disk,
-        words,
-        config,
-        setup.rounds,
-        input,
-        gate,
-        tables,
+        Env { rt, alloc },
+        ServedDevice {
+            disk,
+            words,
+            config,
+        },
+        LiveInput {
+            lines: input,
+            rounds: setup.rounds,
+        },
+        Surroundings {
+            gate,
+            places: Places {
+                tables,
+                devices: NoDevices::new(),
+            },
+        },
         &mut WatchedOutput::new(out),
         &mut WatchedWriter::new(err),
     )
@@ -102,8 +113,7 @@ where
 
 /// Runs a service on a disk, with no place for tables.
 pub(crate) fn run<D, G, R, S, O, E>(
-    rt: &R,
-    alloc: Global,
+    env: Env<'_, R>,
     disk: D,
     setup: &Setup,
     input: S,
@@ -119,7 +129,7 @@ where
     O: Write,
     E: Write,
 {
-    run_at(rt, alloc, disk, setup, input, gate, NoFiles, out, err)
+    run_at(env, disk, setup, input, (gate, NoFiles), out, err)
 }
 
 /// Runs a service on a disk in memory, with all lines at once and no gate.
@@ -132,7 +142,7 @@ pub(crate) fn run_plain<R: Threads + Wait + Abort + Sync, O: Write, E: Write>(
     out: &mut O,
     err: &mut E,
 ) -> (Served, Option<MemDisk>) {
-    run(rt, alloc, disk, setup, input, &OpenGate, out, err)
+    run(Env { rt, alloc }, disk, setup, input, &OpenGate, out, err)
 }
 
 /// Runs a service with all lines at once, sees how it ended and all that is printed and told, and gives the disk back.

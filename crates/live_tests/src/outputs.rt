@@ -2,7 +2,7 @@
 use crate::helpers::{Setup, beginning_of, fresh, got, run, run_plain, same, text_of};
 use command_output::Fault;
 use disk_trait::MemDisk;
-use live_service::Served;
+use live_service::{Env, Served};
 use service_threads::OpenGate;
 use stand_ins::NarrowWriter;
 use std::alloc::Global;
@@ -153,7 +153,13 @@ fn expect_failing<R: Threads + Wait + Abort + Sync>(rt: &R, alloc: Global, calls
     let (mut out, mut err) = (Vec::new(alloc), Vec::new(alloc));
     let disk = fresh(rt, alloc, 5);
     let (served, disk) = run(
-        rt, alloc, disk, &SETUP, input, &OpenGate, &mut out, &mut err,
+        Env { rt, alloc },
+        disk,
+        &SETUP,
+        input,
+        &OpenGate,
+        &mut out,
+        &mut err,
     );
     let wanted = first_lines(rt, alloc, calls);
     let found = (served, text_of(rt, &out), text_of(rt, &err));

@@ -1,7 +1,7 @@
 // Edits beside builds: a burst, one by one, and beside a build that is held.
 use crate::helpers::{Setup, count_lines, fresh, got, run, same, text_of};
 use crate::talk::{Row, Talked, talk_on};
-use live_service::Served;
+use live_service::{Env, Served};
 use service_threads::Gate;
 use stand_ins::comes;
 use std::alloc::Global;
@@ -158,7 +158,15 @@ fn edits_before_the_first_generation(rt: HostRuntime) {
     let mut err = Vec::new(alloc);
     let disk = fresh(&rt, alloc, 1_000);
     let bytes = input.as_bytes();
-    let (served, _disk) = run(&rt, alloc, disk, &setup, bytes, &gate, &mut out, &mut err);
+    let (served, _disk) = run(
+        Env { rt: &rt, alloc },
+        disk,
+        &setup,
+        bytes,
+        &gate,
+        &mut out,
+        &mut err,
+    );
     let end = (served, text_of(&rt, &err));
     same(&rt, end, (Served::Printed, ""), "the end");
     same(

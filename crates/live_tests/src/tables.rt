@@ -7,7 +7,7 @@ use crate::talk::{Row, expect_talk_at};
 use command_output::Fault;
 use disk_trait::Log;
 use graph_edits::{Change, Graph, Op};
-use live_service::Served;
+use live_service::{Env, Served};
 use router_table::RouterTable;
 use scheme_builds::scheme_of;
 use schemes::Scheme;
@@ -336,13 +336,11 @@ fn expect_held<R: Threads + Wait + Abort + Sync>(
     let (mut out, mut err) = (Vec::new(alloc), Vec::new(alloc));
     let disk = fresh(rt, alloc, 5);
     let (served, _disk) = run_at(
-        rt,
-        alloc,
+        Env { rt, alloc },
         disk,
         &setup,
         input,
-        &HeldGate(&signs),
-        tables,
+        (&HeldGate(&signs), tables),
         &mut out,
         &mut err,
     );

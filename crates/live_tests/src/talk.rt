@@ -2,7 +2,7 @@
 use crate::helpers::{Setup, count_lines, got, run_at, same, text_of};
 use crate::places::NoFiles;
 use disk_trait::{Disk, MemDisk};
-use live_service::Served;
+use live_service::{Env, Served};
 use service_threads::OpenGate;
 use std::alloc::{AllocError, Global};
 use std::io::{self, BufReader, Read, Write};
@@ -231,7 +231,13 @@ pub(crate) fn talk_at<
         text: Vec::new(alloc),
     };
     let (served, disk) = run_at(
-        rt, alloc, disk, setup, input, &OpenGate, tables, &mut out, &mut err,
+        Env { rt, alloc },
+        disk,
+        setup,
+        input,
+        (&OpenGate, tables),
+        &mut out,
+        &mut err,
     );
     same(rt, out.waiting.len(), 0, "all is flushed");
     Talked {

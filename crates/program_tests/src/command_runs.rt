@@ -26,7 +26,10 @@ fn paths_that_are_no_device(rt: HostRuntime) {
 fn expect_output_fault<
     'a,
     R: Files<File = File> + AllocGlobal + Abort + Threads + Wait + Sync + TablePlaces<'a>,
->(rt: &'a R, d: &str, line: &str, left: usize, flushes: u64) {
+>(rt: &'a R, d: &str, line: &str, left: usize, flushes: u64)
+where
+    R::Dir: Send,
+{
     let mut out = NarrowWriter::new(rt.alloc(), left, flushes);
     let (status, err) = run_once(rt, d, line, &mut io::empty(), &mut out);
     let want = (1, "tznode: input or output failed\n");
@@ -37,7 +40,10 @@ fn expect_output_fault<
 fn expect_output_faults<
     'a,
     R: Files<File = File> + AllocGlobal + Abort + Threads + Wait + Sync + TablePlaces<'a>,
->(rt: &'a R, d: &str, line: &str, printed: usize) {
+>(rt: &'a R, d: &str, line: &str, printed: usize)
+where
+    R::Dir: Send,
+{
     expect_output_fault(rt, d, line, 0, u64::MAX);
     expect_output_fault(rt, d, line, printed.saturating_sub(1), u64::MAX);
     expect_output_fault(rt, d, line, printed, 0);

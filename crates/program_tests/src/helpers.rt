@@ -103,7 +103,10 @@ pub(crate) fn run_once<
     R: Files<File = File> + AllocGlobal + Abort + Threads + Wait + Sync + TablePlaces<'a>,
     S: Read + Send,
     O: Write,
->(rt: &'a R, d: &str, line: &str, script: &mut S, out: &mut O) -> (u8, Vec<u8>) {
+>(rt: &'a R, d: &str, line: &str, script: &mut S, out: &mut O) -> (u8, Vec<u8>)
+where
+    R::Dir: Send,
+{
     let words = words_of(rt, d, line);
     let mut err = Vec::new(rt.alloc());
     let status = run_words(rt, &words, script, out, &mut err);
@@ -115,7 +118,10 @@ pub(crate) fn expect_answer<
     'a,
     R: Files<File = File> + AllocGlobal + Abort + Threads + Wait + Sync + TablePlaces<'a>,
     S: Read + Send,
->(rt: &'a R, d: &str, line: &str, script: &mut S, want: Answer<'_>) {
+>(rt: &'a R, d: &str, line: &str, script: &mut S, want: Answer<'_>)
+where
+    R::Dir: Send,
+{
     let mut out = Vec::new(rt.alloc());
     let (status, err) = run_once(rt, d, line, script, &mut out);
     let found = (status, text_of(rt, &out), text_of(rt, &err));
@@ -127,7 +133,10 @@ pub(crate) fn expect_answer<
 pub(crate) fn expect_run<
     'a,
     R: Files<File = File> + AllocGlobal + Abort + Threads + Wait + Sync + TablePlaces<'a>,
->(rt: &'a R, d: &str, line: &str, status: u8, text: &str) {
+>(rt: &'a R, d: &str, line: &str, status: u8, text: &str)
+where
+    R::Dir: Send,
+{
     let lines = lines_of(rt, text);
     let lines = text_of(rt, &lines);
     let want = if text.starts_with("tznode: ") {
@@ -142,7 +151,10 @@ pub(crate) fn expect_run<
 pub(crate) fn expect_script<
     'a,
     R: Files<File = File> + AllocGlobal + Abort + Threads + Wait + Sync + TablePlaces<'a>,
->(rt: &'a R, d: &str, script: &str) {
+>(rt: &'a R, d: &str, script: &str)
+where
+    R::Dir: Send,
+{
     for step in script.split('\n') {
         let (line, answer) = got(rt, step.split_once(" -> ").ok_or("no arrow"));
         let (status, text) = got(rt, answer.split_once(' ').ok_or("no status"));

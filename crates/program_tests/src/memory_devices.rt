@@ -5,6 +5,7 @@ use command_output::{Fault, WatchedWriter};
 use commands::{Access, DeviceLog, Devices, Streams, run_on};
 use device_commands::format;
 use disk_trait::MemDisk;
+use new_devices::NoDevices;
 use std::alloc::Global;
 use table_files::{TableFile, TableFiles};
 
@@ -16,7 +17,7 @@ struct MemoryDevices {
 }
 
 impl Devices for MemoryDevices {
-    ghost use Rattle.commands.specs.Events.{events_in};
+    ghost use Rattle.file_commands.specs.Events.{events_in};
 
     type Device = MemDisk;
 
@@ -111,7 +112,15 @@ fn commands_answer_for_the_device_of_their_path(rt: HostRuntime) {
             out: &mut out,
             err: WatchedWriter::new(&mut err),
         };
-        let outcome = run_on(rt, &mut devices, &mut NoFiles, &words, &mut streams);
+        let (mut backups, mut tables) = (NoDevices::new(), NoFiles);
+        let outcome = run_on(
+            rt,
+            &mut devices,
+            &mut backups,
+            &mut tables,
+            &words,
+            &mut streams,
+        );
         drop(streams);
         let found = (outcome.status(), text_of(rt, &out), text_of(rt, &err));
         same(rt, found, (*status, *printed, *told), line);

@@ -21,7 +21,10 @@ fn path_line<R: AllocGlobal + Abort>(rt: &R, from: u16, edges: u16) -> String {
 fn edit_path<
     'a,
     R: Files<File = File> + AllocGlobal + Abort + Threads + Wait + Sync + TablePlaces<'a>,
->(rt: &'a R, d: &str) {
+>(rt: &'a R, d: &str)
+where
+    R::Dir: Send,
+{
     for group in 0..256 {
         let edges = if group == 255 { 15 } else { 16 };
         let line = path_line(rt, group * 16, edges);

@@ -23,7 +23,10 @@ const INPUT: Answer<'static> = (1, "", "tznode: input or output failed\n");
 fn expect_rows<
     'a,
     R: Files<File = File> + AllocGlobal + Abort + Threads + Wait + Sync + TablePlaces<'a>,
->(rt: &'a R, d: &str, rows: &[Row<'_>]) {
+>(rt: &'a R, d: &str, rows: &[Row<'_>])
+where
+    R::Dir: Send,
+{
     for (line, script, answer) in rows {
         let mut script: &[u8] = *script;
         expect_answer(rt, d, line, &mut script, *answer);
@@ -61,7 +64,10 @@ const BROKEN_INPUTS: [Row<'static>; 8] = [
 fn expect_broken<
     'a,
     R: Files<File = File> + AllocGlobal + Abort + Threads + Wait + Sync + TablePlaces<'a>,
->(rt: &'a R, d: &str, rows: &[Row<'_>]) {
+>(rt: &'a R, d: &str, rows: &[Row<'_>])
+where
+    R::Dir: Send,
+{
     for (line, script, answer) in rows {
         let text: &[u8] = *script;
         expect_answer(rt, d, line, &mut text.chain(Broken), *answer);

@@ -155,7 +155,10 @@ fn expect_put<R: Files<File = File> + AllocGlobal + Abort + Threads + Wait + Syn
     words: &str,
     calls: usize,
     want: (u8, &str, usize),
-) {
+)
+where
+    R::Dir: Send,
+{
     let device = device_in(rt, folder);
     let into = path_in(rt, folder, "out");
     let line = got(
@@ -206,7 +209,10 @@ fn expect_tables<R: Files<File = File> + AllocGlobal + Abort>(rt: &R, folder: &s
 fn fill_folder<
     'a,
     R: Files<File = File> + AllocGlobal + Abort + Threads + Wait + Sync + TablePlaces<'a>,
->(rt: &'a R, folder: &str) {
+>(rt: &'a R, folder: &str)
+where
+    R::Dir: Send,
+{
     let device = device_in(rt, folder);
     let made = "edit @ add:0:1:1 add:1:2:1 add:2:3:1 add:3:4:1";
     expect_run(rt, device.as_str(), "format @ 5", 0, "formatted nodes=5");

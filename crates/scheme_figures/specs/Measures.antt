@@ -34,3 +34,9 @@ abbrev pub AreMeasured : Network → Parts → List (ℕ × ℕ) → List Measur
 AreMeasured m p [] [] = Unit {0}
 AreMeasured m p (pair ∷ pairs) (one ∷ all) = IsMeasured m p pair.0 pair.1 one × AreMeasured m p pairs all
 AreMeasured m p pairs all = ⊥
+
+-- what was measured of the pairs that a node sends
+abbrev pub sent_by : ℕ → List (ℕ × ℕ) → List Measured → List Measured
+sent_by node [] all = []
+sent_by node (pair ∷ pairs) [] = []
+sent_by node (pair ∷ pairs) (one ∷ all) = cond (pair.0 == node) (one ∷ sent_by node pairs all) (sent_by node pairs all)

@@ -5,9 +5,11 @@
 //! goes the shortest ways, has [`PORT_LEN`] bytes for each other node: the port that leads there.
 //!
 //! The contract that the layers above use: [`entry_counts`], [`directory_lengths`] and [`table_lengths`] give for each
-//! node exactly what stands in the scheme's tables (`specs/Sizes`), and nothing is copied; [`greatest_size`] is the largest table by its entries and members. [`drawn_pairs`] gives pairs
+//! node exactly what stands in the scheme's tables (`specs/Sizes`), and nothing is copied; [`greatest_size`] is the largest table by its entries and members, [`size_at`]
+//! the sizes of one. [`drawn_pairs`] gives pairs
 //! of two different nodes, each by two words of a seed. [`measure_all`] carries a packet for each pair, and gives the
-//! length of its trail beside the shortest distance, or that no walk leads there (`IsMeasured` of `specs/Measures`).
+//! length of its trail beside the shortest distance, or that no walk leads there (`IsMeasured` of `specs/Measures`); [`sent_by`]
+//! picks what one node sends.
 //! [`stretches_of`] gives the stretch of each pair in ascending order, and counts the exact ones and those that no
 //! packet reaches.
 //!
@@ -25,10 +27,10 @@ mod pairs;
 mod sizes;
 mod stretches;
 
-pub use measures::{Measured, measure, measure_all};
+pub use measures::{Measured, measure, measure_all, sent_by};
 pub use pairs::{MOST_PAIRS, are_pairs, drawn_pairs};
 pub use sizes::{
-    ENTRY_LEN, MEMBER_LEN, PORT_LEN, directory_lengths, entry_counts, full_length, greatest_size,
-    landmark_count, table_lengths,
+    ENTRY_LEN, MEMBER_LEN, PORT_LEN, TableSize, directory_lengths, entry_counts, full_length,
+    greatest_size, landmark_count, size_at, table_lengths,
 };
 pub use stretches::{Stretches, stretches_of};

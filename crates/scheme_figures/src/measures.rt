@@ -1,9 +1,9 @@
 //! Packets that are carried, and how long the shortest ways are.
-ghost use Rattle.std.specs.Prelude.{◌≡◌, ◌<◌, All, IfOk, IfSome, MatchOption, OnOk, ℕ};
+ghost use Rattle.std.specs.Prelude.{◌≡◌, ◌<◌, ◌∷◌, ◌++◌, ◌==◌, [], All, IfOk, IfSome, MatchOption, OnOk, cond, ℕ};
 ghost use Rattle.distances.specs.Workspace.{reached_of};
 ghost use Rattle.schemes.specs.Checks.{IsChecked};
 ghost use Rattle.scheme_figures.specs.Pairs.{IsPairOf};
-ghost use Rattle.scheme_figures.specs.Measures.{AreMeasured, IsMeasured, distance_in};
+ghost use Rattle.scheme_figures.specs.Measures.{AreMeasured, IsMeasured, distance_in, sent_by};
 
 use distances::{Linked, Workspace};
 use graph_edits::Graph;
@@ -81,4 +81,34 @@ pub fn measure_all(
         all.push(measure(alloc, graph, scheme, &mut workspace, pair.0, pair.1)?)?;
     }
     Ok(all)
+}
+
+/// What was measured of the pairs that this node sends, in order.
+pub fn sent_by(
+    alloc: Global,
+    node: u16,
+    pairs: &[(u16, u16)],
+    measured: &[Measured],
+) -> Result<Vec<Measured>, AllocError>
+    ensures { IfOk result (λ sent. sent.items ≡ sent_by node pairs.now measured.now) }
+{
+    let mut sent = Vec::new(alloc);
+    for place in 0..pairs.len().min(measured.len()) {
+        push_sent(&mut sent, node, pairs[place], measured[place])?;
+    }
+    Ok(sent)
+}
+
+fn push_sent(
+    sent: &mut Vec<Measured>,
+    node: u16,
+    pair: (u16, u16),
+    one: Measured,
+) -> Result<(), AllocError>
+    ensures { OnOk result (sent.new.items ≡ sent.old.items ++ cond (pair.0 == node) (one ∷ []) []) }
+{
+    if pair.0 == node {
+        sent.push(one)?;
+    }
+    Ok(())
 }

@@ -15,6 +15,15 @@ pub const MEMBER_LEN: u64 = 8;
 /// How many bytes a port takes.
 pub const PORT_LEN: u64 = 2;
 
+/// How large the table of a node is.
+#[derive(Clone, Copy, Debug, PartialEq, Eq, Drop)]
+pub struct TableSize {
+    pub entries: u32,
+    /// The members of its directory.
+    pub members: u32,
+    pub bytes: u64,
+}
+
 // A length as a size. One past a u32 stays at the greatest, which no memory holds.
 fn size(len: usize) -> u32
     ensures { result ≡ size_of len }
@@ -107,6 +116,19 @@ fn listed_length(listed: &Listed) -> u64
     ensures { result ≡ listed_bytes listed.now }
 {
     MEMBER_LEN + PORT_LEN * listed.label.lights().len() as u64
+}
+
+/// How large the table of a node is. A number past its type stays at the greatest.
+pub fn size_at(scheme: &Scheme, node: u16) -> TableSize
+    ensures entries { result.entries ≡ size_of (length (entries_at scheme.now node)) }
+    ensures members { result.members ≡ size_of (length (directory_at scheme.now node)) }
+    ensures bytes { result.bytes ≡ min (table_bytes scheme.now node) (2 ^ 64 - 1) }
+{
+    TableSize {
+        entries: size(scheme.entries_of(node).len()),
+        members: size(scheme.directory_of(node).len()),
+        bytes: table_length(scheme, node),
+    }
 }
 
 /// How many bytes a full table takes in a network of so many nodes.

@@ -2,7 +2,8 @@
 use checkpoint::Store;
 use command_output::WatchedWriter;
 use disk_trait::{Disk, MemDisk};
-use live_service::serve_on;
+use live_service::{Env, ServedDevice};
+use script_service::serve_on;
 use service_threads::{Gate, OpenGate, ServiceConfig};
 use std::alloc::Global;
 use std::fmt::Debug;
@@ -96,17 +97,12 @@ where
             .expect(rt, "words"),
     };
     let mut faults = WatchedWriter::new(err);
-    serve_on(
-        rt,
-        alloc,
+    let device = ServedDevice {
         disk,
         words,
         config,
-        script,
-        gate,
-        out,
-        &mut faults,
-    )
+    };
+    serve_on(Env { rt, alloc }, device, script, gate, out, &mut faults)
 }
 
 /// Runs a script on a disk in memory, with no gate.

@@ -1,4 +1,3 @@
-pub mod Openings
 pub mod Settling
 pub mod Pace
 pub mod OnWay

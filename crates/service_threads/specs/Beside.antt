@@ -12,10 +12,10 @@ use Rattle.committer.specs.Answers.{StaysPut}
 use Rattle.committer.specs.CommitterWords.{got_of, posts_of, store_of}
 use Rattle.committer.specs.Listed.{IsListedFrom, StaysListedSo}
 use Rattle.service_workers.specs.declared.graphs.GenerationGraph.{GenerationGraph}
+use Rattle.service_workers.specs.declared.stop_cause.StopCause.{StopCause}
 use Rattle.service_workers.specs.declared.stop_cause.StopCause.TheVariants.{Device}
 use Rattle.service_threads.specs.declared.beside.Build.{Build}
 use Rattle.service_threads.specs.declared.committing.Rebuilds.{Rebuilds}
-use Rattle.service_threads.specs.declared.committer_stop.CommitterStop.{CommitterStop}
 use Rattle.service_threads.specs.Kept.{IsOnCourse}
 use Rattle.service_threads.specs.Pace.{IsShown}
 use Rattle.service_threads.specs.Tables.{IsGraphOf}
@@ -56,7 +56,7 @@ abbrev pub DoesGoBeside : {D R : Type 0} {V : _} → Committer D R V → Rebuild
 DoesGoBeside {D} {R} {V} now rebuilds = (first : Committer D R V) × GoesBeside first now rebuilds
 
 -- as the committer and the builds went before, from a beginning on, they go now, where nothing refused it
-abbrev pub GoesOnBeside : {D R T : Type 0} {V : _} → Committer D R V → Committer D R V → Rebuilds → Rebuilds → Result T CommitterStop → Type 0
+abbrev pub GoesOnBeside : {D R T : Type 0} {V : _} → Committer D R V → Committer D R V → Rebuilds → Rebuilds → Result T StopCause → Type 0
 GoesOnBeside {D} {R} {T} {V} old new before after result = (first : Committer D R V) → GoesBeside first old before → OnOk result (GoesBeside first new after)
 
 -- .. and what was taken stays one list, whatever came
@@ -64,7 +64,7 @@ abbrev pub ListsBeside : {D R : Type 0} {V : _} → Committer D R V → Committe
 ListsBeside {D} {R} {V} old new before = (first : Committer D R V) → GoesBeside first old before → StaysListedSo Beside first new
 
 -- What a committer did where nothing was taken or committed.
-pub record OnlyPosts {D R T : Type 0} {V : _} (board : Opening) (old new : Committer D R V) (result : Result T CommitterStop) : Type 0 where
+pub record OnlyPosts {D R T : Type 0} {V : _} (board : Opening) (old new : Committer D R V) (result : Result T StopCause) : Type 0 where
   pub opening : OnOk result ((posts_of new).opening ≡ board)
   pub stays : StaysPut old new
-  pub not_device : IfErr result (λ stop. stop.cause ≢ Device)
+  pub not_device : IfErr result (λ cause. cause ≢ Device)

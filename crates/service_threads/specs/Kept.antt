@@ -1,7 +1,7 @@
 -- What a service leaves on its device, whatever ends it.
 use Rattle.std.specs.Prelude.{◌≡◌, ◌≢◌, ◌++◌, ◌⊎◌, ◌<◌, ◌≤◌, ℕ, List, [], length, take, IfErr, IfSome, IsErrOf, IsTrue, OnOk, Option, Result, false}
 use Rattle.disk_trait.specs.declared.disk.Disk.{Ghosts}
-use Rattle.disk_trait.specs.Disk.{DiskView, IsSameDevice, LeavesOnly, OnlyRead}
+use Rattle.disk_trait.specs.Disk.{DiskView, IsSameDevice, LeavesOnly}
 use Rattle.requests.specs.declared.request.Request.{Request}
 use Rattle.layout_2.specs.State.{State}
 use Rattle.layout_2.specs.Standing.{KeepsThrough, StandsFor}
@@ -9,8 +9,6 @@ use Rattle.checkpoint.specs.declared.store.Store.{Store}
 use Rattle.checkpoint.specs.StoreWords.{state_of, view_of, is_down}
 use Rattle.generations.specs.Beginnings.{Opening}
 use Rattle.group_commit.specs.Settling.{settle}
-use Rattle.written_values.specs.Words.{IsWithin}
-use Rattle.written_values.specs.declared.words.LandmarkWords.{LandmarkWords}
 use Rattle.committer.specs.declared.committer.Committer.{Committer}
 use Rattle.service_workers.specs.declared.stop_cause.StopCause.{StopCause}
 use Rattle.service_workers.specs.declared.stop_cause.StopCause.TheVariants.{Device}
@@ -20,10 +18,6 @@ use Rattle.intake.specs.Turns.{AreOfEditors}
 use Rattle.committer.specs.CommitterWords.{store_of, held_of, taker_of, queue_of, got_of, posts_of, taken, settled}
 use Rattle.committer.specs.Answers.{StaysPut}
 use Rattle.committer.specs.Listed.{IsListedFrom, StaysListed, StaysListedSo}
-use Rattle.service_threads.specs.declared.committer_stop.CommitterStop.{CommitterStop}
-use Rattle.service_threads.specs.declared.fault.Fault.{Fault}
-use Rattle.service_threads.specs.declared.fault.Fault.TheVariants as told
-use Rattle.service_threads.specs.Faults.{TellsOf}
 
 -- the image stands for the state after a beginning of these requests, settled from a state on
 abbrev pub StandsForBeginning : State → List Request → List ℕ → Type 0
@@ -68,17 +62,6 @@ PostsAlong builds old new = (first : State) → IsListedFrom builds first old �
 abbrev pub HasFailed : DiskView → DiskView → Type 0
 HasFailed old new = old.failures < new.failures
 
--- A service's device was refused: a fault tells why, and the device, which was only read, comes back.
-pub record IsRefusedFor (asked : LandmarkWords) (disk left : DiskView) (fault : Fault) : Type 0 where
-  pub tells : IsTrue disk.keeps_model → TellsOf fault disk.content
-  -- the landmark words don't fit the nodes of the state for which the device stands
-  pub words : IsTrue disk.keeps_model → (state : State) → StandsFor state disk.content → fault ≡ told.Words → ¬ IsWithin asked state.graph.nodes
-  -- where it doesn't keep the model, they don't fit those of a state
-  pub of_one : fault ≡ told.Words → (state : State) × ¬ IsWithin asked state.graph.nodes
-  pub device : fault ≡ told.Device → HasFailed disk left
-  pub reads : IsTrue disk.keeps_model → OnlyRead disk left
-  pub ran : IsSameDevice disk left
-
 -- what a committer settled of what it took, from its beginning on
 abbrev pub HasSettledFrom : {D R : Type 0} {V : _} → Committer D R V → Committer D R V → Type 0
 HasSettledFrom first now = HasSettled (state_of (store_of first)) (got_of now) (view_of (store_of first)) (view_of (store_of now))
@@ -88,11 +71,11 @@ abbrev pub HasLostDevice : {D R : Type 0} {V : _} → Committer D R V → Commit
 HasLostDevice old new = HasFailed (view_of (store_of old)) (view_of (store_of new))
 
 -- A generation was built and posted on this board, or that was refused: nothing was taken or committed.
-pub record OnlyRebuilds {D R T : Type 0} {V : _} (board : Opening) (old new : Committer D R V) (result : Result T CommitterStop) : Type 0 where
+pub record OnlyRebuilds {D R T : Type 0} {V : _} (board : Opening) (old new : Committer D R V) (result : Result T StopCause) : Type 0 where
   pub opening : OnOk result ((posts_of new).opening ≡ board)
   pub stays : StaysPut old new
   pub listed : StaysListed old new
-  pub not_device : IfErr result (λ stop. stop.cause ≢ Device)
+  pub not_device : IfErr result (λ cause. cause ≢ Device)
 
 -- a committer at its beginning
 pub record IsFresh {D R : Type 0} {V : _} (c : Committer D R V) : Type 0 where

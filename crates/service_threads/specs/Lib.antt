@@ -1,5 +1,5 @@
 pub mod Config
-pub mod Faults
+pub mod Causes
 pub mod Kept
 pub mod Pace
 pub mod Tables

@@ -10,12 +10,14 @@ ghost use Rattle.service_threads.specs.Kept.{HasLostDevice, HasSettledFrom, HasT
 ghost use Rattle.service_threads.specs.Pace.{IsShown, IsUpToDate};
 ghost use Rattle.service_threads.specs.Tables.{IsBuiltOf, IsGraphOf};
 
-use crate::committer_stop::CommitterStop;
+use crate::backing::back_up;
+use crate::causes::cause_of_rebuild;
 use crate::committing::{Rebuilds, next_graph, stand_of, told_round};
 use arrayvec::ArrayVec;
 use committer::{Committer, Round};
 use disk_trait::Disk;
 use generations::MOST_SHELVED;
+use new_devices::NewDevices;
 use packet_ways::BoardName;
 use scheme_builds::{scheme_of_in_turns, workers_here};
 use schemes::Scheme;
@@ -118,17 +120,15 @@ fn begin<
     committer: &Committer<D, R>,
     source: &mut WordSource,
     outgoing: Option<Arc<Scheme, Global>>,
-) -> Result<Build, CommitterStop>
+) -> Result<Build, StopCause>
     ensures of_state { IfOk result (λ build. IsGraphOf (state_of (store_of committer.now)) (graph_of build)) }
-    ensures not_device { IfErr result (λ stop. stop.cause ≢ StopCause.Device) }
+    ensures not_device { IfErr result (λ cause. cause ≢ StopCause.Device) }
 {
     let (rt, alloc, coordinator, gate) = (site.rt, site.alloc, site.coordinator, site.gate);
     let graph = next_graph(alloc, committer)?;
     let words = next_words(alloc, source, committer.store().nodes())?;
     let Ok(shared) = Arc::try_clone(&graph) else {
-        return Err(CommitterStop {
-            cause: StopCause::Memory,
-        });
+        return Err(StopCause::Memory);
     };
     let promise = BuildPromise {
         of: Snapshot::of(&shared),
@@ -144,9 +144,7 @@ fn begin<
     };
     match scope.spawn_with(promise, job) {
         Ok(thread) => Ok(Build { graph, thread }),
-        Err(_) => Err(CommitterStop {
-            cause: StopCause::NoThread,
-        }),
+        Err(_) => Err(StopCause::NoThread),
     }
 }
 
@@ -158,7 +156,7 @@ fn post<J: BoardName, D: Disk, G: Gate, R: Wait + Drop, S: Threads + Wait>(
     shelf: &mut Shelf,
     newest: Option<u64>,
     build: Build,
-) -> Result<u64, CommitterStop>
+) -> Result<u64, StopCause>
     requires opening { (posts_of committer.old).opening ≡ J.opening }
     requires up { is_down (store_of committer.old) ≡ false }
     requires held { held_of committer.old ≡ [] }
@@ -175,8 +173,14 @@ fn post<J: BoardName, D: Disk, G: Gate, R: Wait + Drop, S: Threads + Wait>(
     shelf.put(Arc::try_clone(&scheme)?);
     let number = scheme.parts().generation;
     coordinator.show(rt, graph);
-    committer.announce_earlier(number, scheme)?;
-    committer.refresh()?;
+    match committer.announce_earlier(number, scheme) {
+        Ok(_) => {}
+        Err(refused) => return Err(cause_of_rebuild(refused)),
+    }
+    match committer.refresh() {
+        Ok(()) => {}
+        Err(refused) => return Err(cause_of_rebuild(refused)),
+    }
     coordinator.tell(rt, stand_of::<J, D, R>(committer, Some(number)), 0);
     Ok(number)
 }
@@ -203,7 +207,7 @@ impl Rebuilds {
         site: &Site<J, G, S>,
         committer: &mut Committer<D, R>,
         built: bool,
-    ) -> Result<(), CommitterStop>
+    ) -> Result<(), StopCause>
         requires opening { (posts_of committer.old).opening ≡ J.opening }
         requires goes { DoesGoBeside committer.old self.old }
         ensures only { OnlyPosts J.opening committer.old committer.new result }
@@ -236,11 +240,11 @@ impl Rebuilds {
         site: &Site<'s, J, G, S>,
         committer: &Committer<D, R>,
         taken: usize,
-    ) -> Result<(), CommitterStop>
+    ) -> Result<(), StopCause>
         requires goes { DoesGoBeside committer.now self.old }
         ensures goes { GoesOnBeside committer.now committer.now self.old self.new result }
         ensures listed { ListsBeside committer.now committer.now self.old }
-        ensures not_device { IfErr result (λ stop. stop.cause ≢ StopCause.Device) }
+        ensures not_device { IfErr result (λ cause. cause ≢ StopCause.Device) }
         // Where nothing was taken and none goes on, the newest generation has all that is accepted.
         ensures up_to_date { OnOk result (taken ≡ 0 → self.new.building ≡ None → IsUpToDate committer.now) }
     {
@@ -277,9 +281,9 @@ impl Rebuilds {
         self.building = None;
         match self.begin_due(scope, site, committer, 0) {
             Ok(()) => Ok(()),
-            Err(stop) => {
-                site.coordinator.stop(site.rt, stop.cause);
-                Err(stop.cause)
+            Err(cause) => {
+                site.coordinator.stop(site.rt, cause);
+                Err(cause)
             }
         }
     }
@@ -301,7 +305,7 @@ fn turn_beside<
     committer: &mut Committer<D, R>,
     rebuilds: &mut Rebuilds,
     built: bool,
-) -> Result<Round, CommitterStop>
+) -> Result<Round, StopCause>
     requires opening { (posts_of committer.old).opening ≡ J.opening }
     requires goes { DoesGoBeside committer.old rebuilds.old }
     ensures opening { OnOk result ((posts_of committer.new).opening ≡ J.opening) }
@@ -310,7 +314,7 @@ fn turn_beside<
     ensures turned { HasTurned committer.old committer.new }
     ensures queue { KeepsQueue committer.old committer.new }
     ensures up_to_date { IfOk result (λ round. round.taken ≡ 0 → rebuilds.new.building ≡ None → IsUpToDate committer.new) }
-    ensures device { IfErr result (λ stop. stop.cause ≡ StopCause.Device → HasLostDevice committer.old committer.new) }
+    ensures device { IfErr result (λ cause. cause ≡ StopCause.Device → HasLostDevice committer.old committer.new) }
 {
     let (rt, alloc, coordinator) = (site.rt, site.alloc, site.coordinator);
     rebuilds.post_built(site, committer, built)?;
@@ -329,12 +333,14 @@ pub fn commit_beside<
     D: Disk,
     G: Gate + Sync,
     R: Wait + Drop,
+    F: NewDevices,
     S: Threads + Wait + Sync,
 >(
     scope: &Scope<'s, E>,
     site: &Site<'s, J, G, S>,
     committer: &mut Committer<D, R>,
     rebuilds: &mut Rebuilds,
+    devices: &mut F,
 ) -> Result<bool, StopCause>
     requires opening { (posts_of committer.old).opening ≡ J.opening }
     requires fresh { IsFresh committer.old }
@@ -353,7 +359,7 @@ pub fn commit_beside<
     // Where all editors have left, the newest generation is that of the state after the whole list.
     ensures up_to_date { IfOk result (λ left. IsTrue left → IsUpToDate committer.new) }
 {
-    let (rt, coordinator) = (site.rt, site.coordinator);
+    let (rt, alloc, coordinator) = (site.rt, site.alloc, site.coordinator);
     rebuilds.begin_first(scope, site, committer)?;
     for _ in rt.forever() {
         // What there is to do is read before the round, so that nothing is missed that comes behind it.
@@ -362,14 +368,15 @@ pub fn commit_beside<
             rebuilds.leave(rt);
             return Ok(false);
         }
+        back_up(rt, alloc, coordinator, committer, rebuilds.newest, devices);
         match turn_beside(scope, site, committer, rebuilds, work.built) {
             Ok(round) if round.taken > 0 => {}
             Ok(_) if work.editing == 0 && rebuilds.building.is_none() => return Ok(true),
             Ok(_) => coordinator.await_work(rt, work.asked),
-            Err(stop) => {
-                coordinator.stop(rt, stop.cause);
+            Err(cause) => {
+                coordinator.stop(rt, cause);
                 rebuilds.leave(rt);
-                return Err(stop.cause);
+                return Err(cause);
             }
         }
     }

@@ -11,12 +11,14 @@ ghost use Rattle.service_threads.specs.Pace.{IsBegun, IsDue, IsShown, IsUpToDate
 ghost use Rattle.service_threads.specs.Kept.{HasLostDevice, HasSettledAll, HasSettledFrom, HasTurned, IsFresh, IsOnCourse, KeepsQueue, OnlyRebuilds, PostsAlong};
 ghost use Rattle.service_threads.specs.Tables.{IsGraphOf};
 
+use crate::backing::back_up;
 use crate::beside::{Build, Shelf};
-use crate::committer_stop::CommitterStop;
+use crate::causes::{cause_of_rebuild, cause_of_round};
 use committer::{Committer, Round};
 use disk_trait::Disk;
 use graph_edits::Graph;
 use linked_list_allocator::LocalHeap;
+use new_devices::NewDevices;
 use packet_ways::BoardName;
 use scheme_builds::{SCRATCH_LEN, scheme_of_in_threads, workers_here};
 use schemes::Scheme;
@@ -96,7 +98,7 @@ impl Rebuilds {
         rt: &S,
         alloc: Global,
         committer: &mut Committer<D, R>,
-    ) -> Result<(), CommitterStop>
+    ) -> Result<(), StopCause>
         requires opening { (posts_of committer.old).opening ≡ J.opening }
         requires up { is_down (store_of committer.old) ≡ false }
         ensures only { OnlyRebuilds J.opening committer.old committer.new result }
@@ -126,22 +128,30 @@ fn rebuild_by<D: Disk, R: Wait + Drop, S: Threads + Wait + Sync>(
     committer: &mut Committer<D, R>,
     words: &[u64],
     heap: &LocalHeap,
-) -> Result<(), CommitterStop>
+) -> Result<(), StopCause>
     requires up { is_down (store_of committer.old) ≡ false }
     ensures only { OnlyRebuilds (posts_of committer.old).opening committer.old committer.new result }
     ensures shown { OnOk result (IsUpToDate committer.new) }
 {
     let workers = workers_here(rt, committer.store().nodes());
     if workers < 2 {
-        committer.rebuild(alloc, words, heap)?;
-        return Ok(());
+        return match committer.rebuild(alloc, words, heap) {
+            Ok(_) => Ok(()),
+            Err(refused) => Err(cause_of_rebuild(refused)),
+        };
     }
-    let Some(number) = committer.generation_due()? else {
+    let due = match committer.generation_due() {
+        Ok(due) => due,
+        Err(refused) => return Err(cause_of_rebuild(refused)),
+    };
+    let Some(number) = due else {
         return Ok(());
     };
     let scheme = shared_scheme(rt, alloc, committer.store().graph(), words, number, workers)?;
-    committer.announce(number, scheme)?;
-    Ok(())
+    match committer.announce(number, scheme) {
+        Ok(_) => Ok(()),
+        Err(refused) => Err(cause_of_rebuild(refused)),
+    }
 }
 
 // A scheme of the graph by landmark words, built by so many workers, to be shared.
@@ -164,9 +174,9 @@ fn shared_scheme<S: Threads + Wait + Sync>(
 pub(crate) fn next_graph<D: Disk, R: Wait + Drop>(
     alloc: Global,
     committer: &Committer<D, R>,
-) -> Result<Arc<GenerationGraph, Global>, CommitterStop>
+) -> Result<Arc<GenerationGraph, Global>, StopCause>
     ensures of_state { IfOk result (λ graph. IsGraphOf (state_of (store_of committer.now)) (arc_value graph)) }
-    ensures not_device { IfErr result (λ stop. stop.cause ≢ StopCause.Device) }
+    ensures not_device { IfErr result (λ cause. cause ≢ StopCause.Device) }
 {
     let store = committer.store();
     Ok(shared_graph(alloc, store.count(), store.graph())?)
@@ -179,6 +189,7 @@ pub(crate) fn stand_of<J: BoardName, D: Disk, R: Wait + Drop>(
 ) -> Stand<J>
     requires opening { (posts_of committer.now).opening ≡ J.opening }
     requires shown { IsShown generation committer.now }
+    ensures count { result.count ≡ (state_of (store_of committer.now)).count }
 {
     Stand {
         told: ToldOf::new(committer.told()),
@@ -194,7 +205,7 @@ pub(crate) fn told_round<J: BoardName, D: Disk, R: Wait + Drop, S: Wait>(
     coordinator: &Coordinator<J>,
     committer: &mut Committer<D, R>,
     newest: Option<u64>,
-) -> Result<Round, CommitterStop>
+) -> Result<Round, StopCause>
     requires opening { (posts_of committer.old).opening ≡ J.opening }
     requires up { is_down (store_of committer.old) ≡ false }
     requires shown { IsShown newest committer.old }
@@ -204,9 +215,12 @@ pub(crate) fn told_round<J: BoardName, D: Disk, R: Wait + Drop, S: Wait>(
     ensures queue { KeepsQueue committer.old committer.new }
     ensures settled { OnOk result (HasSettledAll committer.old committer.new) }
     ensures listed { StaysListed committer.old committer.new }
-    ensures device { IfErr result (λ stop. stop.cause ≡ StopCause.Device → HasLostDevice committer.old committer.new) }
+    ensures device { IfErr result (λ cause. cause ≡ StopCause.Device → HasLostDevice committer.old committer.new) }
 {
-    let round = committer.round(alloc, rt)?;
+    let round = match committer.round(alloc, rt) {
+        Ok(round) => round,
+        Err(refused) => return Err(cause_of_round(refused)),
+    };
     if round.taken > 0 {
         coordinator.tell(rt, stand_of::<J, D, R>(committer, newest), round.taken);
     }
@@ -222,7 +236,7 @@ fn turn<J: BoardName, D: Disk, R: Wait + Drop, S: Threads + Wait + Sync>(
     coordinator: &Coordinator<J>,
     committer: &mut Committer<D, R>,
     rebuilds: &mut Rebuilds,
-) -> Result<Round, CommitterStop>
+) -> Result<Round, StopCause>
     requires opening { (posts_of committer.old).opening ≡ J.opening }
     requires up { is_down (store_of committer.old) ≡ false }
     requires shown { IsShown rebuilds.old.newest committer.old }
@@ -234,7 +248,7 @@ fn turn<J: BoardName, D: Disk, R: Wait + Drop, S: Threads + Wait + Sync>(
     ensures queue { KeepsQueue committer.old committer.new }
     ensures settled { OnOk result (HasSettledAll committer.old committer.new) }
     ensures listed { StaysListed committer.old committer.new }
-    ensures device { IfErr result (λ stop. stop.cause ≡ StopCause.Device → HasLostDevice committer.old committer.new) }
+    ensures device { IfErr result (λ cause. cause ≡ StopCause.Device → HasLostDevice committer.old committer.new) }
 {
     let round = told_round::<J, D, R, S>(rt, alloc, coordinator, committer, rebuilds.newest)?;
     if rebuilds.is_due(round.taken, committer.store().count()) {
@@ -246,14 +260,15 @@ fn turn<J: BoardName, D: Disk, R: Wait + Drop, S: Threads + Wait + Sync>(
 }
 
 /// Commits what editors submit, until all of them have left, or all stop: which of the two it was. An `Err` is why the committer itself
-/// stopped.
+/// stopped. The backups that are asked for are made between two rounds, at this place.
 #[tactic(auto, using(crate::proofs::Settling::in_turn_first, crate::proofs::Settling::in_turn_settles, crate::proofs::Settling::queue_first))]
-pub fn commit_all<J: BoardName, D: Disk, R: Wait + Drop, S: Threads + Wait + Sync>(
+pub fn commit_all<J: BoardName, D: Disk, R: Wait + Drop, F: NewDevices, S: Threads + Wait + Sync>(
     rt: &S,
     alloc: Global,
     coordinator: &Coordinator<J>,
     committer: &mut Committer<D, R>,
     rebuilds: &mut Rebuilds,
+    devices: &mut F,
 ) -> Result<bool, StopCause>
     requires opening { (posts_of committer.old).opening ≡ J.opening }
     requires fresh { IsFresh committer.old }
@@ -281,13 +296,14 @@ pub fn commit_all<J: BoardName, D: Disk, R: Wait + Drop, S: Threads + Wait + Syn
         if work.stopped {
             return Ok(false);
         }
+        back_up(rt, alloc, coordinator, committer, rebuilds.newest, devices);
         match turn::<J, D, R, S>(rt, alloc, coordinator, committer, rebuilds) {
             Ok(round) if round.taken > 0 => {}
             Ok(_) if work.editing == 0 => return Ok(true),
             Ok(_) => coordinator.await_work(rt, work.asked),
-            Err(stop) => {
-                coordinator.stop(rt, stop.cause);
-                return Err(stop.cause);
+            Err(cause) => {
+                coordinator.stop(rt, cause);
+                return Err(cause);
             }
         }
     }
@@ -301,7 +317,7 @@ fn first_generation<J: BoardName, D: Disk, R: Wait + Drop, S: Threads + Wait + S
     committer: &mut Committer<D, R>,
     rebuilds: &mut Rebuilds,
     editing: usize,
-) -> Result<Coordinator<J>, CommitterStop>
+) -> Result<Coordinator<J>, StopCause>
     requires opening { (posts_of committer.old).opening ≡ J.opening }
     requires up { is_down (store_of committer.old) ≡ false }
     ensures only { OnlyRebuilds J.opening committer.old committer.new result }
@@ -323,7 +339,7 @@ pub fn begun<J: BoardName, D: Disk, R: Wait + Drop, S: Threads + Wait + Sync>(
     committer: &mut Committer<D, R>,
     rebuilds: &mut Rebuilds,
     editing: usize,
-) -> Result<Coordinator<J>, CommitterStop>
+) -> Result<Coordinator<J>, StopCause>
     requires opening { (posts_of committer.old).opening ≡ J.opening }
     requires up { is_down (store_of committer.old) ≡ false }
     requires bare { IsShown None committer.old }

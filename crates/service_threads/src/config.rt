@@ -1,7 +1,4 @@
-// How many threads a service has, and how much stack.
-/// How many bytes of stack the thread has that commits and builds.
-pub const STACK_LEN: usize = 67_108_864;
-
+// How many threads a service has.
 /// How many editors and forwarders there are, and places in the queue: 1 to 64 of each.
 #[derive(Clone, Copy, Debug, PartialEq, Eq, Drop)]
 pub struct ServiceConfig {

@@ -1,10 +1,12 @@
-//! The committer's thread of a service, and how a service's device is opened.
+//! The committer's thread of a service.
 //!
 //! # What it is
 //!
 //! [`commit_all`] takes what editors submit, in rounds, until all of them have left or all stop. A generation of routing schemes is
 //! built at the start ([`begun`]), and behind rounds that accepted something, as [`Rebuilds`] is told. [`commit_beside`] does so
 //! too, but builds all of them beside the rounds, one at a time, of the graph as it is when the build begins.
+//!
+//! Between two rounds the store is written to a new device where somebody asks for that (`backed_up` of [`new_devices`]).
 //!
 //! Editors wait for the committer, and the committer for editors, at one [`std::sync::Mutex`] with two conditions.
 //!
@@ -22,24 +24,19 @@
 //! contracts of threads can't say is in docs/DECISIONS-SERVICE.md.
 //!
 //! ```text
-//! let (store, source) = open_device(alloc, disk, &words)?;
 //! let mut rebuilds = Rebuilds::new(alloc, source, 1, Builds::InTurn)?;
 //! let coordinator = begun(rt, alloc, &mut committer, &mut rebuilds, editing)?;
-//! commit_all(rt, alloc, &coordinator, &mut committer, &mut rebuilds)?;
+//! commit_all(rt, alloc, &coordinator, &mut committer, &mut rebuilds, &mut devices)?;
 //! ```
 #![tactic(auto)]
 
+mod backing;
 mod beside;
-mod committer_stop;
+mod causes;
 mod committing;
 mod config;
-mod fault;
-mod opening;
 
 pub use beside::{Site, commit_beside};
-pub use committer_stop::CommitterStop;
 pub use committing::{Rebuilds, begun, commit_all};
-pub use config::{STACK_LEN, ServiceConfig};
-pub use fault::Fault;
-pub use opening::open_device;
+pub use config::ServiceConfig;
 pub use service_workers::{Gate, OpenGate};

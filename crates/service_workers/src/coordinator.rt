@@ -2,6 +2,7 @@
 use crate::graphs::{GenerationGraph, Graphs};
 use crate::stand::{Shown, Stand};
 use crate::stop_cause::StopCause;
+use new_devices::BackupRefused;
 use packet_ways::BoardName;
 use std::alloc::Global;
 use std::sync::{Arc, Condvar, Mutex, Wait};
@@ -15,9 +16,9 @@ struct SharedState<J: BoardName> {
     graphs: Graphs,
     // How often the committer told something.
     turn: u64,
-    // How often an editor submitted a change or left, or a build ended.
+    // How often an editor submitted a change or left, a backup was asked for, or a build ended.
     asked: u64,
-    // How many editors are at work.
+    // How many are at work that leave: editors, and the one who asks for backups.
     editing: usize,
     // Whether a build has ended that the committer hasn't heard of.
     built: bool,
@@ -29,6 +30,16 @@ struct SharedState<J: BoardName> {
     // How many changes were submitted and taken.
     submitted: u64,
     taken: u64,
+    // The path of a backup that is asked for, until the committer takes it, and what came of that, until it is told.
+    backup: Option<String>,
+    backed: Option<Backed<J>>,
+}
+
+/// What came of a backup, and how the board stood when it was made.
+#[derive(Drop)]
+pub struct Backed<J: BoardName> {
+    pub stand: Stand<J>,
+    pub end: Result<(), BackupRefused>,
 }
 
 /// How a service stands, as far as its threads have told.
@@ -150,6 +161,23 @@ impl<J: BoardName> SharedState<J> {
         }
     }
 
+    fn ask_backup(&mut self, path: String) {
+        self.backup = Some(path);
+        self.ask();
+    }
+
+    fn take_backup(&mut self) -> Option<String> {
+        self.backup.take()
+    }
+
+    fn tell_backup(&mut self, backed: Backed<J>) {
+        self.backed = Some(backed);
+    }
+
+    fn take_backed(&mut self) -> Option<Backed<J>> {
+        self.backed.take()
+    }
+
     fn leave(&mut self) {
         self.editing = self.editing.saturating_sub(1);
         self.ask();
@@ -157,7 +185,7 @@ impl<J: BoardName> SharedState<J> {
 }
 
 impl<J: BoardName> Coordinator<J> {
-    /// A coordinator of so many editors, to which this was told.
+    /// A coordinator of so many who leave, to which this was told.
     pub fn new(stand: Stand<J>, graphs: Graphs, editing: usize) -> Coordinator<J> {
         Coordinator {
             shared: Mutex::new(SharedState {
@@ -172,6 +200,8 @@ impl<J: BoardName> Coordinator<J> {
                 seen: 0,
                 submitted: 0,
                 taken: 0,
+                backup: None,
+                backed: None,
             }),
             news: Condvar::new(),
             work: Condvar::new(),
@@ -226,7 +256,30 @@ impl<J: BoardName> Coordinator<J> {
         self.work.notify_all();
     }
 
-    /// An editor is done.
+    /// Asks for a backup by this path, and sleeps until it is told what came of it. One thread asks. None where all stop.
+    pub fn ask_backup<R: Wait>(&self, rt: &R, path: String) -> Option<Backed<J>> {
+        self.shared.lock(rt).ask_backup(path);
+        self.work.notify_all();
+        let mut shared = self.news.wait_while(
+            rt,
+            self.shared.lock(rt),
+            |shared| shared.backed.is_none() && shared.cause.is_none(),
+        );
+        shared.take_backed()
+    }
+
+    /// The path of the backup that is asked for, where one is.
+    pub fn asked_backup<R: Wait>(&self, rt: &R) -> Option<String> {
+        self.shared.lock(rt).take_backup()
+    }
+
+    /// Tells what came of the backup that was asked for.
+    pub fn tell_backup<R: Wait>(&self, rt: &R, backed: Backed<J>) {
+        self.shared.lock(rt).tell_backup(backed);
+        self.news.notify_all();
+    }
+
+    /// An editor is done, or the one who asks for backups.
     pub fn leave<R: Wait>(&self, rt: &R) {
         self.shared.lock(rt).leave();
         self.work.notify_all();
@@ -265,7 +318,7 @@ impl<J: BoardName> Coordinator<J> {
         self.shared.lock(rt).work()
     }
 
-    /// Sleeps until an editor submitted something or left since then, a build ended, or all stop.
+    /// Sleeps until an editor submitted something or left since then, a backup was asked for, a build ended, or all stop.
     pub fn await_work<R: Wait>(&self, rt: &R, asked: u64) {
         let _shared = self.work.wait_while(
             rt,

@@ -28,7 +28,7 @@ mod stop_cause;
 mod told;
 mod word_source;
 
-pub use coordinator::{Coordinator, News, Standing, Work};
+pub use coordinator::{Backed, Coordinator, News, Standing, Work};
 pub use forwarding::ForwarderOf;
 pub use gate::{Gate, OpenGate};
 pub use graphs::{GenerationGraph, Graphs, shared_graph};

@@ -10,6 +10,7 @@ use std::alloc::{AllocError, Global};
 use std::fmt::Debug;
 use std::process::Abort;
 
+mod backups;
 mod commits;
 mod damage;
 mod formats;

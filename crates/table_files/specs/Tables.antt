@@ -116,15 +116,15 @@ EndsPutting p folder named put fault = HasPutSome p folder (asked_nodes named p.
 -- ---- a command that puts tables, of a scheme
 
 -- so ends one that puts the tables of these nodes
-abbrev pub EndsPutAll : {W : Type 0} → Parts → ℕ → List ℕ → List ℕ → (List Put → Type 0)
+abbrev pub EndsPutAll : {W : Type 0} → Parts → List ℕ → List ℕ → (List Put → Type 0)
     → (W → Known) → W → W → Result Ended Fault → Type 0
-EndsPutAll p generation folder nodes put contents old new result =
-    Ends (λ ended before after. HasPutAll p generation folder nodes put ended before after)
+EndsPutAll p folder nodes put contents old new result =
+    Ends (λ ended before after. HasPutAll p p.generation folder nodes put ended before after)
     (λ fault. HasPutSome p folder nodes put fault) contents old new result
 
 -- and one that puts those of the nodes that are asked for
-abbrev pub EndsPutAsked : {W : Type 0} → Parts → ℕ → List ℕ → List ℕ → (List Put → Type 0)
+abbrev pub EndsPutAsked : {W : Type 0} → Parts → List ℕ → List ℕ → (List Put → Type 0)
     → (W → Known) → W → W → Result Ended Fault → Type 0
-EndsPutAsked p generation folder named put contents old new result =
-    Ends (λ ended before after. AnswersTables p generation folder named put ended before after)
+EndsPutAsked p folder named put contents old new result =
+    Ends (λ ended before after. AnswersTables p p.generation folder named put ended before after)
     (λ fault. EndsPutting p folder named put fault) contents old new result

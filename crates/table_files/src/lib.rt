@@ -15,7 +15,7 @@
 //!
 //! ```text
 //! let mut tables = SystemTables::new(rt);
-//! put_asked(alloc, &mut tables, generation, &scheme, "out", &[4, 2], &mut out)?;   // out/4.table, out/2.table
+//! put_asked(alloc, &mut tables, &scheme, "out", &[4, 2], &mut out)?;   // out/4.table, out/2.table
 //! ```
 #![tactic(auto)]
 

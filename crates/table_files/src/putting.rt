@@ -131,21 +131,20 @@ fn print_absent<O: Write>(out: &mut O) -> Result<Ended, Fault>
 fn put_all<T: TableFiles, O: Write>(
     alloc: Global,
     tables: &mut T,
-    generation: u64,
     scheme: &Scheme,
     folder: &str,
     nodes: &[u16],
     out: &mut O,
 ) -> Result<Ended, Fault>
     requires { AreThere scheme.now.nodes nodes.now }
-    ensures { EndsPutAll scheme.now generation folder.now nodes.now (PutBy T.puts tables.old tables.new)
+    ensures { EndsPutAll scheme.now folder.now nodes.now (PutBy T.puts tables.old tables.new)
         O.contents out.old out.new result }
 {
     let totals = put_tables(alloc, tables, scheme, folder, nodes)?;
     print_line(
         out,
         TablesLine {
-            generation,
+            generation: scheme.parts().generation,
             tables: totals.tables,
             bytes: totals.bytes,
             greatest: totals.greatest,
@@ -159,13 +158,12 @@ fn put_all<T: TableFiles, O: Write>(
 pub fn put_asked<T: TableFiles, O: Write>(
     alloc: Global,
     tables: &mut T,
-    generation: u64,
     scheme: &Scheme,
     folder: &str,
     named: &[u16],
     out: &mut O,
 ) -> Result<Ended, Fault>
-    ensures { EndsPutAsked scheme.now generation folder.now named.now (PutBy T.puts tables.old tables.new)
+    ensures { EndsPutAsked scheme.now folder.now named.now (PutBy T.puts tables.old tables.new)
         O.contents out.old out.new result }
 {
     let count = scheme.parts().nodes;
@@ -173,5 +171,5 @@ pub fn put_asked<T: TableFiles, O: Write>(
         return print_absent(out);
     }
     let nodes = nodes_asked(alloc, named, count)?;
-    put_all(alloc, tables, generation, scheme, folder, &nodes, out)
+    put_all(alloc, tables, scheme, folder, &nodes, out)
 }

@@ -1,30 +1,29 @@
 use Rattle.std.proofs.Common.{◌≡◌, ◌∙◌, ℕ, ap, refl, sym, subst, Option, Some, None}
 use Rattle.command_line.specs.declared.task.Task.{Task}
 use Rattle.command_line.specs.declared.task.Task.TheVariants.{Serve}
-use Rattle.commands.specs.Endings.{EndsServe, MayEnd}
-use Rattle.commands.specs.Events.{HasDone}
-use Rattle.commands.specs.Outcomes.{IsOutcomeOf}
-use Rattle.commands.specs.Printed.{PrintedFor, PrintsServed}
+use Rattle.commands.specs.Serves.{EndsServe, IsLiveService, PrintsServed}
+use Rattle.commands.specs.Runs.{IsOutcomeOf, MayEnd, PrintedFor}
+use Rattle.file_commands.specs.Events.{HasDone}
 use Rattle.table_files.specs.Files.{PutBy}
-use Rattle.commands.specs.ServedScripts.{IsLiveService, IsService}
-use Rattle.commands.proofs.ToldRuns.{told_behind, told_so}
+use Rattle.file_commands.specs.Tasks.{IsService}
+use Rattle.commands.proofs.ToldRuns.{at_rest, told_behind, told_so}
 use Rattle.commands.proofs.running.run_understood.Goals as goal
 
 pub returns-in_default-clause-runs : goal.returns-in_default-clause-runs
 returns-in_default-clause-runs g c =
     let done = HasDone g.F.Devices.opened g.F.Devices.events c.args.devices.now c.run_task-ended.new.devices in
     let put = PutBy g.T.TableFiles.puts c.args.tables.now c.run_task-ended.new.tables in
-    let given = g.S.Read.remaining c.args.script.now in
-    let old = g.O.Write.contents c.args.out.now in
+    let given = g.S.Read.remaining c.args.streams.script.now in
+    let old = g.O.Write.contents c.args.streams.out.now in
     let new = g.O.Write.contents c.run_task-ended.new.out in
-    let told_old = g.E.FaultWriter.contents c.args.err.now in
+    let told_old = g.E.FaultWriter.contents c.args.streams.err.now in
     let told_new = g.E.FaultWriter.contents c.told-in_default.new.err in
-    let ends = c.run_task-ended.ensures.ends given in
+    let ends = at_rest g.F.Device.Disk done put c.args.task given g.O.Write.contents c.args.streams.out.now c.run_task-ended.new.out c.run_task-ended.result c.run_task-ended.ensures.ends in
     record {
       outcome = told_so (λ ended. PrintedFor g.F.Device.Disk done put c.args.task given ended old new) (λ fault. MayEnd g.F.Device.Disk done put c.args.task given old new fault) told_old told_new
           c.run_task-ended.result c.told-in_default.result c.told-in_default.ensures.told ends.printed ends.fault;
-      untouched = λ other. told_behind (c.run_task-ended.new.out ≡ c.args.out.now) told_old told_new c.run_task-ended.result c.told-in_default.result c.told-in_default.ensures.told ends.untouched;
-      unread = λ other. refl {a = c.args.script.now};
+      untouched = λ other. told_behind (c.run_task-ended.new.out ≡ c.args.streams.out.now) told_old told_new c.run_task-ended.result c.told-in_default.result c.told-in_default.ensures.told ends.untouched;
+      unread = λ other. refl {a = c.args.streams.script.now};
     }
 
 pub returns-in-None-clause-runs : goal.returns-in-None-clause-runs
@@ -33,17 +32,17 @@ returns-in-None-clause-runs g c =
     let whole : c.args.task ≡ Serve w.device w.editors w.forwarders w.places None w.words = w.is ∙ ap (λ (l : Option ℕ). Serve w.device w.editors w.forwarders w.places l w.words) c.in-None.is in
     let done = HasDone g.F.Devices.opened g.F.Devices.events c.args.devices.now c.run_serve-ended.new.devices in
     let put = PutBy g.T.TableFiles.puts c.args.tables.now c.args.tables.now in
-    let given = g.S.Read.remaining c.args.script.now in
-    let old = g.O.Write.contents c.args.out.now in
+    let given = g.S.Read.remaining c.args.streams.script.now in
+    let old = g.O.Write.contents c.args.streams.out.now in
     let new = g.O.Write.contents c.run_serve-ended.new.out in
-    let told_old = g.E.FaultWriter.contents c.args.err.now in
+    let told_old = g.E.FaultWriter.contents c.args.streams.err.now in
     let told_new = g.E.FaultWriter.contents c.told.new.err in
     let ends = c.run_serve-ended.ensures in
     record {
       outcome = subst (λ (t : Task). IsOutcomeOf g.F.Device.Disk done put t given old new told_old told_new c.told.result) (sym whole)
           (told_so (λ ended. PrintsServed g.F.Device.Disk done w.device.now given w.editors ended old new) (λ fault. EndsServe g.F.Device.Disk done w.device.now given w.editors w.words old new fault) told_old told_new
           c.run_serve-ended.result c.told.result c.told.ensures.told ends.printed ends.fault);
-      untouched = λ other. told_behind (c.run_serve-ended.new.out ≡ c.args.out.now) told_old told_new c.run_serve-ended.result c.told.result c.told.ensures.told ends.untouched;
+      untouched = λ other. told_behind (c.run_serve-ended.new.out ≡ c.args.streams.out.now) told_old told_new c.run_serve-ended.result c.told.result c.told.ensures.told ends.untouched;
       unread = λ other. absurd (other (subst IsService (sym whole) tt));
     }
 
@@ -54,13 +53,19 @@ returns-in-Some-clause-runs g c =
     let done = HasDone g.F.Devices.opened g.F.Devices.events c.args.devices.now c.run_live.new.devices in
     let put = PutBy g.T.TableFiles.puts c.args.tables.now c.run_live.new.tables in
     record {
-      outcome = subst (λ (t : Task). IsOutcomeOf g.F.Device.Disk done put t (g.S.Read.remaining c.args.script.now) (g.O.Write.contents c.args.out.now) (g.O.Write.contents c.run_live.new.out) (g.E.FaultWriter.contents c.args.err.now) (g.E.FaultWriter.contents c.run_live.new.err) c.run_live.result) (sym whole) c.run_live.ensures.runs;
+      outcome = subst (λ (t : Task). IsOutcomeOf g.F.Device.Disk done put t (g.S.Read.remaining c.args.streams.script.now) (g.O.Write.contents c.args.streams.out.now) (g.O.Write.contents c.run_live.new.streams.1.0) (g.E.FaultWriter.contents c.args.streams.err.now) (g.E.FaultWriter.contents c.run_live.new.streams.1.1.0) c.run_live.result) (sym whole) c.run_live.ensures.runs;
       untouched = λ other. absurd (other (subst IsLiveService (sym whole) tt));
       unread = λ other. absurd (other (subst IsService (sym whole) tt));
     }
 
 pub returns-in-Some-clause-unput : goal.returns-in-Some-clause-unput
 returns-in-Some-clause-unput g c other batch =
+    let w = c.in-Serve in
+    let whole : c.args.task ≡ Serve w.device w.editors w.forwarders w.places (Some c.in-Some.rounds) w.words = w.is ∙ ap (λ (l : Option ℕ). Serve w.device w.editors w.forwarders w.places l w.words) c.in-Some.is in
+    absurd (batch (subst IsLiveService (sym whole) tt))
+
+pub returns-in-Some-clause-unmade : goal.returns-in-Some-clause-unmade
+returns-in-Some-clause-unmade g c batch =
     let w = c.in-Serve in
     let whole : c.args.task ≡ Serve w.device w.editors w.forwarders w.places (Some c.in-Some.rounds) w.words = w.is ∙ ap (λ (l : Option ℕ). Serve w.device w.editors w.forwarders w.places l w.words) c.in-Some.is in
     absurd (batch (subst IsLiveService (sym whole) tt))

@@ -1,7 +1,7 @@
 use Rattle.clap.specs.Walk.{texts}
-use Rattle.commands.specs.Devices.{AreFiles}
-use Rattle.commands.specs.Outcomes.{AnyPut}
-use Rattle.commands.proofs.Tabling.{says_parts, says_too}
+use Rattle.file_commands.specs.Devices.{AreFiles}
+use Rattle.commands.specs.Runs.{AnyPut}
+use Rattle.commands.proofs.Answering.{says_parts, says_too}
 use Rattle.commands.proofs.running.run_words.Goals as goal
 
 pub returns-clause-says : goal.returns-clause-says

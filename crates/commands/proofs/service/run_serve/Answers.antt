@@ -5,9 +5,10 @@ use Rattle.line_exchange.specs.Gathers.{IsServed}
 use Rattle.live_service.specs.ServeEnds.{IsServeEnd}
 use Rattle.live_service.specs.Services.{AnswersScript}
 use Rattle.command_output.specs.declared.fault.Fault.TheVariants.{Output}
-use Rattle.commands.specs.declared.devices.Access.TheVariants.{ToChange}
-use Rattle.commands.specs.Events.{HasDone}
-use Rattle.commands.proofs.OnDevices.{not_had, nothing_done, served}
+use Rattle.file_commands.specs.declared.devices.Access.TheVariants.{ToChange}
+use Rattle.file_commands.specs.Events.{HasDone}
+use Rattle.file_commands.proofs.OnDevices.{not_had, nothing_done}
+use Rattle.commands.proofs.Serving.{served}
 use Rattle.commands.proofs.ToldRuns.{script_ends}
 use Rattle.commands.proofs.service.run_serve.Goals as goal
 

@@ -19,3 +19,6 @@ returns-in-Hop c = subst (λ (w : Word). IfOk c.hop_in.result (AsksJust (AsksBeh
 
 pub returns-in-Tables : goal.returns-in-Tables
 returns-in-Tables c = subst (λ (w : Word). IfOk c.tables_of.result (AsksJust (AsksBehind c.args.editors w (texts_of c.args.words.now)))) (sym c.in-Tables.is) c.tables_of.ensures
+
+pub returns-in-Backup : goal.returns-in-Backup
+returns-in-Backup c = subst (λ (w : Word). IfOk c.backup_of.result (AsksJust (AsksBehind c.args.editors w (texts_of c.args.words.now)))) (sym c.in-Backup.is) c.backup_of.ensures

@@ -1,7 +1,7 @@
-use Rattle.std.proofs.Common.{◌∙◌, ℕ, ap, refl, sym, subst, Some}
+use Rattle.std.proofs.Common.{ℕ, refl, sym, subst, Some}
 use Rattle.std.specs.Prelude.{IfSome}
 use Rattle.live_service.specs.ServeEnds.{IsServeEnd}
-use Rattle.live_service.proofs.Telling.{told_end}
+use Rattle.live_service.proofs.Telling.{refused_end}
 use Rattle.line_exchange.specs.Ends.{fault_of}
 use Rattle.live_lines.specs.Answers.{answer_text}
 use Rattle.line_exchange.specs.Inputs.{Bytes}
@@ -12,27 +12,26 @@ use Rattle.live_service.proofs.serve.serve_live.Goals as goal
 
 pub returns-in-Err-clause-printed : goal.returns-in-Err-clause-printed
 returns-in-Err-clause-printed g c =
-    none_to g.O.AnswerWriter (Bytes (g.S.Read.remaining c.args.input)) c.args.config.editors c.args.out.now c.args.out.now c.told.result _ refl c.told.ensures.fault
+    none_to g.O.AnswerWriter (Bytes (g.S.Read.remaining c.args.input.lines)) c.args.device.config.editors c.args.out.now c.args.out.now c.told.result _ refl c.told.ensures.fault
 
 pub returns-in-Err-clause-ended : goal.returns-in-Err-clause-ended
 returns-in-Err-clause-ended g c =
-    subst (λ o. IfSome o (λ f. IsServeEnd g.D.Disk c.args.disk c.args.words (Some c.in-Err.disk) f)) (sym (c.told.ensures.fault ∙ ap Some c.fault_of.ensures))
-    (told_end g.D.Disk c.args.disk c.in-Err.disk c.args.words c.in-Err.fault c.in-Err.ensures.refused.tells c.in-Err.ensures.refused.words c.in-Err.ensures.refused.of_one (λ keeps is. c.in-Err.ensures.refused.reads keeps)
-    c.in-Err.ensures.refused.device)
+    subst (λ o. IfSome o (λ f. IsServeEnd g.D.Disk c.args.device.disk c.args.device.words (Some c.in-Err.disk) f)) (sym c.told.ensures.fault)
+    (refused_end g.D.Disk c.args.device.disk c.in-Err.disk c.args.device.words c.in-Err.fault c.in-Err.ensures.refused)
 
 pub returns-in-Err-clause-left : goal.returns-in-Err-clause-left
-returns-in-Err-clause-left g c = read_left g.D.Disk c.args.disk c.in-Err.disk c.in-Err.ensures.refused.ran c.in-Err.ensures.refused.reads
+returns-in-Err-clause-left g c = read_left g.D.Disk c.args.device.disk c.in-Err.disk c.in-Err.ensures.refused.ran c.in-Err.ensures.refused.reads
 
 pub returns-clause-ended : goal.returns-clause-ended
 returns-clause-ended g c =
     let store = c.in-Ok.opened.0 in
     let ended = c.serve_stream.ensures.ended in
-    engine_ends c.args.disk c.args.words store ended.0 c.serve_stream.result.1 (fault_of c.serve_stream.result.0) c.in-Ok.ensures.opened.ran ended.1.disk ended.1.fault
+    engine_ends c.args.device.disk c.args.device.words store ended.0 c.serve_stream.result.1 (fault_of c.serve_stream.result.0) c.in-Ok.ensures.opened.ran ended.1.disk ended.1.fault
 
 pub returns-clause-left : goal.returns-clause-left
 returns-clause-left g c =
     let ended = c.serve_stream.ensures.ended in
-    opened_left c.args.disk c.in-Ok.opened.0 ended.0 c.serve_stream.result.1 c.standing_law.ensures c.in-Ok.ensures.opened ended.1.disk
+    opened_left c.args.device.disk c.in-Ok.opened.0 ended.0 c.serve_stream.result.1 c.standing_law.ensures c.in-Ok.ensures.opened ended.1.disk
 
 pub returns-in-Err-clause-one_list : goal.returns-in-Err-clause-one_list
 returns-in-Err-clause-one_list g c is = absurd (not_printed c.told.result _ c.told.ensures.fault is)
@@ -41,7 +40,7 @@ pub returns-clause-one_list : goal.returns-clause-one_list
 returns-clause-one_list g c is =
     let store = c.in-Ok.opened.0 in
     let back = c.serve_stream.result.1 in
-    let input = Bytes (g.S.Read.remaining c.args.input) in
+    let input = Bytes (g.S.Read.remaining c.args.input.lines) in
     let text = g.O.AnswerWriter.contents in
-    subst (λ (n : ℕ). AnswersInput g.D.Disk c.args.disk back input n text c.args.out.now c.serve_stream.new.out) c.seated.ensures.editors
-    (answered answer_text c.args.disk store input c.seated.result.editors (text c.args.out.now) (text c.serve_stream.new.out) back c.in-Ok.ensures.opened (c.serve_stream.ensures.one_list is))
+    subst (λ (n : ℕ). AnswersInput g.D.Disk c.args.device.disk back input n text c.args.out.now c.serve_stream.new.out) c.seated.ensures.editors
+    (answered answer_text c.args.device.disk store input c.seated.result.editors (text c.args.out.now) (text c.serve_stream.new.out) back c.in-Ok.ensures.opened (c.serve_stream.ensures.one_list is))

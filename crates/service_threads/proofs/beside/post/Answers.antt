@@ -28,13 +28,13 @@ announce_earlier-requires-clause-serves g c same =
     let number : c.parts.result.now.generation ≡ (graph_of c.args.build).generation = ap (λ (p : Parts). p.generation) (c.parts.ensures ∙ c.deref.ensures) ∙ c.in_ok-scheme.ensures.named in
     subst (λ (m : Network). Serves m (tables (arc_value c.in_ok-scheme.scheme))) (c.requires.stands.same (sym number ∙ same)) c.in_ok-scheme.ensures.serves
 
-pub returns-in_err-announce_earlier-clause-listed : goal.returns-in_err-announce_earlier-clause-listed
-returns-in_err-announce_earlier-clause-listed g c first newest way is =
+pub returns-in-Err-clause-listed : goal.returns-in-Err-clause-listed
+returns-in-Err-clause-listed g c first newest way is =
     c.announce_earlier.ensures.listed first
     (earlier_of first c.args.committer.now newest c.parts.result.now.generation (graph_of c.args.build) (arc_value c.in_ok-scheme.scheme) c.requires.held way c.in_ok-scheme.ensures (ap (λ (p : Parts). p.generation) (c.parts.ensures ∙ c.deref.ensures))) is
 
-pub returns-in_err-refresh-clause-listed : goal.returns-in_err-refresh-clause-listed
-returns-in_err-refresh-clause-listed g c first newest way is =
+pub returns-in-Err-refresh-clause-listed : goal.returns-in-Err-refresh-clause-listed
+returns-in-Err-refresh-clause-listed g c first newest way is =
     c.refresh.ensures.listed Beside first
     (c.announce_earlier.ensures.listed first
     (earlier_of first c.args.committer.now newest c.parts.result.now.generation (graph_of c.args.build) (arc_value c.in_ok-scheme.scheme) c.requires.held way c.in_ok-scheme.ensures (ap (λ (p : Parts). p.generation) (c.parts.ensures ∙ c.deref.ensures))) is)
@@ -50,8 +50,8 @@ returns-clause-number g c = ap (λ (p : Parts). p.generation) (c.parts.ensures �
 
 pub returns-clause-shown : goal.returns-clause-shown
 returns-clause-shown g c =
-    shown_posted c.args.committer.now c.refresh.new.self c.parts.result.now.generation (arc_value c.in_ok-scheme.scheme) (c.refresh.ensures.posts ∙ c.in_ok-announce_earlier.ensures.posted)
+    shown_posted c.args.committer.now c.refresh.new.self c.parts.result.now.generation (arc_value c.in_ok-scheme.scheme) (c.refresh.ensures.posts ∙ c.in-Ok.ensures.posted)
 
 pub stand_of-requires-clause-shown : goal.stand_of-requires-clause-shown
 stand_of-requires-clause-shown g c =
-    shown_posted c.args.committer.now c.refresh.new.self c.parts.result.now.generation (arc_value c.in_ok-scheme.scheme) (c.refresh.ensures.posts ∙ c.in_ok-announce_earlier.ensures.posted)
+    shown_posted c.args.committer.now c.refresh.new.self c.parts.result.now.generation (arc_value c.in_ok-scheme.scheme) (c.refresh.ensures.posts ∙ c.in-Ok.ensures.posted)

@@ -6,9 +6,9 @@ use Rattle.committer.specs.CommitterWords.{store_of}
 use Rattle.service_threads.proofs.Pace.{shown_announced}
 use Rattle.service_threads.proofs.committing.rebuild_by.Goals as goal
 
-pub returns-clause-shown : goal.returns-clause-shown
-returns-clause-shown g c =
+pub returns-in-Ok-announce-clause-shown : goal.returns-in-Ok-announce-clause-shown
+returns-in-Ok-announce-clause-shown g c =
     let count = (state_of (store_of c.args.committer.now)).count in
-    let due : c.in-Some.number ≡ count = subst (λ o. IfSome o (λ n. n ≡ count)) c.in-Some.is c.in_ok-number.ensures.ok.number in
-    let same : store_of c.announce.new.self ≡ store_of c.args.committer.now = c.in_ok-announce.ensures.stays.store ∙ c.in_ok-number.ensures.stays.store in
-    shown_announced c.generation_due.new.self c.announce.new.self c.in-Some.number (arc_value c.in_ok-scheme.scheme) (due ∙ ap (λ s. (state_of s).count) (sym same)) c.in_ok-announce.ensures.posted
+    let due : c.in-Some.number ≡ count = subst (λ o. IfSome o (λ n. n ≡ count)) c.in-Some.is c.in-Ok-generation_due.ensures.ok.number in
+    let same : store_of c.announce.new.self ≡ store_of c.args.committer.now = c.in-Ok-announce.ensures.stays.store ∙ c.in-Ok-generation_due.ensures.stays.store in
+    shown_announced c.generation_due.new.self c.announce.new.self c.in-Some.number (arc_value c.in_ok-scheme.scheme) (due ∙ ap (λ s. (state_of s).count) (sym same)) c.in-Ok-announce.ensures.posted

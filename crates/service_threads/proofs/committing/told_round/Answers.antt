@@ -2,14 +2,14 @@ use Rattle.service_threads.proofs.Settling.{queue_taken}
 use Rattle.service_threads.proofs.Pace.{shown_round}
 use Rattle.service_threads.proofs.committing.told_round.Goals as goal
 
-pub returns-in_err-round-clause-queue : goal.returns-in_err-round-clause-queue
-returns-in_err-round-clause-queue g c = queue_taken c.args.committer.now c.round.new.self c.round.ensures.takes.queue c.round.ensures.takes.taken
+pub returns-in-Err-clause-queue : goal.returns-in-Err-clause-queue
+returns-in-Err-clause-queue g c = queue_taken c.args.committer.now c.round.new.self c.round.ensures.takes.queue c.round.ensures.takes.taken
 
 pub stand_of-requires-clause-shown : goal.stand_of-requires-clause-shown
-stand_of-requires-clause-shown g c = shown_round c.args.newest c.in_ok-round.round.accepted c.args.committer.now c.round.new.self c.requires.shown c.in_ok-round.ensures.ok
+stand_of-requires-clause-shown g c = shown_round c.args.newest c.in-Ok.round.accepted c.args.committer.now c.round.new.self c.requires.shown c.in-Ok.ensures.ok
 
 pub returns-then-round-gt0-clause-shown : goal.returns-then-round-gt0-clause-shown
-returns-then-round-gt0-clause-shown g c = shown_round c.args.newest c.in_ok-round.round.accepted c.args.committer.now c.round.new.self c.requires.shown c.in_ok-round.ensures.ok
+returns-then-round-gt0-clause-shown g c = shown_round c.args.newest c.in-Ok.round.accepted c.args.committer.now c.round.new.self c.requires.shown c.in-Ok.ensures.ok
 
 pub returns-then-round-gt0-clause-queue : goal.returns-then-round-gt0-clause-queue
 returns-then-round-gt0-clause-queue g c = queue_taken c.args.committer.now c.round.new.self c.round.ensures.takes.queue c.round.ensures.takes.taken

@@ -1,0 +1,9 @@
+pub mod Copies
+pub mod Devices
+pub mod Endings
+pub mod Events
+pub mod Printed
+pub mod Queries
+pub mod Runs
+pub mod SchemeAnswers
+pub mod Tasks

@@ -1,0 +1,2 @@
+pub mod GatheredLines
+pub mod Sending
