@@ -17,18 +17,26 @@
 //! What went wrong is told on the second as `tzlab: TEXT`, with the file, the line's number and the system's own error where there are such;
 //! where a terminal is behind it, it also shows how far long work has come.
 //!
-//! [`run_words`] promises that its answer is a status: 0 where it did what was asked for, 2 where the words or a line of the file aren't
-//! understood, and 1 where an edge or a name is refused, a file or a device can't be used, the output can't be written or memory ran out.
-//! What each command prints is promised in its crate, over any device or text.
+//! [`run_words`] answers a status: 0 where it did what was asked for, 2 where the words or a line of the file aren't understood, and 1 where
+//! an edge or a name is refused, a file or a device can't be used, the output can't be written or memory ran out.
+//!
+//! The contract that the program uses (`Does` of `specs/Commands`), over any place of devices and files: with status 0 the words ask for help,
+//! or the command that clap's matches name did what they ask for. So what was printed is the text of its library's call, of the device that was
+//! opened by the path among them and given back, or of the file that was read there. With status 2 nothing was printed. That the matches are
+//! those of the words is clap's. `time` promises its status alone: what a clock says no contract knows.
 #![tactic(auto)]
 
-ghost use Rattle.std.specs.Prelude.{◌≤◌, IfErr};
+ghost use Rattle.std.specs.Prelude.{◌≡◌, ◌⊎◌, ◌≤◌, IfErr, IsOk, IsTrue};
+ghost use Rattle.clap.specs.declared.parser.matches.ArgMatches.{ArgMatches};
+ghost use Rattle.lab_commands.specs.Commands.{AskHelp, Does, IsHelp};
 
 use clap::{ArgMatches, Command};
+use device_stops::Watched;
+use disk_trait::{Disk, MemDisk};
 use lab_figures::{info, recent, stats, time};
 use lab_names::{edit, route, show};
 use lab_networks::{export, import};
-use lab_parts::told_memory;
+use lab_parts::{Places, told_memory};
 use lab_rehearsals::rehearse;
 use std::alloc::{AllocError, Global};
 use std::fs::File;
@@ -40,15 +48,32 @@ use std::thread::Threads;
 /// Does what the words ask for, and answers the exit status.
 pub fn run_words<R, O, E>(rt: &R, words: &[&str], out: &mut O, err: &mut E) -> u8
 where
-    R: Files<File = File> + AllocGlobal + Clock + Threads + Wait + Sync,
+    R: Files<File = File> + Places + AllocGlobal + Clock + Threads + Wait + Sync,
     O: Write,
     E: Write + IsTerminal,
-    ensures { result ≤ 2 }
+    ensures few { result ≤ 2 }
+    // 0 only where the command's text or clap's was printed, and 2 only where nothing was.
+    ensures printed { result ≡ 0 → AskHelp words.now ⊎ ((found : ArgMatches) × Does ⟦<MemDisk as Disk>⟧ ⟦<Watched as Disk>⟧
+        R.Device.Disk R.opened R.held R.closed R.stands found O.contents out.old out.new) }
+    ensures untouched { result ≡ 2 → out.new ≡ out.old }
 {
-    let found = match parsed(rt.alloc(), words, out, err) {
-        Ok(found) => found,
-        Err(status) => return status,
-    };
+    match parsed(rt.alloc(), words, out, err) {
+        Ok(found) => run_found(rt, &found, out, err),
+        Err(status) => status,
+    }
+}
+
+// Does what the matches ask for, and answers the exit status.
+fn run_found<R, O, E>(rt: &R, found: &ArgMatches<'_>, out: &mut O, err: &mut E) -> u8
+where
+    R: Files<File = File> + Places + AllocGlobal + Clock + Threads + Wait + Sync,
+    O: Write,
+    E: Write + IsTerminal,
+    ensures few { result ≤ 2 }
+    ensures printed { result ≡ 0 → Does ⟦<MemDisk as Disk>⟧ ⟦<Watched as Disk>⟧
+        R.Device.Disk R.opened R.held R.closed R.stands found.now O.contents out.old out.new }
+    ensures untouched { result ≡ 2 → out.new ≡ out.old }
+{
     match found.subcommand() {
         Some(("import", found)) => import::run(rt, found, out, err),
         Some(("export", found)) => export::run(rt, found, out, err),
@@ -92,14 +117,17 @@ fn with_command<'a>(
     whole.subcommand(below?)
 }
 
-// What the words ask for, or the exit status where clap has answered them itself.
+// What the words ask for, or the exit status where clap has answered them itself: with 0 where they ask for help.
 fn parsed<'a, O: Write, E: Write>(
     alloc: Global,
     words: &'a [&'a str],
     out: &mut O,
     err: &mut E,
 ) -> Result<ArgMatches<'a>, u8>
-    ensures { IfErr result (λ status. status ≤ 2) }
+    ensures few { IfErr result (λ status. status ≤ 2) }
+    ensures help { IfErr result (λ status. status ≡ 0 → AskHelp words.entry.now) }
+    ensures untouched { IfErr result (λ status. status ≡ 2 → out.new ≡ out.old) }
+    ensures unprinted { IsOk result → out.new ≡ out.old }
 {
     let Ok(command) = grammar(alloc) else {
         return Err(told_memory(err));
@@ -107,13 +135,31 @@ fn parsed<'a, O: Write, E: Write>(
     match command.try_get_matches_from(words) {
         Ok(found) => Ok(found),
         Err(error) => {
-            if error.use_stderr() {
-                let printed = write!(err, "{error}");
-                Err(if printed.is_ok() { 2 } else { 1 })
-            } else {
+            if !error.use_stderr() && ask_help(words) {
                 let printed = write!(out, "{error}");
                 Err(if printed.is_ok() { 0 } else { 1 })
+            } else {
+                let printed = write!(err, "{error}");
+                Err(if printed.is_ok() { 2 } else { 1 })
             }
         }
     }
+}
+
+// Whether words ask for help: they ask it of clap, and it answers.
+fn ask_help(words: &[&str]) -> bool
+    ensures { IsTrue result → AskHelp words.now }
+{
+    for word in words {
+        if is_help(word) {
+            return true;
+        }
+    }
+    false
+}
+
+fn is_help(word: &str) -> bool
+    ensures { IsTrue result → IsHelp word.now }
+{
+    word == "help" || word == "--help" || word == "-h"
 }

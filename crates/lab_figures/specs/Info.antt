@@ -1,14 +1,18 @@
 -- What `info` prints of a device.
-use Rattle.std.specs.Prelude.{◌≡◌, List, ℕ, Bool, true, false, IsTrue}
+use Rattle.std.specs.Prelude.{◌≡◌, List, ℕ, Bool, true, false, IsTrue, codes}
+use Rattle.clap.specs.Walk.{Row, Text}
 use Rattle.command_output.specs.Printing.{Known, PrintsText}
 use Rattle.device_info.specs.Info.{IsInfoOf}
 use Rattle.device_info.specs.Lines.{info_lines}
 use Rattle.device_info.specs.declared.info.DeviceInfo.{DeviceInfo}
 use Rattle.disk_trait.specs.Disk.{DiskView}
+use Rattle.disk_trait.specs.declared.disk.Disk.{Ghosts}
 use Rattle.figure_lines.specs.Info.{info_data}
 use Rattle.figure_lines.specs.Json.{json_line}
 use Rattle.lab_figures.specs.declared.refused.FiguresRefused.{FiguresRefused}
 use Rattle.lab_figures.specs.declared.refused.FiguresRefused.TheVariants.{Device, Words, Print}
+use Rattle.lab_parts.specs.Devices.{OfDevice}
+use Rattle.lab_parts.specs.Words.{IsFlag}
 use Rattle.layout_2.specs.Loading.{IsNotLoaded, IsRead}
 
 -- the figures as JSON, or as lines
@@ -23,9 +27,14 @@ pub record PrintsInfo (as_json : Bool) (disk left : DiskView) {W : Type 0} (cont
   pub printed : PrintsText contents old new (text_of_info as_json info)
   pub read : IsRead disk left
 
--- figures of some device were printed, in one of the two forms
-abbrev pub PrintsSomeInfo : {W : Type 0} → (W → Known) → W → W → Type 0
-PrintsSomeInfo contents old new = (as_json : Bool) × (disk : DiskView) × (left : DiskView) × PrintsInfo as_json disk left contents old new
+-- they were printed, as an object of JSON where that is asked for
+abbrev pub PrintsInfoFor : List Row → DiskView → DiskView → {W : Type 0} → (W → Known) → W → W → Type 0
+PrintsInfoFor rows disk left contents old new = (as_json : Bool) × IsFlag rows (codes "json") as_json × PrintsInfo as_json disk left contents old new
+
+-- what the command does where it ends with status 0: it prints the figures of the device that the words name
+abbrev pub DoesInfo : {D : Type 0} → Ghosts D → (Text → D → Type 0) → (D → Type 0) → List Row → {W : Type 0} → (W → Known) → W → W → Type 0
+DoesInfo model opened closed rows contents old new =
+    OfDevice opened closed rows (λ path disk left. PrintsInfoFor rows (model.view disk) (model.view left) contents old new)
 
 -- why none are: the device is refused
 abbrev pub IsInfoRefused : DiskView → DiskView → FiguresRefused → Type 0

@@ -1,8 +1,10 @@
 -- What `stats` prints of a device.
-use Rattle.std.specs.Prelude.{◌≡◌, ◌⊎◌, ◌<◌, ◌≤◌, ℕ, Bool, true, false, List, [], ◌++◌, IsTrue, map}
+use Rattle.std.specs.Prelude.{◌≡◌, ◌⊎◌, ◌<◌, ◌≤◌, ℕ, Bool, true, false, List, [], ◌++◌, codes, map}
 use Rattle.std.specs.List.{flat_map}
+use Rattle.clap.specs.Walk.{Row, Text, first_of}
 use Rattle.command_output.specs.Printing.{Known, PrintsText}
 use Rattle.disk_trait.specs.Disk.{DiskView}
+use Rattle.disk_trait.specs.declared.disk.Disk.{Ghosts}
 use Rattle.figure_lines.specs.Figures.{Said, figure_line, figure_rows, figures_data}
 use Rattle.figure_lines.specs.Json.{json_line}
 use Rattle.figure_lines.specs.NodeRows.{AreNodeRows, node_line, node_rows, nodes_data}
@@ -15,8 +17,10 @@ use Rattle.lab_figures.specs.declared.refused.FiguresRefused.TheVariants.{Device
 use Rattle.lab_figures.specs.declared.stats.Asked.{Asked}
 use Rattle.lab_figures.specs.declared.stats.Layout.{Layout}
 use Rattle.lab_figures.specs.declared.stats.Layout.TheVariants.{Lines, Csv, Json}
+use Rattle.lab_parts.specs.Devices.{OfDevice}
+use Rattle.lab_parts.specs.States.{Holds, HoldsState}
+use Rattle.lab_parts.specs.Words.{AreLandmarks, IsFlag, IsUsual}
 use Rattle.layout_2.specs.Loading.{IsNotLoaded, IsRead}
-use Rattle.layout_2.specs.Standing.{StandsFor}
 use Rattle.layout_2.specs.State.{State}
 use Rattle.schemes.specs.declared.parts.Parts.{Parts}
 use Rattle.scheme_builds.specs.Schemes.{IsSchemeOf}
@@ -48,10 +52,10 @@ pub record AreFiguresOf (asked : Asked) (graph : Network) (scheme : Parts) (figu
   pub are : figures ≡ sizes ++ ways
 
 -- the text of rows in each layout
-abbrev pub rows_in : Layout → List NodeRow → List ℕ
-rows_in Lines rows = flat_map node_line rows
-rows_in Csv rows = node_rows rows
-rows_in Json rows = json_line (nodes_data rows)
+abbrev pub rows_text : Layout → List NodeRow → List ℕ
+rows_text Lines rows = flat_map node_line rows
+rows_text Csv rows = node_rows rows
+rows_text Json rows = json_line (nodes_data rows)
 
 -- the rows of a scheme's nodes, by the pairs that a seed draws, as many as were asked for; none where there are no two nodes
 pub record AreRowsOf (asked : Asked) (graph : Network) (scheme : Parts) (rows : List NodeRow) : Type 0 where
@@ -63,7 +67,7 @@ pub record AreRowsOf (asked : Asked) (graph : Network) (scheme : Parts) (rows : 
 
 -- the text of figures, or of rows where they were asked for
 abbrev pub IsTextBy : Bool → Asked → Network → Parts → List ℕ → Type 0
-IsTextBy true asked graph scheme text = (rows : List NodeRow) × AreRowsOf asked graph scheme rows × (text ≡ rows_in asked.layout rows)
+IsTextBy true asked graph scheme text = (rows : List NodeRow) × AreRowsOf asked graph scheme rows × (text ≡ rows_text asked.layout rows)
 IsTextBy false asked graph scheme text = (figures : List Said) × AreFiguresOf asked graph scheme figures × (text ≡ text_in asked.layout figures)
 
 abbrev pub IsTextOf : Asked → Network → Parts → List ℕ → Type 0
@@ -77,22 +81,44 @@ pub record AreStatsOf (asked : Asked) (graph : Network) (generation : ℕ) (text
   pub is_scheme : IsSchemeOf graph words generation scheme
   pub of : IsTextOf asked graph scheme text
 
--- A device that was only read holds this state, where it keeps the model.
-abbrev pub HoldsState : DiskView → State → Type 0
-HoldsState disk state = IsTrue disk.keeps_model → StandsFor state disk.content
-
 -- The text of figures was printed; where the device keeps the model, they are those of the state that stands on it.
 pub record PrintsStats (asked : Asked) (disk left : DiskView) {W : Type 0} (contents : W → Known) (old new : W) : Type 0 where
   pub state : State
   pub text : List ℕ
-  pub stands : HoldsState disk state
+  pub holds : Holds disk left state
   pub are : AreStatsOf asked state.graph state.count text
   pub printed : PrintsText contents old new text
-  pub read : IsRead disk left
 
--- figures of a scheme of some device were printed, for some words
-abbrev pub PrintsSomeStats : {W : Type 0} → (W → Known) → W → W → Type 0
-PrintsSomeStats contents old new = (asked : Asked) × (disk : DiskView) × (left : DiskView) × PrintsStats asked disk left contents old new
+-- the flags of a layout
+abbrev pub is_csv : Layout → Bool
+is_csv Csv = true
+is_csv layout = false
+
+abbrev pub is_json : Layout → Bool
+is_json Json = true
+is_json layout = false
+
+-- how figures are asked for
+abbrev pub IsLayout : List Row → Layout → Type 0
+IsLayout rows layout = IsFlag rows (codes "csv") (is_csv layout) × IsFlag rows (codes "json") (is_json layout)
+
+-- what is asked for
+pub record IsAsked (rows : List Row) (asked : Asked) : Type 0 where
+  pub words : AreLandmarks (first_of (codes "words") rows) asked.words
+  pub pairs : IsUsual (first_of (codes "pairs") rows) 1000 asked.pairs
+  pub few : asked.pairs ≤ 32767
+  pub seed : IsUsual (first_of (codes "seed") rows) 0 asked.seed
+  pub layout : IsLayout rows asked.layout
+  pub by_node : IsFlag rows (codes "by-node") asked.by_node
+
+-- the text of what is asked for was printed
+abbrev pub PrintsStatsFor : List Row → DiskView → DiskView → {W : Type 0} → (W → Known) → W → W → Type 0
+PrintsStatsFor rows disk left contents old new = (asked : Asked) × IsAsked rows asked × PrintsStats asked disk left contents old new
+
+-- what the command does where it ends with status 0: it prints the figures of a scheme of the device that the words name
+abbrev pub DoesStats : {D : Type 0} → Ghosts D → (Text → D → Type 0) → (D → Type 0) → List Row → {W : Type 0} → (W → Known) → W → W → Type 0
+DoesStats model opened closed rows contents old new =
+    OfDevice opened closed rows (λ path disk left. PrintsStatsFor rows (model.view disk) (model.view left) contents old new)
 
 -- why none are: the device is refused, or the words name a node that it hasn't
 abbrev pub IsStatsRefused : Asked → DiskView → DiskView → FiguresRefused → Type 0

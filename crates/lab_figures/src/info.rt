@@ -1,19 +1,17 @@
 //! The command `info`.
 ghost use Rattle.std.specs.Prelude.{◌≡◌, ◌≢◌, ◌≤◌, IfErr, IfOk, OnOk};
 ghost use Rattle.std.specs.String.{string_bytes};
-ghost use Rattle.lab_figures.specs.Info.{IsInfoRefused, PrintsInfo, PrintsSomeInfo, text_of_info};
+ghost use Rattle.lab_parts.specs.Words.{rows_in};
+ghost use Rattle.lab_figures.specs.Info.{DoesInfo, IsInfoRefused, PrintsInfo, text_of_info};
 
 use crate::refused::FiguresRefused;
 use clap::{ArgMatches, Command};
-use device_files::DeviceFile;
 use device_info::{DeviceInfo, info_of, info_text};
 use disk_trait::Disk;
 use figure_lines::info_json;
-use lab_parts::{PrintRefused, command, device, flag, print, told_of};
+use lab_parts::{PrintRefused, Sources, command, device, flag, given, is_given, print, told_of};
 use std::alloc::{AllocError, Global};
-use std::fs::File;
 use std::io::Write;
-use std::rt::Files;
 
 /// Its grammar.
 pub fn grammar<'a>(alloc: Global) -> Result<Command<'a>, AllocError> {
@@ -28,24 +26,27 @@ pub fn grammar<'a>(alloc: Global) -> Result<Command<'a>, AllocError> {
 /// Prints what the device that these matches name holds, and answers the exit status.
 pub fn run<R, O, E>(rt: &R, found: &ArgMatches<'_>, out: &mut O, err: &mut E) -> u8
 where
-    R: Files<File = File> + AllocGlobal,
+    R: Sources + AllocGlobal,
     O: Write,
     E: Write,
     ensures few { result ≤ 2 }
-    // 0 only where this was printed, and 2 only where nothing was.
-    ensures printed { result ≡ 0 → PrintsSomeInfo O.contents out.old out.new }
+    // 0 only where it was printed, and 2 only where nothing was.
+    ensures printed { result ≡ 0 → DoesInfo R.Device.Disk R.opened R.closed (rows_in found.now) O.contents out.old out.new }
     ensures untouched { result ≡ 2 → out.new ≡ out.old }
 {
-    let Some(device) = found.get_str("device") else {
+    let Some(path) = given(found, "device") else {
         return 2;
     };
-    let mut file = match DeviceFile::open_to_read(rt, device) {
-        Ok(file) => file,
-        Err(refused) => return told_of(err, device, refused),
+    let as_json = is_given(found, "json");
+    let mut device = match rt.open_to_read(path) {
+        Ok(device) => device,
+        Err(refused) => return told_of(err, path, refused),
     };
-    match info_on(rt.alloc(), &mut file, found.get_flag("json"), out) {
+    let ended = info_on(rt.alloc(), &mut device, as_json, out);
+    rt.close(device);
+    match ended {
         Ok(()) => 0,
-        Err(refused) => refused.told(err, device),
+        Err(refused) => refused.told(err, path),
     }
 }
 

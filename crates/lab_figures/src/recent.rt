@@ -1,19 +1,19 @@
 //! The command `journal`.
 ghost use Rattle.std.specs.Prelude.{◌≡◌, ◌≢◌, ◌≤◌, IfErr, OnOk};
 ghost use Rattle.lab_figures.specs.Info.{IsInfoRefused};
-ghost use Rattle.lab_figures.specs.Recent.{PrintsChanges, PrintsSomeChanges};
+ghost use Rattle.lab_figures.specs.Recent.{DoesJournal, PrintsChanges};
+ghost use Rattle.lab_parts.specs.Words.{rows_in};
 
 use crate::refused::FiguresRefused;
 use clap::{ArgMatches, Command};
-use device_files::DeviceFile;
 use disk_trait::Disk;
-use lab_parts::{PrintRefused, command, device, print, told, told_memory, told_of, value};
+use lab_parts::{
+    PrintRefused, Sources, command, device, given, optional, print, told, told_memory, told_of,
+    value,
+};
 use recent_changes::changes_of;
 use std::alloc::{AllocError, Global};
-use std::fs::File;
 use std::io::Write;
-use std::rt::Files;
-use written_values::number;
 
 /// Its grammar.
 pub fn grammar<'a>(alloc: Global) -> Result<Command<'a>, AllocError> {
@@ -31,32 +31,31 @@ pub fn grammar<'a>(alloc: Global) -> Result<Command<'a>, AllocError> {
 /// Prints the changes behind the checkpoint of the device that these matches name, and answers the exit status.
 pub fn run<R, O, E>(rt: &R, found: &ArgMatches<'_>, out: &mut O, err: &mut E) -> u8
 where
-    R: Files<File = File> + AllocGlobal,
+    R: Sources + AllocGlobal,
     O: Write,
     E: Write,
     ensures few { result ≤ 2 }
-    // 0 only where this was printed, and 2 only where nothing was.
-    ensures printed { result ≡ 0 → PrintsSomeChanges O.contents out.old out.new }
+    // 0 only where they were printed, and 2 only where nothing was.
+    ensures printed { result ≡ 0 → DoesJournal R.Device.Disk R.opened R.closed (rows_in found.now) O.contents out.old out.new }
     ensures untouched { result ≡ 2 → out.new ≡ out.old }
 {
-    let Some(device) = found.get_str("device") else {
+    let Some(path) = given(found, "device") else {
         return 2;
     };
-    let last = match found.get_str("last") {
-        Some(word) => match number(rt.alloc(), word, u64::MAX) {
-            Ok(Some(last)) => Some(last as usize),
-            Ok(None) => return told(err, 2, "--last takes a number"),
-            Err(_) => return told_memory(err),
-        },
-        None => None,
+    let last = match optional(rt.alloc(), found, "last", u64::MAX) {
+        Ok(Some(last)) => last.map(|last| last as usize),
+        Ok(None) => return told(err, 2, "--last takes a number"),
+        Err(_) => return told_memory(err),
     };
-    let mut file = match DeviceFile::open_to_read(rt, device) {
-        Ok(file) => file,
-        Err(refused) => return told_of(err, device, refused),
+    let mut device = match rt.open_to_read(path) {
+        Ok(device) => device,
+        Err(refused) => return told_of(err, path, refused),
     };
-    match journal_on(rt.alloc(), &mut file, last, out) {
+    let ended = journal_on(rt.alloc(), &mut device, last, out);
+    rt.close(device);
+    match ended {
         Ok(()) => 0,
-        Err(refused) => refused.told(err, device),
+        Err(refused) => refused.told(err, path),
     }
 }
 

@@ -1,13 +1,13 @@
 //! The command `stats`.
-ghost use Rattle.std.specs.Prelude.{◌≡◌, ◌≢◌, ◌≤◌, IfErr, IfOk, OnOk, map};
+ghost use Rattle.std.specs.Prelude.{◌≡◌, ◌≢◌, ◌≤◌, IfErr, IfOk, IfSome, OnOk, map};
 ghost use Rattle.figure_lines.specs.Figures.{said};
+ghost use Rattle.lab_parts.specs.Words.{rows_in};
 ghost use Rattle.written_values.specs.Words.{IsWithin};
 ghost use Rattle.schemes.specs.Checks.{IsChecked};
-ghost use Rattle.lab_figures.specs.Stats.{AreFiguresOf, AreMeasuredOf, AreRowsOf, AreStatsOf, IsStatsRefused, IsTextOf, PrintsSomeStats, PrintsStats, rows_in, text_in};
+ghost use Rattle.lab_figures.specs.Stats.{AreFiguresOf, AreMeasuredOf, AreRowsOf, AreStatsOf, DoesStats, IsAsked, IsLayout, IsStatsRefused, IsTextOf, PrintsStats, rows_text, text_in};
 
 use crate::refused::FiguresRefused;
 use clap::{ArgMatches, Command};
-use device_files::DeviceFile;
 use disk_trait::Disk;
 use figure_lines::{
     Figure, NodeRow, figures_csv, figures_json, figures_text, node_rows_of, nodes_csv, nodes_json,
@@ -15,19 +15,18 @@ use figure_lines::{
 };
 use graph_edits::Graph;
 use lab_parts::{
-    PrintRefused, command, device, flag, landmarks, print, told, told_memory, told_of, value,
+    PrintRefused, Sources, command, device, flag, given, is_given, landmarks, landmarks_in, print,
+    told, told_memory, told_of, usual, value,
 };
 use layout_2::{Loaded, load};
 use scheme_builds::{scheme_of_in_threads, workers_here};
 use scheme_figures::{MOST_PAIRS, Measured, drawn_pairs, measure_all};
 use schemes::Scheme;
 use std::alloc::{AllocError, Global};
-use std::fs::File;
 use std::io::Write;
-use std::rt::Files;
 use std::sync::Wait;
 use std::thread::Threads;
-use written_values::{LandmarkWords, landmark_words, number};
+use written_values::LandmarkWords;
 
 /// What is asked for.
 #[derive(Drop)]
@@ -82,15 +81,15 @@ pub fn grammar<'a>(alloc: Global) -> Result<Command<'a>, AllocError> {
 /// Prints the figures of the scheme that these matches name, and answers the exit status.
 pub fn run<R, O, E>(rt: &R, found: &ArgMatches<'_>, out: &mut O, err: &mut E) -> u8
 where
-    R: Files<File = File> + AllocGlobal + Threads + Wait + Sync,
+    R: Sources + AllocGlobal + Threads + Wait + Sync,
     O: Write,
     E: Write,
     ensures few { result ≤ 2 }
-    // 0 only where this was printed, and 2 only where nothing was.
-    ensures printed { result ≡ 0 → PrintsSomeStats O.contents out.old out.new }
+    // 0 only where they were printed, and 2 only where nothing was.
+    ensures printed { result ≡ 0 → DoesStats R.Device.Disk R.opened R.closed (rows_in found.now) O.contents out.old out.new }
     ensures untouched { result ≡ 2 → out.new ≡ out.old }
 {
-    let Some(device) = found.get_str("device") else {
+    let Some(path) = given(found, "device") else {
         return 2;
     };
     let asked = match asked_in(rt.alloc(), found) {
@@ -98,13 +97,15 @@ where
         Ok(Err(text)) => return told(err, 2, text),
         Err(_) => return told_memory(err),
     };
-    let mut file = match DeviceFile::open_to_read(rt, device) {
-        Ok(file) => file,
-        Err(refused) => return told_of(err, device, refused),
+    let mut device = match rt.open_to_read(path) {
+        Ok(device) => device,
+        Err(refused) => return told_of(err, path, refused),
     };
-    match stats_on(rt, &mut file, &asked, out) {
+    let ended = stats_on(rt, &mut device, &asked, out);
+    rt.close(device);
+    match ended {
         Ok(()) => 0,
-        Err(refused) => refused.told(err, device),
+        Err(refused) => refused.told(err, path),
     }
 }
 
@@ -112,42 +113,39 @@ where
 fn asked_in(
     alloc: Global,
     found: &ArgMatches<'_>,
-) -> Result<Result<Asked, &'static str>, AllocError> {
-    let words = found.get_str("words").unwrap_or("none");
-    let Some(words) = landmark_words(alloc, words)? else {
+) -> Result<Result<Asked, &'static str>, AllocError>
+    ensures { IfOk result (λ read. IfOk read (IsAsked (rows_in found.now))) }
+{
+    let Some(words) = landmarks_in(alloc, found)? else {
         return Ok(Err("words not understood"));
     };
-    match measures_in(alloc, found)? {
-        Ok((pairs, seed, layout)) => Ok(Ok(Asked {
-            words,
-            pairs,
-            seed,
-            layout,
-            by_node: found.get_flag("by-node"),
-        })),
-        Err(text) => Ok(Err(text)),
-    }
-}
-
-// The same beside the words: how many pairs, their seed, and how it is printed.
-fn measures_in(
-    alloc: Global,
-    found: &ArgMatches<'_>,
-) -> Result<Result<(u16, u64, Layout), &'static str>, AllocError> {
-    let pairs = found.get_str("pairs").unwrap_or("1000");
-    let Some(pairs) = number(alloc, pairs, MOST_PAIRS as u64)? else {
+    let Some(pairs) = usual(alloc, found, "pairs", MOST_PAIRS as u64, 1000)? else {
         return Ok(Err("pairs not understood"));
     };
-    let pairs = pairs.min(MOST_PAIRS as u64) as u16;
-    let seed = found.get_str("seed").unwrap_or("0");
-    let Some(seed) = number(alloc, seed, u64::MAX)? else {
+    let Some(seed) = usual(alloc, found, "seed", u64::MAX, 0)? else {
         return Ok(Err("seed not understood"));
     };
-    match (found.get_flag("csv"), found.get_flag("json")) {
-        (true, true) => Ok(Err("either --csv or --json")),
-        (true, false) => Ok(Ok((pairs, seed, Layout::Csv))),
-        (false, true) => Ok(Ok((pairs, seed, Layout::Json))),
-        (false, false) => Ok(Ok((pairs, seed, Layout::Lines))),
+    let Some(layout) = layout_in(found) else {
+        return Ok(Err("either --csv or --json"));
+    };
+    Ok(Ok(Asked {
+        words,
+        pairs: pairs as u16,
+        seed,
+        layout,
+        by_node: is_given(found, "by-node"),
+    }))
+}
+
+// How figures are asked for; in two ways at once they can't be.
+fn layout_in(found: &ArgMatches<'_>) -> Option<Layout>
+    ensures { IfSome result (IsLayout (rows_in found.now)) }
+{
+    match (is_given(found, "csv"), is_given(found, "json")) {
+        (true, true) => None,
+        (true, false) => Some(Layout::Csv),
+        (false, true) => Some(Layout::Json),
+        (false, false) => Some(Layout::Lines),
     }
 }
 
@@ -277,7 +275,7 @@ fn laid_out(alloc: Global, figures: &[Figure], layout: Layout) -> Result<Vec<u8>
 }
 
 fn rows_laid_out(alloc: Global, rows: &[NodeRow], layout: Layout) -> Result<Vec<u8>, AllocError>
-    ensures { IfOk result (λ text. text.items ≡ rows_in layout rows.now) }
+    ensures { IfOk result (λ text. text.items ≡ rows_text layout rows.now) }
 {
     match layout {
         Layout::Lines => Ok(nodes_text(alloc, rows)?.into_bytes()),

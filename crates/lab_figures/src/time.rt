@@ -13,7 +13,10 @@ use command_output::Fault;
 use device_files::DeviceFile;
 use distances::{Reach, from_root};
 use graph_edits::Graph;
-use lab_parts::{command, flag, landmarks, store_in, told, told_memory, told_of, value, word};
+use lab_parts::{
+    command, flag, given, is_given, landmarks, landmarks_in, store_in, told, told_memory, told_of,
+    value, word,
+};
 use packet_bytes::PACKET_SIZE;
 use scheme_builds::{LEAST_SHARED, scheme_of_in_threads, workers_here};
 use schemes::Scheme;
@@ -23,7 +26,7 @@ use std::io::Write;
 use std::rt::{Clock, Files};
 use std::sync::Wait;
 use std::thread::Threads;
-use written_values::{LandmarkWords, landmark_words};
+use written_values::LandmarkWords;
 
 // What is timed, and how often.
 #[derive(Drop)]
@@ -62,17 +65,17 @@ where
     // 2 only where nothing was printed.
     ensures untouched { result ≡ 2 → out.new ≡ out.old }
 {
-    let (Some(device), Some(words)) = (found.get_str("device"), found.get_str("words")) else {
+    let Some(device) = given(found, "device") else {
         return 2;
     };
-    let runs = match found.get_str("runs") {
+    let runs = match given(found, "runs") {
         Some(text) => text.parse::<u16>().ok().filter(|runs| *runs > 0),
         None => Some(5),
     };
     let Some(runs) = runs else {
         return told(err, 2, "runs is a number from 1 to 65535");
     };
-    let words = match landmark_words(rt.alloc(), words) {
+    let words = match landmarks_in(rt.alloc(), found) {
         Ok(Some(words)) => words,
         Ok(None) => return told(err, 2, Fault::Words.text()),
         Err(_) => return told_memory(err),
@@ -82,7 +85,7 @@ where
         words,
         runs,
     };
-    let mut times = Times::new(rt.alloc(), out, found.get_flag("json"));
+    let mut times = Times::new(rt.alloc(), out, is_given(found, "json"));
     match time_all(rt, &asked, &mut times) {
         Ok(()) => 0,
         Err(refused) => told_of(err, device, refused),

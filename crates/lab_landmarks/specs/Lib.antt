@@ -1,3 +1,4 @@
 pub mod Reports
 pub mod Lines
 pub mod Answers
+pub mod Asked

@@ -1,20 +1,22 @@
 // The command `landmarks`.
-ghost use Rattle.std.specs.Prelude.{◌≡◌, ◌≤◌};
+ghost use Rattle.std.specs.Prelude.{◌≡◌, ◌≤◌, IfOk, IfSome, decimal, option_map};
+ghost use Rattle.clap.specs.Walk.{first_of};
+ghost use Rattle.lab_landmarks.specs.Asked.{DoesLandmarks, IsStart, IsWanted};
+ghost use Rattle.lab_parts.specs.Words.{rows_in};
+ghost use Rattle.written_values.specs.Reading.{IfRead};
 
 use crate::choosing::{Wanted, print_choice};
 use crate::chosen::Chosen;
 use clap::{ArgMatches, Command};
-use device_files::DeviceFile;
-use lab_parts::{PrintRefused, command, device, flag, told, told_memory, told_of, value};
+use lab_parts::{
+    PrintRefused, Sources, command, device, flag, given, is_given, loaded_of, optional, told,
+    told_memory, told_of, usual, value,
+};
 use landmark_choice::Start;
-use layout_2::load;
 use std::alloc::{AllocError, Global};
-use std::fs::File;
 use std::io::{IsTerminal, Write};
-use std::rt::Files;
 use std::sync::Wait;
 use std::thread::Threads;
-use written_values::number;
 
 /// Its grammar.
 pub fn grammar<'a>(alloc: Global) -> Result<Command<'a>, AllocError> {
@@ -56,14 +58,15 @@ pub fn grammar<'a>(alloc: Global) -> Result<Command<'a>, AllocError> {
 /// `err`; where that is a terminal, it also says what is being done.
 pub fn run<R, O, E>(rt: &R, found: &ArgMatches<'_>, out: &mut O, err: &mut E) -> u8
 where
-    R: Files<File = File> + AllocGlobal + Threads + Wait + Sync,
+    R: Sources + AllocGlobal + Threads + Wait + Sync,
     O: Write,
     E: Write + IsTerminal,
     ensures few { result ≤ 2 }
-    // 2 only where nothing was printed.
+    // 0 only where landmarks that keep the limits were printed, and 2 only where nothing was.
+    ensures printed { result ≡ 0 → DoesLandmarks R.Device.Disk R.opened R.closed (rows_in found.now) O.contents out.old out.new }
     ensures untouched { result ≡ 2 → out.new ≡ out.old }
 {
-    let Some(device) = found.get_str("device") else {
+    let Some(path) = given(found, "device") else {
         return 2;
     };
     let wanted = match wanted_in(rt.alloc(), found, err.is_terminal()) {
@@ -71,17 +74,19 @@ where
         Ok(Err(text)) => return told(err, 2, text),
         Err(_) => return told_memory(err),
     };
-    let mut file = match DeviceFile::open_to_read(rt, device) {
-        Ok(file) => file,
-        Err(refused) => return told_of(err, device, refused),
+    let mut device = match rt.open_to_read(path) {
+        Ok(device) => device,
+        Err(refused) => return told_of(err, path, refused),
     };
-    match load(rt.alloc(), &mut file) {
+    let loaded = loaded_of(rt.alloc(), &mut device);
+    rt.close(device);
+    match loaded {
         Ok(loaded) => {
             let chosen = print_choice(rt, &loaded.graph, loaded.count, wanted, out, err);
             tell(&chosen, err);
             chosen.status()
         }
-        Err(refused) => told_of(err, device, refused),
+        Err(fault) => told_of(err, path, fault),
     }
 }
 
@@ -105,22 +110,19 @@ fn wanted_in(
     alloc: Global,
     found: &ArgMatches<'_>,
     with_progress: bool,
-) -> Result<Result<Wanted, &'static str>, AllocError> {
-    let seed = found.get_str("seed").unwrap_or("0");
-    let Some(seed) = number(alloc, seed, u64::MAX)? else {
+) -> Result<Result<Wanted, &'static str>, AllocError>
+    ensures { IfOk result (λ read. IfOk read (IsWanted (rows_in found.now))) }
+{
+    let Some(seed) = usual(alloc, found, "seed", u64::MAX, 0)? else {
         return Ok(Err("seed not understood"));
     };
-    let start = match found.get_str("start").unwrap_or("best") {
-        "best" => None,
-        "none" => Some(Start::None),
-        "draw" => Some(Start::Draw),
-        "degree" => Some(Start::Degree),
-        _ => return Ok(Err("--start takes best, none, draw or degree")),
+    let Some(start) = start_in(given(found, "start")) else {
+        return Ok(Err("--start takes best, none, draw or degree"));
     };
-    let Ok(most_entries) = limit_in(alloc, found.get_str("most-entries"))? else {
+    let Some(most_entries) = limit_in(alloc, found, "most-entries")? else {
         return Ok(Err("--most-entries takes 1 to 65535"));
     };
-    let Ok(most) = limit_in(alloc, found.get_str("most"))? else {
+    let Some(most) = limit_in(alloc, found, "most")? else {
         return Ok(Err("--most takes 1 to 65535"));
     };
     Ok(Ok(Wanted {
@@ -128,18 +130,42 @@ fn wanted_in(
         start,
         most_entries,
         most,
-        with_figures: found.get_flag("figures"),
+        with_figures: is_given(found, "figures"),
         with_progress,
     }))
 }
 
-// A limit, where one is named. It is at least 1.
-fn limit_in(alloc: Global, text: Option<&str>) -> Result<Result<Option<u16>, ()>, AllocError> {
+// With which landmarks it begins: the best of all, where none is named.
+fn start_in(text: Option<&str>) -> Option<Option<Start>>
+    ensures { IfSome result (IsStart (option_map (λ text. text.now) text.entry)) }
+{
     let Some(text) = text else {
-        return Ok(Ok(None));
+        return Some(None);
     };
-    match number(alloc, text, u16::MAX as u64)? {
-        Some(limit) if limit > 0 => Ok(Ok(Some(u16::try_from(limit).unwrap_or(u16::MAX)))),
-        _ => Ok(Err(())),
+    if text == "best" {
+        Some(None)
+    } else if text == "none" {
+        Some(Some(Start::None))
+    } else if text == "draw" {
+        Some(Some(Start::Draw))
+    } else if text == "degree" {
+        Some(Some(Start::Degree))
+    } else {
+        None
+    }
+}
+
+// A limit, where one is named. It is at least 1.
+fn limit_in(
+    alloc: Global,
+    found: &ArgMatches<'_>,
+    id: &str,
+) -> Result<Option<Option<u16>>, AllocError>
+    ensures { IfRead result (λ limit. first_of id.now (rows_in found.now) ≡ option_map decimal limit) }
+{
+    match optional(alloc, found, id, u16::MAX as u64)? {
+        Some(None) => Ok(Some(None)),
+        Some(Some(limit)) if limit > 0 => Ok(Some(Some(limit as u16))),
+        _ => Ok(None),
     }
 }

@@ -1,15 +1,21 @@
 //! The command `edit`.
-ghost use Rattle.std.specs.Prelude.{◌≤◌, ◌<◌, IfErr, IfOk, IfSome};
+ghost use Rattle.std.specs.Prelude.{◌≡◌, ◌≤◌, ◌<◌, IfErr, IfOk, IfSome, codes, decimal, option_map};
+ghost use Rattle.clap.specs.Walk.{first_of};
+ghost use Rattle.lab_names.specs.Shown.{DoesEdit, PrintsEdit};
+ghost use Rattle.lab_parts.specs.Devices.{IsRefusal};
+ghost use Rattle.lab_parts.specs.Words.{IsUsual, rows_in};
 ghost use Rattle.requests.specs.Tickets.{sessions};
 
 use crate::editing::edit_named;
 use crate::words::many;
 use clap::{ArgMatches, Command};
-use command_output::Fault;
-use device_files::DeviceFile;
+use command_output::{Ended, Fault};
+use disk_trait::Disk;
 use lab_networks::names_beside;
-use lab_parts::{command, fault_of, told, told_memory, told_of, value, word};
-use layout_2::load;
+use lab_parts::{
+    Places, Sources, all_given, command, fault_of, given, loaded_of, optional, told, told_memory,
+    told_of, usual, value, word,
+};
 use requests::{SESSIONS, WORN_LIMIT};
 use std::alloc::{AllocError, Global};
 use std::fs::File;
@@ -17,7 +23,6 @@ use std::io::Write;
 use std::rt::Files;
 use std::sync::Wait;
 use std::thread::Threads;
-use written_values::number;
 
 /// Its grammar.
 pub fn grammar<'a>(alloc: Global) -> Result<Command<'a>, AllocError> {
@@ -43,7 +48,7 @@ pub fn grammar<'a>(alloc: Global) -> Result<Command<'a>, AllocError> {
 // What is asked for.
 #[derive(Clone, Copy, Drop)]
 struct Asked<'a> {
-    device: &'a str,
+    path: &'a str,
     session: u8,
     ticket: Option<u64>,
     ops: &'a [&'a str],
@@ -52,29 +57,37 @@ struct Asked<'a> {
 /// Makes the change that these matches ask for, prints what became of it, and answers the exit status.
 pub fn run<R, O, E>(rt: &R, found: &ArgMatches<'_>, out: &mut O, err: &mut E) -> u8
 where
-    R: Files<File = File> + AllocGlobal + Threads + Wait + Sync,
+    R: Files<File = File> + Places + AllocGlobal + Threads + Wait + Sync,
     O: Write,
     E: Write,
-    ensures { result ≤ 2 }
+    ensures few { result ≤ 2 }
+    // 0 only where it was made and this was printed, and 2 only where nothing was.
+    ensures printed { result ≡ 0 → DoesEdit R.Device.Disk R.held R.closed R.stands (rows_in found.now) O.contents out.old out.new }
+    ensures untouched { result ≡ 2 → out.new ≡ out.old }
 {
-    let (Some(device), Some(ops)) = (found.get_str("device"), found.get_strs("ops")) else {
+    let (Some(path), Some(ops)) = (given(found, "device"), all_given(found, "ops")) else {
         return 2;
     };
-    match numbers_in(rt.alloc(), found) {
-        Ok(Some((session, ticket))) => {
-            let asked = Asked {
-                device,
-                session,
-                ticket,
-                ops,
-            };
-            match edit(rt, asked, out, err) {
-                Ok(status) => status,
-                Err(status) => status,
-            }
-        }
-        Ok(None) => told(err, 2, Fault::Usage),
-        Err(_) => told_memory(err),
+    let (session, ticket) = match numbers_in(rt.alloc(), found) {
+        Ok(Some(numbers)) => numbers,
+        Ok(None) => return told(err, 2, Fault::Usage),
+        Err(_) => return told_memory(err),
+    };
+    let device = match rt.open_to_change(path) {
+        Ok(device) => device,
+        Err(refused) => return told_of(err, path, fault_of(refused)),
+    };
+    let asked = Asked {
+        path,
+        session,
+        ticket,
+        ops,
+    };
+    let (ended, device) = edit_on(rt, device, asked, out, err);
+    rt.close(device);
+    match ended {
+        Ok(ended) => ended.status(),
+        Err(status) => status,
     }
 }
 
@@ -83,47 +96,59 @@ fn numbers_in(
     alloc: Global,
     found: &ArgMatches<'_>,
 ) -> Result<Option<(u8, Option<u64>)>, AllocError>
-    ensures { IfOk result (λ found. IfSome found (λ p. p.0 < sessions)) }
+    ensures session { IfOk result (λ read. IfSome read (λ p. IsUsual (first_of (codes "session") (rows_in found.now)) 0 p.0)) }
+    ensures few { IfOk result (λ read. IfSome read (λ p. p.0 < sessions)) }
+    ensures ticket { IfOk result (λ read. IfSome read (λ p. first_of (codes "ticket") (rows_in found.now) ≡ option_map decimal p.1)) }
 {
-    let session = found.get_str("session").unwrap_or("0");
-    let Some(session) = number(alloc, session, SESSIONS as u64 - 1)? else {
+    let Some(session) = usual(alloc, found, "session", SESSIONS as u64 - 1, 0)? else {
         return Ok(None);
     };
-    let Some(ticket) = found.get_str("ticket") else {
-        return Ok(Some((session as u8, None)));
-    };
-    match number(alloc, ticket, WORN_LIMIT)? {
-        Some(ticket) if ticket >= 1 => Ok(Some((session as u8, Some(ticket)))),
-        _ => Ok(None),
+    match optional(alloc, found, "ticket", WORN_LIMIT)? {
+        Some(Some(0)) | None => Ok(None),
+        Some(ticket) => Ok(Some((session as u8, ticket))),
     }
 }
 
 // The device is locked from before its names are read until the change is made.
-fn edit<R, O, E>(rt: &R, asked: Asked<'_>, out: &mut O, err: &mut E) -> Result<u8, u8>
+#[tactic(auto, using(lab_networks::proofs::Names::called_beside))]
+fn edit_on<R, D, O, E>(
+    rt: &R,
+    mut disk: D,
+    asked: Asked<'_>,
+    out: &mut O,
+    err: &mut E,
+) -> (Result<Ended, u8>, D)
 where
-    R: Files<File = File> + AllocGlobal + Threads + Wait + Sync,
+    R: Files<File = File> + Sources + AllocGlobal + Threads + Wait + Sync,
+    D: Disk,
     O: Write,
     E: Write,
     requires { asked.session < sessions }
-    ensures ok { IfOk result (λ status. status ≤ 2) }
-    ensures err { IfErr result (λ status. status ≤ 2) }
+    ensures printed { IfOk result.0 (PrintsEdit D.Disk R.stands asked.entry.session asked.entry.ticket asked.entry.ops.now asked.entry.path.now
+        disk result.1 O.contents out.old out.new) }
+    ensures err { IfErr result.0 IsRefusal }
+    ensures untouched { IfErr result.0 (λ status. status ≡ 2 → out.new ≡ out.old) }
 {
-    let (alloc, device) = (rt.alloc(), asked.device);
-    let mut file = match DeviceFile::open(rt, device) {
-        Ok(file) => file,
-        Err(refused) => return Err(told_of(err, device, fault_of(refused))),
-    };
-    let loaded = match load(alloc, &mut file) {
+    let (alloc, path) = (rt.alloc(), asked.path);
+    let loaded = match loaded_of(alloc, &mut disk) {
         Ok(loaded) => loaded,
-        Err(refused) => return Err(told_of(err, device, refused)),
+        Err(fault) => return (Err(told_of(err, path, fault)), disk),
     };
-    let beside = names_beside(rt, device, &loaded.graph, err)?;
-    let called = beside.called(alloc, loaded.graph.nodes(), err)?;
-    beside.settle(rt, err)?;
+    let beside = match names_beside(rt, path, &loaded.graph, err) {
+        Ok(beside) => beside,
+        Err(status) => return (Err(status), disk),
+    };
+    let called = match beside.called(alloc, loaded.graph.nodes(), err) {
+        Ok(called) => called,
+        Err(status) => return (Err(status), disk),
+    };
+    if let Err(status) = beside.settle(rt, err) {
+        return (Err(status), disk);
+    }
     let (session, ticket) = (asked.session, asked.ticket);
-    let (ended, _file) = edit_named(rt, file, &called, session, ticket, asked.ops, out);
+    let (ended, disk) = edit_named(rt, disk, &called, session, ticket, asked.ops, out);
     match ended {
-        Ok(ended) => Ok(ended.status()),
-        Err(refused) => Err(refused.told(err, device)),
+        Ok(ended) => (Ok(ended), disk),
+        Err(refused) => (Err(refused.told(err, path)), disk),
     }
 }

@@ -14,7 +14,8 @@
 //! [`route_named`] finds the routes by the call of `file_commands` that finds each route, between the nodes for which the words stand, and prints them
 //! (`HasRouted` of `specs/Routes`);
 //! [`show_graph`] prints the listing of `node_names`. Where a word stands for no node, or a text is no op, nothing is printed, and the device is
-//! as it was. What a file of names holds no contract says: it is tested.
+//! as it was. Where `show`, `edit` or `route` ends with status 0, that was printed for what its words ask for, of the device that they name, and by
+//! the names that were read beside it (`DoesShow`, `DoesEdit` and `DoesRoute` of `specs/Shown`).
 #![tactic(auto)]
 
 pub mod edit;

@@ -1,5 +1,6 @@
 //! Why what is asked for by names isn't answered.
-ghost use Rattle.std.specs.Prelude.{◌≡◌, ◌≤◌};
+ghost use Rattle.std.specs.Prelude.{◌≡◌, ◌≢◌};
+ghost use Rattle.lab_parts.specs.Devices.{IsRefusal};
 
 use command_output::Fault;
 use lab_parts::{told, told_of};
@@ -18,7 +19,8 @@ pub enum AskedRefused<'a> {
 impl AskedRefused<'_> {
     // Tells it of a device, and answers the exit status. What is wrong with the words, or with what was to be printed, is told by itself.
     pub(crate) fn told<E: Write>(self, err: &mut E, device: &str) -> u8
-        ensures { result ≤ 2 }
+        ensures refusal { IsRefusal result }
+        ensures words { result ≡ 2 → self.entry ≢ AskedRefused.Fault Fault.Output }
     {
         match self {
             AskedRefused::Word(OpRefused::Memory) => told(err, 1, OpRefused::Memory),

@@ -1,19 +1,22 @@
 //! The command `route`.
-ghost use Rattle.std.specs.Prelude.{◌≤◌, IfErr, IfOk};
+ghost use Rattle.std.specs.Prelude.{◌≡◌, ◌≤◌, IfErr, IfOk};
+ghost use Rattle.lab_names.specs.Shown.{DoesRoute, PrintsRoutes};
+ghost use Rattle.lab_parts.specs.Devices.{IsRefusal};
+ghost use Rattle.lab_parts.specs.Words.{rows_in};
 
 use crate::ways::route_named;
 use crate::words::many;
 use clap::{ArgMatches, Command};
-use command_output::Fault;
-use device_files::DeviceFile;
+use command_output::{Ended, Fault};
+use disk_trait::Disk;
 use lab_networks::names_beside;
-use lab_parts::{command, device, fault_of, landmarks, told, told_memory, told_of};
-use layout_2::load;
+use lab_parts::{
+    Sources, all_given, command, device, fault_of, given, landmarks, landmarks_in, loaded_of, told,
+    told_memory, told_of,
+};
 use std::alloc::{AllocError, Global};
-use std::fs::File;
 use std::io::Write;
-use std::rt::Files;
-use written_values::{LandmarkWords, landmark_words};
+use written_values::LandmarkWords;
 
 /// Its grammar.
 pub fn grammar<'a>(alloc: Global) -> Result<Command<'a>, AllocError> {
@@ -24,61 +27,83 @@ pub fn grammar<'a>(alloc: Global) -> Result<Command<'a>, AllocError> {
     ))
 }
 
+// What is asked for.
+#[derive(Clone, Copy, Drop)]
+struct Asked<'a> {
+    path: &'a str,
+    words: &'a LandmarkWords,
+    nodes: &'a [&'a str],
+}
+
 /// Prints the ways that these matches ask for, and answers the exit status.
 pub fn run<R, O, E>(rt: &R, found: &ArgMatches<'_>, out: &mut O, err: &mut E) -> u8
 where
-    R: Files<File = File> + AllocGlobal,
+    R: Sources + AllocGlobal,
     O: Write,
     E: Write,
-    ensures { result ≤ 2 }
+    ensures few { result ≤ 2 }
+    // 0 only where each was found and printed, and 2 only where nothing was.
+    ensures printed { result ≡ 0 → DoesRoute R.Device.Disk R.opened R.closed R.stands (rows_in found.now) O.contents out.old out.new }
+    ensures untouched { result ≡ 2 → out.new ≡ out.old }
 {
-    let (Some(device), Some(nodes)) = (found.get_str("device"), found.get_strs("nodes")) else {
+    let (Some(path), Some(nodes)) = (given(found, "device"), all_given(found, "nodes")) else {
         return 2;
     };
     if nodes.len() % 2 == 1 {
         return told(err, 2, Fault::Usage);
     }
-    let asked = found.get_str("words").unwrap_or("none");
-    let asked = match landmark_words(rt.alloc(), asked) {
-        Ok(Some(asked)) => asked,
+    let words = match landmarks_in(rt.alloc(), found) {
+        Ok(Some(words)) => words,
         Ok(None) => return told(err, 2, Fault::Words),
         Err(_) => return told_memory(err),
     };
-    match route(rt, device, &asked, nodes, out, err) {
-        Ok(status) => status,
+    let device = match rt.open_to_read(path) {
+        Ok(device) => device,
+        Err(refused) => return told_of(err, path, fault_of(refused)),
+    };
+    let words = &words;
+    let (ended, device) = route_on(rt, device, Asked { path, words, nodes }, out, err);
+    rt.close(device);
+    match ended {
+        Ok(ended) => ended.status(),
         Err(status) => status,
     }
 }
 
-fn route<R, O, E>(
+#[tactic(auto, using(lab_networks::proofs::Names::called_beside))]
+fn route_on<R, D, O, E>(
     rt: &R,
-    device: &str,
-    asked: &LandmarkWords,
-    nodes: &[&str],
+    mut disk: D,
+    asked: Asked<'_>,
     out: &mut O,
     err: &mut E,
-) -> Result<u8, u8>
+) -> (Result<Ended, u8>, D)
 where
-    R: Files<File = File> + AllocGlobal,
+    R: Sources + AllocGlobal,
+    D: Disk,
     O: Write,
     E: Write,
-    ensures ok { IfOk result (λ status. status ≤ 2) }
-    ensures err { IfErr result (λ status. status ≤ 2) }
+    ensures printed { IfOk result.0 (PrintsRoutes D.Disk R.stands asked.entry.words.now asked.entry.nodes.now asked.entry.path.now
+        disk result.1 O.contents out.old out.new) }
+    ensures err { IfErr result.0 IsRefusal }
+    ensures untouched { IfErr result.0 (λ status. status ≡ 2 → out.new ≡ out.old) }
 {
-    let alloc = rt.alloc();
-    let mut file = match DeviceFile::open_to_read(rt, device) {
-        Ok(file) => file,
-        Err(refused) => return Err(told_of(err, device, fault_of(refused))),
-    };
-    let loaded = match load(alloc, &mut file) {
+    let (alloc, path) = (rt.alloc(), asked.path);
+    let loaded = match loaded_of(alloc, &mut disk) {
         Ok(loaded) => loaded,
-        Err(refused) => return Err(told_of(err, device, refused)),
+        Err(fault) => return (Err(told_of(err, path, fault)), disk),
     };
-    let beside = names_beside(rt, device, &loaded.graph, err)?;
-    let called = beside.called(alloc, loaded.graph.nodes(), err)?;
-    let (ended, _file) = route_named(alloc, file, &called, asked, nodes, out);
+    let beside = match names_beside(rt, path, &loaded.graph, err) {
+        Ok(beside) => beside,
+        Err(status) => return (Err(status), disk),
+    };
+    let called = match beside.called(alloc, loaded.graph.nodes(), err) {
+        Ok(called) => called,
+        Err(status) => return (Err(status), disk),
+    };
+    let (ended, disk) = route_named(alloc, disk, &called, asked.words, asked.nodes, out);
     match ended {
-        Ok(ended) => Ok(ended.status()),
-        Err(refused) => Err(refused.told(err, device)),
+        Ok(ended) => (Ok(ended), disk),
+        Err(refused) => (Err(refused.told(err, path)), disk),
     }
 }

@@ -1,15 +1,16 @@
 //! The command `show`.
-ghost use Rattle.std.specs.Prelude.{◌≤◌, IfErr};
+ghost use Rattle.std.specs.Prelude.{◌≡◌, ◌≤◌, IfErr, OnOk};
+ghost use Rattle.lab_names.specs.Shown.{DoesShow, PrintsListing};
+ghost use Rattle.lab_parts.specs.Devices.{IsRefusal};
+ghost use Rattle.lab_parts.specs.Words.{rows_in};
 
 use crate::listing::show_graph;
 use clap::{ArgMatches, Command};
-use device_files::DeviceFile;
+use disk_trait::Disk;
 use lab_networks::names_beside;
-use lab_parts::{command, device, store_in, told, told_of};
+use lab_parts::{Sources, command, device, given, loaded_of, told, told_of};
 use std::alloc::{AllocError, Global};
-use std::fs::File;
 use std::io::Write;
-use std::rt::Files;
 
 /// Its grammar.
 pub fn grammar<'a>(alloc: Global) -> Result<Command<'a>, AllocError> {
@@ -24,34 +25,48 @@ pub fn grammar<'a>(alloc: Global) -> Result<Command<'a>, AllocError> {
 /// Prints what the device that these matches name holds, and answers the exit status.
 pub fn run<R, O, E>(rt: &R, found: &ArgMatches<'_>, out: &mut O, err: &mut E) -> u8
 where
-    R: Files<File = File> + AllocGlobal,
+    R: Sources + AllocGlobal,
     O: Write,
     E: Write,
-    ensures { result ≤ 2 }
+    ensures few { result ≤ 2 }
+    // 0 only where it was printed, and 2 only where nothing was.
+    ensures printed { result ≡ 0 → DoesShow R.Device.Disk R.opened R.closed R.stands (rows_in found.now) O.contents out.old out.new }
+    ensures untouched { result ≡ 2 → out.new ≡ out.old }
 {
-    let Some(device) = found.get_str("device") else {
+    let Some(path) = given(found, "device") else {
         return 2;
     };
-    match show(rt, device, out, err) {
+    let mut device = match rt.open_to_read(path) {
+        Ok(device) => device,
+        Err(refused) => return told_of(err, path, refused),
+    };
+    let ended = show_on(rt, path, &mut device, out, err);
+    rt.close(device);
+    match ended {
         Ok(()) => 0,
         Err(status) => status,
     }
 }
 
-fn show<R, O, E>(rt: &R, device: &str, out: &mut O, err: &mut E) -> Result<(), u8>
+#[tactic(auto, using(lab_networks::proofs::Names::called_beside))]
+fn show_on<R, D, O, E>(rt: &R, path: &str, disk: &mut D, out: &mut O, err: &mut E) -> Result<(), u8>
 where
-    R: Files<File = File> + AllocGlobal,
+    R: Sources + AllocGlobal,
+    D: Disk,
     O: Write,
     E: Write,
-    ensures { IfErr result (λ status. status ≤ 2) }
+    ensures printed { OnOk result (PrintsListing R.stands path.now (D.view disk.old) (D.view disk.new)
+        O.contents out.old out.new) }
+    ensures err { IfErr result IsRefusal }
+    ensures untouched { IfErr result (λ status. status ≡ 2 → out.new ≡ out.old) }
 {
-    let store = match store_in(rt.alloc(), DeviceFile::open_to_read(rt, device)) {
-        Ok(store) => store,
-        Err(fault) => return Err(told_of(err, device, fault)),
+    let loaded = match loaded_of(rt.alloc(), disk) {
+        Ok(loaded) => loaded,
+        Err(fault) => return Err(told_of(err, path, fault)),
     };
-    let beside = names_beside(rt, device, store.graph(), err)?;
-    let called = beside.called(rt.alloc(), store.nodes(), err)?;
-    match show_graph(rt.alloc(), &called, store.count(), store.graph(), out) {
+    let beside = names_beside(rt, path, &loaded.graph, err)?;
+    let called = beside.called(rt.alloc(), loaded.graph.nodes(), err)?;
+    match show_graph(rt.alloc(), &called, loaded.count, &loaded.graph, out) {
         Ok(()) => Ok(()),
         Err(refused) => Err(told(err, 1, refused)),
     }

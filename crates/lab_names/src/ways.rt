@@ -8,9 +8,9 @@ ghost use Rattle.lab_names.specs.Routes.{AreNodesBy, ArePairsBy, HasRouted, IsNo
 
 use crate::refused::AskedRefused;
 use command_output::{Ended, Fault, UnreachableLine, print_text};
-use file_commands::route_device;
 use disk_trait::Disk;
 use edge_lists::Called;
+use file_commands::route_device;
 use node_names::{OpRefused, node_by, route_line};
 use scheme_builds::Route;
 use std::alloc::{AllocError, Global};

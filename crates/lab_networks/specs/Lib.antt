@@ -1,2 +1,4 @@
 pub mod Taken
 pub mod Networks
+pub mod Beside
+pub mod Exports

@@ -1,11 +1,14 @@
 //! What stands beside a device: how its nodes are called.
-ghost use Rattle.std.specs.Prelude.{◌≤◌, IfErr};
+ghost use Rattle.std.specs.Prelude.{IfErr, IfOk};
+ghost use Rattle.edge_lists.specs.Called.{IsCalled};
+ghost use Rattle.lab_networks.specs.Beside.{IsBeside, IsKept};
+ghost use Rattle.lab_parts.specs.Devices.{IsRefusal};
 
 use crate::files::text_of;
 use crate::taken::ToldPlace;
 use edge_lists::{Called, read_called};
 use graph_edits::{Graph, MOST_NODES};
-use lab_parts::{told_at, told_memory, told_of};
+use lab_parts::{Sources, told_at, told_memory, told_of};
 use network_import::{NamesAt, NamesFault, NamesPlace};
 use std::alloc::{AllocError, Global};
 use std::fs::{self, File, OpenOptions};
@@ -24,7 +27,9 @@ pub(crate) struct Beside {
 
 impl Beside {
     /// The paths beside a device.
-    pub(crate) fn of(alloc: Global, device: &str) -> Result<Beside, AllocError> {
+    pub(crate) fn of(alloc: Global, device: &str) -> Result<Beside, AllocError>
+        ensures { IfOk result (IsBeside device.now) }
+    {
         Ok(Beside {
             names: format!(in alloc; "{device}.names")?,
             laid: format!(in alloc; "{device}.names.new")?,
@@ -41,7 +46,8 @@ pub(crate) fn called_in<'a, E: Write>(
     most: u16,
     err: &mut E,
 ) -> Result<Called<'a>, u8>
-    ensures { IfErr result (λ status. status ≤ 2) }
+    ensures called { IfOk result (IsCalled most text.entry.now) }
+    ensures err { IfErr result IsRefusal }
 {
     match read_called(alloc, text, most) {
         Ok(Ok(called)) => Ok(called),
@@ -68,7 +74,7 @@ fn leaves_out<E: Write>(
     graph: &Graph,
     err: &mut E,
 ) -> Result<bool, u8>
-    ensures { IfErr result (λ status. status ≤ 2) }
+    ensures { IfErr result IsRefusal }
 {
     let Some(text) = text else {
         return Ok(reaches(graph, 0));
@@ -99,13 +105,14 @@ impl Kept {
 
 /// What is kept beside the device of this network. What an import has laid counts where the network has an edge at a node
 /// that isn't named without it: so the import was cut off when its edges were in.
-pub(crate) fn kept_of<R: Files<File = File> + AllocGlobal, E: Write>(
+pub(crate) fn kept_of<R: Sources + AllocGlobal, E: Write>(
     rt: &R,
     beside: &Beside,
     graph: &Graph,
     err: &mut E,
 ) -> Result<Kept, u8>
-    ensures { IfErr result (λ status. status ≤ 2) }
+    ensures kept { IfOk result (IsKept R.stands beside.now) }
+    ensures err { IfErr result IsRefusal }
 {
     let file = beside.names.as_str();
     let text = text_of(rt, file, err)?;
@@ -124,12 +131,12 @@ pub(crate) fn kept_of<R: Files<File = File> + AllocGlobal, E: Write>(
 }
 
 /// What is kept beside a device that isn't there.
-pub(crate) fn kept_alone<R: Files<File = File> + AllocGlobal, E: Write>(
+pub(crate) fn kept_alone<R: Sources, E: Write>(
     rt: &R,
     beside: &Beside,
     err: &mut E,
 ) -> Result<Kept, u8>
-    ensures { IfErr result (λ status. status ≤ 2) }
+    ensures { IfErr result IsRefusal }
 {
     Ok(Kept {
         text: text_of(rt, beside.names.as_str(), err)?,
@@ -144,7 +151,7 @@ pub(crate) fn settle<R: Files<File = File>, E: Write>(
     is_laid: bool,
     err: &mut E,
 ) -> Result<(), u8>
-    ensures { IfErr result (λ status. status ≤ 2) }
+    ensures { IfErr result IsRefusal }
 {
     if is_laid {
         return match put(rt, beside) {

@@ -1,10 +1,12 @@
 //! How the nodes of a device are called, for commands that don't change it.
-ghost use Rattle.std.specs.Prelude.{◌≤◌, IfErr};
+ghost use Rattle.std.specs.Prelude.{IfErr, IfOk};
+ghost use Rattle.lab_networks.specs.Beside.{AreCalled, IsReadBeside, text_beside};
+ghost use Rattle.lab_parts.specs.Devices.{IsRefusal};
 
 use crate::beside::{Beside, Kept, called_in, kept_of, settle};
 use edge_lists::Called;
 use graph_edits::Graph;
-use lab_parts::told_memory;
+use lab_parts::{Sources, told_memory};
 use std::alloc::Global;
 use std::fs::File;
 use std::io::Write;
@@ -18,13 +20,15 @@ pub struct NamesBeside {
 }
 
 /// What stands beside the device of this network. What isn't understood of it is told, and the exit status answered.
-pub fn names_beside<R: Files<File = File> + AllocGlobal, E: Write>(
+#[tactic(auto, using(crate::proofs::Names::read_beside))]
+pub fn names_beside<R: Sources + AllocGlobal, E: Write>(
     rt: &R,
     device: &str,
     graph: &Graph,
     err: &mut E,
 ) -> Result<NamesBeside, u8>
-    ensures { IfErr result (λ status. status ≤ 2) }
+    ensures read { IfOk result (IsReadBeside R.stands device.now) }
+    ensures err { IfErr result IsRefusal }
 {
     let Ok(beside) = Beside::of(rt.alloc(), device) else {
         return Err(told_memory(err));
@@ -42,7 +46,8 @@ impl NamesBeside {
         nodes: u16,
         err: &mut E,
     ) -> Result<Called<'a>, u8>
-        ensures { IfErr result (λ status. status ≤ 2) }
+        ensures called { IfOk result (AreCalled nodes (text_beside self.entry.now)) }
+        ensures err { IfErr result IsRefusal }
     {
         match &self.kept.text {
             Some(text) => called_in(
@@ -59,7 +64,7 @@ impl NamesBeside {
     /// Puts names in their place that an import has laid and didn't come to put there: they count while the device has an edge at a node that
     /// is named there alone, and a change may cut it.
     pub fn settle<R: Files<File = File>, E: Write>(&self, rt: &R, err: &mut E) -> Result<(), u8>
-        ensures { IfErr result (λ status. status ≤ 2) }
+        ensures { IfErr result IsRefusal }
     {
         if self.kept.is_laid {
             settle(rt, &self.beside, true, err)

@@ -1,18 +1,22 @@
 //! The command `export`.
-ghost use Rattle.std.specs.Prelude.{◌≤◌, IfErr};
+ghost use Rattle.std.specs.Prelude.{◌≡◌, ◌≢◌, ◌≤◌, IfErr, IfOk, IfSome, IsTrue, None, OnOk, Some, codes, option_map};
+ghost use Rattle.clap.specs.Walk.{first_of};
+ghost use Rattle.lab_networks.specs.Exports.{DoesExport, IsForm, PrintsCalled, PrintsIn};
+ghost use Rattle.lab_parts.specs.Devices.{IsRefusal};
+ghost use Rattle.lab_parts.specs.Words.{rows_in};
 
-use crate::beside::{Beside, called_in, kept_of};
+use crate::calling::names_beside;
 use crate::networks::{ExportRefused, Form, export_graph};
 use clap::{ArgMatches, Command};
 use command_output::Fault;
-use device_files::DeviceFile;
+use disk_trait::Disk;
 use edge_lists::{Called, Names};
 use graph_edits::{Graph, MOST_NODES};
-use lab_parts::{command, device, store_in, told, told_memory, told_of, value};
+use lab_parts::{
+    PrintRefused, Sources, command, device, given, loaded_of, told, told_memory, told_of, value,
+};
 use std::alloc::{AllocError, Global};
-use std::fs::File;
 use std::io::Write;
-use std::rt::Files;
 use written_values::landmark_words;
 
 /// Its grammar.
@@ -40,12 +44,15 @@ pub fn grammar<'a>(alloc: Global) -> Result<Command<'a>, AllocError> {
 /// Prints the network of a device, and answers the exit status.
 pub fn run<R, O, E>(rt: &R, found: &ArgMatches<'_>, out: &mut O, err: &mut E) -> u8
 where
-    R: Files<File = File> + AllocGlobal,
+    R: Sources + AllocGlobal,
     O: Write,
     E: Write,
-    ensures { result ≤ 2 }
+    ensures few { result ≤ 2 }
+    // 0 only where it was printed, and 2 only where nothing was.
+    ensures printed { result ≡ 0 → DoesExport R.Device.Disk R.opened R.closed R.stands (rows_in found.now) O.contents out.old out.new }
+    ensures untouched { result ≡ 2 → out.new ≡ out.old }
 {
-    let Some(device) = found.get_str("device") else {
+    let Some(path) = given(found, "device") else {
         return 2;
     };
     let form = match form_in(rt.alloc(), found) {
@@ -53,41 +60,70 @@ where
         Ok(Err(text)) => return told(err, 2, text),
         Err(_) => return told_memory(err),
     };
-    match export_device(rt, device, &form, out, err) {
+    let mut device = match rt.open_to_read(path) {
+        Ok(device) => device,
+        Err(refused) => return told_of(err, path, refused),
+    };
+    let ended = export_on(rt, path, &mut device, &form, out, err);
+    rt.close(device);
+    match ended {
         Ok(()) => 0,
         Err(status) => status,
     }
 }
 
 // The form that is asked for, or what isn't understood of it.
-fn form_in(
-    alloc: Global,
-    found: &ArgMatches<'_>,
-) -> Result<Result<Form, &'static str>, AllocError> {
-    let form = found.get_str("as").unwrap_or("edges");
-    if form == "dot" {
-        return dot_in(alloc, found);
+fn form_in(alloc: Global, found: &ArgMatches<'_>) -> Result<Result<Form, &'static str>, AllocError>
+    ensures { IfOk result (λ read. IfOk read
+        (IsForm (first_of (codes "as") (rows_in found.now)) (first_of (codes "words") (rows_in found.now)))) }
+{
+    let (form, words) = (given(found, "as"), given(found, "words"));
+    if is_dot(form) {
+        return dot_in(alloc, words);
     }
-    let form = if form == "edges" {
-        Form::Edges
-    } else if form == "csv" {
-        Form::Csv
-    } else if form == "dimacs" {
-        Form::Dimacs
-    } else if form == "json" {
-        Form::Json
-    } else {
+    let Some(form) = plain_form(form) else {
         return Ok(Err("--as takes edges, csv, dimacs, dot or json"));
     };
-    if found.get_str("words").is_some() {
-        return Ok(Err("--words goes with --as dot"));
+    match words {
+        Some(_) => Ok(Err("--words goes with --as dot")),
+        None => Ok(Ok(form)),
     }
-    Ok(Ok(form))
 }
 
-// The same of a picture.
-fn dot_in(alloc: Global, found: &ArgMatches<'_>) -> Result<Result<Form, &'static str>, AllocError> {
-    let Some(text) = found.get_str("words") else {
+fn is_dot(form: Option<&str>) -> bool
+    ensures { IsTrue result → option_map (λ text. text.now) form.entry ≡ Some (codes "dot") }
+{
+    match form {
+        Some(text) => text == "dot",
+        None => false,
+    }
+}
+
+// A form that is no picture.
+fn plain_form(form: Option<&str>) -> Option<Form>
+    ensures { IfSome result (IsForm (option_map (λ text. text.now) form.entry) None) }
+{
+    let Some(text) = form else {
+        return Some(Form::Edges);
+    };
+    if text == "edges" {
+        Some(Form::Edges)
+    } else if text == "csv" {
+        Some(Form::Csv)
+    } else if text == "dimacs" {
+        Some(Form::Dimacs)
+    } else if text == "json" {
+        Some(Form::Json)
+    } else {
+        None
+    }
+}
+
+// A picture, by these landmark words.
+fn dot_in(alloc: Global, words: Option<&str>) -> Result<Result<Form, &'static str>, AllocError>
+    ensures { IfOk result (λ read. IfOk read (IsForm (Some (codes "dot")) (option_map (λ text. text.now) words.entry))) }
+{
+    let Some(text) = words else {
         return Ok(Ok(Form::Dot(None)));
     };
     match landmark_words(alloc, text)? {
@@ -96,57 +132,53 @@ fn dot_in(alloc: Global, found: &ArgMatches<'_>) -> Result<Result<Form, &'static
     }
 }
 
-// Prints the network of a device, with the names that are kept beside it.
-fn export_device<R, O, E>(
+// Prints the network of a device, its nodes by what they are called beside it.
+#[tactic(auto, using(crate::proofs::Names::called_beside))]
+fn export_on<R, D, O, E>(
     rt: &R,
-    device: &str,
+    path: &str,
+    disk: &mut D,
     form: &Form,
     out: &mut O,
     err: &mut E,
 ) -> Result<(), u8>
 where
-    R: Files<File = File> + AllocGlobal,
+    R: Sources + AllocGlobal,
+    D: Disk,
     O: Write,
     E: Write,
-    ensures { IfErr result (λ status. status ≤ 2) }
+    ensures printed { OnOk result (PrintsIn form.now R.stands path.now (D.view disk.old) (D.view disk.new)
+        O.contents out.old out.new) }
+    ensures err { IfErr result IsRefusal }
+    ensures untouched { IfErr result (λ status. status ≡ 2 → out.new ≡ out.old) }
 {
-    let Ok(beside) = Beside::of(rt.alloc(), device) else {
-        return Err(told_memory(err));
+    let loaded = match loaded_of(rt.alloc(), disk) {
+        Ok(loaded) => loaded,
+        Err(fault) => return Err(told_of(err, path, fault)),
     };
-    match store_in(rt.alloc(), DeviceFile::open_to_read(rt, device)) {
-        Ok(store) => export_named(rt, &beside, store.graph(), form, out, err),
-        Err(fault) => Err(told_of(err, device, fault)),
-    }
-}
-
-fn export_named<R, O, E>(
-    rt: &R,
-    beside: &Beside,
-    graph: &Graph,
-    form: &Form,
-    out: &mut O,
-    err: &mut E,
-) -> Result<(), u8>
-where
-    R: Files<File = File> + AllocGlobal,
-    O: Write,
-    E: Write,
-    ensures { IfErr result (λ status. status ≤ 2) }
-{
-    let kept = kept_of(rt, beside, graph, err)?;
-    let names = match &kept.text {
-        Some(text) => {
-            let file = kept.file(beside);
-            match called_in(rt.alloc(), file, text.as_str(), MOST_NODES, err)? {
-                Called::Names(names) => names,
-                Called::Numbers => Names::new(rt.alloc()),
-            }
-        }
-        None => Names::new(rt.alloc()),
-    };
-    match export_graph(rt.alloc(), graph, names.list(), form, out) {
+    let beside = names_beside(rt, path, &loaded.graph, err)?;
+    let called = beside.called(rt.alloc(), MOST_NODES, err)?;
+    match export_called(rt.alloc(), &loaded.graph, called, form, out) {
         Ok(()) => Ok(()),
         Err(ExportRefused::Words) => Err(told(err, 2, Fault::Words)),
         Err(ExportRefused::Print(refused)) => Err(told(err, 1, refused)),
     }
+}
+
+// Prints a network whose nodes are called so.
+fn export_called<O: Write>(
+    alloc: Global,
+    graph: &Graph,
+    called: Called<'_>,
+    form: &Form,
+    out: &mut O,
+) -> Result<(), ExportRefused>
+    ensures printed { OnOk result (PrintsCalled graph.now called.entry form.now O.contents out.old out.new) }
+    ensures untouched { IfErr result (λ refused. refused ≢ ExportRefused.Print PrintRefused.Output → out.new ≡ out.old) }
+{
+    let names = match called {
+        Called::Names(names) => names,
+        Called::Numbers => Names::new(alloc),
+    };
+    export_graph(alloc, graph, names.list(), form, out)
 }

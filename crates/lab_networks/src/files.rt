@@ -1,10 +1,10 @@
 //! The texts of files.
-ghost use Rattle.std.specs.Prelude.{◌≤◌, IfErr};
+ghost use Rattle.std.specs.Prelude.{IfErr, IfOk, option_map};
+ghost use Rattle.std.specs.String.{string_bytes};
+ghost use Rattle.lab_parts.specs.Devices.{IsRefusal};
 
-use lab_parts::{told_at, told_of};
-use std::fs::{self, File};
-use std::io::{ErrorKind, Write};
-use std::rt::Files;
+use lab_parts::{Sources, told_at, told_of};
+use std::io::Write;
 
 // The number of the line in which the byte at a place stands, from 1.
 fn line_at(bytes: &[u8], place: usize) -> usize {
@@ -18,19 +18,18 @@ fn line_at(bytes: &[u8], place: usize) -> usize {
 }
 
 /// The text of a file, `None` where it isn't there. What else went wrong is told, and the exit status answered.
-pub(crate) fn text_of<R: Files<File = File> + AllocGlobal, E: Write>(
+pub(crate) fn text_of<R: Sources, E: Write>(
     rt: &R,
     file: &str,
     err: &mut E,
 ) -> Result<Option<String>, u8>
-    ensures { IfErr result (λ status. status ≤ 2) }
+    ensures text { IfOk result (λ text. R.stands file.now (option_map string_bytes text)) }
+    ensures err { IfErr result IsRefusal }
 {
-    let bytes = match fs::read(rt, file) {
-        Ok(bytes) => bytes,
-        Err(error) => match error.kind() {
-            ErrorKind::NotFound => return Ok(None),
-            _ => return Err(told_of(err, file, error)),
-        },
+    let bytes = match rt.read(file) {
+        Ok(Some(bytes)) => bytes,
+        Ok(None) => return Ok(None),
+        Err(error) => return Err(told_of(err, file, error)),
     };
     if let Err(error) = str::from_utf8(&bytes) {
         let line = line_at(&bytes, error.valid_up_to());

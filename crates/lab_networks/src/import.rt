@@ -1,6 +1,10 @@
 //! The command `import`.
 ghost use Rattle.std.specs.Prelude.{◌≡◌, ◌≤◌, IfErr, IfOk, IfSome, false};
-ghost use Rattle.checkpoint.specs.StoreWords.{is_down};
+ghost use Rattle.checkpoint.specs.StoreWords.{is_down, state_of};
+ghost use Rattle.command_output.specs.Printing.{PrintsText};
+ghost use Rattle.lab_networks.specs.Taken.{DoesImport, GivesBackTotals, HasPrinted, IsHad, totals_of};
+ghost use Rattle.lab_parts.specs.Devices.{IsRefusal};
+ghost use Rattle.lab_parts.specs.Words.{rows_in};
 
 use crate::beside::{Beside, Kept, NamesFile, called_in, kept_alone, kept_of, settle};
 use crate::files::text_of;
@@ -9,13 +13,16 @@ use crate::texts::{FileForm, Listed, Place, form_named, network_in, told_in};
 use checkpoint::{DEVICE_LEN, Store};
 use clap::{ArgMatches, Command};
 use command_output::Fault;
-use device_files::DeviceFile;
+use disk_trait::Disk;
 use edge_lists::{
     Called, Edge, Heading, NUMBERS, NameForm, Names, Row, Writing, by_numbers, call_numbers,
     each_once, node_in,
 };
 use graph_edits::MOST_NODES;
-use lab_parts::{command, fault_of, flag, store_in, told, told_memory, told_of, value, word};
+use lab_parts::{
+    Places, Sources, command, fault_of, flag, given, is_given, store_in, told, told_memory,
+    told_of, value, word,
+};
 use network_import::{NamesAt, incoming_edges};
 use std::alloc::{AllocError, Global};
 use std::fs::{self, File};
@@ -73,12 +80,15 @@ pub fn grammar<'a>(alloc: Global) -> Result<Command<'a>, AllocError> {
 /// Brings a network to a device, and answers the exit status.
 pub fn run<R, O, E>(rt: &R, found: &ArgMatches<'_>, out: &mut O, err: &mut E) -> u8
 where
-    R: Files<File = File> + AllocGlobal,
+    R: Files<File = File> + Places + AllocGlobal,
     O: Write,
     E: Write + IsTerminal,
-    ensures { result ≤ 2 }
+    ensures few { result ≤ 2 }
+    // 0 only where it was printed what the device holds then, and 2 only where nothing was.
+    ensures printed { result ≡ 0 → DoesImport R.Device.Disk R.held R.closed (rows_in found.now) O.contents out.old out.new }
+    ensures untouched { result ≡ 2 → out.new ≡ out.old }
 {
-    let (Some(device), Some(file)) = (found.get_str("device"), found.get_str("file")) else {
+    let (Some(device), Some(file)) = (given(found, "device"), given(found, "file")) else {
         return 2;
     };
     let form = match form_in(found) {
@@ -100,9 +110,9 @@ where
         nodes,
         form,
         scale,
-        by_names: found.get_flag("names"),
-        by_least: found.get_flag("least"),
-        updates: found.get_flag("update"),
+        by_names: is_given(found, "names"),
+        by_least: is_given(found, "least"),
+        updates: is_given(found, "update"),
         beside,
     };
     match import.bring(out, err) {
@@ -116,14 +126,14 @@ fn numbers_in(
     alloc: Global,
     found: &ArgMatches<'_>,
 ) -> Result<Result<(Option<u16>, Option<u32>), &'static str>, AllocError> {
-    let nodes = match found.get_str("nodes") {
+    let nodes = match given(found, "nodes") {
         Some(word) => match number(alloc, word, MOST_NODES as u64)? {
             Some(nodes) if nodes >= 1 => Some(nodes as u16),
             _ => return Ok(Err("--nodes takes 1 to 16384")),
         },
         None => None,
     };
-    let scale = match found.get_str("scale") {
+    let scale = match given(found, "scale") {
         Some(word) => match number(alloc, word, 1_000_000)? {
             Some(scale) if scale >= 1 => Some(scale as u32),
             _ => return Ok(Err("--scale takes 1 to 1000000")),
@@ -135,13 +145,13 @@ fn numbers_in(
 
 // The form that is asked for, or what isn't understood of it. A header is one of edge lists.
 fn form_in(found: &ArgMatches<'_>) -> Result<Option<FileForm>, &'static str> {
-    let heading = match (found.get_flag("header"), found.get_flag("no-header")) {
+    let heading = match (is_given(found, "header"), is_given(found, "no-header")) {
         (true, true) => return Err("either --header or --no-header"),
         (true, false) => Heading::There,
         (false, true) => Heading::Absent,
         (false, false) => Heading::ByWords,
     };
-    match found.get_str("as") {
+    match given(found, "as") {
         Some(name) => Ok(Some(form_named(name, heading)?)),
         None if heading == Heading::ByWords => Ok(None),
         None => Ok(Some(FileForm::Lines(Writing::Edges(heading, None)))),
@@ -173,10 +183,13 @@ struct List {
     place: Place,
 }
 
-impl<R: Files<File = File> + AllocGlobal> Import<'_, R> {
+impl<R: Files<File = File> + Places + AllocGlobal> Import<'_, R> {
     fn bring<O: Write, E: Write + IsTerminal>(&self, out: &mut O, err: &mut E) -> Result<u8, u8>
-        ensures ok { IfOk result (λ status. status ≤ 2) }
-        ensures err { IfErr result (λ status. status ≤ 2) }
+        ensures ok { IfOk result (λ status. status ≤ 1) }
+        ensures printed { IfOk result (λ status. status ≡ 0
+            → HasPrinted R.Device.Disk R.held R.closed self.now.device.now O.contents out.old out.new) }
+        ensures err { IfErr result IsRefusal }
+        ensures untouched { IfErr result (λ status. status ≡ 2 → out.new ≡ out.old) }
     {
         let Some(text) = text_of(self.rt, self.file, err)? else {
             return Err(told_of(err, self.file, "the file is not there"));
@@ -197,14 +210,17 @@ impl<R: Files<File = File> + AllocGlobal> Import<'_, R> {
     // A network for a device that is there.
     fn bring_to<O: Write, E: Write + IsTerminal>(
         &self,
-        mut store: Store<DeviceFile>,
+        mut store: Store<R::Device>,
         listed: &Listed,
         out: &mut O,
         err: &mut E,
     ) -> Result<u8, u8>
         requires { is_down store ≡ false }
-        ensures ok { IfOk result (λ status. status ≤ 2) }
-        ensures err { IfErr result (λ status. status ≤ 2) }
+        ensures ok { IfOk result (λ status. status ≤ 1) }
+        ensures printed { IfOk result (λ status. status ≡ 0
+            → GivesBackTotals R.Device.Disk R.closed O.contents out.old out.new) }
+        ensures err { IfErr result IsRefusal }
+        ensures untouched { IfErr result (λ status. status ≡ 2 → out.new ≡ out.old) }
     {
         let kept = kept_of(self.rt, &self.beside, store.graph(), err)?;
         if listed.nodes.unwrap_or(0) > store.nodes() {
@@ -215,7 +231,9 @@ impl<R: Files<File = File> + AllocGlobal> Import<'_, R> {
         let has_edges = store.graph().edges() > 0;
         let list = self.list_of(listed, &kept, store.nodes(), has_edges, err)?;
         settle(self.rt, &self.beside, kept.is_laid, err)?;
-        take(&*self, &list, false, &mut store, out, err)
+        let status = take(&*self, &list, false, &mut store, out, err)?;
+        self.rt.close(store.into_disk());
+        Ok(status)
     }
 
     // A network for a device that is made. Where it doesn't come to all edges, it is taken away again.
@@ -225,8 +243,11 @@ impl<R: Files<File = File> + AllocGlobal> Import<'_, R> {
         out: &mut O,
         err: &mut E,
     ) -> Result<u8, u8>
-        ensures ok { IfOk result (λ status. status ≤ 2) }
-        ensures err { IfErr result (λ status. status ≤ 2) }
+        ensures ok { IfOk result (λ status. status ≤ 1) }
+        ensures printed { IfOk result (λ status. status ≡ 0
+            → HasPrinted R.Device.Disk R.held R.closed self.now.device.now O.contents out.old out.new) }
+        ensures err { IfErr result IsRefusal }
+        ensures untouched { IfErr result (λ status. status ≡ 2 → out.new ≡ out.old) }
     {
         let kept = kept_alone(self.rt, &self.beside, err)?;
         let most = self.nodes.unwrap_or(MOST_NODES);
@@ -241,7 +262,10 @@ impl<R: Files<File = File> + AllocGlobal> Import<'_, R> {
         settle(self.rt, &self.beside, kept.is_laid, err)?;
         let mut store = self.made(self.nodes.unwrap_or(list.nodes), err)?;
         match take(&*self, &list, true, &mut store, out, err) {
-            Ok(status) => Ok(status),
+            Ok(status) => {
+                self.rt.close(store.into_disk());
+                Ok(status)
+            }
             Err(status) => Err(self.taken_back(status, err)),
         }
     }
@@ -273,7 +297,7 @@ impl<R: Files<File = File> + AllocGlobal> Import<'_, R> {
         has_edges: bool,
         err: &mut E,
     ) -> Result<List, u8>
-        ensures { IfErr result (λ status. status ≤ 2) }
+        ensures { IfErr result IsRefusal }
     {
         match &kept.text {
             Some(text) => {
@@ -306,7 +330,7 @@ impl<R: Files<File = File> + AllocGlobal> Import<'_, R> {
         why: &str,
         err: &mut E,
     ) -> Result<List, u8>
-        ensures { IfErr result (λ status. status ≤ 2) }
+        ensures { IfErr result IsRefusal }
     {
         if self.by_names {
             let text = "its nodes are called by numbers, and --names does not change that";
@@ -327,7 +351,7 @@ impl<R: Files<File = File> + AllocGlobal> Import<'_, R> {
 
     // The edges of a list where it isn't said yet how nodes are called.
     fn list_anew<E: Write>(&self, listed: &Listed, most: u16, err: &mut E) -> Result<List, u8>
-        ensures { IfErr result (λ status. status ≤ 2) }
+        ensures { IfErr result IsRefusal }
     {
         let alloc = self.rt.alloc();
         if self.calls_names(listed) {
@@ -355,7 +379,7 @@ impl<R: Files<File = File> + AllocGlobal> Import<'_, R> {
         why: &str,
         err: &mut E,
     ) -> Result<List, u8>
-        ensures { IfErr result (λ status. status ≤ 2) }
+        ensures { IfErr result IsRefusal }
     {
         let (rows, first) = (&listed.rows, listed.first());
         let last = listed.nodes.unwrap_or(most).saturating_sub(1);
@@ -386,7 +410,7 @@ impl<R: Files<File = File> + AllocGlobal> Import<'_, R> {
         edges: Vec<Edge>,
         err: &mut E,
     ) -> Result<Vec<Edge>, u8>
-        ensures { IfErr result (λ status. status ≤ 2) }
+        ensures { IfErr result IsRefusal }
     {
         if listed.is_edge_list() && !self.by_least && !self.updates {
             return Ok(edges);
@@ -413,7 +437,7 @@ impl<R: Files<File = File> + AllocGlobal> Import<'_, R> {
         why: &str,
         err: &mut E,
     ) -> Result<u16, u8>
-        ensures { IfErr result (λ status. status ≤ 2) }
+        ensures { IfErr result IsRefusal }
     {
         let mut nodes = 0;
         let mut number: usize = 0;
@@ -470,7 +494,7 @@ impl<R: Files<File = File> + AllocGlobal> Import<'_, R> {
         most: u16,
         err: &mut E,
     ) -> Result<List, u8>
-        ensures { IfErr result (λ status. status ≤ 2) }
+        ensures { IfErr result IsRefusal }
     {
         let alloc = self.rt.alloc();
         let mut number: usize = 0;
@@ -510,15 +534,20 @@ impl<R: Files<File = File> + AllocGlobal> Import<'_, R> {
     // ---- the device
 
     // The store of a device, where it is there. It is told where another number of nodes is asked for.
-    fn opened<E: Write>(&self, err: &mut E) -> Result<Option<Store<DeviceFile>>, u8>
+    fn opened<E: Write>(&self, err: &mut E) -> Result<Option<Store<R::Device>>, u8>
         ensures up { IfOk result (λ found. IfSome found (λ store. is_down store ≡ false)) }
-        ensures err { IfErr result (λ status. status ≤ 2) }
+        ensures had { IfOk result (λ found. IfSome found (λ _. IsHad R.held self.now.device.now)) }
+        ensures err { IfErr result IsRefusal }
     {
         let (rt, device) = (self.rt, self.device);
         if let Ok(false) = fs::exists(rt, device) {
             return Ok(None);
         }
-        let store = match store_in(rt.alloc(), DeviceFile::open(rt, device)) {
+        let disk = match rt.open_to_change(device) {
+            Ok(disk) => disk,
+            Err(refused) => return Err(told_of(err, device, fault_of(refused))),
+        };
+        let store = match store_in(rt.alloc(), Ok(disk)) {
             Ok(store) => store,
             Err(fault) => return Err(told_of(err, device, fault)),
         };
@@ -531,16 +560,17 @@ impl<R: Files<File = File> + AllocGlobal> Import<'_, R> {
     }
 
     // The store of a device that is made, with so many nodes.
-    fn made<E: Write>(&self, nodes: u16, err: &mut E) -> Result<Store<DeviceFile>, u8>
+    fn made<E: Write>(&self, nodes: u16, err: &mut E) -> Result<Store<R::Device>, u8>
         ensures up { IfOk result (λ store. is_down store ≡ false) }
-        ensures err { IfErr result (λ status. status ≤ 2) }
+        ensures had { IfOk result (λ _. IsHad R.held self.now.device.now) }
+        ensures err { IfErr result IsRefusal }
     {
         let device = self.device;
         if nodes < 1 {
             return Err(told_of(err, device, Fault::NodeCount));
         }
-        match DeviceFile::make_new(self.rt, device, DEVICE_LEN) {
-            Ok(file) => match formatted(self.rt.alloc(), file, nodes) {
+        match self.rt.make_new(device, DEVICE_LEN) {
+            Ok(disk) => match formatted(self.rt.alloc(), disk, nodes) {
                 Ok(store) => Ok(store),
                 Err(fault) => {
                     let status = told_of(err, device, fault);
@@ -553,21 +583,24 @@ impl<R: Files<File = File> + AllocGlobal> Import<'_, R> {
 }
 
 // Takes a list into a store, or answers the exit status where not all edges are in.
-fn take<'a, R, O, E>(
+fn take<'a, R, D, O, E>(
     import: &'a Import<'a, R>,
     list: &'a List,
     is_new: bool,
-    store: &mut Store<DeviceFile>,
+    store: &mut Store<D>,
     out: &mut O,
     err: &mut E,
 ) -> Result<u8, u8>
 where
     R: Files<File = File> + AllocGlobal,
+    D: Disk,
     O: Write,
     E: Write + IsTerminal,
     requires { is_down store.old ≡ false }
-    ensures ok { IfOk result (λ status. status ≤ 2) }
-    ensures err { IfErr result (λ status. status ≤ 2) }
+    ensures ok { IfOk result (λ status. status ≤ 1) }
+    ensures printed { IfOk result (λ status. status ≡ 0
+        → PrintsText O.contents out.old out.new (totals_of (state_of store.new))) }
+    ensures err { IfErr result (λ status. status ≡ 1) }
 {
     let alloc = import.rt.alloc();
     let edges = match incoming_edges(alloc, store.graph(), import.updates, &list.edges) {
@@ -595,12 +628,12 @@ where
     Ok(taken.status())
 }
 
-// The store of a new device file, with so many nodes.
-fn formatted(alloc: Global, mut file: DeviceFile, nodes: u16) -> Result<Store<DeviceFile>, Fault>
+// The store of a new device, with so many nodes.
+fn formatted<D: Disk + Drop>(alloc: Global, mut disk: D, nodes: u16) -> Result<Store<D>, Fault>
     ensures { IfOk result (λ store. is_down store ≡ false) }
 {
-    device_commands::format(&mut file, nodes)?;
-    store_in(alloc, Ok(file))
+    device_commands::format(&mut disk, nodes)?;
+    store_in(alloc, Ok(disk))
 }
 
 // One more than the greatest number.

@@ -11,8 +11,10 @@
 //! `network_import`, with all that it promises, and where it says so, the line of what the store holds then was printed (`IsTaken` of
 //! `specs/Taken`); the status is 0 just where all edges and their names are in and the line was printed ([`Taken::status`]). Where
 //! [`export_graph`] answers Ok, what was printed is the text of that very network in the form that was asked for, a picture with its
-//! landmarks marked by the words that were asked for (`PrintsNetwork` of `specs/Networks`). What a file holds no contract says: that the
-//! lists and the names are those of the files is tested.
+//! landmarks marked by the words that were asked for (`PrintsNetwork` of `specs/Networks`). Where `export` ends with status 0, that was printed
+//! of the device that its words name, in the form that they ask for, its nodes by what was read beside it (`DoesExport` of `specs/Exports`,
+//! `AreCalledBeside` of `specs/Beside`); where `import` does, what a store on that device holds (`DoesImport` of `specs/Taken`). That the
+//! edges are those of the file, and which of two files of names counts, is tested.
 #![tactic(auto)]
 
 mod beside;

@@ -1,5 +1,6 @@
 //! Files with networks, in each form.
-ghost use Rattle.std.specs.Prelude.{◌≡◌, ◌≤◌, IfErr};
+ghost use Rattle.std.specs.Prelude.{◌≡◌, IfErr};
+ghost use Rattle.lab_parts.specs.Devices.{IsRefusal};
 
 use edge_lists::{
     Form, Heading, LineRefused, Names, Nodes, Row, Writing, begins_object, form_of, read_links,
@@ -139,7 +140,7 @@ pub(crate) fn network_in<E: Write>(
     scale: Option<u32>,
     err: &mut E,
 ) -> Result<Listed, u8>
-    ensures { IfErr result (λ status. status ≤ 2) }
+    ensures { IfErr result IsRefusal }
 {
     let text = text.strip_prefix('\u{feff}').unwrap_or(text);
     let form = match form {
@@ -193,7 +194,7 @@ fn lines_in<E: Write>(
     writing: Writing,
     err: &mut E,
 ) -> Result<Listed, u8>
-    ensures { IfErr result (λ status. status ≤ 2) }
+    ensures { IfErr result IsRefusal }
 {
     let (nodes, labels) = nodes_in(alloc, file, text, writing, err)?;
     match read_rows(alloc, text, writing) {
@@ -211,7 +212,7 @@ fn lines_in<E: Write>(
 
 // What node-link JSON says. What isn't understood is told.
 fn links_in<E: Write>(alloc: Global, file: &str, text: &str, err: &mut E) -> Result<Listed, u8>
-    ensures { IfErr result (λ status. status ≤ 2) }
+    ensures { IfErr result IsRefusal }
 {
     match read_links(alloc, text) {
         Ok(Ok(links)) => Ok(Listed {
@@ -242,7 +243,7 @@ fn nodes_in<E: Write>(
     writing: Writing,
     err: &mut E,
 ) -> Result<(Option<u16>, Vec<String>), u8>
-    ensures { IfErr result (λ status. status ≤ 2) }
+    ensures { IfErr result IsRefusal }
 {
     let Nodes { line, count, names } = match read_nodes(alloc, text, writing) {
         Ok(Some(said)) => said,

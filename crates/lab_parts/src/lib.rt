@@ -5,14 +5,23 @@
 //! file aren't understood, 1 where something is refused, a file or a device can't be used, the output fails or memory runs out. What a
 //! command prints goes out by [`print`]; what went wrong is told on the second writer as `tzlab: TEXT` ([`told`]).
 //!
+//! A command has its device and files at a place ([`Sources`]; [`Places`] where it changes one). What a file holds no contract says, so that a
+//! device was opened by a path, or a text read there, is a fact that the place's calls alone give. By it a command's contract says of what
+//! its text was made (`OfDevice` and `OfFile` of `specs/Devices`). What the words ask for is what [`given`] and its like read (`specs/Words`).
+//!
 //! The contract that the commands use: [`print`] appends exactly the text, or the output failed; and each call that tells something answers
 //! the status that it was given, or 1.
 #![tactic(auto)]
 
+mod sources;
 mod stores;
 mod telling;
 mod words;
 
-pub use stores::{fault_of, store_in};
+pub use sources::{Places, Sources};
+pub use stores::{fault_of, loaded_of, store_in};
 pub use telling::{PrintRefused, print, told, told_at, told_memory, told_of};
-pub use words::{Said, command, device, flag, landmarks, value, word};
+pub use words::{
+    Said, all_given, command, device, flag, given, is_given, landmarks, landmarks_in, optional,
+    usual, value, word,
+};

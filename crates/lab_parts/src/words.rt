@@ -1,6 +1,12 @@
-//! How a command lists its words.
-use clap::{Arg, ArgAction, Command};
+//! How a command lists its words, and what it is given.
+ghost use Rattle.std.specs.Prelude.{◌≡◌, ◌≤◌, IfSome, codes, decimal, option_map};
+ghost use Rattle.clap.specs.Walk.{all_of, first_of, texts};
+ghost use Rattle.written_values.specs.Reading.{IfRead};
+ghost use Rattle.lab_parts.specs.Words.{AreLandmarks, IsFlag, IsUsual, rows_in};
+
+use clap::{Arg, ArgAction, ArgMatches, Command};
 use std::alloc::{AllocError, Global};
+use written_values::{LandmarkWords, landmark_words, number};
 
 /// What is said of a word of a command.
 #[derive(Clone, Copy, Drop)]
@@ -90,4 +96,75 @@ impl<'a> Said<'a> {
 // A word that is taken, or the value of an option.
 fn taken<'a>(arg: Arg<'a>, shown: &'a str) -> Arg<'a> {
     arg.value_name(shown).action(ArgAction::Set)
+}
+
+/// The text that a word or an option has.
+pub fn given<'a>(found: &ArgMatches<'a>, id: &str) -> Option<&'a str>
+    ensures { option_map (λ text. text.now) result ≡ first_of id.now (rows_in found.now) }
+{
+    found.get_str(id)
+}
+
+/// All texts that a word has.
+pub fn all_given<'a, 'b>(found: &'b ArgMatches<'a>, id: &str) -> Option<&'b [&'a str]>
+    ensures { option_map (λ all. texts all.now) result ≡ all_of id.now (rows_in found.now) }
+{
+    found.get_strs(id)
+}
+
+/// Whether a flag was given.
+pub fn is_given(found: &ArgMatches<'_>, id: &str) -> bool
+    ensures { IsFlag (rows_in found.now) id.now result }
+{
+    match given(found, id) {
+        Some(text) => text == "true",
+        None => false,
+    }
+}
+
+/// The number that an option has, or the usual one. None where its text is no number up to the most.
+pub fn usual(
+    alloc: Global,
+    found: &ArgMatches<'_>,
+    id: &str,
+    most: u64,
+    usual: u64,
+) -> Result<Option<u64>, AllocError>
+    requires { usual ≤ most }
+    ensures is { IfRead result (IsUsual (first_of id.now (rows_in found.now)) usual) }
+    ensures few { IfRead result (λ n. n ≤ most) }
+{
+    match given(found, id) {
+        Some(text) => number(alloc, text, most),
+        None => Ok(Some(usual)),
+    }
+}
+
+/// The number that an option has, where it has one. None where its text is no number up to the most.
+pub fn optional(
+    alloc: Global,
+    found: &ArgMatches<'_>,
+    id: &str,
+    most: u64,
+) -> Result<Option<Option<u64>>, AllocError>
+    ensures is { IfRead result (λ n. first_of id.now (rows_in found.now) ≡ option_map decimal n) }
+    ensures few { IfRead result (λ n. IfSome n (λ some. some ≤ most)) }
+{
+    match given(found, id) {
+        Some(text) => Ok(number(alloc, text, most)?.map(|n| Some(n))),
+        None => Ok(Some(None)),
+    }
+}
+
+/// The landmark words that are given, or `none`. None where they aren't understood.
+pub fn landmarks_in(
+    alloc: Global,
+    found: &ArgMatches<'_>,
+) -> Result<Option<LandmarkWords>, AllocError>
+    ensures { IfRead result (AreLandmarks (first_of (codes "words") (rows_in found.now))) }
+{
+    match given(found, "words") {
+        Some(text) => landmark_words(alloc, text),
+        None => Ok(Some(LandmarkWords::Greatest)),
+    }
 }

@@ -1,5 +1,6 @@
 -- What is printed of a rehearsal's text.
-use Rattle.std.specs.Prelude.{◌≡◌, ◌⊎◌, ◌<◌, ◌≤◌, ℕ, List, [], length}
+use Rattle.std.specs.Prelude.{◌≡◌, ◌≢◌, ◌⊎◌, ◌<◌, ◌≤◌, ℕ, List, [], Option, Some, codes, length}
+use Rattle.clap.specs.Walk.{Row, Text, first_of}
 use Rattle.command_output.specs.Printing.{Known, PrintsText}
 use Rattle.device_stops.specs.declared.watched.Watched.{Watched}
 use Rattle.disk_trait.specs.declared.disk.Disk.{Ghosts}
@@ -11,6 +12,8 @@ use Rattle.lab_rehearsals.specs.declared.told.NotRehearsed.TheVariants.{Line, Li
 use Rattle.rehearsal_lines.specs.declared.line.RehearsalLine.{RehearsalLine}
 use Rattle.rehearsal_lines.specs.Said.{IsFirstRefused, SayRehearsal}
 use Rattle.rehearsals.specs.declared.asked.Rehearsal.{Rehearsal}
+use Rattle.lab_parts.specs.Devices.{OfFile}
+use Rattle.lab_parts.specs.Words.{IsUsual}
 use Rattle.lab_parts.specs.declared.telling.PrintRefused.TheVariants.{Memory}
 use Rattle.rehearsals.specs.Asked.{AreAsked}
 use Rattle.rehearsals.specs.Rehearsed.{IsRehearsed}
@@ -43,9 +46,18 @@ pub record PrintsTold (model : Ghosts MemDisk) (watched : Ghosts Watched) (text 
   pub is : IsToldOfLines model watched lines asked told
   pub printed : PrintsText contents old new told
 
--- what is asked for of the lives that some text spells was printed
-abbrev pub PrintsSomeTold : Ghosts MemDisk → Ghosts Watched → {W : Type 0} → (W → Known) → W → W → Type 0
-PrintsSomeTold model watched contents old new = (text : List ℕ) × (asked : Asked) × PrintsTold model watched text asked contents old new
+-- the words ask for a report, or for stops
+abbrev pub IsAskedFor : List Row → Asked → Type 0
+IsAskedFor rows Report = first_of (codes "every-stop") rows ≢ Some (codes "true")
+IsAskedFor rows (Stops most) = (first_of (codes "every-stop") rows ≡ Some (codes "true")) × IsUsual (first_of (codes "most") rows) 4096 most
+
+-- what the words ask for of a text was printed
+abbrev pub PrintsToldFor : Ghosts MemDisk → Ghosts Watched → List Row → List ℕ → {W : Type 0} → (W → Known) → W → W → Type 0
+PrintsToldFor model watched rows text contents old new = (asked : Asked) × IsAskedFor rows asked × PrintsTold model watched text asked contents old new
+
+-- what the command does where it ends with status 0: it prints what is asked for of the file that the words name
+abbrev pub DoesRehearse : Ghosts MemDisk → Ghosts Watched → (Text → Option Text → Type 0) → List Row → {W : Type 0} → (W → Known) → W → W → Type 0
+DoesRehearse model watched stands rows contents old new = OfFile stands rows (λ text. PrintsToldFor model watched rows text contents old new)
 
 -- why no lives are run, where every line is understood
 abbrev pub IsNotRun : NotRehearsed → Type 0

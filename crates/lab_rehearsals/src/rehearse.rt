@@ -1,16 +1,19 @@
 //! The words of `rehearse`, and its file.
 ghost use Rattle.std.specs.Prelude.{◌≡◌, ◌≤◌};
-ghost use Rattle.lab_rehearsals.specs.Told.{PrintsSomeTold};
+ghost use Rattle.lab_parts.specs.Words.{rows_in};
+ghost use Rattle.written_values.specs.Reading.{IfRead};
+ghost use Rattle.lab_rehearsals.specs.Told.{DoesRehearse, IsAskedFor};
 
 use crate::told::{Asked, NotRehearsed, rehearse_text};
 use clap::{ArgMatches, Command, value_parser};
 use device_stops::Watched;
 use disk_trait::{Disk, MemDisk};
-use lab_parts::{command, flag, told, told_at, told_of, value, word};
+use lab_parts::{
+    Sources, command, flag, given, is_given, told, told_at, told_memory, told_of, usual, value,
+    word,
+};
 use std::alloc::{AllocError, Global};
-use std::fs::{self, File};
 use std::io::{IsTerminal, Write};
-use std::rt::Files;
 
 /// Its grammar.
 pub fn grammar<'a>(alloc: Global) -> Result<Command<'a>, AllocError> {
@@ -41,22 +44,27 @@ pub fn grammar<'a>(alloc: Global) -> Result<Command<'a>, AllocError> {
 /// Runs the rehearsal that these matches name, and answers the exit status.
 pub fn run<R, O, E>(rt: &R, found: &ArgMatches<'_>, out: &mut O, err: &mut E) -> u8
 where
-    R: Files<File = File> + AllocGlobal,
+    R: Sources + AllocGlobal,
     O: Write,
     E: Write + IsTerminal,
     ensures few { result ≤ 2 }
-    // 0 only where this was printed, and 2 only where nothing was.
-    ensures printed { result ≡ 0 → PrintsSomeTold ⟦<MemDisk as Disk>⟧ ⟦<Watched as Disk>⟧ O.contents out.old out.new }
+    // 0 only where what is asked for of the file was printed, and 2 only where nothing was.
+    ensures printed { result ≡ 0 → DoesRehearse ⟦<MemDisk as Disk>⟧ ⟦<Watched as Disk>⟧ R.stands (rows_in found.now) O.contents out.old out.new }
     ensures untouched { result ≡ 2 → out.new ≡ out.old }
 {
-    let Some(file) = found.get_str("file") else {
+    let Some(file) = given(found, "file") else {
         return 2;
     };
-    let text = match fs::read_to_string(rt, file) {
+    let asked = match asked_in(rt.alloc(), found) {
+        Ok(Some(asked)) => asked,
+        Ok(None) => return told(err, 2, "--most takes a number"),
+        Err(_) => return told_memory(err),
+    };
+    let text = match rt.read_to_string(file) {
         Ok(text) => text,
         Err(error) => return told_of(err, file, error),
     };
-    match rehearse_text(rt.alloc(), text.as_str(), asked_in(found), out, err) {
+    match rehearse_text(rt.alloc(), text.as_str(), asked, out, err) {
         Ok(()) => 0,
         Err(NotRehearsed::Line(refused)) => told_at(err, 2, file, refused.number, refused.form),
         Err(NotRehearsed::Lives(refused)) => told(err, 1, refused),
@@ -64,13 +72,15 @@ where
     }
 }
 
-// The report, or stops where the words ask for these.
-fn asked_in(found: &ArgMatches<'_>) -> Asked {
-    if !found.get_flag("every-stop") {
-        return Asked::Report;
+// The report, or stops where the words ask for these. None where they don't say how many as a number.
+fn asked_in(alloc: Global, found: &ArgMatches<'_>) -> Result<Option<Asked>, AllocError>
+    ensures { IfRead result (IsAskedFor (rows_in found.now)) }
+{
+    if !is_given(found, "every-stop") {
+        return Ok(Some(Asked::Report));
     }
-    match found.get_one::<u32>("most") {
-        Some(most) => Asked::Stops(most as usize),
-        None => Asked::Report,
+    match usual(alloc, found, "most", u32::MAX as u64, 4096)? {
+        Some(most) => Ok(Some(Asked::Stops(most as usize))),
+        None => Ok(None),
     }
 }

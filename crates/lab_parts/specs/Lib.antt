@@ -1,0 +1,3 @@
+pub mod Words
+pub mod Devices
+pub mod States

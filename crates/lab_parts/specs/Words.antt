@@ -1,0 +1,26 @@
+-- What the words of a command say.
+use Rattle.std.specs.Prelude.{◌≡◌, ◌≤◌, ◌↔◌, ℕ, Bool, List, Option, None, Some, IsTrue, codes, decimal}
+use Rattle.clap.specs.Walk.{Row, Text, first_of, rows_of}
+use Rattle.clap.specs.Words.{found_of}
+use Rattle.clap.specs.declared.parser.matches.ArgMatches.{ArgMatches}
+use Rattle.written_values.specs.WordsText.{words_text}
+use Rattle.written_values.specs.declared.words.LandmarkWords.{LandmarkWords}
+use Rattle.written_values.specs.declared.words.LandmarkWords.TheVariants.{Greatest}
+
+-- the words that were given, each with its texts
+abbrev pub rows_in : ArgMatches → List Row
+rows_in found = rows_of (found_of found)
+
+-- whether a flag was given
+abbrev pub IsFlag : List Row → Text → Bool → Type 0
+IsFlag rows id is_set = IsTrue is_set ↔ (first_of id rows ≡ Some (codes "true"))
+
+-- the number that was given, and the usual one where none was
+abbrev pub IsUsual : Option Text → ℕ → ℕ → Type 0
+IsUsual None usual n = n ≡ usual
+IsUsual (Some text) usual n = text ≡ decimal n
+
+-- the landmark words that were given, and `none` where none were
+abbrev pub AreLandmarks : Option Text → LandmarkWords → Type 0
+AreLandmarks None words = words ≡ Greatest
+AreLandmarks (Some text) words = text ≡ words_text words
