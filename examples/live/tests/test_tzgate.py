@@ -16,14 +16,10 @@ import unittest
 from pathlib import Path
 
 sys.path.insert(0, str(Path(__file__).resolve().parent))
-from load import GATE, HERE, IS_REAL, NODES, PATH, Deaf, Editor, Load, Reader, Running, Talk, a_device, eventually, program, wait_gone
+from load import GATE, HERE, IS_REAL, NODES, PATH, Deaf, Editor, Load, Reader, Running, Talk, a_device, eventually, figure, program, wait_gone
 
 CLIENTS, LINES = 500, 100_000
 MINUTES = float(os.environ.get("TZGATE_MINUTES", "0"))
-
-
-def figure(text):
-    print(f"    {text}", flush=True)
 
 
 class GateTest(unittest.TestCase):
@@ -71,7 +67,7 @@ class Words(GateTest):
             ("edit 1 1 add:70:71:5", "1 1 accepted count=64"),
             ("edit 1 1 add:70:71:5", "1 1 already in"),
             ("edit 1 2 add:70:71:5", "1 2 refused op=0 code=4"),
-            ("edit 1 2 add:71:72:5", "1 2 already in"),
+            ("edit 1 2 add:71:72:5", "1 2 refused op=0 code=4"),
             ("resume 1", "session=1 ticket=1"),
             ("edit 1 - add:71:72:5", "1 3 accepted count=65"),
             ("edit 0 1 add:72:73:5", "not your session"),
@@ -148,6 +144,20 @@ class Words(GateTest):
         self.assertEqual([ended.read() for _ in range(4)], ["session=1 ticket=0", "count=63 generation=63 queue=0", "generation=63 route 0 1 2 length 3", None])
         self.assertEqual(gate.stop(), 0)
         self.assertEqual(program("show", self.device).stdout.splitlines()[0], "count=63 edges=63")
+
+
+    def test_a_backup(self):
+        gate = self.up()
+        talk, other, file = self.talk(gate), self.talk(gate), self.folder / "backup"
+        self.says(talk, ("hello one", "session=1 ticket=0"))
+        # Its answer stands where its line does; another client's lines behind it are answered behind it.
+        talk.send(b"edit 1 1 add:70:71:1\nbackup %s\nedit 1 2 set:70:71:2\n" % bytes(file))
+        self.assertEqual([talk.read() for _ in range(3)], ["1 1 accepted count=64", "count=64", "1 2 accepted count=65"])
+        self.says(other, (f"backup {file}", "file exists"), (f"backup {file}/none", "device file cannot be used"), ("backup", "not understood"), (f"backup {file}.2", "count=65"))
+        for name, count, weight, ticket in ((file, 64, 1, 1), (f"{file}.2", 65, 2, 2)):
+            lines = program("show", name).stdout.splitlines()
+            self.assertEqual((lines[0], lines[-1]), (f"count={count} edges=64", f"70 71 {weight}"))
+            self.assertEqual(program("resume", name, 1).stdout, f"session=1 ticket={ticket}\n")
 
 
 class Sessions(GateTest):
@@ -264,6 +274,7 @@ class Faults(GateTest):
         gate.kill_service()
         fcntl.flock(held, fcntl.LOCK_EX)
         gate.process.send_signal(signal.SIGCONT)
+        gate.said("the service has ended with signal 9", 2)
         talk.send(b"route 0 1\nedit 1 3 add:73:74:1\n")
         long = self.talk(gate)
         sender = threading.Thread(target=long.send, args=(b"x" * 300_000 + b"\n" + b"route 0 1\n" * 20_000,))
@@ -620,6 +631,9 @@ class Loads(GateTest):
         load.add(Editor, 63, 4)
         load.add(Reader, 10, 5)
         load.run(10_000, [(1_000 * k, load.kill_service) for k in range(1, 9)])
+        # Some kill has to come between a change and its answer.
+        while not load.already and load.kills < 60:
+            load.run(load.answered + 1_000, [(load.answered + 500, load.kill_service)])
         load.finish()
         files = gate.files()
         self.ended(load, gate)
