@@ -16,4 +16,4 @@ place_send : (κ : NamedLft) → IsSend (host.the_row κ)
 place_send κ = search (crosses, sendable, put_send) depth 80 fits 50000
 
 pub run_file-requires : goal.run_file-requires
-run_file-requires g c k = (search (crosses, sendable, place_send) depth 60, (search (crosses, sendable) depth 60, (refl, tt)))
+run_file-requires g c k = (search (crosses, sendable, place_send) depth 60, (search (crosses, sendable) depth 60, (search (crosses, sendable) depth 60, (refl, tt))))
