@@ -9,10 +9,6 @@ found o g P b e h = (λ t. (g, (e, h.0 t)), λ k. h.1 (subst P (same_value k.1.0
 pub found_first : {X : Type 0} (o : Option X) (g : X) (P : X → Type 0) (Q : Type 0) (b : Bool) → o ≡ Some g → IsTrue b ↔ P g → IsTrue b ↔ (((x : X) × ((o ≡ Some x) × P x)) ⊎ ((o ≡ None) × Q))
 found_first o g P Q b e h = (λ t. inl (g, (e, h.0 t)), λ k. elim k [ inl j ↦ h.1 (subst P (same_value j.1.0 e) j.1.1) | inr j ↦ absurd (not_none e j.0) ])
 
-pub found_both : {X Y : Type 0} (o : Option X) (u : Option Y) (f : X) (g : Y) (P : X → Y → Type 0) (b : Bool) → o ≡ Some f → u ≡ Some g → IsTrue b ↔ P f g
-    → IsTrue b ↔ ((x : X) × ((y : Y) × ((o ≡ Some x) × ((u ≡ Some y) × P x y))))
-found_both o u f g P b e i h = (λ t. (f, (g, (e, (i, h.0 t)))), λ k. h.1 (subst (λ z. P z g) (same_value k.1.1.0 e) (subst (λ z. P k.0 z) (same_value k.1.1.1.0 i) k.1.1.1.1)))
-
 -- the second of two facts, the first of which holds
 pub and_more : {P Q : Type 0} (b : Bool) → P → IsTrue b ↔ Q → IsTrue b ↔ (P × Q)
 and_more b p h = (λ t. (p, h.0 t), λ k. h.1 k.1)

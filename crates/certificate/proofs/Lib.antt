@@ -1,13 +1,11 @@
 pub mod Found
 pub mod LookUps
 pub mod FirstRules
-pub mod SideBySide
 pub mod Verdict
 pub mod Ranges
-pub mod LocalRules
 pub mod LabelLemmas
 pub mod ClimbLemmas
 pub mod RowLemmas
-pub mod SwiftLemmas
 pub mod LinkedLabels
-pub mod InThreads
+pub mod Rules
+pub mod TreeLemmas

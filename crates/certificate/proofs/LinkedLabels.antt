@@ -1,4 +1,4 @@
--- Where each label of a directory fits the one of its node's parent there, all are right, from the root down, and the other way round.
+-- Where each label of a directory fits the one of its node's parent there, all are right, from the root down.
 use Rattle.std.proofs.Common.{◌≡◌, ◌<◌, ◌+◌, ◌==◌, ℕ, zero, suc, List, sym, refl, ap, subst, ◌∙◌, arith, get_or}
 use Rattle.std.specs.Prelude.{Option, Some, None, IsSome, is_some}
 use Rattle.std.specs.List.{All}
@@ -14,8 +14,8 @@ use Rattle.schemes.specs.Ports.{port_to}
 use Rattle.schemes.specs.Tables.{Tables, tables, directory_at}
 use Rattle.schemes.proofs.Serving.CheckedLaw.{first_is_listed}
 use Rattle.schemes.proofs.Serving.Exact.{Distances}
-use Rattle.certificate.specs.Climbs.{AreLinked, AreLinkedBy, AreLinkedOver, HasLights, HoldsFirst, IsLabelRight, IsLinked, lights_up}
-use Rattle.certificate.proofs.ClimbLemmas.{climb_falls, distances_first, lights_of_tree, lights_step}
+use Rattle.certificate.specs.Climbs.{AreLinked, AreLinkedBy, HoldsFirst, IsLabelRight, IsLinked, lights_up}
+use Rattle.certificate.proofs.ClimbLemmas.{climb_falls, distances_first, lights_end, lights_of_tree, lights_step}
 use Rattle.certificate.proofs.LabelLemmas.{all_listed, listed_place}
 
 -- a parent has an entry for the same root
@@ -35,7 +35,7 @@ over m p h u x y q above e =
 
 linked_lights : (m : Network) (p : Parts) → HoldsFirst m p → (u : ℕ) → All (IsLinked m (tables p) u) (directory_at p u) → (k : ℕ) (e : Listed) → IsListed e (directory_at p u)
     → IsSome ((tables p).entry e.node u) → distance_of ((tables p).entry e.node u) < k → e.label.lights ≡ lights_up m (tables p) u e.node
-unfolding IsLinked AreLinked HasLights
+unfolding IsLinked AreLinked
 linked_lights m p h u all zero e i s l = absurd (omega (arith, l))
 linked_lights m p h u all (suc k) e i s l = by (λ f j there near. linked_lights m p h u all k f j there near) (parent_of ((tables p).entry e.node u)) refl (linked (all_listed (IsLinked m (tables p) u) (directory_at p u) e all i))
   where
@@ -45,22 +45,15 @@ linked_lights m p h u all (suc k) e i s l = by (λ f j there near. linked_lights
     linked : IsLinked m (tables p) u e → AreLinkedBy m (tables p) u e.node e.label.lights (parent_of ((tables p).entry e.node u))
     linked f = (f s).1
 
-    climbed : HasLights m (tables p) u e.node e.label.lights → e.label.lights ≡ lights_up m (tables p) u e.node
-    climbed b = b ∙ sym (lights_of_tree m p h u e.node)
-
-    named : Below → (y : ℕ) → parent_of ((tables p).entry e.node u) ≡ Some y → (o : Option Label) → (tables p).listed u y ≡ o → AreLinkedOver m (tables p) u e.node e.label.lights y o → e.label.lights ≡ lights_up m (tables p) u e.node
-    named ih y q None g b = climbed b
-    named ih y q (Some a) g b =
-        let f = first_is_listed y (directory_at p u) a g in
+    by : Below → (o : Option ℕ) → parent_of ((tables p).entry e.node u) ≡ o → AreLinkedBy m (tables p) u e.node e.label.lights o → e.label.lights ≡ lights_up m (tables p) u e.node
+    by ih None q b = b ∙ sym (lights_end m (tables p) (distances_first m p h) u e.node (sym q))
+    by ih (Some y) q b =
+        let f = first_is_listed y (directory_at p u) b.0 b.1.0 in
         let near = climb_falls m (tables p) (distances_first m p h) u e.node y (sym q) in
         let there = subst (λ z. IsSome ((tables p).entry z u)) (sym f.1.1.0) (parent_there m (tables p) (distances_first m p h) u e.node y ((tables p).entry e.node u) refl q) in
         let same = ap (λ z. distance_of ((tables p).entry z u)) f.1.1.0 in
         let above = ih f.0 f.1.0 there (omega (arith, near, same, l)) in
-        b ∙ sym (over m p h u e.node y q a.lights (ap (λ (z : Label). z.lights) (sym f.1.1.1) ∙ above ∙ ap (λ z. lights_up m (tables p) u z) f.1.1.0))
-
-    by : Below → (o : Option ℕ) → parent_of ((tables p).entry e.node u) ≡ o → AreLinkedBy m (tables p) u e.node e.label.lights o → e.label.lights ≡ lights_up m (tables p) u e.node
-    by ih None q b = climbed b
-    by ih (Some y) q b = named ih y q ((tables p).listed u y) refl b
+        b.1.1 ∙ sym (over m p h u e.node y q b.0.lights (ap (λ (z : Label). z.lights) (sym f.1.1.1) ∙ above ∙ ap (λ z. lights_up m (tables p) u z) f.1.1.0))
 
 pub linked_to : (m : Network) (p : Parts) → HoldsFirst m p → (u : ℕ) → All (IsLinked m (tables p) u) (directory_at p u) → All (IsLabelRight m (tables p) u) (directory_at p u)
 unfolding IsLinked IsLabelRight
@@ -68,28 +61,3 @@ linked_to m p h u all i d l s =
     let e = get_or (directory_at p u) i d in
     let lights = linked_lights m p h u all (distance_of ((tables p).entry e.node u) + 1) e (listed_place (directory_at p u) i d l) s (omega arith) in
     ((all i d l s).0, lights ∙ lights_of_tree m p h u e.node)
-
-pub linked_from : (m : Network) (p : Parts) → HoldsFirst m p → (u : ℕ) → All (IsLabelRight m (tables p) u) (directory_at p u) → All (IsLinked m (tables p) u) (directory_at p u)
-unfolding IsLinked IsLabelRight AreLinked HasLights
-linked_from m p h u all i d l s = ((all i d l s).0, by (parent_of ((tables p).entry e.node u)) refl)
-  where
-    e : Listed
-    e = get_or (directory_at p u) i d
-
-    climbed : HasLights m (tables p) u e.node e.label.lights
-    climbed = (all i d l s).1
-
-    right : (f : Listed) → IsLabelRight m (tables p) u f → IsSome ((tables p).entry f.node u) → f.label.lights ≡ lights_up m (tables p) u f.node
-    right f k there = (k there).1 ∙ sym (lights_of_tree m p h u f.node)
-
-    named : (y : ℕ) → parent_of ((tables p).entry e.node u) ≡ Some y → (o : Option Label) → (tables p).listed u y ≡ o → AreLinkedOver m (tables p) u e.node e.label.lights y o
-    named y q None g = climbed
-    named y q (Some a) g =
-        let f = first_is_listed y (directory_at p u) a g in
-        let there = subst (λ z. IsSome ((tables p).entry z u)) (sym f.1.1.0) (parent_there m (tables p) (distances_first m p h) u e.node y ((tables p).entry e.node u) refl q) in
-        let above = right f.0 (all_listed (IsLabelRight m (tables p) u) (directory_at p u) f.0 all f.1.0) there in
-        right e (all i d l) s ∙ over m p h u e.node y q a.lights (ap (λ (z : Label). z.lights) (sym f.1.1.1) ∙ above ∙ ap (λ z. lights_up m (tables p) u z) f.1.1.0)
-
-    by : (o : Option ℕ) → parent_of ((tables p).entry e.node u) ≡ o → AreLinkedBy m (tables p) u e.node e.label.lights o
-    by None q = climbed
-    by (Some y) q = named y q ((tables p).listed u y) refl

@@ -1,17 +1,14 @@
 -- From the answers of the checks, in their order, to the verdict.
-use Rattle.std.proofs.Common.{◌≡◌, ◌+◌, ◌<◌, ◌≤◌, ◌==◌, ℕ, Bool, true, false, cond, sym, refl, ap, subst, ◌∙◌, arith, nat_lt}
-use Rattle.std.specs.Prelude.{Result, Ok, Err, ◌↔◌, IsTrue}
+use Rattle.std.proofs.Common.{◌≡◌, ◌+◌, ◌<◌, ◌≤◌, ◌==◌, ℕ, zero, suc, Bool, true, false, cond, sym, refl, ap, subst, ◌∙◌, arith, nat_lt}
+use Rattle.std.specs.Prelude.{Result, Ok, Err}
 use Rattle.std.proofs.lemmas.Bool.Decides.{nat_tests}
 use Rattle.schemes.specs.declared.parts.Parts.{Parts}
-use Rattle.graph_edits.specs.Edges.{Network, IsSound}
+use Rattle.graph_edits.specs.Edges.{Network}
 use Rattle.schemes.specs.Checks.{Fault as Rule, k1, k2, k3, k4, k5, k6, k7, k8, Holds, number_of, IsChecked, IsFirstFault}
-use Rattle.schemes.specs.Tables.{tables}
-use Rattle.schemes.specs.Service.{Serves}
-use Rattle.schemes.proofs.Serving.CheckedLaw.{checked_serves}
 use Rattle.certificate.specs.declared.fault.Fault.{Fault}
 use Rattle.certificate.specs.declared.fault.Fault.TheVariants.{Shape, Edges, Parents, Strict, Nearest, Records, Labels, Directories}
 use Rattle.certificate.specs.Faults.{rule_of, IsExact}
-use Rattle.certificate.specs.Climbs.{HoldsFirst}
+use Rattle.certificate.specs.Rules.{HoldsBefore, HoldsTo}
 
 -- ---- rules by their numbers
 
@@ -66,9 +63,6 @@ fault_back Directories = refl
 
 -- ---- the rules up to a number
 
-abbrev pub HoldsTo : Network → Parts → ℕ → Type 0
-HoldsTo m p n = (j : Rule) → number_of j ≤ n → Holds m p j
-
 pub to_none : (m : Network) (p : Parts) → HoldsTo m p 0
 to_none m p j l = (let g = (from_1_to_8 j).0 in absurd (omega (arith, l, g)))
 
@@ -81,51 +75,18 @@ to_next m p n k e h at j l = go (nat_lt (number_of j) (n + 1)) refl
         let l2 : n + 1 ≤ number_of j = grind (arith, nat_tests) in
         subst (Holds m p) (sym (one_rule j k (omega (arith, l, l2, e)))) at
 
--- ---- the rules up to each of the eight
-
-module _ (m : Network) (p : Parts) where
-  pub to_shape : Holds m p k1 → HoldsTo m p 1
-  to_shape shape = to_next m p 0 k1 refl (to_none m p) shape
-
-  pub to_edges : Holds m p k1 → Holds m p k2 → HoldsTo m p 2
-  to_edges shape edges = to_next m p 1 k2 refl (to_shape shape) edges
-
-  pub to_parents : Holds m p k1 → Holds m p k2 → Holds m p k3 → HoldsTo m p 3
-  to_parents shape edges parents = to_next m p 2 k3 refl (to_edges shape edges) parents
-
-  pub to_strict : Holds m p k1 → Holds m p k2 → Holds m p k3 → Holds m p k4 → HoldsTo m p 4
-  to_strict shape edges parents strict = to_next m p 3 k4 refl (to_parents shape edges parents) strict
-
-  pub to_nearest : Holds m p k1 → Holds m p k2 → Holds m p k3 → Holds m p k4 → Holds m p k5 → HoldsTo m p 5
-  to_nearest shape edges parents strict nearest = to_next m p 4 k5 refl (to_strict shape edges parents strict) nearest
-
-  pub to_records : Holds m p k1 → Holds m p k2 → Holds m p k3 → Holds m p k4 → Holds m p k5 → Holds m p k6 → HoldsTo m p 6
-  to_records shape edges parents strict nearest records = to_next m p 5 k6 refl (to_nearest shape edges parents strict nearest) records
-
-  pub to_labels : Holds m p k1 → Holds m p k2 → Holds m p k3 → Holds m p k4 → Holds m p k5 → Holds m p k6 → Holds m p k7 → HoldsTo m p 7
-  to_labels shape edges parents strict nearest records labels = to_next m p 6 k7 refl (to_records shape edges parents strict nearest records) labels
-
-  pub to_directories : Holds m p k1 → Holds m p k2 → Holds m p k3 → Holds m p k4 → Holds m p k5 → Holds m p k6 → Holds m p k7 → Holds m p k8 → HoldsTo m p 8
-  to_directories shape edges parents strict nearest records labels directories = to_next m p 7 k8 refl (to_labels shape edges parents strict nearest records labels) directories
-
 -- ---- what follows from them
-
-pub first_five : (m : Network) → IsSound m → (p : Parts) → HoldsTo m p 5 → HoldsFirst m p
-unfolding HoldsFirst
-first_five m s p h = (s, h)
 
 pub all_eight : (m : Network) (p : Parts) → HoldsTo m p 8 → IsChecked m p
 all_eight m p h j = h j (from_1_to_8 j).1
 
-pub first_fault : (m : Network) (p : Parts) (n : ℕ) (k : Rule) → number_of k ≡ n + 1 → HoldsTo m p n → (Holds m p k → ⊥) → IsFirstFault m p k
-first_fault m p n k e h not = (not, λ j l. h j (omega (arith, l, e)))
-
--- a test that failed
-pub failed : {P : Type 0} (b : Bool) → IsTrue b ↔ P → b ≡ false → P → ⊥
-failed b h e p = both (h.1 p) e
+-- all rules hold, if each does where those before it do
+pub checked_by : (m : Network) (p : Parts) → ((k : Rule) → HoldsBefore m p k → Holds m p k) → IsChecked m p
+checked_by m p each = all_eight m p (up_to 8)
   where
-    both : b ≡ true → b ≡ false → ⊥
-    both u v = cc
+    up_to : (n : ℕ) → HoldsTo m p n
+    up_to zero j l = to_none m p j l
+    up_to (suc n) j l = each j (λ i li. up_to n i (omega (arith, l, li)))
 
 -- ---- exactness
 
@@ -154,6 +115,3 @@ exact_ok m p h = record {
   ok = (λ e. h, λ h. refl);
   fault = λ g. (λ e. absurd (err_ok (sym e)), λ b. absurd (b.0 (h (rule_of g))));
 }
-
-pub serves : (m : Network) → IsSound m → (p : Parts) → IsChecked m p → Serves m (tables p)
-serves m s p h = checked_serves m s p h

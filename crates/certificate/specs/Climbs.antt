@@ -1,5 +1,5 @@
 -- What is said of the labels of one node, by climbing from the nodes that they name.
-use Rattle.std.specs.Prelude.{◌≡◌, ◌==◌, ◌↔◌, ℕ, ◌≤◌, Bool, MatchOption, Option, None, Some, IsSome, List}
+use Rattle.std.specs.Prelude.{◌≡◌, ◌==◌, ◌↔◌, ℕ, ◌≤◌, Bool, MatchOption, Option, None, Some, IsSome, List, []}
 use denote.Ref.{Bor}
 use Rattle.std.specs.List.{All}
 use Rattle.heavy_labels.specs.Label.{Label}
@@ -29,17 +29,12 @@ lights_up m t r x = lights_to m t r (distance_of (t.entry x r)) x
 unfoldable pub HasLights : Network → Tables → ℕ → ℕ → List ℕ → Type 0
 HasLights m t r x ls = ls ≡ lights_to m t r (farthest t r m.nodes) x
 
--- these are the light ports of x by the label that u's directory has for its parent y, by the climb where that has none
-abbrev pub AreLinkedOver : Network → Tables → ℕ → ℕ → List ℕ → ℕ → Option Label → Type 0
-AreLinkedOver m t u x ls y None = HasLights m t u x ls
-AreLinkedOver m t u x ls y (Some l) = ls ≡ lights_at ((record_at t u x).light_depth == (record_at t u y).light_depth) l.lights (port_to m y x)
-
--- the same, where that is its parent
+-- these are the light ports of x, where its parent is y, by the label that u's directory has for y
 abbrev pub AreLinkedBy : Network → Tables → ℕ → ℕ → List ℕ → Option ℕ → Type 0
-AreLinkedBy m t u x ls None = HasLights m t u x ls
-AreLinkedBy m t u x ls (Some y) = AreLinkedOver m t u x ls y (t.listed u y)
+AreLinkedBy m t u x ls None = ls ≡ []
+AreLinkedBy m t u x ls (Some y) = (l : Label) × ((t.listed u y ≡ Some l) × (ls ≡ lights_at ((record_at t u x).light_depth == (record_at t u y).light_depth) l.lights (port_to m y x)))
 
--- these are the light ports of x by the label of its parent in u's directory
+-- the same by the label of its parent
 unfoldable pub AreLinked : Network → Tables → ℕ → ℕ → List ℕ → Type 0
 AreLinked m t u x ls = AreLinkedBy m t u x ls (parent_of (t.entry x u))
 

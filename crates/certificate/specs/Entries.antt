@@ -21,12 +21,6 @@ AllAscend p = (x : ℕ) → IsStrictlyIncreasing (roots_of (entries_at p x))
 abbrev pub AreBelow : ℕ → ℕ → List Entry → Type 0
 AreBelow r n es = (k : ℕ) → k < n → slice_index (roots_of es) k < r
 
--- n is the first place of a list whose root isn't below r
-pub record IsPlaceFor (r n : ℕ) (es : List Entry) : Type 0 where
-  pub within : n ≤ length es
-  pub below : AreBelow r n es
-  pub above : n < length es → r ≤ slice_index (roots_of es) n
-
 -- ---- Shape
 
 -- every list of nodes has a place for each
@@ -39,24 +33,19 @@ HasPlaces n p =
 unfoldable pub HasParentAt : Network → Tables → ℕ → Entry → Type 0
 HasParentAt m t x e = (y : ℕ) × ((e.parent ≡ Some y) × (IsSome (weight_in m x y) × IsSome (t.entry y e.root)))
 
--- the entry's root is a node, and its parent is one where the node isn't the root itself
+-- the entry's parent is one where the node isn't the root itself
 unfoldable pub IsEntryShaped : Network → Tables → ℕ → Entry → Type 0
-IsEntryShaped m t x e = (e.root < m.nodes) × (x ≢ e.root → HasParentAt m t x e)
+IsEntryShaped m t x e = x ≢ e.root → HasParentAt m t x e
 
 -- a node's entry for itself
 unfoldable pub HasOwn : Tables → ℕ → Type 0
 HasOwn t x = (e : Entry) × ((t.entry x x ≡ Some e) × ((e.distance ≡ 0) × (e.parent ≡ None)))
 
--- a node's ports are its neighbours, its entries ascend by root, it has one for itself, and each is shaped
-unfoldable pub IsNodeShaped : Network → Parts → ℕ → Type 0
-IsNodeShaped m p x =
-    (ports_at p x ≡ neighbours m x) × (IsStrictlyIncreasing (roots_of (entries_at p x)) × (HasOwn (tables p) x × All (IsEntryShaped m (tables p) x) (entries_at p x)))
-
--- a node's ports are its neighbours, its entries ascend by root, and it has one for itself
+-- a node's ports are its neighbours, and its entries ascend by root, have one for itself, and are for nodes
 unfoldable pub IsNodeFramed : Network → Parts → ℕ → Type 0
-IsNodeFramed m p x = (ports_at p x ≡ neighbours m x) × (IsStrictlyIncreasing (roots_of (entries_at p x)) × HasOwn (tables p) x)
+IsNodeFramed m p x = (ports_at p x ≡ neighbours m x) × (IsStrictlyIncreasing (roots_of (entries_at p x)) × (HasOwn (tables p) x × All (λ e. e.root < m.nodes) (entries_at p x)))
 
--- what Shape says but for the roots and parents of entries
+-- what Shape says but for the parents of entries
 unfoldable pub IsFramed : Network → Parts → Type 0
 IsFramed m p = HasPlaces m.nodes p × ((x : ℕ) → x < m.nodes → IsNodeFramed m p x)
 
@@ -74,25 +63,18 @@ IsClosedAt m t x e = All (IsClosedOver t e) (neighbours_of m x)
 
 -- ---- Parents
 
--- the parent y gives the distance
-unfoldable pub IsTightBy : Network → Tables → ℕ → Entry → ℕ → Type 0
-IsTightBy m t x e y = (w : ℕ) × ((g : Entry) × ((weight_in m x y ≡ Some w) × ((t.entry y e.root ≡ Some g) × (e.distance ≡ g.distance + w))))
+-- where the neighbour f.0 is the entry's parent, it gives the distance over the edge; where it's before the parent, it doesn't
+unfoldable pub IsTightOver : Tables → Entry → ℕ × ℕ → Type 0
+IsTightOver t e f = (y : ℕ) (g : Entry) → e.parent ≡ Some y → t.entry f.0 e.root ≡ Some g
+    → (f.0 ≡ y → e.distance ≡ g.distance + f.1) × (f.0 < y → e.distance ≢ g.distance + f.1)
 
--- the neighbour f.0 is not before y, or does not give the distance
-unfoldable pub IsNoEarlier : Tables → Entry → ℕ → ℕ × ℕ → Type 0
-IsNoEarlier t e y f = (g : Entry) → f.0 < y → t.entry f.0 e.root ≡ Some g → e.distance ≢ g.distance + f.1
-
--- the entry's parent gives its distance, where it has one
-unfoldable pub HasTightParent : Network → Tables → ℕ → Entry → Type 0
-HasTightParent m t x e = (y : ℕ) → e.parent ≡ Some y → IsTightBy m t x e y
-
--- the neighbour f.0 is not before the entry's parent, or does not give the distance
-unfoldable pub IsLater : Tables → Entry → ℕ × ℕ → Type 0
-IsLater t e f = (y : ℕ) → e.parent ≡ Some y → IsNoEarlier t e y f
-
--- the entry's parent gives its distance, and no smaller neighbour does
+-- the same over each edge of x
 unfoldable pub IsTightAt : Network → Tables → ℕ → Entry → Type 0
-IsTightAt m t x e = (y : ℕ) → e.parent ≡ Some y → IsTightBy m t x e y × All (IsNoEarlier t e y) (neighbours_of m x)
+IsTightAt m t x e = All (IsTightOver t e) (neighbours_of m x)
+
+-- what Edges and Parents say of the entry over the edge to f.0 of weight f.1
+unfoldable pub IsRightOver : Tables → Entry → ℕ × ℕ → Type 0
+IsRightOver t e f = IsClosedOver t e f × IsTightOver t e f
 
 -- ---- Strict
 
@@ -124,6 +106,10 @@ IsListedBack t x e = t.landmark e.root ≡ false → IsSome (t.listed e.root x)
 unfoldable pub IsListedRight : Parts → ℕ → Type 0
 IsListedRight p u = ((tables p).landmark u ≡ true → directory_at p u ≡ []) × ((tables p).landmark u ≡ false → All (λ e. IsSome ((tables p).entry e.node u)) (directory_at p u))
 
--- a node's directory ascends and lists whom it should, and the node has a home label exactly where it has a nearest landmark
+-- a node's directory ascends, and the node has a home label exactly where it has a nearest landmark
+unfoldable pub HasOrderAt : Parts → ℕ → Type 0
+HasOrderAt p u = IsStrictlyIncreasing (nodes_of (directory_at p u)) × (IsSome ((tables p).home u) ↔ IsSome ((tables p).nearest u))
+
+-- and it lists whom it should, as those do in whose trees the node is
 unfoldable pub HasDirectoryAt : Parts → ℕ → Type 0
-HasDirectoryAt p u = IsStrictlyIncreasing (nodes_of (directory_at p u)) × (IsListedRight p u × ((IsSome ((tables p).home u) ↔ IsSome ((tables p).nearest u)) × All (IsListedBack (tables p) u) (entries_at p u)))
+HasDirectoryAt p u = HasOrderAt p u × (IsListedRight p u × All (IsListedBack (tables p) u) (entries_at p u))

@@ -1,7 +1,9 @@
 pub mod Entries
 pub mod Rows
-pub mod Swift
 pub mod Climbs
+pub mod Rules
+pub mod Trees
 pub mod Faults
 pub mod Ranges
 pub mod Found
+pub mod Ahead

@@ -1,95 +1,78 @@
 -- What is said of one entry's record: the numbers of its children, found among its node's neighbours.
-use Rattle.std.specs.Prelude.{◌≡◌, ◌↔◌, ℕ, ◌+◌, ◌==◌, nat_lt, not, true, false, cond, MatchOption, Option, Some, None, List, [], ◌∷◌}
-use Rattle.heavy_labels.specs.Numbering.{Record}
-use Rattle.heavy_labels.specs.Stepped.{record_of}
+use Rattle.std.specs.Prelude.{◌≡◌, ◌↔◌, ℕ, ◌+◌, cond, MatchOption, Option, Some, None, List, [], ◌∷◌}
 use Rattle.std.specs.List.{All}
+use Rattle.heavy_labels.specs.declared.tree_record.Record.{Record}
 use Rattle.schemes.specs.declared.parts.Parts.{Parts}
 use Rattle.schemes.specs.Entry.{Entry}
-use Rattle.graph_edits.specs.Edges.{Network}
+use Rattle.graph_edits.specs.Edges.{Network, neighbours_of, over_port}
 use Rattle.schemes.specs.Ports.{neighbours, filtered}
 use Rattle.schemes.specs.Tables.{Tables, tables, entries_at}
-use Rattle.schemes.specs.Checks.{parent_is, up_port}
-use Rattle.schemes.specs.Local.{record_at, span, IsRow, IsHeavyOf, FitsChild, FitsRoot}
+use Rattle.schemes.specs.Checks.{parent_is}
+use Rattle.schemes.specs.Local.{record_at, widest_span, first_with, all_but, FitsRoot}
+use Rattle.certificate.specs.Entries.{IsEntryShaped, IsRightOver}
+
+-- the neighbour behind a port of x, where there is one
+abbrev pub behind : Network → ℕ → Option ℕ → Option ℕ
+behind m x None = None
+behind m x (Some port) = over_port m x port
+
+-- the record of an entry of x has the port to the entry's parent
+unfoldable pub IsPorted : Network → ℕ → Entry → Type 0
+IsPorted m x e = MatchOption e.parent (e.tree_record.parent_port ≡ None) (λ y. behind m x e.tree_record.parent_port ≡ Some y)
 
 -- the children of x in the tree of r among some nodes
 abbrev pub children_among : Tables → ℕ → ℕ → List ℕ → List ℕ
 children_among t r x ys = filtered (λ y. parent_is x (t.entry y r)) ys
 
--- the wider of a child that was met before and y, the earlier one where they are as wide
-abbrev pub by_span : Tables → ℕ → Option ℕ → ℕ → Option ℕ
-by_span t r None y = Some y
-by_span t r (Some h) y = cond (nat_lt (span (record_at t r h)) (span (record_at t r y))) (Some y) (Some h)
+-- y in front of some children of x, if it's one
+abbrev pub with_child : Tables → ℕ → ℕ → ℕ → List ℕ → List ℕ
+with_child t r x y ks = cond (parent_is x (t.entry y r)) (y ∷ ks) ks
 
--- the same where y may be no child of x
-abbrev pub wider : Tables → ℕ → ℕ → Option ℕ → ℕ → Option ℕ
-wider t r x o y = cond (parent_is x (t.entry y r)) (by_span t r o y) o
+-- the first of the widest
+abbrev pub first_widest : Tables → ℕ → List ℕ → Option ℕ
+first_widest t r ks = first_with t r (widest_span t r ks) ks
 
--- the widest child of x among some nodes and the one that was met before
-abbrev pub widest_from : Tables → ℕ → ℕ → Option ℕ → List ℕ → Option ℕ
-widest_from t r x o [] = o
-widest_from t r x o (y ∷ ys) = widest_from t r x (wider t r x o y) ys
+-- this is the first of the widest, with its span
+pub record IsWidest (t : Tables) (r : ℕ) (ks : List ℕ) (w : Option ℕ × ℕ) : Type 0 where
+  pub node : w.0 ≡ first_widest t r ks
+  pub span : w.1 ≡ widest_span t r ks
 
--- the widest child of x among its neighbours
-abbrev pub widest_of : Network → Tables → ℕ → ℕ → Option ℕ
-widest_of m t r x = widest_from t r x None (neighbours m x)
+-- some nodes but the heavy one
+abbrev pub but : Option ℕ → List ℕ → List ℕ
+but None ks = ks
+but (Some h) ks = all_but h ks
 
--- y in front of others, if it is a child of x and not h
-abbrev pub with_other : Tables → ℕ → ℕ → ℕ → ℕ → List ℕ → List ℕ
-with_other t r x h y ys = cond (parent_is x (t.entry y r)) (cond (not (y == h)) (y ∷ ys) ys) ys
+-- the numbers of children begin at f, each where the one before ends, and end before `end`; all have one light depth
+abbrev pub AreNumbered : Tables → ℕ → ℕ → ℕ → ℕ → List ℕ → Type 0
+AreNumbered t r f depth end [] = f ≡ end
+AreNumbered t r f depth end (y ∷ ys) = ((record_at t r y).first ≡ f) × (((record_at t r y).light_depth ≡ depth) × AreNumbered t r ((record_at t r y).last + 1) depth end ys)
 
--- the children of x among some nodes but h
-abbrev pub others : Tables → ℕ → ℕ → ℕ → List ℕ → List ℕ
-others t r x h [] = []
-others t r x h (y ∷ ys) = with_other t r x h y (others t r x h ys)
+-- they begin at `start`, and at no other number; or at none
+abbrev pub StartsAt : Tables → ℕ → ℕ → ℕ → List ℕ → ℕ → Type 0
+StartsAt t r depth end ks start = (f : ℕ) → AreNumbered t r f depth end ks ↔ (f ≡ start)
 
--- the children of x but h have the numbers from the start to below the end
-abbrev pub FitOthers : Network → Tables → ℕ → ℕ → ℕ → ℕ → ℕ → ℕ → Type 0
-FitOthers m t r x h start depth end = IsRow m t r false start depth end (others t r x h (neighbours m x))
+abbrev pub StartNowhere : Tables → ℕ → ℕ → ℕ → List ℕ → Type 0
+StartNowhere t r depth end ks = (f : ℕ) → AreNumbered t r f depth end ks → ⊥
 
--- The number behind some children: all have the numbers from the next one to below the end where the rest have those from that number on. Where
--- there is no such number, they haven't.
-abbrev pub GoesOn : Network → Tables → ℕ → ℕ → ℕ → ℕ → List ℕ → List ℕ → Option ℕ → Type 0
-GoesOn m t r depth end next all rest after =
-    MatchOption after (IsRow m t r false next depth end all → ⊥) (λ n. IsRow m t r false next depth end all ↔ IsRow m t r false n depth end rest)
+-- the heavy child of x is the first of the widest, and the others have the numbers that an entry's record leaves to them
+unfoldable pub AreChildrenFit : Network → Tables → ℕ → Entry → Option ℕ → Type 0
+AreChildrenFit m t x e heavy =
+    (first_widest t e.root (children_among t e.root x (neighbours m x)) ≡ heavy)
+    × AreNumbered t e.root (e.tree_record.heavy_last + 1) (e.tree_record.light_depth + 1) (e.tree_record.last + 1) (but heavy (children_among t e.root x (neighbours m x)))
 
--- the record of y's entry has this number, this light depth and the port to its parent
-abbrev pub IsNumbered : Network → ℕ → Entry → ℕ → ℕ → Type 0
-IsNumbered m y e first depth =
-    ((record_of e.tree_record).first ≡ first) × (((record_of e.tree_record).light_depth ≡ depth) × ((record_of e.tree_record).parent_port ≡ up_port m y (Some e)))
+-- a record and that of its node's heavy child fit; where there is none, it's that of a leaf
+abbrev pub LeadsTo : Tables → ℕ → Record → Option ℕ → Type 0
+LeadsTo t r k None = (k.first ≡ k.last) × ((k.heavy_last ≡ k.first) × (k.heavy_port ≡ None))
+LeadsTo t r k (Some h) = ((record_at t r h).first ≡ k.first + 1) × (((record_at t r h).light_depth ≡ k.light_depth) × ((record_at t r h).last ≡ k.heavy_last))
 
--- these children have the numbers behind those of the heavy one, up to the last that an entry's record names
-abbrev pub FitBehind : Network → Tables → Entry → List ℕ → Type 0
-FitBehind m t e ys = IsRow m t e.root false (e.tree_record.heavy_last + 1) e.tree_record.light_depth (e.tree_record.last + 1) ys
-
--- the children of x but h do, for an entry of x
-abbrev pub OthersFitBehind : Network → Tables → ℕ → Entry → ℕ → Type 0
-OthersFitBehind m t x e h = FitBehind m t e (others t e.root x h (neighbours m x))
-
--- the heavy child of x and its others
-abbrev pub row_after : Network → Tables → ℕ → ℕ → Option ℕ → List ℕ
-row_after m t r x None = []
-row_after m t r x (Some h) = h ∷ others t r x h (neighbours m x)
-
--- the heavy child of x and its others, as found among the neighbours
-abbrev pub row_at : Network → Tables → ℕ → ℕ → List ℕ
-row_at m t r x = row_after m t r x (widest_from t r x None (neighbours m x))
-
--- a record fits those of the children of its node
-unfoldable pub FitsRow : Network → Tables → ℕ → Record → List ℕ → Type 0
-FitsRow m t r k row = IsRow m t r true (k.first + 1) k.light_depth (k.last + 1) row × IsHeavyOf m t r k row
-
--- a record and that of its node's heavy child h fit
-unfoldable pub FitsFirst : Network → Tables → ℕ → Record → ℕ → Type 0
-FitsFirst m t r k h = FitsChild m t r true (k.first + 1) k.light_depth h × IsHeavyOf m t r k (h ∷ [])
-
--- an entry's record fits those of h and the other children of x
-abbrev pub FitsWithOthers : Network → Tables → ℕ → Entry → ℕ → Type 0
-FitsWithOthers m t x e h = FitsRow m t e.root (record_of e.tree_record) (h ∷ others t e.root x h (neighbours m x))
-
--- an entry's record fits those of the children of its node in the tree of its root
+-- an entry's record fits those of the children of its node, but for their ports
 unfoldable pub FitsAt : Network → Tables → ℕ → Entry → Type 0
-FitsAt m t x e = FitsRow m t e.root (record_of e.tree_record) (row_at m t e.root x)
+FitsAt m t x e = AreChildrenFit m t x e (behind m x e.tree_record.heavy_port) × LeadsTo t e.root e.tree_record (behind m x e.tree_record.heavy_port)
 
--- the record of x as a root, and the records of x in all trees
+-- the record of x as a root is that of one, and all its records fit and have their ports
 unfoldable pub IsLocalAt : Network → Parts → ℕ → Type 0
-IsLocalAt m p x = FitsRoot (tables p) x × All (FitsAt m (tables p) x) (entries_at p x)
+IsLocalAt m p x = FitsRoot (tables p) x × All (λ e. IsPorted m x e × FitsAt m (tables p) x e) (entries_at p x)
+
+-- what Shape, Edges, Parents and Records say of one entry of x
+unfoldable pub IsSwept : Network → Tables → ℕ → Entry → Type 0
+IsSwept m t x e = IsEntryShaped m t x e × (IsPorted m x e × (All (IsRightOver t e) (neighbours_of m x) × FitsAt m t x e))

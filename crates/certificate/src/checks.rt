@@ -1,59 +1,102 @@
 // The checks in their order.
-ghost use Rattle.std.specs.Prelude.{◌↔◌, IfErr, IsTrue, OnOk};
-ghost use Rattle.certificate.specs.Climbs.{HoldsFirst};
+ghost use Rattle.std.specs.Prelude.{◌≡◌, ◌+◌, ◌<◌, ◌↔◌, ℕ, IfErr, IsTrue, OnOk};
+ghost use Rattle.certificate.specs.Entries.{IsFramed};
 ghost use Rattle.certificate.specs.Faults.{IsExact, rule_of};
-ghost use Rattle.certificate.specs.Ranges.{HoldOfAll};
-ghost use Rattle.certificate.specs.Rows.{IsLocalAt};
-ghost use Rattle.schemes.specs.Checks.{Holds, IsChecked, IsFirstFault, IsShaped, k1, k2, k3, k6};
+ghost use Rattle.certificate.specs.Rules.{HoldsAt, HoldsBefore, HoldsTo};
+ghost use Rattle.graph_edits.specs.Edges.{IsSound};
+ghost use Rattle.schemes.specs.Checks.{Holds, IsChecked, IsFirstFault, number_of};
 ghost use Rattle.schemes.specs.Service.{Serves};
 ghost use Rattle.schemes.specs.Tables.{tables};
 
-use crate::directories::has_directories;
-use crate::edges::has_edges;
+use crate::directories::has_directory;
+use crate::edges::{are_closed, are_tight};
 use crate::fault::Fault;
-use crate::labels::has_labels;
-use crate::nearest::has_nearest;
-use crate::parents::has_parents;
-use crate::records::has_records;
-use crate::shape::is_shaped;
-use crate::strict::is_strict;
-use crate::swift::is_swiftly_sound;
+use crate::labels::has_labels_at;
+use crate::nearest::{are_strict, is_nearest};
+use crate::records::{are_swept, fits_root};
+use crate::shape::{are_shaped, is_framed};
+use crate::swift::are_trees_right;
 use graph_edits::Graph;
 use schemes::Scheme;
 
-/// Whether a scheme keeps Shape: what the swift pass took for right isn't tested again.
-fn keeps_shape(graph: &Graph, scheme: &Scheme, swift: bool) -> bool
-    requires swift { IsTrue swift → Holds graph.now scheme.now k1 }
-    ensures { IsTrue result ↔ Holds graph.now scheme.now k1 }
+/// The fault whose number is one more.
+fn fault_at(i: u8) -> Fault
+    ensures { i < 8 → number_of (rule_of result) ≡ i + 1 }
 {
-    swift || is_shaped(graph, scheme)
+    match i {
+        0 => Fault::Shape,
+        1 => Fault::Edges,
+        2 => Fault::Parents,
+        3 => Fault::Strict,
+        4 => Fault::Nearest,
+        5 => Fault::Records,
+        6 => Fault::Labels,
+        _ => Fault::Directories,
+    }
 }
 
-/// Whether it keeps Edges, in the same way.
-fn keeps_edges(graph: &Graph, scheme: &Scheme, swift: bool) -> bool
-    requires shaped { IsShaped graph.now scheme.now }
-    requires swift { IsTrue swift → Holds graph.now scheme.now k2 }
-    ensures { IsTrue result ↔ Holds graph.now scheme.now k2 }
+/// Whether a rule holds at a node, where all before it hold.
+fn holds_at(graph: &Graph, scheme: &Scheme, fault: Fault, x: u16) -> bool
+    requires sound { IsSound graph.now }
+    requires inside { x < graph.now.nodes }
+    requires before { HoldsBefore graph.now scheme.now (rule_of fault) }
+    ensures { IsTrue result ↔ HoldsAt graph.now scheme.now (rule_of fault) x }
 {
-    swift || has_edges(graph, scheme)
+    match fault {
+        Fault::Shape => are_shaped(graph, scheme, x),
+        Fault::Edges => are_closed(graph, scheme, x),
+        Fault::Parents => are_tight(graph, scheme, x),
+        Fault::Strict => are_strict(scheme, x),
+        Fault::Nearest => is_nearest(scheme, x),
+        Fault::Records => fits_root(scheme, x) && are_swept(graph, scheme, x),
+        Fault::Labels => has_labels_at(graph, scheme, x),
+        Fault::Directories => has_directory(scheme, x),
+    }
 }
 
-/// Whether it keeps Parents, in the same way.
-fn keeps_parents(graph: &Graph, scheme: &Scheme, swift: bool) -> bool
-    requires shaped { IsShaped graph.now scheme.now }
-    requires swift { IsTrue swift → Holds graph.now scheme.now k3 }
-    ensures { IsTrue result ↔ Holds graph.now scheme.now k3 }
+/// Whether a rule holds, where all before it hold.
+fn holds(graph: &Graph, scheme: &Scheme, fault: Fault) -> bool
+    requires framed { IsFramed graph.now scheme.now }
+    requires before { HoldsBefore graph.now scheme.now (rule_of fault) }
+    ensures { IsTrue result ↔ Holds graph.now scheme.now (rule_of fault) }
 {
-    swift || has_parents(graph, scheme)
+    for x in 0..graph.nodes() {
+        if !holds_at(graph, scheme, fault, x) {
+            return false;
+        }
+    }
+    true
 }
 
-/// Whether it keeps Records, in the same way: all records are right where each is by those of its children.
-fn keeps_records(graph: &Graph, scheme: &Scheme, swift: bool) -> bool
-    requires first { HoldsFirst graph.now scheme.now }
-    requires swift { IsTrue swift → HoldOfAll IsLocalAt graph.now scheme.now }
-    ensures { IsTrue result ↔ Holds graph.now scheme.now k6 }
+/// What [`check`] answers. Where the rules aren't known to hold, each is tested by itself, and the first that fails is named.
+pub(crate) fn answer(graph: &Graph, scheme: &Scheme, is_sound: bool) -> Result<(), Fault>
+    requires { IsTrue is_sound → IsChecked graph.now scheme.now }
+    ensures ok { OnOk result (IsChecked graph.now scheme.now) }
+    ensures fault { IfErr result (λ fault. IsFirstFault graph.now scheme.now (rule_of fault)) }
+    ensures exact { IsExact graph.now scheme.now result }
+    ensures serves { OnOk result (Serves graph.now (tables scheme.now)) }
 {
-    swift || has_records(graph, scheme)
+    let _sound = graph.nodes();
+    if is_sound {
+        return Ok(());
+    }
+    if !is_framed(graph, scheme) {
+        return Err(Fault::Shape);
+    }
+    for i in 0..8 {
+        let fault = fault_at(i);
+        if !holds(graph, scheme, fault) {
+            return Err(fault);
+        }
+    }
+    Ok(())
+}
+
+/// Whether the swift pass finds no fault: then all rules hold.
+fn is_sound(graph: &Graph, scheme: &Scheme) -> bool
+    ensures { IsTrue result → IsChecked graph.now scheme.now }
+{
+    is_framed(graph, scheme) && are_trees_right(graph, scheme, 0, graph.nodes())
 }
 
 /// Whether a scheme keeps all eight rules for a graph; else the first that it breaks. It takes no memory and answers for
@@ -64,30 +107,5 @@ pub fn check(graph: &Graph, scheme: &Scheme) -> Result<(), Fault>
     ensures exact { IsExact graph.now scheme.now result }
     ensures serves { OnOk result (Serves graph.now (tables scheme.now)) }
 {
-    let swift = is_swiftly_sound(graph, scheme);
-    if !keeps_shape(graph, scheme, swift) {
-        return Err(Fault::Shape);
-    }
-    if !keeps_edges(graph, scheme, swift) {
-        return Err(Fault::Edges);
-    }
-    if !keeps_parents(graph, scheme, swift) {
-        return Err(Fault::Parents);
-    }
-    if !is_strict(graph, scheme) {
-        return Err(Fault::Strict);
-    }
-    if !has_nearest(graph, scheme) {
-        return Err(Fault::Nearest);
-    }
-    if !keeps_records(graph, scheme, swift) {
-        return Err(Fault::Records);
-    }
-    if !has_labels(graph, scheme) {
-        return Err(Fault::Labels);
-    }
-    if !has_directories(graph, scheme) {
-        return Err(Fault::Directories);
-    }
-    Ok(())
+    answer(graph, scheme, is_sound(graph, scheme))
 }

@@ -2,19 +2,16 @@
 ghost use Rattle.std.specs.Prelude.{◌≡◌, ◌<◌, ◌↔◌, ℕ, IsTrue, IsSome, is_some, slice_get};
 ghost use Rattle.std.specs.List.{All};
 ghost use Rattle.std.specs.List.Sorted.{IsStrictlyIncreasing};
-ghost use Rattle.certificate.specs.Entries.{HasDirectoryAt, IsListedBack, IsListedRight};
+ghost use Rattle.certificate.specs.Entries.{HasDirectoryAt, HasOrderAt, IsListedBack, IsListedRight};
 ghost use Rattle.schemes.specs.Tables.{directory_at, entries_at, nodes_of, or_none, tables};
-ghost use Rattle.schemes.specs.Checks.{Holds, IsShaped, k8};
 
-use graph_edits::Graph;
-use heavy_labels::Label;
-use schemes::{Entry, Listed, Scheme};
+use schemes::{Entry, Scheme};
 
 fn all_have_entries(scheme: &Scheme, u: u16) -> bool
     ensures { IsTrue result ↔ All (λ e. IsSome ((tables scheme.now).entry e.node u)) (directory_at scheme.now u) }
 {
-    scheme
-        .directory_of(u)
+    let directory = scheme.directory_of(u);
+    directory
         .iter()
         .all(|listed| scheme.entry(listed.node, u).is_some())
 }
@@ -40,10 +37,8 @@ fn is_listed_back(scheme: &Scheme, x: u16, entry: &Entry) -> bool
 fn are_listed_back(scheme: &Scheme, x: u16) -> bool
     ensures { IsTrue result ↔ All (IsListedBack (tables scheme.now) x) (entries_at scheme.now x) }
 {
-    scheme
-        .entries_of(x)
-        .iter()
-        .all(|entry| is_listed_back(scheme, x, entry))
+    let entries = scheme.entries_of(x);
+    entries.iter().all(|entry| is_listed_back(scheme, x, entry))
 }
 
 fn has_home(scheme: &Scheme, v: u16) -> bool
@@ -52,31 +47,18 @@ fn has_home(scheme: &Scheme, v: u16) -> bool
     scheme.home_label(v).is_some()
 }
 
-fn has_home_right(scheme: &Scheme, v: u16) -> bool
-    ensures { IsTrue result ↔ (IsSome ((tables scheme.now).home v) ↔ IsSome ((tables scheme.now).nearest v)) }
+/// Whether a node's directory ascends, and a home label is there exactly where a nearest landmark is.
+#[tactic(auto, unfolding(crate::specs::Entries::HasOrderAt))]
+pub(crate) fn has_order(scheme: &Scheme, u: u16) -> bool
+    ensures { IsTrue result ↔ HasOrderAt scheme.now u }
 {
-    has_home(scheme, v) == scheme.nearest(v).is_some()
+    scheme.has_ascending_directory(u) && has_home(scheme, u) == scheme.nearest(u).is_some()
 }
 
+/// Whether a node's directory lists what it should, the node is listed where it should be, and its home label is where it should be.
 #[tactic(auto, unfolding(crate::specs::Entries::HasDirectoryAt))]
 pub(crate) fn has_directory(scheme: &Scheme, u: u16) -> bool
     ensures { IsTrue result ↔ HasDirectoryAt scheme.now u }
 {
-    scheme.has_ascending_directory(u)
-        && is_listed_right(scheme, u)
-        && has_home_right(scheme, u)
-        && are_listed_back(scheme, u)
-}
-
-/// Whether every directory lists what it should, and every home label is where it should be.
-pub(crate) fn has_directories(graph: &Graph, scheme: &Scheme) -> bool
-    requires { IsShaped graph.now scheme.now }
-    ensures { IsTrue result ↔ Holds graph.now scheme.now k8 }
-{
-    for u in 0..graph.nodes() {
-        if !has_directory(scheme, u) {
-            return false;
-        }
-    }
-    true
+    has_order(scheme, u) && is_listed_right(scheme, u) && are_listed_back(scheme, u)
 }

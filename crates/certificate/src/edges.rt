@@ -1,13 +1,12 @@
-// Edges: an entry leads over every edge to an entry no farther, or to where a landmark is as near.
+// Edges and Parents: an entry leads over every edge to an entry no farther, or to where a landmark is as near; and its parent gives its
+// distance, first of all neighbours.
 ghost use Rattle.std.specs.Prelude.{◌≡◌, ◌+◌, ◌<◌, ◌≤◌, ◌↔◌, ℕ, IsTrue};
 ghost use Rattle.std.specs.List.{All};
-ghost use Rattle.certificate.specs.Entries.{AllAscend, EachEntry, IsClosedAt, IsClosedOver};
+ghost use Rattle.certificate.specs.Entries.{IsClosedAt, IsClosedOver, IsRightOver, IsTightAt, IsTightOver};
 ghost use Rattle.certificate.specs.Found.{HasNearWithin, IsEntryOf};
-ghost use Rattle.schemes.specs.Tables.{entries_at, tables};
-ghost use Rattle.schemes.specs.Checks.{Holds, IsShaped, k2};
+ghost use Rattle.schemes.specs.Tables.{Tables, entries_at, tables};
 
-use crate::pairs::{entry_at, place_from};
-use crate::sums::is_at_most;
+use crate::sums::{is_at_most, is_sum};
 use graph_edits::Graph;
 use schemes::{Entry, Scheme};
 
@@ -23,12 +22,7 @@ fn is_landmark_near(scheme: &Scheme, y: u16, distance: u64, weight: u32) -> bool
 
 /// Whether an entry is closed over an edge, behind which this entry stands for the same root, if there is one.
 #[tactic(auto, unfolding(crate::specs::Entries::IsClosedOver))]
-pub(crate) fn is_closed_over(
-    scheme: &Scheme,
-    entry: &Entry,
-    edge: (u16, u32),
-    behind: Option<&Entry>,
-) -> bool
+fn is_closed_over(scheme: &Scheme, entry: &Entry, edge: (u16, u32), behind: Option<&Entry>) -> bool
     requires { IsEntryOf (tables scheme.now) edge.0 entry.now.root behind }
     ensures { IsTrue result ↔ IsClosedOver (tables scheme.now) entry.now edge }
 {
@@ -40,47 +34,93 @@ pub(crate) fn is_closed_over(
     }
 }
 
-/// Whether every entry of a node is closed over one edge. The entries of both its ends are walked side by side.
-fn are_closed_over(scheme: &Scheme, x: u16, edge: (u16, u32)) -> bool
-    requires { AllAscend scheme.now }
-    ensures { IsTrue result ↔ All (λ e. IsClosedOver (tables scheme.now) e edge) (entries_at scheme.now x) }
+/// Whether the neighbour over an edge gives an entry's distance where it is the parent, and doesn't where it is before the parent.
+/// Behind the edge this entry stands for the same root, if there is one.
+#[tactic(auto, unfolding(crate::specs::Entries::IsTightOver))]
+fn is_tight_over(entry: &Entry, edge: (u16, u32), behind: Option<&Entry>) -> bool
+    ensures { (t : Tables) → IsEntryOf t edge.0 entry.now.root behind.entry
+        → IsTrue result ↔ IsTightOver t entry.now edge }
 {
-    let here = scheme.entries_of(x);
-    let there = scheme.entries_of(edge.0);
-    let mut at = 0;
-    for entry in here {
-        at = place_from(there, at, entry.root());
-        if !is_closed_over(scheme, entry, edge, entry_at(there, at, entry.root())) {
-            return false;
-        }
+    let (y, weight) = edge;
+    let Some(there) = behind else {
+        return true;
+    };
+    let Some(parent) = entry.parent() else {
+        return true;
+    };
+    if y > parent {
+        return true;
     }
-    true
+    let gives = is_sum(entry.distance(), there.distance(), weight);
+    if y == parent { gives } else { !gives }
 }
 
-/// Whether every entry of a node is closed over each of its edges.
-fn are_closed(graph: &Graph, scheme: &Scheme, x: u16) -> bool
-    requires inside { x < graph.now.nodes }
-    requires ascend { AllAscend scheme.now }
-    ensures { IsTrue result ↔ All (IsClosedAt graph.now (tables scheme.now) x) (entries_at scheme.now x) }
+/// Whether an edge is right for an entry by Edges and Parents.
+#[tactic(auto, unfolding(crate::specs::Entries::IsRightOver))]
+pub(crate) fn is_right_over(
+    scheme: &Scheme,
+    entry: &Entry,
+    edge: (u16, u32),
+    behind: Option<&Entry>,
+) -> bool
+    requires { IsEntryOf (tables scheme.now) edge.0 entry.now.root behind }
+    ensures { IsTrue result ↔ IsRightOver (tables scheme.now) entry.now edge }
+{
+    is_closed_over(scheme, entry, edge, behind) && is_tight_over(entry, edge, behind)
+}
+
+/// Whether an entry is closed over an edge, where the entry behind it is searched for.
+fn is_closed_by(scheme: &Scheme, entry: &Entry, edge: (u16, u32)) -> bool
+    ensures { IsTrue result ↔ IsClosedOver (tables scheme.now) entry.now edge }
+{
+    is_closed_over(scheme, entry, edge, scheme.entry(edge.0, entry.root()))
+}
+
+/// Whether it is tight over an edge, in the same way.
+fn is_tight_by(scheme: &Scheme, entry: &Entry, edge: (u16, u32)) -> bool
+    ensures { IsTrue result ↔ IsTightOver (tables scheme.now) entry.now edge }
+{
+    is_tight_over(entry, edge, scheme.entry(edge.0, entry.root()))
+}
+
+/// Whether an entry of x is closed over each edge.
+#[tactic(auto, unfolding(crate::specs::Entries::IsClosedAt))]
+fn is_closed(graph: &Graph, scheme: &Scheme, x: u16, entry: &Entry) -> bool
+    requires { x < graph.now.nodes }
+    ensures { IsTrue result ↔ IsClosedAt graph.now (tables scheme.now) x entry.now }
 {
     let row = graph.neighbours(x);
-    for edge in row {
-        if !are_closed_over(scheme, x, *edge) {
-            return false;
-        }
-    }
-    true
+    row.iter().all(|edge| is_closed_by(scheme, entry, *edge))
 }
 
-/// Whether every entry is closed over every edge.
-pub(crate) fn has_edges(graph: &Graph, scheme: &Scheme) -> bool
-    requires { IsShaped graph.now scheme.now }
-    ensures { IsTrue result ↔ Holds graph.now scheme.now k2 }
+/// Whether it is tight over each edge.
+#[tactic(auto, unfolding(crate::specs::Entries::IsTightAt))]
+fn is_tight(graph: &Graph, scheme: &Scheme, x: u16, entry: &Entry) -> bool
+    requires { x < graph.now.nodes }
+    ensures { IsTrue result ↔ IsTightAt graph.now (tables scheme.now) x entry.now }
 {
-    for x in 0..graph.nodes() {
-        if !are_closed(graph, scheme, x) {
-            return false;
-        }
-    }
-    true
+    let row = graph.neighbours(x);
+    row.iter().all(|edge| is_tight_by(scheme, entry, *edge))
+}
+
+/// Whether all entries of a node are closed.
+pub(crate) fn are_closed(graph: &Graph, scheme: &Scheme, x: u16) -> bool
+    requires { x < graph.now.nodes }
+    ensures { IsTrue result ↔ All (IsClosedAt graph.now (tables scheme.now) x) (entries_at scheme.now x) }
+{
+    let entries = scheme.entries_of(x);
+    entries
+        .iter()
+        .all(|entry| is_closed(graph, scheme, x, entry))
+}
+
+/// Whether all entries of a node are tight.
+pub(crate) fn are_tight(graph: &Graph, scheme: &Scheme, x: u16) -> bool
+    requires { x < graph.now.nodes }
+    ensures { IsTrue result ↔ All (IsTightAt graph.now (tables scheme.now) x) (entries_at scheme.now x) }
+{
+    let entries = scheme.entries_of(x);
+    entries
+        .iter()
+        .all(|entry| is_tight(graph, scheme, x, entry))
 }

@@ -1,27 +1,34 @@
-// Labels: those of a directory each by the label of its node's parent there, a home label by a climb from its node to the root,
-// which meets the label's light ports from the last to the first.
+// Labels: each by a climb from its node to the root, which meets the label's light ports from the last to the first. In the swift pass
+// those of a directory by the label of their node's parent there.
 ghost use Rattle.std.specs.Prelude.{◌≡◌, ◌==◌, ◌<◌, ◌↔◌, ℕ, IsTrue, MatchOption, List, Option, Some, None, false, slice_get};
 ghost use Rattle.std.specs.List.{All};
+ghost use Rattle.certificate.specs.Ahead.{IsAhead};
 ghost use Rattle.certificate.specs.Climbs.{AreAbove, AreLinked, HasLabelsAt, HasLights, HoldsFirst, IsHomeRight, IsLabelRight, IsLinked};
 ghost use Rattle.heavy_labels.specs.Label.{Label};
 ghost use Rattle.heavy_labels.specs.Numbering.{lights_at};
-ghost use Rattle.schemes.specs.Checks.{Holds, k6, k7};
+ghost use Rattle.schemes.specs.Checks.{distance_of};
 ghost use Rattle.schemes.specs.Local.{IsLocalLabel, parent_of, record_at};
 ghost use Rattle.schemes.specs.Ports.{port_to};
 ghost use Rattle.schemes.specs.Tables.{directory_at, or_none, tables};
 
+use crate::places::{Ahead, entry_near};
 use graph_edits::Graph;
 use heavy_labels::Label;
 use schemes::{Entry, Listed, Scheme, port};
 
-/// The parent and the light depth that a node's entry for a root names.
-fn rung(scheme: &Scheme, root: u16, x: u16) -> (Option<u16>, u8)
+/// The parent and the light depth that a node's entry for a root names, and its distance.
+fn rung(scheme: &Scheme, root: u16, x: u16) -> (Option<u16>, u8, u64)
     ensures parent { result.0 ≡ parent_of ((tables scheme.now).entry x root) }
     ensures depth { result.1 ≡ (record_at (tables scheme.now) root x).light_depth }
+    ensures distance { result.2 ≡ distance_of ((tables scheme.now).entry x root) }
 {
     match scheme.entry(x, root) {
-        Some(entry) => (entry.parent(), entry.tree_record().light_depth),
-        None => (None, 0),
+        Some(entry) => (
+            entry.parent(),
+            entry.tree_record().light_depth,
+            entry.distance(),
+        ),
+        None => (None, 0, 0),
     }
 }
 
@@ -64,16 +71,19 @@ fn climbed<'a>(
     }
 }
 
-/// Whether the light ports on the way from a root to a node are these.
+/// Whether the light ports on the way from a root to a node are these. A climb ends where it doesn't come nearer to the root.
 fn are_lights(graph: &Graph, scheme: &Scheme, root: u16, v: u16, lights: &[u16]) -> bool
-    requires { HoldsFirst graph.now scheme.now }
-    ensures { IsTrue result ↔ HasLights graph.now (tables scheme.now) root v lights.now }
+    ensures { HoldsFirst graph.now scheme.now
+        → IsTrue result ↔ HasLights graph.now (tables scheme.now) root v lights.now }
 {
     let mut left = lights;
     let mut at = v;
     let mut here = rung(scheme, root, v);
     while let Some(above) = here.0 {
         let there = rung(scheme, root, above);
+        if there.2 >= here.2 {
+            return false;
+        }
         match climbed(graph, at, above, here.1 == there.1, left) {
             Some(rest) => left = rest,
             None => return false,
@@ -87,8 +97,8 @@ fn are_lights(graph: &Graph, scheme: &Scheme, root: u16, v: u16, lights: &[u16])
 /// Whether a label is that of v in the tree of a root.
 #[tactic(auto, unfolding(crate::specs::Climbs::HasLights))]
 fn is_label(graph: &Graph, scheme: &Scheme, root: u16, v: u16, label: &Label) -> bool
-    requires { HoldsFirst graph.now scheme.now }
-    ensures { IsTrue result ↔ IsLocalLabel graph.now (tables scheme.now) root v label.now }
+    ensures { HoldsFirst graph.now scheme.now
+        → IsTrue result ↔ IsLocalLabel graph.now (tables scheme.now) root v label.now }
 {
     label.first() == number(scheme, root, v) && are_lights(graph, scheme, root, v, label.lights())
 }
@@ -103,64 +113,105 @@ fn are_below(graph: &Graph, x: u16, y: u16, is_heavy: bool, lights: &[u16], abov
     }
 }
 
-/// Whether the light ports of v are these by the label of its parent in u's directory, or by a climb where that has none.
-/// Its entry for u is this one.
-#[tactic(auto, unfolding(crate::specs::Climbs::AreLinked))]
-fn are_linked(graph: &Graph, scheme: &Scheme, u: u16, v: u16, entry: &Entry, lights: &[u16]) -> bool
-    requires first { HoldsFirst graph.now scheme.now }
-    requires entry { (tables scheme.now).entry v u ≡ Some entry.now }
-    ensures { IsTrue result ↔ AreLinked graph.now (tables scheme.now) u v lights.now }
+fn depth_near<'a>(scheme: &'a Scheme, ahead: &Ahead<'a>, root: u16, x: u16) -> u8
+    requires ahead { IsAhead scheme.now root ahead.now }
+    ensures { result ≡ (record_at (tables scheme.now) root x).light_depth }
 {
-    let Some(y) = entry.parent() else {
-        return are_lights(graph, scheme, u, v, lights);
-    };
-    match scheme.listed(u, y) {
-        Some(label) => {
-            let (_, above) = rung(scheme, u, y);
-            let is_heavy = entry.tree_record().light_depth == above;
-            are_below(graph, v, y, is_heavy, lights, label.lights())
-        }
-        None => are_lights(graph, scheme, u, v, lights),
+    match entry_near(scheme, ahead, x, root) {
+        Some(entry) => entry.tree_record().light_depth,
+        None => 0,
     }
 }
 
-/// Whether a label of u's directory fits the one of its node's parent there, or is of a node without an entry for u.
-#[tactic(auto, unfolding(crate::specs::Climbs::IsLinked))]
-fn is_linked(graph: &Graph, scheme: &Scheme, u: u16, listed: &Listed) -> bool
-    requires { HoldsFirst graph.now scheme.now }
-    ensures { IsTrue result ↔ IsLinked graph.now (tables scheme.now) u listed.now }
+/// Whether the light ports of a label of u's directory are right by the label of its node's parent there. Its node's entry for u is
+/// this one.
+#[tactic(auto, unfolding(crate::specs::Climbs::AreLinked))]
+fn are_linked<'a>(
+    graph: &Graph,
+    scheme: &'a Scheme,
+    ahead: &Ahead<'a>,
+    u: u16,
+    listed: &Listed,
+    entry: &Entry,
+) -> bool
+    requires ahead { IsAhead scheme.now u ahead.now }
+    requires entry { (tables scheme.now).entry listed.now.node u ≡ Some entry.now }
+    ensures { IsTrue result → AreLinked graph.now (tables scheme.now) u listed.now.node listed.now.label.lights }
 {
-    let Some(entry) = scheme.entry(listed.node, u) else {
+    let v = listed.node;
+    let lights = listed.label.lights();
+    let Some(y) = entry.parent() else {
+        return lights.is_empty();
+    };
+    let Some(label) = scheme.listed(u, y) else {
+        return false;
+    };
+    let is_heavy = entry.tree_record().light_depth == depth_near(scheme, ahead, u, y);
+    are_below(graph, v, y, is_heavy, lights, label.lights())
+}
+
+/// Whether a label of u's directory fits the one of its node's parent there.
+#[tactic(auto, unfolding(crate::specs::Climbs::IsLinked))]
+fn is_linked<'a>(
+    graph: &Graph,
+    scheme: &'a Scheme,
+    ahead: &Ahead<'a>,
+    u: u16,
+    listed: &Listed,
+) -> bool
+    requires ahead { IsAhead scheme.now u ahead.now }
+    ensures { IsTrue result → IsLinked graph.now (tables scheme.now) u listed.now }
+{
+    let Some(entry) = entry_near(scheme, ahead, listed.node, u) else {
         return true;
     };
     listed.label.first() == entry.tree_record().first
-        && are_linked(graph, scheme, u, listed.node, entry, listed.label.lights())
+        && are_linked(graph, scheme, ahead, u, listed, entry)
 }
 
-/// Whether all labels of u's directory fit those of their nodes' parents.
-fn are_all_linked(graph: &Graph, scheme: &Scheme, u: u16) -> bool
-    requires { HoldsFirst graph.now scheme.now }
-    ensures { IsTrue result ↔ All (IsLinked graph.now (tables scheme.now) u) (directory_at scheme.now u) }
+/// Whether all labels of u's directory do: then they are right, from the root down.
+pub(crate) fn are_all_linked<'a>(
+    graph: &Graph,
+    scheme: &'a Scheme,
+    ahead: &Ahead<'a>,
+    u: u16,
+) -> bool
+    requires ahead { IsAhead scheme.now u ahead.now }
+    ensures { IsTrue result → All (IsLinked graph.now (tables scheme.now) u) (directory_at scheme.now u) }
 {
-    scheme
-        .directory_of(u)
+    let directory = scheme.directory_of(u);
+    directory
         .iter()
-        .all(|listed| is_linked(graph, scheme, u, listed))
+        .all(|listed| is_linked(graph, scheme, ahead, u, listed))
 }
 
-/// Whether all labels of u's directory are right: where each fits its parent's, they are, from the root down.
+/// Whether a label of u's directory is right, or of a node without an entry for u.
+#[tactic(auto, unfolding(crate::specs::Climbs::IsLabelRight))]
+fn is_label_right(graph: &Graph, scheme: &Scheme, u: u16, listed: &Listed) -> bool
+    requires { HoldsFirst graph.now scheme.now }
+    ensures { IsTrue result ↔ IsLabelRight graph.now (tables scheme.now) u listed.now }
+{
+    match scheme.entry(listed.node, u) {
+        Some(_) => is_label(graph, scheme, u, listed.node, &listed.label),
+        None => true,
+    }
+}
+
+/// Whether all labels of u's directory are right.
 fn are_labels_right(graph: &Graph, scheme: &Scheme, u: u16) -> bool
     requires { HoldsFirst graph.now scheme.now }
     ensures { IsTrue result ↔ All (IsLabelRight graph.now (tables scheme.now) u) (directory_at scheme.now u) }
 {
-    are_all_linked(graph, scheme, u)
+    let directory = scheme.directory_of(u);
+    directory
+        .iter()
+        .all(|listed| is_label_right(graph, scheme, u, listed))
 }
 
 /// Whether a home label is right, or without a nearest landmark.
 #[tactic(auto, unfolding(crate::specs::Climbs::IsHomeRight))]
-fn is_home_right(graph: &Graph, scheme: &Scheme, v: u16) -> bool
-    requires { HoldsFirst graph.now scheme.now }
-    ensures { IsTrue result ↔ IsHomeRight graph.now scheme.now v }
+pub(crate) fn is_home_right(graph: &Graph, scheme: &Scheme, v: u16) -> bool
+    ensures { HoldsFirst graph.now scheme.now → IsTrue result ↔ IsHomeRight graph.now scheme.now v }
 {
     match (scheme.home_label(v), scheme.nearest(v)) {
         (Some(label), Some(near)) => is_label(graph, scheme, near.landmark, v, label),
@@ -168,24 +219,11 @@ fn is_home_right(graph: &Graph, scheme: &Scheme, v: u16) -> bool
     }
 }
 
+/// Whether the labels of a node's directory are right, and its home label is.
 #[tactic(auto, unfolding(crate::specs::Climbs::HasLabelsAt))]
 pub(crate) fn has_labels_at(graph: &Graph, scheme: &Scheme, u: u16) -> bool
     requires { HoldsFirst graph.now scheme.now }
     ensures { IsTrue result ↔ HasLabelsAt graph.now scheme.now u }
 {
     are_labels_right(graph, scheme, u) && is_home_right(graph, scheme, u)
-}
-
-/// Whether every label is that of its tree.
-pub(crate) fn has_labels(graph: &Graph, scheme: &Scheme) -> bool
-    requires first { HoldsFirst graph.now scheme.now }
-    requires records { Holds graph.now scheme.now k6 }
-    ensures { IsTrue result ↔ Holds graph.now scheme.now k7 }
-{
-    for u in 0..graph.nodes() {
-        if !has_labels_at(graph, scheme, u) {
-            return false;
-        }
-    }
-    true
 }

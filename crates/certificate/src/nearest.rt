@@ -1,12 +1,30 @@
-// Nearest: a node's nearest landmark is the least of its entries for landmarks.
+// Strict and Nearest: who is in a cluster's tree is nearer to its root than to every landmark, and a node's nearest landmark is the
+// least of its entries for landmarks.
 ghost use Rattle.std.specs.Prelude.{◌≡◌, ◌<◌, ◌↔◌, ℕ, IsTrue, false};
 ghost use Rattle.std.specs.List.{All};
-ghost use Rattle.certificate.specs.Entries.{IsNearestAt, IsNoNearer, IsThere};
+ghost use Rattle.certificate.specs.Entries.{IsNearestAt, IsNoNearer, IsStrictAt, IsThere};
 ghost use Rattle.schemes.specs.Tables.{entries_at, tables};
-ghost use Rattle.schemes.specs.Checks.{Holds, IsShaped, k5};
 
-use graph_edits::Graph;
 use schemes::{Entry, Near, Scheme};
+
+pub(crate) fn is_strict(scheme: &Scheme, x: u16, entry: &Entry) -> bool
+    ensures { IsTrue result ↔ IsStrictAt (tables scheme.now) x entry.now }
+{
+    if scheme.is_landmark(entry.root()) {
+        return true;
+    }
+    match scheme.nearest(x) {
+        Some(near) => entry.distance() < near.distance,
+        None => true,
+    }
+}
+
+pub(crate) fn are_strict(scheme: &Scheme, x: u16) -> bool
+    ensures { IsTrue result ↔ All (IsStrictAt (tables scheme.now) x) (entries_at scheme.now x) }
+{
+    let entries = scheme.entries_of(x);
+    entries.iter().all(|entry| is_strict(scheme, x, entry))
+}
 
 #[tactic(auto, unfolding(crate::specs::Entries::IsThere))]
 fn is_there(scheme: &Scheme, x: u16, near: Near) -> bool
@@ -33,8 +51,8 @@ fn is_no_nearer(scheme: &Scheme, near: Near, entry: &Entry) -> bool
 fn none_nearer(scheme: &Scheme, x: u16, near: Near) -> bool
     ensures { IsTrue result ↔ All (IsNoNearer (tables scheme.now) near) (entries_at scheme.now x) }
 {
-    scheme
-        .entries_of(x)
+    let entries = scheme.entries_of(x);
+    entries
         .iter()
         .all(|entry| is_no_nearer(scheme, near, entry))
 }
@@ -42,12 +60,13 @@ fn none_nearer(scheme: &Scheme, x: u16, near: Near) -> bool
 fn has_no_landmark(scheme: &Scheme, x: u16) -> bool
     ensures { IsTrue result ↔ All (λ e. (tables scheme.now).landmark e.root ≡ false) (entries_at scheme.now x) }
 {
-    scheme
-        .entries_of(x)
+    let entries = scheme.entries_of(x);
+    entries
         .iter()
         .all(|entry| !scheme.is_landmark(entry.root()))
 }
 
+/// Whether a node's nearest landmark is right by its entries.
 #[tactic(auto, unfolding(crate::specs::Entries::IsNearestAt))]
 pub(crate) fn is_nearest(scheme: &Scheme, x: u16) -> bool
     ensures { IsTrue result ↔ IsNearestAt scheme.now x }
@@ -56,17 +75,4 @@ pub(crate) fn is_nearest(scheme: &Scheme, x: u16) -> bool
         Some(near) => is_there(scheme, x, near) && none_nearer(scheme, x, near),
         None => has_no_landmark(scheme, x),
     }
-}
-
-/// Whether every node's nearest landmark is right by its entries.
-pub(crate) fn has_nearest(graph: &Graph, scheme: &Scheme) -> bool
-    requires { IsShaped graph.now scheme.now }
-    ensures { IsTrue result ↔ Holds graph.now scheme.now k5 }
-{
-    for x in 0..graph.nodes() {
-        if !is_nearest(scheme, x) {
-            return false;
-        }
-    }
-    true
 }

@@ -1,27 +1,49 @@
-// Records: each by those of its children, two passes over the ports of its node. A finger in the entries behind each port
-// goes along with the roots of the node's own entries.
-ghost use Rattle.std.specs.Prelude.{◌≡◌, ◌<◌, ◌+◌, ◌↔◌, ℕ, IsTrue, Some, None, true, List, []};
+// Records: each by those of its children, one pass over the ports of its node, from the last to the first.
+ghost use Rattle.std.specs.Prelude.{◌≡◌, ◌<◌, ◌+◌, ◌↔◌, ℕ, IsTrue, MatchOption, Some, None, List, slice_get};
 ghost use Rattle.std.specs.List.{All};
-ghost use Rattle.certificate.specs.Entries.{AllAscend};
-ghost use Rattle.certificate.specs.Rows.{FitOthers, FitsAt, FitsFirst, FitsRow, FitsWithOthers, GoesOn, IsLocalAt, IsNumbered, row_after, widest_of, wider as wider_of, with_other};
+ghost use Rattle.certificate.specs.Ahead.{IsAhead};
+ghost use Rattle.certificate.specs.Entries.{IsEntryShaped, IsRightOver};
 ghost use Rattle.certificate.specs.Found.{IsChildOf, IsEntryOf};
-ghost use Rattle.certificate.specs.Swift.{HasSpan};
+ghost use Rattle.certificate.specs.Rows.{AreChildrenFit, FitsAt, IsPorted, IsSwept, IsWidest, LeadsTo, StartNowhere, StartsAt, behind as behind_port, but, with_child};
+ghost use Rattle.graph_edits.specs.Edges.{neighbours_of};
 ghost use Rattle.heavy_labels.specs.Stepped.{record_of};
-ghost use Rattle.certificate.specs.Climbs.{HoldsFirst};
-ghost use Rattle.schemes.specs.Checks.{Holds, k6, parent_is, up_port};
-ghost use Rattle.schemes.specs.Local.{FitsChild, FitsRoot, IsHeavyOf, IsRow, record_at, span as span_of};
-ghost use Rattle.schemes.specs.Ports.{neighbours};
+ghost use Rattle.schemes.specs.Checks.{parent_is};
+ghost use Rattle.schemes.specs.Local.{FitsRoot, record_at, span as span_of};
 ghost use Rattle.schemes.specs.Tables.{Tables, entries_at, tables};
-ghost use Rattle.graph_edits.specs.Edges.{Network};
 
-use crate::fingers::Fingers;
-use crate::ports::{port_down, port_up};
+use crate::edges::is_right_over;
+use crate::places::{Ahead, entry_near};
+use crate::shape::is_entry_shaped;
 use graph_edits::Graph;
 use heavy_labels::Record;
 use schemes::{Entry, Scheme};
 
-/// The entry of y for a root, if y is a child of x there.
-pub(crate) fn child_of<'a>(x: u16, behind: Option<&'a Entry>) -> Option<&'a Entry>
+/// The neighbour behind a port of x, where there is one.
+fn behind(graph: &Graph, x: u16, port: Option<u16>) -> Option<u16>
+    requires { x < graph.now.nodes }
+    ensures { result ≡ behind_port graph.now x port }
+{
+    match port {
+        Some(port) => graph.over(x, port),
+        None => None,
+    }
+}
+
+/// Whether the record of an entry of x has the port to the entry's parent.
+#[tactic(auto, unfolding(crate::specs::Rows::IsPorted))]
+fn is_ported(graph: &Graph, x: u16, entry: &Entry) -> bool
+    requires { x < graph.now.nodes }
+    ensures { IsTrue result ↔ IsPorted graph.now x entry.now }
+{
+    let port = entry.tree_record().parent_port;
+    match entry.parent() {
+        Some(y) => behind(graph, x, port) == Some(y),
+        None => port.is_none(),
+    }
+}
+
+/// The entry, if it is that of a child of x.
+fn child_of<'a>(x: u16, behind: Option<&'a Entry>) -> Option<&'a Entry>
     ensures { (t : Tables) (y root : ℕ) → IsEntryOf t y root behind.entry
         → IsChildOf t root x y result }
 {
@@ -40,189 +62,156 @@ fn span(given: &Record) -> u32
     (given.last as u32 + 1).saturating_sub(given.first as u32)
 }
 
-/// The widest child of x and its span, when y is looked at too, whose entry this is if it is a child.
-#[tactic(auto, unfolding(crate::specs::Swift::HasSpan))]
-pub(crate) fn wider_child(
-    widest: (Option<u16>, u32),
-    y: u16,
-    below: Option<&Entry>,
-) -> (Option<u16>, u32)
-    ensures node { (t : Tables) (root x : ℕ) → HasSpan t root widest.0 widest.1 → IsChildOf t root x y below.entry
-        → result.0 ≡ wider_of t root x widest.0 y }
-    ensures span { (t : Tables) (root x : ℕ) → HasSpan t root widest.0 widest.1 → IsChildOf t root x y below.entry
-        → HasSpan t root result.0 result.1 }
+/// The first of the widest children, with its span, when y stands before those from which it was found, if y is a child with this entry.
+fn wider_child(widest: (Option<u16>, u32), y: u16, below: Option<&Entry>) -> (Option<u16>, u32)
+    ensures { (t : Tables) (root x : ℕ) (ks : List ℕ) → IsChildOf t root x y below.entry
+        → IsWidest t root ks widest → IsWidest t root (with_child t root x y ks) result }
 {
     let Some(entry) = below else {
         return widest;
     };
     let wide = span(&entry.tree_record());
-    if widest.0.is_some() && wide <= widest.1 {
-        widest
-    } else {
+    if wide >= widest.1 {
         (Some(y), wide)
+    } else {
+        widest
     }
 }
 
-/// The heavy child of x: the widest, the smallest where several are as wide.
-fn heavy_child(
-    graph: &Graph,
-    scheme: &Scheme,
-    fingers: &mut Fingers,
-    root: u16,
-    x: u16,
-) -> Option<u16>
-    requires inside { x < graph.now.nodes }
-    requires ascend { AllAscend scheme.now }
-    ensures { result ≡ widest_of graph.now (tables scheme.now) root x }
-{
-    let row = graph.neighbours(x);
-    let mut widest = (None, 0);
-    for (port, edge) in row.iter().enumerate() {
-        let below = child_of(x, fingers.entry(scheme, port, edge.0, root));
-        widest = wider_child(widest, edge.0, below);
-    }
-    widest.0
-}
-
-/// Whether the record of a child has a number and a light depth, and its port to its parent.
-pub(crate) fn fits_child(graph: &Graph, entry: &Entry, y: u16, first: u32, depth: u32) -> bool
-    ensures { IsTrue result ↔ IsNumbered graph.now y entry.now first depth }
-{
-    let record = entry.tree_record();
-    record.first as u32 == first
-        && record.light_depth as u32 == depth
-        && record.parent_port == port_up(graph, y, entry)
-}
-
-/// The number after y's members, or the same number where y is no child but the heavy one; none where its record
-/// doesn't fit. Its entry is this, if it is a child.
-pub(crate) fn number_after(
-    graph: &Graph,
-    heavy: u16,
+/// The number with which children begin, when y stands before those that begin with `start`, if y is a child with this entry and not
+/// the heavy one; none where its record doesn't fit.
+fn start_before(
+    given: &Record,
+    heavy: Option<u16>,
     y: u16,
     below: Option<&Entry>,
-    next: u32,
-    depth: u8,
+    start: u32,
 ) -> Option<u32>
-    ensures { (t : Tables) (root x : ℕ) (ys : List ℕ) (end : ℕ) → IsChildOf t root x y below.entry
-        → GoesOn graph.now t root depth end next (with_other t root x heavy y ys) ys result }
+    ensures { (t : Tables) (root x end : ℕ) (ks : List ℕ) → IsChildOf t root x y below.entry
+        → StartsAt t root (given.now.light_depth + 1) end (but heavy ks) start
+        → MatchOption result (StartNowhere t root (given.now.light_depth + 1) end (but heavy (with_child t root x y ks)))
+        (λ first. StartsAt t root (given.now.light_depth + 1) end (but heavy (with_child t root x y ks)) first) }
 {
     let Some(entry) = below else {
-        return Some(next);
+        return Some(start);
     };
-    if y == heavy {
-        return Some(next);
+    if heavy == Some(y) {
+        return Some(start);
     }
-    if !fits_child(graph, entry, y, next, depth as u32 + 1) {
-        return None;
+    let child = entry.tree_record();
+    if child.last as u32 + 1 == start && child.light_depth as u32 == given.light_depth as u32 + 1 {
+        Some(child.first as u32)
+    } else {
+        None
     }
-    Some(entry.tree_record().last as u32 + 1)
 }
 
-/// Whether the children of x but the heavy one have the numbers from `start` to `end`.
-fn are_others_fit(
+/// Whether an entry of x is right over each edge, its heavy child is this, and the numbers of its other children are those that its
+/// record leaves to them.
+fn are_children_fit<'a>(
     graph: &Graph,
-    scheme: &Scheme,
-    fingers: &mut Fingers,
-    root: u16,
-    x: u16,
-    heavy: u16,
-    start: u32,
-    depth: u8,
-    end: u32,
-) -> bool
-    requires inside { x < graph.now.nodes }
-    requires ascend { AllAscend scheme.now }
-    ensures { IsTrue result ↔ FitOthers graph.now (tables scheme.now) root x heavy start depth end }
-{
-    let row = graph.neighbours(x);
-    let mut next = start;
-    for (port, edge) in row.iter().enumerate() {
-        let below = child_of(x, fingers.entry(scheme, port, edge.0, root));
-        match number_after(graph, heavy, edge.0, below, next, depth) {
-            Some(after) => next = after,
-            None => return false,
-        }
-    }
-    next == end
-}
-
-/// Whether a record and that of its node's heavy child, whose entry this is, fit.
-#[tactic(auto, unfolding(crate::specs::Rows::FitsFirst))]
-pub(crate) fn fits_first(graph: &Graph, entry: &Entry, heavy: u16, below: &Entry) -> bool
-    ensures { (t : Tables) → t.entry heavy entry.now.root ≡ Some below.now
-        → IsTrue result ↔ FitsFirst graph.now t entry.now.root (record_of entry.now.tree_record) heavy }
-{
-    let record = entry.tree_record();
-    fits_child(
-        graph,
-        below,
-        heavy,
-        record.first as u32 + 1,
-        record.light_depth as u32,
-    ) && record.heavy_last == below.tree_record().last
-        && record.heavy_port == port_down(graph, heavy, below)
-}
-
-/// Whether a record fits a heavy child and the others of its node.
-#[tactic(auto, unfolding(crate::specs::Rows::FitsRow))]
-fn fits_heavy(
-    graph: &Graph,
-    scheme: &Scheme,
-    fingers: &mut Fingers,
+    scheme: &'a Scheme,
+    ahead: &Ahead<'a>,
     x: u16,
     entry: &Entry,
-    heavy: u16,
+    heavy: Option<u16>,
 ) -> bool
     requires inside { x < graph.now.nodes }
-    requires ascend { AllAscend scheme.now }
-    ensures { IsTrue result ↔ FitsWithOthers graph.now (tables scheme.now) x entry.now heavy }
+    requires ahead { IsAhead scheme.now entry.now.root ahead.now }
+    ensures { IsTrue result
+        ↔ (All (IsRightOver (tables scheme.now) entry.now) (neighbours_of graph.now x)
+        × AreChildrenFit graph.now (tables scheme.now) x entry.now heavy) }
 {
-    let root = entry.root();
-    let record = entry.tree_record();
-    let Some(below) = scheme.entry(heavy, root) else {
-        return false;
-    };
-    let next = below.tree_record().last as u32 + 1;
-    let end = record.last as u32 + 1;
-    let depth = record.light_depth;
-    fits_first(graph, entry, heavy, below)
-        && are_others_fit(graph, scheme, fingers, root, x, heavy, next, depth, end)
-}
-
-/// Whether a record fits a node without children.
-#[tactic(auto, unfolding(crate::specs::Rows::FitsRow))]
-pub(crate) fn fits_leaf(given: &Record) -> bool
-    ensures { (m : Network) (t : Tables) (r : ℕ) → IsTrue result ↔ FitsRow m t r (record_of given.now) [] }
-{
-    given.first == given.last && given.heavy_last == given.first && given.heavy_port.is_none()
-}
-
-#[tactic(auto, unfolding(crate::specs::Rows::FitsAt))]
-fn fits_below(graph: &Graph, scheme: &Scheme, fingers: &mut Fingers, x: u16, entry: &Entry) -> bool
-    requires inside { x < graph.now.nodes }
-    requires ascend { AllAscend scheme.now }
-    ensures { IsTrue result ↔ FitsAt graph.now (tables scheme.now) x entry.now }
-{
-    match heavy_child(graph, scheme, fingers, entry.root(), x) {
-        Some(heavy) => fits_heavy(graph, scheme, fingers, x, entry, heavy),
-        None => fits_leaf(&entry.tree_record()),
-    }
-}
-
-/// Whether the record of every entry of a node fits. The entries of its neighbours are walked beside them.
-fn are_below_fit(graph: &Graph, scheme: &Scheme, x: u16) -> bool
-    requires inside { x < graph.now.nodes }
-    requires ascend { AllAscend scheme.now }
-    ensures { IsTrue result ↔ All (FitsAt graph.now (tables scheme.now) x) (entries_at scheme.now x) }
-{
-    let mut fingers = Fingers::new();
-    for entry in scheme.entries_of(x) {
-        if !fits_below(graph, scheme, &mut fingers, x, entry) {
+    let own = entry.tree_record();
+    let row = graph.neighbours(x);
+    let mut start = own.last as u32 + 1;
+    let mut widest = (None, 0);
+    let mut left = row.len();
+    while left > 0 {
+        left -= 1;
+        let edge = row[left];
+        let behind = entry_near(scheme, ahead, edge.0, entry.root());
+        if !is_right_over(scheme, entry, edge, behind) {
             return false;
         }
+        let below = child_of(x, behind);
+        match start_before(&own, heavy, edge.0, below, start) {
+            Some(first) => start = first,
+            None => return false,
+        }
+        widest = wider_child(widest, edge.0, below);
     }
-    true
+    start == own.heavy_last as u32 + 1 && widest.0 == heavy
+}
+
+/// Whether a record and that of its node's heavy child fit; that of a leaf, where there is none.
+fn leads_to<'a>(scheme: &'a Scheme, ahead: &Ahead<'a>, entry: &Entry, heavy: Option<u16>) -> bool
+    requires ahead { IsAhead scheme.now entry.now.root ahead.now }
+    ensures { IsTrue result ↔ LeadsTo (tables scheme.now) entry.now.root entry.now.tree_record heavy }
+{
+    let record = entry.tree_record();
+    let Some(heavy) = heavy else {
+        return record.first == record.last
+            && record.heavy_last == record.first
+            && record.heavy_port.is_none();
+    };
+    let Some(below) = entry_near(scheme, ahead, heavy, entry.root()) else {
+        return false;
+    };
+    let child = below.tree_record();
+    child.first as u32 == record.first as u32 + 1
+        && child.light_depth == record.light_depth
+        && child.last == record.heavy_last
+}
+
+/// Whether the record of an entry of x fits those of its children, and each edge is right for the entry.
+#[tactic(auto, unfolding(crate::specs::Rows::FitsAt))]
+fn fits<'a>(graph: &Graph, scheme: &'a Scheme, ahead: &Ahead<'a>, x: u16, entry: &Entry) -> bool
+    requires inside { x < graph.now.nodes }
+    requires ahead { IsAhead scheme.now entry.now.root ahead.now }
+    ensures { IsTrue result
+        ↔ (All (IsRightOver (tables scheme.now) entry.now) (neighbours_of graph.now x)
+        × FitsAt graph.now (tables scheme.now) x entry.now) }
+{
+    let heavy = behind(graph, x, entry.tree_record().heavy_port);
+    are_children_fit(graph, scheme, ahead, x, entry, heavy) && leads_to(scheme, ahead, entry, heavy)
+}
+
+/// Whether Shape, Edges, Parents and Records hold of one entry of x. Children's ports aren't looked at: each entry's own is.
+#[tactic(auto, unfolding(crate::specs::Rows::IsSwept))]
+pub(crate) fn is_swept<'a>(
+    graph: &Graph,
+    scheme: &'a Scheme,
+    ahead: &Ahead<'a>,
+    x: u16,
+    entry: &Entry,
+) -> bool
+    requires inside { x < graph.now.nodes }
+    requires ahead { IsAhead scheme.now entry.now.root ahead.now }
+    ensures { IsTrue result ↔ IsSwept graph.now (tables scheme.now) x entry.now }
+{
+    is_entry_shaped(graph, scheme, ahead, x, entry)
+        && is_ported(graph, x, entry)
+        && fits(graph, scheme, ahead, x, entry)
+}
+
+/// The same where nothing is known ahead: look-ups search.
+fn is_swept_alone(graph: &Graph, scheme: &Scheme, x: u16, entry: &Entry) -> bool
+    requires { x < graph.now.nodes }
+    ensures { IsTrue result ↔ IsSwept graph.now (tables scheme.now) x entry.now }
+{
+    is_swept(graph, scheme, &Ahead::nothing(), x, entry)
+}
+
+/// The same of every entry of a node.
+pub(crate) fn are_swept(graph: &Graph, scheme: &Scheme, x: u16) -> bool
+    requires inside { x < graph.now.nodes }
+    ensures { IsTrue result ↔ All (IsSwept graph.now (tables scheme.now) x) (entries_at scheme.now x) }
+{
+    let entries = scheme.entries_of(x);
+    entries
+        .iter()
+        .all(|entry| is_swept_alone(graph, scheme, x, entry))
 }
 
 /// Whether a root's record of itself is that of a root. Where it has none there is nothing to fit.
@@ -234,26 +223,4 @@ pub(crate) fn fits_root(scheme: &Scheme, x: u16) -> bool
     };
     let record = entry.tree_record();
     record.first == 0 && record.light_depth == 0 && record.parent_port.is_none()
-}
-
-#[tactic(auto, unfolding(crate::specs::Rows::IsLocalAt))]
-fn is_local(graph: &Graph, scheme: &Scheme, x: u16) -> bool
-    requires inside { x < graph.now.nodes }
-    requires ascend { AllAscend scheme.now }
-    ensures { IsTrue result ↔ IsLocalAt graph.now scheme.now x }
-{
-    fits_root(scheme, x) && are_below_fit(graph, scheme, x)
-}
-
-/// Whether every record is that of its tree.
-pub(crate) fn has_records(graph: &Graph, scheme: &Scheme) -> bool
-    requires { HoldsFirst graph.now scheme.now }
-    ensures { IsTrue result ↔ Holds graph.now scheme.now k6 }
-{
-    for x in 0..graph.nodes() {
-        if !is_local(graph, scheme, x) {
-            return false;
-        }
-    }
-    true
 }

@@ -2,15 +2,16 @@
 ghost use Rattle.std.specs.Prelude.{◌≡◌, ◌≢◌, ◌<◌, ◌↔◌, ℕ, IsTrue, IsSome, map};
 ghost use Rattle.std.specs.List.{All};
 ghost use Rattle.std.specs.List.Sorted.{IsStrictlyIncreasing};
-ghost use Rattle.certificate.specs.Entries.{HasOwn, HasParentAt, HasPlaces, IsEntryShaped, IsFramed, IsNodeFramed, IsNodeShaped};
+ghost use Rattle.certificate.specs.Ahead.{IsAhead};
+ghost use Rattle.certificate.specs.Entries.{AllAscend, HasOwn, HasParentAt, HasPlaces, IsEntryShaped, IsFramed, IsNodeFramed};
 ghost use Rattle.graph_edits.specs.Edges.{IsSound};
-ghost use Rattle.schemes.specs.Checks.{Holds, k1};
 ghost use Rattle.schemes.specs.Tables.{entries_at, roots_of, tables};
 
+use crate::places::{Ahead, entry_near};
 use graph_edits::Graph;
 use schemes::{Entry, Scheme};
 
-pub(crate) fn has_places(scheme: &Scheme, nodes: u16) -> bool
+fn has_places(scheme: &Scheme, nodes: u16) -> bool
     ensures { IsTrue result ↔ HasPlaces nodes scheme.now }
 {
     let parts = scheme.parts();
@@ -38,32 +39,6 @@ fn are_ports(ports: &[u16], row: &[(u16, u32)]) -> bool
     true
 }
 
-#[tactic(auto, unfolding(crate::specs::Entries::HasParentAt))]
-fn has_parent(graph: &Graph, scheme: &Scheme, x: u16, entry: &Entry) -> bool
-    ensures { IsTrue result ↔ HasParentAt graph.now (tables scheme.now) x entry.now }
-{
-    match entry.parent() {
-        Some(y) => graph.weight(x, y).is_some() && scheme.entry(y, entry.root()).is_some(),
-        None => false,
-    }
-}
-
-#[tactic(auto, unfolding(crate::specs::Entries::IsEntryShaped))]
-fn is_entry_shaped(graph: &Graph, scheme: &Scheme, x: u16, entry: &Entry) -> bool
-    ensures { IsTrue result ↔ IsEntryShaped graph.now (tables scheme.now) x entry.now }
-{
-    entry.root() < graph.nodes() && (x == entry.root() || has_parent(graph, scheme, x, entry))
-}
-
-fn are_entries_shaped(graph: &Graph, scheme: &Scheme, x: u16) -> bool
-    ensures { IsTrue result ↔ All (IsEntryShaped graph.now (tables scheme.now) x) (entries_at scheme.now x) }
-{
-    scheme
-        .entries_of(x)
-        .iter()
-        .all(|entry| is_entry_shaped(graph, scheme, x, entry))
-}
-
 #[tactic(auto, unfolding(crate::specs::Entries::HasOwn))]
 fn has_own(scheme: &Scheme, x: u16) -> bool
     ensures { IsTrue result ↔ HasOwn (tables scheme.now) x }
@@ -74,20 +49,29 @@ fn has_own(scheme: &Scheme, x: u16) -> bool
     }
 }
 
+/// Whether all roots of a node's entries are nodes.
+fn are_inside(scheme: &Scheme, nodes: u16, x: u16) -> bool
+    ensures { IsTrue result ↔ All (λ e. e.root < nodes) (entries_at scheme.now x) }
+{
+    let entries = scheme.entries_of(x);
+    entries.iter().all(|entry| entry.root() < nodes)
+}
+
 #[tactic(auto, unfolding(crate::specs::Entries::IsNodeFramed))]
-pub(crate) fn is_node_framed(graph: &Graph, scheme: &Scheme, x: u16) -> bool
+fn is_node_framed(graph: &Graph, scheme: &Scheme, x: u16) -> bool
     requires { x < graph.now.nodes }
     ensures { IsTrue result ↔ IsNodeFramed graph.now scheme.now x }
 {
     are_ports(scheme.ports_of(x), graph.neighbours(x))
         && scheme.has_ascending_roots(x)
         && has_own(scheme, x)
+        && are_inside(scheme, graph.nodes(), x)
 }
 
-/// Whether all of Shape holds but for the roots and parents of entries.
-#[tactic(auto, unfolding(crate::specs::Entries::IsFramed))]
+/// Whether all of Shape holds but for the parents of entries.
 pub(crate) fn is_framed(graph: &Graph, scheme: &Scheme) -> bool
-    ensures framed { IsTrue result → IsFramed graph.now scheme.now }
+    ensures framed { IsTrue result ↔ IsFramed graph.now scheme.now }
+    ensures ascend { IsTrue result → AllAscend scheme.now }
     ensures sound { IsSound graph.now }
 {
     if !has_places(scheme, graph.nodes()) {
@@ -101,26 +85,41 @@ pub(crate) fn is_framed(graph: &Graph, scheme: &Scheme) -> bool
     true
 }
 
-#[tactic(auto, unfolding(crate::specs::Entries::IsNodeShaped, crate::specs::Entries::IsNodeFramed))]
-fn is_node_shaped(graph: &Graph, scheme: &Scheme, x: u16) -> bool
-    requires { x < graph.now.nodes }
-    ensures { IsTrue result ↔ IsNodeShaped graph.now scheme.now x }
+/// Whether the parent of an entry of x is a neighbour with an entry for the root, where x isn't the root itself.
+#[tactic(auto, unfolding(crate::specs::Entries::IsEntryShaped, crate::specs::Entries::HasParentAt))]
+pub(crate) fn is_entry_shaped<'a>(
+    graph: &Graph,
+    scheme: &'a Scheme,
+    ahead: &Ahead<'a>,
+    x: u16,
+    entry: &Entry,
+) -> bool
+    requires ahead { IsAhead scheme.now entry.now.root ahead.now }
+    ensures { IsTrue result ↔ IsEntryShaped graph.now (tables scheme.now) x entry.now }
 {
-    is_node_framed(graph, scheme, x) && are_entries_shaped(graph, scheme, x)
+    if x == entry.root() {
+        return true;
+    }
+    match entry.parent() {
+        Some(y) => graph.weight(x, y).is_some()
+            && entry_near(scheme, ahead, y, entry.root()).is_some(),
+        None => false,
+    }
 }
 
-/// Whether the lists have their places, and every node its ports and its entries.
-pub(crate) fn is_shaped(graph: &Graph, scheme: &Scheme) -> bool
-    ensures exact { IsTrue result ↔ Holds graph.now scheme.now k1 }
-    ensures sound { IsSound graph.now }
+/// The same where nothing is known ahead: look-ups search.
+fn is_entry_shaped_alone(graph: &Graph, scheme: &Scheme, x: u16, entry: &Entry) -> bool
+    ensures { IsTrue result ↔ IsEntryShaped graph.now (tables scheme.now) x entry.now }
 {
-    if !has_places(scheme, graph.nodes()) {
-        return false;
-    }
-    for x in 0..graph.nodes() {
-        if !is_node_shaped(graph, scheme, x) {
-            return false;
-        }
-    }
-    true
+    is_entry_shaped(graph, scheme, &Ahead::nothing(), x, entry)
+}
+
+/// The same of every entry of a node.
+pub(crate) fn are_shaped(graph: &Graph, scheme: &Scheme, x: u16) -> bool
+    ensures { IsTrue result ↔ All (IsEntryShaped graph.now (tables scheme.now) x) (entries_at scheme.now x) }
+{
+    let entries = scheme.entries_of(x);
+    entries
+        .iter()
+        .all(|entry| is_entry_shaped_alone(graph, scheme, x, entry))
 }

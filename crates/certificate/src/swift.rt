@@ -1,190 +1,307 @@
-// The swift pass: Shape, Edges, Parents and Records at once, entry by entry, with one pass over the ports of its node. What it
-// takes for right is right. Which rule fails first where it finds a fault is told by the check of each.
-ghost use Rattle.std.specs.Prelude.{◌≡◌, ◌≢◌, ◌<◌, ◌+◌, ℕ, IfSome, IsTrue, Some, List, ◌∷◌};
+// The swift pass, root by root: all entries for a root, its directory and the labels there. Each node's entries are in the order of their
+// roots, so the next one of a node is known by a place that goes along. Before each root the entries at the places are gathered, so that
+// those of neighbours are looked up in one list. What the pass takes for right is right. Which rule fails first where it finds a fault is
+// told by the check of each.
+ghost use Rattle.std.specs.Prelude.{◌≡◌, ◌<◌, ◌≤◌, ◌+◌, ℕ, IfSome, IsTrue, IsSome, false, get_or, length, slice_index, true};
 ghost use Rattle.std.specs.List.{All};
-ghost use Rattle.certificate.specs.Entries.{AllAscend, HasParentAt};
-ghost use Rattle.certificate.specs.Rows.{FitBehind, FitsRow, IsLocalAt, OthersFitBehind, widest_of};
-ghost use Rattle.certificate.specs.Found.{IsEntryOf};
-ghost use Rattle.certificate.specs.Ranges.{HoldOfAll};
-ghost use Rattle.certificate.specs.Swift.{HasSpan, IsRightOver, IsSumOver, IsSwept, IsSweptAt, named_over};
-ghost use Rattle.graph_edits.specs.Edges.{IsSound, Network, neighbours_of, weight_in};
-ghost use Rattle.heavy_labels.specs.Stepped.{record_of};
-ghost use Rattle.schemes.specs.Checks.{Holds, k1, k2, k3, parent_is};
-ghost use Rattle.schemes.specs.Tables.{Tables, tables};
+ghost use Rattle.std.specs.List.Sorted.{IsStrictlyIncreasing};
+ghost use Rattle.certificate.specs.Ahead.{AreEntries, AreNext, IsAhead};
+ghost use Rattle.certificate.specs.Climbs.{HoldsFirst, IsHomeRight, IsLinked};
+ghost use Rattle.certificate.specs.Entries.{AllAscend, AreBelow, HasOrderAt, IsListedRight, IsNearestAt};
+ghost use Rattle.certificate.specs.Ranges.{HoldBetween};
+ghost use Rattle.certificate.specs.Trees.{ArePast, GoOn, IsRootRight, IsTreeRight};
+ghost use Rattle.schemes.specs.Local.{FitsRoot};
+ghost use Rattle.schemes.specs.Tables.{directory_at, entries_at, roots_of, tables};
 
-use crate::edges::is_closed_over;
-use crate::fingers::Fingers;
-use crate::parents::is_later;
-use crate::records::{child_of, fits_first, fits_leaf, fits_root, number_after, wider_child};
-use crate::shape::is_framed;
-use crate::sums::is_sum;
-use graph_edits::Graph;
+use crate::directories::has_order;
+use crate::labels::{are_all_linked, is_home_right};
+use crate::nearest::{is_nearest, is_strict};
+use crate::places::{Ahead, kept, put_entry, put_next};
+use crate::records::{fits_root, is_swept};
+use graph_edits::{Graph, MOST_NODES};
+use heavy_labels::Record;
 use schemes::{Entry, Scheme};
 
-/// Whether an edge gives an entry's distance, if it leads to the entry's parent. Behind the edge this entry stands for the
-/// same root, if there is one.
-#[tactic(auto, unfolding(crate::specs::Swift::IsSumOver))]
-fn is_sum_over(entry: &Entry, edge: (u16, u32), behind: Option<&Entry>) -> bool
-    ensures { (t : Tables) → IsEntryOf t edge.0 entry.now.root behind.entry
-        → IsTrue result → IsSumOver t entry.now edge }
-{
-    match behind {
-        Some(there) => {
-            entry.parent() != Some(edge.0) || is_sum(entry.distance(), there.distance(), edge.1)
-        }
-        None => true,
-    }
-}
+/// For how many nodes places are kept: for all.
+const PLACES: usize = MOST_NODES as usize;
 
-/// Whether an edge leads to the parent that an entry names, where this entry stands for the same root.
-#[tactic(auto, unfolding(crate::specs::Entries::HasParentAt))]
-fn meets_parent(entry: &Entry, edge: (u16, u32), behind: Option<&Entry>) -> bool
-    ensures { (m : Network) (t : Tables) (x : ℕ) → IsEntryOf t edge.0 entry.now.root behind.entry
-        → weight_in m x edge.0 ≡ Some edge.1 → IsTrue result → HasParentAt m t x entry.now }
+/// The entry at the place of x, if it is for this root.
+fn next_entry<'a>(scheme: &'a Scheme, places: &[u16], x: u16, root: u16) -> Option<&'a Entry>
+    ensures within { IfSome result (λ _. slice_index places.now x < length (entries_at scheme.now x)) }
+    ensures entry { IfSome result (λ e. e.now ≡ get_or (entries_at scheme.now x) (slice_index places.now x) e.now) }
+    ensures root { IfSome result (λ e. e.now.root ≡ root) }
 {
-    behind.is_some() && entry.parent() == Some(edge.0)
-}
-
-/// Whether an edge is right for an entry by Edges and Parents.
-#[tactic(auto, unfolding(crate::specs::Swift::IsRightOver))]
-fn is_right_over(scheme: &Scheme, entry: &Entry, edge: (u16, u32), behind: Option<&Entry>) -> bool
-    requires { IsEntryOf (tables scheme.now) edge.0 entry.now.root behind }
-    ensures { IsTrue result → IsRightOver (tables scheme.now) entry.now edge }
-{
-    is_closed_over(scheme, entry, edge, behind)
-        && is_later(entry, edge, behind)
-        && is_sum_over(entry, edge, behind)
-}
-
-/// The widest child of x, where an entry of x has its parent, every edge is right for it, and the children but the named
-/// one have the numbers that its record leaves to them.
-fn widest_child(
-    graph: &Graph,
-    scheme: &Scheme,
-    fingers: &mut Fingers,
-    x: u16,
-    entry: &Entry,
-    named: u16,
-) -> Option<Option<u16>>
-    requires inside { x < graph.now.nodes }
-    requires ascend { AllAscend scheme.now }
-    ensures parent { IfSome result (λ _. x ≢ entry.now.root → HasParentAt graph.now (tables scheme.now) x entry.now) }
-    ensures right { IfSome result (λ _. All (IsRightOver (tables scheme.now) entry.now) (neighbours_of graph.now x)) }
-    ensures widest { IfSome result (λ heavy. heavy ≡ widest_of graph.now (tables scheme.now) entry.now.root x) }
-    ensures others { IfSome result (λ _. OthersFitBehind graph.now (tables scheme.now) x entry.now named) }
-{
-    let root = entry.root();
-    let record = entry.tree_record();
-    let depth = record.light_depth;
-    let row = graph.neighbours(x);
-    let mut next = record.heavy_last as u32 + 1;
-    let mut widest = (None, 0);
-    let mut met = x == root;
-    for (port, edge) in row.iter().enumerate() {
-        let behind = fingers.entry(scheme, port, edge.0, root);
-        if !is_right_over(scheme, entry, *edge, behind) {
-            return None;
-        }
-        met = met || meets_parent(entry, *edge, behind);
-        let below = child_of(x, behind);
-        match number_after(graph, named, edge.0, below, next, depth) {
-            Some(after) => next = after,
-            None => return None,
-        }
-        widest = wider_child(widest, edge.0, below);
-    }
-    if met && next == record.last as u32 + 1 {
-        Some(widest.0)
+    let entries = scheme.entries_of(x);
+    let at = kept(places, x) as usize;
+    if at < entries.len() && entries[at].root() == root {
+        Some(&entries[at])
     } else {
         None
     }
 }
 
-/// The neighbour behind a port of x, and x itself where there is none.
-fn named_child(graph: &Graph, x: u16, port: Option<u16>) -> u16
-    requires { x < graph.now.nodes }
-    ensures { result ≡ named_over graph.now x port }
-{
-    let Some(port) = port else {
-        return x;
-    };
-    match graph.neighbours(x).get(port as usize) {
-        Some(edge) => edge.0,
-        None => x,
-    }
-}
-
-/// Whether a record fits a heavy child, and so the others of its node if their numbers go on from the last that it names.
-fn fits_named(
+/// Whether the next entry of x is for this root and right. Its place goes on behind it.
+fn sweep<'a>(
     graph: &Graph,
-    scheme: &Scheme,
-    fingers: &mut Fingers,
-    entry: &Entry,
-    heavy: u16,
+    scheme: &'a Scheme,
+    places: &mut [u16],
+    ahead: &Ahead<'a>,
+    x: u16,
+    root: u16,
 ) -> bool
-    requires { AllAscend scheme.now }
-    ensures { (ys : List ℕ) → IsTrue result → FitBehind graph.now (tables scheme.now) entry.now ys
-        → FitsRow graph.now (tables scheme.now) entry.now.root (record_of entry.now.tree_record) (heavy ∷ ys) }
-{
-    let port = entry.tree_record().heavy_port.unwrap_or(0) as usize;
-    match fingers.entry(scheme, port, heavy, entry.root()) {
-        Some(below) => fits_first(graph, entry, heavy, below),
-        None => false,
-    }
-}
-
-/// Whether an entry of x is shaped and right over each edge, and its record fits those of its children.
-#[tactic(auto, unfolding(crate::specs::Swift::IsSwept, crate::specs::Entries::IsEntryShaped, crate::specs::Rows::FitsAt))]
-fn is_swept(graph: &Graph, scheme: &Scheme, fingers: &mut Fingers, x: u16, entry: &Entry) -> bool
     requires inside { x < graph.now.nodes }
     requires ascend { AllAscend scheme.now }
-    ensures { IsTrue result → IsSwept graph.now (tables scheme.now) x entry.now }
+    requires ahead { IsAhead scheme.now root ahead.now }
+    requires room { graph.now.nodes ≤ length places.old }
+    requires listed { (tables scheme.now).landmark root ≡ false → IsSome ((tables scheme.now).listed root x) }
+    ensures on { GoOn graph.now scheme.now places.old places.new }
+    ensures there { IsTrue result → IsSome ((tables scheme.now).entry x root) }
 {
-    if entry.root() >= graph.nodes() {
+    let Some(entry) = next_entry(scheme, places, x, root) else {
+        return false;
+    };
+    if !is_swept(graph, scheme, ahead, x, entry) || !is_strict(scheme, x, entry) {
         return false;
     }
-    let record = entry.tree_record();
-    let named = named_child(graph, x, record.heavy_port);
-    match widest_child(graph, scheme, fingers, x, entry, named) {
-        Some(Some(heavy)) => { heavy == named && fits_named(graph, scheme, fingers, entry, heavy) }
-        Some(None) => fits_leaf(&record),
-        None => false,
-    }
+    let i = x as usize;
+    places[i] = places[i].saturating_add(1);
+    true
 }
 
-/// The same of every entry of a node, and whether its record as a root is that of a root. The entries of its neighbours are
-/// walked beside its own.
-#[tactic(auto, unfolding(crate::specs::Swift::IsSweptAt))]
-pub(crate) fn is_swept_at(graph: &Graph, scheme: &Scheme, x: u16) -> bool
-    requires inside { x < graph.now.nodes }
+/// The same of all nodes whose next entry is for a landmark.
+fn sweep_nodes<'a>(
+    graph: &Graph,
+    scheme: &'a Scheme,
+    places: &mut [u16],
+    ahead: &Ahead<'a>,
+    root: u16,
+) -> bool
     requires ascend { AllAscend scheme.now }
-    ensures { IsTrue result → IsSweptAt graph.now scheme.now x }
+    requires ahead { IsAhead scheme.now root ahead.now }
+    requires room { graph.now.nodes ≤ length places.old }
+    requires landmark { (tables scheme.now).landmark root ≡ true }
+    ensures on { GoOn graph.now scheme.now places.old places.new }
 {
-    let mut fingers = Fingers::new();
-    for entry in scheme.entries_of(x) {
-        if !is_swept(graph, scheme, &mut fingers, x, entry) {
-            return false;
-        }
-    }
-    fits_root(scheme, x)
-}
-
-/// Whether the swift pass finds no fault: then Shape, Edges and Parents hold, and every record is right by those of its
-/// children.
-pub(crate) fn is_swiftly_sound(graph: &Graph, scheme: &Scheme) -> bool
-    ensures sound { IsSound graph.now }
-    ensures shape { IsTrue result → Holds graph.now scheme.now k1 }
-    ensures edges { IsTrue result → Holds graph.now scheme.now k2 }
-    ensures parents { IsTrue result → Holds graph.now scheme.now k3 }
-    ensures records { IsTrue result → HoldOfAll IsLocalAt graph.now scheme.now }
-{
-    if !is_framed(graph, scheme) {
-        return false;
-    }
     for x in 0..graph.nodes() {
-        if !is_swept_at(graph, scheme, x) {
+        let is_next = next_entry(scheme, places, x, root).is_some();
+        if is_next && !sweep(graph, scheme, places, ahead, x, root) {
             return false;
         }
     }
     true
+}
+
+/// The same of all nodes that a root lists.
+fn sweep_listed<'a>(
+    graph: &Graph,
+    scheme: &'a Scheme,
+    places: &mut [u16],
+    ahead: &Ahead<'a>,
+    root: u16,
+) -> bool
+    requires ascend { AllAscend scheme.now }
+    requires ahead { IsAhead scheme.now root ahead.now }
+    requires room { graph.now.nodes ≤ length places.old }
+    ensures on { GoOn graph.now scheme.now places.old places.new }
+    ensures there { IsTrue result
+        → All (λ e. IsSome ((tables scheme.now).entry e.node root)) (directory_at scheme.now root) }
+{
+    for listed in scheme.directory_of(root) {
+        let x = listed.node;
+        if x >= graph.nodes() || !sweep(graph, scheme, places, ahead, x, root) {
+            return false;
+        }
+    }
+    true
+}
+
+/// The same of all members of a root's tree. A landmark lists none.
+#[tactic(auto, unfolding(crate::specs::Entries::IsListedRight))]
+fn sweep_members<'a>(
+    graph: &Graph,
+    scheme: &'a Scheme,
+    places: &mut [u16],
+    ahead: &Ahead<'a>,
+    root: u16,
+) -> bool
+    requires ascend { AllAscend scheme.now }
+    requires ahead { IsAhead scheme.now root ahead.now }
+    requires room { graph.now.nodes ≤ length places.old }
+    ensures on { GoOn graph.now scheme.now places.old places.new }
+    ensures listed { IsTrue result → IsListedRight scheme.now root }
+{
+    if scheme.is_landmark(root) {
+        return scheme.directory_of(root).is_empty()
+            && sweep_nodes(graph, scheme, places, ahead, root);
+    }
+    sweep_listed(graph, scheme, places, ahead, root)
+}
+
+/// Whether what is said of a node alone is right, as of a root and as of a node.
+fn is_root_right<'a>(graph: &Graph, scheme: &'a Scheme, ahead: &Ahead<'a>, x: u16) -> bool
+    requires { IsAhead scheme.now x ahead.now }
+    ensures root { IsTrue result → FitsRoot (tables scheme.now) x }
+    ensures nearest { IsTrue result → IsNearestAt scheme.now x }
+    ensures order { IsTrue result → HasOrderAt scheme.now x }
+    ensures linked { IsTrue result → All (IsLinked graph.now (tables scheme.now) x) (directory_at scheme.now x) }
+    ensures home { IsTrue result → HoldsFirst graph.now scheme.now → IsHomeRight graph.now scheme.now x }
+{
+    fits_root(scheme, x)
+        && is_nearest(scheme, x)
+        && has_order(scheme, x)
+        && are_all_linked(graph, scheme, ahead, x)
+        && is_home_right(graph, scheme, x)
+}
+
+/// Whether the tree of a root is right, and what is said of the root alone.
+fn sweep_tree<'a>(
+    graph: &Graph,
+    scheme: &'a Scheme,
+    places: &mut [u16],
+    ahead: &Ahead<'a>,
+    root: u16,
+) -> bool
+    requires ascend { AllAscend scheme.now }
+    requires ahead { IsAhead scheme.now root ahead.now }
+    requires room { graph.now.nodes ≤ length places.old }
+    ensures on { GoOn graph.now scheme.now places.old places.new }
+    ensures root { IsTrue result → IsRootRight graph.now scheme.now root }
+{
+    sweep_members(graph, scheme, places, ahead, root) && is_root_right(graph, scheme, ahead, root)
+}
+
+/// Keeps for each member of a root's tree the entry at its place.
+fn put_entries(graph: &Graph, scheme: &Scheme, places: &[u16], entries: &mut [Entry], root: u16)
+    requires ascend { AllAscend scheme.now }
+    requires room { graph.now.nodes ≤ length entries.old }
+    ensures room { length entries.new ≡ length entries.old }
+    ensures kept { AreEntries scheme.now entries.old → AreEntries scheme.now entries.new }
+{
+    if scheme.is_landmark(root) {
+        for x in 0..graph.nodes() {
+            put_entry(scheme, places, entries, x);
+        }
+        return;
+    }
+    for listed in scheme.directory_of(root) {
+        if listed.node < graph.nodes() {
+            put_entry(scheme, places, entries, listed.node);
+        }
+    }
+}
+
+/// Keeps for each member of a root's tree the root at its place, where look-ups are for later roots.
+fn put_nexts(graph: &Graph, scheme: &Scheme, places: &[u16], nexts: &mut [u16], root: u16)
+    requires ascend { AllAscend scheme.now }
+    requires room { graph.now.nodes ≤ length nexts.old }
+    requires later { root < 65535 }
+    ensures room { length nexts.new ≡ length nexts.old }
+    ensures next { AreNext scheme.now root nexts.old → AreNext scheme.now (root + 1) nexts.new }
+{
+    if scheme.is_landmark(root) {
+        for x in 0..graph.nodes() {
+            if kept(nexts, x) <= root {
+                put_next(scheme, places, nexts, x, root + 1);
+            }
+        }
+        return;
+    }
+    for listed in scheme.directory_of(root) {
+        if listed.node < graph.nodes() {
+            put_next(scheme, places, nexts, listed.node, root + 1);
+        }
+    }
+}
+
+/// A place of a list in front of which all roots are below a root.
+fn place_for(entries: &[Entry], root: u16) -> usize
+    requires { IsStrictlyIncreasing (roots_of entries.now) }
+    ensures { AreBelow root result entries.now }
+{
+    let mut low = 0;
+    let mut high = entries.len();
+    while low < high {
+        let middle = low + (high - low) / 2;
+        let there = entries[middle].root();
+        if there < root {
+            low = middle + 1;
+        } else {
+            high = middle;
+        }
+    }
+    low
+}
+
+/// Such a place for each node, and the root there.
+fn put_places(scheme: &Scheme, places: &mut [u16], nexts: &mut [u16], nodes: u16, root: u16)
+    requires ascend { AllAscend scheme.now }
+    requires room { nodes ≤ length places.old }
+    requires nexts { nodes ≤ length nexts.old }
+    ensures room { length places.new ≡ length places.old }
+    ensures nexts { length nexts.new ≡ length nexts.old }
+    ensures below { (x : ℕ) → x < nodes
+        → AreBelow root (slice_index places.new x) (entries_at scheme.now x) }
+    ensures next { AreNext scheme.now root nexts.old → AreNext scheme.now root nexts.new }
+{
+    for x in 0..nodes {
+        let place = place_for(scheme.entries_of(x), root);
+        places[x as usize] = place.min(u16::MAX as usize) as u16;
+        put_next(scheme, places, nexts, x, root);
+    }
+}
+
+/// Whether no entry from the places on is for a root below this one.
+fn are_past(scheme: &Scheme, places: &[u16], nodes: u16, root: u16) -> bool
+    ensures { IsTrue result → ArePast scheme.now nodes root places.now }
+{
+    for x in 0..nodes {
+        let entries = scheme.entries_of(x);
+        let at = kept(places, x) as usize;
+        if at < entries.len() && entries[at].root() < root {
+            return false;
+        }
+    }
+    true
+}
+
+/// An entry for no root.
+fn no_entry() -> Entry
+    ensures { result.root ≡ 65535 }
+{
+    let tree_record = Record {
+        first: 0,
+        last: 0,
+        heavy_last: 0,
+        light_depth: 0,
+        parent_port: None,
+        heavy_port: None,
+    };
+    Entry::new(0, u16::MAX, None, tree_record)
+}
+
+/// Whether the trees of the roots from the first to below the last are right, and what is said of these nodes alone.
+// Its lists take 448 KiB of the stack. The calls that cut the ranges among threads call themselves, and each would take that much if this
+// were part of them.
+#[inline(never)]
+pub(crate) fn are_trees_right(graph: &Graph, scheme: &Scheme, first: u16, last: u16) -> bool
+    requires inside { last ≤ graph.now.nodes }
+    requires ascend { AllAscend scheme.now }
+    ensures { IsTrue result → HoldBetween (IsTreeRight graph.now scheme.now) first last }
+{
+    let mut places = [0; PLACES];
+    let mut nexts = [0; PLACES];
+    let mut entries = [no_entry(); PLACES];
+    put_places(scheme, &mut places, &mut nexts, graph.nodes(), first);
+    for root in first..last {
+        put_entries(graph, scheme, &places, &mut entries, root);
+        let ahead = Ahead {
+            nexts: &nexts,
+            entries: &entries,
+        };
+        if !sweep_tree(graph, scheme, &mut places, &ahead, root) {
+            return false;
+        }
+        put_nexts(graph, scheme, &places, &mut nexts, root);
+    }
+    are_past(scheme, &places, graph.nodes(), last)
 }

@@ -1,6 +1,5 @@
-use Rattle.certificate.proofs.InThreads.{lists_right}
+use Rattle.certificate.proofs.TreeLemmas.{trees_checked}
 use Rattle.certificate.proofs.in_threads.is_sound.Goals as goal
 
-pub returns : goal.returns
-returns g c lists =
-    lists_right c.args.graph.now c.args.scheme.now (c.keeps_first.ensures.first c.if-not-keeps_first.false) (c.keeps_first.ensures.records c.if-not-keeps_first.false) (c.have_all_lists.ensures lists)
+pub returns-then-is_framed : goal.returns-then-is_framed
+returns-then-is_framed g c t = trees_checked c.args.graph.now c.args.scheme.now c.is_framed.ensures.sound (c.is_framed.ensures.framed.0 c.if-is_framed.true) (c.are_all_right.ensures t)

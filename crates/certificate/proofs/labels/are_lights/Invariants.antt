@@ -1,6 +1,6 @@
 use Rattle.std.proofs.Common.{◌≡◌}
 use Rattle.std.specs.Prelude.{◌↔◌}
-use Rattle.certificate.specs.Climbs.{lights_up}
+use Rattle.certificate.specs.Climbs.{HoldsFirst, lights_up}
 use Rattle.schemes.specs.Tables.{tables}
 use Rattle.schemes.specs.Local.{parent_of, record_at}
 use Rattle.schemes.specs.Checks.{distance_of}
@@ -10,8 +10,9 @@ abbrev pub invariant-loop-here : goal.invariant-loop-here
 invariant-loop-here l = record {
   parent : l.here.0 ≡ parent_of ((tables l.scheme).entry l.at l.root);
   depth : l.here.1 ≡ (record_at (tables l.scheme) l.root l.at).light_depth;
-  climbed : (l.lights ≡ lights_up l.graph (tables l.scheme) l.root l.v) ↔ (l.left ≡ lights_up l.graph (tables l.scheme) l.root l.at);
+  distance : l.here.2 ≡ distance_of ((tables l.scheme).entry l.at l.root);
+  climbed : HoldsFirst l.graph l.scheme → (l.lights ≡ lights_up l.graph (tables l.scheme) l.root l.v) ↔ (l.left ≡ lights_up l.graph (tables l.scheme) l.root l.at);
 }
 
 abbrev pub decreases-loop-here : goal.decreases-loop-here
-decreases-loop-here l = distance_of ((tables l.scheme).entry l.at l.root)
+decreases-loop-here l = l.here.2

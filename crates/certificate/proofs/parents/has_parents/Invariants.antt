@@ -1,8 +1,0 @@
-use Rattle.std.proofs.Common.{ℕ, ◌<◌}
-use Rattle.std.specs.List.{All}
-use Rattle.schemes.specs.Tables.{entries_at, tables}
-use Rattle.certificate.specs.Entries.{IsTightAt}
-use Rattle.certificate.proofs.parents.has_parents.Given as goal
-
-abbrev pub invariant-loop-x : goal.invariant-loop-x
-invariant-loop-x l = (k : ℕ) → k < l.x → All (IsTightAt l.graph (tables l.scheme) k) (entries_at l.scheme k)
