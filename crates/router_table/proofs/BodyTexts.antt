@@ -1,29 +1,28 @@
 -- Heads, lists and bodies: what was read is what was written, and what was written is read again.
-use Rattle.std.proofs.Common.{◌≡◌, ◌≢◌, ℕ, ◌^◌, ◌<◌, ◌≤◌, ◌==◌, Bool, true, false, eqb, List, [], ◌++◌, length, take, drop, Option, Some, None, MatchOption, refl, sym, ap, subst, ◌∙◌, arith}
+use Rattle.std.proofs.Common.{◌≡◌, ◌≢◌, ℕ, ◌^◌, ◌<◌, ◌≤◌, ◌==◌, Bool, true, false, List, ◌++◌, length, take, drop, Option, Some, None, MatchOption, refl, sym, ap, subst, ◌∙◌, arith}
 use Rattle.std.specs.Int.{w16, w64, to_be_bytes}
 use Rattle.std.proofs.lemmas.Bool.{eqb-true}
-use Rattle.std.proofs.lemmas.List.{append-nil, drop_at, nil_from_length, take_at, take-append-drop, take-take}
-use Rattle.std.proofs.lemmas.Option.{cond_some, same_Some}
+use Rattle.std.proofs.lemmas.List.{drop_at, take_at, take-append-drop, take-take}
+use Rattle.std.proofs.lemmas.Option.{same_Some}
 use Rattle.schemes.specs.declared.packet.Address.{Address}
 use Rattle.schemes.specs.declared.packet.Home.{Home}
-use Rattle.schemes.specs.declared.parts.Listed.{Listed}
 use Rattle.packet_bytes.specs.declared.wire.WireRefused.{WireRefused}
 use Rattle.packet_bytes.specs.Layout.{address_size}
 use Rattle.packet_bytes.specs.Refusals.{address_refusal}
 use Rattle.packet_bytes.specs.Spelling.{IsHome, SpellsAddress, address_text}
 use Rattle.packet_bytes.proofs.Spellings.{addresses_are_read, one_address}
+use Rattle.byte_forms.specs.Forms.{IsBytes}
+use Rattle.byte_forms.specs.FormLaws.{IsBytes-drop, bind_some, u16_is_form, u64_is_form, whole_again, whole_takes}
+use Rattle.byte_forms.specs.Reading.{Fails, number_at}
+use Rattle.byte_forms.specs.declared.read_error.ReadError.{ReadError}
+use Rattle.byte_forms.specs.declared.read_error.ReadError.TheVariants.{Malformed, Memory as NoMemory}
 use Rattle.router_table.specs.declared.head.Head.{Head}
-use Rattle.router_table.specs.declared.tree_entry.TreeEntry.{TreeEntry}
 use Rattle.router_table.specs.Order.{IsHead, IsHomeAmong, IsTable}
-use Rattle.router_table.specs.Reading.{GaveNothing, IsHeadIn, IsHeadWith, IsTableIn, entry_at, list_at, lists_at, member_at, number_at, numbers_at}
-use Rattle.router_table.specs.declared.refused.ReadRefused.{ReadRefused}
-use Rattle.router_table.specs.declared.refused.ReadRefused.TheVariants.{NoTable, UnknownVersion, CutShort, TooLong, Damaged, NotInOrder, Memory}
-use Rattle.router_table.specs.Refusals.{IsBodyRefused, head_size}
-use Rattle.router_table.specs.Spelling.{number, letters, version, router_text, head_text, list_text, lists_text, entry_text, member_text, body_text}
+use Rattle.router_table.specs.Reading.{IsHeadIn, IsHeadWith, IsTableIn, Lists, lists_at, lists_is_form, numbers_at}
+use Rattle.router_table.specs.Refusals.{IsBodyRefused, head_size, refusal_by}
+use Rattle.router_table.specs.Spelling.{number, letters, version, router_text, head_text, lists_text, body_text}
 use Rattle.router_table.specs.Table.{Table, address_of}
-use Rattle.router_table.proofs.Fits.{few_ports, few_entries, few_members, ports_fit, entries_fit, members_fit}
-use Rattle.router_table.proofs.ItemTexts.{entry_item, member_item}
-use Rattle.router_table.proofs.Taking.{IsBytes, IsBytes-drop, bind_some, half, list_again, list_takes, long}
+use Rattle.router_table.proofs.Fits.{lists_fit}
 
 -- ---- heads
 
@@ -57,15 +56,15 @@ numbers_take bytes x ok e =
     let a = bind_some (number_at w64 bytes) _ x e in
     let b = bind_some (number_at w16 a.0.1) _ x a.2 in
     let c = bind_some (number_at w16 b.0.1) _ x b.2 in
-    let ta = long.takes bytes a.0 ok a.1 in
-    let tb = half.takes a.0.1 b.0 ta.rest_fits b.1 in
-    let tc = half.takes b.0.1 c.0 tb.rest_fits c.1 in
+    let ta = u64_is_form.takes bytes a.0 ok a.1 in
+    let tb = u16_is_form.takes a.0.1 b.0 ta.0.rest_fits b.1 in
+    let tc = u16_is_form.takes b.0.1 c.0 tb.0.rest_fits c.1 in
     subst (λ (y : Numbers). bytes ≡ numbers_text y.0 y.1 y.2 y.3) (same_Some (a.0.0, b.0.0, c.0.0, c.0.1) x c.2)
-    (ta.parts ∙ ap (λ (t : List ℕ). to_be_bytes w64 a.0.0 ++ t) (tb.parts ∙ ap (λ (t : List ℕ). number b.0.0 ++ t) tc.parts))
+    (ta.0.parts ∙ ap (λ (t : List ℕ). to_be_bytes w64 a.0.0 ++ t) (tb.0.parts ∙ ap (λ (t : List ℕ). number b.0.0 ++ t) tc.0.parts))
 
 numbers_again : (g n x : ℕ) (rest : List ℕ) → g < 2 ^ 64 → n < 2 ^ 16 → x < 2 ^ 16 → numbers_at (numbers_text g n x rest) ≡ Some (g, n, x, rest)
 unfolding numbers_at
-numbers_again g n x rest lg ln lx = rw (long.again g (number n ++ (number x ++ rest)) lg, half.again n (number x ++ rest) ln, half.again x rest lx) refl
+numbers_again g n x rest lg ln lx = rw (u64_is_form.again g (number n ++ (number x ++ rest)) lg, u16_is_form.again n (number x ++ rest) ln, u16_is_form.again x rest lx) refl
 
 pub router_again : (h : Head) → IsHead h → numbers_at (router_text h) ≡ Some (h.generation, h.nodes, h.node, address_text (address_of h))
 unfolding router_text
@@ -124,35 +123,13 @@ length_head h ok = omega (arith, length_router h ok)
 
 -- ---- lists
 
-abbrev pub Lists : Type 0
-Lists = List ℕ × List TreeEntry × List Listed
-
 lists_take : (bytes : List ℕ) (x : Lists) → IsBytes bytes → lists_at bytes ≡ Some x → bytes ≡ lists_text x.0 x.1 x.2
 unfolding lists_at lists_text
-lists_take bytes x ok e =
-    let a = bind_some (list_at (number_at w16) bytes) _ x e in
-    let b = bind_some (list_at entry_at a.0.1) _ x a.2 in
-    let c = bind_some (list_at member_at b.0.1) _ x b.2 in
-    let g = cond_some (eqb (length c.0.1) 0) (a.0.0, b.0.0, c.0.0) x c.2 in
-    let ta = list_takes half bytes a.0 ok a.1 in
-    let tb = list_takes entry_item a.0.1 b.0 ta.rest_fits b.1 in
-    let tc = list_takes member_item b.0.1 c.0 tb.rest_fits c.1 in
-    let nothing : c.0.1 ≡ [] = nil_from_length c.0.1 (eqb-true _ _ g.0) in
-    let last : b.0.1 ≡ list_text member_text c.0.0 = tc.parts ∙ ap (λ (t : List ℕ). list_text member_text c.0.0 ++ t) nothing ∙ append-nil (list_text member_text c.0.0) in
-    subst (λ (y : Lists). bytes ≡ list_text number y.0 ++ (list_text entry_text y.1 ++ list_text member_text y.2)) g.1
-    (ta.parts ∙ ap (λ (t : List ℕ). list_text number a.0.0 ++ t) (tb.parts ∙ ap (λ (t : List ℕ). list_text entry_text b.0.0 ++ t) last))
+lists_take bytes x ok e = (whole_takes lists_is_form bytes x ok e).0
 
 pub lists_again : (a : Table) → IsTable a → lists_at (lists_text a.ports a.entries a.directory) ≡ Some (a.ports, a.entries, a.directory)
 unfolding lists_at lists_text
-lists_again a ok =
-    let members = list_text member_text a.directory in
-    let entries = list_text entry_text a.entries ++ members in
-    let last : list_at member_at members ≡ Some (a.directory, []) = ap (list_at member_at) (sym (append-nil members)) ∙ list_again member_item a.directory [] (few_members a ok) (members_fit a ok) in
-    rw (
-      list_again half a.ports entries (few_ports a ok) (ports_fit a ok),
-      list_again entry_item a.entries members (few_entries a ok) (entries_fit a ok),
-      last,
-    ) refl
+lists_again a ok = whole_again lists_is_form (a.ports, a.entries, a.directory) (lists_fit a ok)
 
 -- ---- bodies
 
@@ -177,15 +154,10 @@ pub no_lists : (body : List ℕ) → lists_at (drop head_size body) ≡ None →
 no_lists body none a ok same =
     none_some none (ap (λ (t : List ℕ). lists_at (drop head_size t)) same ∙ ap lists_at (body_parts a ok).1 ∙ lists_again a ok)
 
--- of lists that were refused
-pub lists_refused : (body rest : List ℕ) (e : ReadRefused) → rest ≡ drop head_size body → GaveNothing e (lists_at rest) → IsBodyRefused body e
-lists_refused body rest NoTable same none = none
-lists_refused body rest UnknownVersion same none = none
-lists_refused body rest CutShort same none = none
-lists_refused body rest TooLong same none = none
-lists_refused body rest Damaged same none = none
-lists_refused body rest NotInOrder same none = no_lists body (ap lists_at (sym same) ∙ none)
-lists_refused body rest Memory same none = tt
+-- of lists that weren't read
+pub lists_refused : (body rest : List ℕ) (failed : ReadError) → rest ≡ drop head_size body → Fails failed (lists_at rest) → IsBodyRefused body (refusal_by failed)
+lists_refused body rest Malformed same none = no_lists body (ap lists_at (sym same) ∙ none)
+lists_refused body rest NoMemory same none = tt
 
 -- the body of a head and lists that were read
 body_text_read : (body : List ℕ) (a : Table) → IsBytes body → take 8 body ≡ letters ++ version → head_size ≤ length body → drop 8 (take head_size body) ≡ router_text a.head

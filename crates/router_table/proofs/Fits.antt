@@ -5,11 +5,13 @@ use Rattle.std.proofs.lemmas.List.Elements.{recursion_from_All}
 use Rattle.heavy_labels.specs.declared.tree_record.Record.{Record}
 use Rattle.schemes.specs.declared.parts.Listed.{Listed}
 use Rattle.router_table.specs.declared.tree_entry.TreeEntry.{TreeEntry}
+use Rattle.router_table.specs.EntryForm.{EntryFits, HasBytes}
 use Rattle.router_table.specs.Items.{AreInOrder}
+use Rattle.router_table.specs.MemberForm.{MemberFits}
 use Rattle.router_table.specs.Order.{IsRecord, IsTable}
+use Rattle.router_table.specs.Reading.{lists_form}
 use Rattle.router_table.specs.Spelling.{no_port}
 use Rattle.router_table.specs.Table.{Table}
-use Rattle.router_table.proofs.ItemTexts.{EntryFits, HasBytes, IsNumber, MemberFits}
 use Rattle.router_table.proofs.Searching.{next_rises}
 
 -- a number of ascending ones is no less than its place
@@ -34,14 +36,8 @@ port_fits many None le fits = tt
 port_fits many (Some p) le fits = omega arith
 
 pub has_bytes : (many : ℕ) (r : Record) → many ≤ no_port → IsRecord many r → HasBytes r
-has_bytes many r le fits = record {
-  first = fits.first;
-  last = fits.last;
-  heavy_last = fits.heavy_last;
-  parent_port = port_fits many r.parent_port le fits.parent_port;
-  heavy_port = port_fits many r.heavy_port le fits.heavy_port;
-  light_depth = fits.light_depth;
-}
+has_bytes many r le fits =
+    (fits.first, (fits.last, (fits.heavy_last, (port_fits many r.parent_port le fits.parent_port, (port_fits many r.heavy_port le fits.heavy_port, fits.light_depth)))))
 
 module _ (a : Table) (ok : IsTable a) where
   nodes : a.head.nodes < 2 ^ 16
@@ -56,11 +52,14 @@ module _ (a : Table) (ok : IsTable a) where
   pub few_members : length a.directory < 2 ^ 16
   few_members = omega (arith, few (λ (m : Listed). m.node) a.head.nodes a.directory ok.lists.directory, nodes)
 
-  pub ports_fit : AllByRecursion IsNumber a.ports
-  ports_fit = recursion_from_All IsNumber a.ports (λ k d lt. omega (arith, ok.lists.ports.below k d lt, nodes))
+  pub ports_fit : AllByRecursion (λ n. n < 2 ^ 16) a.ports
+  ports_fit = recursion_from_All (λ n. n < 2 ^ 16) a.ports (λ k d lt. omega (arith, ok.lists.ports.below k d lt, nodes))
 
   pub entries_fit : AllByRecursion EntryFits a.entries
   entries_fit = recursion_from_All EntryFits a.entries (λ k d lt. (omega (arith, ok.lists.entries.below k d lt, nodes), has_bytes (length a.ports) _ (omega (arith, few_ports)) (ok.lists.records k d lt)))
 
   pub members_fit : AllByRecursion MemberFits a.directory
   members_fit = recursion_from_All MemberFits a.directory (λ k d lt. (omega (arith, ok.lists.directory.below k d lt, nodes), ok.lists.labels k d lt))
+
+  pub lists_fit : lists_form.Fits (a.ports, a.entries, a.directory)
+  lists_fit = ((few_ports, ports_fit), ((few_entries, entries_fit), (few_members, members_fit)))

@@ -11,18 +11,20 @@ use Rattle.sha2.proofs.Facts256.{length-sha256}
 use Rattle.schemes.specs.declared.parts.Listed.{Listed}
 use Rattle.packet_bytes.specs.Spelling.{SpellsAddress, address_text}
 use Rattle.packet_bytes.proofs.Spellings.{one_address}
+use Rattle.byte_forms.specs.Forms.{list_text}
+use Rattle.byte_forms.specs.FormLaws.{length_items}
 use Rattle.router_table.specs.declared.head.Head.{Head}
 use Rattle.router_table.specs.declared.tree_entry.TreeEntry.{TreeEntry}
 use Rattle.router_table.specs.declared.refused.ReadRefused.{ReadRefused}
 use Rattle.router_table.specs.declared.refused.ReadRefused.TheVariants.{NoTable, UnknownVersion, CutShort, TooLong, Damaged, NotInOrder, Memory}
 use Rattle.router_table.specs.Laws.{OneTable, TablesAreRead}
 use Rattle.router_table.specs.Order.{IsHead, IsTable}
-use Rattle.router_table.specs.Reading.{IsTableIn, lists_at}
+use Rattle.router_table.specs.Reading.{IsTableIn, Lists, lists_at}
 use Rattle.router_table.specs.Refusals.{HasDigest, HasLetters, HasVersion, IsBodyOf, IsBodyRefused, IsLong, IsRefusedFor, IsShort, behind, behind_body, behind_directory, behind_items, behind_members, body_in, digest_in, digest_size, entry_size, head_size}
-use Rattle.router_table.specs.Spelling.{SpellsTable, body_text, digest_of, entry_text, head_text, list_text, lists_text, member_text, number, router_text}
+use Rattle.router_table.specs.Spelling.{SpellsTable, body_text, digest_of, entry_text, head_text, lists_text, member_text, number, router_text}
 use Rattle.router_table.specs.Table.{Table, address_of}
 use Rattle.router_table.proofs.Fits.{few_ports, few_entries, few_members}
-use Rattle.router_table.proofs.BodyTexts.{Lists, body_parts, head_front, length_head, lists_again, router_again, same_numbers, spells}
+use Rattle.router_table.proofs.BodyTexts.{body_parts, head_front, length_head, lists_again, router_again, same_numbers, spells}
 
 -- ---- sizes
 
@@ -34,12 +36,6 @@ behind_front n a b len =
 number_front : (n : ℕ) (b : List ℕ) → n < 2 ^ 16 → from_be_bytes w16 (take 2 (number n ++ b)) ≡ n
 number_front n b lt = ap (from_be_bytes w16) (take_at (number n) b 2 refl) ∙ from_be_bytes-to_be_bytes_2 n lt
 
-length_items : {X : Type 0} (text : X → List ℕ) (size : ℕ) → ((x : X) → length (text x) ≡ size) → (xs : List X) → length (flat_map text xs) ≡ size * length xs
-length_items text size each [] = omega arith
-length_items text size each (x ∷ xs) =
-    let rest = length_items text size each xs in
-    ap length (flat_map-cons text x xs) ∙ length-append (text x) (flat_map text xs) ∙ omega (arith, each x, rest)
-
 items_behind : {X : Type 0} (text : X → List ℕ) (size : ℕ) → ((x : X) → length (text x) ≡ size) → (xs : List X) (t : List ℕ) → length xs < 2 ^ 16 → behind_items size (list_text text xs ++ t) ≡ Some t
 unfolding behind_items
 items_behind text size each xs t few =
@@ -49,10 +45,10 @@ items_behind text size each xs t few =
     ap (behind_items size) regrouped
     ∙ rw (behind_front 2 n rest refl, number_front (length xs) rest few) (behind_front (size * length xs) (flat_map text xs) t (length_items text size each xs))
 
-length_number : (n : ℕ) → length (number n) ≡ 2
+pub length_number : (n : ℕ) → length (number n) ≡ 2
 length_number n = refl
 
-length_entry : (e : TreeEntry) → length (entry_text e) ≡ entry_size
+pub length_entry : (e : TreeEntry) → length (entry_text e) ≡ entry_size
 length_entry e = refl
 
 length_numbers : (ns : List ℕ) → length (flat_map number ns) ≡ 2 * length ns

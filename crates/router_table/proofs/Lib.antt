@@ -1,9 +1,5 @@
-pub mod Records
-pub mod Lists
 pub mod Searching
 pub mod Members
-pub mod Taking
-pub mod ItemTexts
 pub mod Fits
 pub mod BodyTexts
 pub mod FormTexts

@@ -10,13 +10,13 @@ use Rattle.std.proofs.lemmas.Bool.Decides.{nat_tests}
 use Rattle.router_table.specs.Items.{item_at}
 
 -- the first item under a number stands at a place
-first_at : {X : Type 0} (key : X → ℕ) (n : ℕ) (xs : List X) (i : ℕ) (d : X) → i < length xs → key (get_or xs i d) ≡ n → ((j : ℕ) → j < i → key (get_or xs j d) ≢ n) → item_at key n xs ≡ Some (get_or xs i d)
+pub first_at : {X : Type 0} (key : X → ℕ) (n : ℕ) (xs : List X) (i : ℕ) (d : X) → i < length xs → key (get_or xs i d) ≡ n → ((j : ℕ) → j < i → key (get_or xs j d) ≢ n) → item_at key n xs ≡ Some (get_or xs i d)
 first_at key n [] i d lt is before = absurd (omega arith)
 first_at key n (x ∷ xs) zero d lt is before = rw (eq-eqb (key x) n is) refl
 first_at key n (x ∷ xs) (suc i) d lt is before = rw (ne_eqb (key x) n (before 0 (omega arith))) (first_at key n xs i d (omega arith) is (λ j l. before (suc j) (omega arith)))
 
 -- no item is under it
-none_at : {X : Type 0} (key : X → ℕ) (n : ℕ) (xs : List X) → ((j : ℕ) (d : X) → j < length xs → key (get_or xs j d) ≢ n) → item_at key n xs ≡ None
+pub none_at : {X : Type 0} (key : X → ℕ) (n : ℕ) (xs : List X) → ((j : ℕ) (d : X) → j < length xs → key (get_or xs j d) ≢ n) → item_at key n xs ≡ None
 none_at key n [] others = refl
 none_at key n (x ∷ xs) others = rw (ne_eqb (key x) n (others 0 x (omega arith))) (none_at key n xs (λ j d lt. others (suc j) d (omega arith)))
 
@@ -36,7 +36,7 @@ module _ {X : Type 0} (key : X → ℕ) (n : ℕ) (xs : List X) (up : IsStrictly
       let last = next_rises (i + suc k) d (omega arith) in
       subst (λ j. key (get_or xs i d) < key (get_or xs j d)) e (omega (arith, near, last))
 
-  rises : (i j : ℕ) (d : X) → i < j → j < length xs → key (get_or xs i d) < key (get_or xs j d)
+  pub rises : (i j : ℕ) (d : X) → i < j → j < length xs → key (get_or xs i d) < key (get_or xs j d)
   rises i j d l lt =
       let e : i + suc (j - i - 1) ≡ j = omega arith in
       subst (λ k. key (get_or xs i d) < key (get_or xs k d)) e (far_rises i (j - i - 1) d (omega (arith, e)))

@@ -3,6 +3,9 @@ pub mod Table
 pub mod Fields
 pub mod Order
 pub mod Spelling
+pub mod Records
+pub mod EntryForm
+pub mod MemberForm
 pub mod Reading
 pub mod Refusals
 pub mod Handing

@@ -2,11 +2,13 @@
 use Rattle.std.specs.Prelude.{◌≡◌, ◌≢◌, ℕ, zero, suc, ◌-◌, ◌*◌, ◌≤◌, ◌<◌, nat_lt, if◌then◌else◌, List, ◌++◌, length, get_or, take, drop, Option, Some, None}
 use Rattle.std.specs.Int.{w16, from_be_bytes}
 use Rattle.schemes.specs.declared.parts.Parts.{Parts}
+use Rattle.byte_forms.specs.declared.read_error.ReadError.{ReadError}
+use Rattle.byte_forms.specs.declared.read_error.ReadError.TheVariants.{Malformed, Memory as NoMemoryRead}
 use Rattle.router_table.specs.declared.refused.ReadRefused.{ReadRefused}
 use Rattle.router_table.specs.declared.refused.ReadRefused.TheVariants.{NoTable, UnknownVersion, CutShort, TooLong, Damaged, NotInOrder, Memory}
 use Rattle.router_table.specs.declared.refused.TableRefused.{TableRefused}
 use Rattle.router_table.specs.declared.refused.TableRefused.TheVariants.{NoNode, Memory as NoMemory, NotInOrder as NodeNotInOrder}
-use Rattle.router_table.specs.Reading.{◌>>=◌}
+use Rattle.byte_forms.specs.Reading.{◌>>=◌}
 use Rattle.router_table.specs.Order.{IsTable}
 use Rattle.router_table.specs.Spelling.{letters, version, body_text, digest_of, SpellsTable}
 use Rattle.router_table.specs.Table.{Table, table_at}
@@ -143,6 +145,11 @@ IsBodyRefused body TooLong = ⊥
 IsBodyRefused body Damaged = ⊥
 IsBodyRefused body NotInOrder = (a : Table) → IsTable a → body ≢ body_text a
 IsBodyRefused body Memory = Unit {0}
+
+-- the refusal of a body whose lists weren't read
+abbrev pub refusal_by : ReadError → ReadRefused
+refusal_by Malformed = NotInOrder
+refusal_by NoMemoryRead = Memory
 
 -- what a refusal of a scheme says: the node isn't there, or its lists aren't in order. Of memory it says nothing.
 abbrev pub IsTableRefused : Parts → ℕ → TableRefused → Type 0

@@ -1,12 +1,12 @@
 -- How a table is spelled in bytes. Each number begins with its highest byte.
-use Rattle.std.specs.Prelude.{◌≡◌, ℕ, List, [], ◌∷◌, ◌++◌, length, Option, Some, None}
-use Rattle.std.specs.List.{flat_map}
+use Rattle.std.specs.Prelude.{◌≡◌, ℕ, List, [], ◌∷◌, ◌++◌, Option, Some, None}
 use Rattle.std.specs.Int.{w16, w64, to_be_bytes}
 use Rattle.sha2.specs.Sha256.{sha256}
 use Rattle.heavy_labels.specs.Label.{Label}
 use Rattle.heavy_labels.specs.declared.tree_record.Record.{Record}
 use Rattle.schemes.specs.declared.parts.Listed.{Listed}
 use Rattle.packet_bytes.specs.Spelling.{address_text}
+use Rattle.byte_forms.specs.Forms.{list_text, short_text}
 use Rattle.router_table.specs.declared.head.Head.{Head}
 use Rattle.router_table.specs.declared.tree_entry.TreeEntry.{TreeEntry}
 use Rattle.router_table.specs.Order.{IsTable}
@@ -51,15 +51,11 @@ entry_text e = number e.root ++ record_text e.tree_record
 
 -- a label: its number, how many ports it has, and these
 abbrev pub label_text : Label → List ℕ
-label_text l = number l.first ++ (length l.lights ∷ flat_map number l.lights)
+label_text l = number l.first ++ short_text number l.lights
 
 -- a member of a directory: its node, and its label
 abbrev pub member_text : Listed → List ℕ
 member_text m = number m.node ++ label_text m.label
-
--- a list: how many there are, and each of them
-abbrev pub list_text : {X : Type 0} → (X → List ℕ) → List X → List ℕ
-list_text text xs = number (length xs) ++ flat_map text xs
 
 -- the three lists: neighbours, entries and members
 unfoldable pub lists_text : List ℕ → List TreeEntry → List Listed → List ℕ

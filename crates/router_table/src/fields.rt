@@ -8,7 +8,7 @@ ghost use Rattle.router_table.specs.Items.{AreInOrder};
 ghost use Rattle.router_table.specs.Order.{AreLists, IsHead, IsHomeAmong, IsPort, IsRecord, IsTable};
 
 use crate::head::Head;
-use crate::item::Item;
+use crate::keyed::Keyed;
 use crate::tree_entry::TreeEntry;
 use heavy_labels::{Label, MOST_LIGHTS, Record};
 use schemes::{Home, Listed};
@@ -23,21 +23,21 @@ pub(crate) struct Fields {
 }
 
 /// Whether the numbers of a list strictly ascend.
-fn do_ascend<T: Item>(items: &[T]) -> bool
+fn do_ascend<T: Keyed>(items: &[T]) -> bool
     ensures { IsTrue result ↔ IsStrictlyIncreasing (map T.key items.now) }
 {
     items.is_sorted_by(|before, after| before.key() < after.key())
 }
 
 /// Whether the numbers of a list are below a limit.
-fn are_below<T: Item>(items: &[T], limit: u16) -> bool
+fn are_below<T: Keyed>(items: &[T], limit: u16) -> bool
     ensures { IsTrue result ↔ All (λ x. T.key x < limit) items.now }
 {
     items.iter().all(|item| item.key() < limit)
 }
 
 /// Whether the numbers of a list strictly ascend and are below a limit.
-fn are_in_order<T: Item>(items: &[T], limit: u16) -> bool
+fn are_in_order<T: Keyed>(items: &[T], limit: u16) -> bool
     ensures { IsTrue result ↔ AreInOrder T.key limit items.now }
 {
     do_ascend(items) && are_below(items, limit)
@@ -68,7 +68,7 @@ fn byte_fits(number: u8)
 }
 
 /// Whether a node with so many ports may have a record. Its numbers fit, whatever they are.
-fn is_record(record: &Record, many: usize) -> bool
+pub fn is_record(record: &Record, many: usize) -> bool
     ensures { IsTrue result ↔ IsRecord many «record».now }
 {
     number_fits(record.first);
@@ -99,7 +99,7 @@ fn ports_fit(ports: &[u16])
 }
 
 /// Whether the numbers of a label fit their places: its type says so, whatever they are.
-fn is_label(label: &Label) -> bool
+pub fn is_label(label: &Label) -> bool
     ensures { IsTrue result ↔ IsLabel label.now }
 {
     number_fits(label.first());
@@ -125,7 +125,7 @@ fn is_home(home: &Option<Home>, nodes: u16) -> bool
 }
 
 /// Whether a head names nodes of its network.
-fn is_head(head: &Head) -> bool
+pub fn is_head(head: &Head) -> bool
     ensures { IsTrue result ↔ IsHead head.now }
 {
     let _generation = head.generation;

@@ -1,11 +1,11 @@
 // The form of a table in bytes, whatever its values: letters, version, size and digest.
 ghost use Rattle.std.specs.Prelude.{◌≡◌, ◌↔◌, ◌+◌, ◌<◌, ◌≤◌, ◌^◌, length, IfSome, IsTrue, MatchResult};
-ghost use Rattle.router_table.specs.Reading.{Finds};
+ghost use Rattle.byte_forms.specs.Reading.{Finds};
 ghost use Rattle.router_table.specs.Refusals.{HasLetters, HasVersion, IsBodyOf, IsFormRefused, behind, behind_body, behind_directory, behind_items, behind_members};
 ghost use Rattle.router_table.specs.Spelling.{digest_of};
 
-use crate::numbers::u16_at;
 use crate::refused::ReadRefused;
+use byte_forms::u16_at;
 use sha2::{Digest, Sha256};
 
 /// What stands in front of a table.
@@ -15,10 +15,10 @@ pub(crate) const LETTERS: [u8; 6] = *b"TZTABL";
 pub(crate) const VERSION: [u8; 2] = *b"01";
 
 /// The letters and the version.
-pub(crate) const FRONT_SIZE: usize = LETTERS.len() + VERSION.len();
+pub const FRONT_SIZE: usize = LETTERS.len() + VERSION.len();
 
 /// These, and a table's generation, number of nodes, node and address.
-pub(crate) const HEAD_SIZE: usize = 62;
+pub const HEAD_SIZE: usize = 62;
 
 /// A port.
 const PORT_SIZE: usize = 2;
@@ -129,7 +129,7 @@ fn is_digest(body: &[u8], found: &[u8]) -> bool
 }
 
 /// The bytes before the digest, or the first thing that is wrong with the form.
-pub(crate) fn body_of(bytes: &[u8]) -> Result<&[u8], ReadRefused>
+pub fn body_of(bytes: &[u8]) -> Result<&[u8], ReadRefused>
     ensures { MatchResult result (λ body. IsBodyOf bytes.now body.now) (IsFormRefused bytes.now) }
 {
     if !has_letters(bytes) {

@@ -20,7 +20,8 @@
 //! ```
 //!
 //! A table has one spelling. [`RouterTable::write`] writes it; [`RouterTable::read`] reads it, or names the first thing that is
-//! wrong with the bytes ([`ReadRefused`]).
+//! wrong with the bytes ([`ReadRefused`]). Who reads such bytes in place, as the crate `table_view`, has the same tests and forms:
+//! [`body_of`], [`head_of`], [`EntryForm`] and [`MemberForm`].
 //!
 //! ```text
 //! let table = RouterTable::of(alloc, &scheme, 4)?;
@@ -31,14 +32,13 @@
 //! ```
 #![tactic(auto)]
 
-mod entry_item;
+mod entry_form;
 mod fields;
 mod form;
 mod head;
-mod item;
+mod keyed;
 mod laws;
-mod listed_item;
-mod numbers;
+mod member_form;
 mod reading;
 mod refused;
 mod search;
@@ -46,8 +46,13 @@ mod table;
 mod tree_entry;
 mod writing;
 
+pub use entry_form::EntryForm;
+pub use fields::{is_head, is_label, is_record};
+pub use form::{FRONT_SIZE, HEAD_SIZE, body_of};
 pub use head::Head;
 pub use laws::table_laws;
+pub use member_form::MemberForm;
+pub use reading::{head_of, numbers_of};
 pub use refused::{ReadRefused, TableRefused};
 pub use table::RouterTable;
 pub use tree_entry::TreeEntry;

@@ -1,5 +1,5 @@
 // Why there is no table.
-use std::alloc::{AllocError, AllocFailed};
+use std::alloc::AllocError;
 use thiserror::Error;
 
 /// Why a scheme gives no table of a node, in the order in which the cases are tested.
@@ -60,17 +60,6 @@ impl From<AllocError> for ReadRefused {
     ghost from_gives = { λ _ e. e ≡ ReadMemory };
 
     fn from(_error: AllocError) -> ReadRefused {
-        ReadRefused::Memory
-    }
-}
-
-impl<T: Drop> From<AllocFailed<T>> for ReadRefused {
-    ghost use Rattle.std.specs.Prelude.{◌≡◌};
-    ghost use Rattle.router_table.specs.declared.refused.ReadRefused.TheVariants.{Memory as ReadMemory};
-
-    ghost from_gives = { λ _ e. e ≡ ReadMemory };
-
-    fn from(_failed: AllocFailed<T>) -> ReadRefused {
         ReadRefused::Memory
     }
 }

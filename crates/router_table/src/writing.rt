@@ -5,11 +5,12 @@ ghost use Rattle.router_table.specs.Order.{IsTable};
 ghost use Rattle.router_table.specs.Spelling.{head_text, lists_text, router_text, table_text};
 ghost use Rattle.router_table.specs.Table.{address_of};
 
+use crate::entry_form::EntryForm;
 use crate::fields::Fields;
 use crate::form::{LETTERS, VERSION, digest};
 use crate::head::Head;
-use crate::item::put_list;
-use crate::numbers::{put_u16, put_u64};
+use crate::member_form::MemberForm;
+use byte_forms::{U16, put_list, put_u16, put_u64};
 use packet_bytes::Wire;
 use schemes::Address;
 use std::alloc::{AllocError, Global};
@@ -60,9 +61,9 @@ fn put_lists(out: &mut Vec<u8>, fields: &Fields) -> Result<(), AllocError>
     ensures { OnOk result (out.new.items
         ≡ out.old.items ++ lists_text fields.now.ports.items fields.now.entries.items fields.now.directory.items) }
 {
-    put_list(out, fields.ports.as_slice())?;
-    put_list(out, fields.entries.as_slice())?;
-    put_list(out, fields.directory.as_slice())
+    put_list::<U16>(out, fields.ports.as_slice())?;
+    put_list::<EntryForm>(out, fields.entries.as_slice())?;
+    put_list::<MemberForm>(out, fields.directory.as_slice())
 }
 
 /// The one spelling of a table. An `Err` means that memory was refused.

@@ -1,55 +1,23 @@
 -- What a look-up by halving says of a table's entries, and what the ports are.
-use Rattle.std.proofs.Common.{◌≡◌, ◌≢◌, ◌⊎◌, ℕ, zero, suc, ◌+◌, ◌-◌, ◌*◌, ◌<◌, ◌≤◌, List, [], ◌∷◌, ◌++◌, length, get_or, map, drop, Some, None, refl, sym, ap, subst, ◌∙◌, arith, inl, inr}
+use Rattle.std.proofs.Common.{◌≡◌, ◌≢◌, ◌⊎◌, ℕ, suc, ◌*◌, ◌<◌, ◌≤◌, List, [], ◌∷◌, ◌++◌, length, get_or, drop, Some, None, refl, sym, ap, ◌∙◌, arith, inl, inr}
 use Rattle.std.specs.Prelude.{slice_get}
 use Rattle.std.specs.List.{flat_map}
-use Rattle.std.specs.List.Sorted.{IsStrictlyIncreasing}
-use Rattle.std.proofs.lemmas.Bool.{cases_lt, eq-eqb, le-ltb, lt-ltb, ne_eqb}
+use Rattle.std.proofs.lemmas.Bool.{cases_lt, le-ltb, lt-ltb}
 use Rattle.std.proofs.lemmas.Option.{slice_get-get_or, slice_get_past}
 use Rattle.router_table.specs.declared.tree_entry.TreeEntry.{TreeEntry}
-use Rattle.router_table.specs.Items.{item_at}
 use Rattle.router_table.specs.Order.{IsTable}
 use Rattle.router_table.specs.Refusals.{entry_size}
 use Rattle.router_table.specs.Spelling.{SpellsTable, entry_text, number, record_text}
 use Rattle.router_table.specs.Table.{Table, entry_for}
 use Rattle.router_table.proofs.Fits.{few_ports, has_bytes}
-use Rattle.router_table.proofs.ItemTexts.{EntryFits}
-use Rattle.router_table.proofs.Searching.{next_rises}
-use Rattle.table_view.specs.Parts.{DoRise, PartsOf, parts_at, port_of, root_of, u16_of}
+use Rattle.router_table.specs.EntryForm.{EntryFits}
+use Rattle.router_table.proofs.Searching.{first_at, none_at, rises}
+use Rattle.byte_forms.specs.Reading.{u16_of}
+use Rattle.table_view.specs.Parts.{DoRise, PartsOf, parts_at, port_of, root_of}
+use Rattle.router_table.proofs.FormTexts.{length_entry, length_number}
 use Rattle.table_view.proofs.Places.{item_front, its_parts, u16_again, u16_behind}
 
--- ---- items in lists
-
--- the first item under a number stands at a place
-first_at : {X : Type 0} (key : X → ℕ) (n : ℕ) (xs : List X) (i : ℕ) (d : X) → i < length xs → key (get_or xs i d) ≡ n → ((j : ℕ) → j < i → key (get_or xs j d) ≢ n) → item_at key n xs ≡ Some (get_or xs i d)
-first_at key n [] i d lt is before = absurd (omega (arith, lt))
-first_at key n (x ∷ xs) zero d lt is before = rw (eq-eqb (key x) n is) refl
-first_at key n (x ∷ xs) (suc i) d lt is before = rw (ne_eqb (key x) n (before 0 (omega arith))) (first_at key n xs i d (omega (arith, lt)) is (λ j l. before (suc j) (omega (arith, l))))
-
--- no item is under it
-none_at : {X : Type 0} (key : X → ℕ) (n : ℕ) (xs : List X) → ((j : ℕ) (d : X) → j < length xs → key (get_or xs j d) ≢ n) → item_at key n xs ≡ None
-none_at key n [] others = refl
-none_at key n (x ∷ xs) others = rw (ne_eqb (key x) n (others 0 x (omega arith))) (none_at key n xs (λ j d lt. others (suc j) d (omega (arith, lt))))
-
-module _ {X : Type 0} (key : X → ℕ) (n : ℕ) (xs : List X) (up : IsStrictlyIncreasing (map key xs)) where
-  far_rises : (i k : ℕ) (d : X) → i + suc k < length xs → key (get_or xs i d) < key (get_or xs (i + suc k) d)
-  far_rises i zero d lt =
-      let e : i + 1 ≡ i + suc zero = omega arith in
-      subst (λ j. key (get_or xs i d) < key (get_or xs j d)) e (next_rises key n xs up i d (omega (arith, lt)))
-  far_rises i (suc k) d lt =
-      let e : i + suc k + 1 ≡ i + suc (suc k) = omega arith in
-      let near = far_rises i k d (omega (arith, lt)) in
-      let last = next_rises key n xs up (i + suc k) d (omega (arith, lt)) in
-      subst (λ j. key (get_or xs i d) < key (get_or xs j d)) e (omega (arith, near, last))
-
-  pub rises : (i j : ℕ) (d : X) → i < j → j < length xs → key (get_or xs i d) < key (get_or xs j d)
-  rises i j d l lt =
-      let e : i + suc (j - i - 1) ≡ j = omega (arith, l) in
-      subst (λ k. key (get_or xs i d) < key (get_or xs k d)) e (far_rises i (j - i - 1) d (omega (arith, e, lt)))
-
 -- ---- entries
-
-length_entry : (e : TreeEntry) → length (entry_text e) ≡ entry_size
-length_entry e = refl
 
 module _ (a : Table) (ok : IsTable a) where
   root_is : (i : ℕ) (d : TreeEntry) → i < length a.entries → root_of (flat_map entry_text a.entries) i ≡ (get_or a.entries i d).root
@@ -102,9 +70,6 @@ module _ (a : Table) (ok : IsTable a) where
           }
 
   -- ---- ports
-
-  length_number : (n : ℕ) → length (number n) ≡ 2
-  length_number n = refl
 
   pub port_is : (q : ℕ) → port_of (flat_map number a.ports) (length a.ports) q ≡ slice_get a.ports q
   port_is q = go (cases_lt q (length a.ports))

@@ -1,87 +1,17 @@
 -- The form of bytes, and what a body that was read says of them.
-use Rattle.std.proofs.Common.{◌≡◌, ◌≢◌, ℕ, ◌-◌, ◌*◌, ◌≤◌, nat_lt, Bool, true, false, cond, List, ◌++◌, length, take, drop, Option, Some, None, refl, sym, ap, subst, ◌∙◌}
-use Rattle.std.specs.Int.{w16, from_be_bytes}
+use Rattle.std.proofs.Common.{◌≡◌, ◌≢◌, ℕ, ◌-◌, ◌≤◌, List, ◌++◌, length, take, drop, sym, ap, subst, ◌∙◌}
 use Rattle.std.proofs.lemmas.List.{take-append-drop}
 use Rattle.router_table.specs.declared.head.Head.{Head}
 use Rattle.router_table.specs.declared.refused.ReadRefused.TheVariants.{NotInOrder}
 use Rattle.router_table.specs.Order.{AreLists, IsHead}
-use Rattle.router_table.specs.Reading.{◌>>=◌, IsHeadIn, lists_at}
-use Rattle.router_table.specs.Refusals.{IsBodyOf, IsRefusedFor, behind, behind_body, behind_directory, behind_items, body_in, digest_size, entry_size, head_size}
+use Rattle.router_table.specs.Reading.{IsHeadIn, lists_at}
+use Rattle.router_table.specs.Refusals.{IsBodyOf, IsRefusedFor, body_in, digest_size, head_size}
 use Rattle.router_table.specs.Spelling.{SpellsTable, digest_of, letters, lists_text, router_text, version}
 use Rattle.router_table.specs.Table.{Table}
 use Rattle.router_table.proofs.BodyTexts.{body_parts, body_read, head_front, lists_again}
 use Rattle.router_table.proofs.FormTexts.{body_of_text}
-use Rattle.router_table.proofs.Taking.{IsBytes}
+use Rattle.byte_forms.specs.Forms.{IsBytes}
 use Rattle.table_view.specs.Listing.{AreListsIn, IsBody}
-use Rattle.table_view.specs.Parts.{PartsOf, cut_at, items_cut, parts_at}
-
--- ---- sizes
-
-abbrev Items : Type 0
-Items = ℕ × List ℕ × List ℕ
-
-abbrev behind_cut : Option (List ℕ × List ℕ) → Option (List ℕ)
-behind_cut o = o >>= λ x. Some x.1
-
-abbrev behind_all : Option Items → Option (List ℕ)
-behind_all o = o >>= λ x. Some x.2
-
-abbrev behind_parts : Option PartsOf → Option (List ℕ)
-behind_parts o = o >>= λ p. behind_directory p.5
-
-cut_behind : (n : ℕ) (bytes : List ℕ) → behind n bytes ≡ behind_cut (cut_at n bytes)
-cut_behind n bytes = go (nat_lt (length bytes) n)
-  where
-    go : (b : Bool) → cond b None (Some (drop n bytes)) ≡ behind_cut (cond b None (Some (take n bytes, drop n bytes)))
-    go true = refl
-    go false = refl
-
-abbrev numbered : List ℕ → Bool → Option (ℕ × List ℕ)
-numbered bytes b = cond b None (Some (from_be_bytes w16 (take 2 bytes), drop 2 bytes))
-
-abbrev counted : ℕ → ℕ × List ℕ → Option Items
-counted size n = cut_at (size * n.0) n.1 >>= λ x. Some (n.0, x.0, x.1)
-
-items_behind : (size : ℕ) (bytes : List ℕ) → behind_items size bytes ≡ behind_all (items_cut size bytes)
-unfolding behind_items items_cut
-items_behind size bytes = go (nat_lt (length bytes) 2)
-  where
-    last : (o : Option (List ℕ × List ℕ)) → behind_cut o ≡ behind_all (o >>= λ x. Some (from_be_bytes w16 (take 2 bytes), x.0, x.1))
-    last (Some x) = refl
-    last None = refl
-
-    go : (b : Bool) → (cond b None (Some (drop 2 bytes)) >>= λ rest. behind (size * from_be_bytes w16 (take 2 bytes)) rest) ≡ behind_all (numbered bytes b >>= counted size)
-    go true = refl
-    go false = cut_behind (size * from_be_bytes w16 (take 2 bytes)) (drop 2 bytes) ∙ last (cut_at (size * from_be_bytes w16 (take 2 bytes)) (drop 2 bytes))
-
-pub body_behind : (bytes : List ℕ) → behind_body bytes ≡ behind_parts (parts_at bytes)
-unfolding behind_body parts_at
-body_behind bytes =
-    ap (λ (o : Option (List ℕ)). o >>= λ rest. behind_items 2 rest >>= λ more. behind_items entry_size more >>= behind_directory) (cut_behind head_size bytes)
-    ∙ heads (cut_at head_size bytes)
-  where
-    at_entries : (h : List ℕ) (n : ℕ) (ports : List ℕ) (o : Option Items)
-        → (behind_all o >>= behind_directory) ≡ behind_parts (o >>= λ x. Some (h, n, ports, x.0, x.1, x.2))
-    at_entries h n ports (Some x) = refl
-    at_entries h n ports None = refl
-
-    at_ports : (h : List ℕ) (o : Option Items)
-        → (behind_all o >>= λ rest. behind_items entry_size rest >>= behind_directory)
-        ≡ behind_parts (o >>= λ x. items_cut entry_size x.2 >>= λ y. Some (h, x.0, x.1, y.0, y.1, y.2))
-    at_ports h (Some x) = rw (items_behind entry_size x.2) (at_entries h x.0 x.1 (items_cut entry_size x.2))
-    at_ports h None = refl
-
-    heads : (o : Option (List ℕ × List ℕ))
-        → (behind_cut o >>= λ rest. behind_items 2 rest >>= λ more. behind_items entry_size more >>= behind_directory)
-        ≡ behind_parts (o >>= λ h. items_cut 2 h.1 >>= λ x. items_cut entry_size x.2 >>= λ y. Some (h.0, x.0, x.1, y.0, y.1, y.2))
-    heads (Some h) = rw (items_behind 2 h.1) (at_ports h.0 (items_cut 2 h.1))
-    heads None = refl
-
-pub no_body : (bytes : List ℕ) → parts_at bytes ≡ None → behind_body bytes ≡ None
-no_body bytes none = body_behind bytes ∙ ap behind_parts none
-
-pub same_body : (bytes : List ℕ) (p : PartsOf) → parts_at bytes ≡ Some p → behind_body bytes ≡ behind_directory p.5
-same_body bytes p found = body_behind bytes ∙ ap behind_parts found
 
 -- ---- bodies
 

@@ -1,21 +1,21 @@
 -- Lists in bytes, and whether they are in order.
-use Rattle.std.proofs.Common.{◌≡◌, ℕ, zero, suc, ◌+◌, ◌-◌, ◌<◌, ◌≤◌, eqb, Bool, true, false, List, [], ◌∷◌, length, get_or, map, Option, Some, None, refl, sym, ap, subst, ◌∙◌, arith, ◌↔◌}
+use Rattle.std.proofs.Common.{◌≡◌, ℕ, zero, suc, ◌+◌, ◌-◌, ◌<◌, ◌≤◌, Bool, true, false, List, [], ◌∷◌, length, get_or, map, Option, Some, None, refl, sym, ap, subst, ◌∙◌, arith, ◌↔◌}
 use Rattle.std.specs.Prelude.{IsTrue}
 use Rattle.std.specs.Int.{w16}
 use Rattle.std.specs.List.{All}
-use Rattle.std.proofs.lemmas.Bool.{eqb-true}
-use Rattle.std.proofs.lemmas.List.{nil_from_length}
-use Rattle.std.proofs.lemmas.Option.{cond_some, none-some, same_Some}
+use Rattle.std.proofs.lemmas.Option.{none-some, same_Some}
 use Rattle.schemes.specs.declared.parts.Listed.{Listed}
 use Rattle.packet_bytes.specs.Spelling.{IsLabel}
 use Rattle.router_table.specs.declared.head.Head.{Head}
 use Rattle.router_table.specs.declared.tree_entry.TreeEntry.{TreeEntry}
 use Rattle.router_table.specs.Items.{AreInOrder}
 use Rattle.router_table.specs.Order.{IsRecord}
-use Rattle.router_table.specs.Reading.{◌>>=◌, entry_at, items_at, list_at, lists_at, member_at, number_at}
-use Rattle.router_table.proofs.BodyTexts.{Lists}
+use Rattle.byte_forms.specs.Reading.{◌>>=◌, number_at, items_at, list_at, then_at}
+use Rattle.router_table.specs.EntryForm.{entry_at}
+use Rattle.router_table.specs.MemberForm.{member_at}
+use Rattle.router_table.specs.Reading.{Lists, Three, lists_at, lists_form, lists_of, three_form, three_of as three_of_lists}
 use Rattle.router_table.proofs.Searching.{next_rises}
-use Rattle.router_table.proofs.Taking.{bind_some}
+use Rattle.byte_forms.specs.FormLaws.{bind_some, then_some, whole_some}
 use Rattle.table_view.specs.Listing.{AreItemsIn, AreListsIn, IsListIn, Rise}
 
 -- what can't be false is true
@@ -220,16 +220,20 @@ record AreThree (bytes : List ℕ) (x : Lists) : Type 0 where
   pub entries : list_at entry_at after_ports ≡ Some (x.1, after_entries)
   pub directory : list_at member_at after_entries ≡ Some (x.2, [])
 
-three_of : (bytes : List ℕ) (x : Lists) → lists_at bytes ≡ Some x → AreThree bytes x
+lists_some : (bytes : List ℕ) (x : Lists) → lists_at bytes ≡ Some x → three_form.at bytes ≡ Some (three_of_lists x, [])
 unfolding lists_at
+lists_some bytes x e =
+    let whole = whole_some lists_form.at bytes x e in
+    let y = bind_some (three_form.at bytes) (λ (y : Three × List ℕ). Some (lists_of y.0, y.1)) (x, []) whole in
+    let same = same_Some {A = Lists × List ℕ} (lists_of y.0.0, y.0.1) (x, []) y.2 in
+    y.1 ∙ ap (λ (z : Lists × List ℕ). Some (three_of_lists z.0, z.1)) same
+
+three_of : (bytes : List ℕ) (x : Lists) → lists_at bytes ≡ Some x → AreThree bytes x
 three_of bytes x e =
-    let a = bind_some (list_at (number_at w16) bytes) _ x e in
-    let b = bind_some (list_at entry_at a.0.1) _ x a.2 in
-    let c = bind_some (list_at member_at b.0.1) _ x b.2 in
-    let g = cond_some (eqb (length c.0.1) 0) (a.0.0, b.0.0, c.0.0) x c.2 in
-    let nothing : c.0.1 ≡ [] = nil_from_length c.0.1 (eqb-true _ _ g.0) in
-    let last : list_at member_at b.0.1 ≡ Some (c.0.0, []) = c.1 ∙ ap (λ (t : List ℕ). Some (c.0.0, t)) nothing in
-    subst (λ (y : Lists). AreThree bytes y) g.1 (record { after_ports = a.0.1; after_entries = b.0.1; ports = a.1; entries = b.1; directory = last })
+    let found = lists_some bytes x e in
+    let ports = then_some (list_at (number_at w16)) (then_at (list_at entry_at) (list_at member_at)) bytes x.0 (x.1, x.2) [] found in
+    let entries = then_some (list_at entry_at) (list_at member_at) ports.0 x.1 x.2 [] ports.2 in
+    record { after_ports = ports.0; after_entries = entries.0; ports = ports.1; entries = entries.1; directory = entries.2 }
 
 module _ (bytes : List ℕ) (h : Head) where
   three : (is : AreListsIn bytes h) → AreThree bytes (is.table.ports, is.table.entries, is.table.directory)

@@ -17,12 +17,12 @@ use Rattle.packet_bytes.specs.Spelling.{SpellsPacket}
 use Rattle.router_table.specs.declared.tree_entry.TreeEntry.{TreeEntry}
 use Rattle.router_table.specs.Handing.{hopped}
 use Rattle.router_table.specs.Order.{IsTable}
-use Rattle.router_table.specs.Reading.{entry_at}
+use Rattle.router_table.specs.EntryForm.{entry_at, entry_is_form}
 use Rattle.router_table.specs.Spelling.{SpellsTable, entry_text}
 use Rattle.router_table.specs.Table.{Table, entry_for, shown}
-use Rattle.router_table.proofs.ItemTexts.{entry_item}
 use Rattle.table_view.specs.Answers.{move_of}
-use Rattle.table_view.specs.Parts.{DoRise, PartsOf, light_of, parts_at, port_of, root_of, u16_of}
+use Rattle.byte_forms.specs.Reading.{u16_of}
+use Rattle.table_view.specs.Parts.{DoRise, PartsOf, light_of, parts_at, port_of, root_of}
 use Rattle.table_view.specs.Ways.{after_step, onward}
 use Rattle.table_view.specs.declared.hops.Hop.TheVariants.{Delivered as Arrived, Forward as Onward}
 use Rattle.table_view.proofs.Entries.{IsEntryAt, do_rise, entry_at_place, no_entry, port_out}
@@ -110,7 +110,7 @@ module _ (bytes packet : List ℕ) (p : PartsOf) (a : Table) (k : Packet) (found
         let text : entry_bytes (13 * place) p.4 ≡ entry_text at.entry ++ [] =
         ap (λ n. take n (drop (13 * place) p.4)) size ∙ ap (λ (t : List ℕ). take 13 (drop (13 * place) t)) parts.entries ∙ ap (take 13) at.text
         ∙ take_at (entry_text at.entry) at.behind 13 refl ∙ sym (append-nil (entry_text at.entry)) in
-        ap entry_at text ∙ entry_item.again at.entry [] at.fits
+        ap entry_at text ∙ entry_is_form.again at.entry [] at.fits
 
     pub no_bytes : entry_at (entry_bytes (13 * place) p.4) ≡ None → ⊥
     no_bytes none = none-some _ (sym none ∙ entry_there)

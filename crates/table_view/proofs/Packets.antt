@@ -13,7 +13,8 @@ use Rattle.packet_bytes.specs.Layout.{most_ports, packet_size}
 use Rattle.packet_bytes.specs.Refusals.{packet_refusal, ports_refusal}
 use Rattle.packet_bytes.specs.declared.wire.WireRefused.TheVariants.{BadCount, BadLength}
 use Rattle.packet_bytes.specs.Spelling.{SpellsPacket, packet_text, places_of}
-use Rattle.table_view.specs.Parts.{light_of, u16_of, with_hops}
+use Rattle.byte_forms.specs.Reading.{u16_of}
+use Rattle.table_view.specs.Parts.{light_of, with_hops}
 use Rattle.table_view.proofs.Places.{item_front, u16_again, u16_behind}
 
 -- a packet that isn't refused has no more ports than there are places for them

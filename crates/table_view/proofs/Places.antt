@@ -13,16 +13,18 @@ use Rattle.packet_bytes.specs.Refusals.{address_refusal}
 use Rattle.packet_bytes.specs.declared.wire.WireRefused.{WireRefused}
 use Rattle.schemes.specs.declared.packet.Address.{Address}
 use Rattle.router_table.specs.declared.head.Head.{Head}
-use Rattle.router_table.specs.declared.tree_entry.TreeEntry.{TreeEntry}
 use Rattle.router_table.specs.Order.{IsHead}
 use Rattle.router_table.specs.Reading.{numbers_at}
 use Rattle.router_table.specs.Refusals.{entry_size, head_size}
-use Rattle.router_table.specs.Spelling.{SpellsTable, body_text, digest_of, entry_text, head_text, list_text, lists_text, member_text, number, router_text}
+use Rattle.byte_forms.specs.Forms.{list_text}
+use Rattle.router_table.specs.Spelling.{SpellsTable, body_text, digest_of, entry_text, head_text, lists_text, member_text, number, router_text}
 use Rattle.router_table.specs.Table.{Table, address_of}
 use Rattle.router_table.proofs.BodyTexts.{head_front, length_head, router_again, spells}
+use Rattle.router_table.proofs.FormTexts.{length_entry, length_number}
 use Rattle.router_table.proofs.Fits.{few_entries, few_members, few_ports, members_fit}
-use Rattle.router_table.proofs.Taking.{half}
-use Rattle.table_view.specs.Parts.{IsDirectory, PartsOf, cut_at, items_cut, parts_at, u16_of}
+use Rattle.byte_forms.specs.FormLaws.{length_items, u16_is_form}
+use Rattle.byte_forms.specs.Reading.{u16_of}
+use Rattle.table_view.specs.Parts.{IsDirectory, PartsOf, cut_at, items_cut, parts_at}
 
 -- ---- fronts
 
@@ -31,12 +33,6 @@ cut_front n x y len =
     let long : ltb (length (x ++ y)) n ≡ false = le-ltb _ _ (omega (arith, length-append x y)) in
     rw (long, take_at x y n len, drop_at x y n len) refl
 
-length_items : {X : Type 0} (text : X → List ℕ) (size : ℕ) → ((x : X) → length (text x) ≡ size) → (xs : List X) → length (flat_map text xs) ≡ size * length xs
-length_items text size each [] = omega arith
-length_items text size each (x ∷ xs) =
-    let rest = length_items text size each xs in
-    ap length (flat_map-cons text x xs) ∙ length-append (text x) (flat_map text xs) ∙ omega (arith, each x, rest)
-
 items_front : {X : Type 0} (text : X → List ℕ) (size : ℕ) → ((x : X) → length (text x) ≡ size) → (xs : List X) (t : List ℕ) → length xs < 2 ^ 16
     → items_cut size (list_text text xs ++ t) ≡ Some (length xs, flat_map text xs, t)
 unfolding items_cut
@@ -44,13 +40,7 @@ items_front text size each xs t few =
     let n = number (length xs) in
     let rest = flat_map text xs ++ t in
     let regrouped : list_text text xs ++ t ≡ n ++ rest = append_assoc n (flat_map text xs) t in
-    ap (items_cut size) regrouped ∙ rw (half.again (length xs) rest few, cut_front (size * length xs) (flat_map text xs) t (length_items text size each xs)) refl
-
-length_number : (n : ℕ) → length (number n) ≡ 2
-length_number n = refl
-
-length_entry : (e : TreeEntry) → length (entry_text e) ≡ entry_size
-length_entry e = refl
+    ap (items_cut size) regrouped ∙ rw (u16_is_form.again (length xs) rest few, cut_front (size * length xs) (flat_map text xs) t (length_items text size each xs)) refl
 
 -- what stands behind the entries
 abbrev pub behind_entries : Table → List ℕ

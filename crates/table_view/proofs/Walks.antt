@@ -1,17 +1,41 @@
 -- A directory that is walked from its first member.
-use Rattle.std.proofs.Common.{◌≡◌, ℕ, ◌+◌, ◌<◌, ◌≤◌, List, [], ◌∷◌, ◌++◌, length, Option, Some, None, refl, sym, ap, ◌∙◌, append_assoc, arith}
-use Rattle.std.specs.Int.{w16}
+use Rattle.std.proofs.Common.{◌≡◌, ℕ, zero, suc, ◌+◌, ◌*◌, ◌<◌, ◌≤◌, false, ltb, List, [], ◌∷◌, ◌++◌, length, take, drop, Option, Some, None, refl, sym, ap, ◌∙◌, append_assoc, arith, inl, inr}
+use Rattle.std.specs.Prelude.{option_map}
+use Rattle.std.specs.Int.{w16, from_be_bytes}
 use Rattle.std.specs.List.{flat_map, AllByRecursion}
-use Rattle.std.proofs.lemmas.Bool.{eq-eqb, ne_eqb}
+use Rattle.std.proofs.lemmas.Bool.{cases_lt, eq-eqb, le-leb, le-ltb, lt-ltb, ne_eqb}
+use Rattle.std.proofs.lemmas.List.{drop-drop, length-drop}
 use Rattle.std.proofs.lemmas.List.Concat.{flat_map-cons}
 use Rattle.std.proofs.lemmas.Option.{none-some, same_Some}
 use Rattle.schemes.specs.declared.parts.Listed.{Listed}
+use Rattle.packet_bytes.specs.Layout.{most_ports}
 use Rattle.router_table.specs.Items.{item_at}
-use Rattle.router_table.specs.Reading.{member_at, number_at}
+use Rattle.byte_forms.specs.Reading.{byte_at, items_at, number_at, short_at}
+use Rattle.router_table.specs.MemberForm.{label_at, member_at, MemberFits, member_is_form}
 use Rattle.router_table.specs.Spelling.{member_text, number}
-use Rattle.router_table.proofs.ItemTexts.{MemberFits, member_item}
-use Rattle.router_table.proofs.Taking.{half}
-use Rattle.table_view.specs.Parts.{IsDirectory}
+use Rattle.byte_forms.specs.FormLaws.{u16_is_form}
+use Rattle.table_view.specs.Parts.{IsDirectory, cut_at, member_head_at}
+
+-- so many ports are found where there are so many bytes, and behind them stands what stands behind those
+ports_cut : (n : ℕ) (bytes : List ℕ) → (ports : List ℕ) × (items_at (number_at w16) n bytes ≡ option_map (λ (x : List ℕ × List ℕ). (ports, x.1)) (cut_at (2 * n) bytes))
+unfolding items_at
+ports_cut zero bytes = (let all : ltb (length bytes) 0 ≡ false = le-ltb _ _ (omega arith) in ([], rw all refl))
+ports_cut (suc n) bytes =
+    let others = ports_cut n (drop 2 bytes) in
+    let behind : drop (2 * n) (drop 2 bytes) ≡ drop (2 * suc n) bytes = drop-drop (2 * n) 2 bytes ∙ ap (λ k. drop k bytes) (omega arith) in (
+      from_be_bytes w16 (take 2 bytes) ∷ others.0,
+      elim (cases_lt (length bytes) (2 * suc n)) [
+        | inl lt ↦ elim (cases_lt (length bytes) 2) [ inl none ↦ rw (lt-ltb _ _ lt, lt-ltb _ _ none) refl | inr one ↦ rw (lt-ltb _ _ lt, le-ltb _ _ one, others.1, lt-ltb (length (drop 2 bytes)) (2 * n) (omega (arith, lt, length-drop 2 bytes))) refl ]
+        | inr le ↦ rw (le-ltb _ _ le, le-ltb (length bytes) 2 (omega (arith, le)), others.1, le-ltb (length (drop 2 bytes)) (2 * n) (omega (arith, le, length-drop 2 bytes)), behind) refl
+      ],
+    )
+
+-- a member whose ports are so many bytes
+pub head_cut : (bytes label ports rest : List ℕ) (node first count : ℕ) → number_at w16 bytes ≡ Some (node, label) → number_at w16 label ≡ Some (first, ports) → byte_at ports ≡ Some (count, rest) → count ≤ most_ports
+    → (cut : Option (List ℕ × List ℕ)) → cut_at (2 * count) rest ≡ cut → member_head_at bytes ≡ option_map (λ (x : List ℕ × List ℕ). (node, x.1)) cut
+unfolding member_at label_at short_at
+head_cut bytes label ports rest node first count a b c few None is = rw (a, b, c, le-leb 0 count (omega arith), le-leb count most_ports few, (ports_cut count rest).1, is) refl
+head_cut bytes label ports rest node first count a b c few (Some x) is = rw (a, b, c, le-leb 0 count (omega arith), le-leb count most_ports few, (ports_cut count rest).1, is) refl
 
 abbrev pub found_in : ℕ → List Listed → Option Listed
 found_in node ms = item_at (λ m. m.node) node ms
@@ -26,7 +50,7 @@ pub record IsLeft (count counter node : ℕ) (bytes : List ℕ) (ms : List Liste
 
 module _ (bytes : List ℕ) (ms : List Listed) (rest : List ℕ) (is : IsDirectory bytes ms rest) where
   number_there : number_at w16 bytes ≡ Some (length ms, flat_map member_text ms ++ rest)
-  number_there = ap (number_at w16) (is.text ∙ append_assoc (number (length ms)) (flat_map member_text ms) rest) ∙ half.again (length ms) (flat_map member_text ms ++ rest) is.few
+  number_there = ap (number_at w16) (is.text ∙ append_assoc (number (length ms)) (flat_map member_text ms) rest) ∙ u16_is_form.again (length ms) (flat_map member_text ms ++ rest) is.few
 
   pub has_number : number_at w16 bytes ≡ None → ⊥
   has_number none = none-some _ (sym none ∙ number_there)
@@ -73,33 +97,35 @@ module _ (count counter node : ℕ) (bytes : List ℕ) (ms : List Listed) (rest 
 
   member_there : member_at bytes ≡ Some (next.member, behind)
   unfolding behind
-  member_there = ap member_at next.text ∙ member_item.again next.member behind next.fits
+  member_there = ap member_at next.text ∙ member_is_form.again next.member behind next.fits
 
   pub has_member : member_at bytes ≡ None → ⊥
   has_member none = none-some _ (sym none ∙ member_there)
 
-  its_member : (m : Listed) (after : List ℕ) → member_at bytes ≡ Some (m, after) → (m ≡ next.member) × (after ≡ behind)
-  its_member m after found =
-      let e = same_Some {A = Listed × List ℕ} _ _ (sym found ∙ member_there) in
-      (ap (λ (x : Listed × List ℕ). x.0) e, ap (λ (x : Listed × List ℕ). x.1) e)
+  head_there : member_head_at bytes ≡ Some (next.member.node, behind)
+  head_there = rw member_there refl
 
-  pub is_found : (m : Listed) (after : List ℕ) → member_at bytes ≡ Some (m, after) → m.node ≡ node → found_in node ms ≡ Some m
-  is_found m after found here =
-      let e = its_member m after found in
-      let key : next.member.node ≡ node = ap (λ (x : Listed). x.node) (sym e.0) ∙ here in
-      next.same ∙ rw (eq-eqb next.member.node node key) (ap (λ (x : Listed). Some x) (sym e.0))
+  pub has_head : member_head_at bytes ≡ None → ⊥
+  has_head none = none-some _ (sym none ∙ head_there)
 
-  pub goes_on : (m : Listed) (after : List ℕ) → member_at bytes ≡ Some (m, after) → (m.node ≡ node → ⊥) → IsLeft count (counter + 1) node after ms rest
+  its_head : (n : ℕ) (after : List ℕ) → member_head_at bytes ≡ Some (n, after) → ◌≡◌ {A = ℕ × List ℕ} (n, after) (next.member.node, behind)
+  its_head n after found = same_Some {A = ℕ × List ℕ} _ _ (sym found ∙ head_there)
+
+  pub is_found : (n : ℕ) (after : List ℕ) (m : Listed × List ℕ) → member_head_at bytes ≡ Some (n, after) → n ≡ node → member_at bytes ≡ Some m → found_in node ms ≡ Some m.0
+  is_found n after m head here found =
+      let key : next.member.node ≡ node = sym (ap (λ (x : ℕ × List ℕ). x.0) (its_head n after head)) ∙ here in
+      next.same ∙ rw (eq-eqb next.member.node node key) (ap (λ (x : Listed × List ℕ). Some x.0) (same_Some _ _ (sym member_there ∙ found)))
+
+  pub goes_on : (n : ℕ) (after : List ℕ) → member_head_at bytes ≡ Some (n, after) → (n ≡ node → ⊥) → IsLeft count (counter + 1) node after ms rest
   unfolding next behind
-  goes_on m after found other =
-      let e = its_member m after found in
-      let key : next.member.node ≡ node → ⊥ = λ h. other (ap (λ (x : Listed). x.node) e.0 ∙ h) in
+  goes_on n after found other =
+      let e = its_head n after found in
       record {
         left = next.others;
-        text = e.1;
+        text = ap (λ (x : ℕ × List ℕ). x.1) e;
         many = next.many;
         fit = next.fit;
-        same = next.same ∙ rw (ne_eqb next.member.node node key) refl;
+        same = next.same ∙ rw (ne_eqb next.member.node node (λ h. other (ap (λ (x : ℕ × List ℕ). x.0) e ∙ h))) refl;
       }
 
 -- no member is left

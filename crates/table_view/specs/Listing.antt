@@ -2,7 +2,8 @@
 use Rattle.std.specs.Prelude.{◌≡◌, ℕ, ◌+◌, ◌≤◌, ◌<◌, List, [], ◌∷◌, length, Option, Some}
 use Rattle.router_table.specs.declared.head.Head.{Head}
 use Rattle.router_table.specs.Order.{AreLists, IsTable}
-use Rattle.router_table.specs.Reading.{items_at, list_at, lists_at}
+use Rattle.byte_forms.specs.Reading.{items_at, list_at}
+use Rattle.router_table.specs.Reading.{lists_at}
 use Rattle.router_table.specs.Spelling.{body_text}
 use Rattle.router_table.specs.Table.{Table}
 

@@ -1,13 +1,15 @@
 -- The bytes of a table in their parts, whatever their values.
-use Rattle.std.specs.Prelude.{◌≡◌, ℕ, ◌+◌, ◌*◌, ◌^◌, ◌<◌, ◌≤◌, nat_lt, if◌then◌else◌, List, [], ◌∷◌, ◌++◌, take, drop, length, get_or, slice_set, Option, Some, None}
-use Rattle.std.specs.Int.{w16, from_be_bytes, to_be_bytes}
+use Rattle.std.specs.Prelude.{◌≡◌, ℕ, ◌+◌, ◌*◌, ◌^◌, ◌<◌, ◌≤◌, nat_lt, if◌then◌else◌, List, ◌++◌, take, drop, length, get_or, slice_set, Option, Some, None, option_map}
+use Rattle.std.specs.Int.{w16, to_be_bytes}
 use Rattle.std.specs.List.{AllByRecursion}
 use Rattle.schemes.specs.declared.parts.Listed.{Listed}
 use Rattle.packet_bytes.specs.Layout.{packet_ports_at}
 use Rattle.packet_bytes.specs.Spelling.{IsLabel}
-use Rattle.router_table.specs.Reading.{◌>>=◌, number_at}
+use Rattle.byte_forms.specs.Reading.{◌>>=◌, number_at, u16_of}
 use Rattle.router_table.specs.Refusals.{entry_size, head_size}
-use Rattle.router_table.specs.Spelling.{list_text, member_text}
+use Rattle.byte_forms.specs.Forms.{list_text}
+use Rattle.router_table.specs.MemberForm.{member_at}
+use Rattle.router_table.specs.Spelling.{member_text}
 
 -- so many bytes, and the bytes behind them, where there are so many
 abbrev pub cut_at : ℕ → List ℕ → Option (List ℕ × List ℕ)
@@ -30,10 +32,6 @@ parts_at bytes = do
   ports ← items_cut 2 head.1
   entries ← items_cut entry_size ports.2
   Some (head.0, ports.0, ports.1, entries.0, entries.1, entries.2)
-
--- the number of two bytes at a place
-abbrev pub u16_of : List ℕ → ℕ → ℕ
-u16_of bytes at = from_be_bytes w16 (get_or bytes at 0 ∷ get_or bytes (at + 1) 0 ∷ [])
 
 -- the root of an entry
 abbrev pub root_of : List ℕ → ℕ → ℕ
@@ -61,6 +59,10 @@ light_of packet depth = if nat_lt depth (get_or packet packet_ports_at 0) then S
 -- a packet's bytes with another number of hops left
 abbrev pub with_hops : List ℕ → ℕ → List ℕ
 with_hops packet hops = slice_set (slice_set packet 14 (get_or (to_be_bytes w16 hops) 0 0)) 15 (get_or (to_be_bytes w16 hops) 1 0)
+
+-- the node of the member at the front, and the bytes behind that member
+abbrev pub member_head_at : List ℕ → Option (ℕ × List ℕ)
+member_head_at bytes = option_map (λ (x : Listed × List ℕ). (x.0.node, x.1)) (member_at bytes)
 
 -- a directory whose members have bytes, and what stands behind it
 pub record IsDirectory (bytes : List ℕ) (members : List Listed) (rest : List ℕ) : Type 0 where

@@ -3,10 +3,10 @@ ghost use Rattle.std.specs.Prelude.{◌≡◌, Some, slice_get};
 ghost use Rattle.router_table.specs.Table.{address_of};
 ghost use Rattle.table_view.specs.Answers.{OfTable, figures_of};
 
-use crate::fields::u16_at;
-use crate::heads::numbers_of;
 use crate::parts::{ADDRESS_AT, GENERATION_AT, parts_of, port_in};
+use byte_forms::u16_at;
 use packet_bytes::Wire;
+use router_table::numbers_of;
 use schemes::Address;
 
 /// Who a router is, and how much its table has.

@@ -11,14 +11,13 @@ ghost use Rattle.table_view.specs.Answers.{OfBoth, OfTable, move_of};
 ghost use Rattle.table_view.specs.Parts.{light_of, port_of};
 ghost use Rattle.table_view.specs.Ways.{after_step};
 
-use crate::fields::u16_in;
-use crate::item::Item;
 use crate::packet_fields::{DESTINATION_AT, FIRST_AT, HOPS_AT, ROOT_AT, light_at};
 use crate::parts::{ENTRY_SIZE, NODE_AT, NODES_AT, PORT_SIZE, parts_of, port_in};
 use crate::search::place_of;
+use byte_forms::{Form, u16_in};
 use heavy_labels::{Record, TreeStep};
 use packet_bytes::Wire;
-use router_table::TreeEntry;
+use router_table::EntryForm;
 use schemes::{Move, Packet, Refused};
 
 /// What a router does with a packet, which goes on with one hop less.
@@ -125,7 +124,7 @@ pub(crate) fn hop_of(table: &[u8], packet: &[u8]) -> Option<Result<Hop, Refused>
         return Some(Err(Refused::Stray));
     };
     let at = ENTRY_SIZE * place;
-    let (entry, _) = TreeEntry::take(&entries[at..at + ENTRY_SIZE])?;
+    let (entry, _) = EntryForm::take(&entries[at..at + ENTRY_SIZE])?;
     let step = step_of(&entry.tree_record, u16_in(packet, FIRST_AT), packet);
     let here = node == u16_in(packet, DESTINATION_AT);
     Some(hop_after(step, here, ports, port_count, hops_left))

@@ -1,18 +1,34 @@
 // The packet that a router sends to an address, out of the bytes of its table.
 ghost use Rattle.std.specs.Prelude.{◌≡◌, ◌-◌, ℕ, List, Some, option_map};
 ghost use Rattle.schemes.specs.declared.parts.Listed.{Listed};
+ghost use Rattle.byte_forms.specs.Reading.{Finds};
 ghost use Rattle.router_table.specs.Handing.{launched};
 ghost use Rattle.router_table.specs.Items.{item_at};
 ghost use Rattle.table_view.specs.Answers.{OfTable};
-ghost use Rattle.table_view.specs.Parts.{IsDirectory};
+ghost use Rattle.table_view.specs.Parts.{IsDirectory, member_head_at};
 
-use crate::fields::u16_at;
-use crate::heads::numbers_of;
-use crate::item::Item;
-use crate::parts::{GENERATION_AT, parts_of};
+use crate::parts::{GENERATION_AT, PORT_SIZE, cut, parts_of};
 use crate::search::place_of;
-use heavy_labels::Label;
-use schemes::{Address, Listed, Packet, Refused};
+use byte_forms::{Form, u8_at, u16_at};
+use heavy_labels::{Label, MOST_LIGHTS};
+use router_table::{MemberForm, numbers_of};
+use schemes::{Address, Packet, Refused};
+
+/// The node of the member at the front, and the bytes behind that member. Its label isn't made.
+#[inline(always)]
+#[tactic(auto, unfolding(router_table::specs::MemberForm::member_at, router_table::specs::MemberForm::label_at, byte_forms::specs::Reading::short_at))]
+fn member_head(bytes: &[u8]) -> Option<(u16, &[u8])>
+    ensures { Finds (λ x. (x.0, x.1.now)) result (member_head_at bytes.now) }
+{
+    let (node, rest) = u16_at(bytes)?;
+    let (_, rest) = u16_at(rest)?;
+    let (count, rest) = u8_at(rest)?;
+    if count as usize > MOST_LIGHTS {
+        return None;
+    }
+    let (_, behind) = cut(PORT_SIZE * count as usize, rest)?;
+    Some((node, behind))
+}
 
 /// The label of a node in a directory, which is walked from its first member. None where it meets that the bytes are no directory.
 fn label_in(directory: &[u8], node: u16) -> Option<Option<Label>>
@@ -22,10 +38,11 @@ fn label_in(directory: &[u8], node: u16) -> Option<Option<Label>>
     let (count, members) = u16_at(directory)?;
     let mut rest = members;
     for _ in 0..count {
-        let Some((member, behind)) = Listed::take(rest) else {
+        let Some((listed, behind)) = member_head(rest) else {
             return None;
         };
-        if member.node == node {
+        if listed == node {
+            let (member, _) = MemberForm::take(rest)?;
             return Some(Some(member.label));
         }
         rest = behind;

@@ -22,12 +22,9 @@
 #![tactic(auto)]
 
 mod answers;
-mod byte_forms;
-mod fields;
 mod file;
-mod form;
-mod heads;
 mod hops;
+mod in_bytes;
 mod item;
 mod launches;
 mod order;
@@ -38,9 +35,9 @@ mod search;
 mod view;
 
 pub use answers::{Figures, address_in, figures_in, neighbour_in};
-pub use byte_forms::{address_bytes, hop_bytes, launch_bytes};
 pub use file::TableFile;
 pub use hops::{Hop, hop_in};
+pub use in_bytes::{address_bytes, hop_bytes, launch_bytes};
 pub use launches::launch_in;
 pub use refused::BytesRefused;
 pub use view::TableView;

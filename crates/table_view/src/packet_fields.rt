@@ -2,9 +2,10 @@
 ghost use Rattle.std.specs.Prelude.{◌≡◌, ◌-◌, ◌*◌, ◌<◌, ◌≤◌, length};
 ghost use Rattle.packet_bytes.specs.Layout.{packet_size};
 ghost use Rattle.packet_bytes.specs.Refusals.{are_zeros, packet_refusal};
-ghost use Rattle.table_view.specs.Parts.{light_of, u16_of, with_hops};
+ghost use Rattle.byte_forms.specs.Reading.{u16_of};
+ghost use Rattle.table_view.specs.Parts.{light_of, with_hops};
 
-use crate::fields::u16_in;
+use byte_forms::u16_in;
 use heavy_labels::MOST_LIGHTS;
 use packet_bytes::{PACKET_SIZE, WireRefused};
 

@@ -1,12 +1,10 @@
 // The bytes of a table in their parts, whatever their values.
 ghost use Rattle.std.specs.Prelude.{◌≡◌, ◌+◌, ◌*◌, ◌^◌, ◌<◌, ◌≤◌, length, IfSome};
-ghost use Rattle.router_table.specs.Reading.{Finds};
+ghost use Rattle.byte_forms.specs.Reading.{Finds};
 ghost use Rattle.table_view.specs.Parts.{cut_at, items_cut, parts_at, port_of};
 
-use crate::fields::{u16_at, u16_in};
-
-/// The letters, the version, and a table's generation, number of nodes, node and address.
-pub(crate) const HEAD_SIZE: usize = 62;
+use byte_forms::{u16_at, u16_in};
+use router_table::HEAD_SIZE;
 
 /// A port.
 pub(crate) const PORT_SIZE: usize = 2;

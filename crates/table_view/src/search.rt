@@ -3,8 +3,8 @@
 ghost use Rattle.std.specs.Prelude.{◌≡◌, ◌≢◌, ◌*◌, ◌<◌, ◌≤◌, ℕ, IfSome, MatchOption, length};
 ghost use Rattle.table_view.specs.Parts.{DoRise, IsHalved, root_of};
 
-use crate::fields::u16_in;
 use crate::parts::ENTRY_SIZE;
+use byte_forms::u16_in;
 
 /// Of the places from a base on among which the root is, if it is there, those before or behind a step: where they begin, and how many
 /// they are. Where no place is so many steps behind the base they stay as they are.

@@ -8,13 +8,12 @@ ghost use Rattle.router_table.specs.declared.refused.ReadRefused.TheVariants.{Me
 ghost use Rattle.table_view.specs.Answers.{IsHop, IsLaunch, OfTable, SpellSome, figures_of};
 
 use crate::answers::{Figures, address_in, figures_in, neighbour_in};
-use crate::byte_forms::{hop_bytes, launch_bytes};
-use crate::form::body_of;
 use crate::hops::{Hop, hop_in};
+use crate::in_bytes::{hop_bytes, launch_bytes};
 use crate::launches::launch_in;
 use crate::order::is_body;
 use crate::refused::BytesRefused;
-use router_table::ReadRefused;
+use router_table::{ReadRefused, body_of};
 use schemes::{Address, Move, Packet, Refused};
 use std::marker::Model;
 

@@ -5,5 +5,5 @@ use Rattle.router_table.proofs.fields.do_ascend.Goals as goal
 
 pub returns : goal.returns
 returns g c =
-    ascending_answer g.T.Item.key c.args.items.now c.is_sorted_by.result
-    (c.is_sorted_by.ensures.cases (λ x y. nat_lt (g.T.Item.key x) (g.T.Item.key y)) (answers_always _ _ _ (λ f a r h k. search rules)))
+    ascending_answer g.T.Keyed.key c.args.items.now c.is_sorted_by.result
+    (c.is_sorted_by.ensures.cases (λ x y. nat_lt (g.T.Keyed.key x) (g.T.Keyed.key y)) (answers_always _ _ _ (λ f a r h k. search rules)))

@@ -1,5 +1,4 @@
 use Rattle.std.proofs.Common.{arith, ap, ◌∙◌, List, ℕ, drop, subst}
-use Rattle.std.proofs.lemmas.Result.{err_from_is_err_and}
 use Rattle.router_table.specs.Fields.{table_of}
 use Rattle.router_table.specs.Reading.{IsHeadIn}
 use Rattle.router_table.proofs.BodyTexts.{no_head, lists_refused, body_read}
@@ -8,13 +7,11 @@ use Rattle.router_table.proofs.reading.fields_of.Goals as goal
 pub returns-in_default : goal.returns-in_default
 returns-in_default c = no_head c.args.body.now (λ h ok e. c.in_default.ensures h ok (c.split_at-2.ensures.back ∙ ap (λ (t : List ℕ). drop 8 t) c.split_at.ensures.front ∙ e))
 
-pub returns-in_err-ports : goal.returns-in_err-ports
-returns-in_err-ports c =
-    let p = err_from_is_err_and c.from_residual.result c.from_residual.ensures.1 in
-    rw (p.1, p.2) (lists_refused c.args.body.now c.split_at.result.1.now c.in_err-ports.field-0.0 c.split_at.ensures.back c.in_err-ports.ensures)
+pub returns-in-Err : goal.returns-in-Err
+returns-in-Err c = rw c.refused_by.ensures (lists_refused c.args.body.now c.split_at.result.1.now c.in-Err.failed c.split_at.ensures.back c.in-Err.ensures)
 
-pub returns : goal.returns
-returns c =
-    let lists = c.in_ok-ports in
+pub returns-in-Ok : goal.returns-in-Ok
+returns-in-Ok c =
+    let lists = c.in-Ok in
     body_read c.args.body.now c.split_at.result.0.now c.split_at.result.1.now (table_of (record { head = c.in-Some.head; ports = lists.ports; entries = lists.entries; directory = lists.directory }))
     (λ i. omega (arith, c.type_inv.body i)) c.requires.front c.requires.long c.split_at.ensures.front c.split_at.ensures.back (subst (λ (t : List ℕ). IsHeadIn t c.in-Some.head) c.split_at-2.ensures.back c.in-Some.ensures) lists.ensures

@@ -6,10 +6,10 @@ use Rattle.router_table.proofs.search.find.Goals as goal
 pub returns-in-Ok : goal.returns-in-Ok
 returns-in-Ok g c =
     let facts = c.in-Ok.ensures in
-    found g.T.Item.key c.args.number c.args.items.now c.requires c.in-Ok.place c.index-items-place.result facts.bound
-    (facts.position g.T.Item.key (answers_always _ _ _ (λ f a r h called. search rules))) c.index-items-place.is
+    found g.T.Keyed.key c.args.number c.args.items.now c.requires c.in-Ok.place c.index-items-place.result facts.bound
+    (facts.position g.T.Keyed.key (answers_always _ _ _ (λ f a r h called. search rules))) c.index-items-place.is
 
 pub returns-in-Err : goal.returns-in-Err
 returns-in-Err g c =
-    missing g.T.Item.key c.args.number c.args.items.now c.requires c.in-Err.field-0
-    (c.in-Err.ensures.position g.T.Item.key (answers_always _ _ _ (λ f a r h called. search rules)) (comparisons_rise g.T.Item.key c.args.number c.args.items.now c.requires))
+    missing g.T.Keyed.key c.args.number c.args.items.now c.requires c.in-Err.field-0
+    (c.in-Err.ensures.position g.T.Keyed.key (answers_always _ _ _ (λ f a r h called. search rules)) (comparisons_rise g.T.Keyed.key c.args.number c.args.items.now c.requires))

@@ -3,7 +3,7 @@ use Rattle.std.specs.Prelude.{Result}
 use Rattle.heavy_labels.specs.Stepped.{stepped}
 use Rattle.schemes.specs.declared.packet.Refused.{Refused}
 use Rattle.table_view.specs.Answers.{move_of}
-use Rattle.table_view.specs.Parts.{u16_of}
+use Rattle.byte_forms.specs.Reading.{u16_of}
 use Rattle.table_view.specs.declared.hops.Hop.{Hop}
 use Rattle.table_view.proofs.Moves.{first_inside, hop_is, never_no_node, no_bytes, no_root, rises, too_many}
 use Rattle.table_view.proofs.Places.{has_parts}
