@@ -1,7 +1,10 @@
 -- Edges, a row more at a time.
-use Rattle.std.proofs.Common.{arith, ◌≡◌, ◌<◌, ◌+◌, subst, ℕ, zero, suc, List, [], ◌∷◌, ◌++◌, Option, Some, None, map, length, take, get_or}
+use Rattle.std.proofs.Common.{◌≡◌, ◌<◌, ◌+◌, ◌∙◌, ap, sym, subst, ℕ, List, [], ◌∷◌, ◌++◌, Option, Some, None, map, length, take, drop, get_or}
 use Rattle.std.specs.Prelude.{IfNone, IfSome, OnSome}
-use Rattle.std.specs.List.{AllZip}
+use Rattle.std.specs.List.{AllZip, slice_get}
+use Rattle.std.specs.Option.{option_map}
+use Rattle.std.proofs.lemmas.Option.{slice_get-get_or, slice_get-map}
+use Rattle.std.proofs.lemmas.List.{drop_more, map-append, map_push, take-append-drop, take_more}
 
 -- what a clause says where something was found, or nothing was
 pub at_some : {A : Type 0} (P : A → Type 0) {o : Option A} {x : A} → o ≡ Some x → IfSome o P → P x
@@ -21,23 +24,15 @@ zip_push R (a ∷ more) [] x y all one = absurd all
 zip_push R (a ∷ more) (b ∷ bs) x y all one = (all.0, zip_push R more bs x y all.1 one)
 
 -- the front of a list, and one element more
-suc_zip_more : {A B C : Type 0} (R : C → B → Type 0) (f : A → C) (xs : List A) (ys : List B) (i : ℕ) (d : A) (y : B) → i < length xs → AllZip R (map f (take i xs)) ys → R (f (get_or xs i d)) y
-    → AllZip R (map f (take (suc i) xs)) (ys ++ y ∷ [])
-suc_zip_more R f [] ys i d y lt all one = absurd (omega arith)
-suc_zip_more R f (x ∷ xs) [] zero d y lt all one = (one, tt)
-suc_zip_more R f (x ∷ xs) (b ∷ bs) zero d y lt all one = absurd all
-suc_zip_more R f (x ∷ xs) [] (suc i) d y lt all one = absurd all
-suc_zip_more R f (x ∷ xs) (b ∷ bs) (suc i) d y lt all one = (all.0, suc_zip_more R f xs bs i d y (omega arith) all.1 one)
-
 pub zip_more : {A B C : Type 0} (R : C → B → Type 0) (f : A → C) (xs : List A) (ys : List B) (i : ℕ) (d : A) (y : B) → i < length xs → AllZip R (map f (take i xs)) ys → R (f (get_or xs i d)) y
     → AllZip R (map f (take (i + 1) xs)) (ys ++ y ∷ [])
 zip_more R f xs ys i d y lt all one =
-    let next : suc i ≡ i + 1 = omega arith in
-    subst (λ n. AllZip R (map f (take n xs)) (ys ++ y ∷ [])) next (suc_zip_more R f xs ys i d y lt all one)
+    subst (λ l. AllZip R l (ys ++ y ∷ [])) (sym (ap (map f) (take_more xs i d lt) ∙ map_push f (take i xs) (get_or xs i d))) (zip_push R (map f (take i xs)) ys (f (get_or xs i d)) y all one)
 
--- where one element goes with none, the whole list goes with no other
-pub zip_none : {A B C : Type 0} (R : C → B → Type 0) (f : A → C) (xs : List A) (i : ℕ) (d : A) → i < length xs → ((y : B) → R (f (get_or xs i d)) y → ⊥) → (ys : List B) → AllZip R (map f xs) ys → ⊥
-zip_none R f [] i d lt none ys all = absurd (omega arith)
-zip_none R f (x ∷ xs) i d lt none [] all = absurd all
-zip_none R f (x ∷ xs) zero d lt none (y ∷ ys) all = none y all.0
-zip_none R f (x ∷ xs) (suc i) d lt none (y ∷ ys) all = zip_none R f xs i d (omega arith) none ys all.1
+-- a list by what stands in front of an element, and behind it
+pub map_around : {A B : Type 0} (f : A → B) (xs : List A) (i : ℕ) (d : A) → i < length xs → map f xs ≡ map f (take i xs) ++ f (get_or xs i d) ∷ map f (drop (i + 1) xs)
+map_around f xs i d lt = ap (map f) (sym (take-append-drop i xs)) ∙ map-append f (take i xs) (drop i xs) ∙ ap (λ l. map f (take i xs) ++ map f l) (drop_more xs i d lt)
+
+-- what stands at a place
+pub at_place : {A B : Type 0} (f : A → B) (xs : List A) (i : ℕ) (x : A) → i < length xs → x ≡ get_or xs i x → slice_get (map f xs) i ≡ Some (f x)
+at_place f xs i x lt is = slice_get-map f xs i ∙ ap (option_map f) (slice_get-get_or xs i x lt) ∙ ap (λ y. Some (f y)) (sym is)

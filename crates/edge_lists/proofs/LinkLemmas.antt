@@ -1,7 +1,7 @@
 -- What is found in a value of JSON.
-use Rattle.std.proofs.Common.{inl, inr, arith, ◌≡◌, ◌<◌, ◌≤◌, ◌+◌, ◌^◌, ◌∙◌, ap, sym, subst, refl, ℕ, List, [], ◌∷◌, ◌++◌, Bool, true, false, cond, length, map, Option, Some, None}
+use Rattle.std.proofs.Common.{inl, inr, arith, ◌≡◌, ◌<◌, ◌≤◌, ◌+◌, ◌^◌, ◌∙◌, ap, sym, subst, refl, ℕ, List, [], ◌∷◌, ◌++◌, Bool, true, false, cond, get_or, length, length-take, map, take, Option, Some, None}
 use Rattle.std.specs.Prelude.{◌⊎◌, ◌↔◌, All, IsTrue, codes, decimal, option_and_then}
-use Rattle.std.proofs.lemmas.List.{get_or-map, length-map}
+use Rattle.std.proofs.lemmas.List.{get_or-map, length-map, map_push, take_more}
 use Rattle.serde_json.specs.Data.{Data, Items}
 use Rattle.serde_json.specs.Find.{as_array, as_number, as_str, as_u64, get}
 use Rattle.serde_json.specs.View.{items_of, items_view, view}
@@ -65,12 +65,21 @@ no_target link none number said is = let bad : None ≡ Some said.b = sym none �
 pub unweighted : (link : Data) → ((w : ℕ) → w < 2 ^ 32 → weight_in (get (codes "weight") link) ≡ Some w → ⊥) → IsNoLink link
 unweighted link none number said is = none said.weight is.fits is.weighted
 
-pub links_more : (before : ℕ) (links : List Data) (said : List Said) (link : Data) (one : Said) → LinksSay before links said → IsLink (before + length links + 1) link one
+links_more : (before : ℕ) (links : List Data) (said : List Said) (link : Data) (one : Said) → LinksSay before links said → IsLink (before + length links + 1) link one
     → LinksSay before (links ++ link ∷ []) (said ++ one ∷ [])
 links_more before [] [] link one say is = (subst (λ (n : ℕ). IsLink n link one) (omega arith) is, tt)
 links_more before [] (s ∷ said) link one say is = absurd say
 links_more before (l ∷ links) [] link one say is = absurd say
 links_more before (l ∷ links) (s ∷ said) link one say is = (say.0, links_more (before + 1) links said link one say.1 (subst (λ (n : ℕ). IsLink n link one) (omega arith) is))
+
+-- the link at a place is one more
+pub links_next : (links : List Value) (i : ℕ) (d : Value) (said : List Said) (one : Said) → i < length links → LinksSay 0 (map view (take i links)) said → IsLink (i + 1) (view (get_or links i d)) one
+    → LinksSay 0 (map view (take (i + 1) links)) (said ++ one ∷ [])
+links_next links i d said one lt say is =
+    let front = map view (take i links) in
+    let far : 0 + length front + 1 ≡ i + 1 = omega (arith, lt, length-map (take i links) view, length-take i links) in
+    subst (λ (l : List Data). LinksSay 0 l (said ++ one ∷ [])) (sym (ap (map view) (take_more links i d lt) ∙ map_push view (take i links) (get_or links i d)))
+    (links_more 0 front said (view (get_or links i d)) one say (subst (λ (n : ℕ). IsLink n (view (get_or links i d)) one) (sym far) is))
 
 -- ---- arrays
 
@@ -143,5 +152,3 @@ is_no_json text number form is = inl is
 
 pub is_no_network : (text : List ℕ) (d : Data) (number : ℕ) (form : Form) → read text ≡ Some d → IsNoNetwork d number form → IsNoNodeLink text number form
 is_no_network text d number form is why = inr (d, is, why)
-
--- ---- forms

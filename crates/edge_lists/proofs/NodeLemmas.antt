@@ -1,31 +1,26 @@
 -- What comments call nodes.
-use Rattle.std.proofs.Common.{arith, ◌≡◌, ◌≢◌, ◌==◌, ◌&&◌, ◌≤◌, ◌<◌, ◌+◌, ◌∙◌, sym, ap, refl, ℕ, List, [], ◌∷◌, Bool, true, false, cond, length, drop, get_or, Option, Some, None, Bor}
+use Rattle.std.proofs.Common.{◌≡◌, ◌==◌, ◌&&◌, ◌≤◌, ◌<◌, ◌+◌, ◌∙◌, sym, ap, ap₂, refl, ℕ, List, [], ◌∷◌, Bool, true, false, codes, cond, length, drop, get_or, Option, Some, None, Bor}
 use Rattle.std.specs.Option.{MatchOption, option_map}
+use Rattle.std.specs.Str.Pattern.{FindsTextPrefix}
 use Rattle.std.proofs.lemmas.Bool.Decides.{Decides-eqb}
 use Rattle.std.proofs.lemmas.List.{at_drop_all, at_drop_more}
 use Rattle.edge_lists.specs.Rows.{remarked, remarks, with_first}
 use Rattle.edge_lists.proofs.HeaderLemmas.{nowhere}
 use Rattle.edge_lists.proofs.WordLemmas.{texts_at}
 
--- a text that doesn't begin with `#`
-pub no_remark : (text : List ℕ) → ((rest : List ℕ) → text ≢ 35 ∷ rest) → remarked text ≡ None
-no_remark [] none = refl
-no_remark (b ∷ []) none = refl
-no_remark (b ∷ c ∷ bs) none = by (b == 35) refl where
-  by : (t : Bool) → (b == 35) ≡ t → remarked (b ∷ c ∷ bs) ≡ None
-  by true is = absurd (none (c ∷ bs) (ap (λ (x : ℕ). x ∷ c ∷ bs) ((Decides-eqb b 35).0 is)))
-  by false is = ap (λ (t : Bool). cond (t && (c == 32)) (Some bs) None) is
+pub remark_is : (text : List ℕ) (found : Option (Bor (List ℕ))) → MatchOption found (FindsTextPrefix (codes "# ") text None) (λ x. (n : ℕ) × FindsTextPrefix (codes "# ") text (Some n) × (x.now ≡ drop n text) × (length x.now + n ≡ length text))
+    → option_map (λ x. x.now) found ≡ remarked text
+remark_is text (Some x) (n, (size, whole, fits), rest, long) = sym (ap remarked whole ∙ ap (λ (l : List ℕ). Some l) (sym rest))
+remark_is [] None none = refl
+remark_is (b ∷ []) None none = refl
+remark_is (b ∷ c ∷ bs) None none = by (b == 35) (c == 32) refl refl where
+  is : (s t : Bool) → (b == 35) ≡ s → (c == 32) ≡ t → remarked (b ∷ c ∷ bs) ≡ cond (s && t) (Some bs) None
+  is s t hash blank = ap (λ (r : Bool). cond (r && (c == 32)) (Some bs) None) hash ∙ ap (λ (r : Bool). cond (s && r) (Some bs) None) blank
 
--- and one that does, by what stands behind it
-pub remark_behind : (text rest : List ℕ) (found : Option (Bor (List ℕ))) → text ≡ 35 ∷ rest → MatchOption found ((more : List ℕ) → rest ≢ 32 ∷ more) (λ x. rest ≡ 32 ∷ x.now) → option_map (λ x. x.now) found ≡ remarked text
-remark_behind text rest found is behind = by rest found behind ∙ sym (ap remarked is) where
-  by : (rest : List ℕ) (found : Option (Bor (List ℕ))) → MatchOption found ((more : List ℕ) → rest ≢ 32 ∷ more) (λ x. rest ≡ 32 ∷ x.now) → option_map (λ x. x.now) found ≡ remarked (35 ∷ rest)
-  by rest (Some x) behind = sym (ap (λ (t : List ℕ). remarked (35 ∷ t)) behind)
-  by [] None behind = refl
-  by (b ∷ bs) None behind = at (b == 32) refl where
-    at : (t : Bool) → (b == 32) ≡ t → None ≡ remarked (35 ∷ b ∷ bs)
-    at true is = absurd (behind bs (ap (λ (x : ℕ). x ∷ bs) ((Decides-eqb b 32).0 is)))
-    at false is = sym (ap (λ (t : Bool). cond t (Some bs) None) is)
+  by : (s t : Bool) → (b == 35) ≡ s → (c == 32) ≡ t → None ≡ remarked (b ∷ c ∷ bs)
+  by true true hash blank = absurd (none bs (ap₂ (λ (x y : ℕ). x ∷ y ∷ bs) ((Decides-eqb b 35).0 hash) ((Decides-eqb c 32).0 blank)))
+  by true false hash blank = sym (is true false hash blank)
+  by false t hash blank = sym (is false t hash blank)
 
 -- ---- the loop
 

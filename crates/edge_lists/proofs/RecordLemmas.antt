@@ -1,8 +1,6 @@
 -- Records of CSV, one behind another.
-use Rattle.std.proofs.Common.{arith, ◌≡◌, ◌<◌, ◌∙◌, inl, sym, ap, subst, refl, ℕ, zero, suc, List, [], ◌∷◌, ◌++◌, Bool, true, false, cond, length, map, take, get_or, Option, Some, None, Bor}
-use Rattle.std.specs.Prelude.{◌&&◌, ◌||◌, All, is_some, not}
-use Rattle.std.specs.List.{list_any}
-use Rattle.std.proofs.lemmas.List.Elements.{All-head, All-tail}
+use Rattle.std.proofs.Common.{arith, ◌≡◌, ◌<◌, ◌∙◌, inl, sym, ap, subst, refl, ℕ, zero, suc, List, [], ◌∷◌, ◌++◌, Bool, true, cond, length, map, take, get_or, Option, Some, None, Bor}
+use Rattle.std.specs.Prelude.{◌&&◌, is_some, not}
 use Rattle.csv.specs.Machine.{Read, next_record}
 use Rattle.csv.specs.Reading.{NextIs, ReadRecord, ReadsNext, default_config, pending_of, source_of, strip_bom, took_first}
 use Rattle.csv.specs.Records.{field_at, trimmed}
@@ -10,8 +8,7 @@ use Rattle.csv.specs.declared.parser.Config.{Config}
 use Rattle.csv.specs.declared.parser.State.{State}
 use Rattle.csv.specs.declared.parser.State.TheVariants.{StartRecord}
 use Rattle.csv.specs.declared.reader.Reader.{Reader}
-use Rattle.edge_lists.specs.Records.{GivesNext, StandsAt, before_last, first_of_two, hides_quote, left_of, next, quote_first}
-use Rattle.edge_lists.proofs.RowLemmas.{both_ways}
+use Rattle.edge_lists.specs.Records.{GivesNext, StandsAt, before_last, first_of_two, hides_quote, left_of, next, quote_first, raw_fields}
 
 -- ---- one reading
 
@@ -46,71 +43,42 @@ gives_next old new state text found fields at first reads =
 
 -- ---- three readings
 
-pub none_first : (o : Option Read) (found : Bool) (fields : List (List ℕ)) (r : Reader (Bor (List ℕ))) → GivesNext o found fields r → found ≡ false → first_of_two o ≡ []
-none_first None found fields r gives none = refl
-none_first (Some p) found fields r gives none = absurd (both_ways found gives.0 none)
-
 -- what a reader gives next, wherever it stands
 abbrev pub Goes : Reader (Bor (List ℕ)) → Bool → List (List ℕ) → Reader (Bor (List ℕ)) → Type 0
 Goes old found fields new = (state : State) → (text : List ℕ) → StandsAt old state text → GivesNext (next state text) found fields new
 
-pub none_second : (o : Option Read) (f g : Bool) (x y : List (List ℕ)) (r t : Reader (Bor (List ℕ))) → GivesNext o f x r → Goes r g y t → f ≡ true → g ≡ false → first_of_two o ≡ []
-none_second None f g x y r t gives goes found none = refl
-none_second (Some p) f g x y r t gives goes found none = by (next p.1 p.2) (goes p.1 p.2 gives.2) where
-  by : (o : Option Read) → GivesNext o g y t → before_last p.0 o ≡ []
-  by None more = refl
-  by (Some q) more = absurd (both_ways g more.0 none)
+first_of_three : (o : Option Read) (f g h : Bool) (x y z : List (List ℕ)) (r t u : Reader (Bor (List ℕ))) → GivesNext o f x r → Goes r g y t → Goes t h z u → first_of_two o ≡ cond (f && g && not h) x []
+first_of_three None f g h x y z r t u gives goes last = rw gives refl
+first_of_three (Some p) f g h x y z r t u (found, fields, at) goes last = by (next p.1 p.2) (goes p.1 p.2 at) where
+  again : (o : Option Read) → GivesNext o h z u → cond (is_some o) [] p.0 ≡ cond (not h) x []
+  again None none = rw none (sym fields)
+  again (Some s) more = rw more.0 refl
 
-pub more_third : (o : Option Read) (f g h : Bool) (x y z : List (List ℕ)) (r t u : Reader (Bor (List ℕ))) → GivesNext o f x r → Goes r g y t → Goes t h z u → h ≡ true → first_of_two o ≡ []
-more_third None f g h x y z r t u gives goes last more = refl
-more_third (Some p) f g h x y z r t u gives goes last more = by (next p.1 p.2) (goes p.1 p.2 gives.2) where
-  again : (p q : Read) (o : Option Read) → GivesNext o h z u → cond (is_some o) [] p.0 ≡ []
-  again p q None none = absurd (both_ways h more none)
-  again p q (Some s) some = refl
-
-  by : (o : Option Read) → GivesNext o g y t → before_last p.0 o ≡ []
-  by None none = refl
-  by (Some q) some = again p q (next q.1 q.2) (last q.1 q.2 some.2)
-
-pub just_two : (o : Option Read) (f g h : Bool) (x y z : List (List ℕ)) (r t u : Reader (Bor (List ℕ))) → GivesNext o f x r → Goes r g y t → Goes t h z u → f ≡ true → g ≡ true → h ≡ false → x ≡ first_of_two o
-just_two None f g h x y z r t u gives goes last one two none = absurd (both_ways f one gives)
-just_two (Some p) f g h x y z r t u gives goes last one two none = gives.1 ∙ sym (by (next p.1 p.2) (goes p.1 p.2 gives.2)) where
-  again : (o : Option Read) → GivesNext o h z u → cond (is_some o) [] p.0 ≡ p.0
-  again None is = refl
-  again (Some s) is = absurd (both_ways h is.0 none)
-
-  by : (o : Option Read) → GivesNext o g y t → before_last p.0 o ≡ p.0
-  by None is = absurd (both_ways g two is)
-  by (Some q) is = again (next q.1 q.2) (last q.1 q.2 is.2)
+  by : (o : Option Read) → GivesNext o g y t → before_last p.0 o ≡ cond (f && g && not h) x []
+  by None none = rw (found, none) refl
+  by (Some q) more = rw (found, more.0) (again (next q.1 q.2) (last q.1 q.2 more.2))
 
 -- a line feed is no byte order mark, and no record
-pub no_mark : (xs : List ℕ) → strip_bom (10 ∷ xs) ≡ 10 ∷ xs
+no_mark : (xs : List ℕ) → strip_bom (10 ∷ xs) ≡ 10 ∷ xs
 unfolding strip_bom
 no_mark [] = refl
 no_mark (a ∷ []) = refl
 no_mark (a ∷ b ∷ xs) = refl
 
-pub skipped : (xs : List ℕ) → next StartRecord (10 ∷ xs) ≡ next StartRecord xs
+skipped : (xs : List ℕ) → next StartRecord (10 ∷ xs) ≡ next StartRecord xs
 unfolding next_record
 skipped xs = refl
 
--- the first reading of a line's two records
-pub begun : (old new : Reader (Bor (List ℕ))) (text bytes : List ℕ) (found : Bool) (fields : List (List ℕ)) → bytes ≡ 10 ∷ (text ++ 10 ∷ 44 ∷ 10 ∷ []) → StandsAt old StartRecord (strip_bom bytes)
-    → Goes old found fields new → GivesNext (next StartRecord (text ++ 10 ∷ 44 ∷ 10 ∷ [])) found fields new
-begun old new text bytes found fields is at goes =
+-- the fields of a line by three readings
+pub line_read : (reader r t u : Reader (Bor (List ℕ))) (text bytes : List ℕ) (f g h one : Bool) (x y z : List (List ℕ)) → bytes ≡ 10 ∷ (text ++ 10 ∷ 44 ∷ 10 ∷ []) → StandsAt reader StartRecord (strip_bom bytes)
+    → Goes reader f x r → Goes r g y t → Goes t h z u → (f && g && not h) ≡ one → raw_fields text ≡ cond one x []
+line_read reader r t u text bytes f g h one x y z is at first second third same =
     let rest = text ++ 10 ∷ 44 ∷ 10 ∷ [] in
-    let here : StandsAt old StartRecord (10 ∷ rest) = subst (StandsAt old StartRecord) (ap strip_bom is ∙ no_mark rest) at in
-    subst (λ (o : Option Read). GivesNext o found fields new) (skipped rest) (goes StartRecord (10 ∷ rest) here)
+    let here : StandsAt reader StartRecord (10 ∷ rest) = subst (StandsAt reader StartRecord) (ap strip_bom is ∙ no_mark rest) at in
+    let gives = subst (λ (o : Option Read). GivesNext o f x r) (skipped rest) (first StartRecord (10 ∷ rest) here) in
+    first_of_three (next StartRecord rest) f g h x y z r t u gives second third ∙ ap (λ (b : Bool). cond b x []) same
 
 -- ---- fields
-
--- none is found where each is another
-pub none_any : {A : Type 0} (test : A → Bool) (xs : List A) → All (λ x. test x ≡ false) xs → list_any test xs ≡ false
-none_any test [] all = refl
-none_any test (x ∷ xs) all = neither (test x) (list_any test xs) (All-head (λ y. test y ≡ false) x xs all) (none_any test xs (All-tail (λ y. test y ≡ false) x xs all)) where
-  neither : (a b : Bool) → a ≡ false → b ≡ false → (a || b) ≡ false
-  neither true b p q = absurd (let bad : true ≡ false = p in cc)
-  neither false b p q = q
 
 pub hides_at : (raw : List (List ℕ)) (i : ℕ) → i < length raw → (quote_first (field_at (map trimmed raw) i) && not (quote_first (field_at raw i))) ≡ hides_quote (get_or raw i [])
 unfolding field_at
@@ -129,20 +97,3 @@ unfolding field_at
 field_there [] i lt = absurd (omega (arith, lt))
 field_there (y ∷ ys) zero lt = (y, refl)
 field_there (y ∷ ys) (suc i) lt = field_there ys i (omega (arith, lt))
-
--- a field hides a quotation mark, or shows it, or has none
-pub hidden_by : (raw : List (List ℕ)) (i : ℕ) → i < length raw → quote_first (field_at (map trimmed raw) i) ≡ true → quote_first (field_at raw i) ≡ false → hides_quote (get_or raw i []) ≡ true
-hidden_by raw i lt bare own = sym (hides_at raw i lt) ∙ both (quote_first (field_at (map trimmed raw) i)) (quote_first (field_at raw i)) bare own where
-  both : (a b : Bool) → a ≡ true → b ≡ false → (a && not b) ≡ true
-  both a b p q = rw (p, q) refl
-
-pub shown_raw : (raw : List (List ℕ)) (i : ℕ) → i < length raw → quote_first (field_at raw i) ≡ true → hides_quote (get_or raw i []) ≡ false
-shown_raw raw i lt own = sym (hides_at raw i lt) ∙ by (quote_first (field_at (map trimmed raw) i)) (quote_first (field_at raw i)) own where
-  by : (a b : Bool) → b ≡ true → (a && not b) ≡ false
-  by true b q = rw q refl
-  by false b q = refl
-
-pub shown_bare : (raw : List (List ℕ)) (i : ℕ) → i < length raw → quote_first (field_at (map trimmed raw) i) ≡ false → hides_quote (get_or raw i []) ≡ false
-shown_bare raw i lt bare = sym (hides_at raw i lt) ∙ by (quote_first (field_at (map trimmed raw) i)) (quote_first (field_at raw i)) bare where
-  by : (a b : Bool) → a ≡ false → (a && not b) ≡ false
-  by a b p = rw p refl

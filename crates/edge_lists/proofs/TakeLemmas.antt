@@ -2,7 +2,7 @@
 use Rattle.std.proofs.Common.{arith, ◌≡◌, ◌≤◌, ◌<◌, ◌+◌, ◌∙◌, ◌⊎◌, ◌||◌, inl, inr, sym, ap, subst, refl, ℕ, List, [], ◌∷◌, ◌++◌, Bool, true, false, map, length, take, drop, get_or, nat_lt, Bor, append_assoc}
 use Rattle.std.specs.Prelude.{OnErr, Result, Ok, Err}
 use Rattle.std.specs.List.{AllZip}
-use Rattle.std.proofs.lemmas.List.{append-nil, drop_more, length-map, length-take-le, length_push, map-append, take-append-drop, take_more}
+use Rattle.std.proofs.lemmas.List.{append-nil, length-map, length-take-le, length_push, map_push, take_more}
 use Rattle.std.proofs.lemmas.List.Concat.{flat_map-append}
 use Rattle.std.proofs.lemmas.List.Elements.{All-push}
 use Rattle.std.proofs.lemmas.Bool.Decides.{nat_tests}
@@ -14,9 +14,10 @@ use Rattle.edge_lists.specs.Edges.{IsEdgeOf}
 use Rattle.edge_lists.specs.NameLists.{AreBegun, AreNames, AreTaken, EndsAt, HaveNumbers, IsFirstNoName, IsNoName, IsNumberOf, IsOneTooMany, NoneTwice, ends_of, has_number, is_among, with_name, with_names}
 use Rattle.edge_lists.specs.Labels.{is_name}
 use Rattle.edge_lists.specs.Rows.{Said, row_of}
-use Rattle.edge_lists.proofs.EdgeLemmas.{zip_push}
+use Rattle.edge_lists.proofs.EdgeLemmas.{map_around, zip_push}
 use Rattle.edge_lists.proofs.HeaderLemmas.{nowhere}
 use Rattle.edge_lists.proofs.NameLemmas.{among_at, get_cases, number_kept, number_kept_all, numbers_both, with_both, with_new}
+use Rattle.edge_lists.proofs.RowLemmas.{both_ways}
 use Rattle.edge_lists.proofs.WordLemmas.{texts_at}
 
 -- ---- one row
@@ -40,49 +41,35 @@ zip_less R S (x ∷ xs) (y ∷ ys) less all = (less x y all.0, zip_less R S xs y
 ends_both : (front behind : List Said) → ends_of (front ++ behind) ≡ ends_of front ++ ends_of behind
 ends_both front behind = flat_map-append (λ (row : Said). row.a ∷ row.b ∷ []) front behind
 
--- no row was taken yet
-pub taken_none : (most : ℕ) (old : List (List ℕ)) → AreTaken most old [] [] old
-taken_none most old = record { numbers = tt; names = refl; made = tt }
-
--- one row more
-taken_push : (most : ℕ) (old now new : List (List ℕ)) (said : List Said) (row : Said) (edges : List Edge) (edge : Edge) → AreTaken most old said edges now → HaveNumbers most now (ends_of (row ∷ []))
-    → new ≡ with_names now (ends_of (row ∷ [])) → IsEdgeOf (IsNumberOf new) row edge → AreTaken most old (said ++ row ∷ []) (edges ++ edge ∷ []) new
-taken_push most old now new said row edges edge taken room grows one =
-    let ends = ends_both said (row ∷ []) in
-    let here : HaveNumbers most (with_names old (ends_of said)) (ends_of (row ∷ [])) = subst (λ (l : List (List ℕ)). HaveNumbers most l (ends_of (row ∷ []))) taken.names room in
-    let names : new ≡ with_names old (ends_of (said ++ row ∷ [])) =
-    grows ∙ ap (λ (l : List (List ℕ)). with_names l (ends_of (row ∷ []))) taken.names ∙ sym (with_both old (ends_of said) (ends_of (row ∷ []))) ∙ ap (λ (l : List (List ℕ)). with_names old l) (sym ends) in
-    let kept : (s : Said) (e : Edge) → IsEdgeOf (IsNumberOf now) s e → IsEdgeOf (IsNumberOf new) s e =
-    λ s e is. record {
-      line = is.line;
-      first = subst (λ (l : List (List ℕ)). IsNumberOf l s.a e.a) (sym grows) (number_kept_all now (ends_of (row ∷ [])) s.a e.a is.first);
-      second = subst (λ (l : List (List ℕ)). IsNumberOf l s.b e.b) (sym grows) (number_kept_all now (ends_of (row ∷ [])) s.b e.b is.second);
-      weight = is.weight;
-    } in
-    record {
-      numbers = subst (λ (l : List (List ℕ)). HaveNumbers most old l) (sym ends) (numbers_both most old (ends_of said) (ends_of (row ∷ [])) taken.numbers here);
-      names = names;
-      made = zip_push (IsEdgeOf (IsNumberOf new)) said edges row edge (zip_less (IsEdgeOf (IsNumberOf now)) (IsEdgeOf (IsNumberOf new)) said edges kept taken.made) one;
-    }
-
 said_more : (rows : List Row) (i : ℕ) (row : Row) → i < length rows → get_or rows i row ≡ row → map row_of (take (i + 1) rows) ≡ map row_of (take i rows) ++ row_of row ∷ []
 said_more rows i row lt is =
-    ap (λ (l : List Row). map row_of l) (take_more rows i row lt) ∙ map-append row_of (take i rows) (get_or rows i row ∷ [])
-    ∙ ap (λ (r : Row). map row_of (take i rows) ++ row_of r ∷ []) is
+    ap (map row_of) (take_more rows i row lt) ∙ map_push row_of (take i rows) (get_or rows i row) ∙ ap (λ (r : Row). map row_of (take i rows) ++ row_of r ∷ []) is
 
 said_around : (rows : List Row) (i : ℕ) (row : Row) → i < length rows → get_or rows i row ≡ row → map row_of rows ≡ map row_of (take i rows) ++ row_of row ∷ map row_of (drop (i + 1) rows)
-said_around rows i row lt is =
-    ap (λ (l : List Row). map row_of l) (sym (take-append-drop i rows)) ∙ map-append row_of (take i rows) (drop i rows)
-    ∙ ap (λ (l : List Row). map row_of (take i rows) ++ map row_of l) (drop_more rows i row lt)
-    ∙ ap (λ (r : Row). map row_of (take i rows) ++ row_of r ∷ map row_of (drop (i + 1) rows)) is
+said_around rows i row lt is = map_around row_of rows i row lt ∙ ap (λ (r : Row). map row_of (take i rows) ++ row_of r ∷ map row_of (drop (i + 1) rows)) is
 
+-- one row more
 pub taken_more : (most : ℕ) (old now new : List (List ℕ)) (rows : List Row) (i : ℕ) (row : Row) (edges all : List Edge) (edge : Edge) → i < length rows → get_or rows i row ≡ row → AreTaken most old (map row_of (take i rows)) edges now
     → HaveNumbers most now (ends_of (row_of row ∷ [])) → new ≡ with_names now (ends_of (row_of row ∷ [])) → IsEdgeOf (IsNumberOf new) (row_of row) edge
     → all ≡ edges ++ edge ∷ [] → AreTaken most old (map row_of (take (i + 1) rows)) all new
-taken_more most old now new rows i row edges all edge lt is taken room grows one pushed =
-    subst (λ (s : List Said). AreTaken most old s all new) (sym (said_more rows i row lt is))
-    (subst (λ (e : List Edge). AreTaken most old (map row_of (take i rows) ++ row_of row ∷ []) e new) (sym pushed)
-    (taken_push most old now new (map row_of (take i rows)) (row_of row) edges edge taken room grows one))
+taken_more most old now new rows i row edges all edge lt at taken room grows one pushed =
+    let said = map row_of (take i rows) in
+    let last = ends_of (row_of row ∷ []) in
+    let ends = ends_both said (row_of row ∷ []) in
+    let here : HaveNumbers most (with_names old (ends_of said)) last = subst (λ (l : List (List ℕ)). HaveNumbers most l last) taken.names room in
+    let kept : (s : Said) (e : Edge) → IsEdgeOf (IsNumberOf now) s e → IsEdgeOf (IsNumberOf new) s e =
+    λ s e is. record {
+      line = is.line;
+      first = subst (λ (l : List (List ℕ)). IsNumberOf l s.a e.a) (sym grows) (number_kept_all now last s.a e.a is.first);
+      second = subst (λ (l : List (List ℕ)). IsNumberOf l s.b e.b) (sym grows) (number_kept_all now last s.b e.b is.second);
+      weight = is.weight;
+    } in
+    rw (said_more rows i row lt at, pushed)
+    (record {
+      numbers = subst (λ (l : List (List ℕ)). HaveNumbers most old l) (sym ends) (numbers_both most old (ends_of said) last taken.numbers here);
+      names = grows ∙ ap (λ (l : List (List ℕ)). with_names l last) taken.names ∙ sym (with_both old (ends_of said) last) ∙ ap (λ (l : List (List ℕ)). with_names old l) (sym ends);
+      made = zip_push (IsEdgeOf (IsNumberOf new)) said edges (row_of row) edge (zip_less (IsEdgeOf (IsNumberOf now)) (IsEdgeOf (IsNumberOf new)) said edges kept taken.made) one;
+    })
 
 -- a row whose name is one too many
 pub one_too_many : (most : ℕ) (old now new : List (List ℕ)) (rows : List Row) (i : ℕ) (row : Row) (edges : List Edge) (refused : NameRefused) → i < length rows → get_or rows i row ≡ row → AreTaken most old (map row_of (take i rows)) edges now
@@ -117,9 +104,6 @@ begun_more most old now new rows i one edges lt at taken begun =
       sym_parts : (a b c d : List (List ℕ)) → a ++ ((b ++ c) ++ d) ≡ (a ++ b) ++ (c ++ d)
       sym_parts a b c d = simp append_assoc
 
-pub begun_none : (old : List (List ℕ)) (said : List Said) (new : List (List ℕ)) → new ≡ old → AreBegun old said new
-begun_none old said new same = record { words = []; behind = ends_of said; parts = refl; names = same }
-
 pub begun_first : (old : List (List ℕ)) (row : Said) (new : List (List ℕ)) → new ≡ with_name old row.a → AreBegun old (row ∷ []) new
 begun_first old row new same = record { words = row.a ∷ []; behind = row.b ∷ []; parts = refl; names = same }
 
@@ -127,9 +111,6 @@ pub begun_whole : (old : List (List ℕ)) (row : Said) (new : List (List ℕ)) �
 begun_whole old row new same = record { words = ends_of (row ∷ []); behind = []; parts = sym (append-nil (ends_of (row ∷ []))); names = same }
 
 -- ---- lines
-
-both_ways : (b : Bool) → b ≡ true → b ≡ false → ⊥
-both_ways b so not_so = let bad : true ≡ false = sym so ∙ not_so in cc
 
 once_push : (names : List (List ℕ)) (name : List ℕ) → NoneTwice names → is_among names name ≡ false → NoneTwice (names ++ name ∷ [])
 once_push names name once new i j other at there = by (get_cases names name other i at) (get_cases names name other j there) where
@@ -141,10 +122,6 @@ once_push names name once new i j other at there = by (get_cases names name othe
   by (inl a) (inr b) = absurd (among i a b.1)
   by (inr a) (inl b) = absurd (among j b a.1)
   by (inr a) (inr b) = a.0 ∙ sym b.0
-
--- no names yet
-pub names_none : (most : ℕ) → AreNames most []
-names_none most = record { each = λ k d lt. absurd (omega arith); once = λ i j name at. absurd (cc); few = omega arith }
 
 room_left : (most : ℕ) (names : List (List ℕ)) (name : List ℕ) → is_among names name ≡ false → has_number most names name ≡ true → length names < most
 room_left most names name new room =
@@ -165,13 +142,8 @@ names_more most names new name are word fresh room grows =
       list,
     )
 
-texts_around : (texts : List (Bor (List ℕ))) (i : ℕ) → i < length texts → texts_at texts ≡ texts_at (take i texts) ++ (get_or texts i nowhere).now ∷ texts_at (drop (i + 1) texts)
-texts_around texts i lt =
-    ap texts_at (sym (take-append-drop i texts)) ∙ map-append (λ (x : Bor (List ℕ)). x.now) (take i texts) (drop i texts)
-    ∙ ap (λ (l : List (Bor (List ℕ))). texts_at (take i texts) ++ texts_at l) (drop_more texts i nowhere lt)
-
 pub texts_more : (texts : List (Bor (List ℕ))) (i : ℕ) → i < length texts → texts_at (take (i + 1) texts) ≡ texts_at (take i texts) ++ (get_or texts i nowhere).now ∷ []
-texts_more texts i lt = ap texts_at (take_more texts i nowhere lt) ∙ map-append (λ (x : Bor (List ℕ)). x.now) (take i texts) (get_or texts i nowhere ∷ [])
+texts_more texts i lt = ap texts_at (take_more texts i nowhere lt) ∙ map_push (λ (x : Bor (List ℕ)). x.now) (take i texts) (get_or texts i nowhere)
 
 -- a line that is no name
 pub no_name : (most : ℕ) (names : List (List ℕ)) (texts : List (Bor (List ℕ))) (i : ℕ) (refused : NameRefused) → i < length texts → names ≡ texts_at (take i texts) → AreNames most names
@@ -184,7 +156,7 @@ no_name most names texts i refused lt front are number form =
       names = names;
       line = text;
       behind = behind;
-      parts = texts_around texts i lt ∙ ap (λ (l : List (List ℕ)). l ++ text ∷ behind) (sym front);
+      parts = map_around (λ (x : Bor (List ℕ)). x.now) texts i nowhere lt ∙ ap (λ (l : List (List ℕ)). l ++ text ∷ behind) (sym front);
       before = are;
       number = omega (arith, number, count);
       form = form;

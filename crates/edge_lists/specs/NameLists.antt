@@ -1,5 +1,5 @@
 -- Names in the order of their numbers, and how they grow.
-use Rattle.std.specs.Prelude.{◌≡◌, ◌≤◌, ◌<◌, ◌+◌, ◌^◌, ◌⊎◌, ◌||◌, ℕ, List, [], ◌∷◌, ◌++◌, Bool, true, false, All, Option, Some, cond, length, nat_lt}
+use Rattle.std.specs.Prelude.{◌≡◌, ◌≤◌, ◌+◌, ◌⊎◌, ◌||◌, ℕ, List, [], ◌∷◌, ◌++◌, Bool, true, false, All, Some, cond, length, nat_lt}
 use Rattle.std.specs.List.{flat_map, list_any, slice_get}
 use Rattle.std.specs.Str.{bytes_eq}
 use Rattle.edge_lists.specs.declared.edge.Edge.{Edge}
@@ -19,12 +19,6 @@ IsNumberOf names name number = slice_get names number ≡ Some name
 -- no name stands at two places
 abbrev pub NoneTwice : List (List ℕ) → Type 0
 NoneTwice names = (i j : ℕ) (name : List ℕ) → IsNumberOf names name i → IsNumberOf names name j → i ≡ j
-
--- a map that finds just these names, each with its number, of which each fits two bytes
-pub record IsIndexOf (names : List (List ℕ)) (find : List ℕ → Option ℕ) : Type 0 where
-  pub found : (name : List ℕ) (number : ℕ) → find name ≡ Some number → IsNumberOf names name number
-  pub all : (name : List ℕ) (number : ℕ) → IsNumberOf names name number → find name ≡ Some number
-  pub few : length names < 2 ^ 16
 
 -- ---- names that come
 

@@ -13,8 +13,8 @@ use crate::edge::Edge;
 use crate::name::is_name;
 use crate::refused::{NameForm, NameRefused};
 use crate::row::Row;
+use indexmap::IndexSet;
 use std::alloc::{AllocError, Global};
-use std::collections::HashMap;
 use std::marker::Model;
 use written_values::lines_in;
 
@@ -22,22 +22,18 @@ use written_values::lines_in;
 /// the list of them.
 #[derive(Drop)]
 pub struct Names<'a> {
-    list: Vec<&'a str>,
-    numbers: HashMap<&'a str, u16>,
+    set: IndexSet<&'a str>,
 }
 
 impl<'a> Model for Names<'a> {
-    ghost use Rattle.std.specs.Prelude.{List, ℕ};
+    ghost use Rattle.std.specs.Prelude.{◌<◌, ◌^◌, List, ℕ, length};
     ghost use Rattle.written_values.specs.Reading.{texts_of};
-    ghost use Rattle.std.specs.HashMap.{get_by};
-    ghost use Rattle.std.specs.Str.{bytes_eq};
-    ghost use Rattle.edge_lists.specs.NameLists.{IsIndexOf};
 
     ghost Value = { List (List ℕ) };
 
-    ghost view = { λ names. texts_of names.list.items };
+    ghost view = { λ names. texts_of names.set.keys };
 
-    ghost invariant = { λ names. IsIndexOf (texts_of names.list.items) (λ name. get_by (λ key. bytes_eq name key.now) names.numbers) };
+    ghost invariant = { λ names. length names.set.keys < 2 ^ 16 };
 }
 
 // Adds a line.
@@ -54,8 +50,7 @@ impl<'a> Names<'a> {
         ensures { result ≡ [] }
     {
         Names {
-            list: Vec::new(alloc),
-            numbers: HashMap::new(alloc),
+            set: IndexSet::new(alloc),
         }
     }
 
@@ -63,14 +58,14 @@ impl<'a> Names<'a> {
     fn has(&self, name: &str) -> bool
         ensures { result ≡ is_among self.now name.now }
     {
-        self.numbers.contains_key(name)
+        self.set.contains(name)
     }
 
     // How many there are.
     fn len(&self) -> usize
         ensures { result ≡ length self.now }
     {
-        self.list.len()
+        self.set.len()
     }
 
     // The number of a name that is one of them.
@@ -78,7 +73,10 @@ impl<'a> Names<'a> {
         ensures number { IfSome result (λ number. IsNumberOf self.now name.now number) }
         ensures some { is_some result ≡ is_among self.now name.now }
     {
-        self.numbers.get(name).copied()
+        match self.set.get_index_of(name) {
+            Some(place) => Some(place as u16),
+            None => None,
+        }
     }
 
     // Puts a new name at the end.
@@ -89,10 +87,8 @@ impl<'a> Names<'a> {
         ensures ok { OnOk result (self.new ≡ self.old ++ name.entry.now ∷ []) }
         ensures err { OnErr result (self.new ≡ self.old) }
     {
-        let number = self.list.len() as u16;
-        self.list.reserve(1)?;
-        self.numbers.insert(name, number)?;
-        self.list.push_reserved(name);
+        let number = self.set.len() as u16;
+        self.set.insert(name)?;
         Ok(number)
     }
 
@@ -218,7 +214,7 @@ impl<'a> Names<'a> {
         ensures once { NoneTwice self.now }
         ensures few { length self.now < 2 ^ 16 }
     {
-        self.list.as_slice()
+        self.set.as_slice()
     }
 
     /// A line for each name, in the order of their numbers: what [`Names::read`] reads.
@@ -228,7 +224,8 @@ impl<'a> Names<'a> {
             → AreListed most (string_bytes text) self.now) }
     {
         let mut text = String::new(alloc);
-        for name in &self.list {
+        let names = self.list();
+        for name in names {
             push_line(&mut text, *name)?;
         }
         Ok(text)

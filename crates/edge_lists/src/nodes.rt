@@ -126,8 +126,5 @@ fn remarks<'a>(alloc: Global, texts: &[&'a str]) -> Result<Vec<&'a str>, AllocEr
 fn remark<'a>(text: &'a str) -> Option<&'a str>
     ensures { option_map (λ name. name.now) result ≡ remarked text.entry.now }
 {
-    match text.strip_prefix('#') {
-        Some(rest) => rest.strip_prefix(' '),
-        None => None,
-    }
+    text.strip_prefix("# ")
 }

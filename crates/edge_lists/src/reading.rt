@@ -1,8 +1,8 @@
 // Reading edges.
-ghost use Rattle.std.specs.Prelude.{◌≡◌, ◌+◌, ◌<◌, ◌^◌, ℕ, IfOk, None, length, map};
+ghost use Rattle.std.specs.Prelude.{◌≡◌, ◌+◌, ◌<◌, ◌^◌, ◌∷◌, ℕ, IfOk, None, length, map};
 ghost use Rattle.written_values.specs.Reading.{IfRead, texts_of};
 ghost use Rattle.edge_lists.specs.Reading.{IfAccepted, IfNoneRead, IfRefused};
-ghost use Rattle.edge_lists.specs.Rows.{IsEdgeRead, IsFirstRefused, IsNoRow, IsReadAs, IsRowOf, IsWeight, Say, comma_fields_in, row_of, scale_of};
+ghost use Rattle.edge_lists.specs.Rows.{IsEdgeRead, IsFirstRefused, IsReadAs, IsWeight, Say, comma_fields_in, row_of, scale_of};
 ghost use Rattle.edge_lists.specs.Written.{IsRefusedAt, SaysEdges};
 
 use crate::forms::{Writing, is_nothing, scale_of, word_fields};
@@ -113,18 +113,21 @@ fn read_fields(
 ) -> Result<Read, AllocError>
     ensures { IfOk result (λ read. IsEdgeRead (scale_of writing) line (texts_of fields.now) read) }
 {
-    match row_in(alloc, line, fields, form_in(writing), scale_of(writing))? {
-        Ok(row) => Ok(Read::Row(row)),
-        Err(form) => Ok(Read::Refused(form)),
-    }
+    let Some((a, behind)) = first_of(fields) else {
+        return Ok(Read::Refused(form_in(writing)));
+    };
+    let Some((b, rest)) = first_of(behind) else {
+        return Ok(Read::Refused(form_in(writing)));
+    };
+    read_ends(alloc, writing, line, a, b, rest)
 }
 
-// What a line of a form should have been, where so many fields behind its two ends say no weight.
+// What a line should have been, where so many fields behind its two ends say no weight.
 fn form_of(fields: usize, form: Form) -> Form {
     if fields > 1 { form } else { Form::Weight }
 }
 
-// What a line of a form should have been, where one of its ends is no name.
+// What a line should have been, where one of its ends is no name.
 fn form_of_ends(a: &str, b: &str, form: Form) -> Form {
     if a.is_empty() || b.is_empty() {
         form
@@ -133,33 +136,26 @@ fn form_of_ends(a: &str, b: &str, form: Form) -> Form {
     }
 }
 
-// The row of a line with these fields.
-fn row_in(
+// What a line of these ends, and these fields behind them, is.
+fn read_ends(
     alloc: Global,
+    writing: Writing,
     line: usize,
-    fields: &[&str],
-    form: Form,
-    scale: Option<u32>,
-) -> Result<Result<Row, Form>, AllocError>
-    ensures row { IfAccepted result (λ row. IsRowOf scale line (texts_of fields.now) (row_of row)) }
-    ensures none { IfRefused result (λ _. IsNoRow scale (texts_of fields.now)) }
+    a: &str,
+    b: &str,
+    rest: &[&str],
+) -> Result<Read, AllocError>
+    ensures { IfOk result (λ read. IsEdgeRead (scale_of writing) line (a.now ∷ b.now ∷ texts_of rest.now) read) }
 {
-    let Some((a, behind)) = first_of(fields) else {
-        return Ok(Err(form));
-    };
-    let Some((b, rest)) = first_of(behind) else {
-        return Ok(Err(form));
-    };
-    let weight = match weight_in(alloc, scale, rest)? {
-        Some(weight) => weight,
-        None => return Ok(Err(form_of(rest.len(), form))),
+    let Some(weight) = weight_in(alloc, scale_of(writing), rest)? else {
+        return Ok(Read::Refused(form_of(rest.len(), form_in(writing))));
     };
     if !is_name(a) || !is_name(b) {
-        return Ok(Err(form_of_ends(a, b, form)));
+        return Ok(Read::Refused(form_of_ends(a, b, form_in(writing))));
     }
     let a = String::from_str(alloc, a)?;
     let b = String::from_str(alloc, b)?;
-    Ok(Ok(Row { line, a, b, weight }))
+    Ok(Read::Row(Row { line, a, b, weight }))
 }
 
 // The weight that stands behind the ends, 1 where nothing does.

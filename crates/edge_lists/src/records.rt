@@ -1,9 +1,9 @@
 // Lines with commas, as records of CSV.
-ghost use Rattle.std.specs.Prelude.{◌≡◌, ℕ, List, IfOk, OnOk, map};
+ghost use Rattle.std.specs.Prelude.{◌≡◌, ◌&&◌, ℕ, List, IfOk, map, not};
 ghost use Rattle.std.specs.List.{list_any};
 ghost use Rattle.std.specs.Option.{option_map};
 ghost use Rattle.csv.specs.Reading.{strip_bom};
-ghost use Rattle.csv.specs.Records.{fields_of as record_fields, trimmed};
+ghost use Rattle.csv.specs.Records.{field_at, fields_of as record_fields, trimmed};
 ghost use Rattle.csv.specs.declared.parser.State.{State};
 ghost use Rattle.csv.specs.declared.parser.State.TheVariants.{StartRecord};
 ghost use Rattle.written_values.specs.Reading.{texts_of};
@@ -40,6 +40,13 @@ fn next_of(reader: &mut Reader<&[u8]>, row: &mut ByteRecord) -> Result<bool, All
     }
 }
 
+// Whether of three readings the last alone found nothing.
+fn is_one(first: bool, second: bool, third: bool) -> bool
+    ensures { result ≡ (first && second && not third) }
+{
+    first && second && !third
+}
+
 // The record that a line is; no field where it isn't just one.
 fn raw_record(alloc: Global, text: &str) -> Result<ByteRecord, AllocError>
     ensures { IfOk result (λ row. record_fields row ≡ raw_fields text.now) }
@@ -48,16 +55,13 @@ fn raw_record(alloc: Global, text: &str) -> Result<ByteRecord, AllocError>
     let mut reader = reader_of(alloc, lines.as_bytes());
     let mut record = ByteRecord::new(alloc);
     let mut behind = ByteRecord::new(alloc);
-    if !next_of(&mut reader, &mut record)? {
-        return Ok(ByteRecord::new(alloc));
+    let first = next_of(&mut reader, &mut record)?;
+    let second = next_of(&mut reader, &mut behind)?;
+    let third = next_of(&mut reader, &mut behind)?;
+    if is_one(first, second, third) {
+        return Ok(record);
     }
-    if !next_of(&mut reader, &mut behind)? {
-        return Ok(ByteRecord::new(alloc));
-    }
-    if next_of(&mut reader, &mut behind)? {
-        return Ok(ByteRecord::new(alloc));
-    }
-    Ok(record)
+    Ok(ByteRecord::new(alloc))
 }
 
 // Whether a quotation mark stands first in a field that is there.
@@ -70,13 +74,21 @@ fn begins_quote(field: Option<&[u8]>) -> bool
     }
 }
 
-// Whether a blank stands before the quotation mark of a field; the second record is the first without blanks.
+// Whether a blank stands before the quotation mark of that field; the second record is the first without blanks.
+fn hides_at(raw: &ByteRecord, bare: &ByteRecord, index: usize) -> bool
+    requires { record_fields bare.now ≡ map trimmed (record_fields raw.now) }
+    ensures { result ≡ (quote_first (field_at (map trimmed (record_fields raw.now)) index) && not (quote_first (field_at (record_fields raw.now) index))) }
+{
+    begins_quote(bare.get(index)) && !begins_quote(raw.get(index))
+}
+
+// The same of a field.
 fn is_hiding(raw: &ByteRecord, bare: &ByteRecord) -> bool
     requires { record_fields bare.now ≡ map trimmed (record_fields raw.now) }
     ensures { result ≡ list_any hides_quote (record_fields raw.now) }
 {
     for index in 0..raw.len() {
-        if begins_quote(bare.get(index)) && !begins_quote(raw.get(index)) {
+        if hides_at(raw, bare, index) {
             return true;
         }
     }

@@ -1,10 +1,7 @@
 -- What the program does.
-use Rattle.std.specs.Prelude.{◌≡◌, ◌⊎◌, ℕ, List, Option, Some, codes, option_map, slice_get}
+use Rattle.std.specs.Prelude.{◌≡◌, ◌⊎◌, ℕ, List, Option, Some, codes, slice_get}
 use Rattle.std.specs.Borrow.{Bor}
-use Rattle.clap.specs.Simple.{subcommand_rows_of}
 use Rattle.clap.specs.Walk.{Row, Text}
-use Rattle.clap.specs.Words.{subcommand_name_of}
-use Rattle.clap.specs.declared.parser.matches.ArgMatches.{ArgMatches}
 use Rattle.command_output.specs.Printing.{Known}
 use Rattle.device_stops.specs.declared.watched.Watched.{Watched}
 use Rattle.disk_trait.specs.declared.disk.Disk.{Ghosts}
@@ -45,15 +42,11 @@ DoesChanging model held closed stands name rows contents old new =
     ((name ≡ codes "import") × DoesImport model held closed rows contents old new)
     ⊎ ((name ≡ codes "edit") × DoesEdit model held closed stands rows contents old new)
 
--- the matches name this command, with these words
-abbrev pub IsCommand : ArgMatches → Text → List Row → Type 0
-IsCommand found name rows = (subcommand_name_of found ≡ Some name) × (option_map (λ p. p.1) (subcommand_rows_of found) ≡ Some rows)
-
--- The command that the matches name did what its words ask for: on a device that was opened to read it, on one that was had to change it, or
--- by a file that was read. What `time` prints is a clock's.
+-- The command that the words name did what the texts of its arguments ask for: on a device that was opened to read it, on one that was had
+-- to change it, or by a file that was read. What `time` prints is a clock's.
 abbrev pub Does : Ghosts MemDisk → Ghosts Watched → {D : Type 0} → Ghosts D → (Text → D → Type 0) → (Text → D → Type 0) → (D → Type 0)
-    → (Text → Option Text → Type 0) → ArgMatches → {W : Type 0} → (W → Known) → W → W → Type 0
-Does memory watched model opened held closed stands found contents old new = (name : Text) × (rows : List Row) × IsCommand found name rows
+    → (Text → Option Text → Type 0) → Option (Text × List Row) → {W : Type 0} → (W → Known) → W → W → Type 0
+Does memory watched model opened held closed stands command contents old new = (name : Text) × (rows : List Row) × (command ≡ Some (name, rows))
     × (DoesReading model opened closed stands name rows contents old new
     ⊎ DoesChanging model held closed stands name rows contents old new
     ⊎ ((name ≡ codes "rehearse") × DoesRehearse memory watched stands rows contents old new)

@@ -21,14 +21,18 @@
 //! an edge or a name is refused, a file or a device can't be used, the output can't be written or memory ran out.
 //!
 //! The contract that the program uses (`Does` of `specs/Commands`), over any place of devices and files: with status 0 the words ask for help,
-//! or the command that clap's matches name did what they ask for. So what was printed is the text of its library's call, of the device that was
-//! opened by the path among them and given back, or of the file that was read there. With status 2 nothing was printed. That the matches are
-//! those of the words is clap's. `time` promises its status alone: what a clock says no contract knows.
+//! or the command that they name did what they ask for. Which command that is, and which texts its arguments have, follows from the words and
+//! the grammar (`program` of `specs/Grammar`) by clap's own account of a parse. So what was printed is the text of its library's call, of the
+//! device that was opened by the path among the words and given back, or of the file that was read there. With status 2 nothing was printed.
+//! `time` promises its status alone: what a clock says no contract knows.
 #![tactic(auto)]
 
-ghost use Rattle.std.specs.Prelude.{◌≡◌, ◌⊎◌, ◌≤◌, IfErr, IsOk, IsTrue};
-ghost use Rattle.clap.specs.declared.parser.matches.ArgMatches.{ArgMatches};
+ghost use Rattle.std.specs.Prelude.{◌≡◌, ◌⊎◌, ◌≤◌, IfErr, IfOk, IsOk, IsTrue};
+ghost use Rattle.clap.specs.Simple.{App, subcommand_of, subcommand_rows_of, with_subcommand};
+ghost use Rattle.clap.specs.Walk.{texts};
+ghost use Rattle.lab_parts.specs.Grammar.{IsCommandOf};
 ghost use Rattle.lab_commands.specs.Commands.{AskHelp, Does, IsHelp};
+ghost use Rattle.lab_commands.specs.Grammar.{program};
 
 use clap::{ArgMatches, Command};
 use device_stops::Watched;
@@ -53,8 +57,8 @@ where
     E: Write + IsTerminal,
     ensures few { result ≤ 2 }
     // 0 only where the command's text or clap's was printed, and 2 only where nothing was.
-    ensures printed { result ≡ 0 → AskHelp words.now ⊎ ((found : ArgMatches) × Does ⟦<MemDisk as Disk>⟧ ⟦<Watched as Disk>⟧
-        R.Device.Disk R.opened R.held R.closed R.stands found O.contents out.old out.new) }
+    ensures printed { result ≡ 0 → AskHelp words.now ⊎ Does ⟦<MemDisk as Disk>⟧ ⟦<Watched as Disk>⟧
+        R.Device.Disk R.opened R.held R.closed R.stands (subcommand_of program (texts words.now)) O.contents out.old out.new }
     ensures untouched { result ≡ 2 → out.new ≡ out.old }
 {
     match parsed(rt.alloc(), words, out, err) {
@@ -71,7 +75,7 @@ where
     E: Write + IsTerminal,
     ensures few { result ≤ 2 }
     ensures printed { result ≡ 0 → Does ⟦<MemDisk as Disk>⟧ ⟦<Watched as Disk>⟧
-        R.Device.Disk R.opened R.held R.closed R.stands found.now O.contents out.old out.new }
+        R.Device.Disk R.opened R.held R.closed R.stands (subcommand_rows_of found.now) O.contents out.old out.new }
     ensures untouched { result ≡ 2 → out.new ≡ out.old }
 {
     match found.subcommand() {
@@ -91,7 +95,9 @@ where
 }
 
 // The whole grammar.
-fn grammar<'a>(alloc: Global) -> Result<Command<'a>, AllocError> {
+fn grammar<'a>(alloc: Global) -> Result<Command<'a>, AllocError>
+    ensures { IfOk result (λ command. IsCommandOf command program) }
+{
     let whole = Command::new(alloc, "tzlab")
         .about("Tries out a network with small routing tables")
         .no_binary_name(true)
@@ -113,7 +119,10 @@ fn grammar<'a>(alloc: Global) -> Result<Command<'a>, AllocError> {
 fn with_command<'a>(
     whole: Command<'a>,
     below: Result<Command<'a>, AllocError>,
-) -> Result<Command<'a>, AllocError> {
+) -> Result<Command<'a>, AllocError>
+    ensures { (app added : App) → IsCommandOf whole.entry app → IfOk below.entry (λ command. IsCommandOf command added)
+        → IfOk result (λ command. IsCommandOf command (with_subcommand app added.top)) }
+{
     whole.subcommand(below?)
 }
 
@@ -125,6 +134,7 @@ fn parsed<'a, O: Write, E: Write>(
     err: &mut E,
 ) -> Result<ArgMatches<'a>, u8>
     ensures few { IfErr result (λ status. status ≤ 2) }
+    ensures found { IfOk result (λ found. subcommand_rows_of found ≡ subcommand_of program (texts words.entry.now)) }
     ensures help { IfErr result (λ status. status ≡ 0 → AskHelp words.entry.now) }
     ensures untouched { IfErr result (λ status. status ≡ 2 → out.new ≡ out.old) }
     ensures unprinted { IsOk result → out.new ≡ out.old }

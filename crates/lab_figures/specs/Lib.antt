@@ -1,3 +1,4 @@
 pub mod Info
 pub mod Stats
 pub mod Recent
+pub mod Words

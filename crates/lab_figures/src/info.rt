@@ -1,8 +1,10 @@
 //! The command `info`.
 ghost use Rattle.std.specs.Prelude.{◌≡◌, ◌≢◌, ◌≤◌, IfErr, IfOk, OnOk};
 ghost use Rattle.std.specs.String.{string_bytes};
+ghost use Rattle.lab_parts.specs.Grammar.{IsCommandOf};
 ghost use Rattle.lab_parts.specs.Words.{rows_in};
 ghost use Rattle.lab_figures.specs.Info.{DoesInfo, IsInfoRefused, PrintsInfo, text_of_info};
+ghost use Rattle.lab_figures.specs.Words.{info_app};
 
 use crate::refused::FiguresRefused;
 use clap::{ArgMatches, Command};
@@ -14,7 +16,9 @@ use std::alloc::{AllocError, Global};
 use std::io::Write;
 
 /// Its grammar.
-pub fn grammar<'a>(alloc: Global) -> Result<Command<'a>, AllocError> {
+pub fn grammar<'a>(alloc: Global) -> Result<Command<'a>, AllocError>
+    ensures { IfOk result (λ command. IsCommandOf command info_app) }
+{
     command(
         alloc,
         "info",

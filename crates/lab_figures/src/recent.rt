@@ -1,7 +1,9 @@
 //! The command `journal`.
-ghost use Rattle.std.specs.Prelude.{◌≡◌, ◌≢◌, ◌≤◌, IfErr, OnOk};
+ghost use Rattle.std.specs.Prelude.{◌≡◌, ◌≢◌, ◌≤◌, IfErr, IfOk, OnOk};
 ghost use Rattle.lab_figures.specs.Info.{IsInfoRefused};
 ghost use Rattle.lab_figures.specs.Recent.{DoesJournal, PrintsChanges};
+ghost use Rattle.lab_figures.specs.Words.{journal_app};
+ghost use Rattle.lab_parts.specs.Grammar.{IsCommandOf};
 ghost use Rattle.lab_parts.specs.Words.{rows_in};
 
 use crate::refused::FiguresRefused;
@@ -16,7 +18,9 @@ use std::alloc::{AllocError, Global};
 use std::io::Write;
 
 /// Its grammar.
-pub fn grammar<'a>(alloc: Global) -> Result<Command<'a>, AllocError> {
+pub fn grammar<'a>(alloc: Global) -> Result<Command<'a>, AllocError>
+    ensures { IfOk result (λ command. IsCommandOf command journal_app) }
+{
     command(
         alloc,
         "journal",

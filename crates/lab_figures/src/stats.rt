@@ -1,10 +1,12 @@
 //! The command `stats`.
 ghost use Rattle.std.specs.Prelude.{◌≡◌, ◌≢◌, ◌≤◌, IfErr, IfOk, IfSome, OnOk, map};
 ghost use Rattle.figure_lines.specs.Figures.{said};
+ghost use Rattle.lab_parts.specs.Grammar.{IsCommandOf};
 ghost use Rattle.lab_parts.specs.Words.{rows_in};
 ghost use Rattle.written_values.specs.Words.{IsWithin};
 ghost use Rattle.schemes.specs.Checks.{IsChecked};
 ghost use Rattle.lab_figures.specs.Stats.{AreFiguresOf, AreMeasuredOf, AreRowsOf, AreStatsOf, DoesStats, IsAsked, IsLayout, IsStatsRefused, IsTextOf, PrintsStats, rows_text, text_in};
+ghost use Rattle.lab_figures.specs.Words.{stats_app};
 
 use crate::refused::FiguresRefused;
 use clap::{ArgMatches, Command};
@@ -50,7 +52,9 @@ pub enum Layout {
 }
 
 /// Its grammar.
-pub fn grammar<'a>(alloc: Global) -> Result<Command<'a>, AllocError> {
+pub fn grammar<'a>(alloc: Global) -> Result<Command<'a>, AllocError>
+    ensures { IfOk result (λ command. IsCommandOf command stats_app) }
+{
     command(
         alloc,
         "stats",

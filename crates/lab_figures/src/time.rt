@@ -1,5 +1,7 @@
 //! The command `time`: how long builds, checks, searches, packets, openings and commits take.
-ghost use Rattle.std.specs.Prelude.{◌≡◌, ◌≤◌};
+ghost use Rattle.std.specs.Prelude.{◌≡◌, ◌≤◌, IfOk};
+ghost use Rattle.lab_parts.specs.Grammar.{IsCommandOf};
+ghost use Rattle.lab_figures.specs.Words.{time_app};
 
 use crate::commits::time_commits;
 use crate::forwarder::forwarder_with;
@@ -37,7 +39,9 @@ struct Asked<'a> {
 }
 
 /// Its grammar.
-pub fn grammar<'a>(alloc: Global) -> Result<Command<'a>, AllocError> {
+pub fn grammar<'a>(alloc: Global) -> Result<Command<'a>, AllocError>
+    ensures { IfOk result (λ command. IsCommandOf command time_app) }
+{
     command(
         alloc,
         "time",

@@ -2,3 +2,4 @@ pub mod Reports
 pub mod Lines
 pub mod Answers
 pub mod Asked
+pub mod Words

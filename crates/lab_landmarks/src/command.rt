@@ -2,6 +2,8 @@
 ghost use Rattle.std.specs.Prelude.{◌≡◌, ◌≤◌, IfOk, IfSome, decimal, option_map};
 ghost use Rattle.clap.specs.Walk.{first_of};
 ghost use Rattle.lab_landmarks.specs.Asked.{DoesLandmarks, IsStart, IsWanted};
+ghost use Rattle.lab_landmarks.specs.Words.{landmarks_app};
+ghost use Rattle.lab_parts.specs.Grammar.{IsCommandOf};
 ghost use Rattle.lab_parts.specs.Words.{rows_in};
 ghost use Rattle.written_values.specs.Reading.{IfRead};
 
@@ -19,7 +21,9 @@ use std::sync::Wait;
 use std::thread::Threads;
 
 /// Its grammar.
-pub fn grammar<'a>(alloc: Global) -> Result<Command<'a>, AllocError> {
+pub fn grammar<'a>(alloc: Global) -> Result<Command<'a>, AllocError>
+    ensures { IfOk result (λ command. IsCommandOf command landmarks_app) }
+{
     command(
         alloc,
         "landmarks",

@@ -1,3 +1,4 @@
 pub mod Edits
 pub mod Routes
 pub mod Shown
+pub mod Words

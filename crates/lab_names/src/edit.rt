@@ -2,19 +2,20 @@
 ghost use Rattle.std.specs.Prelude.{◌≡◌, ◌≤◌, ◌<◌, IfErr, IfOk, IfSome, codes, decimal, option_map};
 ghost use Rattle.clap.specs.Walk.{first_of};
 ghost use Rattle.lab_names.specs.Shown.{DoesEdit, PrintsEdit};
+ghost use Rattle.lab_names.specs.Words.{edit_app};
 ghost use Rattle.lab_parts.specs.Devices.{IsRefusal};
+ghost use Rattle.lab_parts.specs.Grammar.{IsCommandOf};
 ghost use Rattle.lab_parts.specs.Words.{IsUsual, rows_in};
 ghost use Rattle.requests.specs.Tickets.{sessions};
 
 use crate::editing::edit_named;
-use crate::words::many;
 use clap::{ArgMatches, Command};
 use command_output::{Ended, Fault};
 use disk_trait::Disk;
 use lab_networks::names_beside;
 use lab_parts::{
-    Places, Sources, all_given, command, fault_of, given, loaded_of, optional, told, told_memory,
-    told_of, usual, value, word,
+    Places, Sources, all_given, command, fault_of, given, loaded_of, many, optional, told,
+    told_memory, told_of, usual, value, word,
 };
 use requests::{SESSIONS, WORN_LIMIT};
 use std::alloc::{AllocError, Global};
@@ -25,7 +26,9 @@ use std::sync::Wait;
 use std::thread::Threads;
 
 /// Its grammar.
-pub fn grammar<'a>(alloc: Global) -> Result<Command<'a>, AllocError> {
+pub fn grammar<'a>(alloc: Global) -> Result<Command<'a>, AllocError>
+    ensures { IfOk result (λ command. IsCommandOf command edit_app) }
+{
     let about = "Makes one change of a device, all operations or none";
     let said = [
         word("device", "DEVICE", "The file of a device"),
@@ -39,10 +42,13 @@ pub fn grammar<'a>(alloc: Global) -> Result<Command<'a>, AllocError> {
             "T",
             "The ticket; the next one where it is left out",
         ),
+        many(
+            "ops",
+            "OP",
+            "add:A:B:W, set:A:B:W or cut:A:B; a node is a name, or #5; a name with a colon stands in quotation marks",
+        ),
     ];
-    let help =
-        "add:A:B:W, set:A:B:W or cut:A:B; a node is a name, or #5; a name with a colon stands in quotation marks";
-    command(alloc, "edit", about, &said)?.arg(many(alloc, "ops", "OP", help))
+    command(alloc, "edit", about, &said)
 }
 
 // What is asked for.

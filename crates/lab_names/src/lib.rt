@@ -25,7 +25,6 @@ mod refused;
 pub mod route;
 pub mod show;
 mod ways;
-mod words;
 
 pub use editing::edit_named;
 pub use listing::show_graph;

@@ -1,30 +1,39 @@
 //! The command `route`.
 ghost use Rattle.std.specs.Prelude.{◌≡◌, ◌≤◌, IfErr, IfOk};
 ghost use Rattle.lab_names.specs.Shown.{DoesRoute, PrintsRoutes};
+ghost use Rattle.lab_names.specs.Words.{route_app};
 ghost use Rattle.lab_parts.specs.Devices.{IsRefusal};
+ghost use Rattle.lab_parts.specs.Grammar.{IsCommandOf};
 ghost use Rattle.lab_parts.specs.Words.{rows_in};
 
 use crate::ways::route_named;
-use crate::words::many;
 use clap::{ArgMatches, Command};
 use command_output::{Ended, Fault};
 use disk_trait::Disk;
 use lab_networks::names_beside;
 use lab_parts::{
-    Sources, all_given, command, device, fault_of, given, landmarks, landmarks_in, loaded_of, told,
-    told_memory, told_of,
+    Sources, all_given, command, device, fault_of, given, landmarks, landmarks_in, loaded_of, many,
+    told, told_memory, told_of,
 };
 use std::alloc::{AllocError, Global};
 use std::io::Write;
 use written_values::LandmarkWords;
 
 /// Its grammar.
-pub fn grammar<'a>(alloc: Global) -> Result<Command<'a>, AllocError> {
+pub fn grammar<'a>(alloc: Global) -> Result<Command<'a>, AllocError>
+    ensures { IfOk result (λ command. IsCommandOf command route_app) }
+{
     let about = "Prints the way of a packet, a line for each two nodes";
-    let help = "A node that sends, and one that it sends to, so for each packet: a name, or #5";
-    command(alloc, "route", about, &[device(), landmarks()])?.arg(many(
-        alloc, "nodes", "NODE", help,
-    ))
+    let said = [
+        device(),
+        landmarks(),
+        many(
+            "nodes",
+            "NODE",
+            "A node that sends, and one that it sends to, so for each packet: a name, or #5",
+        ),
+    ];
+    command(alloc, "route", about, &said)
 }
 
 // What is asked for.

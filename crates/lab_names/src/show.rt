@@ -1,7 +1,9 @@
 //! The command `show`.
-ghost use Rattle.std.specs.Prelude.{◌≡◌, ◌≤◌, IfErr, OnOk};
+ghost use Rattle.std.specs.Prelude.{◌≡◌, ◌≤◌, IfErr, IfOk, OnOk};
 ghost use Rattle.lab_names.specs.Shown.{DoesShow, PrintsListing};
+ghost use Rattle.lab_names.specs.Words.{show_app};
 ghost use Rattle.lab_parts.specs.Devices.{IsRefusal};
+ghost use Rattle.lab_parts.specs.Grammar.{IsCommandOf};
 ghost use Rattle.lab_parts.specs.Words.{rows_in};
 
 use crate::listing::show_graph;
@@ -13,7 +15,9 @@ use std::alloc::{AllocError, Global};
 use std::io::Write;
 
 /// Its grammar.
-pub fn grammar<'a>(alloc: Global) -> Result<Command<'a>, AllocError> {
+pub fn grammar<'a>(alloc: Global) -> Result<Command<'a>, AllocError>
+    ensures { IfOk result (λ command. IsCommandOf command show_app) }
+{
     command(
         alloc,
         "show",

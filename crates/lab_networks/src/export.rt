@@ -2,7 +2,9 @@
 ghost use Rattle.std.specs.Prelude.{◌≡◌, ◌≢◌, ◌≤◌, IfErr, IfOk, IfSome, IsTrue, None, OnOk, Some, codes, option_map};
 ghost use Rattle.clap.specs.Walk.{first_of};
 ghost use Rattle.lab_networks.specs.Exports.{DoesExport, IsForm, PrintsCalled, PrintsIn};
+ghost use Rattle.lab_networks.specs.Words.{export_app};
 ghost use Rattle.lab_parts.specs.Devices.{IsRefusal};
+ghost use Rattle.lab_parts.specs.Grammar.{IsCommandOf};
 ghost use Rattle.lab_parts.specs.Words.{rows_in};
 
 use crate::calling::names_beside;
@@ -20,7 +22,9 @@ use std::io::Write;
 use written_values::landmark_words;
 
 /// Its grammar.
-pub fn grammar<'a>(alloc: Global) -> Result<Command<'a>, AllocError> {
+pub fn grammar<'a>(alloc: Global) -> Result<Command<'a>, AllocError>
+    ensures { IfOk result (λ command. IsCommandOf command export_app) }
+{
     command(
         alloc,
         "export",

@@ -3,7 +3,9 @@ ghost use Rattle.std.specs.Prelude.{◌≡◌, ◌≤◌, IfErr, IfOk, IfSome, f
 ghost use Rattle.checkpoint.specs.StoreWords.{is_down, state_of};
 ghost use Rattle.command_output.specs.Printing.{PrintsText};
 ghost use Rattle.lab_networks.specs.Taken.{DoesImport, GivesBackTotals, HasPrinted, IsHad, totals_of};
+ghost use Rattle.lab_networks.specs.Words.{import_app};
 ghost use Rattle.lab_parts.specs.Devices.{IsRefusal};
+ghost use Rattle.lab_parts.specs.Grammar.{IsCommandOf};
 ghost use Rattle.lab_parts.specs.Words.{rows_in};
 
 use crate::beside::{Beside, Kept, NamesFile, called_in, kept_alone, kept_of, settle};
@@ -31,7 +33,9 @@ use std::rt::Files;
 use written_values::number;
 
 /// Its grammar.
-pub fn grammar<'a>(alloc: Global) -> Result<Command<'a>, AllocError> {
+pub fn grammar<'a>(alloc: Global) -> Result<Command<'a>, AllocError>
+    ensures { IfOk result (λ command. IsCommandOf command import_app) }
+{
     command(
         alloc,
         "import",

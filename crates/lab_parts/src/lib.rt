@@ -9,8 +9,9 @@
 //! device was opened by a path, or a text read there, is a fact that the place's calls alone give. By it a command's contract says of what
 //! its text was made (`OfDevice` and `OfFile` of `specs/Devices`). What the words ask for is what [`given`] and its like read (`specs/Words`).
 //!
-//! The contract that the commands use: [`print`] appends exactly the text, or the output failed; and each call that tells something answers
-//! the status that it was given, or 1.
+//! The contract that the commands use: [`command`] gives clap the command of this name with just the words that are listed (`app_with` of
+//! `specs/Grammar`), so each `grammar` says which words its command has; [`print`] appends exactly the text, or the output failed; and each
+//! call that tells something answers the status that it was given, or 1.
 #![tactic(auto)]
 
 mod sources;
@@ -22,6 +23,6 @@ pub use sources::{Places, Sources};
 pub use stores::{fault_of, loaded_of, store_in};
 pub use telling::{PrintRefused, print, told, told_at, told_memory, told_of};
 pub use words::{
-    Said, all_given, command, device, flag, given, is_given, landmarks, landmarks_in, optional,
-    usual, value, word,
+    Said, all_given, command, device, flag, given, is_given, landmarks, landmarks_in, many,
+    optional, usual, value, word,
 };

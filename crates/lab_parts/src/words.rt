@@ -1,7 +1,8 @@
 //! How a command lists its words, and what it is given.
-ghost use Rattle.std.specs.Prelude.{◌≡◌, ◌≤◌, IfSome, codes, decimal, option_map};
-ghost use Rattle.clap.specs.Walk.{all_of, first_of, texts};
+ghost use Rattle.std.specs.Prelude.{◌≡◌, ◌≤◌, IfOk, IfSome, Some, codes, decimal, map, option_map};
+ghost use Rattle.clap.specs.Walk.{all_of, first_of, rule_of, texts};
 ghost use Rattle.written_values.specs.Reading.{IfRead};
+ghost use Rattle.lab_parts.specs.Grammar.{IsArgOf, IsCommandOf, app_with, flag_rule, many_rule, needed_rule, rule_as, rule_for, value_rule, with_shown, word_rule};
 ghost use Rattle.lab_parts.specs.Words.{AreLandmarks, IsFlag, IsUsual, rows_in};
 
 use clap::{Arg, ArgAction, ArgMatches, Command};
@@ -23,6 +24,8 @@ pub struct Said<'a> {
 enum Kind {
     // A word that has to be there.
     Word,
+    // One word or more.
+    Many,
     // An option that takes a value, and has to be there.
     Needed,
     // An option that takes a value.
@@ -31,7 +34,9 @@ enum Kind {
     Flag,
 }
 
-fn of_kind<'a>(kind: Kind, name: &'a str, shown: &'a str, help: &'a str) -> Said<'a> {
+fn of_kind<'a>(kind: Kind, name: &'a str, shown: &'a str, help: &'a str) -> Said<'a>
+    ensures { rule_for result ≡ rule_as kind name.entry.now }
+{
     Said {
         kind,
         name,
@@ -41,27 +46,44 @@ fn of_kind<'a>(kind: Kind, name: &'a str, shown: &'a str, help: &'a str) -> Said
 }
 
 /// A word that has to be there.
-pub fn word<'a>(name: &'a str, shown: &'a str, help: &'a str) -> Said<'a> {
+pub fn word<'a>(name: &'a str, shown: &'a str, help: &'a str) -> Said<'a>
+    ensures { rule_for result ≡ word_rule name.entry.now }
+{
     of_kind(Kind::Word, name, shown, help)
 }
 
+/// One word or more.
+pub fn many<'a>(name: &'a str, shown: &'a str, help: &'a str) -> Said<'a>
+    ensures { rule_for result ≡ many_rule name.entry.now }
+{
+    of_kind(Kind::Many, name, shown, help)
+}
+
 /// An option that takes a value.
-pub fn value<'a>(name: &'a str, shown: &'a str, help: &'a str) -> Said<'a> {
+pub fn value<'a>(name: &'a str, shown: &'a str, help: &'a str) -> Said<'a>
+    ensures { rule_for result ≡ value_rule name.entry.now }
+{
     of_kind(Kind::Value, name, shown, help)
 }
 
 /// An option that takes no value.
-pub fn flag<'a>(name: &'a str, help: &'a str) -> Said<'a> {
+pub fn flag<'a>(name: &'a str, help: &'a str) -> Said<'a>
+    ensures { rule_for result ≡ flag_rule name.entry.now }
+{
     of_kind(Kind::Flag, name, "", help)
 }
 
 /// The device of a command that only reads it.
-pub fn device<'a>() -> Said<'a> {
+pub fn device<'a>() -> Said<'a>
+    ensures { rule_for result ≡ word_rule (codes "device") }
+{
     word("device", "DEVICE", "The file of a device")
 }
 
 /// The landmark words, which have to be there.
-pub fn landmarks<'a>() -> Said<'a> {
+pub fn landmarks<'a>() -> Said<'a>
+    ensures { rule_for result ≡ needed_rule (codes "words") }
+{
     let help = "The landmarks: none, at:2,5 or draw:7";
     of_kind(Kind::Needed, "words", "W", help)
 }
@@ -72,7 +94,9 @@ pub fn command<'a>(
     name: &'a str,
     about: &'a str,
     said: &[Said<'a>],
-) -> Result<Command<'a>, AllocError> {
+) -> Result<Command<'a>, AllocError>
+    ensures { IfOk result (λ command. IsCommandOf command (app_with name.entry.now (map rule_for said.now))) }
+{
     let mut command = Command::new(alloc, name).about(about);
     for said in said {
         command = command.arg(said.as_arg(alloc))?;
@@ -82,10 +106,13 @@ pub fn command<'a>(
 
 impl<'a> Said<'a> {
     /// The word as clap has it.
-    pub fn as_arg(&self, alloc: Global) -> Arg<'a> {
+    pub fn as_arg(&self, alloc: Global) -> Arg<'a>
+        ensures { IsArgOf result (rule_for self.now) }
+    {
         let arg = Arg::new(alloc, self.name).help(self.help);
         match self.kind {
             Kind::Word => taken(arg, self.shown).required(true),
+            Kind::Many => taken(arg, self.shown).required(true).num_args(1..),
             Kind::Needed => taken(arg, self.shown).long(self.name).required(true),
             Kind::Value => taken(arg, self.shown).long(self.name),
             Kind::Flag => arg.long(self.name).action(ArgAction::SetTrue),
@@ -94,7 +121,10 @@ impl<'a> Said<'a> {
 }
 
 // A word that is taken, or the value of an option.
-fn taken<'a>(arg: Arg<'a>, shown: &'a str) -> Arg<'a> {
+fn taken<'a>(arg: Arg<'a>, shown: &'a str) -> Arg<'a>
+    ensures rule { rule_of result ≡ with_shown (record (rule_of arg.entry) { action = Some ArgAction.Set }) }
+    ensures local { result.global ≡ arg.entry.global }
+{
     arg.value_name(shown).action(ArgAction::Set)
 }
 

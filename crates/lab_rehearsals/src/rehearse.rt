@@ -1,8 +1,10 @@
 //! The words of `rehearse`, and its file.
-ghost use Rattle.std.specs.Prelude.{◌≡◌, ◌≤◌};
+ghost use Rattle.std.specs.Prelude.{◌≡◌, ◌≤◌, IfOk};
+ghost use Rattle.lab_parts.specs.Grammar.{IsCommandOf};
 ghost use Rattle.lab_parts.specs.Words.{rows_in};
 ghost use Rattle.written_values.specs.Reading.{IfRead};
 ghost use Rattle.lab_rehearsals.specs.Told.{DoesRehearse, IsAskedFor};
+ghost use Rattle.lab_rehearsals.specs.Words.{rehearse_app};
 
 use crate::told::{Asked, NotRehearsed, rehearse_text};
 use clap::{ArgMatches, Command, value_parser};
@@ -16,7 +18,9 @@ use std::alloc::{AllocError, Global};
 use std::io::{IsTerminal, Write};
 
 /// Its grammar.
-pub fn grammar<'a>(alloc: Global) -> Result<Command<'a>, AllocError> {
+pub fn grammar<'a>(alloc: Global) -> Result<Command<'a>, AllocError>
+    ensures { IfOk result (λ command. IsCommandOf command rehearse_app) }
+{
     let most = value("most", "N", "Tries the first N stops")
         .as_arg(alloc)
         .default_value("4096")

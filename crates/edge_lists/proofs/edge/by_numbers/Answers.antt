@@ -1,10 +1,9 @@
-use Rattle.std.proofs.Common.{arith, ◌≡◌, ◌<◌, ◌∙◌, ap, sym, subst, length, map, get_or, Some, List}
-use Rattle.std.proofs.lemmas.List.{get_or-map, length-map, take-map}
-use Rattle.std.proofs.lemmas.Option.{slice_get-get_or}
+use Rattle.std.proofs.Common.{arith, ◌<◌, sym, subst, length, List}
+use Rattle.std.proofs.lemmas.List.{take-map}
 use Rattle.edge_lists.specs.declared.row.Row.{Row}
 use Rattle.edge_lists.specs.Edges.{AreNumbered, IsEdgeOf, IsNumber, IsNumbered}
 use Rattle.edge_lists.specs.Rows.{Said, row_of}
-use Rattle.edge_lists.proofs.EdgeLemmas.{at_some, on_none, zip_more}
+use Rattle.edge_lists.proofs.EdgeLemmas.{at_place, at_some, on_none, zip_more}
 use Rattle.edge_lists.proofs.edge.by_numbers.Goals as goal
 
 pub returns-in-None-clause-refused : goal.returns-in-None-clause-refused
@@ -13,13 +12,11 @@ returns-in-None-clause-refused c =
     let i = c.loop-place.place in
     let row = c.index-rows-place.result in
     let lt : i < length rows = omega arith in
-    let long : i < length (map row_of rows) = omega (arith, lt, length-map rows row_of) in
-    let here : get_or (map row_of rows) i (row_of row) ≡ row_of row = get_or-map row_of rows i row (row_of row) lt ∙ ap row_of (sym c.index-rows-place.is) in
     record {
       edges = c.loop-place.edges.items;
       before = subst (λ (l : List Said). AreNumbered c.args.first c.args.last l c.loop-place.edges.items) (sym (take-map row_of i rows)) c.loop-place.invariant;
       row = row_of row;
-      at = slice_get-get_or (map row_of rows) i (row_of row) long ∙ ap (λ (s : Said). Some s) here;
+      at = at_place row_of rows i row lt c.index-rows-place.is;
       other = on_none c.in-None.is c.in_ok-edge.ensures.none;
     }
 

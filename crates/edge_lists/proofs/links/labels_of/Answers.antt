@@ -1,12 +1,11 @@
-use Rattle.std.proofs.Common.{arith, ◌≡◌, ◌<◌, ◌++◌, ◌∷◌, [], ◌∙◌, ap, refl, sym, subst, length, map, get_or, Some, List}
+use Rattle.std.proofs.Common.{arith, ◌<◌, refl, sym, subst, length, map, List}
 use Rattle.std.specs.String.{string_bytes}
-use Rattle.std.proofs.lemmas.List.{get_or-map, length-map, map-append, take-map}
-use Rattle.std.proofs.lemmas.Option.{slice_get-get_or}
+use Rattle.std.proofs.lemmas.List.{map_push, take-map}
 use Rattle.serde_json.specs.Data.{Data}
 use Rattle.serde_json.specs.View.{view}
 use Rattle.serde_json.specs.declared.value.Value.{Value}
 use Rattle.edge_lists.specs.Links.{AreIds, IsNode}
-use Rattle.edge_lists.proofs.EdgeLemmas.{at_some, on_none, zip_more}
+use Rattle.edge_lists.proofs.EdgeLemmas.{at_place, at_some, on_none, zip_more}
 use Rattle.edge_lists.proofs.links.labels_of.Goals as goal
 
 pub returns-in-None-clause-refused : goal.returns-in-None-clause-refused
@@ -15,14 +14,12 @@ returns-in-None-clause-refused c =
     let i = c.loop-index.index in
     let node = c.index-nodes-index.result in
     let labels = map string_bytes c.loop-index.labels.items in
-    let lt : i < length nodes = omega arith in
-    let long : i < length (map view nodes) = omega (arith, lt, length-map nodes view) in
-    let here : get_or (map view nodes) i (view node) ≡ view node = get_or-map view nodes i node (view node) lt ∙ ap view (sym c.index-nodes-index.is) in (
+    let lt : i < length nodes = omega arith in (
       i,
       view node,
       labels,
       refl,
-      slice_get-get_or (map view nodes) i (view node) long ∙ ap (λ (d : Data). Some d) here,
+      at_place view nodes i node lt c.index-nodes-index.is,
       subst (λ (l : List Data). AreIds l labels) (sym (take-map view i nodes)) c.loop-index.invariant,
       on_none c.in-None.is c.in_ok-label.ensures.none,
     )
@@ -32,6 +29,5 @@ loop-index-preserved c =
     let label = string_bytes c.in-Some.label in
     let one : IsNode (view c.index-nodes-index.result) label = at_some _ c.in-Some.is c.in_ok-label.ensures.word in
     let here = subst (λ (v : Value). IsNode (view v) label) c.index-nodes-index.is one in
-    let all : map string_bytes (c.loop-index.labels.items ++ c.in-Some.label ∷ []) ≡ map string_bytes c.loop-index.labels.items ++ label ∷ [] = map-append string_bytes c.loop-index.labels.items (c.in-Some.label ∷ []) in
-    rw (c.in_ok-push-in-Some.ensures.items, all)
+    rw (c.in_ok-push-in-Some.ensures.items, map_push string_bytes c.loop-index.labels.items c.in-Some.label)
     (zip_more IsNode view c.args.nodes.now (map string_bytes c.loop-index.labels.items) c.loop-index.index c.index-nodes-index.result label (omega arith) c.loop-index.invariant here)

@@ -1,4 +1,4 @@
-use Rattle.std.proofs.Common.{arith, ◌≡◌, ◌≤◌, ◌+◌, ◌∙◌, ◌++◌, ◌∷◌, [], ap, sym, List, ℕ, Option, Some, None, Bor, drop, length, append_assoc}
+use Rattle.std.proofs.Common.{arith, ◌≤◌, ◌+◌, ◌∙◌, ◌++◌, ◌∷◌, [], ap, sym, List, ℕ, Some, None, Bor, drop, length, append_assoc}
 use Rattle.std.specs.Option.{option_map}
 use Rattle.std.proofs.lemmas.List.{append-nil, map-append}
 use Rattle.edge_lists.proofs.NodeLemmas.{remark_first, remarks_end, remarks_left}

@@ -1,4 +1,4 @@
-use Rattle.std.proofs.Common.{rules, arith, ◌≡◌, ◌≤◌, ◌<◌, ◌^◌, ◌∙◌, sym, subst, ℕ, length, ◌++◌}
+use Rattle.std.proofs.Common.{rules, arith, ◌≤◌, ◌<◌, sym, subst, ℕ, length}
 use Rattle.std.specs.String.{string_bytes}
 use Rattle.edge_lists.proofs.ScaleLemmas.{part_short, unit_fits, unit_some}
 use Rattle.edge_lists.proofs.scale.scaled_digits.Goals as goal

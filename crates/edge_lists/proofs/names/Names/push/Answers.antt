@@ -1,12 +1,17 @@
-use Rattle.std.proofs.Common.{rules, ◌≡◌, ◌∙◌, ◌++◌, ◌∷◌, [], ap, sym, List, ℕ, Bor, length}
-use Rattle.std.proofs.lemmas.List.{length-map}
-use Rattle.edge_lists.proofs.NameLemmas.{index_pushed}
+use Rattle.std.proofs.Common.{arith, ◌≡◌, ◌∙◌, ◌++◌, ◌∷◌, [], ap, List, ℕ, Bor, length}
+use Rattle.std.proofs.lemmas.List.{length-map, length_push, map_push}
+use Rattle.edge_lists.proofs.NameLemmas.{set_pushed}
+use Rattle.edge_lists.proofs.WordLemmas.{texts_at}
 use Rattle.edge_lists.proofs.names.Names.push.Goals as goal
 
 pub invariant_of-self-2 : goal.invariant_of-self-2
 invariant_of-self-2 c =
-    let old = c.self.inside.list.items in
-    let names = c.args.self.now in
-    let number : c.len-number.result ≡ length names = c.len-number.ensures ∙ c.self.inside.list.ok.0 ∙ sym (length-map old (λ (x : Bor (List ℕ)). x.now)) ∙ ap length c.self.view_is in
-    let items : c.push_reserved.new.self.items ≡ old ++ c.args.name ∷ [] = search rules in
-    index_pushed old c.push_reserved.new.self.items c.self.inside.numbers c.insert.new.self c.args.name names c.len-number.result c.self.invariant c.self.view_is c.requires.new c.requires.few number items c.in_ok-insert.ensures.updates
+    let old = c.self.inside.set.keys in
+    let keys : c.insert.new.self.keys ≡ old ++ c.args.name ∷ [] = set_pushed old c.insert.new.self.keys c.args.name c.args.self.now c.self.view_is c.requires.new c.in_ok-insert.ensures.keys in
+    omega (arith, c.requires.few, ap length keys, length_push old c.args.name, length-map old (λ (x : Bor (List ℕ)). x.now), ap length c.self.view_is)
+
+pub returns-clause-ok : goal.returns-clause-ok
+returns-clause-ok c =
+    let old = c.self.inside.set.keys in
+    let keys : c.insert.new.self.keys ≡ old ++ c.args.name ∷ [] = set_pushed old c.insert.new.self.keys c.args.name c.args.self.now c.self.view_is c.requires.new c.in_ok-insert.ensures.keys in
+    ap texts_at keys ∙ map_push (λ (x : Bor (List ℕ)). x.now) old c.args.name ∙ ap (λ (l : List (List ℕ)). l ++ c.args.name.now ∷ []) c.self.view_is
