@@ -36,6 +36,7 @@
 //! ```
 #![tactic(auto)]
 
+mod clocked_gate;
 mod outcome;
 mod running;
 mod service;
@@ -46,4 +47,5 @@ pub use file_commands::{
 };
 pub use outcome::Outcome;
 pub use running::{run_on, run_words, run_words_at};
+pub use service::reading_fault;
 pub use streams::Streams;

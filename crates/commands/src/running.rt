@@ -21,7 +21,7 @@ use new_devices::{NewDevices, SystemDevices};
 use service_threads::ServiceConfig;
 use std::fs::File;
 use std::io::{Read, Write};
-use std::rt::Files;
+use std::rt::{Clock, Files};
 use std::sync::Wait;
 use std::thread::Threads;
 use table_files::{TableFiles, TablePlaces};
@@ -38,7 +38,7 @@ pub fn run_words<'a, R, S, O, E>(
     err: &mut E,
 ) -> u8
 where
-    R: Files<File = File> + AllocGlobal + Threads + Wait + Sync + TablePlaces<'a>,
+    R: Files<File = File> + AllocGlobal + Clock + Threads + Wait + Sync + TablePlaces<'a>,
     R::Dir: Send,
     S: Read + Send,
     O: Write,
@@ -65,7 +65,7 @@ pub fn run_words_at<R, T, S, O, E>(
     err: &mut E,
 ) -> u8
 where
-    R: Files<File = File> + AllocGlobal + Threads + Wait + Sync,
+    R: Files<File = File> + AllocGlobal + Clock + Threads + Wait + Sync,
     R::Dir: Send,
     T: TableFiles + Send,
     S: Read + Send,
@@ -98,7 +98,7 @@ pub fn run_on<R, F, N, T, S, O, E>(
     streams: &mut Streams<S, O, E>,
 ) -> Outcome
 where
-    R: AllocGlobal + Threads + Wait + Sync,
+    R: AllocGlobal + Clock + Threads + Wait + Sync,
     F: Devices,
     N: NewDevices + Send,
     N::Device: Send,
@@ -135,7 +135,7 @@ fn run_lent<R, F, N, T, S, O, E>(
     streams: Streams<&mut S, &mut O, &mut E>,
 ) -> Outcome
 where
-    R: AllocGlobal + Threads + Wait + Sync,
+    R: AllocGlobal + Clock + Threads + Wait + Sync,
     F: Devices,
     N: NewDevices + Send,
     N::Device: Send,
@@ -170,7 +170,7 @@ fn run_understood<R, F, N, T, S, O, E>(
     streams: Streams<&mut S, &mut O, &mut E>,
 ) -> Outcome
 where
-    R: AllocGlobal + Threads + Wait + Sync,
+    R: AllocGlobal + Clock + Threads + Wait + Sync,
     F: Devices,
     N: NewDevices + Send,
     N::Device: Send,

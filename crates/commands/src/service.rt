@@ -7,6 +7,7 @@ ghost use Rattle.file_commands.specs.Events.{HasDone};
 ghost use Rattle.commands.specs.Serves.{EndsScript, IsReadFault, IsScriptFault, IsScriptOf, closing};
 ghost use Rattle.commands.specs.Runs.{IsEndOf, RunsLive, streams_of};
 
+use crate::clocked_gate::ClockedGate;
 use crate::outcome::{Outcome, told};
 use crate::streams::Streams;
 use command_output::{Ended, Fault, FaultWriter};
@@ -18,6 +19,7 @@ use service_threads::{OpenGate, ServiceConfig};
 use std::alloc::Global;
 use std::io;
 use std::io::{BufReader, ErrorKind, Read, Write};
+use std::rt::Clock;
 use std::sync::Wait;
 use std::thread::Threads;
 use table_files::{LentTables, TableFiles};
@@ -43,8 +45,8 @@ fn read_script<S: Read>(alloc: Global, from: &mut S, editors: u8) -> Result<Vec<
     }
 }
 
-// What is told of a script that can't be read.
-fn reading_fault(error: io::Error) -> Fault
+/// What is told of an input that can't be read.
+pub fn reading_fault(error: io::Error) -> Fault
     ensures { IsReadFault result }
 {
     match error.kind() {
@@ -139,7 +141,7 @@ pub(crate) fn run_live<R, F, N, T, S, O, E>(
     streams: Streams<&mut S, &mut O, &mut E>,
 ) -> Outcome
 where
-    R: AllocGlobal + Threads + Wait + Sync,
+    R: AllocGlobal + Clock + Threads + Wait + Sync,
     F: Devices,
     N: NewDevices + Send,
     N::Device: Send,
@@ -183,7 +185,7 @@ where
         rounds: u32::from(rounds),
     };
     let around = Surroundings {
-        gate: &OpenGate,
+        gate: &ClockedGate::new(rt),
         places: Places {
             tables: LentTables::new(tables),
             devices: LentDevices::new(backups),

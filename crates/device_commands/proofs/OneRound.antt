@@ -7,16 +7,16 @@ use mathlib.Core.List.{IsPrefix}
 use Rattle.requests.specs.declared.request.Request.{Request}
 use Rattle.generations.specs.declared.posting.Mark.{Mark}
 use Rattle.generations.specs.declared.posting.Verdict.{Verdict}
-use Rattle.generations.specs.declared.posting.Verdict.TheVariants.{Accepted as Yes, Refused as No}
 use Rattle.generations.specs.Beginnings.{Beginning, GoesOn}
-use Rattle.generations.specs.Boards.{BoardState, board_of, mark_of}
+use Rattle.generations.specs.Boards.{board_of}
 use Rattle.generations.specs.Notices.{marks_in}
 use Rattle.generations.proofs.LastMarks.{mark_there}
 use Rattle.generations.proofs.Prefixes.{prefix_trans, prefix_whole}
-use Rattle.intake.specs.declared.outcome.Outcome.TheVariants.{Nothing, Down, Waiting}
+use Rattle.intake.specs.declared.outcome.Outcome.TheVariants.{Settled}
 use Rattle.intake.specs.Editors.{Editing, outcome_by}
 use Rattle.intake.specs.Ends.{HasTaken}
-use Rattle.intake.specs.Outcomes.{by_mark, outcome_on, told}
+use Rattle.intake.specs.Outcomes.{outcome_on}
+use Rattle.intake.proofs.SettledMarks.{settled_by}
 use Rattle.intake.specs.Turns.{AreFrom, AreOfEditors, last_asked, of}
 use Rattle.committer.specs.declared.committer.Committer.{Committer}
 use Rattle.committer.specs.CommitterWords.{asked, got_of, taker_of}
@@ -83,40 +83,11 @@ asked_one old new editor r later seat taken put =
 
 -- ---- what the board tells
 
--- one verdict is told of a ticket
-same_verdict : (l t : ℕ) (a v : Verdict) → told l a ≡ told t v → v ≡ a
-same_verdict l t (Yes c) (Yes d) is = cc
-same_verdict l t (Yes c) (No op code) is = absurd (cc)
-same_verdict l t (No op code) (Yes d) is = absurd (cc)
-same_verdict l t (No op code) (No place why) is = cc
-
-untold : (down : Bool) (t : ℕ) (v : Verdict) → cond down Down Waiting ≡ told t v → ⊥
-untold true t (Yes c) is = cc
-untold true t (No op code) is = cc
-untold false t (Yes c) is = cc
-untold false t (No op code) is = cc
-
-nothing : (t : ℕ) (v : Verdict) → Nothing ≡ told t v → ⊥
-nothing t (Yes c) is = cc
-nothing t (No op code) is = cc
-
-by_test : (same down : Bool) (l t : ℕ) (a v : Verdict) → cond same (told l a) (cond down Down Waiting) ≡ told t v → v ≡ a
-by_test true down l t a v is = same_verdict l t a v is
-by_test false down l t a v is = absurd (untold down t v is)
-
-by_board : (s : BoardState) (l t : ℕ) (v : Verdict) (shown : Option Mark) → by_mark s l shown ≡ told t v → (mark : Mark) × ((shown ≡ Some mark) × (v ≡ mark.verdict))
-by_board s l t v None is = absurd (untold s.down t v is)
-by_board s l t v (Some mark) is = (mark, (refl, by_test (mark.ticket == l) s.down l t mark.verdict v is))
-
-by_last : (s : BoardState) (session t : ℕ) (v : Verdict) (last : Option ℕ) → outcome_on s session last ≡ told t v → (mark : Mark) × ((mark_of s session ≡ Some mark) × (v ≡ mark.verdict))
-by_last s session t v None is = absurd (nothing t v is)
-by_last s session t v (Some l) is = by_board s l t v (mark_of s session) is
-
 -- a verdict that a board tells is that of a mark which is posted
 pub told_mark : (posts : Outgoing) (e : Editing) (v : Verdict) → IsToldBy posts e v → (mark : Mark) × (Contains (marks_in posts.posted) mark × (v ≡ mark.verdict))
 told_mark posts e v is =
-    let found = by_last (board_of posts.opening.starts posts.opening.count posts.posted) e.session is.0 v (last_asked e.put) is.1 in
-    (found.0, ((mark_there posts.opening.starts posts.opening.count posts.posted e.session found.0 found.1.0).1, found.1.1))
+    let shown = settled_by (board_of posts.opening.starts posts.opening.count posts.posted) e.session (last_asked e.put) is.0 is.1 in
+    (is.0, ((mark_there posts.opening.starts posts.opening.count posts.posted e.session is.0 shown.0).1, is.2))
 
 pub none_in : (mark : Mark) → Contains (marks_in []) mark → ⊥
 none_in mark has = let less = has.1 in omega (arith, less)
@@ -149,7 +120,7 @@ looked posts was learnt seen known history covered is first then same again test
     (subst (λ (b : Beginning × Beginning). IsPrefix b.0.log b.1.log) (λ i. (same i, (again ∙ is) i)) all)
 
 -- so its outcome is what the board tells
-pub told_by : (posts : Outgoing) (old new : Editing) (ticket : ℕ) (verdict : Verdict) → new.session ≡ old.session → new.put ≡ old.put → new.known ≡ record { opening = posts.opening; log = posts.posted }
-    → told ticket verdict ≡ outcome_by new → IsToldBy posts old verdict
-told_by posts old new ticket verdict session put known is =
-    (ticket, (λ i. outcome_on (board_of (sym known i).opening.starts (sym known i).opening.count (sym known i).log) (sym session i) (last_asked (sym put i))) ∙ sym is)
+pub told_by : (posts : Outgoing) (old new : Editing) (mark : Mark) (verdict : Verdict) → new.session ≡ old.session → new.put ≡ old.put → new.known ≡ record { opening = posts.opening; log = posts.posted }
+    → Settled mark ≡ outcome_by new → verdict ≡ mark.verdict → IsToldBy posts old verdict
+told_by posts old new mark verdict session put known is same =
+    (mark, (λ i. outcome_on (board_of (sym known i).opening.starts (sym known i).opening.count (sym known i).log) (sym session i) (last_asked (sym put i))) ∙ sym is, same)

@@ -5,10 +5,12 @@ use Rattle.checkpoint.specs.StoreWords.{is_down}
 use Rattle.generations.specs.Boards.{board_of}
 use Rattle.generations.specs.Knowledges.{all_seen}
 use Rattle.generations.specs.Posts.{Posts}
+use Rattle.generations.specs.declared.posting.Mark.{Mark}
 use Rattle.generations.specs.declared.posting.Verdict.{Verdict}
 use Rattle.intake.specs.Editors.{Editing, IsSameEditor, editor_at}
 use Rattle.intake.specs.Ends.{Taking}
-use Rattle.intake.specs.Outcomes.{outcome_on, told}
+use Rattle.intake.specs.declared.outcome.Outcome.TheVariants.{Settled}
+use Rattle.intake.specs.Outcomes.{outcome_on}
 use Rattle.intake.specs.Turns.{last_asked, request_of}
 use Rattle.intake.specs.declared.outcome.SubmitRefused.{SubmitRefused}
 use Rattle.committer.specs.declared.committer.Committer.{Committer}
@@ -47,7 +49,7 @@ pub record IsSeatOf {D R : Type 0} {V : _} (c : Committer D R V) (editor : Editi
 
 -- a board with what is posted, and nothing else, tells an editor this verdict on its last ticket
 abbrev pub IsToldBy : Outgoing → Editing → Verdict → Type 0
-IsToldBy posts e verdict = (ticket : ℕ) × (outcome_on (board_of posts.opening.starts posts.opening.count posts.posted) e.session (last_asked e.put) ≡ told ticket verdict)
+IsToldBy posts e verdict = (mark : Mark) × (outcome_on (board_of posts.opening.starts posts.opening.count posts.posted) e.session (last_asked e.put) ≡ Settled mark) × (verdict ≡ mark.verdict)
 
 -- what is told where a round is refused
 abbrev pub round_fault : RoundRefused → Fault

@@ -6,7 +6,6 @@ ghost use Rattle.requests.specs.declared.request.Request.{Request as Asked};
 ghost use Rattle.layout_2.specs.State.{IsNext};
 ghost use Rattle.checkpoint.specs.StoreWords.{state_of, is_down};
 ghost use Rattle.intake.specs.Editors.{IsSameEditor};
-ghost use Rattle.intake.specs.Outcomes.{told};
 ghost use Rattle.committer.specs.CommitterWords.{posts_of, store_of};
 ghost use Rattle.device_commands.specs.Answer.{IsTaken, state_by};
 ghost use Rattle.device_commands.specs.Edits.{IsSettledTo};
@@ -17,7 +16,7 @@ use checkpoint::Store;
 use command_output::Fault;
 use committer::{Committer, RoundRefused};
 use disk_trait::Disk;
-use generations::{BoardWriter, Verdict, board};
+use generations::{BoardWriter, Mark, Verdict, board};
 use graph_edits::Change;
 use group_commit::Desk;
 use intake::{Editor, Outcome, SubmitRefused, Taker, open_intake_for};
@@ -197,16 +196,11 @@ fn outcome<D: Disk, Q: Wait + Drop>(
 
 // The verdict that an outcome tells.
 fn verdict(outcome: Outcome) -> Result<Verdict, Fault>
-    ensures told { IfOk result (λ verdict. (ticket : ℕ) × (outcome ≡ told ticket verdict)) }
+    ensures told { IfOk result (λ verdict. (mark : Mark) × (outcome ≡ Outcome.Settled mark) × (verdict ≡ mark.verdict)) }
     ensures fault { IfErr result (λ fault. fault ≡ Fault.Internal) }
 {
     match outcome {
-        Outcome::Accepted { ticket: _, count } => Ok(Verdict::Accepted { count }),
-        Outcome::Refused {
-            ticket: _,
-            op,
-            code,
-        } => Ok(Verdict::Refused { op, code }),
+        Outcome::Settled(mark) => Ok(mark.verdict),
         Outcome::Nothing | Outcome::Down | Outcome::Waiting => Err(Fault::Internal),
     }
 }

@@ -1,3 +1,4 @@
+pub mod Lengths
 pub mod Limits
 pub mod Edges
 pub mod Changes

@@ -22,6 +22,7 @@
 //! graph.apply(&change)?;
 //! graph.weight(2, 1); // Some(7)
 //! graph.port_to(1, 2); // Some(1): the neighbours of 1 are 0 and 2
+//! length_over(&graph, &[0, 1, 2]); // 12, along the edges between them
 //! ```
 //!
 //! The walks, distances and neighbours that the crates above speak of are defined here too (`specs/Walks.antt`), with
@@ -31,6 +32,7 @@
 mod edits;
 mod graph;
 mod laws;
+mod lengths;
 mod limits;
 mod overlay;
 mod prepared;
@@ -40,6 +42,7 @@ mod table;
 pub use edits::{Change, Code, EditRefused, Op, Shape};
 pub use graph::Graph;
 pub use laws::limit_laws;
+pub use lengths::length_over;
 pub use limits::{GREATEST_WEIGHT, MOST_EDGES, MOST_NODES, MOST_OPS};
 pub use overlay::Overlay;
 pub use prepared::Prepared;

@@ -1,3 +1,4 @@
 pub mod InTurns
 pub mod Refusals
 pub mod Takings
+pub mod SettledMarks

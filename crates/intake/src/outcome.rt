@@ -1,9 +1,8 @@
 // What a board says of a session's last change, and of its next one.
 ghost use Rattle.std.specs.Prelude.{◌≡◌};
-ghost use Rattle.intake.specs.Outcomes.{outcome_on, refusal_on, told};
+ghost use Rattle.intake.specs.Outcomes.{outcome_on, refusal_on};
 
-use generations::{Board, Mark, Verdict};
-use graph_edits::Code;
+use generations::{Board, Mark};
 use requests::WORN_LIMIT;
 use thiserror::Error;
 
@@ -12,10 +11,8 @@ use thiserror::Error;
 pub enum Outcome {
     /// None was submitted yet.
     Nothing,
-    /// It is in the graph and on the device; with it, `count` changes are.
-    Accepted { ticket: u64, count: u64 },
-    /// Nothing of it is in the graph: its op at the place `op`, counted from 0, is the first that is refused.
-    Refused { ticket: u64, op: usize, code: Code },
+    /// It is settled, and has this mark: it is in the graph and on the device, or nothing of it is.
+    Settled(Mark),
     /// It isn't settled, and the device has failed.
     Down,
     /// It isn't settled.
@@ -54,26 +51,9 @@ pub fn outcome_of(board: &Board, session: u8, last: Option<u64>) -> Outcome
         return Outcome::Nothing;
     };
     match board.mark(session) {
-        Some(mark) if mark.ticket == last => told_by(&mark),
+        Some(mark) if mark.ticket == last => Outcome::Settled(mark),
         _ if board.is_down() => Outcome::Down,
         _ => Outcome::Waiting,
-    }
-}
-
-// The outcome that a mark tells.
-fn told_by(mark: &Mark) -> Outcome
-    ensures { result ≡ told mark.now.ticket mark.now.verdict }
-{
-    match mark.verdict {
-        Verdict::Accepted { count } => Outcome::Accepted {
-            ticket: mark.ticket,
-            count,
-        },
-        Verdict::Refused { op, code } => Outcome::Refused {
-            ticket: mark.ticket,
-            op,
-            code,
-        },
     }
 }
 

@@ -2,6 +2,7 @@
 use crate::worlds::{answer, counted, submit};
 use disk_trait::Plan;
 use event_runs::{Event, Reply};
+use generations::{Mark, Verdict};
 use graph_edits::{Code, Op};
 use group_commit::DeskRefused;
 use intake::Outcome;
@@ -18,19 +19,23 @@ const ENDS: [(Reply, Reply, Outcome); 3] = [
     (
         Reply::Committed { accepted: 1 },
         Reply::Posted,
-        Outcome::Accepted {
+        Outcome::Settled(Mark {
+            session: 0,
             ticket: 1,
-            count: WORN_LIMIT,
-        },
+            verdict: Verdict::Accepted { count: WORN_LIMIT },
+        }),
     ),
     (
         Reply::Committed { accepted: 0 },
         Reply::Posted,
-        Outcome::Refused {
+        Outcome::Settled(Mark {
+            session: 0,
             ticket: 2,
-            op: 0,
-            code: Code::NoEdge,
-        },
+            verdict: Verdict::Refused {
+                op: 0,
+                code: Code::NoEdge,
+            },
+        }),
     ),
     (
         Reply::NotCommitted(DeskRefused::Worn),

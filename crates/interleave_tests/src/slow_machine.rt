@@ -307,10 +307,7 @@ fn outcome(view: View, last: Option<u64>) -> Outcome {
         return Outcome::Nothing;
     };
     match view.last {
-        Some(mark) if mark.ticket == ticket => match mark.verdict {
-            Verdict::Accepted { count } => Outcome::Accepted { ticket, count },
-            Verdict::Refused { op, code } => Outcome::Refused { ticket, op, code },
-        },
+        Some(mark) if mark.ticket == ticket => Outcome::Settled(mark),
         _ if view.down => Outcome::Down,
         _ => Outcome::Waiting,
     }

@@ -1,13 +1,17 @@
 -- Answers to lines.
-use Rattle.std.proofs.Common.{◌≡◌, sym, subst}
+use Rattle.std.proofs.Common.{◌≡◌, sym, subst, ◌∙◌}
 use Rattle.std.specs.Prelude.{ℕ}
 use mathlib.Core.Logic.{∥∥₁_map}
 use Rattle.generations.specs.Beginnings.{Beginning}
+use Rattle.packet_ways.specs.Standing.{Counts, IsNewest}
 use Rattle.live_lines.specs.declared.asked.Asked.{Asked}
+use Rattle.live_lines.specs.declared.asked.Asked.TheVariants as asks
 use Rattle.live_lines.specs.declared.answer.Answer.{Answer}
-use Rattle.live_lines.specs.declared.answer.Answer.TheVariants.{Gone}
+use Rattle.live_lines.specs.declared.answer.Answer.TheVariants.{Metrics}
+use Rattle.live_lines.specs.Answers.{Fits, generation_gone}
 use Rattle.line_exchange.specs.Inputs.{Input}
-use Rattle.line_exchange.specs.OneList.{AnswersBy, IsOffAt, IsSaidAt}
+use Rattle.line_exchange.specs.Measured.{IsFilled}
+use Rattle.line_exchange.specs.OneList.{AnswersBy, IsOffAt, IsSaidAt, IsSaidBy}
 use Rattle.line_exchange.specs.Streams.{IsAskedAt}
 
 -- Where each list that goes on from what is known says an answer to what the line at a place asks for, it is one by that.
@@ -15,7 +19,7 @@ pub answers : (known : Beginning) (input : Input) (editors place : ℕ) (asked :
 answers known input editors place asked answer by is = ∥∥₁_map by (λ asks. record { asked = asked; by = asks; fits = is.fits; said = is.said })
 
 -- so it is where it tells that a generation is gone
-pub answers_off : (known : Beginning) (input : Input) (editors place : ℕ) (asked : Asked) (answer : Answer) → ∥ IsAskedAt input editors place asked ∥₁ → AnswersBy known asked answer → answer ≡ Gone → ∥ IsOffAt known input editors place ∥₁
+pub answers_off : (known : Beginning) (input : Input) (editors place : ℕ) (asked : Asked) (answer : Answer) → ∥ IsAskedAt input editors place asked ∥₁ → AnswersBy known asked answer → answer ≡ generation_gone → ∥ IsOffAt known input editors place ∥₁
 answers_off known input editors place asked answer by is gone = ∥∥₁_map by (λ asks. record { asked = asked; by = asks; off = is.off gone })
 
 -- .. and what is known was given out
@@ -24,6 +28,30 @@ pub answers_known : (known seen : Beginning) (input : Input) (editors place : �
 answers_known known seen input editors place asked answer same by is =
     answers known input editors place asked answer by (subst (λ (b : Beginning). AnswersBy b asked answer) (sym same) is)
 
-pub off_known : (known seen : Beginning) (input : Input) (editors place : ℕ) (asked : Asked) (answer : Answer) → known ≡ seen → ∥ IsAskedAt input editors place asked ∥₁ → AnswersBy seen asked answer → answer ≡ Gone
+pub off_known : (known seen : Beginning) (input : Input) (editors place : ℕ) (asked : Asked) (answer : Answer) → known ≡ seen → ∥ IsAskedAt input editors place asked ∥₁ → AnswersBy seen asked answer → answer ≡ generation_gone
     → ∥ IsOffAt known input editors place ∥₁
 off_known known seen input editors place asked answer same by is = answers_off known input editors place asked answer by (subst (λ (b : Beginning). AnswersBy b asked answer) (sym same) is)
+
+-- ---- filled answers
+
+-- what is filled in changes nothing that a list says
+filled_said : (known : Beginning) (asked : Asked) (old new : Answer) → IsFilled old new → Fits asked old → IsSaidBy known asked old → Fits asked new × IsSaidBy known asked new
+filled_said known asks.Metrics (Metrics m) (Metrics n) is fits said = (
+  tt,
+  λ all lawful are_named on.
+      (let was = said all lawful are_named on in
+      (was.0, was.1, subst (λ (k : ℕ). Counts was.0 k) (sym is.count) was.2, subst (λ (k : ℕ). IsNewest was.0 k) (sym is.generation) was.3)),
+)
+filled_said known _ (Metrics m) (Metrics n) is fits said = absurd fits
+filled_said known asked _ _ is fits said = (subst (λ (a : Answer). Fits asked a) (sym is) fits, subst (λ (a : Answer). IsSaidBy known asked a) (sym is) said)
+
+pub filled_at : (known : Beginning) (input : Input) (editors place : ℕ) (old new : Answer) → IsFilled old new → ∥ IsSaidAt known input editors place old ∥₁ → ∥ IsSaidAt known input editors place new ∥₁
+filled_at known input editors place old new is said =
+    ∥∥₁_map said (λ x. (let both = filled_said known x.asked old new is x.fits x.said in record { asked = x.asked; by = x.by; fits = both.0; said = both.1 }))
+
+gone_before : (old new : Answer) → IsFilled old new → new ≡ generation_gone → old ≡ generation_gone
+gone_before (Metrics m) (Metrics n) is gone = absurd (cc)
+gone_before _ _ is gone = sym is ∙ gone
+
+pub filled_off : (known : Beginning) (input : Input) (editors place : ℕ) (old new : Answer) → IsFilled old new → (old ≡ generation_gone → ∥ IsOffAt known input editors place ∥₁) → new ≡ generation_gone → ∥ IsOffAt known input editors place ∥₁
+filled_off known input editors place old new is off gone = off (gone_before old new is gone)

@@ -1,13 +1,15 @@
 -- Answers by what is known of the list of postings, one after the other.
-use Rattle.std.proofs.Common.{◌≡◌, ⊎_elim, ◌<◌, ◌+◌, ◌++◌, ◌∷◌, [], ℕ, List, Option, Some, length, refl, sym, ap, subst, ◌∙◌, arith, append-nil}
-use Rattle.std.specs.Prelude.{set, slice_get, take}
+use Rattle.std.proofs.Common.{◌≡◌, ⊎_elim, ◌<◌, ◌+◌, ◌++◌, ◌∷◌, [], ℕ, List, Option, Some, length, refl, sym, ap, subst, ◌∙◌, arith, append-nil, get_or}
+use Rattle.std.specs.Prelude.{◌==◌, Bool, cond, set, slice_get, take}
 use Rattle.requests.specs.Tickets.{Rises, last_of, sessions, tickets_after}
 use Rattle.requests.proofs.TicketLemmas.{after_append, rises_both}
 use Rattle.generations.specs.declared.posting.Mark.{Mark}
 use Rattle.std.specs.Io.KnownBytes.{Appends, Keeps}
-use Rattle.std.proofs.lemmas.List.{length-append, take-append-le}
+use Rattle.std.proofs.lemmas.Bool.{cases_eq, cases_lt, eq-eqb, ne_eqb}
+use Rattle.std.proofs.lemmas.List.{get_or-replicate, get_or-set_other, get_or_past, length-append, length-replicate, take-append-le}
+use Rattle.std.proofs.lemmas.List.Sums.{sum_by-append}
 use Rattle.std.proofs.Math.Seq.{take-length}
-use Rattle.std.proofs.lemmas.Grind.{flat_map-append}
+use Rattle.std.proofs.lemmas.Grind.{flat_map-append, get_or-set_at}
 use mathlib.Core.Logic.{∥∥₁_map}
 use Rattle.command_output.specs.Lines.{line}
 use Rattle.line_exchange.specs.Begun.{Begins, PrintsUnless}
@@ -16,14 +18,16 @@ use Rattle.generations.specs.Beginnings.{Beginning, GoesOn, Opening}
 use Rattle.generations.proofs.Sharing.{goes_trans}
 use Rattle.live_lines.specs.declared.asked.Asked.{Asked}
 use Rattle.live_lines.specs.declared.answer.Answer.{Answer}
-use Rattle.live_lines.specs.declared.answer.Answer.TheVariants.{BackedUp, Gone, Settled, Waited}
-use Rattle.live_lines.specs.Answers.{answer_text, script_text}
+use Rattle.live_lines.specs.declared.answer.Answer.TheVariants.{BackedUp, Metrics, Settled, Waited}
+use Rattle.live_lines.specs.Answers.{answer_text, generation_gone, script_text}
+use Rattle.live_lines.specs.Metrics.{kind_of, place_of}
 use Rattle.line_exchange.specs.Inputs.{Input}
 use Rattle.line_exchange.specs.OneList.{AreGone, AreSaid, IsOffAt, IsSaidAt, IsSaidBy}
 use Rattle.line_exchange.specs.Prints.{HasPrinted, HasPrintedBy, PrintsSo, lines_of}
-use Rattle.line_exchange.specs.declared.printed.PrintEnd.{PrintEnd}
-use Rattle.line_exchange.specs.declared.printed.PrintEnd.TheVariants.{Output}
+use Rattle.line_exchange.specs.declared.line_fault.LineFault.{LineFault}
+use Rattle.line_exchange.specs.declared.line_fault.LineFault.TheVariants.{Failed}
 use Rattle.line_exchange.specs.Gathers.{HasText}
+use Rattle.line_exchange.specs.Measured.{AreCounted, AreMeasured, CountsMore, IsMeasuredBy, Tells, how_many, is_at, none_counted}
 use Rattle.line_exchange.specs.Tallies.{Adds, AreAwaited, AreBackedUp, AreDropped, AreInTurn, AreReached, IsDropped, IsInTurn, IsReached, TellsCount, accepted_by, accepted_in, no_tickets, told_by, told_in}
 use Rattle.line_exchange.specs.Waits.{AreAwaitedTo, AreNoOlder, GoesBy, IsNoOlder}
 use Rattle.line_exchange.specs.declared.tally.Tally.{Tally}
@@ -127,6 +131,49 @@ more_dropped starts accepted told answers answer are was last is k other at =
     all_before : (n : ℕ) → n ≡ length answers → take n (answers ++ answer ∷ []) ≡ answers
     all_before n same = ap (λ (m : ℕ). take m (answers ++ answer ∷ [])) same ∙ (take-append-le (length answers) answers (answer ∷ []) (omega arith) ∙ take-length answers)
 
+-- ---- metrics
+
+-- they tell of the answers before them
+more_measured : (answers : List Answer) (answer : Answer) → AreMeasured answers → IsMeasuredBy answers answer → AreMeasured (answers ++ answer ∷ [])
+more_measured answers answer are is k other at =
+    ⊎_elim (λ there. subst (λ (before : List Answer). IsMeasuredBy before other) (sym (take-append-le k answers (answer ∷ []) (let within = get_within answers k other there in omega (arith, within)))) (are k other there))
+    (λ end. subst (λ (before : List Answer). IsMeasuredBy before other) (sym (all_before k end.0)) (subst (λ (a : Answer). IsMeasuredBy answers a) end.1 is))
+    (get_snoc answers answer k other at)
+  where
+    all_before : (n : ℕ) → n ≡ length answers → take n (answers ++ answer ∷ []) ≡ answers
+    all_before n same = ap (λ (m : ℕ). take m (answers ++ answer ∷ [])) same ∙ (take-append-le (length answers) answers (answer ∷ []) (omega arith) ∙ take-length answers)
+
+-- .. by what is kept of those
+measured_by : (tally : Tally) (answers : List Answer) (answer : Answer) → length answers ≡ tally.count → AreCounted tally.counted answers → Tells tally.count tally.counted answer → IsMeasuredBy answers answer
+measured_by tally answers (Metrics m) many counted tells = (tells.0 ∙ sym many, λ place. ap (λ (numbers : List ℕ). get_or numbers place 0) tells.1 ∙ counted place)
+measured_by tally answers _ many counted tells = tt
+
+-- before any answer there is none of a kind
+none_counted_yet : AreCounted none_counted []
+none_counted_yet place = ⊎_elim (λ within. get_or-replicate 19 place 0 0 within)
+    (λ past. get_or_past none_counted place 0 (let long : length none_counted ≡ 19 = length-replicate {A = ℕ} 19 0 in omega (arith, long))) (cases_lt place 19)
+
+-- the number at a place, with one more at the answer's own
+counted_at : (old : List ℕ) (own place : ℕ) → own < length old → get_or (set old own (get_or old own 0 + 1)) place 0 ≡ get_or old place 0 + cond (own == place) 1 0
+counted_at old own place within =
+    ⊎_elim (λ same. (let one : cond {A = ℕ} (own == place) 1 0 ≡ 1 = ap (λ (b : Bool). cond b 1 0) (eq-eqb own place same) in
+    let there : get_or (set old own (get_or old own 0 + 1)) place 0 ≡ get_or old own 0 + 1 = get_or-set_at old own place (get_or old own 0 + 1) 0 (sym same) within in
+    let was : get_or old own 0 ≡ get_or old place 0 = ap (λ (p : ℕ). get_or old p 0) same in omega (arith, one, there, was)))
+    (λ other. (let none : cond {A = ℕ} (own == place) 1 0 ≡ 0 = ap (λ (b : Bool). cond b 1 0) (ne_eqb own place other) in
+    let there : get_or (set old own (get_or old own 0 + 1)) place 0 ≡ get_or old place 0 = get_or-set_other old own place (get_or old own 0 + 1) 0 (λ is. other (sym is)) in omega (arith, none, there)))
+    (cases_eq own place)
+
+-- one answer more of its kind
+more_counted : (old new : List ℕ) (answers : List Answer) (answer : Answer) → AreCounted old answers → CountsMore answer old new → AreCounted new (answers ++ answer ∷ [])
+more_counted old new answers answer are more place =
+    let own = place_of (kind_of answer) in
+    let all : how_many place (answers ++ answer ∷ []) ≡ how_many place answers + how_many place (answer ∷ []) = sum_by-append (λ (a : Answer). cond (is_at place a) 1 0) answers (answer ∷ []) in
+    let one : how_many place (answer ∷ []) ≡ 0 + cond {A = ℕ} (own == place) 1 0 = refl in
+    let next : get_or new place 0 ≡ get_or (set old own (get_or old own 0 + 1)) place 0 = ap (λ (numbers : List ℕ). get_or numbers place 0) more.next in
+    let there = counted_at old own place more.within in
+    let was = are place in
+    omega (arith, all, one, next, there, was)
+
 -- ---- generations that are gone
 
 -- answers by what is known are answers by more
@@ -137,12 +184,12 @@ abbrev Behind : Input → ℕ → Beginning → List Answer → Type 0
 Behind input editors seen before = AreSaid seen input editors before
 
 more_gone : (known seen later : Beginning) (input : Input) (editors : ℕ) (answers : List Answer) (answer : Answer) → AreGone (Behind input editors) known input editors answers → AreSaid known input editors answers → GoesOn known later
-    → GoesOn seen later → (answer ≡ Gone → GoesOn known seen) → (answer ≡ Gone → ∥ IsOffAt seen input editors (length answers) ∥₁) → AreGone (Behind input editors) later input editors (answers ++ answer ∷ [])
+    → GoesOn seen later → (answer ≡ generation_gone → GoesOn known seen) → (answer ≡ generation_gone → ∥ IsOffAt seen input editors (length answers) ∥₁) → AreGone (Behind input editors) later input editors (answers ++ answer ∷ [])
 more_gone known seen later input editors answers answer are said on covers knows off k at =
     ⊎_elim (λ there. ∥∥₁_map (are k there) (λ x. record {
       seen = x.seen;
       on = goes_trans x.seen known later x.on on;
-      earlier = subst (λ (before : List Answer). AreSaid x.seen input editors before) (sym (take-append-le k answers (answer ∷ []) (let within = get_within answers k Gone there in omega (arith, within)))) x.earlier;
+      earlier = subst (λ (before : List Answer). AreSaid x.seen input editors before) (sym (take-append-le k answers (answer ∷ []) (let within = get_within answers k generation_gone there in omega (arith, within)))) x.earlier;
       gone = x.gone;
     }))
     (λ last. ∥∥₁_map (off last.1) (λ x. record {
@@ -151,7 +198,7 @@ more_gone known seen later input editors answers answer are said on covers knows
       earlier = subst (λ (before : List Answer). AreSaid seen input editors before) (sym (all_before k last.0)) (all_said known seen input editors answers (knows last.1) said);
       gone = subst (λ (n : ℕ). IsOffAt seen input editors n) (sym last.0) x;
     }))
-    (get_snoc answers answer k Gone at)
+    (get_snoc answers answer k generation_gone at)
   where
     all_before : (n : ℕ) → n ≡ length answers → take n (answers ++ answer ∷ []) ≡ answers
     all_before n is = ap (λ (m : ℕ). take m (answers ++ answer ∷ [])) is ∙ (take-append-le (length answers) answers (answer ∷ []) (omega arith) ∙ take-length answers)
@@ -159,8 +206,8 @@ more_gone known seen later input editors answers answer are said on covers knows
 -- ---- what is printed
 
 -- at first nothing is
-pub none_printed_by : (text : Answer → List ℕ) (tally : Tally) (input : Input) (editors : ℕ) (old : Option (List ℕ)) → tally.count ≡ 0 → tally.tickets ≡ no_tickets → tally.puts ≡ no_puts → tally.accepted ≡ tally.known.opening.starts → HasPrintedBy text tally input editors (Appends old old)
-none_printed_by text tally input editors old none untold unput starts = record {
+pub none_printed_by : (text : Answer → List ℕ) (tally : Tally) (input : Input) (editors : ℕ) (old : Option (List ℕ)) → tally.count ≡ 0 → tally.tickets ≡ no_tickets → tally.puts ≡ no_puts → tally.counted ≡ none_counted → tally.accepted ≡ tally.known.opening.starts → HasPrintedBy text tally input editors (Appends old old)
+none_printed_by text tally input editors old none untold unput uncounted starts = record {
   answers = [];
   many = sym none;
   said = none_said tally.known input editors;
@@ -172,6 +219,8 @@ none_printed_by text tally input editors old none untold unput starts = record {
   awaited_to = λ k waited at. absurd (cc);
   in_turn = record { rises = tt; last = untold };
   noted = none_noted tally.puts tally.lines.lines unput;
+  measured = λ k answer at. absurd (cc);
+  counted = subst (λ (numbers : List ℕ). AreCounted numbers []) (sym uncounted) none_counted_yet;
   dropped = λ k answer at. absurd (cc);
   accepted = starts;
   printed = appends_none old;
@@ -181,7 +230,7 @@ none_printed_by text tally input editors old none untold unput starts = record {
 pub printed_as : (text : Answer → List ℕ) (tally : Tally) (input : Input) (editors : ℕ) (P Q : List ℕ → Type 0) → HasPrintedBy text tally input editors P → ((lines : List ℕ) → P lines → Q lines)
     → HasPrintedBy text tally input editors Q
 printed_as text tally input editors P Q has so =
-    record { answers = has.answers; many = has.many; said = has.said; gone = has.gone; awaited = has.awaited; backed = has.backed; reached = has.reached; no_older = has.no_older; awaited_to = has.awaited_to; in_turn = has.in_turn; noted = has.noted; dropped = has.dropped; accepted = has.accepted; printed = so (lines_of text has.answers) has.printed }
+    record { answers = has.answers; many = has.many; said = has.said; gone = has.gone; awaited = has.awaited; backed = has.backed; reached = has.reached; no_older = has.no_older; awaited_to = has.awaited_to; in_turn = has.in_turn; noted = has.noted; measured = has.measured; counted = has.counted; dropped = has.dropped; accepted = has.accepted; printed = so (lines_of text has.answers) has.printed }
 
 -- a flush prints nothing
 pub still_printed_by : (text : Answer → List ℕ) (tally : Tally) (input : Input) (editors : ℕ) (old mid new : Option (List ℕ)) → HasPrintedBy text tally input editors (Appends old mid) → Keeps mid new
@@ -191,7 +240,7 @@ still_printed_by text tally input editors old mid new has kept =
 
 -- an answer more: of its line behind those of the others something holds
 one_more_by : (text : Answer → List ℕ) (tally more : Tally) (seen : Beginning) (input : Input) (editors : ℕ) (P Q : List ℕ → Type 0) (answer : Answer) → HasPrintedBy text tally input editors P
-    → Adds tally seen answer more → ∥ IsSaidAt seen input editors tally.count answer ∥₁ → (answer ≡ Gone → ∥ IsOffAt seen input editors tally.count ∥₁) → ((lines : List ℕ) → P lines → Q (lines ++ line (text answer)))
+    → Adds tally seen answer more → ∥ IsSaidAt seen input editors tally.count answer ∥₁ → (answer ≡ generation_gone → ∥ IsOffAt seen input editors tally.count ∥₁) → ((lines : List ℕ) → P lines → Q (lines ++ line (text answer)))
     → HasPrintedBy text more input editors Q
 one_more_by text tally more seen input editors P Q answer has adds is off so =
     let texts : lines_of text (has.answers ++ answer ∷ []) ≡ lines_of text has.answers ++ line (text answer) =
@@ -208,6 +257,8 @@ one_more_by text tally more seen input editors P Q answer has adds is off so =
       awaited_to = more_waited tally.awaited more.awaited has.answers answer has.awaited_to adds.no_older;
       in_turn = more_in_turn tally.tickets more.tickets has.answers answer has.in_turn adds.in_turn;
       noted = more_noted tally.puts more.puts tally.lines more.lines tally.count has.answers answer has.noted has.many adds.noted;
+      measured = more_measured has.answers answer has.measured (measured_by tally has.answers answer has.many has.counted adds.tells);
+      counted = more_counted tally.counted more.counted has.answers answer has.counted adds.counted;
       dropped = subst (λ (o : Opening). AreDropped o.starts (has.answers ++ answer ∷ [])) (sym adds.on.0)
           (more_dropped tally.known.opening.starts tally.accepted tally.tickets has.answers answer has.dropped has.accepted has.in_turn.last adds.dropped);
       accepted = subst (λ (o : Opening). more.accepted ≡ tickets_after o.starts (accepted_in (has.answers ++ answer ∷ []))) (sym adds.on.0)
@@ -217,16 +268,16 @@ one_more_by text tally more seen input editors P Q answer has adds is off so =
 
 -- the answer to the next line is printed
 pub one_printed_by : (text : Answer → List ℕ) (tally more : Tally) (seen : Beginning) (input : Input) (editors : ℕ) (old mid new : Option (List ℕ)) (answer : Answer) → HasPrintedBy text tally input editors (Appends old mid)
-    → Adds tally seen answer more → ∥ IsSaidAt seen input editors tally.count answer ∥₁ → (answer ≡ Gone → ∥ IsOffAt seen input editors tally.count ∥₁) → Appends mid new (line (text answer))
+    → Adds tally seen answer more → ∥ IsSaidAt seen input editors tally.count answer ∥₁ → (answer ≡ generation_gone → ∥ IsOffAt seen input editors tally.count ∥₁) → Appends mid new (line (text answer))
     → HasPrintedBy text more input editors (Appends old new)
 one_printed_by text tally more seen input editors old mid new answer has adds is off printed =
     one_more_by text tally more seen input editors (Appends old mid) (Appends old new) answer has adds is off (λ lines was. appends_more old mid new lines (line (text answer)) was printed)
 
 -- the printing ended where all of them are printed
-pub ends_whole : {W : Type 0} (outlet : Ghosts W) (tally : Tally) (end : PrintEnd) (input : Input) (editors : ℕ) (old mid new : W) → HasPrintedBy answer_text tally input editors (Appends (outlet.contents old) (outlet.contents mid))
-    → Keeps (outlet.contents mid) (outlet.contents new) → (end ≡ Output → outlet.has_failed new) → PrintsSo outlet input editors old new (record { tally = tally; end = end })
+pub ends_whole : {W : Type 0} (outlet : Ghosts W) (tally : Tally) (end : Option LineFault) (input : Input) (editors : ℕ) (old mid new : W) → HasPrintedBy answer_text tally input editors (Appends (outlet.contents old) (outlet.contents mid))
+    → Keeps (outlet.contents mid) (outlet.contents new) → (end ≡ Some Failed → outlet.has_failed new) → PrintsSo outlet input editors old new (record { tally = tally; end = end })
 ends_whole outlet tally end input editors old mid new has kept failed = record {
-  lines = printed_as answer_text tally input editors (Appends (outlet.contents old) (outlet.contents mid)) (PrintsUnless (end ≡ Output) (outlet.contents old) (outlet.contents new)) has
+  lines = printed_as answer_text tally input editors (Appends (outlet.contents old) (outlet.contents mid)) (PrintsUnless (end ≡ Some Failed) (outlet.contents old) (outlet.contents new)) has
       (λ lines was. let all = appends_still (outlet.contents old) (outlet.contents mid) (outlet.contents new) lines was kept in (begins_all (outlet.contents old) (outlet.contents new) lines all, λ other. all));
   failed = failed;
 }
@@ -234,10 +285,10 @@ ends_whole outlet tally end input editors old mid new has kept failed = record {
 -- .. or where a write of the next one's line failed
 pub ends_broken : {W : Type 0} (outlet : Ghosts W) (tally more : Tally) (seen : Beginning) (input : Input) (editors : ℕ) (old mid new : W) (answer : Answer)
     → HasPrintedBy answer_text tally input editors (Appends (outlet.contents old) (outlet.contents mid))
-    → Adds tally seen answer more → ∥ IsSaidAt seen input editors tally.count answer ∥₁ → (answer ≡ Gone → ∥ IsOffAt seen input editors tally.count ∥₁) → Begins (outlet.contents mid) (outlet.contents new) (line (answer_text answer))
-    → outlet.has_failed new → PrintsSo outlet input editors old new (record { tally = more; end = Output })
+    → Adds tally seen answer more → ∥ IsSaidAt seen input editors tally.count answer ∥₁ → (answer ≡ generation_gone → ∥ IsOffAt seen input editors tally.count ∥₁) → Begins (outlet.contents mid) (outlet.contents new) (line (answer_text answer))
+    → outlet.has_failed new → PrintsSo outlet input editors old new (record { tally = more; end = Some Failed })
 ends_broken outlet tally more seen input editors old mid new answer has adds is off begun failed =
-    let failing = PrintsUnless (Output ≡ Output) (outlet.contents old) (outlet.contents new) in
+    let failing = PrintsUnless (◌≡◌ {A = Option LineFault} (Some Failed) (Some Failed)) (outlet.contents old) (outlet.contents new) in
     record {
       lines = one_more_by answer_text tally more seen input editors (Appends (outlet.contents old) (outlet.contents mid)) failing answer has adds is off
           (λ lines was. (begins_more (outlet.contents old) (outlet.contents mid) (outlet.contents new) lines (line (answer_text answer)) was begun, λ other. absurd (other refl)));
@@ -255,10 +306,10 @@ printed_of tally input editors Stands has = record {
 
 -- ---- what is gathered
 
-pub none_gathered : (tally : Tally) (input : Input) (editors : ℕ) (text : List ℕ) → tally.count ≡ 0 → tally.tickets ≡ no_tickets → tally.puts ≡ no_puts → tally.accepted ≡ tally.known.opening.starts → text ≡ [] → HasText tally input editors text
-none_gathered tally input editors text first untold unput starts none = subst (λ (t : List ℕ). HasText tally input editors t) (sym none) (none_printed_by script_text tally input editors (Some []) first untold unput starts)
+pub none_gathered : (tally : Tally) (input : Input) (editors : ℕ) (text : List ℕ) → tally.count ≡ 0 → tally.tickets ≡ no_tickets → tally.puts ≡ no_puts → tally.counted ≡ none_counted → tally.accepted ≡ tally.known.opening.starts → text ≡ [] → HasText tally input editors text
+none_gathered tally input editors text first untold unput uncounted starts none = subst (λ (t : List ℕ). HasText tally input editors t) (sym none) (none_printed_by script_text tally input editors (Some []) first untold unput uncounted starts)
 
 pub one_gathered : (tally more : Tally) (seen : Beginning) (input : Input) (editors : ℕ) (answer : Answer) (old new : List ℕ) → HasText tally input editors old → Adds tally seen answer more
-    → ∥ IsSaidAt seen input editors tally.count answer ∥₁ → (answer ≡ Gone → ∥ IsOffAt seen input editors tally.count ∥₁) → new ≡ old ++ line (script_text answer) → HasText more input editors new
+    → ∥ IsSaidAt seen input editors tally.count answer ∥₁ → (answer ≡ generation_gone → ∥ IsOffAt seen input editors tally.count ∥₁) → new ≡ old ++ line (script_text answer) → HasText more input editors new
 one_gathered tally more seen input editors answer old new has adds is off printed =
     one_printed_by script_text tally more seen input editors (Some []) (Some old) (Some new) answer has adds is off printed

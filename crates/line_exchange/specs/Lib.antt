@@ -4,6 +4,7 @@ pub mod Streams
 pub mod OneList
 pub mod PutLines
 pub mod Waits
+pub mod Measured
 pub mod Tallies
 pub mod Begun
 pub mod Prints

@@ -1,5 +1,5 @@
 -- What the one list of postings says of what is asked for.
-use Rattle.std.specs.Prelude.{◌≡◌, ◌<◌, ◌≤◌, ℕ, List, Some, None, Result, Ok, Err, IsSome, slice_get, take}
+use Rattle.std.specs.Prelude.{◌≡◌, ◌≢◌, ◌<◌, ◌≤◌, ℕ, List, Some, None, Result, Ok, Err, IsSome, slice_get, take}
 use Rattle.std.specs.List.{Contains}
 use Rattle.schemes.specs.declared.parts.Parts.{Parts}
 use Rattle.schemes.specs.declared.packet.Address.{Address}
@@ -13,14 +13,16 @@ use Rattle.generations.specs.declared.posting.Mark.{Mark}
 use Rattle.generations.specs.declared.posting.Verdict.TheVariants as verdicts
 use Rattle.generations.specs.Notices.{marks_in, newest_in}
 use Rattle.generations.specs.Beginnings.{Beginning, GoesOn, board_after}
+use Rattle.forwarders.specs.declared.refused.Refused.TheVariants.{GenerationGone}
+use Rattle.forwarders.specs.Answers.{by_name}
 use Rattle.forwarders.specs.Arrivals.{IsPublished}
 use Rattle.packet_ways.specs.Carried.{HoldsOf, IsAnswerBy}
 use Rattle.packet_ways.specs.Standing.{Counts, IsNewest}
 use Rattle.live_lines.specs.declared.asked.Asked.{Asked}
 use Rattle.live_lines.specs.declared.asked.Asked.TheVariants as asks
 use Rattle.live_lines.specs.declared.answer.Answer.{Answer}
-use Rattle.live_lines.specs.declared.answer.Answer.TheVariants.{Settled, AlreadyIn, RefusedBefore, OldTicket, Way, NoNode, Told, Sent, Moved, NotCarried, Gone, State, Waited, BackedUp}
-use Rattle.live_lines.specs.Answers.{Fits}
+use Rattle.live_lines.specs.declared.answer.Answer.TheVariants.{Settled, AlreadyIn, RefusedBefore, OldTicket, Way, NoNode, Told, Sent, Moved, NotCarried, State, Waited, BackedUp, Metrics}
+use Rattle.live_lines.specs.Answers.{Fits, generation_gone}
 use Rattle.line_exchange.specs.Inputs.{Input}
 use Rattle.line_exchange.specs.Streams.{AreEachAt, IsAskedAt}
 
@@ -62,9 +64,9 @@ IsAddressIn all node (Told a) = GivesIn all a.generation (λ t. address_given t 
 IsAddressIn all node NoNode = (generation : ℕ) × (p : Parts) × IsPublished all generation p × (node < p.nodes → ⊥)
 IsAddressIn all node other = Unit {0}
 
--- why a packet isn't carried is by the scheme of a generation
+-- why a packet isn't carried is by the scheme of a generation, unless that is gone
 abbrev pub IsRefusalIn : {A : Type 0} → Beginning → ℕ → (Tables → Result A scheme.Refused) → Answer → Type 0
-IsRefusalIn all generation ask (NotCarried why) = GivesIn all generation ask (Err why)
+IsRefusalIn all generation ask (NotCarried why) = why ≢ GenerationGone → (p : Parts) × IsPublished all generation p × (by_name (ask (tables p)) ≡ Err why)
 IsRefusalIn all generation ask other = Unit {0}
 
 -- a packet that is sent, or why none is, is by the scheme of the address's generation
@@ -92,6 +94,11 @@ abbrev pub IsBackupIn : Beginning → Answer → Type 0
 IsBackupIn all (BackedUp count) = (seen : Beginning) × GoesOn seen all × Counts seen count
 IsBackupIn all other = Unit {0}
 
+-- .. and the newest generation was this one
+abbrev pub IsMetricsIn : Beginning → Answer → Type 0
+IsMetricsIn all (Metrics m) = (seen : Beginning) × GoesOn seen all × Counts seen m.value.count × IsNewest seen m.value.generation
+IsMetricsIn all other = Unit {0}
+
 -- The answer to what is asked for is what the list says. Of a session's last ticket and of tables nothing is said here, nor of how many
 -- changes wait at the queue. `AreGone` says when a generation is gone.
 abbrev pub IsSaidIn : Beginning → Asked → Answer → Type 0
@@ -103,6 +110,7 @@ IsSaidIn all (asks.Hop at packet) answer = IsHopIn all at packet answer
 IsSaidIn all asks.State answer = IsStateIn all answer
 IsSaidIn all asks.Wait answer = IsWaitedIn all answer
 IsSaidIn all (asks.Backup file) answer = IsBackupIn all answer
+IsSaidIn all asks.Metrics answer = IsMetricsIn all answer
 IsSaidIn all asked answer = Unit {0}
 
 -- An answer to what the line at a place asks for, which a list says: `Says` tells how.
@@ -143,7 +151,7 @@ pub record IsGoneBehind (Says : Beginning → List Answer → Type 0) (all : Beg
   pub gone : IsOffAt seen input editors k
 
 abbrev pub AreGone : (Beginning → List Answer → Type 0) → Beginning → Input → ℕ → List Answer → Type 0
-AreGone Says all input editors answers = (k : ℕ) → slice_get answers k ≡ Some Gone → ∥ IsGoneBehind Says all input editors k answers ∥₁
+AreGone Says all input editors answers = (k : ℕ) → slice_get answers k ≡ Some generation_gone → ∥ IsGoneBehind Says all input editors k answers ∥₁
 
 -- ---- by a beginning of it that was seen
 
@@ -158,7 +166,7 @@ pub record AnswersBy (known : Beginning) (asked : Asked) (answer : Answer) : Typ
   -- each list says it that goes on from here
   pub said : IsSaidBy known asked answer
   -- it tells that a generation is gone only where that is so
-  pub off : answer ≡ Gone → IsOff known asked
+  pub off : answer ≡ generation_gone → IsOff known asked
 
 -- an answer to what the line at a place asks for, which each list says that goes on from here
 abbrev pub IsSaidAt : Beginning → Input → ℕ → ℕ → Answer → Type 0

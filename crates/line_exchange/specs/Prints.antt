@@ -1,5 +1,5 @@
 -- What a live service prints.
-use Rattle.std.specs.Prelude.{◌≡◌, ℕ, List, IfSome, length}
+use Rattle.std.specs.Prelude.{◌≡◌, ℕ, List, IfSome, Some, length}
 use Rattle.std.specs.List.{flat_map}
 use Rattle.command_output.specs.Lines.{line}
 use Rattle.line_exchange.specs.Begun.{PrintsUnless}
@@ -11,12 +11,13 @@ use Rattle.live_lines.specs.Answers.{answer_text}
 use Rattle.line_exchange.specs.Inputs.{Input, Bytes, Script}
 use Rattle.line_exchange.specs.Streams.{AreEachAt, IsAnswerAt}
 use Rattle.line_exchange.specs.OneList.{AreGone, AreSaid}
+use Rattle.line_exchange.specs.Measured.{AreCounted, AreMeasured}
 use Rattle.line_exchange.specs.PutLines.{AreNotedFirst}
 use Rattle.line_exchange.specs.Tallies.{AreAwaited, AreBackedUp, AreDropped, AreInTurn, AreReached, accepted_in}
 use Rattle.line_exchange.specs.Waits.{AreAwaitedTo, AreNoOlder}
 use Rattle.line_exchange.specs.declared.tally.Tally.{Tally}
 use Rattle.line_exchange.specs.declared.printed.Printed.{Printed}
-use Rattle.line_exchange.specs.declared.printed.PrintEnd.TheVariants.{Output}
+use Rattle.line_exchange.specs.declared.line_fault.LineFault.TheVariants.{Failed}
 
 -- the lines of answers, of each one's text
 abbrev pub lines_of : (Answer → List ℕ) → List Answer → List ℕ
@@ -47,6 +48,9 @@ pub record HasPrintedBy (text : Answer → List ℕ) (tally : Tally) (input : In
   pub in_turn : AreInTurn tally.tickets answers
   -- the lines of verdicts were noted by editors
   pub noted : AreNotedFirst tally.puts tally.lines.lines answers
+  -- metrics tell of the answers before them
+  pub measured : AreMeasured answers
+  pub counted : AreCounted tally.counted answers
   -- edits that put nothing are told so by what was told before
   pub dropped : AreDropped tally.known.opening.starts answers
   pub accepted : tally.accepted ≡ tickets_after tally.known.opening.starts (accepted_in answers)
@@ -55,9 +59,9 @@ pub record HasPrintedBy (text : Answer → List ℕ) (tally : Tally) (input : In
 -- What was printed on a writer: answers to the first lines, by what is known of the list of postings, and nothing else.
 pub record PrintsSo {W : Type 0} (outlet : Ghosts W) (input : Input) (editors : ℕ) (old new : W) (printed : Printed) : Type 0 where
   -- all their lines, or a beginning of these where the output failed
-  pub lines : HasPrintedBy answer_text printed.tally input editors (PrintsUnless (printed.end ≡ Output) (outlet.contents old) (outlet.contents new))
+  pub lines : HasPrintedBy answer_text printed.tally input editors (PrintsUnless (printed.end ≡ Some Failed) (outlet.contents old) (outlet.contents new))
   -- then a write of this very writer did
-  pub failed : printed.end ≡ Output → outlet.has_failed new
+  pub failed : printed.end ≡ Some Failed → outlet.has_failed new
 
 -- these are all lines, where that is known
 abbrev pub AreAllLines : Input → ℕ → Type 0

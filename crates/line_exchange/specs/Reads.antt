@@ -3,8 +3,8 @@ use Rattle.std.specs.Prelude.{◌≡◌, ◌+◌, ◌++◌, ℕ, Bool, true, fal
 use Rattle.input_lines.specs.Reading.{AreRead}
 use Rattle.written_values.specs.declared.line.ScriptLine.{ScriptLine}
 use Rattle.line_exchange.specs.Inputs.{Input, Bytes, Script}
-use Rattle.line_exchange.specs.declared.read_fault.ReadFault.{ReadFault}
-use Rattle.line_exchange.specs.declared.read_fault.ReadFault.TheVariants.{Input as Failed}
+use Rattle.line_exchange.specs.declared.line_fault.LineFault.{LineFault}
+use Rattle.line_exchange.specs.declared.line_fault.LineFault.TheVariants.{Failed}
 use Rattle.line_exchange.specs.Prints.{AreAllLines}
 
 -- where the bytes of an input are known, so many lines of them are read, and the others are left
@@ -32,9 +32,9 @@ abbrev pub AreOfInput : Input → Type 0
 AreOfInput (Bytes bytes) = Unit {0}
 AreOfInput (Script script) = ⊥
 
-abbrev pub MayFailSo : Input → ReadFault → Type 0
+abbrev pub MayFailSo : Input → LineFault → Type 0
 MayFailSo input why = why ≡ Failed → AreOfInput input
 
 -- how the reading ended: where it came to the end, with so many lines
-abbrev pub IsReadEnd : Input → Result (Option ℕ) ReadFault → Type 0
+abbrev pub IsReadEnd : Input → Result (Option ℕ) LineFault → Type 0
 IsReadEnd input result = IfOk result (λ o. IfSome o (λ lines. AreAllLines input lines)) × IfErr result (λ why. MayFailSo input why)

@@ -7,7 +7,9 @@ use Rattle.generations.specs.declared.posting.Verdict.{Verdict}
 use Rattle.generations.specs.declared.posting.Verdict.TheVariants.{Accepted, Refused}
 use Rattle.generations.specs.Beginnings.{Beginning, GoesOn}
 use Rattle.live_lines.specs.declared.answer.Answer.{Answer}
-use Rattle.live_lines.specs.declared.answer.Answer.TheVariants.{AlreadyIn, BackedUp, Gone, OldTicket, RefusedBefore, Resumed, Settled, Waited}
+use Rattle.live_lines.specs.Answers.{generation_gone}
+use Rattle.live_lines.specs.declared.answer.Answer.TheVariants.{AlreadyIn, BackedUp, OldTicket, RefusedBefore, Resumed, Settled, Waited}
+use Rattle.line_exchange.specs.Measured.{CountsMore, Tells}
 use Rattle.line_exchange.specs.PutLines.{NotesMore}
 use Rattle.line_exchange.specs.Waits.{IsNoOlder}
 use Rattle.line_exchange.specs.declared.tally.Tally.{Tally}
@@ -98,7 +100,10 @@ pub record Adds (old : Tally) (seen : Beginning) (answer : Answer) (new : Tally)
   pub noted : NotesMore old.count answer old.puts new.puts old.lines new.lines
   pub dropped : IsDropped old.accepted old.tickets answer
   pub accepted : new.accepted ≡ tickets_after old.accepted (accepted_by answer)
+  -- a metrics line tells what is kept of the answers before it
+  pub tells : Tells old.count old.counted answer
+  pub counted : CountsMore answer old.counted new.counted
   pub on : GoesOn old.known new.known
   pub covers : GoesOn seen new.known
   -- who tells that a generation is gone knows all that was known before
-  pub gone : answer ≡ Gone → GoesOn old.known seen
+  pub gone : answer ≡ generation_gone → GoesOn old.known seen

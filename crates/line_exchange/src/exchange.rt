@@ -31,6 +31,8 @@ pub struct Exchange<J: Stream, B: BoardName> {
     pub book: LineBook,
     // How many answers were printed, and no less than any place once none comes any more.
     printed: AtomicU64,
+    // How many lines were read.
+    read: AtomicU64,
     ghost named: { known.opening ≡ B.opening },
     ghost starts_are: { starts ≡ B.opening.starts },
     ghost book_is: { book.book ≡ J.book },
@@ -72,6 +74,7 @@ impl<J: Stream, B: BoardName> Exchange<J, B> {
             starts: *starts,
             book: LineBook::new(alloc, blank)?,
             printed: AtomicU64::new(0),
+            read: AtomicU64::new(0),
         })
     }
 
@@ -97,6 +100,17 @@ impl<J: Stream, B: BoardName> Exchange<J, B> {
         }
         self.waiter.shut(rt);
         self.tables.shut(rt);
+    }
+
+    /// So many lines were read.
+    pub fn read_to(&self, count: u64) {
+        self.read.store(count, Ordering::SeqCst);
+    }
+
+    /// How many lines behind a place were read.
+    pub fn read_behind(&self, place: u64) -> u64 {
+        let read = self.read.load(Ordering::SeqCst);
+        read.saturating_sub(place.saturating_add(1))
     }
 
     /// So many answers were printed.

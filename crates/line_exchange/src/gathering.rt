@@ -1,5 +1,5 @@
 // The caller's end of a script's service: it gathers the answers, and prints them at the end.
-ghost use Rattle.std.specs.Prelude.{◌≡◌, ◌≢◌, ◌++◌, [], IfSome, OnOk};
+ghost use Rattle.std.specs.Prelude.{◌≡◌, ◌≢◌, ◌++◌, [], IfSome, None, OnOk, Some};
 ghost use Rattle.std.specs.String.{string_bytes};
 ghost use Rattle.command_output.specs.Lines.{line};
 ghost use Rattle.live_lines.specs.Answers.{script_text};
@@ -9,8 +9,9 @@ ghost use Rattle.line_exchange.specs.Gathers.{HasText, PrintsAtEnd};
 use crate::answer_writer::{AnswerWriter, print_text};
 use crate::console::Console;
 use crate::exchange::Exchange;
+use crate::line_fault::LineFault;
 use crate::messages::{Answered, Stream};
-use crate::printed::{PrintEnd, Printed};
+use crate::printed::Printed;
 use crate::served::Served;
 use crate::tally::Tally;
 use command_output::Fault;
@@ -63,9 +64,9 @@ fn gather_each<J: Stream, B: BoardName, R: Wait>(
     text: &mut String,
 ) -> Printed
     requires { string_bytes text.old ≡ [] }
-    ensures text { result.end ≡ PrintEnd.Whole
+    ensures text { result.end ≡ None
         → HasText result.tally J.input J.editors (string_bytes text.new) }
-    ensures unbroken { result.end ≢ PrintEnd.Output }
+    ensures unbroken { result.end ≢ Some LineFault.Failed }
     ensures opening { result.tally.known.opening ≡ B.opening }
     ensures book { result.tally.lines.book ≡ J.book }
 {
@@ -76,15 +77,13 @@ fn gather_each<J: Stream, B: BoardName, R: Wait>(
     );
     for _ in rt.forever() {
         let Some(answered) = next(rt, exchange, tally.count) else {
-            return Printed {
-                tally,
-                end: PrintEnd::Whole,
-            };
+            return Printed { tally, end: None };
         };
+        let answered = tally.filled(answered, exchange.read_behind(tally.count));
         let Some(more) = tally.with(&answered) else {
             return Printed {
                 tally,
-                end: PrintEnd::Internal,
+                end: Some(LineFault::Internal),
             };
         };
         match push_line(alloc, text, &answered.answer) {
@@ -94,14 +93,11 @@ fn gather_each<J: Stream, B: BoardName, R: Wait>(
             }
             Err(_) => return Printed {
                 tally,
-                end: PrintEnd::Memory,
+                end: Some(LineFault::Memory),
             },
         }
     }
-    Printed {
-        tally,
-        end: PrintEnd::Whole,
-    }
+    Printed { tally, end: None }
 }
 
 // Takes the answers in the order of their lines, until none comes any more, and makes their lines.
@@ -110,9 +106,9 @@ fn gather_all<J: Stream, B: BoardName, R: Wait>(
     alloc: Global,
     exchange: &Exchange<J, B>,
 ) -> (Printed, String)
-    ensures text { result.0.end ≡ PrintEnd.Whole
+    ensures text { result.0.end ≡ None
         → HasText result.0.tally J.input J.editors (string_bytes result.1) }
-    ensures unbroken { result.0.end ≢ PrintEnd.Output }
+    ensures unbroken { result.0.end ≢ Some LineFault.Failed }
     ensures opening { result.0.tally.known.opening ≡ B.opening }
     ensures book { result.0.tally.lines.book ≡ J.book }
 {
@@ -139,15 +135,15 @@ fn printed_or<O: AnswerWriter>(out: &mut O, text: &str, fault: Option<Fault>) ->
 }
 
 impl<'a, J: Stream, O: AnswerWriter> Console<J> for Gatherer<'a, O> {
-    ghost use Rattle.std.specs.Prelude.{◌≡◌, ◌≢◌, IfSome};
+    ghost use Rattle.std.specs.Prelude.{◌≡◌, ◌≢◌, IfSome, None, Some};
     ghost use Rattle.std.specs.String.{string_bytes};
     ghost use Rattle.command_output.specs.declared.fault.Fault.TheVariants.{Output};
     ghost use Rattle.line_exchange.specs.Ends.{fault_of};
     ghost use Rattle.line_exchange.specs.Gathers.{HasText, PrintsAtEnd};
-    ghost use Rattle.line_exchange.specs.declared.printed.PrintEnd.TheVariants.{Output as Broken, Whole};
+    ghost use Rattle.line_exchange.specs.declared.line_fault.LineFault.TheVariants.{Failed};
 
-    ghost prints = { λ c d p. (d.out.ghost_name ≡ c.out.ghost_name) × (d.out.now ≡ c.out.now) × (p.end ≢ Broken)
-        × (p.end ≡ Whole → HasText p.tally J.input J.editors (string_bytes d.text)) };
+    ghost prints = { λ c d p. (d.out.ghost_name ≡ c.out.ghost_name) × (d.out.now ≡ c.out.now) × (p.end ≢ Some Failed)
+        × (p.end ≡ None → HasText p.tally J.input J.editors (string_bytes d.text)) };
 
     ghost finishes = { λ c d f s. (d.out.ghost_name ≡ c.out.ghost_name)
         × PrintsAtEnd O.AnswerWriter (string_bytes c.text) c.out.now d.out.now f s

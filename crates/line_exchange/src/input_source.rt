@@ -5,9 +5,9 @@ ghost use Rattle.line_exchange.specs.Inputs.{Input};
 ghost use Rattle.line_exchange.specs.Reads.{AreReadOf, IsReadSo, MayFailSo};
 ghost use Rattle.line_exchange.specs.Streams.{IsAskedBy};
 
+use crate::line_fault::LineFault;
 use crate::line_source::LineSource;
 use crate::messages::{Ask, Stream};
-use crate::read_fault::ReadFault;
 use input_lines::{NextLine, next_line};
 use live_lines::{Asked, asked_in};
 use std::alloc::{AllocError, Global};
@@ -44,10 +44,10 @@ fn asked_of(
 }
 
 // Why a line could not be read.
-fn fault_of(error: &Error) -> ReadFault {
+fn fault_of(error: &Error) -> LineFault {
     match error.kind() {
-        ErrorKind::OutOfMemory => ReadFault::Memory,
-        _ => ReadFault::Input,
+        ErrorKind::OutOfMemory => LineFault::Memory,
+        _ => LineFault::Failed,
     }
 }
 
@@ -59,7 +59,7 @@ fn read_ask<J: Stream, S: BufRead>(
     input: &mut S,
     line: &mut Vec<u8>,
     place: u64,
-) -> Result<Option<Ask<J>>, ReadFault>
+) -> Result<Option<Ask<J>>, LineFault>
     requires editors { editors ≡ J.editors }
     requires read { AreReadOf J.input place (S.remaining input.old) }
     ensures read { IfOk result (λ o. IsReadSo J.input place (is_some o) (S.remaining input.new)) }
@@ -77,7 +77,7 @@ fn read_ask<J: Stream, S: BufRead>(
             of: PhantomData,
         })),
         Ok(None) => Ok(None),
-        Err(_) => Err(ReadFault::Memory),
+        Err(_) => Err(LineFault::Memory),
     }
 }
 
@@ -102,7 +102,7 @@ impl<J: Stream, S: BufRead> LineSource<J> for InputSource<S> {
 
     ghost has_given = { λ source place. (source.editors ≡ J.editors) × AreReadOf J.input place (S.remaining source.input) };
 
-    fn next_ask(&mut self, place: u64) -> Result<Option<Ask<J>>, ReadFault> {
+    fn next_ask(&mut self, place: u64) -> Result<Option<Ask<J>>, LineFault> {
         read_ask(
             self.alloc,
             self.editors,

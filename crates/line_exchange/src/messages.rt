@@ -1,7 +1,7 @@
 // What threads send to one another of the lines of a service.
 ghost use Rattle.std.specs.Prelude.{◌≡◌, Some, slice_get};
 ghost use Rattle.put_lines.specs.Lines.{lines_of};
-ghost use Rattle.live_lines.specs.declared.answer.Answer.TheVariants.{Gone};
+ghost use Rattle.live_lines.specs.Answers.{generation_gone};
 ghost use Rattle.line_exchange.specs.Streams.{IsAskedAt};
 ghost use Rattle.line_exchange.specs.OneList.{IsOffAt, IsSaidAt};
 
@@ -80,7 +80,7 @@ pub struct Answered<J: Stream, B: BoardName> {
     pub at: PhantomData<B>,
     ghost named: { known.opening ≡ B.opening },
     ghost is_answer: { ∥ IsSaidAt known J.input J.editors place answer ∥₁ },
-    ghost is_off: { answer ≡ Gone → ∥ IsOffAt known J.input J.editors place ∥₁ },
+    ghost is_off: { answer ≡ generation_gone → ∥ IsOffAt known J.input J.editors place ∥₁ },
 }
 
 impl<J: Stream, B: BoardName> Placed for Answered<J, B> {

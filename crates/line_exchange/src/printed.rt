@@ -1,22 +1,10 @@
 // How far the printing came.
+use crate::line_fault::LineFault;
 use crate::tally::Tally;
 
-/// How the printing ended.
-#[derive(Clone, Copy, Debug, PartialEq, Eq, Drop)]
-pub enum PrintEnd {
-    /// No answer comes any more.
-    Whole,
-    /// A write failed.
-    Output,
-    /// Memory ran out.
-    Memory,
-    /// An answer doesn't go with those before it. No run is known that ends so.
-    Internal,
-}
-
-/// What is kept of the answers that were printed, and how that ended.
+/// What is kept of the answers that were printed, and why that ended where more might have come.
 #[derive(Drop)]
 pub struct Printed {
     pub tally: Tally,
-    pub end: PrintEnd,
+    pub end: Option<LineFault>,
 }

@@ -1,5 +1,5 @@
 // The printer: it prints answers in the order of their lines.
-ghost use Rattle.std.specs.Prelude.{◌≡◌, IfErr, IfOk, IfSome, OnErr, OnOk};
+ghost use Rattle.std.specs.Prelude.{◌≡◌, ◌≢◌, IfErr, IfOk, IfSome, OnErr, OnOk};
 ghost use Rattle.std.specs.String.{string_bytes};
 ghost use Rattle.std.specs.Io.KnownBytes.{Appends, Keeps};
 ghost use Rattle.command_output.specs.Lines.{line};
@@ -9,8 +9,9 @@ ghost use Rattle.line_exchange.specs.Prints.{PrintsSo};
 
 use crate::answer_writer::AnswerWriter;
 use crate::exchange::Exchange;
+use crate::line_fault::LineFault;
 use crate::messages::{Answered, Stream};
-use crate::printed::{PrintEnd, Printed};
+use crate::printed::Printed;
 use crate::tally::Tally;
 use live_lines::Answer;
 use packet_ways::BoardName;
@@ -27,27 +28,20 @@ fn line_of(alloc: Global, answer: &Answer) -> Result<String, AllocError>
     Ok(text)
 }
 
-// Why an answer isn't printed.
-#[derive(Clone, Copy, Drop)]
-enum Unprinted {
-    Output,
-    Memory,
-}
-
 // Prints an answer's line.
-fn print_one<O: AnswerWriter>(alloc: Global, answer: &Answer, out: &mut O) -> Result<(), Unprinted>
+fn print_one<O: AnswerWriter>(alloc: Global, answer: &Answer, out: &mut O) -> Result<(), LineFault>
     ensures ok { OnOk result (Appends (O.contents out.old) (O.contents out.new) (line (answer_text answer.now))) }
-    ensures memory { IfErr result (λ why. why ≡ Unprinted.Memory → out.new ≡ out.old) }
-    ensures begun { IfErr result (λ why. why ≡ Unprinted.Output
+    ensures still { IfErr result (λ why. why ≢ LineFault.Failed → out.new ≡ out.old) }
+    ensures begun { IfErr result (λ why. why ≡ LineFault.Failed
         → Begins (O.contents out.old) (O.contents out.new) (line (answer_text answer.now))) }
-    ensures failed { IfErr result (λ why. why ≡ Unprinted.Output → O.has_failed out.new) }
+    ensures failed { IfErr result (λ why. why ≡ LineFault.Failed → O.has_failed out.new) }
 {
     let Ok(text) = line_of(alloc, answer) else {
-        return Err(Unprinted::Memory);
+        return Err(LineFault::Memory);
     };
     match out.put(text.as_bytes()) {
         Ok(()) => Ok(()),
-        Err(_) => Err(Unprinted::Output),
+        Err(_) => Err(LineFault::Failed),
     }
 }
 
@@ -91,19 +85,17 @@ fn print_each<J: Stream, B: BoardName, O: AnswerWriter, R: Wait>(
     for _ in rt.forever() {
         let answered = match next(rt, exchange, tally.count, out) {
             Ok(Some(answered)) => answered,
-            Ok(None) => return Printed {
-                tally,
-                end: PrintEnd::Whole,
-            },
+            Ok(None) => return Printed { tally, end: None },
             Err(_) => return Printed {
                 tally,
-                end: PrintEnd::Output,
+                end: Some(LineFault::Failed),
             },
         };
+        let answered = tally.filled(answered, exchange.read_behind(tally.count));
         let Some(more) = tally.with(&answered) else {
             return Printed {
                 tally,
-                end: PrintEnd::Internal,
+                end: Some(LineFault::Internal),
             };
         };
         match print_one(alloc, &answered.answer, out) {
@@ -111,20 +103,17 @@ fn print_each<J: Stream, B: BoardName, O: AnswerWriter, R: Wait>(
                 tally = more;
                 exchange.print_to(tally.count);
             }
-            Err(Unprinted::Output) => return Printed {
+            Err(LineFault::Failed) => return Printed {
                 tally: more,
-                end: PrintEnd::Output,
+                end: Some(LineFault::Failed),
             },
-            Err(Unprinted::Memory) => return Printed {
+            Err(fault) => return Printed {
                 tally,
-                end: PrintEnd::Memory,
+                end: Some(fault),
             },
         }
     }
-    Printed {
-        tally,
-        end: PrintEnd::Whole,
-    }
+    Printed { tally, end: None }
 }
 
 /// Prints the answers in the order of their lines, each as soon as it is there, until none comes any more. Where one can't be printed

@@ -5,9 +5,9 @@ ghost use Rattle.line_exchange.specs.OneList.{AnswersBy};
 ghost use Rattle.line_exchange.specs.Reads.{IsReadEnd};
 
 use crate::exchange::Exchange;
+use crate::line_fault::LineFault;
 use crate::line_source::LineSource;
 use crate::messages::{Answered, Ask, Stream};
-use crate::read_fault::ReadFault;
 use generations::History;
 use live_lines::{Answer, Asked};
 use packet_ways::BoardName;
@@ -30,7 +30,7 @@ fn owned_by(asked: &Asked) -> Owner {
         Asked::Edit { session, .. } | Asked::Resume { session } => Owner::Session(*session),
         Asked::Route { .. } | Asked::Address { .. } => Owner::Forwarder,
         Asked::Launch { .. } | Asked::Hop { .. } => Owner::Forwarder,
-        Asked::State | Asked::Wait | Asked::Backup { .. } => Owner::Waiter,
+        Asked::State | Asked::Wait | Asked::Backup { .. } | Asked::Metrics => Owner::Waiter,
         Asked::Tables { .. } => Owner::Tables,
         Asked::Unread(_) | Asked::NoSession => Owner::Reader,
         Asked::NotOps | Asked::NotUnderstood => Owner::Reader,
@@ -78,8 +78,8 @@ fn deal<J: Stream, B: BoardName, R: Wait>(
     ask: Ask<J>,
     turn: &mut usize,
     behind: &mut u64,
-) -> Result<(), ReadFault>
-    ensures { IfErr result (λ why. why ≢ ReadFault.Input) }
+) -> Result<(), LineFault>
+    ensures { IfErr result (λ why. why ≢ LineFault.Failed) }
 {
     let mut ask = ask;
     ask.behind = *behind;
@@ -89,14 +89,14 @@ fn deal<J: Stream, B: BoardName, R: Wait>(
     let put = match owned_by(&ask.asked) {
         Owner::Session(session) => match exchange.sessions.get(session as usize) {
             Some(mailbox) => mailbox.put(rt, ask),
-            None => return Err(ReadFault::Internal),
+            None => return Err(LineFault::Internal),
         },
         Owner::Forwarder => match exchange.forwarders.get(*turn) {
             Some(mailbox) => {
                 *turn = next_turn(*turn, exchange.forwarders.len());
                 mailbox.put(rt, ask)
             }
-            None => return Err(ReadFault::Internal),
+            None => return Err(LineFault::Internal),
         },
         Owner::Waiter => exchange.waiter.put(rt, ask),
         Owner::Tables => exchange.tables.put(rt, ask),
@@ -105,12 +105,12 @@ fn deal<J: Stream, B: BoardName, R: Wait>(
                 let _put = exchange.answers.put(rt, answered);
                 return Ok(());
             }
-            None => return Err(ReadFault::Internal),
+            None => return Err(LineFault::Internal),
         },
     };
     match put {
         Ok(()) => Ok(()),
-        Err(_) => Err(ReadFault::Memory),
+        Err(_) => Err(LineFault::Memory),
     }
 }
 
@@ -128,7 +128,7 @@ fn read_each<J: Stream, B: BoardName, L: LineSource<J> + Drop, R: Wait>(
     rt: &R,
     exchange: &Exchange<J, B>,
     source: L,
-) -> Result<Option<u64>, ReadFault>
+) -> Result<Option<u64>, LineFault>
     requires { L.has_given source 0 }
     ensures { IsReadEnd J.input result }
 {
@@ -148,6 +148,7 @@ fn read_each<J: Stream, B: BoardName, L: LineSource<J> + Drop, R: Wait>(
             return Ok(None);
         };
         place = next;
+        exchange.read_to(place);
     }
     Ok(None)
 }
@@ -158,7 +159,7 @@ pub fn read_lines<J: Stream, B: BoardName, L: LineSource<J> + Drop, R: Wait>(
     rt: &R,
     exchange: &Exchange<J, B>,
     source: L,
-) -> Result<Option<u64>, ReadFault>
+) -> Result<Option<u64>, LineFault>
     requires { L.has_given source 0 }
     ensures { IsReadEnd J.input result }
 {

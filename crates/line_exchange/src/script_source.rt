@@ -2,9 +2,9 @@
 ghost use Rattle.std.specs.Prelude.{◌≡◌};
 ghost use Rattle.line_exchange.specs.Scripts.{line_asked};
 
+use crate::line_fault::LineFault;
 use crate::line_source::LineSource;
 use crate::messages::{Ask, Stream};
-use crate::read_fault::ReadFault;
 use live_lines::Asked;
 use std::marker::PhantomData;
 use std::vec::IntoIter;
@@ -36,7 +36,7 @@ impl<J: Stream> LineSource<J> for ScriptSource {
 
     ghost has_given = { λ source place. AreGivenOf J.input place (into_iter_items source.lines) };
 
-    fn next_ask(&mut self, place: u64) -> Result<Option<Ask<J>>, ReadFault> {
+    fn next_ask(&mut self, place: u64) -> Result<Option<Ask<J>>, LineFault> {
         match self.lines.next() {
             Some(line) => Ok(Some(Ask {
                 place,

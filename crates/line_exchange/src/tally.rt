@@ -1,14 +1,17 @@
 // What is kept of the answers that were printed.
 ghost use Rattle.std.specs.Prelude.{◌≡◌, IfSome, IsTrue};
 ghost use Rattle.generations.specs.Beginnings.{GoesOn};
+ghost use Rattle.live_lines.specs.Answers.{generation_gone};
 ghost use Rattle.line_exchange.specs.PutLines.{NotesMore, no_puts};
 ghost use Rattle.requests.specs.Tickets.{tickets_after};
+ghost use Rattle.line_exchange.specs.Measured.{CountsMore, IsFilled, Tells, none_counted};
 ghost use Rattle.line_exchange.specs.Tallies.{Adds, IsDropped, IsInTurn, IsReached, accepted_by, no_tickets};
 ghost use Rattle.line_exchange.specs.Waits.{IsNoOlder};
 
 use crate::messages::{Answered, Stream};
+use forwarders::Refused;
 use generations::{History, Verdict};
-use live_lines::Answer;
+use live_lines::{Answer, KINDS};
 use packet_ways::{BoardName, Carried};
 use put_lines::PutLines;
 use requests::SESSIONS;
@@ -26,6 +29,8 @@ pub struct Tally {
     pub tickets: [u64; SESSIONS],
     /// The last ticket that was told as accepted, of each session, or where its tickets start.
     pub accepted: [u64; SESSIONS],
+    /// How many answers of each kind there were.
+    pub counted: [u64; KINDS],
     /// How many verdicts were told, of each session.
     pub puts: [u64; SESSIONS],
     /// What editors noted of their lines.
@@ -181,14 +186,24 @@ fn puts_with<J: Stream, B: BoardName>(
     }
 }
 
+// How many answers of each kind there are, with one more.
+fn counted_with(counted: &[u64; KINDS], answer: &Answer) -> Option<[u64; KINDS]>
+    ensures { IfSome result (CountsMore answer.now counted.now) }
+{
+    let place = answer.kind().place();
+    let mut counted = *counted;
+    counted[place] = counted[place].checked_add(1)?;
+    Some(counted)
+}
+
 // Whether these know all that was known before, where they tell that a generation is gone.
 #[tactic(auto, using(crate::proofs::Further::longer_on))]
 fn knows_all(known: &History, seen: &History, answer: &Answer) -> bool
     requires { seen.now.opening ≡ known.now.opening }
-    ensures { IsTrue result → answer.now ≡ Answer.Gone → GoesOn known.now seen.now }
+    ensures { IsTrue result → answer.now ≡ generation_gone → GoesOn known.now seen.now }
 {
     match answer {
-        Answer::Gone => seen.covers(known),
+        Answer::NotCarried(Refused::GenerationGone) => seen.covers(known),
         _ => true,
     }
 }
@@ -199,6 +214,7 @@ impl Tally {
         ensures count { result.count ≡ 0 }
         ensures tickets { result.tickets ≡ no_tickets }
         ensures accepted { result.accepted ≡ starts.now }
+        ensures counted { result.counted ≡ none_counted }
         ensures puts { result.puts ≡ no_puts }
         ensures lines { result.lines ≡ lines }
         ensures known { result.known ≡ known }
@@ -209,9 +225,57 @@ impl Tally {
             awaited: 0,
             tickets: [0; SESSIONS],
             accepted: *starts,
+            counted: [0; KINDS],
             puts: [0; SESSIONS],
             lines,
             known,
+        }
+    }
+
+    // An answer that comes next, where a metrics line gets what is kept of the answers before it, and how many lines behind it were read.
+    fn fill(&self, answer: Answer, waiting: u64) -> Answer
+        ensures tells { Tells self.now.count self.now.counted result }
+        ensures stays { IsFilled answer result }
+    {
+        match answer {
+            Answer::Metrics(metrics) => {
+                let mut metrics = metrics;
+                metrics.answers = self.count;
+                metrics.counted = self.counted;
+                metrics.waiting = waiting;
+                Answer::Metrics(metrics)
+            }
+            other => other,
+        }
+    }
+
+    /// An answer that comes next, where a metrics line gets what is kept of the answers before it, and how many lines behind it were read.
+    pub fn filled<J: Stream, B: BoardName>(
+        &self,
+        answered: Answered<J, B>,
+        waiting: u64,
+    ) -> Answered<J, B>
+        ensures place { result.place ≡ answered.place }
+        ensures known { result.known ≡ answered.known }
+        ensures noted { result.noted ≡ answered.noted }
+        ensures tells { Tells self.now.count self.now.counted result.answer }
+        ensures stays { IsFilled answered.answer result.answer }
+    {
+        let Answered {
+            place,
+            answer,
+            known,
+            noted,
+            of,
+            at,
+        } = answered;
+        Answered {
+            place,
+            answer: self.fill(answer, waiting),
+            known,
+            noted,
+            of,
+            at,
         }
     }
 
@@ -220,6 +284,7 @@ impl Tally {
         requires known { self.now.known.opening ≡ B.opening }
         requires lines { self.now.lines.book ≡ J.book }
         requires place { answered.now.place ≡ self.now.count }
+        requires tells { Tells self.now.count self.now.counted answered.now.answer }
         ensures { IfSome result (Adds self.now answered.now.known answered.now.answer) }
     {
         let count = self.count.checked_add(1)?;
@@ -231,6 +296,7 @@ impl Tally {
         if !is_dropped(&self.accepted, &self.tickets, &answered.answer) {
             return None;
         }
+        let counted = counted_with(&self.counted, &answered.answer)?;
         let (puts, lines) = puts_with(&self.puts, &self.lines, answered)?;
         Some(Tally {
             count,
@@ -238,6 +304,7 @@ impl Tally {
             awaited,
             tickets: tickets_with(&self.tickets, &answered.answer)?,
             accepted: accepted_with(&self.accepted, &answered.answer)?,
+            counted,
             puts,
             lines,
             known: furthest(&self.known, &answered.known),

@@ -1,6 +1,6 @@
 -- What forwarders answer, by each list that goes on from what they know.
-use Rattle.std.proofs.Common.{◌≡◌, ℕ, refl, sym, ap, ◌∙◌, subst}
-use Rattle.std.specs.Prelude.{Option, Some, None, IfSome, IsSome, Result, Ok, Err}
+use Rattle.std.proofs.Common.{◌≡◌, ◌≢◌, ◌⊎◌, inl, inr, ⊎_elim, ℕ, refl, sym, ap, ◌∙◌, subst}
+use Rattle.std.specs.Prelude.{Option, Some, None, IsSome, Result, Ok, Err}
 use Rattle.schemes.specs.declared.parts.Parts.{Parts}
 use Rattle.schemes.specs.declared.packet.Address.{Address}
 use Rattle.schemes.specs.declared.packet.Packet.{Packet}
@@ -21,11 +21,9 @@ use Rattle.packet_ways.specs.declared.carried.Carried.{Carried}
 use Rattle.packet_ways.specs.Carried.{HoldsOf, IsCarried}
 use Rattle.service_workers.proofs.PacketsOnWay.{address_is, address_none, no_node_by, ok_by}
 use Rattle.live_lines.specs.declared.asked.Asked.TheVariants as asks
-use Rattle.live_lines.specs.declared.answer.Answer.{Answer}
-use Rattle.live_lines.specs.Answers.{Fits}
-use Rattle.live_lines.specs.declared.answer.Answer.TheVariants.{Way, NoNode, Told, Sent, Moved, NotCarried, Gone}
-use Rattle.line_exchange.specs.OneList.{AnswersBy, GivesIn, IsGoneAfter, IsSaidBy}
-use Rattle.line_workers.specs.Refusals.{IsRefusal}
+use Rattle.live_lines.specs.Answers.{generation_gone}
+use Rattle.live_lines.specs.declared.answer.Answer.TheVariants.{Way, NoNode, Told, Sent, Moved, NotCarried}
+use Rattle.line_exchange.specs.OneList.{AnswersBy, GivesIn, IsGoneAfter, IsRefusalIn, IsSaidBy}
 
 -- ---- routes
 
@@ -34,42 +32,27 @@ route_said known from to way is = is
 
 -- ---- refusals
 
-abbrev pub named_back : Refused → scheme.Refused
-named_back refused.NoNode = by_scheme.NoNode
-named_back refused.Unreachable = by_scheme.Unreachable
-named_back refused.Stray = by_scheme.Stray
-named_back refused.Spent = by_scheme.Spent
-named_back other = by_scheme.NoNode
-
-back_named : (e : scheme.Refused) → named_back (named e) ≡ e
-back_named by_scheme.NoNode = refl
-back_named by_scheme.Unreachable = refl
-back_named by_scheme.Stray = refl
-back_named by_scheme.Spent = refl
-
-never_gone : (e : scheme.Refused) → refused.GenerationGone ≡ named e → ⊥
-never_gone by_scheme.NoNode is = cc
-never_gone by_scheme.Unreachable is = cc
-never_gone by_scheme.Stray is = cc
-never_gone by_scheme.Spent is = cc
-
-err_by_name : {A : Type 0} (r : Result A scheme.Refused) (e : scheme.Refused) → Err (named e) ≡ by_name r → r ≡ Err e
-err_by_name (Ok a) e is = absurd (cc)
-err_by_name (Err f) e is = (let same : named e ≡ named f = cc in ap (λ x. Err x) (sym (back_named f) ∙ (ap named_back (sym same) ∙ back_named e)))
-
 -- a scheme's refusal
-err_by : {A : Type 0} (answer : Tables → Result A scheme.Refused) (found : Option Parts) (e : scheme.Refused) → Err (named e) ≡ by answer found → (q : Parts) × (found ≡ Some q) × (answer (tables q) ≡ Err e)
-err_by answer None e is = absurd (never_gone e (cc))
-err_by answer (Some q) e is = (q, refl, err_by_name (answer (tables q)) e is)
+abbrev IsByScheme : Refused → Type 0
+IsByScheme refused.BoardShut = ⊥
+IsByScheme refused.GenerationGone = ⊥
+IsByScheme other = Unit {0}
 
-gone_by_name : {A : Type 0} (r : Result A scheme.Refused) → Err refused.GenerationGone ≡ by_name r → ⊥
-gone_by_name (Ok a) is = cc
-gone_by_name (Err e) is = never_gone e (cc)
+named_so : (e : scheme.Refused) → IsByScheme (named e)
+named_so by_scheme.NoNode = tt
+named_so by_scheme.Unreachable = tt
+named_so by_scheme.Stray = tt
+named_so by_scheme.Spent = tt
 
--- there was no scheme
-gone_by : {A : Type 0} (answer : Tables → Result A scheme.Refused) (found : Option Parts) → Err refused.GenerationGone ≡ by answer found → found ≡ None
-gone_by answer None is = refl
-gone_by answer (Some q) is = absurd (gone_by_name (answer (tables q)) is)
+refused_so : {A : Type 0} (r : Result A scheme.Refused) (why : Refused) → Err why ≡ by_name r → IsByScheme why
+refused_so (Ok a) why is = absurd (cc)
+refused_so (Err e) why is = (let same : named e ≡ why = cc in subst IsByScheme same (named_so e))
+
+-- there was no scheme, or it is the scheme's refusal
+refused_by : {A : Type 0} (answer : Tables → Result A scheme.Refused) (found : Option Parts) (why : Refused) → Err why ≡ by answer found
+    → ((found ≡ None) × (why ≡ refused.GenerationGone)) ⊎ ((q : Parts) × (found ≡ Some q) × (by_name (answer (tables q)) ≡ Err why) × IsByScheme why)
+refused_by answer None why is = inl (refl, cc)
+refused_by answer (Some q) why is = inr (q, refl, sym is, refused_so (answer (tables q)) why is)
 
 -- ---- addresses
 
@@ -94,31 +77,21 @@ gives_said known generation ask a is all lawful are_named on =
     let found = ok_by ask (scheme_of generation (board_after known).shelf) a (sym is) in
     (found.0, published_there all known generation found.0 on found.1, found.2)
 
-refuses_said : {A : Type 0} (known : Beginning) (generation : ℕ) (ask : Tables → Result A scheme.Refused) (e : scheme.Refused) → Err (named e) ≡ by ask (scheme_of generation (board_after known).shelf)
-    → HoldsOf known (λ all. GivesIn all generation ask (Err e))
-refuses_said known generation ask e is all lawful are_named on =
-    let found = err_by ask (scheme_of generation (board_after known).shelf) e is in
-    (found.0, published_there all known generation found.0 on found.1, found.2)
-
--- the board had a generation, and this one wasn't on its shelf
-gone_after : {A : Type 0} (known : Beginning) (generation : ℕ) (ask : Tables → Result A scheme.Refused) (why : Refused) (answer : Answer) → IsSome (newest_in known.log) → IsRefusal why answer
-    → Err why ≡ by ask (scheme_of generation (board_after known).shelf) → answer ≡ Gone → IsGoneAfter known generation
-gone_after known generation ask refused.GenerationGone answer some so is gone = (some, gone_by ask (scheme_of generation (board_after known).shelf) is)
-gone_after known generation ask refused.NoNode answer some so is gone = (let same = sym so ∙ gone in absurd (cc))
-gone_after known generation ask refused.Unreachable answer some so is gone = (let same = sym so ∙ gone in absurd (cc))
-gone_after known generation ask refused.Stray answer some so is gone = (let same = sym so ∙ gone in absurd (cc))
-gone_after known generation ask refused.Spent answer some so is gone = (let same = sym so ∙ gone in absurd (cc))
-gone_after known generation ask refused.BoardShut answer some so is gone = absurd so
-
--- so each answer to a refusal is said
-no_step_said : {A : Type 0} (P : Answer → Type 0) (known : Beginning) (generation : ℕ) (ask : Tables → Result A scheme.Refused) → ((e : scheme.Refused) → HoldsOf known (λ all. GivesIn all generation ask (Err e)) → P (NotCarried e))
-    → P Gone → (why : Refused) (answer : Answer) → IsRefusal why answer → Err why ≡ by ask (scheme_of generation (board_after known).shelf) → P answer
-no_step_said P known generation ask refuses gone refused.GenerationGone answer so is = subst P (sym so) gone
-no_step_said P known generation ask refuses gone refused.NoNode answer so is = subst P (sym so) (refuses by_scheme.NoNode (refuses_said known generation ask by_scheme.NoNode is))
-no_step_said P known generation ask refuses gone refused.Unreachable answer so is = subst P (sym so) (refuses by_scheme.Unreachable (refuses_said known generation ask by_scheme.Unreachable is))
-no_step_said P known generation ask refuses gone refused.Stray answer so is = subst P (sym so) (refuses by_scheme.Stray (refuses_said known generation ask by_scheme.Stray is))
-no_step_said P known generation ask refuses gone refused.Spent answer so is = subst P (sym so) (refuses by_scheme.Spent (refuses_said known generation ask by_scheme.Spent is))
-no_step_said P known generation ask refuses gone refused.BoardShut answer so is = absurd so
+-- a refusal is said, isn't that the board is shut, and is that the generation is gone only where it is
+no_step : {A : Type 0} (known : Beginning) (generation : ℕ) (ask : Tables → Result A scheme.Refused) (why : Refused) → IsSome (newest_in known.log) → Err why ≡ by ask (scheme_of generation (board_after known).shelf)
+    → (why ≢ refused.BoardShut) × HoldsOf known (λ all. IsRefusalIn all generation ask (NotCarried why)) × (NotCarried why ≡ generation_gone → IsGoneAfter known generation)
+no_step known generation ask why some is =
+    ⊎_elim (λ none. (
+      (λ shut. (let other = sym none.1 ∙ shut in absurd (cc))),
+      (λ all lawful are_named on other. absurd (other none.1)),
+      (λ gone. (some, none.0)),
+    ))
+    (λ found. (
+      (λ shut. subst IsByScheme shut found.3),
+      (λ all lawful are_named on other. (found.0, published_there all known generation found.0 on found.1, found.2)),
+      (λ gone. (let same : why ≡ refused.GenerationGone = cc in absurd (subst IsByScheme same found.3))),
+    ))
+    (refused_by ask (scheme_of generation (board_after known).shelf) why is)
 
 -- ---- launches
 
@@ -126,14 +99,8 @@ pub launch_said : (known : Beginning) (from : ℕ) (to : Address) (packet : Pack
 launch_said known from to packet is = gives_said known to.generation (λ t. decide t from to) packet is
 
 -- where no packet is sent
-pub no_launch : (known : Beginning) (from : ℕ) (to : Address) (why : Refused) (o : Option Answer) → IsSome (newest_in known.log) → IfSome o (λ answer. (from : ℕ) (to : Address) → Fits (asks.Launch from to) answer) → IfSome o (λ answer. IsRefusal why answer)
-    → Err why ≡ launch_at from to (board_after known).shelf → IfSome o (λ answer. AnswersBy known (asks.Launch from to) answer)
-no_launch known from to why None some fits so is = tt
-no_launch known from to why (Some answer) some fits so is = record {
-  fits = fits from to;
-  said = no_step_said (λ a. IsSaidBy known (asks.Launch from to) a) known to.generation (λ t. decide t from to) (λ e said. said) (λ all lawful are_named on. tt) why answer so is;
-  off = gone_after known to.generation (λ t. decide t from to) why answer some so is;
-}
+pub no_launch : (known : Beginning) (from : ℕ) (to : Address) (why : Refused) → IsSome (newest_in known.log) → Err why ≡ launch_at from to (board_after known).shelf → AnswersBy known (asks.Launch from to) (NotCarried why)
+no_launch known from to why some is = (let by = no_step known to.generation (λ t. decide t from to) why some is in record { fits = by.0; said = by.1; off = by.2 })
 
 -- ---- hops
 
@@ -141,11 +108,5 @@ pub hop_said : (known : Beginning) (at : ℕ) (packet : Packet) (move : Move) �
 hop_said known at packet move is = gives_said known packet.generation (λ t. node_step t at packet) move is
 
 -- where the packet isn't moved
-pub no_hop : (known : Beginning) (at : ℕ) (packet : Packet) (why : Refused) (o : Option Answer) → IsSome (newest_in known.log) → IfSome o (λ answer. (at : ℕ) (packet : Packet) → Fits (asks.Hop at packet) answer) → IfSome o (λ answer. IsRefusal why answer)
-    → Err why ≡ hop_at at packet (board_after known).shelf → IfSome o (λ answer. AnswersBy known (asks.Hop at packet) answer)
-no_hop known at packet why None some fits so is = tt
-no_hop known at packet why (Some answer) some fits so is = record {
-  fits = fits at packet;
-  said = no_step_said (λ a. IsSaidBy known (asks.Hop at packet) a) known packet.generation (λ t. node_step t at packet) (λ e said. said) (λ all lawful are_named on. tt) why answer so is;
-  off = gone_after known packet.generation (λ t. node_step t at packet) why answer some so is;
-}
+pub no_hop : (known : Beginning) (at : ℕ) (packet : Packet) (why : Refused) → IsSome (newest_in known.log) → Err why ≡ hop_at at packet (board_after known).shelf → AnswersBy known (asks.Hop at packet) (NotCarried why)
+no_hop known at packet why some is = (let by = no_step known packet.generation (λ t. node_step t at packet) why some is in record { fits = by.0; said = by.1; off = by.2 })

@@ -1,8 +1,10 @@
 -- How a service stands, by what was told of its board.
 use Rattle.std.proofs.Common.{◌≡◌, ℕ, sym, subst}
+use Rattle.std.specs.Global.{Box}
 use Rattle.generations.specs.Beginnings.{Beginning}
 use Rattle.packet_ways.specs.Standing.{Counts, IsNewest}
 use Rattle.packet_ways.proofs.Newest.{newest_published, published_on}
+use Rattle.live_lines.specs.declared.metrics.Metrics.{Metrics}
 use Rattle.live_lines.specs.declared.asked.Asked.TheVariants as asks
 use Rattle.live_lines.specs.declared.answer.Answer.TheVariants as answers
 use Rattle.line_exchange.specs.OneList.{AnswersBy}
@@ -12,6 +14,18 @@ state_told told count generation queue counted newest = record { fits = tt; said
 
 pub state_said : (known told : Beginning) (count generation queue : ℕ) → known ≡ told → Counts told count → IsNewest told generation → AnswersBy known asks.State (answers.State count generation queue)
 state_said known told count generation queue same counted newest = subst (λ (b : Beginning). AnswersBy b asks.State (answers.State count generation queue)) (sym same) (state_told told count generation queue counted newest)
+
+metrics_told : (told : Beginning) (metrics : Box Metrics) (count generation : ℕ) → metrics.value.count ≡ count → metrics.value.generation ≡ generation → Counts told count → IsNewest told generation → AnswersBy told asks.Metrics (answers.Metrics metrics)
+metrics_told told metrics count generation many last counted newest = record {
+  fits = tt;
+  said = λ all lawful are_named on. (told, on, subst (λ (n : ℕ). Counts told n) (sym many) counted, subst (λ (n : ℕ). IsNewest told n) (sym last) newest);
+  off = λ gone. tt;
+}
+
+pub metrics_said : (known told : Beginning) (metrics : Box Metrics) (count generation : ℕ) → known ≡ told → metrics.value.count ≡ count → metrics.value.generation ≡ generation → Counts told count → IsNewest told generation
+    → AnswersBy known asks.Metrics (answers.Metrics metrics)
+metrics_said known told metrics count generation same many last counted newest =
+    subst (λ (b : Beginning). AnswersBy b asks.Metrics (answers.Metrics metrics)) (sym same) (metrics_told told metrics count generation many last counted newest)
 
 waited_told : (told : Beginning) (generation : ℕ) → IsNewest told generation → AnswersBy told asks.Wait (answers.Waited generation)
 waited_told told generation newest = record {

@@ -15,6 +15,7 @@ use Rattle.generations.specs.Misses.{IsMissed}
 use Rattle.generations.specs.declared.reader.Shut.{Shut}
 use Rattle.generations.specs.declared.reader.Shut.TheVariants as shut
 use Rattle.generations.proofs.Sharing.{goes_self}
+use Rattle.forwarders.specs.declared.refused.Refused.TheVariants as refused
 use Rattle.forwarders.specs.Arrivals.{IsLawfulList, IsPublished}
 use Rattle.forwarders.proofs.Published.{found_published, published_there}
 use Rattle.table_files.specs.declared.totals.Totals.{Totals}
@@ -148,6 +149,6 @@ some_put known later newest count folder old mid new totals less on same has = (
 -- no file more is put behind an answer
 pub ended_tabled : (known later : Beginning) (newest : Newest) (count : ℕ) (folder : List ℕ) (old mid new : List Put) (totals : Totals) (answer : Answer) → count < newest.nodes → GoesOn known later
     → IsPutStep known later newest.generation folder count mid new (Ended answer) → HasPutFirst known newest count folder old mid totals → IsTabled later newest folder old new (Some answer)
-ended_tabled known later newest count folder old mid new totals answers.Gone less on step has = (some_put known later newest count folder old mid new totals less on step.0 has, step.1)
+ended_tabled known later newest count folder old mid new totals (answers.NotCarried refused.GenerationGone) less on step has = (some_put known later newest count folder old mid new totals less on step.0 has, step.1)
 ended_tabled known later newest count folder old mid new totals answers.TablesFailed less on step has = some_put known later newest count folder old mid new totals less on step has
 ended_tabled known later newest count folder old mid new totals _ less on step has = absurd step

@@ -1,4 +1,3 @@
 pub mod Submits
-pub mod Refusals
 pub mod Tables
 pub mod Newest

@@ -6,6 +6,7 @@ use Rattle.router_table.specs.Order.{IsTable}
 use Rattle.router_table.specs.Table.{table_at}
 use Rattle.generations.specs.Beginnings.{Beginning, GoesOn, board_after}
 use Rattle.generations.specs.Boards.{latest_of, scheme_of}
+use Rattle.forwarders.specs.declared.refused.Refused.TheVariants as refused
 use Rattle.forwarders.specs.Answers.{Shelf}
 use Rattle.forwarders.specs.Arrivals.{IsPublished}
 use Rattle.service_workers.specs.declared.stop_cause.StopCause.{StopCause}
@@ -79,7 +80,7 @@ IsLookedBy known seen generation folder node Shut = Unit {0}
 abbrev pub IsPutStep : Beginning → Beginning → ℕ → List ℕ → ℕ → List Put → List Put → Step → Type 0
 IsPutStep known seen generation folder node old new (step.Put len) =
     (p : Parts) → IsPublished known generation p → (new ≡ old ++ file_of p folder node ∷ []) × (len ≡ length (file_of p folder node).bytes)
-IsPutStep known seen generation folder node old new (step.Ended answers.Gone) = (new ≡ old) × (scheme_of generation (board_after seen).shelf ≡ None)
+IsPutStep known seen generation folder node old new (step.Ended (answers.NotCarried refused.GenerationGone)) = (new ≡ old) × (scheme_of generation (board_after seen).shelf ≡ None)
 IsPutStep known seen generation folder node old new (step.Ended answers.TablesFailed) = new ≡ old
 IsPutStep known seen generation folder node old new (step.Ended answer) = ⊥
 IsPutStep known seen generation folder node old new step.Stopped = new ≡ old
@@ -105,7 +106,7 @@ IsTabled known newest folder old new None = HasPutSome known newest folder old n
 IsTabled known newest folder old new (Some (answers.Tables generation tables bytes greatest)) =
     (generation ≡ newest.generation) × HasPutFirst known newest newest.nodes folder old new (record { tables = tables; bytes = bytes; greatest = greatest })
 IsTabled known newest folder old new (Some answers.TablesFailed) = HasPutSome known newest folder old new
-IsTabled known newest folder old new (Some answers.Gone) = HasPutSome known newest folder old new × (scheme_of newest.generation (board_after known).shelf ≡ None)
+IsTabled known newest folder old new (Some (answers.NotCarried refused.GenerationGone)) = HasPutSome known newest folder old new × (scheme_of newest.generation (board_after known).shelf ≡ None)
 IsTabled known newest folder old new (Some answer) = ⊥
 
 -- The same of the generation that was the newest meanwhile. Or all stopped before it was known, and nothing was put.

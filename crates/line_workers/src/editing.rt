@@ -2,7 +2,7 @@
 ghost use Rattle.std.specs.Prelude.{◌≡◌, ◌≢◌, [], IfSome, length};
 ghost use Rattle.put_lines.specs.Lines.{lines_of};
 ghost use Rattle.service_workers.specs.Edited.{IsSameEditor};
-ghost use Rattle.live_lines.specs.Answers.{Fits};
+ghost use Rattle.live_lines.specs.Answers.{Fits, generation_gone};
 ghost use Rattle.line_exchange.specs.OneList.{IsSaidBy};
 ghost use Rattle.line_workers.specs.Submits.{ComesBack, HasPutFor, NotesAnswer};
 
@@ -37,7 +37,7 @@ fn edited<J: Stream, B: BoardName, R: Wait>(
     ensures said { IfSome result (λ r. ∥ IsSaidBy r.0.editor.known (Asked.Edit session ticket change) r.1 ∥₁) }
     ensures same { IfSome result (λ r. IsSameEditor editor.editor r.0.editor) }
     ensures put { IfSome result (λ r. HasPutFor (Asked.Edit session ticket change) r.1 editor.editor r.0.editor) }
-    ensures never { IfSome result (λ r. r.1 ≢ Answer.Gone) }
+    ensures never { IfSome result (λ r. r.1 ≢ generation_gone) }
 {
     if session != editor.session() {
         here.coordinator.stop(here.rt, StopCause::Internal);
@@ -83,7 +83,7 @@ fn answer_of<J: Stream, B: BoardName, R: Wait>(
     ensures said { IfSome result (λ r. ∥ IsSaidBy r.0.editor.known asked r.1 ∥₁) }
     ensures same { IfSome result (λ r. IsSameEditor editor.editor r.0.editor) }
     ensures put { IfSome result (λ r. HasPutFor asked r.1 editor.editor r.0.editor) }
-    ensures never { IfSome result (λ r. r.1 ≢ Answer.Gone) }
+    ensures never { IfSome result (λ r. r.1 ≢ generation_gone) }
 {
     match asked {
         Asked::Edit {

@@ -1,10 +1,9 @@
 // A forwarder's thread.
-ghost use Rattle.std.specs.Prelude.{◌≡◌, ℕ, None, IfSome, IsTrue};
+ghost use Rattle.std.specs.Prelude.{◌≡◌, None, IfSome, IsTrue};
 ghost use Rattle.generations.specs.Beginnings.{GoesOn};
-ghost use Rattle.live_lines.specs.Answers.{Fits, Join, Leads};
+ghost use Rattle.live_lines.specs.Answers.{Join, Leads};
 ghost use Rattle.line_exchange.specs.OneList.{AnswersBy};
 ghost use Rattle.line_workers.specs.Newest.{GoesByNewest};
-ghost use Rattle.line_workers.specs.Refusals.{IsRefusal};
 
 use crate::workplace::Workplace;
 use forwarders::Refused;
@@ -99,22 +98,6 @@ fn address<J: Stream, B: BoardName, R: Wait>(
     }
 }
 
-// A refusal, as a scheme's.
-fn named(refused: Refused) -> Option<Answer>
-    ensures launch { IfSome result (λ answer. (from : ℕ) (to : Address) → Fits (Asked.Launch from to) answer) }
-    ensures hop { IfSome result (λ answer. (at : ℕ) (packet : Packet) → Fits (Asked.Hop at packet) answer) }
-    ensures is { IfSome result (λ answer. IsRefusal refused answer) }
-{
-    match refused {
-        Refused::GenerationGone => Some(Answer::Gone),
-        Refused::NoNode => Some(Answer::NotCarried(schemes::Refused::NoNode)),
-        Refused::Unreachable => Some(Answer::NotCarried(schemes::Refused::Unreachable)),
-        Refused::Stray => Some(Answer::NotCarried(schemes::Refused::Stray)),
-        Refused::Spent => Some(Answer::NotCarried(schemes::Refused::Spent)),
-        Refused::BoardShut => None,
-    }
-}
-
 // The answer to a launch. Without one all stop.
 fn launch<J: Stream, B: BoardName, R: Wait>(
     here: &Workplace<J, B, R>,
@@ -127,7 +110,7 @@ fn launch<J: Stream, B: BoardName, R: Wait>(
 {
     match forwarder.launch(here.rt, here.coordinator, from, to)? {
         Ok(packet) => Some(Answer::Sent(packet)),
-        Err(refused) => named(refused),
+        Err(refused) => Some(Answer::NotCarried(refused)),
     }
 }
 
@@ -147,7 +130,7 @@ fn hop<J: Stream, B: BoardName, G: Gate, R: Wait>(
             gate.after_hop(packet.generation);
             Some(Answer::Moved(step))
         }
-        Err(refused) => named(refused),
+        Err(refused) => Some(Answer::NotCarried(refused)),
     }
 }
 
@@ -202,7 +185,7 @@ fn answer_at<J: Stream, B: BoardName, G: Gate, R: Wait>(
         return None;
     }
     match answer_of(here, gate, forwarder, asked)? {
-        Answer::Gone => {
+        Answer::NotCarried(Refused::GenerationGone) => {
             if !here.await_turn(place) {
                 return None;
             }

@@ -9,7 +9,7 @@ ghost use Rattle.line_workers.specs.Tables.{HasGeneration, HasNode, IsLookedBy, 
 
 use crate::workplace::Workplace;
 use command_output::Fault;
-use forwarders::latest_on;
+use forwarders::{Refused, latest_on};
 use generations::{Board, BoardReader, History, Shelved};
 use line_exchange::{Answered, Ask, Stream};
 use live_lines::{Answer, Asked};
@@ -232,7 +232,10 @@ fn put_one<J: Stream, T: TableFiles, B: BoardName, R: Wait>(
                 Err(_) => (reader, Step::Ended(Answer::TablesFailed)),
             }
         }
-        (reader, Looked::Gone) => (reader, Step::Ended(Answer::Gone)),
+        (reader, Looked::Gone) => (
+            reader,
+            Step::Ended(Answer::NotCarried(Refused::GenerationGone)),
+        ),
         (reader, Looked::Shut) => (reader, Step::Stopped),
         (reader, Looked::Halted(cause)) => {
             here.coordinator.stop(here.rt, cause);
@@ -343,7 +346,7 @@ fn answered<J: Stream, T: TableFiles, B: BoardName, R: Wait>(
     } = ask;
     let (reader, answer) = answer_of(here, tables, reader, asked)?;
     let reader = match answer {
-        Answer::Gone => looked_again(here, reader, place)?,
+        Answer::NotCarried(Refused::GenerationGone) => looked_again(here, reader, place)?,
         _ => reader,
     };
     let answered = Answered {

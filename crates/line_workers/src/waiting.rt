@@ -1,14 +1,15 @@
-// The thread that answers how a service stands, and asks for backups.
-ghost use Rattle.std.specs.Prelude.{◌≡◌, IfSome};
+// The thread that answers how a service stands, in words and in figures, and asks for backups.
+ghost use Rattle.std.specs.Prelude.{◌≡◌, IfOk, IfSome};
 ghost use Rattle.line_exchange.specs.OneList.{AnswersBy};
 ghost use Rattle.packet_ways.specs.Standing.{IsNewest};
 
 use crate::workplace::Workplace;
 use generations::History;
 use line_exchange::{Answered, Ask, Stream};
-use live_lines::{Answer, Asked};
+use live_lines::{Answer, Asked, CommitFigures, KINDS, Metrics};
 use packet_ways::BoardName;
-use service_workers::{Backed, Standing, StopCause};
+use service_workers::{Backed, Standing, StopCause, TimeSpan, Timings};
+use std::alloc::{AllocError, Global};
 use std::marker::PhantomData;
 use std::sync::Wait;
 
@@ -70,6 +71,61 @@ fn backed_of<B: BoardName>(backed: &Backed<B>) -> (Answer, History)
     }
 }
 
+// What a monitor is told, but for what the printer counts, and what was told by then.
+fn metrics_of<B: BoardName>(
+    alloc: Global,
+    standing: &Standing<B>,
+    newest: u64,
+    timings: &Timings,
+) -> Result<(Answer, History), AllocError>
+    requires { IsNewest standing.now.stand.told newest }
+    ensures answers { IfOk result (λ r. AnswersBy r.1 Asked.Metrics r.0) }
+    ensures named { IfOk result (λ r. r.1.opening ≡ B.opening) }
+{
+    let TimeSpan {
+        least,
+        median,
+        greatest,
+    } = timings.span();
+    let metrics = Metrics {
+        answers: 0,
+        counted: [0; KINDS],
+        count: standing.stand.count,
+        generation: newest,
+        queue: standing.queue,
+        commits: CommitFigures {
+            count: timings.commits,
+            least,
+            median,
+            greatest,
+        },
+        build: timings.build,
+        waiting: 0,
+    };
+    let boxed = Box::new(alloc, metrics)?;
+    Ok((Answer::Metrics(boxed), standing.stand.told.told().history()))
+}
+
+// The same of how the service stands now. Without memory all stop.
+fn measured<J: Stream, B: BoardName, R: Wait>(
+    here: &Workplace<J, B, R>,
+    standing: &Standing<B>,
+    newest: u64,
+) -> Option<(Answer, History)>
+    requires { IsNewest standing.now.stand.told newest }
+    ensures answers { IfSome result (λ r. AnswersBy r.1 Asked.Metrics r.0) }
+    ensures named { IfSome result (λ r. r.1.opening ≡ B.opening) }
+{
+    let timings = here.coordinator.timings(here.rt);
+    match metrics_of(here.alloc, standing, newest, &timings) {
+        Ok(told) => Some(told),
+        Err(_) => {
+            here.coordinator.stop(here.rt, StopCause::Memory);
+            None
+        }
+    }
+}
+
 // The answer to a line that is the waiter's, and what was told by then. Without one all stop.
 fn answer_of<J: Stream, B: BoardName, R: Wait>(
     here: &Workplace<J, B, R>,
@@ -87,6 +143,10 @@ fn answer_of<J: Stream, B: BoardName, R: Wait>(
         Asked::Wait => {
             let (now, newest) = standing_from(here, 0, first.reached.max(first.stand.count))?;
             Some(waited_of(&now, newest))
+        }
+        Asked::Metrics => {
+            let (now, newest) = standing_from(here, first.reached, first.seen)?;
+            measured(here, &now, newest)
         }
         Asked::Backup { file } => {
             let backed = here.coordinator.ask_backup(here.rt, file)?;

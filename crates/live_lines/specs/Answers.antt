@@ -1,20 +1,21 @@
 -- What a live service answers to a line, and the text of an answer.
-use Rattle.std.specs.Prelude.{◌≡◌, ℕ, Option, Some, None, List, [], ◌∷◌, ◌++◌, codes, decimal}
+use Rattle.std.specs.Prelude.{◌≡◌, ◌≢◌, ℕ, Option, Some, None, List, [], ◌∷◌, ◌++◌, codes, decimal}
 use Rattle.command_output.specs.Lines.{accepted_text, refused_text as refused_change, ticket_text}
 use Rattle.command_output.specs.RouteLines.{absent_text, route_text, tables_text, unreachable_text}
 use Rattle.generations.specs.declared.posting.Verdict.{Verdict}
 use Rattle.generations.specs.declared.posting.Verdict.TheVariants.{Accepted, Refused}
-use Rattle.hex.specs.Hex.{encode_lower}
-use Rattle.packet_bytes.specs.Spelling.{address_text}
+use Rattle.forwarders.specs.declared.refused.Refused as forwarder
+use Rattle.forwarders.specs.declared.refused.Refused.TheVariants as refused
 use Rattle.packet_ways.specs.declared.carried.Carried.{Carried}
 use Rattle.packet_ways.specs.declared.carried.Carried.TheVariants.{Along, Unreachable}
 use Rattle.packet_ways.specs.declared.carried.Carried.TheVariants as ways
-use Rattle.packet_bytes.specs.Texts.{address_line, move_text, packet_line, refused_text, unread_text}
+use Rattle.packet_bytes.specs.Texts.{address_line, move_text, packet_line, unread_text}
 use Rattle.new_devices.specs.Events.{refused_text as no_backup_text}
+use Rattle.live_lines.specs.Metrics.{metrics_text}
 use Rattle.live_lines.specs.declared.asked.Asked.{Asked}
 use Rattle.live_lines.specs.declared.asked.Asked.TheVariants as asks
 use Rattle.live_lines.specs.declared.answer.Answer.{Answer}
-use Rattle.live_lines.specs.declared.answer.Answer.TheVariants.{Settled, AlreadyIn, RefusedBefore, OldTicket, Resumed, Way, NoNode, Told, Sent, Moved, NotCarried, Gone, Unread, State, Waited, Tables, TablesFailed, BackedUp, NoBackup, NoSession, NotOps, NotUnderstood}
+use Rattle.live_lines.specs.declared.answer.Answer.TheVariants.{Settled, AlreadyIn, RefusedBefore, OldTicket, Resumed, Way, NoNode, Told, Sent, Moved, NotCarried, Unread, State, Waited, Tables, TablesFailed, BackedUp, NoBackup, Metrics, NoSession, NotOps, NotUnderstood}
 
 -- ---- which answers are of a line
 
@@ -33,6 +34,10 @@ abbrev pub Leads : ℕ → ℕ → Carried → Type 0
 Leads from to (Along generation nodes length) = Join from to nodes.items
 Leads from to other = Unit {0}
 
+-- the generation of the packet, the address or the tables is on no shelf any more
+abbrev pub generation_gone : Answer
+generation_gone = NotCarried refused.GenerationGone
+
 -- the answer is one to what is asked for; a line that names no ticket gets a new one, so only a verdict is of it
 abbrev pub Fits : Asked → Answer → Type 0
 Fits (asks.Edit session ticket change) (Settled mark) = (mark.session ≡ session) × IsOfTicket ticket mark.ticket
@@ -44,18 +49,17 @@ Fits (asks.Route from to) (Way way) = Leads from to way
 Fits (asks.Address node) (Told address) = address.node ≡ node
 Fits (asks.Address node) NoNode = Unit {0}
 Fits (asks.Launch from to) (Sent packet) = Unit {0}
-Fits (asks.Launch from to) (NotCarried refused) = Unit {0}
-Fits (asks.Launch from to) Gone = Unit {0}
+Fits (asks.Launch from to) (NotCarried why) = why ≢ refused.BoardShut
 Fits (asks.Hop at packet) (Moved moved) = Unit {0}
-Fits (asks.Hop at packet) (NotCarried refused) = Unit {0}
-Fits (asks.Hop at packet) Gone = Unit {0}
+Fits (asks.Hop at packet) (NotCarried why) = why ≢ refused.BoardShut
 Fits asks.State (State count generation queue) = Unit {0}
 Fits asks.Wait (Waited generation) = Unit {0}
 Fits (asks.Tables folder) (Tables generation tables bytes greatest) = Unit {0}
-Fits (asks.Tables folder) Gone = Unit {0}
+Fits (asks.Tables folder) (NotCarried why) = why ≡ refused.GenerationGone
 Fits (asks.Tables folder) TablesFailed = Unit {0}
 Fits (asks.Backup file) (BackedUp count) = Unit {0}
 Fits (asks.Backup file) (NoBackup why) = Unit {0}
+Fits asks.Metrics (Metrics metrics) = Unit {0}
 Fits (asks.Unread why) (Unread told) = told ≡ why
 Fits asks.NoSession NoSession = Unit {0}
 Fits asks.NotOps NotOps = Unit {0}
@@ -79,6 +83,15 @@ way_text (Along generation nodes length) = route_text generation nodes.items len
 way_text (Unreachable generation) = unreachable_text generation
 way_text ways.NoNode = absent_text
 
+-- why a packet isn't carried; no answer tells that the board is shut
+abbrev pub not_carried_text : forwarder.Refused → List ℕ
+not_carried_text refused.BoardShut = codes "board shut"
+not_carried_text refused.GenerationGone = codes "generation gone"
+not_carried_text refused.NoNode = codes "no node"
+not_carried_text refused.Unreachable = codes "unreachable"
+not_carried_text refused.Stray = codes "stray"
+not_carried_text refused.Spent = codes "spent"
+
 -- how much the service has done, and how much waits
 abbrev pub state_text : ℕ → ℕ → ℕ → List ℕ
 state_text count generation queue = codes "count=" ++ (decimal count ++ (codes " generation=" ++ (decimal generation ++ (codes " queue=" ++ decimal queue))))
@@ -95,8 +108,7 @@ answer_text NoNode = absent_text
 answer_text (Told a) = address_line a
 answer_text (Sent k) = packet_line k
 answer_text (Moved m) = move_text m
-answer_text (NotCarried e) = refused_text e
-answer_text Gone = codes "generation gone"
+answer_text (NotCarried why) = not_carried_text why
 answer_text (Unread e) = unread_text e
 answer_text (State count generation queue) = state_text count generation queue
 answer_text (Waited generation) = codes "generation=" ++ decimal generation
@@ -104,6 +116,7 @@ answer_text (Tables generation tables bytes greatest) = tables_text generation t
 answer_text TablesFailed = codes "table file cannot be written"
 answer_text (BackedUp count) = codes "count=" ++ decimal count
 answer_text (NoBackup why) = no_backup_text why
+answer_text (Metrics metrics) = metrics_text metrics.value
 answer_text NoSession = codes "no session"
 answer_text NotOps = codes "op not understood"
 answer_text NotUnderstood = codes "not understood"

@@ -18,7 +18,7 @@ use Rattle.live_lines.specs.declared.words.Word.TheVariants as word
 use Rattle.live_lines.specs.declared.asked.Named.{Named}
 use Rattle.live_lines.specs.declared.asked.Named.TheVariants.{Edited, Unedited}
 use Rattle.live_lines.specs.declared.asked.Asked.{Asked}
-use Rattle.live_lines.specs.declared.asked.Asked.TheVariants.{Edit, Resume, Route, Address, Launch, Hop, State, Wait, Tables, Backup, Unread, NoSession, NotOps, NotUnderstood}
+use Rattle.live_lines.specs.declared.asked.Asked.TheVariants.{Edit, Resume, Route, Address, Launch, Hop, State, Wait, Tables, Backup, Metrics, Unread, NoSession, NotOps, NotUnderstood}
 
 -- the first words of lines
 abbrev pub word_text : Word → List ℕ
@@ -32,6 +32,7 @@ word_text word.State = codes "state"
 word_text word.Wait = codes "wait"
 word_text word.Tables = codes "tables"
 word_text word.Backup = codes "backup"
+word_text word.Metrics = codes "metrics"
 
 -- ---- edits
 
@@ -177,6 +178,7 @@ AsksBehind editors word.State words asked = (words ≡ []) × (asked ≡ State)
 AsksBehind editors word.Wait words asked = (words ≡ []) × (asked ≡ Wait)
 AsksBehind editors word.Tables words asked = TablesAsks words asked
 AsksBehind editors word.Backup words asked = BackupAsks words asked
+AsksBehind editors word.Metrics words asked = (words ≡ []) × (asked ≡ Metrics)
 
 -- the words of a line ask for something that is known, in a service of so many editors
 pub record WordsAsk (editors : ℕ) (words : List (List ℕ)) (asked : Asked) : Type 0 where

@@ -2,18 +2,21 @@
 ghost use Rattle.std.specs.Prelude.{◌≡◌, IfOk};
 ghost use Rattle.std.specs.String.{string_bytes};
 ghost use Rattle.command_output.specs.RouteLines.{route_text, tables_text};
-ghost use Rattle.live_lines.specs.Answers.{answer_text, of_edit, script_text, verdict_text, way_text};
+ghost use Rattle.live_lines.specs.Answers.{answer_text, not_carried_text, of_edit, script_text, verdict_text, way_text};
+ghost use Rattle.live_lines.specs.Metrics.{kind_of, metrics_text, verdict_kind};
 
+use crate::metrics::{Kind, Metrics};
 use command_output::{
     AbsentLine, AcceptedLine, Fault, RefusedLine, RouteLine, TablesLine, TicketLine,
     UnreachableLine,
 };
+use forwarders::Refused;
 use generations::{Mark, Verdict};
 use graph_edits::Code;
 use new_devices::BackupRefused;
-use packet_bytes::{WireRefused, moved_text, packet_text, refused_name, told_text, unread_name};
+use packet_bytes::{WireRefused, moved_text, packet_text, told_text, unread_name};
 use packet_ways::Carried;
-use schemes::{Address, Move, Packet, Refused};
+use schemes::{Address, Move, Packet};
 use std::alloc::{AllocError, Global};
 
 /// What is answered to a line.
@@ -53,10 +56,8 @@ pub enum Answer {
     Sent(Packet),
     /// What becomes of a packet.
     Moved(Move),
-    /// Why no packet is sent, or it is carried no further.
+    /// Why no packet is sent, it is carried no further, or not all tables are put.
     NotCarried(Refused),
-    /// The generation of the packet or the address is on no shelf any more.
-    Gone,
     /// What was to be launched or to hop has no spelling.
     Unread(WireRefused),
     /// How many changes count, the newest generation, and how many edits wait.
@@ -84,12 +85,24 @@ pub enum Answer {
     },
     /// Why there is no such device.
     NoBackup(BackupRefused),
+    /// What the service tells a monitor of itself.
+    Metrics(Box<Metrics>),
     /// The session that the line names has no editor.
     NoSession,
     /// A word in the place of an op isn't one.
     NotOps,
     /// The line asks for nothing that is known.
     NotUnderstood,
+}
+
+/// Of which kind a verdict is.
+fn kind_of_verdict(verdict: Verdict) -> Kind
+    ensures { result ≡ verdict_kind verdict }
+{
+    match verdict {
+        Verdict::Accepted { .. } => Kind::Accepted,
+        Verdict::Refused { .. } => Kind::Refused,
+    }
 }
 
 /// What a verdict says.
@@ -159,6 +172,20 @@ fn way_line(alloc: Global, way: &Carried) -> Result<String, AllocError>
     }
 }
 
+/// Why a packet isn't carried.
+fn not_carried(refused: Refused) -> &'static str
+    ensures { result.now ≡ not_carried_text refused }
+{
+    match refused {
+        Refused::BoardShut => "board shut",
+        Refused::GenerationGone => "generation gone",
+        Refused::NoNode => "no node",
+        Refused::Unreachable => "unreachable",
+        Refused::Stray => "stray",
+        Refused::Spent => "spent",
+    }
+}
+
 /// Tables that were put.
 fn tables_line(
     alloc: Global,
@@ -178,7 +205,40 @@ fn tables_line(
     format!(in alloc; "{line}")
 }
 
+/// What a monitor is told.
+fn metrics_line(alloc: Global, metrics: &Metrics) -> Result<String, AllocError>
+    ensures { IfOk result (λ text. string_bytes text ≡ metrics_text metrics.now) }
+{
+    format!(in alloc; "{metrics}")
+}
+
 impl Answer {
+    /// Of which kind it is.
+    pub fn kind(&self) -> Kind
+        ensures { result ≡ kind_of self.now }
+    {
+        match self {
+            Answer::Settled(mark) => kind_of_verdict(mark.verdict),
+            Answer::AlreadyIn { .. } => Kind::AlreadyIn,
+            Answer::RefusedBefore { .. } => Kind::RefusedBefore,
+            Answer::OldTicket { .. } => Kind::OldTicket,
+            Answer::Resumed { .. } => Kind::Resume,
+            Answer::Way(_) => Kind::Route,
+            Answer::NoNode | Answer::Told(_) => Kind::Address,
+            Answer::Sent(_) => Kind::Launch,
+            Answer::Moved(_) => Kind::Hop,
+            Answer::NotCarried(Refused::GenerationGone) => Kind::Gone,
+            Answer::NotCarried(_) => Kind::NotCarried,
+            Answer::Unread(_) => Kind::Unread,
+            Answer::State { .. } => Kind::State,
+            Answer::Waited { .. } => Kind::Wait,
+            Answer::Tables { .. } | Answer::TablesFailed => Kind::Tables,
+            Answer::BackedUp { .. } | Answer::NoBackup(_) => Kind::Backup,
+            Answer::Metrics(_) => Kind::Metrics,
+            Answer::NoSession | Answer::NotOps | Answer::NotUnderstood => Kind::NotUnderstood,
+        }
+    }
+
     /// The line of the answer. An `Err` means that memory was refused.
     pub fn text(&self, alloc: Global) -> Result<String, AllocError>
         ensures { IfOk result (λ text. string_bytes text ≡ answer_text self.now) }
@@ -219,8 +279,7 @@ impl Answer {
             Answer::Told(address) => told_text(alloc, address),
             Answer::Sent(packet) => packet_text(alloc, packet),
             Answer::Moved(moved) => moved_text(alloc, moved),
-            Answer::NotCarried(refused) => String::from_str(alloc, refused_name(*refused)),
-            Answer::Gone => String::from_str(alloc, "generation gone"),
+            Answer::NotCarried(refused) => String::from_str(alloc, not_carried(*refused)),
             Answer::Unread(refused) => String::from_str(alloc, unread_name(*refused)),
             Answer::State {
                 count,
@@ -237,6 +296,7 @@ impl Answer {
             Answer::TablesFailed => String::from_str(alloc, Fault::TableFile.text()),
             Answer::BackedUp { count } => format!(in alloc; "count={count}"),
             Answer::NoBackup(refused) => String::from_str(alloc, refused.text()),
+            Answer::Metrics(metrics) => metrics_line(alloc, metrics),
             Answer::NoSession => String::from_str(alloc, "no session"),
             Answer::NotOps => String::from_str(alloc, Fault::Op.text()),
             Answer::NotUnderstood => String::from_str(alloc, "not understood"),

@@ -65,6 +65,8 @@ pub enum Asked {
         /// One byte or more, each above a blank.
         file: String,
     },
+    /// What the service tells a monitor of itself.
+    Metrics,
     /// What is to be launched or to hop has no spelling.
     Unread(WireRefused),
     /// Something of a session that has no editor.
@@ -379,6 +381,7 @@ fn behind(alloc: Global, first: Word, words: &[&str], editors: u8) -> Result<Ask
         Word::Wait => Ok(alone(words, Asked::Wait)),
         Word::Tables => tables_of(alloc, words),
         Word::Backup => backup_of(alloc, words),
+        Word::Metrics => Ok(alone(words, Asked::Metrics)),
     }
 }
 

@@ -15,6 +15,7 @@
 //! | `wait` | `generation=G` |
 //! | `tables FOLDER` | `generation=G tables=K bytes=B greatest=M`, `generation gone`, or `table file cannot be written` |
 //! | `backup FILE` | `count=C`; or `file exists`, `device file cannot be used`, `device failed`, or `out of memory` |
+//! | `metrics` | one line of JSON ([`Metrics`]) |
 //! | `edit S ..` and `resume S ..`, where S has no editor | `no session` |
 //! | `edit S T ..`, where a word behind T is no OP | `op not understood` |
 //! | anything else | `not understood` |
@@ -40,7 +41,9 @@
 mod answer;
 mod asked;
 mod digits;
+mod metrics;
 mod words;
 
 pub use answer::Answer;
 pub use asked::{Asked, asked_in};
+pub use metrics::{CommitFigures, KINDS, Kind, Metrics};

@@ -20,6 +20,7 @@ pub(crate) enum Word {
     Wait,
     Tables,
     Backup,
+    Metrics,
 }
 
 /// The first word that a text is.
@@ -47,6 +48,8 @@ pub(crate) fn word_in(text: &str) -> Option<Word>
         Some(Word::Tables)
     } else if text == "backup" {
         Some(Word::Backup)
+    } else if text == "metrics" {
+        Some(Word::Metrics)
     } else {
         None
     }

@@ -25,14 +25,13 @@ use Rattle.live_service.specs.declared.ending.Ending.{Ending}
 use Rattle.line_exchange.specs.Inputs.{Input}
 use Rattle.line_exchange.specs.Ends.{IsFinish, fault_of}
 use Rattle.line_exchange.specs.Reads.{AreOfInput, IsReadEnd}
-use Rattle.line_exchange.specs.declared.read_fault.ReadFault.{ReadFault}
-use Rattle.line_exchange.specs.declared.read_fault.ReadFault.TheVariants.{Input as Failed}
+use Rattle.line_exchange.specs.declared.line_fault.LineFault.{LineFault}
+use Rattle.line_exchange.specs.declared.line_fault.LineFault.TheVariants.{Failed}
 use Rattle.live_lines.specs.Answers.{answer_text}
 use Rattle.line_exchange.specs.Prints.{PrintsSo, lines_of}
 use Rattle.live_service.specs.Runs.{HasBroken, HasEnded, HasRun, IsFaultOf, IsPrintEnd, IsRun, PrintsTo}
 use Rattle.live_service.specs.ServedList.{EndsServed, HasPrintedOn, HasServedOn}
 use Rattle.line_exchange.specs.declared.printed.Printed.{Printed}
-use Rattle.line_exchange.specs.declared.printed.PrintEnd.TheVariants.{Output}
 use Rattle.line_exchange.proofs.PrintedLines.{begins_all, none_printed}
 use Rattle.line_exchange.proofs.SaidLines.{printed_as, printed_of}
 
@@ -95,10 +94,10 @@ cause_other cause.NoThread is = cc
 cause_other cause.Internal is = cc
 
 -- that it is given behind the reading says that the reading of an input failed
-pub met_late : (input : Input) (given : Option Fault) (read : Result (Option ℕ) ReadFault) → (given ≡ Some told.Output → read ≡ Err Failed) → IsReadEnd input read → given ≡ Some told.Output → AreOfInput input
-met_late input given (Ok lines) why end is = (let other : ◌≡◌ {A = Result (Option ℕ) ReadFault} (Ok lines) (Err Failed) = why is in absurd (cc))
+pub met_late : (input : Input) (given : Option Fault) (read : Result (Option ℕ) LineFault) → (given ≡ Some told.Output → read ≡ Err Failed) → IsReadEnd input read → given ≡ Some told.Output → AreOfInput input
+met_late input given (Ok lines) why end is = (let other : ◌≡◌ {A = Result (Option ℕ) LineFault} (Ok lines) (Err Failed) = why is in absurd (cc))
 met_late input given (Err fault) why end is =
-    let same : fault ≡ Failed = (let both : ◌≡◌ {A = Result (Option ℕ) ReadFault} (Err fault) (Err Failed) = why is in cc) in
+    let same : fault ≡ Failed = (let both : ◌≡◌ {A = Result (Option ℕ) LineFault} (Err fault) (Err Failed) = why is in cc) in
     end.1 same
 
 -- what holds of each fault of a service whose device was opened
@@ -161,7 +160,7 @@ none_given given ended is whole = ⊎_elim (λ same. sym same ∙ ap fault_of wh
 pub prints_to : {W : Type 0} (outlet : Ghosts W) (input : Input) (editors : ℕ) (old new : W) (printed : Printed) (given : Option Fault) (ended : Served) → PrintsSo outlet input editors old new printed
     → IsPrintEnd input printed given ended → PrintsTo outlet input editors old new ended
 prints_to outlet input editors old new printed given ended so end =
-    let before = PrintsUnless (printed.end ≡ Output) (outlet.contents old) (outlet.contents new) in
+    let before = PrintsUnless (printed.end ≡ Some Failed) (outlet.contents old) (outlet.contents new) in
     let after = PrintsUnless (HasBroken outlet new ended) (outlet.contents old) (outlet.contents new) in
     record {
       answers = (
@@ -177,7 +176,7 @@ pub prints_on : {D W : Type 0} {V : _} → (outlet : Ghosts W) (store : Store D 
     → (ended ≡ served.Printed → HasServedOn store input editors printed.tally back) → ended ≡ served.Printed → HasPrintedOn answer_text store input editors (outlet.contents old) (outlet.contents new) back
 prints_on outlet store input editors old new printed given ended back so end on is = record {
   tally = printed.tally;
-  printed = printed_as answer_text printed.tally input editors (PrintsUnless (printed.end ≡ Output) (outlet.contents old) (outlet.contents new)) (Appends (outlet.contents old) (outlet.contents new)) so.lines
+  printed = printed_as answer_text printed.tally input editors (PrintsUnless (printed.end ≡ Some Failed) (outlet.contents old) (outlet.contents new)) (Appends (outlet.contents old) (outlet.contents new)) so.lines
       (λ lines was. was.1 (λ failed. not_printed ended told.Output (end.output failed) is));
   whole = end.whole (none_given given ended end.finish is);
   on = on is;

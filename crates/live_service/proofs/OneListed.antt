@@ -226,6 +226,7 @@ of_one_list {V = V} text disk back store tally ending input editors old new open
       dropped = subst (λ (starts : List ℕ). AreDropped starts has.answers) (sym (ap (λ (o : Opening). o.starts) on.0) ∙ all.begins.0) has.dropped;
       awaited = has.awaited;
       backed = has.backed;
+      measured = has.measured;
       no_older = has.no_older;
       any_moment = λ model keeps. opened_leaves (state_of store) (V.view disk) (view_of store) (V.view back) all.taken (opened.of_model model).reads keeps (still model) all.settled;
       left = λ model. all.stands (subst IsTrue (sym all.settled.same.model) (still model));

@@ -16,7 +16,7 @@ use Rattle.service_threads.specs.Kept.{IsServedDisk}
 use Rattle.service_workers.specs.declared.stop_cause.StopCause.{StopCause}
 use Rattle.service_workers.specs.declared.stop_cause.StopCause.TheVariants as cause
 use Rattle.line_exchange.specs.declared.printed.Printed.{Printed}
-use Rattle.line_exchange.specs.declared.printed.PrintEnd.TheVariants.{Output, Whole}
+use Rattle.line_exchange.specs.declared.line_fault.LineFault.TheVariants.{Failed}
 use Rattle.line_exchange.specs.Inputs.{Input}
 use Rattle.line_exchange.specs.Ends.{IsFinish, fault_of}
 use Rattle.live_service.specs.ServeEnds.{IsLater}
@@ -39,11 +39,11 @@ HasEnded store ended back = (engine : Result Ending StopCause) × IsEngineEnd st
 
 -- How a service ended that printed so much, and whose console was given this fault or none.
 pub record IsPrintEnd (input : Input) (printed : Printed) (given : Option Fault) (ended : Served) : Type 0 where
-  pub output : printed.end ≡ Output → fault_of ended ≡ Some told.Output
+  pub output : printed.end ≡ Some Failed → fault_of ended ≡ Some told.Output
   -- the output's fault is given only where the printing met it, or where the reading of an input failed
-  pub met : given ≡ Some told.Output → (printed.end ≡ Output) ⊎ AreOfInput input
+  pub met : given ≡ Some told.Output → (printed.end ≡ Some Failed) ⊎ AreOfInput input
   -- and none where all lines have answers
-  pub done : given ≡ None → printed.end ≡ Whole
+  pub done : given ≡ None → printed.end ≡ None
   pub whole : given ≡ None → AreAllLines input printed.tally.count
   pub finish : IsFinish given ended
 

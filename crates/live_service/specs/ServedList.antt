@@ -28,6 +28,7 @@ use Rattle.live_service.specs.declared.ending.Ending.{Ending}
 use Rattle.packet_ways.specs.Standing.{IsNewest}
 use Rattle.line_exchange.specs.OneList.{AreAnswersIn, AreGone}
 use Rattle.line_exchange.specs.PutLines.{puts_in}
+use Rattle.line_exchange.specs.Measured.{AreMeasured}
 use Rattle.line_exchange.specs.Tallies.{AreAwaited, AreBackedUp, AreDropped, no_tickets, told_in}
 use Rattle.requests.specs.Tickets.{Rises}
 use Rattle.line_exchange.specs.Waits.{AreNoOlder}
@@ -121,6 +122,8 @@ pub record AreOfOneList {D : Type 0} (model : Ghosts D) (disk back : D) (input :
   pub no_older : AreNoOlder answers
   -- a backup has all changes that an earlier answer tells as accepted
   pub backed : AreBackedUp answers
+  -- a metrics line counts the answers before it, by kind
+  pub measured : AreMeasured answers
   -- a crash at any moment left the state after a beginning of the requests
   pub any_moment : IsTrue (model.view disk).keeps_model → KeepsThrough (model.view disk) first → LeavesOnly (model.view disk) (model.view back) (StandsForBeginning first taken)
   -- and one now leaves the state after all of them

@@ -1,7 +1,7 @@
 //! A service that answers lines as they come, with edits, routes, addresses and packets, and its engine, which runs scripts too.
 //!
 //! [`serve_live`] opens a device and starts the threads of an engine: a committer, an editor for each session, forwarders, a waiter,
-//! which answers `state`, `wait` and `backup`, and the one that puts tables (all of `line_workers`). One more thread reads lines and hands each to
+//! which answers `state`, `wait`, `backup` and `metrics`, and the one that puts tables (all of `line_workers`). One more thread reads lines and hands each to
 //! the thread that answers it, and the caller's thread prints the answers in the order of their lines (both of `line_exchange`), each as
 //! soon as it and all before it are there. A line that waits for a commit holds up the printing of later answers, not the work on them.
 //!

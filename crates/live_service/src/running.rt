@@ -20,7 +20,7 @@ use checkpoint::Store;
 use command_output::Fault;
 use disk_trait::Disk;
 use line_exchange::{
-    Console, Exchange, LineSource, PrintEnd, Printed, ReadFault, Served, Stream, read_lines,
+    Console, Exchange, LineFault, LineSource, Printed, Served, Stream, read_lines,
 };
 use new_devices::NewDevices;
 use packet_ways::BoardName;
@@ -55,7 +55,7 @@ struct ReaderPromise<J: Stream> {
     of: PhantomData<J>,
 }
 
-impl<J: Stream> Promise<Result<Option<u64>, ReadFault>> for ReaderPromise<J> {
+impl<J: Stream> Promise<Result<Option<u64>, LineFault>> for ReaderPromise<J> {
     ghost use Rattle.line_exchange.specs.Reads.{IsReadEnd};
 
     ghost kept_by = { λ p r. IsReadEnd J.input r };
@@ -74,6 +74,20 @@ fn told_cause(cause: StopCause) -> Fault
     }
 }
 
+// What is told of lines that ended early.
+fn told_line(fault: LineFault) -> Fault
+    ensures later { IsLater result × (result ≢ Fault.Device) }
+    ensures output { result ≡ Fault.Output → fault ≡ LineFault.Failed }
+    ensures failed { fault ≡ LineFault.Failed → result ≡ Fault.Output }
+{
+    match fault {
+        LineFault::Failed => Fault::Output,
+        LineFault::Memory => Fault::Memory,
+        LineFault::NoThread => Fault::NoThread,
+        LineFault::Internal => Fault::Internal,
+    }
+}
+
 // The fault that is known once the answers are printed and the engine has ended: that the output failed goes before all others. The
 // board has all that the answers know, and each session was told as many verdicts as lines were noted, or two parts disagree.
 #[tactic(auto, using(crate::proofs::Ended::cause_later, crate::proofs::Ended::cause_device, crate::proofs::Ended::cause_other))]
@@ -81,18 +95,17 @@ fn early_fault(printed: &Printed, engine: &Result<Ending, StopCause>) -> Option<
     requires { IfOk engine.now (λ ending. (printed.now.tally.known.opening ≡ ending.board.opening)
         × (printed.now.tally.lines.book ≡ ending.lines.book)) }
     ensures fault { IfSome result (λ fault. IsFaultOf engine.now fault) }
-    ensures output { printed.now.end ≡ PrintEnd.Output → result ≡ Some Fault.Output }
-    ensures met { result ≡ Some Fault.Output → printed.now.end ≡ PrintEnd.Output }
-    ensures none { result ≡ None → printed.now.end ≡ PrintEnd.Whole }
+    ensures output { printed.now.end ≡ Some LineFault.Failed → result ≡ Some Fault.Output }
+    ensures met { result ≡ Some Fault.Output → printed.now.end ≡ Some LineFault.Failed }
+    ensures none { result ≡ None → printed.now.end ≡ None }
     ensures on { result ≡ None → IsOkAnd engine.now (λ ending. GoesOn printed.now.tally.known ending.board
         × AreSamePuts printed.now.tally ending) }
 {
     match (printed.end, engine) {
-        (PrintEnd::Output, _) => Some(Fault::Output),
+        (Some(LineFault::Failed), _) => Some(Fault::Output),
         (_, Err(cause)) => Some(told_cause(*cause)),
-        (PrintEnd::Memory, Ok(_)) => Some(Fault::Memory),
-        (PrintEnd::Internal, Ok(_)) => Some(Fault::Internal),
-        (PrintEnd::Whole, Ok(ending)) => {
+        (Some(fault), Ok(_)) => Some(told_line(fault)),
+        (None, Ok(ending)) => {
             if ending.board.covers(&printed.tally.known) && ending.was_told(&printed.tally) {
                 None
             } else {
@@ -103,31 +116,28 @@ fn early_fault(printed: &Printed, engine: &Result<Ending, StopCause>) -> Option<
 }
 
 // The fault that is known once the reader has ended too: it failed, or not all its lines have answers.
-fn late_fault(printed: &Printed, read: &Result<Option<u64>, ReadFault>) -> Option<Fault>
+fn late_fault(printed: &Printed, read: &Result<Option<u64>, LineFault>) -> Option<Fault>
     ensures fault { IfSome result (λ fault. IsLater fault × (fault ≢ Fault.Device)) }
-    ensures output { result ≡ Some Fault.Output → read.now ≡ Err ReadFault.Input }
+    ensures output { result ≡ Some Fault.Output → read.now ≡ Err LineFault.Failed }
     ensures none { result ≡ None → read.now ≡ Ok (Some printed.now.tally.count) }
 {
     match read {
         Ok(Some(lines)) if *lines == printed.tally.count => None,
         Ok(_) => Some(Fault::Internal),
-        Err(ReadFault::Input) => Some(Fault::Output),
-        Err(ReadFault::Memory) => Some(Fault::Memory),
-        Err(ReadFault::NoThread) => Some(Fault::NoThread),
-        Err(ReadFault::Internal) => Some(Fault::Internal),
+        Err(fault) => Some(told_line(*fault)),
     }
 }
 
 // Waits for the reader.
 fn join_reader<J: Stream, R: Threads>(
     rt: &R,
-    reader: Option<PromisedHandle<Result<Option<u64>, ReadFault>, ReaderPromise<J>>>,
-) -> Result<Option<u64>, ReadFault>
+    reader: Option<PromisedHandle<Result<Option<u64>, LineFault>, ReaderPromise<J>>>,
+) -> Result<Option<u64>, LineFault>
     ensures { IsReadEnd J.input result }
 {
     match reader {
         Some(reader) => reader.join(rt),
-        None => Err(ReadFault::NoThread),
+        None => Err(LineFault::NoThread),
     }
 }
 
@@ -139,7 +149,7 @@ fn conclude<J: Stream, C: Console<J>, R: Threads>(
     console: C,
     printed: Printed,
     engine: &Result<Ending, StopCause>,
-    reader: Option<PromisedHandle<Result<Option<u64>, ReadFault>, ReaderPromise<J>>>,
+    reader: Option<PromisedHandle<Result<Option<u64>, LineFault>, ReaderPromise<J>>>,
 ) -> (C, Option<Fault>, Served)
     requires { IfOk engine.now (λ ending. (printed.tally.known.opening ≡ ending.board.opening)
         × (printed.tally.lines.book ≡ ending.lines.book)) }
@@ -293,7 +303,7 @@ where
                 }
             };
             let reader_promise: ReaderPromise<J> = ReaderPromise { of: PhantomData };
-            let reader_job = move || -> Result<Option<u64>, ReadFault>
+            let reader_job = move || -> Result<Option<u64>, LineFault>
                 requires given { L.has_given lines 0 }
                 ensures { IsReadEnd J.input result }
             { read_lines(rt, exchange, lines) };

@@ -78,8 +78,8 @@ where
 /// The first generation is begun at the start. The next one is begun where something that was accepted isn't in one and no more edits
 /// wait, or `rounds` rounds after the first such edit at the latest. Each is built in a thread of its own, one at a time, so that no edit
 /// waits for it, and no `resume`. What asks for a way, an address, a packet, tables or how the service stands waits until the first one
-/// is there. An edit goes to its session's editor; the k-th of the other lines but `state`, `wait` and `backup`, from 0, to the
-/// forwarder `k` modulo their number. With the most editors there is one forwarder less than asked for, where that was the most too.
+/// is there. An edit goes to its session's editor; the k-th of the other lines but `state`, `wait`, `backup` and `metrics`, from 0, to
+/// the forwarder `k` modulo their number. With the most editors there is one forwarder less than asked for, where that was the most too.
 ///
 /// What ends the service before the input's end is told on `err`, once all answers before the first line without one are printed.
 /// [`Served::Printed`]: the input came to its end, and all its lines are answered. What was accepted stays on the device, which comes

@@ -2,9 +2,11 @@
 //!
 //! There is nothing here but tests: lines of 64 sessions, judged by a plain network of its own; lines behind a commit that the device holds; each call of the
 //! device and each write failing; inputs that end, fail or stay open; want of memory and of threads; rebuilds that coalesce;
-//! tables that are put while edits go on.
+//! tables that are put while edits go on; a clock that `metrics` goes by.
 #![tactic(auto)]
 
+#[cfg(test)]
+mod clocked;
 #[cfg(test)]
 mod drawn;
 #[cfg(test)]

@@ -1,10 +1,8 @@
--- What may go to another thread: the place of tables that a test has, and the system's devices.
+-- What may go to another thread: the place of tables that a test has.
 use denote.Builtin.{unit}
 use denote.Param.Send.{IsSend, sendable}
 use denote.Ref.{NamedLft}
 use Rattle.std.proofs.Crossing.{crosses}
-use Rattle.device_files.specs.contracts.file.DeviceFile as device
-use Rattle.disk_trait.specs.contracts.file.FileDisk as disk
 use Rattle.disk_trait.specs.contracts.log.Log as log
 use Rattle.table_files.specs.contracts.place.HostTables as host
 use Rattle.table_files.specs.contracts.place.TableFile as file
@@ -16,13 +14,3 @@ put_send = search (crosses, sendable) depth 40
 -- the system's files
 pub place_send : (κ : NamedLft) → IsSend (host.the_row κ)
 place_send κ = search (crosses, sendable, put_send) depth 80 fits 50000
-
-failures_send : IsSend (log.the_row unit)
-failures_send = search (crosses, sendable) depth 40
-
-disk_send : IsSend disk.the_row
-disk_send = search (crosses, sendable, failures_send) depth 40
-
--- a device that is a file
-pub device_send : IsSend device.the_row
-device_send = search (crosses, sendable, disk_send) depth 80 fits 50000

@@ -8,7 +8,7 @@ use stand_ins::NarrowWriter;
 use std::fs::File;
 use std::io;
 use std::process::Abort;
-use std::rt::Files;
+use std::rt::{Clock, Files};
 use std::sync::Wait;
 use std::thread::Threads;
 use table_files::TablePlaces;
@@ -25,7 +25,7 @@ fn paths_that_are_no_device(rt: HostRuntime) {
 
 fn expect_output_fault<
     'a,
-    R: Files<File = File> + AllocGlobal + Abort + Threads + Wait + Sync + TablePlaces<'a>,
+    R: Files<File = File> + AllocGlobal + Abort + Clock + Threads + Wait + Sync + TablePlaces<'a>,
 >(rt: &'a R, d: &str, line: &str, left: usize, flushes: u64)
 where
     R::Dir: Send,
@@ -39,7 +39,7 @@ where
 // A writer that takes nothing, one that takes all but the last byte, and one that takes all and can't be flushed.
 fn expect_output_faults<
     'a,
-    R: Files<File = File> + AllocGlobal + Abort + Threads + Wait + Sync + TablePlaces<'a>,
+    R: Files<File = File> + AllocGlobal + Abort + Clock + Threads + Wait + Sync + TablePlaces<'a>,
 >(rt: &'a R, d: &str, line: &str, printed: usize)
 where
     R::Dir: Send,

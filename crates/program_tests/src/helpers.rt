@@ -4,7 +4,7 @@ use std::fmt::Debug;
 use std::fs::File;
 use std::io::{self, Read, Write};
 use std::process::Abort;
-use std::rt::Files;
+use std::rt::{Clock, Files};
 use std::sync::Wait;
 use std::thread::Threads;
 use std::{env, fs, process, str};
@@ -100,7 +100,7 @@ fn lines_of<R: AllocGlobal + Abort>(rt: &R, text: &str) -> Vec<u8> {
 /// Runs the program once, and answers the status and what was told.
 pub(crate) fn run_once<
     'a,
-    R: Files<File = File> + AllocGlobal + Abort + Threads + Wait + Sync + TablePlaces<'a>,
+    R: Files<File = File> + AllocGlobal + Abort + Clock + Threads + Wait + Sync + TablePlaces<'a>,
     S: Read + Send,
     O: Write,
 >(rt: &'a R, d: &str, line: &str, script: &mut S, out: &mut O) -> (u8, Vec<u8>)
@@ -116,7 +116,7 @@ where
 /// Runs the program once with what a reader gives, and compares all that it answers.
 pub(crate) fn expect_answer<
     'a,
-    R: Files<File = File> + AllocGlobal + Abort + Threads + Wait + Sync + TablePlaces<'a>,
+    R: Files<File = File> + AllocGlobal + Abort + Clock + Threads + Wait + Sync + TablePlaces<'a>,
     S: Read + Send,
 >(rt: &'a R, d: &str, line: &str, script: &mut S, want: Answer<'_>)
 where
@@ -132,7 +132,7 @@ where
 /// where it begins so, told.
 pub(crate) fn expect_run<
     'a,
-    R: Files<File = File> + AllocGlobal + Abort + Threads + Wait + Sync + TablePlaces<'a>,
+    R: Files<File = File> + AllocGlobal + Abort + Clock + Threads + Wait + Sync + TablePlaces<'a>,
 >(rt: &'a R, d: &str, line: &str, status: u8, text: &str)
 where
     R::Dir: Send,
@@ -150,7 +150,7 @@ where
 /// Runs each line of a script: the words, an arrow, the status and the text.
 pub(crate) fn expect_script<
     'a,
-    R: Files<File = File> + AllocGlobal + Abort + Threads + Wait + Sync + TablePlaces<'a>,
+    R: Files<File = File> + AllocGlobal + Abort + Clock + Threads + Wait + Sync + TablePlaces<'a>,
 >(rt: &'a R, d: &str, script: &str)
 where
     R::Dir: Send,

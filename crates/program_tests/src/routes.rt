@@ -2,7 +2,7 @@
 use crate::helpers::{device_in, expect_run, got, make_folder, remove_folder};
 use std::fs::File;
 use std::process::Abort;
-use std::rt::Files;
+use std::rt::{Clock, Files};
 use std::sync::Wait;
 use std::thread::Threads;
 use table_files::TablePlaces;
@@ -20,7 +20,7 @@ fn path_line<R: AllocGlobal + Abort>(rt: &R, from: u16, edges: u16) -> String {
 // Edits a path of 4,096 nodes, in 256 changes.
 fn edit_path<
     'a,
-    R: Files<File = File> + AllocGlobal + Abort + Threads + Wait + Sync + TablePlaces<'a>,
+    R: Files<File = File> + AllocGlobal + Abort + Clock + Threads + Wait + Sync + TablePlaces<'a>,
 >(rt: &'a R, d: &str)
 where
     R::Dir: Send,

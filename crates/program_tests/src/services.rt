@@ -5,7 +5,7 @@ use crate::helpers::{
 use std::fs::File;
 use std::io::{self, ErrorKind, Read};
 use std::process::Abort;
-use std::rt::Files;
+use std::rt::{Clock, Files};
 use std::sync::Wait;
 use std::thread::Threads;
 use table_files::TablePlaces;
@@ -22,7 +22,7 @@ const INPUT: Answer<'static> = (1, "", "tznode: input or output failed\n");
 // Runs the program for each row, one after another.
 fn expect_rows<
     'a,
-    R: Files<File = File> + AllocGlobal + Abort + Threads + Wait + Sync + TablePlaces<'a>,
+    R: Files<File = File> + AllocGlobal + Abort + Clock + Threads + Wait + Sync + TablePlaces<'a>,
 >(rt: &'a R, d: &str, rows: &[Row<'_>])
 where
     R::Dir: Send,
@@ -63,7 +63,7 @@ const BROKEN_INPUTS: [Row<'static>; 8] = [
 // Runs the program for each row, where standard input fails behind the row's text.
 fn expect_broken<
     'a,
-    R: Files<File = File> + AllocGlobal + Abort + Threads + Wait + Sync + TablePlaces<'a>,
+    R: Files<File = File> + AllocGlobal + Abort + Clock + Threads + Wait + Sync + TablePlaces<'a>,
 >(rt: &'a R, d: &str, rows: &[Row<'_>])
 where
     R::Dir: Send,

@@ -13,7 +13,7 @@ use std::fs;
 use std::fs::{File, Metadata, OpenOptions};
 use std::io::{self, ErrorKind, Read};
 use std::process::Abort;
-use std::rt::Files;
+use std::rt::{Clock, Files};
 use std::sync::Wait;
 use std::sync::atomic::{AtomicBool, AtomicUsize, Ordering};
 use std::thread::Threads;
@@ -148,7 +148,7 @@ impl Progress for Heard {
 
 // Puts the tables of a device into a folder, where so many calls that write are taken, and compares the status and what is printed or
 // told, and how many tables it told.
-fn expect_put<R: Files<File = File> + AllocGlobal + Abort + Threads + Wait + Sync>(
+fn expect_put<R: Files<File = File> + AllocGlobal + Abort + Clock + Threads + Wait + Sync>(
     rt: &R,
     below: &HostRuntime,
     folder: &str,
@@ -208,7 +208,7 @@ fn expect_tables<R: Files<File = File> + AllocGlobal + Abort>(rt: &R, folder: &s
 // Makes the device of the path in a folder, and a folder for its tables.
 fn fill_folder<
     'a,
-    R: Files<File = File> + AllocGlobal + Abort + Threads + Wait + Sync + TablePlaces<'a>,
+    R: Files<File = File> + AllocGlobal + Abort + Clock + Threads + Wait + Sync + TablePlaces<'a>,
 >(rt: &'a R, folder: &str)
 where
     R::Dir: Send,

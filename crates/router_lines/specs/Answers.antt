@@ -6,7 +6,6 @@ use Rattle.schemes.specs.declared.packet.Packet.{Packet}
 use Rattle.schemes.specs.declared.packet.Move.{Move}
 use Rattle.schemes.specs.declared.packet.Refused.{Refused}
 use Rattle.packet_bytes.specs.Texts.{address_line, move_text, packet_line, refused_text, unread_text}
-use Rattle.packet_bytes.specs.declared.wire.WireRefused.{WireRefused}
 use Rattle.router_table.specs.Handing.{hopped, launched}
 use Rattle.router_table.specs.Refusals.{IsRefusedFor}
 use Rattle.router_table.specs.Spelling.{SpellsTable}

@@ -1,5 +1,5 @@
 -- What lines ask for.
-use Rattle.std.specs.Prelude.{◌≡◌, ◌≢◌, ◌⊎◌, ◌*◌, ℕ, Result, Ok, Err, Option, Some, List, ◌++◌, codes, length}
+use Rattle.std.specs.Prelude.{◌≡◌, ◌≢◌, ◌⊎◌, ◌*◌, ℕ, Ok, Option, Some, List, ◌++◌, codes, length}
 use Rattle.hex.specs.Hex.{decode_sized}
 use Rattle.packet_bytes.specs.Digits.{AreDigitsOf, HasNoBytes}
 use Rattle.packet_bytes.specs.Layout.{address_size, packet_size}

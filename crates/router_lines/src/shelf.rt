@@ -1,7 +1,7 @@
 // The tables of a router's newest generations.
 ghost use Rattle.std.specs.Prelude.{◌≡◌, ◌-◌, ◌<◌, ◌≤◌, ◌↔◌, ◌∷◌, [], IfErr, IfOk, IsOk, IsTrue, OnErr, OnOk, length, slice_index_or};
 ghost use Rattle.std.specs.List.{insert, remove};
-ghost use Rattle.router_table.specs.Reading.{Finds};
+ghost use Rattle.byte_forms.specs.Reading.{Finds};
 ghost use Rattle.router_lines.specs.Shelves.{IsAt, IsLoaded, IsNotLoaded, IsNotPut, IsPlaceOf, IsPut, generations_of, table_in};
 ghost use Rattle.router_lines.specs.Answers.{IsAnswerTo, IsLoadedBy, moved_by, newest_address, sent_by};
 

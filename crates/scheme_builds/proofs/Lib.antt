@@ -1,4 +1,3 @@
 pub mod WordLemmas
 pub mod RangeLemmas
 pub mod Addresses
-pub mod Routes

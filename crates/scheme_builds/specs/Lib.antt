@@ -1,6 +1,5 @@
 pub mod Words
 pub mod Schemes
-pub mod Lengths
 pub mod Ranges
 pub mod Workers
 pub mod Queries

@@ -28,29 +28,21 @@
 //! let scheme = scheme_of(alloc, &graph, &[u64::MAX, 0], generation, &heap)?;
 //! let workers = workers_here(rt, graph.nodes());
 //! let scheme = scheme_of_in_threads(rt, alloc, &graph, &words, generation, workers)?;
-//! length_over(&graph, &[0, 1, 2])     // how long a way over a graph's nodes is
 //! ```
 //!
 //! # Queries
 //!
-//! A query builds the scheme of the graph with these words, asks it, and lets it go. What the build needs beside the tables lies in a
-//! heap of the call's own, in threads one for each range, so it takes no more memory than [`SCRATCH_LEN`] bytes each; where that isn't
-//! enough the query answers that memory has run out.
-//!
-//! [`carry_in`] carries a packet in a scheme that is there already. [`carry_packet`] builds one first, and answers a trail at most three times as long as any walk where a walk is there, and that there is none where none is,
-//! each by the scheme of exactly these words (`IsRouteAnswer`); [`check_scheme`] finds no fault, and counts exactly the landmarks that
-//! the words choose (`IsCheckAnswer`).
+//! [`carry_in`] carries a packet in a scheme: over a good trail where a walk is there, and it is unreachable where none is.
+//! [`check_scheme`] builds the scheme of the graph by these words and checks it: it finds no fault, and counts exactly the landmarks that
+//! the words choose (`IsCheckAnswer`). What the build needs beside the tables lies in a heap of the call's own, in threads one for each
+//! range, of [`SCRATCH_LEN`] bytes each; where that isn't enough the query answers that memory has run out.
 //!
 //! ```text
-//! match carry_packet(alloc, &graph, &words, generation, 0, 4)? {
-//!     Route::Along(trail) => ..         // trail.nodes, trail.ports, trail.length
-//!     Route::Unreachable => ..
-//! }
+//! let trail = carry_in(alloc, &graph, &scheme, 0, 4)?;                           // trail.nodes, trail.ports, trail.length
 //! let checked = check_scheme(rt, alloc, &graph, &words, generation, workers)?;   // checked.landmarks, checked.fault
 //! ```
 #![tactic(auto)]
 
-mod lengths;
 mod queries;
 mod ranges;
 mod scheme;
@@ -59,8 +51,7 @@ mod turns;
 mod words;
 mod workers;
 
-pub use lengths::length_over;
-pub use queries::{Checked, Route, carry_in, carry_packet, check_scheme};
+pub use queries::{Checked, Route, carry_in, check_scheme};
 pub use ranges::SCRATCH_LEN;
 pub use scheme::scheme_of;
 pub use threads::{scheme_in_threads, scheme_of_in_threads, scheme_of_in_turns};

@@ -1,15 +1,11 @@
-// A scheme for each query, and what is asked of it.
-ghost use Rattle.std.specs.Prelude.{◌≡◌, ◌<◌, IfOk, count_by};
+// What is asked of a scheme.
+ghost use Rattle.std.specs.Prelude.{◌≡◌, ◌<◌, count_by};
 ghost use Rattle.schemes.specs.Checks.{IsChecked};
 ghost use Rattle.scheme_builds.specs.Carrying.{IsCarried};
-ghost use Rattle.scheme_builds.specs.Schemes.{IsSchemeOf};
-ghost use Rattle.scheme_builds.specs.Queries.{IsCheckAnswer, IsRouteAnswer, IsRouteBy};
+ghost use Rattle.scheme_builds.specs.Queries.{IsCheckAnswer};
 
-use crate::ranges::SCRATCH_LEN;
-use crate::scheme::scheme_of;
 use crate::threads::scheme_of_in_threads;
 use graph_edits::Graph;
-use linked_list_allocator::LocalHeap;
 use schemes::{CarryRefused, Scheme, Trail, graph_is_sound};
 use std::alloc::{AllocError, Global};
 use std::sync::Wait;
@@ -31,14 +27,6 @@ pub struct Checked {
     pub landmarks: usize,
     /// The first check that fails.
     pub fault: Option<certificate::Fault>,
-}
-
-/// The scheme of the graph by these landmark words. The scratch is a heap of this call's own.
-fn built(alloc: Global, graph: &Graph, words: &[u64], generation: u64) -> Result<Scheme, AllocError>
-    ensures { IfOk result (λ scheme. IsSchemeOf graph.now words.now generation scheme) }
-{
-    let heap = LocalHeap::new(alloc, SCRATCH_LEN)?;
-    scheme_of(alloc, graph, words, generation, &heap)
 }
 
 /// How many landmarks a scheme has.
@@ -72,30 +60,6 @@ pub fn carry_in(
         unreachable!()
     };
     scheme.carry(alloc, from, &address)
-}
-
-/// Carries a packet from a node to a node, in the scheme of the graph by these landmark words. Of the words the first count,
-/// one for each node, and for each that is missing the greatest. The scratch is a heap of this call's own.
-pub fn carry_packet(
-    alloc: Global,
-    graph: &Graph,
-    words: &[u64],
-    generation: u64,
-    from: u16,
-    to: u16,
-) -> Result<Route, AllocError>
-    requires from { from < graph.now.nodes }
-    requires to { to < graph.now.nodes }
-    ensures answer { IsRouteAnswer graph.now from to result }
-    ensures scheme { IfOk result (λ route. IsRouteBy graph.now words.now generation from to route) }
-{
-    let scheme = built(alloc, graph, words, generation)?;
-    match carry_in(alloc, graph, &scheme, from, to) {
-        Ok(trail) => Ok(Route::Along(trail)),
-        Err(CarryRefused::Unreachable) => Ok(Route::Unreachable),
-        Err(CarryRefused::Memory) => Err(AllocError),
-        Err(_) => unreachable!(),
-    }
 }
 
 /// Checks the scheme of the graph by these landmark words, under this generation. Of the words the first count, one for

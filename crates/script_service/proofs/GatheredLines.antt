@@ -18,7 +18,7 @@ use Rattle.live_lines.specs.declared.answer.Answer.{Answer}
 use Rattle.live_lines.specs.declared.answer.Answer.TheVariants.{Settled, AlreadyIn, RefusedBefore, OldTicket, Way}
 use Rattle.live_lines.specs.Answers.{Fits, script_text}
 use Rattle.line_exchange.specs.declared.printed.Printed.{Printed}
-use Rattle.line_exchange.specs.declared.printed.PrintEnd.TheVariants.{Output, Whole}
+use Rattle.line_exchange.specs.declared.line_fault.LineFault.TheVariants.{Failed}
 use Rattle.line_exchange.specs.declared.served.Served.{Served}
 use Rattle.line_exchange.specs.declared.served.Served.TheVariants as served
 use Rattle.line_exchange.specs.Inputs.{Input, Script}
@@ -62,7 +62,7 @@ of_script known script editors answers many said =
 
 -- the text that was gathered where no fault was given is that of answers to a whole script
 script_whole : (input : Input) (script : List ScriptLine) (editors : ℕ) (printed : Printed) (given : Option Fault) (ended : Served) (text : List ℕ) → input ≡ Script script
-    → (printed.end ≡ Whole → HasText printed.tally input editors text) → IsPrintEnd input printed given ended → given ≡ None → IsServed script (λ lines. text ≡ lines)
+    → (printed.end ≡ None → HasText printed.tally input editors text) → IsPrintEnd input printed given ended → given ≡ None → IsServed script (λ lines. text ≡ lines)
 script_whole input script editors printed given ended text names has end is =
     let has_all : HasText printed.tally (Script script) editors text = subst (λ (i : Input). HasText printed.tally i editors text) names (has (end.done is)) in
     let all : printed.tally.count ≡ length script = (subst (λ (i : Input). IsPrintEnd i printed given ended) names end).whole is in
@@ -70,7 +70,7 @@ script_whole input script editors printed given ended text names has end is =
 
 -- a service that ended without a fault has printed it
 pub script_served : {W : Type 0} (outlet : Ghosts W) (input : Input) (script : List ScriptLine) (editors : ℕ) (printed : Printed) (given : Option Fault) (ended : Served) (text : List ℕ) (old new : W) → input ≡ Script script
-    → (printed.end ≡ Whole → HasText printed.tally input editors text) → PrintsAtEnd outlet text old new given ended → IsPrintEnd input printed given ended → ended ≡ served.Printed
+    → (printed.end ≡ None → HasText printed.tally input editors text) → PrintsAtEnd outlet text old new given ended → IsPrintEnd input printed given ended → ended ≡ served.Printed
     → IsServed script (Appends (outlet.contents old) (outlet.contents new))
 script_served outlet input script editors printed given ended text old new names has prints end is =
     let whole = script_whole input script editors printed given ended text names has end (none_given given ended end.finish is) in
@@ -78,7 +78,7 @@ script_served outlet input script editors printed given ended text old new names
 
 -- and one whose printing failed a beginning of it
 pub script_broken : {W : Type 0} (outlet : Ghosts W) (input : Input) (script : List ScriptLine) (editors : ℕ) (printed : Printed) (given : Option Fault) (ended : Served) (text : List ℕ) (old new : W) → input ≡ Script script
-    → (printed.end ≡ Output → ⊥) → (printed.end ≡ Whole → HasText printed.tally input editors text) → PrintsAtEnd outlet text old new given ended → IsPrintEnd input printed given ended → fault_of ended ≡ Some told.Output
+    → (printed.end ≡ Some Failed → ⊥) → (printed.end ≡ None → HasText printed.tally input editors text) → PrintsAtEnd outlet text old new given ended → IsPrintEnd input printed given ended → fault_of ended ≡ Some told.Output
     → BreaksOff outlet script old new
 script_broken outlet input script editors printed given ended text old new names unbroken has prints end is =
     ⊎_elim (λ same. absurd (⊎_elim unbroken (λ of. subst AreOfInput names of) (end.met (sym same ∙ is)))) (λ none.
@@ -88,7 +88,7 @@ script_broken outlet input script editors printed given ended text old new names
 
 -- and its answers are by what is known
 pub script_gathered : {D W : Type 0} {V : _} → (outlet : Ghosts W) (store : Store D V) (input : Input) (editors : ℕ) (printed : Printed) (given : Option Fault) (ended : Served) (text : List ℕ) (old new : W) (back : Option D)
-    → (printed.end ≡ Whole → HasText printed.tally input editors text) → PrintsAtEnd outlet text old new given ended → IsPrintEnd input printed given ended → (ended ≡ served.Printed → HasServedOn store input editors printed.tally back)
+    → (printed.end ≡ None → HasText printed.tally input editors text) → PrintsAtEnd outlet text old new given ended → IsPrintEnd input printed given ended → (ended ≡ served.Printed → HasServedOn store input editors printed.tally back)
     → ended ≡ served.Printed → HasPrintedOn script_text store input editors (outlet.contents old) (outlet.contents new) back
 script_gathered outlet store input editors printed given ended text old new back has prints end on is =
     let none = none_given given ended end.finish is in

@@ -1,2 +1,1 @@
 pub mod GatheredLines
-pub mod Sending

@@ -138,8 +138,9 @@ fn begin<
     {
         drop(outgoing);
         gate.before_build();
+        let begun = gate.micros();
         let built = scheme_beside(rt, alloc, &shared, &words);
-        coordinator.end_build(rt);
+        coordinator.end_build(rt, gate.micros().saturating_sub(begun));
         built
     };
     match scope.spawn_with(promise, job) {
@@ -316,9 +317,8 @@ fn turn_beside<
     ensures up_to_date { IfOk result (λ round. round.taken ≡ 0 → rebuilds.new.building ≡ None → IsUpToDate committer.new) }
     ensures device { IfErr result (λ cause. cause ≡ StopCause.Device → HasLostDevice committer.old committer.new) }
 {
-    let (rt, alloc, coordinator) = (site.rt, site.alloc, site.coordinator);
     rebuilds.post_built(site, committer, built)?;
-    let round = told_round::<J, D, R, S>(rt, alloc, coordinator, committer, rebuilds.newest)?;
+    let round = told_round(site, committer, rebuilds.newest)?;
     rebuilds.begin_due(scope, site, committer, awaited(round.taken, built))?;
     Ok(round)
 }

@@ -12,7 +12,7 @@ ghost use Rattle.service_threads.specs.Kept.{HasLostDevice, HasSettledAll, HasSe
 ghost use Rattle.service_threads.specs.Tables.{IsGraphOf};
 
 use crate::backing::back_up;
-use crate::beside::{Build, Shelf};
+use crate::beside::{Build, Shelf, Site};
 use crate::causes::{cause_of_rebuild, cause_of_round};
 use committer::{Committer, Round};
 use disk_trait::Disk;
@@ -23,7 +23,8 @@ use packet_ways::BoardName;
 use scheme_builds::{SCRATCH_LEN, scheme_of_in_threads, workers_here};
 use schemes::Scheme;
 use service_workers::{
-    Coordinator, GenerationGraph, Graphs, Stand, StopCause, ToldOf, WordSource, shared_graph,
+    Coordinator, Gate, GenerationGraph, Graphs, OpenGate, Stand, StopCause, ToldOf, WordSource,
+    shared_graph,
 };
 use settled_lists::Builds;
 use std::alloc::{AllocError, Global};
@@ -198,11 +199,10 @@ pub(crate) fn stand_of<J: BoardName, D: Disk, R: Wait + Drop>(
     }
 }
 
-// One round, and its marks told. Whatever ends it, the device holds the state before the round or the one after its whole group.
-pub(crate) fn told_round<J: BoardName, D: Disk, R: Wait + Drop, S: Wait>(
-    rt: &S,
-    alloc: Global,
-    coordinator: &Coordinator<J>,
+// One round, its time taken where it committed something, and its marks told. Whatever ends it, the device holds the state before the round or the one after its whole
+// group.
+pub(crate) fn told_round<J: BoardName, D: Disk, G: Gate, R: Wait + Drop, S: Wait>(
+    site: &Site<J, G, S>,
     committer: &mut Committer<D, R>,
     newest: Option<u64>,
 ) -> Result<Round, StopCause>
@@ -217,10 +217,15 @@ pub(crate) fn told_round<J: BoardName, D: Disk, R: Wait + Drop, S: Wait>(
     ensures listed { StaysListed committer.old committer.new }
     ensures device { IfErr result (λ cause. cause ≡ StopCause.Device → HasLostDevice committer.old committer.new) }
 {
-    let round = match committer.round(alloc, rt) {
+    let (rt, coordinator) = (site.rt, site.coordinator);
+    let (before, begun) = (committer.store().count(), site.gate.micros());
+    let round = match committer.round(site.alloc, rt) {
         Ok(round) => round,
         Err(refused) => return Err(cause_of_round(refused)),
     };
+    if before < committer.store().count() {
+        coordinator.add_commit(rt, site.gate.micros().saturating_sub(begun));
+    }
     if round.taken > 0 {
         coordinator.tell(rt, stand_of::<J, D, R>(committer, newest), round.taken);
     }
@@ -250,7 +255,13 @@ fn turn<J: BoardName, D: Disk, R: Wait + Drop, S: Threads + Wait + Sync>(
     ensures listed { StaysListed committer.old committer.new }
     ensures device { IfErr result (λ cause. cause ≡ StopCause.Device → HasLostDevice committer.old committer.new) }
 {
-    let round = told_round::<J, D, R, S>(rt, alloc, coordinator, committer, rebuilds.newest)?;
+    let site = Site {
+        rt,
+        alloc,
+        coordinator,
+        gate: &OpenGate,
+    };
+    let round = told_round(&site, committer, rebuilds.newest)?;
     if rebuilds.is_due(round.taken, committer.store().count()) {
         coordinator.show(rt, next_graph(alloc, committer)?);
         rebuilds.rebuild::<J, D, R, S>(rt, alloc, committer)?;

@@ -2,6 +2,7 @@
 use crate::graphs::{GenerationGraph, Graphs};
 use crate::stand::{Shown, Stand};
 use crate::stop_cause::StopCause;
+use crate::timings::Timings;
 use new_devices::BackupRefused;
 use packet_ways::BoardName;
 use std::alloc::Global;
@@ -33,6 +34,8 @@ struct SharedState<J: BoardName> {
     // The path of a backup that is asked for, until the committer takes it, and what came of that, until it is told.
     backup: Option<String>,
     backed: Option<Backed<J>>,
+    // How long commits and builds took.
+    timings: Timings,
 }
 
 /// What came of a backup, and how the board stood when it was made.
@@ -132,7 +135,8 @@ impl<J: BoardName> SharedState<J> {
         self.asked = self.asked.wrapping_add(1);
     }
 
-    fn end_build(&mut self) {
+    fn end_build(&mut self, micros: u64) {
+        self.timings.build = micros;
         self.built = true;
         self.ask();
     }
@@ -202,6 +206,7 @@ impl<J: BoardName> Coordinator<J> {
                 taken: 0,
                 backup: None,
                 backed: None,
+                timings: Timings::new(),
             }),
             news: Condvar::new(),
             work: Condvar::new(),
@@ -212,6 +217,16 @@ impl<J: BoardName> Coordinator<J> {
     pub fn tell<R: Wait>(&self, rt: &R, stand: Stand<J>, taken: usize) {
         self.shared.lock(rt).tell(stand, taken);
         self.news.notify_all();
+    }
+
+    /// A commit took so many microseconds. It is told before its marks are.
+    pub fn add_commit<R: Wait>(&self, rt: &R, micros: u64) {
+        self.shared.lock(rt).timings.add(micros);
+    }
+
+    /// How long commits and builds took.
+    pub fn timings<R: Wait>(&self, rt: &R) -> Timings {
+        self.shared.lock(rt).timings
     }
 
     /// A change was accepted as the one of this number.
@@ -285,9 +300,9 @@ impl<J: BoardName> Coordinator<J> {
         self.work.notify_all();
     }
 
-    /// A build has ended.
-    pub fn end_build<R: Wait>(&self, rt: &R) {
-        self.shared.lock(rt).end_build();
+    /// A build has ended that took so many microseconds.
+    pub fn end_build<R: Wait>(&self, rt: &R, micros: u64) {
+        self.shared.lock(rt).end_build(micros);
         self.work.notify_all();
     }
 

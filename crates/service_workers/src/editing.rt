@@ -5,7 +5,7 @@ ghost use Rattle.service_workers.specs.Settled.{IsMarkOf};
 
 use crate::coordinator::Coordinator;
 use crate::stop_cause::StopCause;
-use generations::{Mark, Verdict};
+use generations::Mark;
 use intake::{Editor, Outcome};
 use packet_ways::BoardName;
 use std::sync::Wait;
@@ -23,7 +23,6 @@ pub(crate) fn settled<J: BoardName, R: Wait>(
     ensures none_put { editor.new.put ≡ editor.old.put }
     ensures mark { IfSome result (λ mark. IsMarkOf editor.new mark) }
 {
-    let session = editor.session();
     for _ in rt.forever() {
         let news = coordinator.news(rt);
         if news.stopped {
@@ -31,20 +30,7 @@ pub(crate) fn settled<J: BoardName, R: Wait>(
         }
         editor.learn(news.stand.told.told());
         match editor.outcome() {
-            Ok(Outcome::Accepted { ticket, count }) => {
-                return Some(Mark {
-                    session,
-                    ticket,
-                    verdict: Verdict::Accepted { count },
-                });
-            }
-            Ok(Outcome::Refused { ticket, op, code }) => {
-                return Some(Mark {
-                    session,
-                    ticket,
-                    verdict: Verdict::Refused { op, code },
-                });
-            }
+            Ok(Outcome::Settled(mark)) => return Some(mark),
             Ok(Outcome::Waiting) | Ok(Outcome::Down) => coordinator.await_news(rt, news.turn),
             Ok(Outcome::Nothing) => {
                 coordinator.stop(rt, StopCause::Internal);

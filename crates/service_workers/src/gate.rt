@@ -1,4 +1,4 @@
-// What may hold up a launch, or a build.
+// What may hold up a launch, or a build; and a clock.
 
 /// Is called ahead of a launch, behind an answered hop, and ahead of a build beside the rounds.
 pub trait Gate {
@@ -10,9 +10,14 @@ pub trait Gate {
 
     /// A thread is about to build tables beside the rounds.
     fn before_build(&self);
+
+    /// The microseconds since some moment, where there is a clock.
+    fn micros(&self) -> u64 {
+        0
+    }
 }
 
-/// Nothing is held up.
+/// Nothing is held up, and there is no clock.
 #[derive(Clone, Copy, Drop)]
 pub struct OpenGate;
 

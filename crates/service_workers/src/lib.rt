@@ -25,6 +25,7 @@ mod graphs;
 mod session_editor;
 mod stand;
 mod stop_cause;
+mod timings;
 mod told;
 mod word_source;
 
@@ -35,5 +36,6 @@ pub use graphs::{GenerationGraph, Graphs, shared_graph};
 pub use session_editor::{EditEnd, SessionEditor};
 pub use stand::{Shown, Stand};
 pub use stop_cause::StopCause;
+pub use timings::{TimeSpan, Timings};
 pub use told::ToldOf;
 pub use word_source::WordSource;

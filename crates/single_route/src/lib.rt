@@ -6,8 +6,7 @@
 //! landmarks, one or two trees of least distances and their parents give it. So a route takes three searches of the network and
 //! memory for its nodes, however large the scheme would be. No tree lies on a stack, and no thread or heap of its own is needed.
 //!
-//! The contract that the layers above use is that of [`Routes::route`], and of [`route_of`] for one route alone (`IsAnswer` of
-//! `specs/Answers`): the answer is the trail under these landmarks (`IsTrailBetween` of `specs/LandmarkTrails`, which speaks of
+//! The contract that the layers above use is that of [`Routes::route`] (`IsAnswer` of `specs/Answers`): the answer is the trail under these landmarks (`IsTrailBetween` of `specs/LandmarkTrails`, which speaks of
 //! walks and landmarks alone), a good trip; Unreachable comes only where no walk leads there, and NoNode exactly where a node is
 //! none of the network's. That there is at most one such trail, and that every scheme that keeps all rules carries its packets
 //! over it, are laws: [`trail_laws`].
@@ -30,4 +29,4 @@ mod ways;
 
 pub use laws::trail_laws;
 pub use no_trail::NoTrail;
-pub use routes::{Routes, route_of};
+pub use routes::Routes;

@@ -115,25 +115,3 @@ fn trail_in(
     let trail = trail_over(alloc, graph, path)?;
     Ok(Some(trail))
 }
-
-/// The trail of a packet from a node to a node in this network under these landmarks, as [`Routes::route`] answers it. A node
-/// that is none of the network's is refused before memory is taken.
-pub fn route_of(
-    alloc: Global,
-    graph: &Graph,
-    landmarks: &Landmarks,
-    from: u16,
-    to: u16,
-) -> Result<Trail, NoTrail>
-    requires { length landmarks.now ≡ graph.now.nodes }
-    ensures { IsAnswer graph.now landmarks.now from to result }
-{
-    let nodes = graph.nodes();
-    if from >= nodes || to >= nodes {
-        return Err(NoTrail::NoNode);
-    }
-    match Routes::new(alloc, graph, landmarks) {
-        Ok(mut routes) => routes.route(from, to),
-        Err(_) => Err(NoTrail::Memory),
-    }
-}

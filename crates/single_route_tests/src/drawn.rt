@@ -6,7 +6,7 @@ use rand_xoshiro::Xoshiro256PlusPlus;
 use sample_networks::{drawn_edges, drawn_nodes};
 use scheme_builds::scheme_of;
 use schemes::{CarryRefused, Scheme, Trail};
-use single_route::{NoTrail, route_of};
+use single_route::NoTrail;
 use std::alloc::Global;
 use std::process::Abort;
 
@@ -67,8 +67,6 @@ fn compare(rt: &impl Abort, alloc: Global, graph: &Graph, at: &[u16]) -> u32 {
             let found = trail_of(rt, routed(&mut routes, from, to));
             same_trail(rt, &found, &want);
             assert!(rt; landmarks.flags().len() == graph.nodes() as usize);
-            let once = trail_of(rt, route_of(alloc, graph, &landmarks, from, to));
-            same_trail(rt, &once, &want);
             apart = apart.saturating_add(want.is_none() as u32);
         }
     }

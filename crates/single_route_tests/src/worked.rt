@@ -3,7 +3,7 @@ use crate::helpers::{
     Edge, PATH, Way, ends_of, expect_trail, got, graph_of, landmarks_at, routed, routes_in, same,
 };
 use sample_networks::{PAIRS, TRIANGLE};
-use single_route::{NoTrail, route_of};
+use single_route::NoTrail;
 
 /// A square: two ways of one length from corner to corner.
 const SQUARE: [Edge; 4] = [(0, 1, 1), (0, 2, 1), (1, 3, 1), (2, 3, 1)];
@@ -81,8 +81,6 @@ fn says_why_there_is_no_trail(rt: HostRuntime) {
         let mut routes = routes_in(rt, alloc, &graph, &landmarks);
         same(rt, routes.route(*from, *to).err(), Some(*why), "a refusal");
         assert!(rt; landmarks.flags().len() == graph.nodes() as usize);
-        let once = route_of(alloc, &graph, &landmarks, *from, *to);
-        same(rt, once.err(), Some(*why), "a refusal of one route");
     }
 }
 

@@ -11,18 +11,18 @@
 #![tactic(auto)]
 
 use command_output::{Fault, tell};
-use commands::run_words_at;
+use commands::{reading_fault, run_words_at};
 use standard_streams::{InterruptibleInput, InterruptingWriter, hold_streams};
 use std::alloc::AllocError;
 use std::env;
-use std::io::{self, ErrorKind, IsTerminal, Write};
+use std::io::{ErrorKind, IsTerminal, Write};
 use std::process::ExitCode;
 use table_files::{HostTables, Progress, WatchedTables};
 
 fn main(rt: HostRuntime) -> ExitCode {
     let streams = match hold_streams(&rt) {
         Ok(streams) => streams,
-        Err(error) => return ended_by(&rt, fault_of(&error)),
+        Err(error) => return ended_by(&rt, reading_fault(error)),
     };
     let given = match arguments(&rt) {
         Ok(given) => given,
@@ -90,14 +90,6 @@ impl Shown<'_> {
         if self.was_shown {
             let _told = write!(self.rt.stderr(), "\x1b[K");
         }
-    }
-}
-
-// What is told of standard streams that can't be held.
-fn fault_of(error: &io::Error) -> Fault {
-    match error.kind() {
-        ErrorKind::OutOfMemory => Fault::Memory,
-        _ => Fault::Output,
     }
 }
 

@@ -2,7 +2,7 @@
 //!
 //! There is nothing here but tests: schemes that are built of worked graphs, of the longest path and of drawn graphs, by trees and
 //! over lists, under each allocator; a build by trees in a scratch for one tree; schemes of made-up tables; the scheme of a path of five nodes with one change to its tables, each judged by
-//! [`certificate::check`]; queries; and building and carrying made again where memory was refused.
+//! [`certificate::check`]; and building and carrying made again where memory was refused.
 #![tactic(auto)]
 
 #[cfg(test)]
@@ -16,7 +16,6 @@ mod made_up;
 #[cfg(test)]
 mod memory;
 #[cfg(test)]
-mod queries;
 #[cfg(test)]
 mod trees;
 #[cfg(test)]

@@ -3,9 +3,9 @@ use crate::helpers::{
     PAIRS, PATH, STACK_LEN, TRIANGLE, Way, built, by_lists, carried, ends_of, expect_trail, got,
     graph_of, same, scheme_with,
 };
-use graph_edits::{Change, Graph, MOST_NODES, Op};
-use scheme_builds::{first_words, length_over};
-use schemes::{Move, Refused, Scheme};
+use graph_edits::{Change, Graph, MOST_NODES, Op, length_over};
+use scheme_builds::{SCRATCH_LEN, first_words};
+use schemes::{CarryRefused, Move, Refused, Scheme};
 use std::alloc::{AllocError, Global};
 use std::process::Abort;
 use std::thread;
@@ -29,6 +29,13 @@ fn routes_on_the_worked_graphs(rt: HostRuntime) {
         let (from, to) = ends_of(through);
         expect_trail(rt, &got(rt, carried(rt, alloc, &scheme, from, to)), way);
     }
+    let scheme = scheme_with(rt, alloc, 4, &PAIRS, &[0]);
+    for ends in &[(2u16, 0u16), (0, 3)] {
+        let (from, to) = *ends;
+        let none = carried(rt, alloc, &scheme, from, to).err();
+        same(rt, none, Some(CarryRefused::Unreachable), "apart");
+    }
+    same(rt, SCRATCH_LEN, 67_108_864, "a build's scratch");
 }
 
 /// Copies of the packet from the path's first node to its last, and of the move by which it leaves.

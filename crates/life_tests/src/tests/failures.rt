@@ -43,10 +43,11 @@ const UP: [Reply; 5] = [
     TAKEN,
     Reply::Committed { accepted: 1 },
     Reply::Posted,
-    Reply::Looked(Outcome::Accepted {
+    Reply::Looked(Outcome::Settled(Mark {
+        session: 0,
         ticket: 1,
-        count: 1,
-    }),
+        verdict: Verdict::Accepted { count: 1 },
+    })),
 ];
 
 // A life whose device fails by a plan and crashes by a word: what it is answered, and how many changes the next one opens to.

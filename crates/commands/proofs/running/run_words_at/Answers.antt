@@ -1,25 +1,12 @@
-use denote.Builtin.{unit}
-use denote.Param.Send.{IsSend, sendable}
+use denote.Param.Send.{sendable}
 use Rattle.std.proofs.Crossing.{crosses}
 use Rattle.clap.specs.Walk.{texts}
-use Rattle.disk_trait.specs.contracts.file.FileDisk as disk
-use Rattle.disk_trait.specs.contracts.log.Log as log
-use Rattle.device_files.specs.contracts.file.DeviceFile as file
+use Rattle.device_files.proofs.Sending.{file_send}
 use Rattle.file_commands.specs.Devices.{AreFiles}
 use Rattle.commands.specs.Runs.{streams_of}
 use Rattle.table_files.specs.Files.{PutBy}
 use Rattle.commands.proofs.Answering.{says, says_too}
 use Rattle.commands.proofs.running.run_words_at.Goals as goal
-
--- a disk on a file that is locked may go to another thread
-failures_send : IsSend (log.the_row unit)
-failures_send = search (crosses, sendable) depth 40
-
-disk_send : IsSend disk.the_row
-disk_send = search (crosses, sendable, failures_send) depth 40
-
-file_send : IsSend file.the_row
-file_send = search (crosses, sendable, disk_send) depth 80 fits 50000
 
 pub run_lent-requires-send-F-Device : goal.run_lent-requires-send-F-Device
 run_lent-requires-send-F-Device g c κs within = search (crosses, sendable, file_send) depth 60

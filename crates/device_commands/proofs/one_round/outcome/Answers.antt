@@ -15,5 +15,5 @@ returns-in-Ok-clause-told g c =
     IfOk-weaker c.verdict.result _ _
     (λ v is. told_by posts c.args.editor.now seen is.0 v
     (ap (λ (e : Editing). e.session) then ∙ ap (λ (e : Editing). e.session) first) (ap (λ (e : Editing). e.put) then ∙ ap (λ (e : Editing). e.put) first) known
-    (sym is.1 ∙ c.in-Ok.ensures.outcome))
+    (sym is.1 ∙ c.in-Ok.ensures.outcome) is.2)
     c.verdict.ensures.told

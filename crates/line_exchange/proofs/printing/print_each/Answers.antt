@@ -1,8 +1,9 @@
-use Rattle.std.proofs.Common.{rules, ◌≡◌, ℕ, sym, subst, ◌∙◌}
+use Rattle.std.proofs.Common.{rules, ◌≡◌, ◌≢◌, ℕ, Option, Some, None, sym, subst, ◌∙◌}
 use Rattle.std.specs.Io.KnownBytes.{Keeps}
 use Rattle.command_output.specs.Lines.{line}
 use Rattle.line_exchange.specs.Begun.{Begins}
-use Rattle.line_exchange.specs.declared.printed.PrintEnd.TheVariants.{Whole, Output, Memory, Internal}
+use Rattle.line_exchange.specs.declared.line_fault.LineFault.{LineFault}
+use Rattle.line_exchange.specs.declared.line_fault.LineFault.TheVariants.{Failed, Internal}
 use Rattle.live_lines.specs.Answers.{answer_text}
 use Rattle.line_exchange.specs.OneList.{IsOffAt, IsSaidAt}
 use Rattle.line_exchange.proofs.SaidLines.{ends_broken, ends_whole, one_printed_by, still_printed_by}
@@ -16,7 +17,7 @@ loop-preserved g c =
     let old = text c.args.out.now in
     let mid = text c.next-in-loop.new.out in
     let tally = c.loop.tally in
-    let answered = c.in-Ok-Some.answered in
+    let answered = c.filled-answered.result in
     let adds = c.in-Some-with.ensures in
     let place : answered.place ≡ tally.count = search rules in (
       tt,
@@ -43,7 +44,7 @@ loop-preserved-in-Ok g c =
     let old = text c.args.out.now in
     let mid = text c.next-in-loop.new.out in
     let tally = c.loop.tally in
-    let answered = c.in-Ok-Some.answered in
+    let answered = c.filled-answered.result in
     let adds = c.in-Some-with.ensures in
     let place : answered.place ≡ tally.count = search rules in (
       tt,
@@ -62,38 +63,38 @@ loop-preserved-in-Ok g c =
       ),
     )
 
-whole_unbroken : Whole ≡ Output → ⊥
+whole_unbroken : ◌≡◌ {A = Option LineFault} None (Some Failed) → ⊥
 whole_unbroken is = cc
 
-internal_unbroken : Internal ≡ Output → ⊥
+internal_unbroken : Some Internal ≡ Some Failed → ⊥
 internal_unbroken is = cc
 
-memory_unbroken : Memory ≡ Output → ⊥
-memory_unbroken is = cc
+other_unbroken : (why : LineFault) → why ≢ Failed → Some why ≡ Some Failed → ⊥
+other_unbroken why other is = (let same : why ≡ Failed = cc in other same)
 
 pub returns-in-Ok-None-clause-printed : goal.returns-in-Ok-None-clause-printed
 returns-in-Ok-None-clause-printed g c =
-    ends_whole g.O.AnswerWriter c.loop.tally Whole g.J.Stream.input g.J.Stream.editors c.args.out.now c.loop.out c.next-in-loop.new.out c.loop.invariant.1.1.1.1 c.in-Ok-None.ensures.keeps (λ is. absurd (whole_unbroken is))
+    ends_whole g.O.AnswerWriter c.loop.tally None g.J.Stream.input g.J.Stream.editors c.args.out.now c.loop.out c.next-in-loop.new.out c.loop.invariant.1.1.1.1 c.in-Ok-None.ensures.keeps (λ is. absurd (whole_unbroken is))
 
 pub returns-in_default-clause-printed : goal.returns-in_default-clause-printed
 returns-in_default-clause-printed g c =
-    ends_whole g.O.AnswerWriter c.loop.tally Internal g.J.Stream.input g.J.Stream.editors c.args.out.now c.loop.out c.next-in-loop.new.out c.loop.invariant.1.1.1.1 c.in-Ok-Some.ensures.keeps (λ is. absurd (internal_unbroken is))
+    ends_whole g.O.AnswerWriter c.loop.tally (Some Internal) g.J.Stream.input g.J.Stream.editors c.args.out.now c.loop.out c.next-in-loop.new.out c.loop.invariant.1.1.1.1 c.in-Ok-Some.ensures.keeps (λ is. absurd (internal_unbroken is))
 
-pub returns-in-Err-Memory-clause-printed : goal.returns-in-Err-Memory-clause-printed
-returns-in-Err-Memory-clause-printed g c =
+pub returns-in-Err-print_one-clause-printed : goal.returns-in-Err-print_one-clause-printed
+returns-in-Err-print_one-clause-printed g c =
     let text = g.O.AnswerWriter.contents in
     let same : c.print_one.new.out ≡ c.next-in-loop.new.out = search rules in
-    ends_whole g.O.AnswerWriter c.loop.tally Memory g.J.Stream.input g.J.Stream.editors c.args.out.now c.loop.out c.print_one.new.out c.loop.invariant.1.1.1.1
-    (subst (λ o. Keeps (text c.loop.out) (text o)) (sym same) c.in-Ok-Some.ensures.keeps) (λ is. absurd (memory_unbroken is))
+    ends_whole g.O.AnswerWriter c.loop.tally (Some c.in-Err-print_one.fault) g.J.Stream.input g.J.Stream.editors c.args.out.now c.loop.out c.print_one.new.out c.loop.invariant.1.1.1.1
+    (subst (λ o. Keeps (text c.loop.out) (text o)) (sym same) c.in-Ok-Some.ensures.keeps) (λ is. absurd (other_unbroken c.in-Err-print_one.fault (search rules) is))
 
-pub returns-in-Err-Output-clause-printed : goal.returns-in-Err-Output-clause-printed
-returns-in-Err-Output-clause-printed g c =
+pub returns-in-Err-Failed-clause-printed : goal.returns-in-Err-Failed-clause-printed
+returns-in-Err-Failed-clause-printed g c =
     let input = g.J.Stream.input in
     let editors = g.J.Stream.editors in
     let text = g.O.AnswerWriter.contents in
     let mid = c.next-in-loop.new.out in
     let tally = c.loop.tally in
-    let answered = c.in-Ok-Some.answered in
+    let answered = c.filled-answered.result in
     let place : answered.place ≡ tally.count = search rules in
     let begun : Begins (text mid) (text c.print_one.new.out) (line (answer_text answered.answer)) = search rules in
     let failed : g.O.AnswerWriter.has_failed c.print_one.new.out = search rules in

@@ -7,4 +7,4 @@ returns-in-Ok-clause-answer g c = record { fits = tt; said = hop_said c.hop.new.
 
 pub returns-in-Err-clause-answer : goal.returns-in-Err-clause-answer
 returns-in-Err-clause-answer g c =
-    no_hop c.hop.new.self.forwarder c.args.at c.args.packet.now c.in-Err.refused c.named.result c.in_ok-step.ensures.some c.named.ensures.hop c.named.ensures.is (search rules)
+    no_hop c.hop.new.self.forwarder c.args.at c.args.packet.now c.in-Err.refused c.in_ok-step.ensures.some (search rules)

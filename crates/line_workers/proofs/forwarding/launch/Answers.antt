@@ -7,4 +7,4 @@ returns-in-Ok-clause-answer g c = record { fits = tt; said = launch_said c.launc
 
 pub returns-in-Err-clause-answer : goal.returns-in-Err-clause-answer
 returns-in-Err-clause-answer g c =
-    no_launch c.launch.new.self.forwarder c.args.from c.args.to.now c.in-Err.refused c.named.result c.in_ok-packet.ensures.some c.named.ensures.launch c.named.ensures.is (sym c.in-Err.is ∙ c.in_ok-packet.ensures.answer)
+    no_launch c.launch.new.self.forwarder c.args.from c.args.to.now c.in-Err.refused c.in_ok-packet.ensures.some (sym c.in-Err.is ∙ c.in_ok-packet.ensures.answer)

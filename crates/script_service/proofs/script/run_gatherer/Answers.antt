@@ -9,7 +9,8 @@ use Rattle.live_service.proofs.Ended.{broken_if, ran_broken, ran_of}
 use Rattle.script_service.proofs.GatheredLines.{script_broken, script_gathered, script_served}
 use denote.Param.Send.{sendable}
 use Rattle.std.proofs.Crossing.{crosses}
-use Rattle.script_service.proofs.Sending.{file_send, none_send}
+use Rattle.device_files.proofs.Sending.{file_send}
+use Rattle.new_devices.proofs.Sending.{none_send}
 use Rattle.script_service.proofs.script.run_gatherer.Goals as goal
 
 pub serve_opened-gatherer-requires-send-F : goal.serve_opened-gatherer-requires-send-F

@@ -1,22 +1,11 @@
--- What may go to another thread: a place where no device can be made.
-use denote.Builtin.{unit}
+-- A place where no device can be made may go to another thread.
 use denote.Param.Send.{IsSend, sendable}
 use Rattle.std.proofs.Crossing.{crosses}
-use Rattle.disk_trait.specs.contracts.file.FileDisk as disk
-use Rattle.disk_trait.specs.contracts.log.Log as log
 use Rattle.device_files.specs.contracts.file.DeviceFile as file
+use Rattle.device_files.proofs.Sending.{file_send}
 use Rattle.new_devices.specs.contracts.make_log.Done as done
 use Rattle.new_devices.specs.contracts.make_log.MakeLog as make
 use Rattle.new_devices.specs.contracts.none.NoDevices as none
-
-failures_send : IsSend (log.the_row unit)
-failures_send = search (crosses, sendable) depth 40
-
-disk_send : IsSend disk.the_row
-disk_send = search (crosses, sendable, failures_send) depth 40
-
-pub file_send : IsSend file.the_row
-file_send = search (crosses, sendable, disk_send) depth 80 fits 50000
 
 done_send : IsSend (done.the_row file.the_row)
 done_send = search (crosses, sendable, file_send) depth 80 fits 50000

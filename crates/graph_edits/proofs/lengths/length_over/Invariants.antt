@@ -1,6 +1,6 @@
 use Rattle.std.proofs.Common.{◌≡◌, ◌≤◌, ◌+◌, ◌-◌, ◌^◌, min, drop}
 use Rattle.graph_edits.specs.Walks.{walk_length}
-use Rattle.scheme_builds.proofs.lengths.length_over.Given as goal
+use Rattle.graph_edits.proofs.lengths.length_over.Given as goal
 
 abbrev pub invariant-loop-next : goal.invariant-loop-next
 invariant-loop-next l = record {

@@ -1,8 +1,8 @@
 // The lengths of ways over a graph.
 ghost use Rattle.std.specs.Prelude.{◌≡◌, ◌-◌, ◌^◌, min};
-ghost use Rattle.scheme_builds.specs.Lengths.{hop_in, length_in};
+ghost use Rattle.graph_edits.specs.Lengths.{hop_in, length_in};
 
-use graph_edits::Graph;
+use crate::graph::Graph;
 
 /// The weight of the edge between two nodes, 0 where there is none.
 fn hop(graph: &Graph, a: u16, b: u16) -> u64

@@ -2,8 +2,8 @@ use Rattle.std.proofs.Common.{◌≡◌, ◌≤◌, ◌+◌, ◌-◌, ◌^◌, �
 use Rattle.std.proofs.Math.Seq.{drop-length}
 use Rattle.graph_edits.specs.Edges.{Network}
 use Rattle.graph_edits.specs.Walks.{walk_length}
-use Rattle.scheme_builds.specs.Lengths.{length_in}
-use Rattle.scheme_builds.proofs.lengths.length_over.Goals as goal
+use Rattle.graph_edits.specs.Lengths.{length_in}
+use Rattle.graph_edits.proofs.lengths.length_over.Goals as goal
 
 -- nothing is left to go
 at_end : (m : Network) (at n : ℕ) (rest : List ℕ) → n ≤ length rest → length rest ≤ n → walk_length m.edges at (drop n rest) ≡ 0
