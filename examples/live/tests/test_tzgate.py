@@ -511,6 +511,42 @@ class Listening(GateTest):
         talk.end()
         self.assertEqual([talk.read() for _ in range(1_001)], ["generation=64 route 0 1 length 1"] * 1_000 + [None])
 
+    def page(self, port, request):
+        with socket.create_connection(("127.0.0.1", port), 60) as one:
+            one.sendall(request)
+            data = b"".join(iter(lambda: one.recv(65_536), b""))
+        head, _, text = data.decode().partition("\r\n\r\n")
+        self.assertIn(f"\r\nContent-Length: {len(text)}\r\nConnection: close", head)
+        return head.split("\r\n")[0], text
+
+    def test_a_page_for_a_monitor(self):
+        gate = self.up("--metrics", "0")
+        port = int(re.search(r"listens on 127\.0\.0\.1:(\d+)", gate.log())[1])
+        talk = self.talk(gate)
+        self.says(talk, ("hello north", "session=1 ticket=0"), ("edit 1 1 add:70:71:5", "1 1 accepted count=64"), ("edit 1 1 add:70:71:5", "1 1 already in"))
+        self.says(talk, ("wait", "generation=64"), ("route 0 1", "generation=64 route 0 1 length 1"), ("hello", "not a name"))
+        asked = b"GET /metrics HTTP/1.1\r\nHost: x\r\n\r\n"
+        status, text = self.page(port, asked)
+        self.assertEqual(status, "HTTP/1.1 200 OK")
+        rows = dict(row.rsplit(" ", 1) for row in text.splitlines() if not row.startswith("#"))
+        counted = {"accepted": 1, "already_in": 1, "resume": 1, "wait": 1, "route": 1, "state": 1, "metrics": 0, "not_understood": 0}
+        for kind, count in counted.items():
+            self.assertEqual(rows[f'tz_answers_total{{kind="{kind}"}}'], str(count), kind)
+        some = {"tz_changes": "64", "tz_generation": "64", "tz_generation_lacks": "0", "tz_queue": "0", "tz_commits_total": "1", "tzgate_starts_total": "1"}
+        self.assertEqual({name: rows[name] for name in some}, some)
+        self.assertLessEqual(float(rows['tz_commit_seconds{of="least"}']), float(rows['tz_commit_seconds{of="greatest"}']))
+        # The next page counts this one. Bytes behind a request count for nothing, and a request may come in parts.
+        self.assertIn('tz_answers_total{kind="metrics"} 1\n', self.page(port, asked + asked)[1])
+        self.assertEqual(self.page(port, b"GET / HTTP/1.1\r\n\r\n"), ("HTTP/1.1 404 Not Found", "GET /metrics is all that there is\n"))
+        self.assertEqual(self.page(port, b"x" * 70_000 + b"\r\n\r\n\r\n")[0], "HTTP/1.1 404 Not Found")
+        # A client may ask for the line itself; a service that is killed is counted anew.
+        self.assertTrue(talk.ask("metrics").startswith('{"answers": 8, "accepted": 1, '))
+        gate.kill_service()
+        gate.up(times=2)
+        text = eventually(lambda: self.page(port, asked)[1])
+        self.assertIn("tzgate_starts_total 2\n", text)
+        self.assertIn('tz_answers_total{kind="accepted"} 0\n', text)
+
     def activated(self, sockets, *words):
         """A gate that is given these sockets as systemd gives them: from fd 3 on."""
         files = [fcntl.fcntl(one, fcntl.F_DUPFD, 100) for one in sockets]
