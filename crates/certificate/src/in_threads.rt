@@ -54,6 +54,9 @@ fn are_all_right<R: Threads + Sync>(rt: &R, graph: &Graph, scheme: &Scheme, work
     requires ascend { AllAscend scheme.now }
     ensures { IsTrue result → HoldOfAll IsTreeRight graph.now scheme.now }
 {
+    if workers < 2 {
+        return are_trees_right(graph, scheme, 0, graph.nodes());
+    }
     let size = graph.nodes().div_ceil(RANGES as u16);
     let mut right = [false; RANGES];
     thread::for_each_mut(

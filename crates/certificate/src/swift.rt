@@ -280,9 +280,8 @@ fn no_entry() -> Entry
 }
 
 /// Whether the trees of the roots from the first to below the last are right, and what is said of these nodes alone.
-// Its lists take 448 KiB of the stack. The calls that cut the ranges among threads call themselves, and each would take that much if this
-// were part of them.
-#[inline(never)]
+// Its lists take 448 KiB of the stack. It is called from two places, so a compiler leaves it a function of its own: the calls that cut
+// the ranges among threads call themselves, and each would take that much if this were part of them.
 pub(crate) fn are_trees_right(graph: &Graph, scheme: &Scheme, first: u16, last: u16) -> bool
     requires inside { last ≤ graph.now.nodes }
     requires ascend { AllAscend scheme.now }
