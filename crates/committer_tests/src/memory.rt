@@ -1,7 +1,6 @@
 // Rounds, and a rebuild, of which an allocation is refused.
 use crate::seats::{AT_TWO, PATH, Seats, comes_back, fresh, got, same, seated};
 use committer::{RebuildRefused, Round, RoundRefused};
-use generations::{Mark, Verdict};
 use graph_edits::Op;
 use intake::{Outcome, SubmitRefused};
 use linked_list_allocator::LocalHeap;
@@ -13,15 +12,6 @@ const SETTLED: Round = Round {
     taken: 1,
     accepted: 1,
 };
-
-// The first change of a session is the accepted one of this number.
-fn accepted(session: u8, count: u64) -> Outcome {
-    Outcome::Settled(Mark {
-        session,
-        ticket: 1,
-        verdict: Verdict::Accepted { count },
-    })
-}
 
 // The next change of an editor, behind so many, in one round, or in two where memory is refused: it stays held then, or its mark
 // stays due.
@@ -69,7 +59,8 @@ fn settles_then_builds<R: Wait + Abort + Drop>(
     at.submits(rt, 0, 1, &PATH);
     settles_next(rt, alloc, &mut at, 0);
     at.hears(0);
-    at.has(rt, 0, accepted(0, 1));
+    let (ticket, count) = (1, 1);
+    at.has(rt, 0, Outcome::Accepted { ticket, count });
     latest_is(rt, &mut at, None);
     builds_first(rt, alloc, &mut at, heap);
     latest_is(rt, &mut at, Some(1));
@@ -115,8 +106,10 @@ fn settles_both<R: Wait + Abort + Drop>(rt: &R, alloc: Global, at: Seats<R>) {
     at.settles(rt, alloc, 0, 0);
     at.hears(0);
     at.hears(1);
-    at.has(rt, 0, accepted(0, 1));
-    at.has(rt, 1, accepted(1, 2));
+    let (ticket, count) = (1, 1);
+    at.has(rt, 0, Outcome::Accepted { ticket, count });
+    let count = 2;
+    at.has(rt, 1, Outcome::Accepted { ticket, count });
     same(rt, at.committer.store().count(), 2, "the count");
     let _disk = at.into_disk();
 }

@@ -12,10 +12,10 @@ use Rattle.generations.specs.Boards.{board_of}
 use Rattle.generations.specs.Notices.{marks_in}
 use Rattle.generations.proofs.LastMarks.{mark_there}
 use Rattle.generations.proofs.Prefixes.{prefix_trans, prefix_whole}
-use Rattle.intake.specs.declared.outcome.Outcome.TheVariants.{Settled}
-use Rattle.intake.specs.Editors.{Editing, outcome_by}
+use Rattle.intake.specs.declared.outcome.Standing.TheVariants.{Settled}
+use Rattle.intake.specs.Editors.{Editing, standing_by}
 use Rattle.intake.specs.Ends.{HasTaken}
-use Rattle.intake.specs.Outcomes.{outcome_on}
+use Rattle.intake.specs.Outcomes.{standing_on}
 use Rattle.intake.proofs.SettledMarks.{settled_by}
 use Rattle.intake.specs.Turns.{AreFrom, AreOfEditors, last_asked, of}
 use Rattle.committer.specs.declared.committer.Committer.{Committer}
@@ -121,6 +121,6 @@ looked posts was learnt seen known history covered is first then same again test
 
 -- so its outcome is what the board tells
 pub told_by : (posts : Outgoing) (old new : Editing) (mark : Mark) (verdict : Verdict) → new.session ≡ old.session → new.put ≡ old.put → new.known ≡ record { opening = posts.opening; log = posts.posted }
-    → Settled mark ≡ outcome_by new → verdict ≡ mark.verdict → IsToldBy posts old verdict
+    → Settled mark ≡ standing_by new → verdict ≡ mark.verdict → IsToldBy posts old verdict
 told_by posts old new mark verdict session put known is same =
-    (mark, (λ i. outcome_on (board_of (sym known i).opening.starts (sym known i).opening.count (sym known i).log) (sym session i) (last_asked (sym put i))) ∙ sym is, same)
+    (mark, (λ i. standing_on (board_of (sym known i).opening.starts (sym known i).opening.count (sym known i).log) (sym session i) (last_asked (sym put i))) ∙ sym is, same)

@@ -9,8 +9,8 @@ use Rattle.generations.specs.declared.posting.Mark.{Mark}
 use Rattle.generations.specs.declared.posting.Verdict.{Verdict}
 use Rattle.intake.specs.Editors.{Editing, IsSameEditor, editor_at}
 use Rattle.intake.specs.Ends.{Taking}
-use Rattle.intake.specs.declared.outcome.Outcome.TheVariants.{Settled}
-use Rattle.intake.specs.Outcomes.{outcome_on}
+use Rattle.intake.specs.declared.outcome.Standing.TheVariants.{Settled}
+use Rattle.intake.specs.Outcomes.{standing_on}
 use Rattle.intake.specs.Turns.{last_asked, request_of}
 use Rattle.intake.specs.declared.outcome.SubmitRefused.{SubmitRefused}
 use Rattle.committer.specs.declared.committer.Committer.{Committer}
@@ -49,7 +49,7 @@ pub record IsSeatOf {D R : Type 0} {V : _} (c : Committer D R V) (editor : Editi
 
 -- a board with what is posted, and nothing else, tells an editor this verdict on its last ticket
 abbrev pub IsToldBy : Outgoing → Editing → Verdict → Type 0
-IsToldBy posts e verdict = (mark : Mark) × (outcome_on (board_of posts.opening.starts posts.opening.count posts.posted) e.session (last_asked e.put) ≡ Settled mark) × (verdict ≡ mark.verdict)
+IsToldBy posts e verdict = (mark : Mark) × (standing_on (board_of posts.opening.starts posts.opening.count posts.posted) e.session (last_asked e.put) ≡ Settled mark) × (verdict ≡ mark.verdict)
 
 -- what is told where a round is refused
 abbrev pub round_fault : RoundRefused → Fault

@@ -19,7 +19,7 @@ use disk_trait::Disk;
 use generations::{BoardWriter, Mark, Verdict, board};
 use graph_edits::Change;
 use group_commit::Desk;
-use intake::{Editor, Outcome, SubmitRefused, Taker, open_intake_for};
+use intake::{Editor, Standing, SubmitRefused, Taker, open_intake_for};
 use requests::{Request, SESSIONS};
 use std::alloc::{AllocError, Global};
 use std::snapshot::Snapshot;
@@ -182,26 +182,26 @@ fn outcome<D: Disk, Q: Wait + Drop>(
 {
     let told = committer.told();
     editor.learn(&told);
-    let outcome = editor.outcome();
+    let standing = editor.standing();
     // Nothing was posted that wasn't told.
     if !told.history().covers(&editor.known()) {
         return Err(Fault::Internal);
     }
-    match outcome {
-        Ok(outcome) => verdict(outcome),
+    match standing {
+        Ok(standing) => verdict(standing),
         // Of a board that gives no look the user's text is that of memory.
         Err(_) => Err(Fault::Memory),
     }
 }
 
-// The verdict that an outcome tells.
-fn verdict(outcome: Outcome) -> Result<Verdict, Fault>
-    ensures told { IfOk result (λ verdict. (mark : Mark) × (outcome ≡ Outcome.Settled mark) × (verdict ≡ mark.verdict)) }
+// The verdict that an editor's standing tells.
+fn verdict(standing: Standing) -> Result<Verdict, Fault>
+    ensures told { IfOk result (λ verdict. (mark : Mark) × (standing ≡ Standing.Settled mark) × (verdict ≡ mark.verdict)) }
     ensures fault { IfErr result (λ fault. fault ≡ Fault.Internal) }
 {
-    match outcome {
-        Outcome::Settled(mark) => Ok(mark.verdict),
-        Outcome::Nothing | Outcome::Down | Outcome::Waiting => Err(Fault::Internal),
+    match standing {
+        Standing::Settled(mark) => Ok(mark.verdict),
+        Standing::Nothing | Standing::Down | Standing::Waiting => Err(Fault::Internal),
     }
 }
 

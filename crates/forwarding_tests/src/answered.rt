@@ -153,11 +153,7 @@ fn fills<R: Wait + Abort, W: Wait + Drop>(rt: &R, opened: &mut Opened<W>)
 
 // The first change of this editor is the accepted one of this number.
 fn accepts(rt: &impl Abort, editor: &mut Editor, count: u64) {
-    let accepted = Outcome::Settled(Mark {
-        session: editor.session(),
-        ticket: 1,
-        verdict: Verdict::Accepted { count },
-    });
+    let accepted = Outcome::Accepted { ticket: 1, count };
     same(rt, editor.outcome(), Ok(accepted), "an outcome");
 }
 

@@ -1,6 +1,6 @@
 // What a board says of the next ticket and of the last one.
 use crate::posted::{folds, mark, same};
-use generations::{Board, Mark, Posting, Verdict};
+use generations::{Board, Posting, Verdict};
 use graph_edits::Code;
 use intake::{Outcome, SubmitRefused, outcome_of, refusal_of};
 use requests::{SESSIONS, WORN_LIMIT};
@@ -40,14 +40,11 @@ const OUTCOMES: [(Option<u64>, Outcome); 3] = [
     (None, Outcome::Nothing),
     (
         Some(15),
-        Outcome::Settled(Mark {
-            session: 0,
+        Outcome::Refused {
             ticket: 15,
-            verdict: Verdict::Refused {
-                op: 2,
-                code: Code::Loop,
-            },
-        }),
+            op: 2,
+            code: Code::Loop,
+        },
     ),
     (Some(16), Outcome::Waiting),
 ];

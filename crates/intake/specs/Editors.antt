@@ -9,8 +9,9 @@ use Rattle.intake.specs.declared.editor.Editor.TheInside.{Inside}
 use Rattle.intake.specs.declared.outcome.SubmitRefused.{SubmitRefused}
 use Rattle.intake.specs.declared.outcome.SubmitRefused.TheVariants.{BoardShut, QueueFull}
 use Rattle.intake.specs.Turns.{last_asked}
-use Rattle.intake.specs.Outcomes.{outcome_on, refusal_on}
+use Rattle.intake.specs.Outcomes.{outcome_on, standing_on, refusal_on}
 use Rattle.intake.specs.declared.outcome.Outcome.{Outcome}
+use Rattle.intake.specs.declared.outcome.Standing.{Standing}
 use Rattle.intake.specs.Ends.{Sending}
 use Rattle.intake.specs.Watchers.{Watching}
 
@@ -62,6 +63,10 @@ watcher_of e = record { session = e.session; last = last_asked e.put; known = e.
 -- what the board after all that it knows says of its last ticket
 abbrev pub outcome_by : Editing → Outcome
 outcome_by e = outcome_on (board_after e.known) e.session (last_asked e.put)
+
+-- the same with the mark
+abbrev pub standing_by : Editing → Standing
+standing_by e = standing_on (board_after e.known) e.session (last_asked e.put)
 
 -- what refuses a ticket of this editor, on the board after this beginning, the queue aside
 abbrev pub refusal_by : Beginning → Editing → ℕ → Option SubmitRefused

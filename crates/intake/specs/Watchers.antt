@@ -3,9 +3,9 @@ use Rattle.std.specs.Prelude.{ℕ, ◌≡◌, Option, Some, None}
 use Rattle.generations.specs.Beginnings.{Beginning, board_after}
 use Rattle.generations.specs.Knowledges.{Knowledge}
 use Rattle.generations.specs.Lawful.{IsLawful}
-use Rattle.intake.specs.declared.outcome.Outcome.{Outcome}
+use Rattle.intake.specs.declared.outcome.Standing.{Standing}
 use Rattle.intake.specs.declared.outcome.SubmitRefused.{SubmitRefused}
-use Rattle.intake.specs.Outcomes.{outcome_on, refusal_on}
+use Rattle.intake.specs.Outcomes.{standing_on, refusal_on}
 use Rattle.intake.specs.declared.watcher.Watcher.TheInside.{Inside}
 
 -- what contracts see of a watcher
@@ -34,8 +34,8 @@ abbrev pub IsLawfulAfter : Beginning → Type 0
 IsLawfulAfter known = IsLawful known.opening.starts known.opening.count known.log
 
 -- what the board after all that it knows says of its last ticket
-abbrev pub outcome_seen : Watching → Outcome
-outcome_seen w = outcome_on (board_after w.known) w.session w.last
+abbrev pub standing_seen : Watching → Standing
+standing_seen w = standing_on (board_after w.known) w.session w.last
 
 -- what refuses a ticket of its session, on the board after this beginning, the queue aside; the session's tickets start here
 abbrev pub refusal_seen : Beginning → Watching → ℕ → ℕ → Option SubmitRefused

@@ -6,7 +6,7 @@ ghost use Rattle.requests.specs.declared.request.Request.{Request};
 ghost use Rattle.intake.specs.Ends.{with_ended};
 ghost use Rattle.intake.specs.declared.outcome.SubmitRefused.TheVariants.{QueueFull};
 
-use crate::outcome::{Outcome, SubmitRefused};
+use crate::outcome::{Outcome, Standing, SubmitRefused};
 use crate::queue::{Sender, Taker};
 use crate::watcher::Watcher;
 use generations::{BoardReader, History, Shut, Told};
@@ -35,7 +35,7 @@ impl Model for Editor {
 
 impl Editor {
     ghost use Rattle.intake.specs.Watchers.{IsLawfulAfter};
-    ghost use Rattle.intake.specs.Editors.{IsRefused, IsSameEditor, beginner, outcome_by, refusal_by, with_known};
+    ghost use Rattle.intake.specs.Editors.{IsRefused, IsSameEditor, beginner, outcome_by, refusal_by, standing_by, with_known};
 
     // An editor that has submitted nothing.
     pub(crate) fn new(sender: Sender, reader: BoardReader) -> Editor
@@ -77,14 +77,24 @@ impl Editor {
         self.watcher.learn(told);
     }
 
-    /// What became of the last change that it submitted. It takes no memory and waits for nobody.
+    /// What became of the last change that it submitted, with its mark. It takes no memory and waits for nobody.
+    pub fn standing(&mut self) -> Result<Standing, Shut>
+        ensures same { self.new ≡ with_known self.old self.new.known }
+        ensures kept { GoesOn self.old.known self.new.known }
+        ensures lawful { OnOk result (IsLawfulAfter self.new.known) }
+        ensures standing { IfOk result (λ o. o ≡ standing_by self.new) }
+    {
+        self.watcher.standing()
+    }
+
+    /// The same without the mark's session.
     pub fn outcome(&mut self) -> Result<Outcome, Shut>
         ensures same { self.new ≡ with_known self.old self.new.known }
         ensures kept { GoesOn self.old.known self.new.known }
         ensures lawful { OnOk result (IsLawfulAfter self.new.known) }
         ensures outcome { IfOk result (λ o. o ≡ outcome_by self.new) }
     {
-        self.watcher.outcome()
+        Ok(self.standing()?.outcome())
     }
 
     // What the board says of a ticket: why it isn't let in.

@@ -19,7 +19,8 @@
 //! | Call | What it says |
 //! |---|---|
 //! | [`Editor::submit`] | `Ok`: one request more at the queue's end, under this ticket. Refused: the change comes back, and nothing was added |
-//! | [`Editor::outcome`] | what the board as looked at says of the last ticket: `outcome_on` |
+//! | [`Editor::standing`] | what the board as looked at says of the last ticket, with its mark: `standing_on` |
+//! | [`Editor::outcome`] | the same without the mark: `outcome_on` |
 //! | [`Taker::take`] | the request at the front; none only where the queue was found empty |
 //!
 //! A submit is refused by the first of these that holds: `BoardShut`; `Busy`; `AlreadyIn`; `OldTicket`; `Worn`; `QueueFull`. All
@@ -49,6 +50,6 @@ mod watcher;
 
 pub use editor::Editor;
 pub use open::{open_intake, open_intake_for};
-pub use outcome::{Outcome, SubmitRefused, outcome_of, refusal_of};
+pub use outcome::{Outcome, Standing, SubmitRefused, outcome_of, refusal_of, standing_of};
 pub use queue::Taker;
 pub use watcher::Watcher;

@@ -1,8 +1,9 @@
 // What a board says of a session's last change, and of its next one.
 ghost use Rattle.std.specs.Prelude.{◌≡◌};
-ghost use Rattle.intake.specs.Outcomes.{outcome_on, refusal_on};
+ghost use Rattle.intake.specs.Outcomes.{outcome_in, outcome_on, refusal_on, standing_on};
 
-use generations::{Board, Mark};
+use generations::{Board, Mark, Verdict};
+use graph_edits::Code;
 use requests::WORN_LIMIT;
 use thiserror::Error;
 
@@ -11,12 +12,47 @@ use thiserror::Error;
 pub enum Outcome {
     /// None was submitted yet.
     Nothing,
+    /// It is in the graph and on the device; with it, `count` changes are.
+    Accepted { ticket: u64, count: u64 },
+    /// Nothing of it is in the graph: its op at the place `op`, counted from 0, is the first that is refused.
+    Refused { ticket: u64, op: usize, code: Code },
+    /// It isn't settled, and the device has failed.
+    Down,
+    /// It isn't settled.
+    Waiting,
+}
+
+/// What became of the last change that a session submitted, as far as a board says, with the mark itself.
+#[derive(Clone, Copy, Debug, PartialEq, Eq, Drop)]
+pub enum Standing {
+    /// None was submitted yet.
+    Nothing,
     /// It is settled, and has this mark: it is in the graph and on the device, or nothing of it is.
     Settled(Mark),
     /// It isn't settled, and the device has failed.
     Down,
     /// It isn't settled.
     Waiting,
+}
+
+impl Standing {
+    /// What it says without the mark's session.
+    pub fn outcome(&self) -> Outcome
+        ensures { result ≡ outcome_in self.now }
+    {
+        match *self {
+            Standing::Nothing => Outcome::Nothing,
+            Standing::Settled(mark) => {
+                let ticket = mark.ticket;
+                match mark.verdict {
+                    Verdict::Accepted { count } => Outcome::Accepted { ticket, count },
+                    Verdict::Refused { op, code } => Outcome::Refused { ticket, op, code },
+                }
+            }
+            Standing::Down => Outcome::Down,
+            Standing::Waiting => Outcome::Waiting,
+        }
+    }
 }
 
 /// Why a change isn't submitted. The tests stand in the order of the board's, the session's and the queue's; the numbers are
@@ -44,17 +80,24 @@ pub enum SubmitRefused {
 }
 
 /// What a board says of the last ticket that a session submitted in this opening, none where it submitted nothing.
+pub fn standing_of(board: &Board, session: u8, last: Option<u64>) -> Standing
+    ensures { result ≡ standing_on board.now session last }
+{
+    let Some(last) = last else {
+        return Standing::Nothing;
+    };
+    match board.mark(session) {
+        Some(mark) if mark.ticket == last => Standing::Settled(mark),
+        _ if board.is_down() => Standing::Down,
+        _ => Standing::Waiting,
+    }
+}
+
+/// The same without the mark's session.
 pub fn outcome_of(board: &Board, session: u8, last: Option<u64>) -> Outcome
     ensures { result ≡ outcome_on board.now session last }
 {
-    let Some(last) = last else {
-        return Outcome::Nothing;
-    };
-    match board.mark(session) {
-        Some(mark) if mark.ticket == last => Outcome::Settled(mark),
-        _ if board.is_down() => Outcome::Down,
-        _ => Outcome::Waiting,
-    }
+    standing_of(board, session, last).outcome()
 }
 
 /// Why a session may not submit a change under this ticket, by a board, the queue aside. `start` is where its tickets start, and

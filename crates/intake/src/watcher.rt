@@ -2,7 +2,7 @@
 ghost use Rattle.std.specs.Prelude.{◌≡◌, IfOk, OnOk, Some, None};
 ghost use Rattle.generations.specs.Beginnings.{GoesOn};
 
-use crate::outcome::{Outcome, SubmitRefused, outcome_of, refusal_of};
+use crate::outcome::{Standing, SubmitRefused, refusal_of, standing_of};
 use generations::{BoardReader, History, Shut, Told};
 use std::marker::Model;
 
@@ -28,7 +28,7 @@ impl Model for Watcher {
 }
 
 impl Watcher {
-    ghost use Rattle.intake.specs.Watchers.{IsLawfulAfter, outcome_seen, refusal_seen};
+    ghost use Rattle.intake.specs.Watchers.{IsLawfulAfter, refusal_seen, standing_seen};
 
     // One of a session that has submitted nothing.
     pub(crate) fn new(session: u8, reader: BoardReader) -> Watcher
@@ -73,22 +73,22 @@ impl Watcher {
     }
 
     /// What became of the last change that was submitted. It takes no memory and waits for nobody.
-    pub fn outcome(&mut self) -> Result<Outcome, Shut>
+    pub fn standing(&mut self) -> Result<Standing, Shut>
         ensures same { (self.new.session ≡ self.old.session) × (self.new.last ≡ self.old.last) }
         ensures kept { GoesOn self.old.known self.new.known }
         ensures lawful { OnOk result (IsLawfulAfter self.new.known) }
-        ensures outcome { IfOk result (λ o. o ≡ outcome_seen self.new) }
+        ensures standing { IfOk result (λ o. o ≡ standing_seen self.new) }
     {
         let Some(reader) = self.reader.take() else {
             unreachable!()
         };
         match reader.look() {
             Ok(look) => {
-                let outcome = outcome_of(look.board(), self.session, self.last);
+                let standing = standing_of(look.board(), self.session, self.last);
                 let reader = look.leave();
                 self.known = reader.known();
                 self.reader = Some(reader);
-                Ok(outcome)
+                Ok(standing)
             }
             Err((shut, reader)) => {
                 self.reader = Some(reader);

@@ -4,7 +4,6 @@ use crate::worlds::fresh;
 use disk_trait::{MemDisk, Plan};
 use event_runs::{Event, Reply};
 use forwarders::Refused;
-use generations::Verdict;
 use graph_edits::{Change, Op};
 use intake::{Outcome, SubmitRefused};
 use interleave::World;
@@ -149,10 +148,19 @@ fn kind(reply: Reply) -> usize {
         Reply::NotSubmitted(SubmitRefused::OldTicket) => 3,
         Reply::NotSubmitted(SubmitRefused::Worn) => 4,
         Reply::NotSubmitted(SubmitRefused::QueueFull) => 5,
-        Reply::Looked(Outcome::Settled(mark)) => match mark.verdict {
-            Verdict::Accepted { count: _ } => 6,
-            Verdict::Refused { op: _, code: _ } => 7,
-        },
+        Reply::Looked(
+            Outcome::Accepted {
+                ticket: _,
+                count: _,
+            },
+        ) => 6,
+        Reply::Looked(
+            Outcome::Refused {
+                ticket: _,
+                op: _,
+                code: _,
+            },
+        ) => 7,
         Reply::Looked(Outcome::Down) => 8,
         Reply::Looked(Outcome::Waiting) => 9,
         Reply::Looked(Outcome::Nothing) => 10,

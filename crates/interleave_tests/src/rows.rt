@@ -2,7 +2,6 @@
 use crate::worlds::{answer, counted, submit};
 use disk_trait::Plan;
 use event_runs::{Event, Reply};
-use generations::{Mark, Verdict};
 use graph_edits::{Code, Op};
 use group_commit::DeskRefused;
 use intake::Outcome;
@@ -19,23 +18,19 @@ const ENDS: [(Reply, Reply, Outcome); 3] = [
     (
         Reply::Committed { accepted: 1 },
         Reply::Posted,
-        Outcome::Settled(Mark {
-            session: 0,
+        Outcome::Accepted {
             ticket: 1,
-            verdict: Verdict::Accepted { count: WORN_LIMIT },
-        }),
+            count: WORN_LIMIT,
+        },
     ),
     (
         Reply::Committed { accepted: 0 },
         Reply::Posted,
-        Outcome::Settled(Mark {
-            session: 0,
+        Outcome::Refused {
             ticket: 2,
-            verdict: Verdict::Refused {
-                op: 0,
-                code: Code::NoEdge,
-            },
-        }),
+            op: 0,
+            code: Code::NoEdge,
+        },
     ),
     (
         Reply::NotCommitted(DeskRefused::Worn),

@@ -307,7 +307,10 @@ fn outcome(view: View, last: Option<u64>) -> Outcome {
         return Outcome::Nothing;
     };
     match view.last {
-        Some(mark) if mark.ticket == ticket => Outcome::Settled(mark),
+        Some(mark) if mark.ticket == ticket => match mark.verdict {
+            Verdict::Accepted { count } => Outcome::Accepted { ticket, count },
+            Verdict::Refused { op, code } => Outcome::Refused { ticket, op, code },
+        },
         _ if view.down => Outcome::Down,
         _ => Outcome::Waiting,
     }

@@ -3,7 +3,6 @@ use crate::worlds::{answer, fresh, rebuild_at_two, submit};
 use disk_trait::Plan;
 use event_runs::{Event, Reply};
 use forwarders::Refused;
-use generations::{Mark, Verdict};
 use graph_edits::Op;
 use intake::{Outcome, SubmitRefused};
 use std::alloc::{AllocError, Global};
@@ -38,12 +37,7 @@ fn events(rt: &impl Abort, alloc: Global) -> Result<Vec<Event>, AllocError> {
 }
 
 fn replies() -> [Reply; 16] {
-    let ticket = 1;
-    let mark = Mark {
-        session: 0,
-        ticket,
-        verdict: Verdict::Accepted { count: 1 },
-    };
+    let (ticket, count) = (1, 1);
     [
         Reply::Submitted { ticket },
         Reply::NotSubmitted(SubmitRefused::Busy),
@@ -51,7 +45,7 @@ fn replies() -> [Reply; 16] {
         Reply::Committed { accepted: 1 },
         Reply::Looked(Outcome::Waiting),
         Reply::Posted,
-        Reply::Looked(Outcome::Settled(mark)),
+        Reply::Looked(Outcome::Accepted { ticket, count }),
         Reply::Rebuilt { generation: 1 },
         Reply::NotRouted(Refused::GenerationGone),
         Reply::Launched { packet: 0 },

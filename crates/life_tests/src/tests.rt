@@ -4,7 +4,6 @@ use checkpoint::{DEVICE_LEN, OpenRefused};
 use disk_trait::{MemDisk, Plan};
 use event_runs::{Event, Reply};
 use forwarders::Refused as RouteRefused;
-use generations::{Mark, Verdict};
 use graph_edits::{Change, Code, Op};
 use group_commit::DeskRefused;
 use intake::{Outcome, SubmitRefused};

@@ -5,8 +5,6 @@ use Rattle.event_runs.specs.declared.reply.Reply.{Reply}
 use Rattle.event_runs.specs.declared.reply.Reply.TheVariants as replies
 use Rattle.forwarders.specs.declared.refused.Refused.{Refused as RouteRefused}
 use Rattle.forwarders.specs.declared.refused.Refused.TheVariants as routes
-use Rattle.generations.specs.declared.posting.Verdict.{Verdict}
-use Rattle.generations.specs.declared.posting.Verdict.TheVariants as verdicts
 use Rattle.group_commit.specs.declared.refused.DeskRefused.{DeskRefused}
 use Rattle.group_commit.specs.declared.refused.DeskRefused.TheVariants as desks
 use Rattle.intake.specs.declared.outcome.Outcome.{Outcome}
@@ -39,15 +37,11 @@ route_words routes.Unreachable = codes "unreachable"
 route_words routes.Stray = codes "stray packet"
 route_words routes.Spent = codes "no hop left"
 
--- a verdict
-abbrev pub verdict_words : Verdict → List ℕ
-verdict_words (verdicts.Accepted count) = accepted_text count
-verdict_words (verdicts.Refused op code) = refused_text op code
-
 -- what became of a session's last change
 abbrev pub outcome_words : Outcome → List ℕ
 outcome_words outcomes.Nothing = codes "looked nothing"
-outcome_words (outcomes.Settled mark) = codes "looked " ++ verdict_words mark.verdict
+outcome_words (outcomes.Accepted ticket count) = codes "looked " ++ accepted_text count
+outcome_words (outcomes.Refused ticket op code) = codes "looked " ++ refused_text op code
 outcome_words outcomes.Down = codes "looked down"
 outcome_words outcomes.Waiting = codes "looked pending"
 

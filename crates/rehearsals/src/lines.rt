@@ -5,7 +5,6 @@ ghost use Rattle.rehearsals.specs.Replies.{desk_words, outcome_words, route_word
 use command_output::{AcceptedLine, RefusedLine};
 use event_runs::Reply;
 use forwarders::Refused as RouteRefused;
-use generations::Verdict;
 use group_commit::DeskRefused;
 use intake::{Outcome, SubmitRefused};
 use std::fmt;
@@ -56,10 +55,14 @@ impl fmt::Display for OutcomeLine {
         match self.outcome {
             Outcome::Nothing => write!(f, "looked nothing"),
             Outcome::Waiting => write!(f, "looked pending"),
-            Outcome::Settled(mark) => match mark.verdict {
-                Verdict::Accepted { count } => write!(f, "looked {}", AcceptedLine { count }),
-                Verdict::Refused { op, code } => write!(f, "looked {}", RefusedLine { op, code }),
-            },
+            Outcome::Accepted { ticket: _, count } => {
+                write!(f, "looked {}", AcceptedLine { count })
+            }
+            Outcome::Refused {
+                ticket: _,
+                op,
+                code,
+            } => write!(f, "looked {}", RefusedLine { op, code }),
             Outcome::Down => write!(f, "looked down"),
         }
     }

@@ -15,8 +15,8 @@ use Rattle.generations.proofs.LastMarks.{mark_there}
 use Rattle.generations.proofs.Lawfulness.{marks_append, accepted_as_told}
 use Rattle.group_commit.specs.Settling.{Settled, settle}
 use Rattle.group_commit.proofs.SettlingLemmas.{settle-append, one_mark_each}
-use Rattle.intake.specs.declared.outcome.Outcome.TheVariants.{Settled as Marked, Down, Waiting}
-use Rattle.intake.specs.Outcomes.{by_mark, unsettled, is_open}
+use Rattle.intake.specs.declared.outcome.Outcome.TheVariants.{Down, Waiting}
+use Rattle.intake.specs.Outcomes.{by_mark, unsettled, told, is_open}
 use Rattle.run_laws.specs.LaterLives.{LifeLists, let_in, answered, IsLife}
 use Rattle.run_laws.specs.Submits.{board_at, IsLastOf, is_busy}
 use Rattle.run_laws.proofs.Turns.{asked_append, none_first}
@@ -57,7 +57,7 @@ is_marked b l (Some m) free = by (m.ticket == l) refl free
     open_by true e = true≢false e
     open_by false e = true≢false e
 
-    by : (t : Bool) → (m.ticket == l) ≡ t → is_open (cond t (Marked m) (unsettled b)) ≡ false → IsMarked (Some m) l
+    by : (t : Bool) → (m.ticket == l) ≡ t → is_open (cond t (told l m.verdict) (unsettled b)) ≡ false → IsMarked (Some m) l
     by true e h = record { mark = m; is = refl; own = eqb-true m.ticket l e }
     by false e h = absurd (open_by b.down h)
 

@@ -3,8 +3,8 @@ use Rattle.std.specs.Prelude.{◌≡◌, Some}
 use Rattle.generations.specs.Beginnings.{board_after}
 use Rattle.generations.specs.declared.posting.Mark.{Mark}
 use Rattle.intake.specs.Editors.{Editing}
-use Rattle.intake.specs.declared.outcome.Outcome.TheVariants.{Settled}
-use Rattle.intake.specs.Outcomes.{outcome_on}
+use Rattle.intake.specs.declared.outcome.Standing.TheVariants.{Settled}
+use Rattle.intake.specs.Outcomes.{standing_on}
 use Rattle.intake.specs.Turns.{last_asked}
 
 -- The mark is that of the editor's last change: it has its session and its ticket, and tells what the board, after all that the
@@ -12,4 +12,4 @@ use Rattle.intake.specs.Turns.{last_asked}
 pub record IsMarkOf (e : Editing) (mark : Mark) : Type 0 where
   pub session : mark.session ≡ e.session
   pub ticket : last_asked e.put ≡ Some mark.ticket
-  pub told : outcome_on (board_after e.known) e.session (last_asked e.put) ≡ Settled mark
+  pub told : standing_on (board_after e.known) e.session (last_asked e.put) ≡ Settled mark

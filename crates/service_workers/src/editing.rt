@@ -6,7 +6,7 @@ ghost use Rattle.service_workers.specs.Settled.{IsMarkOf};
 use crate::coordinator::Coordinator;
 use crate::stop_cause::StopCause;
 use generations::Mark;
-use intake::{Editor, Outcome};
+use intake::{Editor, Standing};
 use packet_ways::BoardName;
 use std::sync::Wait;
 use std::thread;
@@ -29,10 +29,10 @@ pub(crate) fn settled<J: BoardName, R: Wait>(
             return None;
         }
         editor.learn(news.stand.told.told());
-        match editor.outcome() {
-            Ok(Outcome::Settled(mark)) => return Some(mark),
-            Ok(Outcome::Waiting) | Ok(Outcome::Down) => coordinator.await_news(rt, news.turn),
-            Ok(Outcome::Nothing) => {
+        match editor.standing() {
+            Ok(Standing::Settled(mark)) => return Some(mark),
+            Ok(Standing::Waiting) | Ok(Standing::Down) => coordinator.await_news(rt, news.turn),
+            Ok(Standing::Nothing) => {
                 coordinator.stop(rt, StopCause::Internal);
                 return None;
             }

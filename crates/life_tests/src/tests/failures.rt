@@ -43,11 +43,10 @@ const UP: [Reply; 5] = [
     TAKEN,
     Reply::Committed { accepted: 1 },
     Reply::Posted,
-    Reply::Looked(Outcome::Settled(Mark {
-        session: 0,
+    Reply::Looked(Outcome::Accepted {
         ticket: 1,
-        verdict: Verdict::Accepted { count: 1 },
-    })),
+        count: 1,
+    }),
 ];
 
 // A life whose device fails by a plan and crashes by a word: what it is answered, and how many changes the next one opens to.

@@ -58,19 +58,13 @@ pub(super) struct Request {
     outcome: Outcome,
 }
 
-impl Request {
-    fn is_accepted(&self) -> bool {
-        matches!(self.outcome, Outcome::Settled(mark) if matches!(mark.verdict, Verdict::Accepted { .. }))
-    }
-}
-
 // Makes all ops of a request, or none, and tells what became of it.
-fn settle(state: &mut State, session: u8, ticket: u64, ops: &[Op]) -> Verdict {
+fn settle(state: &mut State, session: u8, ticket: u64, ops: &[Op]) -> Outcome {
     let mut weights = state.weights;
     let mut op = 0usize;
     for next in ops {
         if let Some(code) = make(&mut weights, *next) {
-            return Verdict::Refused { op, code };
+            return Outcome::Refused { ticket, op, code };
         }
         op = op.wrapping_add(1);
     }
@@ -79,7 +73,8 @@ fn settle(state: &mut State, session: u8, ticket: u64, ops: &[Op]) -> Verdict {
     if let Some(last) = state.tickets.get_mut(session as usize) {
         *last = ticket;
     }
-    Verdict::Accepted { count: state.count }
+    let count = state.count;
+    Outcome::Accepted { ticket, count }
 }
 
 // What was told to all in one step: what became of the requests from one place up to another; that the device failed; a generation.
@@ -167,7 +162,7 @@ impl Plain {
                 News::Marks(from, to) => {
                     for request in self.requests.get(*from..*to).unwrap_or(&[]) {
                         if request.session == session {
-                            if request.is_accepted() {
+                            if let Outcome::Accepted { .. } = request.outcome {
                                 accepted = request.ticket;
                             }
                             if last == Some(request.ticket) {
@@ -262,12 +257,8 @@ impl Plain {
         let mut number = 0usize;
         for request in self.requests.iter_mut().take(self.taken).skip(self.done) {
             let (session, ticket) = (request.session, request.ticket);
-            request.outcome = Outcome::Settled(Mark {
-                session,
-                ticket,
-                verdict: settle(&mut self.lost, session, ticket, &request.ops),
-            });
-            if request.is_accepted() {
+            request.outcome = settle(&mut self.lost, session, ticket, &request.ops);
+            if let Outcome::Accepted { .. } = request.outcome {
                 got(rt, self.accepted.push((session, ticket)));
                 number = number.wrapping_add(1);
             }
@@ -328,7 +319,7 @@ impl Plain {
         for news in &self.news {
             if let News::Marks(from, to) = news {
                 for request in self.requests.get(*from..*to).unwrap_or(&[]) {
-                    if request.is_accepted() {
+                    if let Outcome::Accepted { .. } = request.outcome {
                         got(rt, all.push((request.session, request.ticket)));
                     }
                 }
