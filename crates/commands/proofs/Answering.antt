@@ -20,7 +20,7 @@ use Rattle.commands.specs.declared.outcome.Outcome.{Outcome}
 use Rattle.commands.specs.declared.outcome.Outcome.TheVariants.{Answered, Told, Untold}
 use Rattle.commands.specs.declared.streams.Streams.{Streams}
 use Rattle.commands.specs.Serves.{AskService, MayEndServing, OfServed, PrintedServing}
-use Rattle.commands.specs.Runs.{AnswersWords, IsFaultBy, IsFaultFor, IsOutcome, IsServingFault, MayEnd, PrintedFor, RunsWords, Says, SaysAll, SaysAlone, SaysServing, SaysTables, status_in}
+use Rattle.commands.specs.Runs.{AnswersWords, IsFaultBy, IsFaultFor, IsOutcome, IsServingFault, MayEnd, PrintedFor, RunsWords, Says, SaysAll, SaysAlone, SaysServing, SaysTables, StopsServing, status_in}
 
 -- what isn't understood is no fault of an output
 pub never_output : (fault : Fault) → IsNotUnderstood fault → fault ≢ told.Output
@@ -188,22 +188,24 @@ fails_serving model done put words given old new fault asks (inl refused) = inl 
 fails_serving model done put words given old new fault asks (inr may) = inr (may.0, may.1, ends_serving model done put may.0 given old new fault may.2)
 
 says_serving : {D R W : Type 0} (model : Ghosts D) (done : Doing D) (put : List Put → Type 0) (words : List Text) (remaining : R → Known) (contents : W → Known) (script left : R) (out printed : W) (code : ℕ) → SaysAll model done put words remaining contents script left out printed code
-    → SaysServing model done words remaining contents script out printed code
+    → SaysServing model done words remaining contents script out printed code × StopsServing model done words remaining contents script out printed code
 says_serving model done put words remaining contents script left out printed code says =
     let given = remaining script in
     let before = contents out in
-    let after = contents printed in
-    record {
-      answered = λ zero. (let is = says.answered zero in (is.0, is.1, printed_serving model done put is.0 given Done before after is.2));
-      refused = λ one asks. ⊎_elim (λ is. inl (is.0, is.1, printed_serving model done put is.0 given Refused before after is.2))
-          (λ why. inr (why.0, why.1, fails_serving model done put words given before after why.0 asks why.2, why.3)) (says.refused one);
-      not_understood = λ two asks. (let why = says.not_understood two in (why.1.0, why.1.1, fails_serving model done put words given before after why.1.0 asks why.1.2));
-    }
+    let after = contents printed in (
+      (λ zero. (let is = says.answered zero in (is.0, is.1, printed_serving model done put is.0 given Done before after is.2))),
+      record {
+        refused = λ one asks. ⊎_elim (λ is. inl (is.0, is.1, printed_serving model done put is.0 given Refused before after is.2))
+            (λ why. inr (why.0, why.1, fails_serving model done put words given before after why.0 asks why.2, why.3)) (says.refused one);
+        not_understood = λ two asks. (let why = says.not_understood two in (why.1.0, why.1.1, fails_serving model done put words given before after why.1.0 asks why.1.2));
+      },
+    )
 
--- a status of any task, in three
+-- a status of any task, in four
 pub says_parts : {D R W : Type 0} (model : Ghosts D) (done : Doing D) (put : List Put → Type 0) (words : List Text) (remaining : R → Known) (contents : W → Known) (script left : R) (out printed : W) (code : ℕ) → SaysAll model done put words remaining contents script left out printed code
     → SaysAlone model done words remaining contents script left out printed code
-    × (SaysTables model done put words remaining contents script left out printed code × SaysServing model done words remaining contents script out printed code)
+    × (SaysTables model done put words remaining contents script left out printed code
+    × (SaysServing model done words remaining contents script out printed code × StopsServing model done words remaining contents script out printed code))
 says_parts model done put words remaining contents script left out printed code all =
     let full = PrintedFor model done put in
     let may = MayEnd model done put in (

@@ -191,7 +191,7 @@ pub record Says {D R W : Type 0} (done : Doing D) (words : List Text) (Answers :
 abbrev pub SaysAll : {D R W : Type 0} → Ghosts D → Doing D → (List Put → Type 0) → List Text → (R → Known) → (W → Known) → R → R → W → W → ℕ → Type 0
 SaysAll model done put words = Says done words (PrintedFor model done put) (MayEnd model done put)
 
--- The same in three: words ask for one command, and of the commands of the others each of these says nothing. First of those that put no files;
+-- The same in four: words ask for one command, and of the commands of the others each of these says nothing. First of those that put no files;
 abbrev pub SaysAlone : {D R W : Type 0} → Ghosts D → Doing D → List Text → (R → Known) → (W → Known) → R → R → W → W → ℕ → Type 0
 SaysAlone model done words = Says done words (λ task given. PrintedAlone model done task) (λ task given old new. MayEndAlone model done task)
 
@@ -203,9 +203,13 @@ SaysTables model done put words = Says done words (λ task given. PrintedTables 
 abbrev pub IsServingFault : {D : Type 0} → Ghosts D → Doing D → List Text → Known → Known → Known → Fault → Type 0
 IsServingFault model done words given old new fault = (done [] × (fault ≡ told.Memory)) ⊎ OfTask words (λ task. MayEndServing model done task given old new fault)
 
--- .. and last of `serve`, where the words ask for it. Of words that are no task, and of what the reader gives, the first one speaks.
-pub record SaysServing {D R W : Type 0} (model : Ghosts D) (done : Doing D) (words : List Text) (remaining : R → Known) (contents : W → Known) (script : R) (out out_new : W) (code : ℕ) : Type 0 where
-  pub answered : code ≡ 0 → OfTask words (λ task. PrintedServing model done task (remaining script) Done (contents out) (contents out_new))
+-- .. and last of `serve`. Of words that are no task, and of what the reader gives, the first one speaks. With 0 its answer was printed;
+abbrev pub SaysServing : {D R W : Type 0} → Ghosts D → Doing D → List Text → (R → Known) → (W → Known) → R → W → W → ℕ → Type 0
+SaysServing model done words remaining contents script out out_new code =
+    code ≡ 0 → OfTask words (λ task. PrintedServing model done task (remaining script) Done (contents out) (contents out_new))
+
+-- .. with another status it was refused, or a fault ended it, where the words ask for it
+pub record StopsServing {D R W : Type 0} (model : Ghosts D) (done : Doing D) (words : List Text) (remaining : R → Known) (contents : W → Known) (script : R) (out out_new : W) (code : ℕ) : Type 0 where
   pub refused : code ≡ 1 → AskService words → OfTask words (λ task. PrintedServing model done task (remaining script) Refused (contents out) (contents out_new))
       ⊎ ((fault : Fault) × ¬ IsNotUnderstood fault × IsServingFault model done words (remaining script) (contents out) (contents out_new) fault × (¬ AskLive words → fault ≢ told.Output → out_new ≡ out))
   pub not_understood : code ≡ 2 → AskService words → (fault : Fault) × IsNotUnderstood fault × IsServingFault model done words (remaining script) (contents out) (contents out_new) fault

@@ -7,7 +7,7 @@ ghost use Rattle.file_commands.specs.Events.{HasDone};
 ghost use Rattle.file_commands.specs.Tasks.{IsOfTables};
 ghost use Rattle.table_files.specs.Files.{PutBy};
 ghost use Rattle.commands.specs.Serves.{IsLiveService, MayRun};
-ghost use Rattle.commands.specs.Runs.{AnyPut, MakesOnlyLive, PutsOnlyAsked, RunsTask, RunsWords, SaysAll, SaysAlone, SaysServing, SaysTables, streams_of, words_fault};
+ghost use Rattle.commands.specs.Runs.{AnyPut, MakesOnlyLive, PutsOnlyAsked, RunsTask, RunsWords, SaysAll, SaysAlone, SaysServing, SaysTables, StopsServing, streams_of, words_fault};
 
 use crate::outcome::{Outcome, told};
 use crate::service::{LiveService, Service, run_live, run_serve};
@@ -50,6 +50,9 @@ where
         S.remaining O.contents script.old script.new out.old out.new result }
 
     ensures serves { SaysServing ⟦<DeviceFile as Disk>⟧ AreFiles (texts words.now)
+        S.remaining O.contents script.old out.old out.new result }
+
+    ensures stops { StopsServing ⟦<DeviceFile as Disk>⟧ AreFiles (texts words.now)
         S.remaining O.contents script.old out.old out.new result }
 {
     run_words_at(rt, &mut rt.place(), words, script, out, err)

@@ -27,7 +27,7 @@ use Rattle.line_exchange.specs.Prints.{HasPrinted, HasPrintedBy, PrintsSo, lines
 use Rattle.line_exchange.specs.declared.line_fault.LineFault.{LineFault}
 use Rattle.line_exchange.specs.declared.line_fault.LineFault.TheVariants.{Failed}
 use Rattle.line_exchange.specs.Gathers.{HasText}
-use Rattle.line_exchange.specs.Measured.{AreCounted, AreMeasured, CountsMore, IsMeasuredBy, Tells, how_many, is_at, none_counted}
+use Rattle.line_exchange.specs.Measured.{AreCounted, AreMeasured, CountsMore, IsMeasuredBy, Tells, how_many, none_counted}
 use Rattle.line_exchange.specs.Tallies.{Adds, AreAwaited, AreBackedUp, AreDropped, AreInTurn, AreReached, IsDropped, IsInTurn, IsReached, TellsCount, accepted_by, accepted_in, no_tickets, told_by, told_in}
 use Rattle.line_exchange.specs.Waits.{AreAwaitedTo, AreNoOlder, GoesBy, IsNoOlder}
 use Rattle.line_exchange.specs.declared.tally.Tally.{Tally}
@@ -167,7 +167,7 @@ counted_at old own place within =
 more_counted : (old new : List ℕ) (answers : List Answer) (answer : Answer) → AreCounted old answers → CountsMore answer old new → AreCounted new (answers ++ answer ∷ [])
 more_counted old new answers answer are more place =
     let own = place_of (kind_of answer) in
-    let all : how_many place (answers ++ answer ∷ []) ≡ how_many place answers + how_many place (answer ∷ []) = sum_by-append (λ (a : Answer). cond (is_at place a) 1 0) answers (answer ∷ []) in
+    let all : how_many place (answers ++ answer ∷ []) ≡ how_many place answers + how_many place (answer ∷ []) = sum_by-append (λ (a : Answer). cond (place_of (kind_of a) == place) 1 0) answers (answer ∷ []) in
     let one : how_many place (answer ∷ []) ≡ 0 + cond {A = ℕ} (own == place) 1 0 = refl in
     let next : get_or new place 0 ≡ get_or (set old own (get_or old own 0 + 1)) place 0 = ap (λ (numbers : List ℕ). get_or numbers place 0) more.next in
     let there = counted_at old own place more.within in

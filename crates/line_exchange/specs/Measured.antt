@@ -1,17 +1,13 @@
 -- What a metrics line tells of the answers before it.
-use Rattle.std.specs.Prelude.{◌≡◌, ◌+◌, ◌<◌, ◌==◌, ℕ, Bool, List, Some, count_by, get_or, length, replicate, set, slice_get, take}
+use Rattle.std.specs.Prelude.{◌≡◌, ◌+◌, ◌<◌, ◌==◌, ℕ, List, Some, count_by, get_or, length, replicate, set, slice_get, take}
 use Rattle.live_lines.specs.declared.metrics.Metrics as figures
 use Rattle.live_lines.specs.declared.answer.Answer.{Answer}
 use Rattle.live_lines.specs.declared.answer.Answer.TheVariants.{Metrics}
 use Rattle.live_lines.specs.Metrics.{kind_of, place_of}
 
--- an answer is of the kind at this place
-abbrev pub is_at : ℕ → Answer → Bool
-is_at place answer = place_of (kind_of answer) == place
-
--- how many answers are
+-- how many answers are of the kind at this place
 abbrev pub how_many : ℕ → List Answer → ℕ
-how_many place answers = count_by (is_at place) answers
+how_many place answers = count_by (λ answer. place_of (kind_of answer) == place) answers
 
 -- these are their numbers, of each kind
 abbrev pub AreCounted : List ℕ → List Answer → Type 0

@@ -17,4 +17,9 @@ returns-clause-tables g c =
 pub returns-clause-serves : goal.returns-clause-serves
 returns-clause-serves g c =
     (says_parts _ AreFiles AnyPut (texts c.args.words.now) g.S.Read.remaining g.O.Write.contents c.args.script.now c.run_words_at.new.script c.args.out.now c.run_words_at.new.out c.run_words_at.result (says_too _ AreFiles AreFiles _ AnyPut (texts c.args.words.now)
-    g.S.Read.remaining g.O.Write.contents c.args.script.now c.run_words_at.new.script c.args.out.now c.run_words_at.new.out c.run_words_at.result (λ events are. are) (λ puts put. tt) c.run_words_at.ensures.says)).1.1
+    g.S.Read.remaining g.O.Write.contents c.args.script.now c.run_words_at.new.script c.args.out.now c.run_words_at.new.out c.run_words_at.result (λ events are. are) (λ puts put. tt) c.run_words_at.ensures.says)).1.1.0
+
+pub returns-clause-stops : goal.returns-clause-stops
+returns-clause-stops g c =
+    (says_parts _ AreFiles AnyPut (texts c.args.words.now) g.S.Read.remaining g.O.Write.contents c.args.script.now c.run_words_at.new.script c.args.out.now c.run_words_at.new.out c.run_words_at.result (says_too _ AreFiles AreFiles _ AnyPut (texts c.args.words.now)
+    g.S.Read.remaining g.O.Write.contents c.args.script.now c.run_words_at.new.script c.args.out.now c.run_words_at.new.out c.run_words_at.result (λ events are. are) (λ puts put. tt) c.run_words_at.ensures.says)).1.1.1
